@@ -1,0 +1,64 @@
+-- A text that grows keeps the fields that it has, and has the new one at its end.
+use Rattle.std.proofs.Common.{◌≡◌, ℕ, ◌+◌, ◌-◌, ◌≤◌, List, [], ◌∷◌, ◌++◌, length, take, drop, refl, ap, ◌∙◌, arith, All, append_assoc, length-append}
+use Rattle.std.specs.Prelude.{map, slice_range}
+use Rattle.std.proofs.lemmas.List.{take-append-le, drop-append-le, length-drop, length-map, map-append, append-nil}
+use Rattle.std.proofs.lemmas.List.Elements.{All-head, All-tail}
+use Rattle.std.proofs.Math.Seq.{take-append_seam, drop-append_seam}
+use Rattle.http_header.specs.Token.{lowercase}
+use Rattle.asgi_types.specs.declared.headers.Place.{Place}
+use Rattle.asgi_types.specs.Fields.{HeaderField, field_of}
+use Rattle.asgi_types.specs.Places.{IsPlaceIn, field_at, place_behind}
+
+-- a range stays where more bytes follow
+slice_range-append : (s t : List ℕ) (i j : ℕ) → i ≤ j → j ≤ length s → slice_range (s ++ t) i j ≡ slice_range s i j
+slice_range-append s t i j ordered inside =
+    let far : i ≤ length s = omega arith in
+    let fits : j - i ≤ length (drop i s) = omega (arith, length-drop i s) in
+    ap (take (j - i)) (drop-append-le i s t far) ∙ take-append-le (j - i) (drop i s) t fits
+
+-- the range behind s that a takes
+slice_range-seam : (s a b : List ℕ) (n m : ℕ) → n ≡ length s → m ≡ n + length a → slice_range (s ++ (a ++ b)) n m ≡ a
+slice_range-seam s a b n m at to =
+    let size : m - n ≡ length a = omega arith in
+    ap (λ k. take (m - n) (drop k (s ++ (a ++ b)))) at ∙ ap (take (m - n)) (drop-append_seam s (a ++ b))
+    ∙ ap (λ k. take k (a ++ b)) size ∙ take-append_seam a b
+
+-- the fields of a text stay where more bytes follow
+pub fields-append : (text more : List ℕ) (places : List Place) → All (IsPlaceIn (length text)) places
+    → map (field_at (text ++ more)) places ≡ map (field_at text) places
+fields-append text more [] all = refl
+fields-append text more (p ∷ places) all =
+    let at = All-head (IsPlaceIn (length text)) p places all in
+    let middle : p.middle ≤ length text = omega (arith, at.value, at.inside) in
+    let name = slice_range-append text more p.start p.middle at.name middle in
+    let value = slice_range-append text more p.middle p.end at.value at.inside in
+    let rest = fields-append text more places (All-tail (IsPlaceIn (length text)) p places all) in
+    cc (name, value, rest)
+
+-- the field that was appended
+new_field : (text name value : List ℕ) → field_at (text ++ (lowercase name ++ value)) (place_behind (length text) name value) ≡ field_of name value
+new_field text name value =
+    let size : length (lowercase name) ≡ length name = simp length-map in
+    let first = slice_range-seam text (lowercase name) value (length text) (length text + length name) refl (omega (arith, size)) in
+    let second = ap (λ l. slice_range l (length text + length name) (length text + length name + length value))
+    (regroup text (lowercase name) value) ∙ slice_range-seam (text ++ lowercase name) value [] (length text + length name) (length text + length name + length value) (omega (arith, size, joined)) refl in
+    cc (first, second)
+  where
+    joined : length (text ++ lowercase name) ≡ length text + length (lowercase name)
+    joined = simp length-append
+
+    regroup : (a b c : List ℕ) → a ++ (b ++ c) ≡ (a ++ b) ++ (c ++ [])
+    regroup a b c = simp (append_assoc, append-nil)
+
+-- the fields of the text with a name and a value behind it
+pub fields-push : (old : List HeaderField) (text new_text name value : List ℕ) (places new_places : List Place)
+    → All (IsPlaceIn (length text)) places → map (field_at text) places ≡ old
+    → new_text ≡ text ++ (lowercase name ++ value) → new_places ≡ places ++ place_behind (length text) name value ∷ []
+    → map (field_at new_text) new_places ≡ old ++ field_of name value ∷ []
+fields-push old text new_text name value places new_places all view texts behind =
+    let place = place_behind (length text) name value in
+    ap (λ (t : List ℕ). map (field_at t) new_places) texts
+    ∙ ap (map (field_at (text ++ (lowercase name ++ value)))) behind
+    ∙ map-append (field_at (text ++ (lowercase name ++ value))) places (place ∷ [])
+    ∙ ap (λ (fs : List HeaderField). fs ++ field_at (text ++ (lowercase name ++ value)) place ∷ []) (fields-append text (lowercase name ++ value) places all ∙ view)
+    ∙ ap (λ (f : HeaderField). old ++ f ∷ []) (new_field text name value)

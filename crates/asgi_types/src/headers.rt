@@ -1,0 +1,219 @@
+//! Header fields in their order.
+ghost use Rattle.std.specs.Prelude.{◌≡◌, ◌≤◌, [], ◌∷◌, ◌++◌, ℕ, List, IfOk, OnOk, OnErr, IfSome, IsNone, IsTrue, ◌↔◌, length, drop, slice_get, Some};
+ghost use Rattle.std.specs.Result.{IsErrOf};
+ghost use Rattle.http_header.specs.FieldName.{IsFieldName};
+ghost use Rattle.http_header.specs.FieldValue.{IsFieldValue};
+ghost use Rattle.std.specs.Iterator.{YieldsFirstBy, item_count};
+ghost use Rattle.http_header.specs.Token.{lowercase};
+ghost use Rattle.asgi_types.specs.Fields.{HeaderField, field_of, shown};
+ghost use Rattle.asgi_types.specs.Places.{field_at, place_behind, IsPlaceIn};
+
+use http_header::is_token;
+use std::alloc::{AllocError, Global};
+use std::marker::Model;
+use thiserror::Error;
+
+/// Why a field was not added.
+#[derive(Clone, Copy, Debug, PartialEq, Eq, Error)]
+pub enum HeaderError {
+    /// The name is empty, is no token, or has more than 65,535 bytes.
+    #[error("the field name is no token of at most 65,535 bytes")]
+    BadName,
+    /// The value has a control byte other than the tab.
+    #[error("the field value has a control byte")]
+    BadValue,
+    #[error(transparent)]
+    NoMemory(#[from(alloc)] AllocError),
+}
+
+/// Where a field stands in the text: its name in `start..middle`, its value in `middle..end`.
+#[derive(Clone, Copy, Debug)]
+pub struct Place {
+    start: usize,
+    middle: usize,
+    end: usize,
+}
+
+/// Header fields in the order in which they were added, their names in lower case.
+#[derive(Debug, Drop)]
+pub struct Headers {
+    text: Vec<u8>,
+    places: Vec<Place>,
+}
+
+impl Model for Headers {
+    ghost use Rattle.std.specs.Prelude.{List, map, length, All};
+    ghost use Rattle.asgi_types.specs.Fields.{HeaderField};
+    ghost use Rattle.asgi_types.specs.Places.{field_at, IsPlaceIn};
+
+    ghost Value = { List HeaderField };
+
+    ghost view = { λ h. map (field_at h.text.items) h.places.items };
+
+    ghost invariant = { λ h. All (IsPlaceIn (length h.text.items)) h.places.items };
+}
+
+impl Headers {
+    /// No fields. It takes no memory.
+    pub fn new(alloc: Global) -> Self
+        ensures { result ≡ [] }
+    {
+        Headers {
+            text: Vec::new(alloc),
+            places: Vec::new(alloc),
+        }
+    }
+
+    /// Adds a field at the end, its name in lower case.
+    ///
+    /// A name is a token of RFC 9110, section 5.6.2. A value has no control byte but the tab.
+    pub fn push(&mut self, name: &[u8], value: &[u8]) -> Result<(), HeaderError>
+        ensures ok { OnOk result (self.new ≡ self.old ++ field_of name.now value.now ∷ []) }
+
+        // The name is judged first, then the value; want of memory comes last.
+        ensures bad_name { IsErrOf result HeaderError.BadName ↔ ¬ (IsFieldName name.now) }
+        ensures bad_value { IsErrOf result HeaderError.BadValue ↔ (IsFieldName name.now × (¬ (IsFieldValue value.now))) }
+        ensures err { OnErr result (self.new ≡ self.old) }
+    {
+        if !is_field_name(name) {
+            return Err(HeaderError::BadName);
+        }
+        if !is_field_value(value) {
+            return Err(HeaderError::BadValue);
+        }
+        if let Err(e) = append(&mut self.text, &mut self.places, name, value) {
+            return Err(HeaderError::NoMemory(e));
+        }
+        Ok(())
+    }
+
+    pub fn len(&self) -> usize
+        ensures { result ≡ length self.now }
+    {
+        self.places.len()
+    }
+
+    pub fn is_empty(&self) -> bool
+        ensures { IsTrue result ↔ (self.now ≡ []) }
+    {
+        self.places.is_empty()
+    }
+
+    /// The name and the value of the field at the index.
+    pub fn at(&self, index: usize) -> Option<(&[u8], &[u8])>
+        ensures missing { IsNone result ↔ (length self.now ≤ index) }
+        ensures found { IfSome result (λ field. slice_get self.now index ≡ Some (shown field)) }
+    {
+        let place = self.places.get(index)?;
+        Some((place.name(&self.text), place.value(&self.text)))
+    }
+
+    /// The fields in their order, each as its name and its value.
+    pub fn iter(&self) -> Fields<'_>
+        ensures { result ≡ self.now }
+    {
+        Fields {
+            text: self.text.as_slice(),
+            places: self.places.as_slice(),
+        }
+    }
+
+    /// The same fields once more, in memory of their own.
+    pub fn copy(&self, alloc: Global) -> Result<Self, AllocError>
+        ensures { IfOk result (λ copied. copied ≡ self.now) }
+    {
+        let text = Vec::from_slice(alloc, self.text.as_slice())?;
+        let places = Vec::from_slice(alloc, self.places.as_slice())?;
+        Ok(Headers { text, places })
+    }
+}
+
+impl Place {
+    fn name(self, text: &[u8]) -> &[u8]
+        requires { IsPlaceIn (length text.now) self }
+        ensures { result.now ≡ (field_at text.now self).name }
+    {
+        &text[self.start..self.middle]
+    }
+
+    fn value(self, text: &[u8]) -> &[u8]
+        requires { IsPlaceIn (length text.now) self }
+        ensures { result.now ≡ (field_at text.now self).value }
+    {
+        &text[self.middle..self.end]
+    }
+}
+
+/// Appends the name in lower case and the value, and their place. On an error both are as before.
+fn append(
+    text: &mut Vec<u8>,
+    places: &mut Vec<Place>,
+    name: &[u8],
+    value: &[u8],
+) -> Result<(), AllocError>
+    ensures text { OnOk result (text.new.items ≡ text.old.items ++ (lowercase name.now ++ value.now)) }
+    ensures places { OnOk result (places.new.items ≡ places.old.items ++ place_behind (length text.old.items) name.now value.now ∷ []) }
+    ensures err { OnErr result ((text.new.items ≡ text.old.items) × (places.new.items ≡ places.old.items)) }
+{
+    places.reserve(1)?;
+    let start = text.len();
+    text.extend_from_slice(name)?;
+    text[start..].make_ascii_lowercase();
+    let middle = text.len();
+    if let Err(e) = text.extend_from_slice(value) {
+        text.truncate(start);
+        return Err(e);
+    }
+    let end = text.len();
+    places.push_reserved(Place { start, middle, end });
+    Ok(())
+}
+
+/// Whether the bytes are a field name: a token of at most 65,535 bytes.
+fn is_field_name(name: &[u8]) -> bool
+    ensures { IsTrue result ↔ IsFieldName name.now }
+{
+    name.len() <= 65_535 && is_token(name)
+}
+
+/// Whether the bytes have no control byte but the tab.
+fn is_field_value(value: &[u8]) -> bool
+    ensures { IsTrue result ↔ IsFieldValue value.now }
+{
+    value
+        .iter()
+        .all(|b| *b == b'\t' || (*b >= b' ' && *b != 127))
+}
+
+/// The fields that are left, each as its name and its value.
+#[derive(Debug, Drop)]
+pub struct Fields<'a> {
+    text: &'a [u8],
+    places: &'a [Place],
+}
+
+impl<'a> Model for Fields<'a> {
+    ghost use Rattle.std.specs.Prelude.{List, map, length, All};
+    ghost use Rattle.asgi_types.specs.Fields.{HeaderField};
+    ghost use Rattle.asgi_types.specs.Places.{field_at, IsPlaceIn};
+
+    ghost Value = { List HeaderField };
+
+    ghost view = { λ f. map (field_at f.text.now) f.places.now };
+
+    ghost invariant = { λ f. All (IsPlaceIn (length f.text.now)) f.places.now };
+}
+
+impl<'a> Iterator for Fields<'a> {
+    type Item = (&'a [u8], &'a [u8]);
+
+    ghost next_gives = { YieldsFirstBy shown (λ rest. rest) };
+
+    ghost remaining = { item_count (λ rest. rest) };
+
+    fn next(&mut self) -> Option<(&'a [u8], &'a [u8])> {
+        let (first, rest) = self.places.split_first()?;
+        self.places = rest;
+        Some((first.name(self.text), first.value(self.text)))
+    }
+}

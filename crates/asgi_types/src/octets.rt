@@ -1,0 +1,46 @@
+//! Bytes that a contract sees as a list.
+ghost use Rattle.std.specs.Prelude.{◌≡◌, ℕ, List, IfOk};
+
+use std::alloc::{AllocError, Global};
+use std::marker::Model;
+
+/// Bytes, such as a body or a part of a target.
+#[derive(Debug, Drop)]
+pub struct Octets {
+    bytes: Vec<u8>,
+}
+
+impl Model for Octets {
+    ghost Value = { List ℕ };
+
+    ghost view = { λ o. o.bytes.items };
+}
+
+impl Octets {
+    /// Takes the bytes as they are. It takes no memory.
+    pub fn new(bytes: Vec<u8>) -> Self
+        ensures { result ≡ bytes.items }
+    {
+        Octets { bytes }
+    }
+
+    pub fn bytes(&self) -> &[u8]
+        ensures { result.now ≡ self.now }
+    {
+        self.bytes.as_slice()
+    }
+
+    pub fn into_vec(self) -> Vec<u8>
+        ensures { result.items ≡ self }
+    {
+        self.bytes
+    }
+
+    /// The same bytes once more, in memory of their own.
+    pub fn copy(&self, alloc: Global) -> Result<Self, AllocError>
+        ensures { IfOk result (λ copied. copied ≡ self.now) }
+    {
+        let bytes = Vec::from_slice(alloc, self.bytes.as_slice())?;
+        Ok(Octets { bytes })
+    }
+}
