@@ -1,13 +1,19 @@
-// A library with one function.
+//! One connection: the bytes of a request in, the bytes of its response out.
 #![tactic(auto)]
 
-ghost use Rattle.std.specs.Prelude.{◌≡◌};
-ghost use Rattle.asgi_conn.specs.Echo.{echo_of};
+mod connection;
+mod fields;
+mod framing;
+mod head;
+mod hello;
+mod pause;
+mod reading;
+mod report;
+mod search;
+mod text;
+mod write;
 
-// The `ensures` clause is the contract: what `echo` returns is `echo_of` of its argument, a definition
-// in `specs/Echo.antt`, which a caller's clause can cite too.
-pub fn echo(x: usize) -> usize
-    ensures { result ≡ echo_of x }
-{
-    x
-}
+pub use connection::serve_connection;
+pub use hello::Hello;
+pub use pause::Pause;
+pub use report::{Outcome, Report};

@@ -1,0 +1,32 @@
+//! How a connection ended.
+
+/// Why a connection ended: the first cause met.
+#[derive(Clone, Copy, Debug, PartialEq, Eq)]
+pub enum Outcome {
+    /// All that was due is written.
+    Finished,
+    /// The text of a refusal of this status was written.
+    Refused(u16),
+    /// The input ended or failed before the head was whole.
+    InputBroke,
+    /// A write failed once this many bytes of the text in hand were out.
+    WriteFailed(usize),
+    /// A limit on turns was reached.
+    Idle,
+    /// Memory was refused.
+    NoMemory,
+}
+
+/// What is reported of a connection.
+#[derive(Clone, Copy, Debug, PartialEq, Eq)]
+pub struct Report {
+    /// How many requests the application was asked to answer.
+    pub exchanges: u64,
+    /// How many exchanges ended with a fault of the application.
+    pub faults: u64,
+    /// How many turns were taken. One turn is one read.
+    pub turns: u64,
+    /// How many turns in a row were idle at the end.
+    pub idle: u32,
+    pub outcome: Outcome,
+}
