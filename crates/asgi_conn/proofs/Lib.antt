@@ -8,3 +8,4 @@ pub mod FieldLemmas
 pub mod TextLemmas
 pub mod ReadingLemmas
 pub mod EndLemmas
+pub mod LawLemmas

@@ -85,8 +85,8 @@ fn finish<W: Write>(
     match reading.ending {
         Ending::Head(n) => reply(alloc, limits, app, &held[..n], writer),
         Ending::TooLong => {
-            let answer = Answer::Refuse(Refusal::HeaderFieldsTooLarge);
-            send(alloc, app, answer, writer)
+            let refusal = Refusal::HeaderFieldsTooLarge;
+            send(alloc, app, Answer::Refuse(refusal), writer)
         }
         Ending::InputEnded if is_blank(held) => silent(Outcome::Finished),
         Ending::InputEnded => silent(Outcome::InputBroke),

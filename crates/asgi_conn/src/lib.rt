@@ -6,6 +6,7 @@ mod fields;
 mod framing;
 mod head;
 mod hello;
+pub mod laws;
 mod pause;
 mod reading;
 mod report;

@@ -1,4 +1,5 @@
 //! How a connection ended.
+use std::fmt;
 
 /// Why a connection ended: the first cause met.
 #[derive(Clone, Copy, Debug, PartialEq, Eq)]
@@ -15,6 +16,20 @@ pub enum Outcome {
     Idle,
     /// Memory was refused.
     NoMemory,
+}
+
+/// The words of an outcome, as a program prints them: `write-failed 9`.
+impl fmt::Display for Outcome {
+    fn fmt<W: fmt::Write>(&self, f: &mut fmt::Formatter<W>) -> fmt::Result {
+        match self {
+            Outcome::Finished => f.write_str("finished"),
+            Outcome::Refused(status) => write!(f, "refused {status}"),
+            Outcome::InputBroke => f.write_str("input-broke"),
+            Outcome::WriteFailed(n) => write!(f, "write-failed {n}"),
+            Outcome::Idle => f.write_str("idle"),
+            Outcome::NoMemory => f.write_str("no-memory"),
+        }
+    }
 }
 
 /// What is reported of a connection.

@@ -11,3 +11,6 @@ pub use headers::{Fields, HeaderError, Headers};
 pub use limits::{BadLimit, Limits};
 pub use octets::Octets;
 pub use outgoing::{HttpVersion, Outgoing};
+
+#[cfg(test)]
+mod tests;

@@ -21,7 +21,7 @@ impl Octets {
     pub fn new(bytes: Vec<u8>) -> Self
         ensures { result ≡ bytes.items }
     {
-        Octets { bytes }
+        Self { bytes }
     }
 
     pub fn bytes(&self) -> &[u8]
@@ -33,14 +33,15 @@ impl Octets {
     pub fn into_vec(self) -> Vec<u8>
         ensures { result.items ≡ self }
     {
-        self.bytes
+        let Self { bytes: taken } = self;
+        taken
     }
 
     /// The same bytes once more, in memory of their own.
     pub fn copy(&self, alloc: Global) -> Result<Self, AllocError>
         ensures { IfOk result (λ copied. copied ≡ self.now) }
     {
-        let bytes = Vec::from_slice(alloc, self.bytes.as_slice())?;
+        let bytes = Vec::from_slice(alloc, self.bytes())?;
         Ok(Octets { bytes })
     }
 }

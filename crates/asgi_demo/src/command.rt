@@ -1,0 +1,101 @@
+//! The command line.
+ghost use Rattle.std.specs.Prelude.{◌≡◌, ◌↔◌, IsTrue, map, string_bytes};
+ghost use Rattle.std.specs.Io.KnownBytes.{Keeps};
+ghost use Rattle.asgi_demo.specs.Command as spec;
+ghost use Rattle.asgi_demo.specs.Command.{IsOnceHello, ServesOnce};
+
+use asgi_conn::{Hello, Outcome, Pause, serve_connection};
+use asgi_types::Limits;
+use std::io::{Read, Write};
+
+const USAGE: &[u8] = b"usage: asgi_demo once APP | asgi_demo serve PORT COUNT APP\n";
+
+const DEVICE_FAULT: &[u8] = b"device fault\n";
+
+/// A pause that only counts.
+#[derive(Drop)]
+struct NoPause {
+    count: u64,
+}
+
+impl Pause for NoPause {
+    ghost count = { λ p. p.count };
+
+    fn pause(&mut self) {
+        self.count = self.count.saturating_add(1);
+    }
+
+    fn paused(&self) -> u64 {
+        self.count
+    }
+}
+
+/// Runs the program on the words behind its name, and gives the exit status.
+///
+/// `once hello` serves the input to the output. Any other words give the usage text on `errors`,
+/// and nothing else is done.
+pub fn command<H: AllocGlobal, R: Read, W: Write, E: Write>(
+    rt: &H,
+    words: &[String],
+    input: &mut R,
+    output: &mut W,
+    errors: &mut E,
+) -> u8
+    ensures serves { IsOnceHello (map string_bytes words.now) →
+        ServesOnce (R.remaining input.old) (R.remaining input.new) (W.contents output.old) (W.contents output.new) result }
+    ensures usage { (¬ (IsOnceHello (map string_bytes words.now))) →
+        (result ≡ 2) × Keeps (R.remaining input.old) (R.remaining input.new) × Keeps (W.contents output.old) (W.contents output.new) }
+{
+    if !is_once_hello(words) {
+        return usage(errors);
+    }
+    let mut pause = NoPause { count: 0 };
+    let report = serve_connection(rt, &Limits::usual(), &Hello, input, output, &mut pause);
+    let status = exit_status(report.outcome);
+    if status != 0 {
+        let _ = writeln!(errors, "stopped: {}", report.outcome);
+    }
+    status
+}
+
+/// Whether the words are `once hello`.
+fn is_once_hello(words: &[String]) -> bool
+    ensures { IsTrue result ↔ IsOnceHello (map string_bytes words.now) }
+{
+    let [once, app] = words else {
+        return false;
+    };
+    if once.as_str() != "once" {
+        return false;
+    }
+    app.as_str() == "hello"
+}
+
+/// The exit status of `once`.
+fn exit_status(outcome: Outcome) -> u8
+    ensures { result ≡ spec.exit_status outcome }
+{
+    match outcome {
+        Outcome::Finished | Outcome::Refused(_) | Outcome::InputBroke => 0,
+        Outcome::WriteFailed(_) | Outcome::Idle | Outcome::NoMemory => 5,
+    }
+}
+
+/// Says how the program is called, and gives the status of that.
+pub fn usage<E: Write>(errors: &mut E) -> u8
+    ensures { result ≡ 2 }
+{
+    let _ = errors.write_all(USAGE);
+    2
+}
+
+/// Says that the system failed outside a connection, and gives the status of that.
+pub fn device_fault<E: Write>(errors: &mut E) -> u8
+    ensures { result ≡ 5 }
+{
+    let _ = errors.write_all(DEVICE_FAULT);
+    5
+}
+
+#[cfg(test)]
+mod tests;

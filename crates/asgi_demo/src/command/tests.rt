@@ -1,0 +1,116 @@
+use super::*;
+use std::alloc::Global;
+use std::io::{self, ErrorKind};
+use std::test::Fail;
+
+const REQUEST: &[u8] = b"GET / HTTP/1.1\r\nHost: a\r\n\r\n";
+
+const ANSWER: &[u8] =
+    b"HTTP/1.1 200 OK\r\ncontent-type: text/plain\r\ntransfer-encoding: chunked\r\n\r\n6\r\nhello\n\r\n0\r\n\r\n";
+
+fn words(alloc: Global, texts: &[&str]) -> Result<Vec<String>, Fail> {
+    let mut words = Vec::new(alloc);
+    for text in texts {
+        words.push(String::from_str(alloc, text)?)?;
+    }
+    Ok(words)
+}
+
+#[test]
+fn once_hello_answers(rt: HostRuntime) -> Result<(), Fail> {
+    let mut input = REQUEST;
+    let mut output = Vec::new(rt.alloc());
+    let mut errors = Vec::new(rt.alloc());
+    let words = words(rt.alloc(), &["once", "hello"])?;
+    let status = command(&rt, &words, &mut input, &mut output, &mut errors);
+    assert_eq!(rt; status, 0);
+    assert_eq!(rt; output.as_slice(), ANSWER);
+    assert_eq!(rt; errors.len(), 0);
+    Ok(())
+}
+
+#[test]
+fn any_other_words_give_the_usage(rt: HostRuntime) -> Result<(), Fail> {
+    let wrong: [&[&str]; 8] = [
+        &[],
+        &["once"],
+        &["hello", "once"],
+        &["once", "nothing"],
+        &["once", "echo"],
+        &["Once", "hello"],
+        &["once", "hello", "hello"],
+        &["serve", "8000", "1", "hello"],
+    ];
+    for (row, texts) in wrong.iter().enumerate() {
+        let mut input = REQUEST;
+        let mut output = Vec::new(rt.alloc());
+        let mut errors = Vec::new(rt.alloc());
+        let words = words(rt.alloc(), texts)?;
+        let status = command(&rt, &words, &mut input, &mut output, &mut errors);
+        assert_eq!(rt; status, 2, "row {row}");
+        assert_eq!(rt; input.len(), REQUEST.len(), "row {row}");
+        assert_eq!(rt; output.len(), 0, "row {row}");
+        assert_eq!(rt; errors.as_slice(), USAGE, "row {row}");
+    }
+    Ok(())
+}
+
+/// A reader and writer that can do nothing.
+#[derive(Drop)]
+struct Stuck {
+    kind: ErrorKind,
+}
+
+impl Read for Stuck {
+    fn read(&mut self, _buf: &mut [u8]) -> io::Result<usize> {
+        Err(io::Error::from(self.kind))
+    }
+}
+
+impl Write for Stuck {
+    fn write(&mut self, _buf: &[u8]) -> io::Result<usize> {
+        Err(io::Error::from(self.kind))
+    }
+
+    fn flush(&mut self) -> io::Result<()> {
+        Ok(())
+    }
+}
+
+#[test]
+fn a_connection_that_stops_is_said_so(rt: HostRuntime) -> Result<(), Fail> {
+    let words = words(rt.alloc(), &["once", "hello"])?;
+    let mut errors = Vec::new(rt.alloc());
+    let mut input = REQUEST;
+    let mut output = Stuck {
+        kind: ErrorKind::BrokenPipe,
+    };
+    let status = command(&rt, &words, &mut input, &mut output, &mut errors);
+    assert_eq!(rt; status, 5);
+    assert_eq!(rt; errors.as_slice(), b"stopped: write-failed 0\n".as_slice());
+
+    let mut errors = Vec::new(rt.alloc());
+    let mut input = Stuck {
+        kind: ErrorKind::WouldBlock,
+    };
+    let mut output = Vec::new(rt.alloc());
+    let status = command(&rt, &words, &mut input, &mut output, &mut errors);
+    assert_eq!(rt; status, 5);
+    assert_eq!(rt; errors.as_slice(), b"stopped: idle\n".as_slice());
+
+    let mut errors = Vec::new(rt.alloc());
+    let mut input = Stuck {
+        kind: ErrorKind::ConnectionReset,
+    };
+    let status = command(&rt, &words, &mut input, &mut output, &mut errors);
+    assert_eq!(rt; status, 0);
+    assert_eq!(rt; errors.len(), 0);
+    Ok(())
+}
+
+#[test]
+fn a_fault_of_the_system_is_said_so(rt: HostRuntime) {
+    let mut errors = Vec::new(rt.alloc());
+    assert_eq!(rt; device_fault(&mut errors), 5);
+    assert_eq!(rt; errors.as_slice(), b"device fault\n".as_slice());
+}

@@ -1,0 +1,144 @@
+//! Readers, writers and a pause whose every step a test sets.
+ghost use Rattle.std.specs.Prelude.{◌≤◌, length};
+
+use asgi_conn::{Hello, Pause, Report, serve_connection};
+use asgi_types::Limits;
+use std::alloc::AllocError;
+use std::io::{self, ErrorKind, Read, Write};
+
+/// A pause that only counts.
+#[derive(Drop)]
+pub struct Counter {
+    pub count: u64,
+}
+
+impl Pause for Counter {
+    ghost count = { λ p. p.count };
+
+    fn pause(&mut self) {
+        self.count = self.count.saturating_add(1);
+    }
+
+    fn paused(&self) -> u64 {
+        self.count
+    }
+}
+
+/// A reader that gives its bytes in pieces.
+#[derive(Drop)]
+pub struct Pieces<'a> {
+    pub bytes: &'a [u8],
+    /// The most bytes of the first read, and of each later one.
+    pub first: usize,
+    pub later: usize,
+    /// The fault that comes before each read, if any.
+    pub before: Option<ErrorKind>,
+    /// The read that fails, counted from 1, if any.
+    pub fails_at: u64,
+    /// How many reads gave bytes, the end or that failure.
+    pub reads: u64,
+    is_ready: bool,
+}
+
+impl<'a> Pieces<'a> {
+    /// The bytes, at most `first` of them in the first read and at most `later` in each other.
+    pub fn new(bytes: &'a [u8], first: usize, later: usize) -> Self {
+        Pieces {
+            bytes,
+            first,
+            later,
+            before: None,
+            fails_at: 0,
+            reads: 0,
+            is_ready: false,
+        }
+    }
+}
+
+impl Read for Pieces<'_> {
+    fn read(&mut self, buf: &mut [u8]) -> io::Result<usize> {
+        if let Some(kind) = self.before {
+            self.is_ready = !self.is_ready;
+            if self.is_ready {
+                return Err(io::Error::from(kind));
+            }
+        }
+        self.reads = self.reads.saturating_add(1);
+        if self.reads == self.fails_at {
+            return Err(io::Error::from(ErrorKind::ConnectionReset));
+        }
+        let most = if self.reads == 1 {
+            self.first
+        } else {
+            self.later
+        };
+        Ok(give(&mut self.bytes, most, buf))
+    }
+}
+
+/// Moves at most `most` bytes into the buffer, and says how many.
+fn give(bytes: &mut &[u8], most: usize, buf: &mut [u8]) -> usize
+    ensures { result ≤ length buf.new }
+{
+    let n = most.min(bytes.len()).min(buf.len());
+    let (now, rest) = bytes.split_at(n);
+    buf[..n].copy_from_slice(now);
+    *bytes = rest;
+    n
+}
+
+/// A reader that would block for ever.
+#[derive(Drop)]
+pub struct Never;
+
+impl Read for Never {
+    fn read(&mut self, _buf: &mut [u8]) -> io::Result<usize> {
+        Err(io::Error::from(ErrorKind::WouldBlock))
+    }
+}
+
+/// A writer that keeps what it takes.
+#[derive(Drop)]
+pub struct Sink {
+    pub taken: Vec<u8>,
+    /// The most bytes that a call takes.
+    pub most: usize,
+    /// The call that fails, counted from 1, if any.
+    pub fails_at: u64,
+    /// How many calls answer this fault first.
+    pub faults: u64,
+    pub fault: ErrorKind,
+    pub calls: u64,
+}
+
+impl Write for Sink {
+    fn write(&mut self, buf: &[u8]) -> io::Result<usize> {
+        if self.faults > 0 {
+            self.faults -= 1;
+            return Err(io::Error::from(self.fault));
+        }
+        self.calls = self.calls.saturating_add(1);
+        if self.calls == self.fails_at {
+            return Err(io::Error::from(ErrorKind::BrokenPipe));
+        }
+        let n = self.most.min(buf.len());
+        self.taken.extend_from_slice(&buf[..n])?;
+        Ok(n)
+    }
+
+    fn flush(&mut self) -> io::Result<()> {
+        Ok(())
+    }
+}
+
+/// Serves one connection, and gives the report, the bytes written and the pauses made.
+pub fn serve<H: AllocGlobal, R: Read>(
+    rt: &H,
+    limits: &Limits,
+    reader: &mut R,
+) -> Result<(Report, Vec<u8>, u64), AllocError> {
+    let mut written = Vec::with_capacity(rt.alloc(), 256)?;
+    let mut pause = Counter { count: 0 };
+    let report = serve_connection(rt, limits, &Hello, reader, &mut written, &mut pause);
+    Ok((report, written, pause.count))
+}

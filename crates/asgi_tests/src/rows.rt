@@ -1,0 +1,194 @@
+//! What is answered to each form of a head, given whole.
+use crate::fakes::{Pieces, serve};
+use crate::texts::{BAD_REQUEST, GET, HELLO, HELLO_AND_CLOSE, NOT_IMPLEMENTED, TOO_LARGE};
+use asgi_conn::Outcome;
+use asgi_types::Limits;
+use std::process::Abort;
+use std::test::Fail;
+
+/// Serves each input whole, and compares what is written, the outcome and the exchanges.
+fn check<H: Abort + AllocGlobal>(
+    rt: &H,
+    inputs: &[&[u8]],
+    limits: &Limits,
+    wanted: &[u8],
+    outcome: Outcome,
+    exchanges: u64,
+) -> Result<(), Fail> {
+    for (row, input) in inputs.iter().enumerate() {
+        let mut reader = Pieces::new(input, 4_096, 4_096);
+        let (report, written, _) = serve(rt, limits, &mut reader)?;
+        assert_eq!(rt; written.as_slice(), wanted, "input {row}");
+        assert_eq!(rt; report.outcome, outcome, "input {row}");
+        assert_eq!(rt; report.exchanges, exchanges, "input {row}");
+        assert_eq!(rt; report.faults, 0, "input {row}");
+    }
+    Ok(())
+}
+
+#[test]
+fn a_request_is_answered(rt: HostRuntime) -> Result<(), Fail> {
+    let inputs: [&[u8]; 9] = [
+        GET,
+        b"get / HTTP/1.1\r\nHost: a\r\n\r\n",
+        b"POST /x HTTP/1.1\r\nHost:\r\n\r\n",
+        b"\r\n\n\r\nGET / HTTP/1.1\r\nHost: a\r\n\r\n",
+        b"GET / HTTP/1.1\nHost: a\n\n",
+        b"GET / HTTP/1.1\r\nHOST: a\r\nX-Empty:\r\nX-Tab: a\tb\r\n\r\n",
+        b"GET / HTTP/1.1\r\nHost: a\r\nConnection: keep-alive, x-close\r\nX-Close: close\r\n\r\n",
+        b"GET / HTTP/1.1\r\nHost: a\r\n\r\nGET / HTTP/1.1\r\nHost: a\r\n\r\n",
+        b"GET /c HTTP/1.1\r\nHost: a\r\nUpgrade: websocket\r\nConnection: Upgrade\r\nSec-WebSocket-Key: dGhlIHNhbXBsZSBub25jZQ==\r\nSec-WebSocket-Version: 13\r\n\r\n",
+    ];
+    check(&rt, &inputs, &Limits::usual(), HELLO, Outcome::Finished, 1)
+}
+
+#[test]
+fn a_request_to_close_is_said_back(rt: HostRuntime) -> Result<(), Fail> {
+    let inputs: [&[u8]; 5] = [
+        b"GET / HTTP/1.1\r\nHost: a\r\nConnection: close\r\n\r\n",
+        b"GET / HTTP/1.1\r\nHost: a\r\nConnection: CLOSE\r\n\r\n",
+        b"GET / HTTP/1.1\r\nHost: a\r\nConnection: keep-alive , Close\t,x\r\n\r\n",
+        b"GET / HTTP/1.1\r\nConnection: x\r\nHost: a\r\nConnection: close\r\n\r\n",
+        b"GET / HTTP/1.1\r\nHost: a\r\nConnection: ,,close\r\n\r\n",
+    ];
+    check(
+        &rt,
+        &inputs,
+        &Limits::usual(),
+        HELLO_AND_CLOSE,
+        Outcome::Finished,
+        1,
+    )
+}
+
+#[test]
+fn each_target_form_is_taken(rt: HostRuntime) -> Result<(), Fail> {
+    let inputs: [&[u8]; 7] = [
+        b"GET /a/b?c=/d#e HTTP/1.1\r\nHost: a\r\n\r\n",
+        b"GET // HTTP/1.1\r\nHost: a\r\n\r\n",
+        b"GET http://a/x?y HTTP/1.1\r\nHost: a\r\n\r\n",
+        b"GET HTTPS://a:1 HTTP/1.1\r\nHost: a\r\n\r\n",
+        b"GET hTTp://a?x HTTP/1.1\r\nHost: a\r\n\r\n",
+        b"OPTIONS * HTTP/1.1\r\nHost: a\r\n\r\n",
+        b"options * HTTP/1.1\r\nHost: a\r\n\r\n",
+    ];
+    check(&rt, &inputs, &Limits::usual(), HELLO, Outcome::Finished, 1)
+}
+
+#[test]
+fn any_other_target_is_bad(rt: HostRuntime) -> Result<(), Fail> {
+    let inputs: [&[u8]; 9] = [
+        b"GET * HTTP/1.1\r\nHost: a\r\n\r\n",
+        b"OPTIONS ** HTTP/1.1\r\nHost: a\r\n\r\n",
+        b"GET a:1 HTTP/1.1\r\nHost: a\r\n\r\n",
+        b"GET ?x HTTP/1.1\r\nHost: a\r\n\r\n",
+        b"GET http:///x HTTP/1.1\r\nHost: a\r\n\r\n",
+        b"GET https://?x HTTP/1.1\r\nHost: a\r\n\r\n",
+        b"GET http:// HTTP/1.1\r\nHost: a\r\n\r\n",
+        b"GET ftp://a/x HTTP/1.1\r\nHost: a\r\n\r\n",
+        b"GET a HTTP/1.0\r\n\r\n",
+    ];
+    check(
+        &rt,
+        &inputs,
+        &Limits::usual(),
+        BAD_REQUEST,
+        Outcome::Refused(400),
+        0,
+    )
+}
+
+#[test]
+fn what_is_no_head_is_bad(rt: HostRuntime) -> Result<(), Fail> {
+    let inputs: [&[u8]; 12] = [
+        b"GET / HTTP/1.1\r\n\r\n",
+        b"GET / HTTP/1.1\r\nHost: a\r\nHost: a\r\n\r\n",
+        b"GET / HTTP/1.1\r\nHost: a\r\nhost: b\r\n\r\n",
+        b"GET / HTTP/1.1\r\nHost : a\r\n\r\n",
+        b"GET / HTTP/1.1\r\nHost: a\r\nX: \0\r\n\r\n",
+        b"GET / HTTP/1.1\r\nHost: a\r\nX: a\r\n b\r\n\r\n",
+        b"GET / HTTP/1.1\r\nHost: a\r\nX: a\rb\r\n\r\n",
+        b"GET / HTTP/1.1\r\nHost: a\r\n: a\r\n\r\n",
+        b"GET / HTTP/2.0\r\nHost: a\r\n\r\n",
+        b"GET  / HTTP/1.1\r\nHost: a\r\n\r\n",
+        b"GET /\r\n\r\n",
+        b"x\n\n",
+    ];
+    check(
+        &rt,
+        &inputs,
+        &Limits::usual(),
+        BAD_REQUEST,
+        Outcome::Refused(400),
+        0,
+    )
+}
+
+#[test]
+fn what_is_not_served_yet_is_said_so(rt: HostRuntime) -> Result<(), Fail> {
+    let inputs: [&[u8]; 10] = [
+        b"CONNECT a:1 HTTP/1.1\r\nHost: a\r\n\r\n",
+        b"connect a:1 HTTP/1.0\r\n\r\n",
+        b"GET / HTTP/1.0\r\n\r\n",
+        b"GET / HTTP/1.0\r\nHost: a\r\nHost: a\r\n\r\n",
+        b"HEAD / HTTP/1.1\r\nHost: a\r\n\r\n",
+        b"GET / HTTP/1.1\r\nHost: a\r\nContent-Length: 0\r\n\r\n",
+        b"POST / HTTP/1.1\r\nHost: a\r\nContent-Length: 3\r\n\r\nabc",
+        b"POST / HTTP/1.1\r\nHost: a\r\nTransfer-Encoding: chunked\r\n\r\n0\r\n\r\n",
+        b"POST / HTTP/1.1\r\nHost: a\r\nTransfer-Encoding: gzip\r\n\r\n",
+        b"POST / HTTP/1.1\r\nHost: a\r\nContent-Length: 3\r\nTransfer-Encoding: chunked\r\n\r\n",
+    ];
+    check(
+        &rt,
+        &inputs,
+        &Limits::usual(),
+        NOT_IMPLEMENTED,
+        Outcome::Refused(501),
+        0,
+    )
+}
+
+#[test]
+fn an_input_that_ends_early_gets_no_answer(rt: HostRuntime) -> Result<(), Fail> {
+    let blank: [&[u8]; 4] = [b"", b"\r\n", b"\n\r\n\r", b"\r"];
+    check(&rt, &blank, &Limits::usual(), b"", Outcome::Finished, 0)?;
+    let broken: [&[u8]; 4] = [
+        b"GE",
+        b"GET / HTTP/1.1\r\nHost: a\r\n",
+        b"\r\nGET / HTTP/1.1\r\nHost: a\r\n\r",
+        b"\0",
+    ];
+    check(&rt, &broken, &Limits::usual(), b"", Outcome::InputBroke, 0)
+}
+
+/// A head of `length` bytes whose last field is filled up with letters.
+fn head_of<H: AllocGlobal>(rt: &H, length: usize) -> Result<Vec<u8>, Fail> {
+    let mut head = Vec::with_capacity(rt.alloc(), 256)?;
+    head.extend_from_slice(b"GET / HTTP/1.1\r\nHost: a\r\nX: ")?;
+    for _ in head.len()..length.saturating_sub(4) {
+        head.push(b'a')?;
+    }
+    head.extend_from_slice(b"\r\n\r\n")?;
+    Ok(head)
+}
+
+#[test]
+fn a_head_keeps_its_limits(rt: HostRuntime) -> Result<(), Fail> {
+    let small = Limits::new(64, 64, 0, 1, 2, 10, 100)?;
+    let fits = head_of(&rt, 64)?;
+    check(&rt, &[&fits], &small, HELLO, Outcome::Finished, 1)?;
+    let over = head_of(&rt, 65)?;
+    let blank = [b'\n'; 64];
+    let open = [b'a'; 64];
+    let long: [&[u8]; 3] = [&over, &blank, &open];
+    check(&rt, &long, &small, TOO_LARGE, Outcome::Refused(431), 0)?;
+    check(&rt, &[&blank[..63]], &small, b"", Outcome::Finished, 0)?;
+    check(&rt, &[&open[..63]], &small, b"", Outcome::InputBroke, 0)?;
+    let one_field = Limits::new(16_384, 1, 0, 1, 2, 10, 100)?;
+    check(&rt, &[GET], &one_field, HELLO, Outcome::Finished, 1)?;
+    let two: [&[u8]; 2] = [
+        b"GET / HTTP/1.1\r\nHost: a\r\nX: y\r\n\r\n",
+        b"GET / HTTP/1.1\r\nHost: a\r\nX : y\r\n\r\n",
+    ];
+    check(&rt, &two, &one_field, BAD_REQUEST, Outcome::Refused(400), 0)
+}
