@@ -1,4 +1,7 @@
 //! How a connection ended.
+ghost use Rattle.std.specs.Prelude.{Some};
+ghost use Rattle.asgi_conn.specs.OutcomeWords.{outcome_words};
+
 use std::fmt;
 
 /// Why a connection ended: the first cause met.
@@ -20,6 +23,8 @@ pub enum Outcome {
 
 /// The words of an outcome, as a program prints them: `write-failed 9`.
 impl fmt::Display for Outcome {
+    ghost output = { λ outcome. Some (outcome_words outcome) };
+
     fn fmt<W: fmt::Write>(&self, f: &mut fmt::Formatter<W>) -> fmt::Result {
         match self {
             Outcome::Finished => f.write_str("finished"),
