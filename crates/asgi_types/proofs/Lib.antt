@@ -1,1 +1,3 @@
 pub mod PlaceLemmas
+pub mod ReasonLemmas
+pub mod StateLemmas
