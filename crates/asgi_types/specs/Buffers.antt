@@ -1,6 +1,6 @@
 -- The text of a buffer gives the buffer back.
-use Rattle.std.specs.Prelude.{◌≡◌, ℕ, ◌-◌, ◌≤◌, List, ◌++◌, length, take, drop, replicate}
-use Rattle.std.proofs.Common.{ap, ◌∙◌, sym, subst, refl, length-take-le, take-append-drop, arith}
+use Rattle.std.specs.Prelude.{◌≡◌, ℕ, ◌-◌, ◌≤◌, List, ◌++◌, length, take, replicate}
+use Rattle.std.proofs.Common.{ap, ◌∙◌, sym, subst, length-take-le, take-append-drop}
 use Rattle.asgi_types.specs.declared.reason.Reason.TheInside.{Inside}
 use Rattle.asgi_types.specs.Reasons.{IsPadded, padded}
 

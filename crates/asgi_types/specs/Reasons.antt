@@ -1,5 +1,5 @@
 -- A short text in a buffer of 123 bytes, with zero bytes behind it.
-use Rattle.std.specs.Prelude.{◌≡◌, ℕ, ◌-◌, ◌≤◌, List, ◌++◌, length, take, drop, replicate}
+use Rattle.std.specs.Prelude.{◌≡◌, ℕ, ◌-◌, ◌≤◌, List, ◌++◌, length, drop, replicate}
 
 -- the buffer holds a text of n bytes
 pub record IsPadded (text : List ℕ) (n : ℕ) : Type 0 where

@@ -13,28 +13,51 @@ pub enum HttpVersion {
 #[derive(Debug, Drop)]
 pub enum Outgoing {
     /// "Response Start": the status code and the fields of the response.
-    ResponseStart { status: u16, headers: Headers },
+    ResponseStart {
+        status: u16,
+        headers: Headers,
+    },
     /// "Response Body": a part of the content, the last where `more_body` is false.
-    ResponseBody { body: Octets, more_body: bool },
+    ResponseBody {
+        body: Octets,
+        more_body: bool,
+    },
     /// "Accept": the session begins, with one of the offered subprotocols or with none.
     WsAccept {
         subprotocol: Option<Chars>,
         headers: Headers,
     },
     /// "Send": a message to the client.
-    WsSend { payload: Payload },
+    WsSend {
+        payload: Payload,
+    },
     /// "Close": the session ends; before "Accept" the handshake is refused.
-    WsClose { code: u16, reason: Chars },
+    WsClose {
+        code: u16,
+        reason: Chars,
+    },
     /// "Response Start" in place of "Accept" (extension `websocket.http.response`).
-    DenialStart { status: u16, headers: Headers },
+    DenialStart {
+        status: u16,
+        headers: Headers,
+    },
     /// "Response Body" behind that start, the last where `more_body` is false.
-    DenialBody { body: Octets, more_body: bool },
+    DenialBody {
+        body: Octets,
+        more_body: bool,
+    },
     /// "Startup Complete", with the state that each later scope gets a copy of.
-    StartupComplete { state: State },
+    StartupComplete {
+        state: State,
+    },
     /// "Startup Failed".
-    StartupFailed { message: Chars },
+    StartupFailed {
+        message: Chars,
+    },
     /// "Shutdown Complete".
     ShutdownComplete,
     /// "Shutdown Failed".
-    ShutdownFailed { message: Chars },
+    ShutdownFailed {
+        message: Chars,
+    },
 }

@@ -27,7 +27,6 @@ impl Model for Reason {
 
     ghost inverse = { λ bytes. record { text = padded bytes; len = length bytes } };
 
-
     ghost use Rattle.asgi_types.specs.Buffers.{buffer_back};
 
     ghost inverse_ok = { buffer_back };

@@ -1,9 +1,9 @@
 //! What an application keeps from its start for each later scope.
-ghost use Rattle.std.specs.Prelude.{◌≡◌, ◌≢◌, ◌≤◌, ◌↔◌, [], ◌∷◌, ◌++◌, ℕ, List, IfOk, OnOk, OnErr, IfSome, IfNone, IsNone, IsSome, IsOk, length};
+ghost use Rattle.std.specs.Prelude.{◌≡◌, ◌≢◌, ◌<◌, ◌≤◌, ◌↔◌, [], ◌∷◌, ◌++◌, ℕ, List, IfOk, OnOk, OnErr, IfSome, IfNone, IsNone, IsSome, IsOk, length};
 ghost use Rattle.std.specs.Option.{option_copied};
 ghost use Rattle.std.specs.Result.{IsErrOf};
 ghost use Rattle.asgi_types.specs.States.{value_of, with_value};
-ghost use Rattle.asgi_types.specs.StatePlaces.{IsValueAt};
+ghost use Rattle.asgi_types.specs.StatePlaces.{IsValueAt, IsReplaced};
 
 use crate::{Chars, Octets};
 use std::alloc::{AllocError, Global};
@@ -83,16 +83,16 @@ impl State {
         ensures bound { length self.new ≤ 64 }
     {
         if let Some(index) = find(self.entries.as_slice(), name) {
-            self.entries[index].1 = value;
+            put(&mut self.entries, index, value);
             return Ok(());
         }
         if self.entries.len() >= MOST {
             return Err(StateError::StateFull);
         }
-        match add(&mut self.entries, self.alloc, name, value) {
-            Ok(()) => Ok(()),
-            Err(e) => Err(StateError::NoMemory(e)),
+        if let Err(e) = add(&mut self.entries, self.alloc, name, value) {
+            return Err(StateError::NoMemory(e));
         }
+        Ok(())
     }
 
     /// The same state once more, in memory of its own.
@@ -146,4 +146,13 @@ fn add(
     let name = Chars::new(String::from_str(alloc, name)?);
     entries.push((name, value))?;
     Ok(())
+}
+
+/// Puts the value in the place of the one that is there.
+fn put(entries: &mut Vec<(Chars, StateValue)>, index: usize, value: StateValue)
+    requires { index < length entries.old.items }
+    ensures { IsReplaced entries.old.items index value entries.new.items }
+{
+    let entry = &mut entries[index];
+    entry.1 = value;
 }
