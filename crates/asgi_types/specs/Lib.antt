@@ -1,5 +1,6 @@
 pub mod Buffers
 pub mod Fields
+pub mod Lengths
 pub mod Places
 pub mod Ranges
 pub mod Reasons
