@@ -1,13 +1,9 @@
 -- The length that a response gives of its content (RFC 9110, section 8.6).
-use Rattle.std.specs.Prelude.{ℕ, Bool, List, [], ◌∷◌, Option, Some, None, if◌then◌else◌, codes, bytes_eq}
+use Rattle.std.specs.Prelude.{ℕ, List, [], ◌∷◌, Option, Some, None, if◌then◌else◌, codes, bytes_eq}
 use Rattle.asgi_types.specs.Fields.{HeaderField}
 use Rattle.asgi_types.specs.Lengths.{length_of_text}
-
--- no length, a length, or fields that give none
-pub data ContentLength : Type 0 where
-  Absent : ContentLength
-  Given : ℕ → ContentLength
-  Faulty : ContentLength
+use Rattle.asgi_protocol.specs.declared.content_length.ContentLength.{ContentLength}
+use Rattle.asgi_protocol.specs.declared.content_length.ContentLength.TheVariants.{Absent, Given, Faulty}
 
 -- the values of the fields with this name
 abbrev pub values_of : List HeaderField → List ℕ → List (List ℕ)

@@ -1,11 +1,13 @@
 -- What an event must meet at its place, its order aside.
-use Rattle.std.specs.Prelude.{◌≡◌, ℕ, ◌+◌, Bool, true, false, not, ◌&&◌, ◌||◌, ◌==◌, nat_le, nat_lt, List, [], ◌∷◌, ◌++◌, length, Option, Some, None, if◌then◌else◌, codes, bytes_eq}
+use Rattle.std.specs.Prelude.{◌≡◌, ℕ, ◌+◌, Bool, true, false, not, ◌&&◌, ◌||◌, ◌==◌, nat_le, nat_lt, List, [], ◌∷◌, length, Option, Some, None, if◌then◌else◌, codes, bytes_eq}
 use Rattle.std.specs.List.{list_any}
 use Rattle.asgi_types.specs.Fields.{HeaderField}
 use Rattle.asgi_types.specs.declared.facts.Facts.{Facts}
 use Rattle.asgi_types.specs.declared.outgoing.Outgoing.{Outgoing}
-use Rattle.asgi_types.specs.declared.outgoing.Outgoing.TheVariants.{ResponseStart, ResponseBody, WsAccept, WsSend, WsClose, DenialStart, DenialBody}
-use Rattle.asgi_protocol.specs.ContentLengths.{ContentLength, Absent, Given, Faulty, content_length}
+use Rattle.asgi_types.specs.declared.outgoing.Outgoing.TheVariants.{ResponseStart, ResponseBody, WsAccept, WsClose, DenialStart, DenialBody}
+use Rattle.asgi_protocol.specs.declared.content_length.ContentLength.{ContentLength}
+use Rattle.asgi_protocol.specs.declared.content_length.ContentLength.TheVariants.{Absent, Given, Faulty}
+use Rattle.asgi_protocol.specs.ContentLengths.{content_length}
 
 -- the status codes of a final response (RFC 9110, section 15)
 abbrev pub is_status : ℕ → Bool
@@ -17,12 +19,12 @@ is_close_code code = (nat_le 1000 code && nat_le code 1003) || (nat_le 1007 code
 
 -- the fields of the opening handshake that the server writes itself (RFC 6455, section 4.2.2), and
 -- those that delimit a content
-abbrev pub is_handshake_field : HeaderField → Bool
-is_handshake_field field =
-    bytes_eq field.name (codes "sec-websocket-protocol") || bytes_eq field.name (codes "sec-websocket-accept")
-    || bytes_eq field.name (codes "sec-websocket-extensions") || bytes_eq field.name (codes "upgrade")
-    || bytes_eq field.name (codes "connection") || bytes_eq field.name (codes "content-length")
-    || bytes_eq field.name (codes "transfer-encoding")
+abbrev pub is_handshake_name : List ℕ → Bool
+is_handshake_name name =
+    bytes_eq name (codes "sec-websocket-protocol") || bytes_eq name (codes "sec-websocket-accept")
+    || bytes_eq name (codes "sec-websocket-extensions") || bytes_eq name (codes "upgrade")
+    || bytes_eq name (codes "connection") || bytes_eq name (codes "content-length")
+    || bytes_eq name (codes "transfer-encoding")
 
 -- the subprotocol is one that the client offers, byte for byte (RFC 6455, section 4.2.2)
 abbrev pub is_offered : List (List ℕ) → Option (List ℕ) → Bool
@@ -44,7 +46,7 @@ is_faulty Absent = false
 abbrev pub has_bad_header : Outgoing → Bool
 has_bad_header (ResponseStart status headers) = is_faulty (content_length headers)
 has_bad_header (DenialStart status headers) = is_faulty (content_length headers)
-has_bad_header (WsAccept subprotocol headers) = list_any is_handshake_field headers
+has_bad_header (WsAccept subprotocol headers) = list_any (λ field. is_handshake_name field.name) headers
 has_bad_header _ = false
 
 abbrev pub has_bad_code : Outgoing → Bool
@@ -65,10 +67,13 @@ given_length (Given n) = Some n
 given_length Faulty = None
 given_length Absent = None
 
--- the length that a start gives; 204 and 304 have no content (RFC 9110, sections 15.3.5, 15.4.5)
+-- the length that the fields give; 204 and 304 have no content (RFC 9110, sections 15.3.5, 15.4.5)
+abbrev pub length_given_in : ℕ → List HeaderField → Option ℕ
+length_given_in status headers = if status == 204 || status == 304 then None else given_length (content_length headers)
+
 abbrev pub length_given_by : Outgoing → Option ℕ
-length_given_by (ResponseStart status headers) = if status == 204 || status == 304 then None else given_length (content_length headers)
-length_given_by (DenialStart status headers) = if status == 204 || status == 304 then None else given_length (content_length headers)
+length_given_by (ResponseStart status headers) = length_given_in status headers
+length_given_by (DenialStart status headers) = length_given_in status headers
 length_given_by _ = None
 
 -- how many bytes the bodies behind these events must have; any number in an answer to HEAD

@@ -1,5 +1,5 @@
 -- The verdict on an event behind others: the first line of the table that holds.
-use Rattle.std.specs.Prelude.{ℕ, Bool, true, false, not, List, ◌∷◌, [], ◌++◌, if◌then◌else◌}
+use Rattle.std.specs.Prelude.{Bool, true, false, not, List, if◌then◌else◌}
 use Rattle.asgi_types.specs.declared.scope.Kind.{Kind}
 use Rattle.asgi_types.specs.declared.scope.Kind.TheVariants.{Http, WebSocket, Lifespan}
 use Rattle.asgi_types.specs.declared.facts.Facts.{Facts}

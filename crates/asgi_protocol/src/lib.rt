@@ -2,6 +2,11 @@
 //! A judge keeps a few numbers; its contract speaks of the whole list of events.
 #![tactic(auto)]
 
+mod content_length;
+mod judge;
+pub mod laws;
+mod rules;
 mod verdict;
 
+pub use judge::Judge;
 pub use verdict::{Refusal, Verdict};

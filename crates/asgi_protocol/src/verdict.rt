@@ -1,5 +1,7 @@
 //! The judge's answers.
 ghost use Rattle.std.specs.Prelude.{◌≡◌};
+ghost use Rattle.asgi_protocol.specs.Numbers.{number_of};
+ghost use Rattle.asgi_protocol.specs.declared.verdict.Verdict.TheVariants.{Refused};
 
 use thiserror::Error;
 
@@ -39,4 +41,33 @@ pub enum Refusal {
     TooMuchBody,
     #[error("the bodies have fewer bytes than content-length says")]
     TooLittleBody,
+}
+
+impl Refusal {
+    /// The number of the reason: its place in the order above, from 1 to 11.
+    pub fn number(self) -> u8
+        ensures { result ≡ number_of self }
+    {
+        match self {
+            Refusal::Closed => 1,
+            Refusal::Disconnected => 2,
+            Refusal::WrongScope => 3,
+            Refusal::OutOfOrder => 4,
+            Refusal::BadStatus => 5,
+            Refusal::BadHeader => 6,
+            Refusal::BadCode => 7,
+            Refusal::BadReason => 8,
+            Refusal::BadSubprotocol => 9,
+            Refusal::TooMuchBody => 10,
+            Refusal::TooLittleBody => 11,
+        }
+    }
+}
+
+impl From<Refusal> for Verdict {
+    ghost from_gives = { λ why verdict. verdict ≡ Refused (number_of why) };
+
+    fn from(why: Refusal) -> Verdict {
+        Verdict::Refused(why.number())
+    }
 }
