@@ -10,3 +10,6 @@ mod verdict;
 
 pub use judge::Judge;
 pub use verdict::{Refusal, Verdict};
+
+#[cfg(test)]
+mod tests;

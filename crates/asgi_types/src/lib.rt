@@ -27,3 +27,8 @@ pub use outgoing::{HttpVersion, Outgoing};
 pub use reason::Reason;
 pub use scope::{Asgi, Extensions, HttpScope, Kind, LifespanScope, Peer, Scope, WsScope};
 pub use state::{State, StateError, StateValue};
+
+#[cfg(test)]
+mod tests_scopes;
+#[cfg(test)]
+mod tests_values;
