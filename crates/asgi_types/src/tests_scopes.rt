@@ -128,39 +128,27 @@ fn has_field(rt: &impl Abort, headers: &Headers) -> Result<(), Fail> {
     Ok(())
 }
 
-fn is_http(rt: &impl Abort, scope: &Scope) -> Result<(), Fail> {
-    let Scope::Http(held) = scope else {
-        panic!(rt; "another kind of scope");
-    };
-    assert_eq!(rt; held.asgi, Asgi::of(Kind::Http));
-    assert_eq!(rt; held.http_version, HttpVersion::V11);
-    assert_eq!(rt; held.method.as_str(), "GET");
-    assert_eq!(rt; held.scheme.as_str(), "http");
-    assert!(rt; !held.extensions.websocket_http_response);
-    assert!(rt; !held.extensions.http_response_trailers);
-    has_target(
-        rt,
-        &held.path,
-        &held.raw_path,
-        &held.query_string,
-        &held.root_path,
-    );
-    has_field(rt, &held.headers)?;
-    is_peer(rt, &held.client, "127.0.0.1", 4_000)?;
-    is_peer(rt, &held.server, "::1", 80)?;
-    has_seven(rt, &held.state);
-    Ok(())
+fn has_request_line(rt: &impl Abort, method: &Chars, scheme: &Chars, version: HttpVersion) {
+    assert_eq!(rt; method.as_str(), "GET");
+    assert_eq!(rt; scheme.as_str(), "http");
+    assert_eq!(rt; version, HttpVersion::V11);
 }
 
-fn is_websocket(rt: &impl Abort, scope: &Scope) -> Result<(), Fail> {
-    let Scope::WebSocket(held) = scope else {
-        panic!(rt; "another kind of scope");
-    };
-    assert_eq!(rt; held.asgi, Asgi::of(Kind::WebSocket));
-    assert_eq!(rt; held.http_version, HttpVersion::V11);
-    assert_eq!(rt; held.scheme.as_str(), "ws");
-    assert!(rt; held.extensions.websocket_http_response);
-    assert!(rt; !held.extensions.http_response_trailers);
+/// The extensions of a scope of this kind.
+fn has_kind(rt: &impl Abort, asgi: Asgi, extensions: Extensions, kind: Kind) {
+    assert_eq!(rt; asgi, Asgi::of(kind));
+    assert_eq!(rt; extensions.websocket_http_response, kind == Kind::WebSocket);
+    assert!(rt; !extensions.http_response_trailers);
+}
+
+fn has_peers(rt: &impl Abort, client: &Option<Peer>, server: &Option<Peer>) -> Result<(), Fail> {
+    is_peer(rt, client, "127.0.0.1", 4_000)?;
+    is_peer(rt, server, "::1", 80)
+}
+
+fn is_http(rt: &impl Abort, held: &HttpScope) -> Result<(), Fail> {
+    has_kind(rt, held.asgi, held.extensions, Kind::Http);
+    has_request_line(rt, &held.method, &held.scheme, held.http_version);
     has_target(
         rt,
         &held.path,
@@ -169,40 +157,99 @@ fn is_websocket(rt: &impl Abort, scope: &Scope) -> Result<(), Fail> {
         &held.root_path,
     );
     has_field(rt, &held.headers)?;
-    is_peer(rt, &held.client, "127.0.0.1", 4_000)?;
-    is_peer(rt, &held.server, "::1", 80)?;
+    has_seven(rt, &held.state);
+    has_peers(rt, &held.client, &held.server)
+}
+
+fn is_websocket(rt: &impl Abort, held: &WsScope) -> Result<(), Fail> {
+    has_kind(rt, held.asgi, held.extensions, Kind::WebSocket);
+    assert_eq!(rt; held.scheme.as_str(), "ws");
+    assert_eq!(rt; held.http_version, HttpVersion::V11);
+    has_target(
+        rt,
+        &held.path,
+        &held.raw_path,
+        &held.query_string,
+        &held.root_path,
+    );
+    has_field(rt, &held.headers)?;
     has_chat(rt, &held.subprotocols)?;
     has_seven(rt, &held.state);
+    has_peers(rt, &held.client, &held.server)
+}
+
+fn in_http(rt: &impl Abort, scope: &Scope) -> Result<(), Fail> {
+    match scope {
+        Scope::Http(held) => is_http(rt, held),
+        _ => panic!(rt; "another kind of scope"),
+    }
+}
+
+fn in_websocket(rt: &impl Abort, scope: &Scope) -> Result<(), Fail> {
+    match scope {
+        Scope::WebSocket(held) => is_websocket(rt, held),
+        _ => panic!(rt; "another kind of scope"),
+    }
+}
+
+fn in_lifespan(rt: &impl Abort, scope: &Scope) -> Result<(), Fail> {
+    match scope {
+        Scope::Lifespan(held) => {
+            assert_eq!(rt; held.asgi, Asgi::of(Kind::Lifespan));
+            has_seven(rt, &held.state);
+            Ok(())
+        }
+        _ => panic!(rt; "another kind of scope"),
+    }
+}
+
+/// The scope is the one of its kind above.
+fn is_whole(rt: &impl Abort, scope: &Scope, kind: Kind) -> Result<(), Fail> {
+    match kind {
+        Kind::Http => in_http(rt, scope),
+        Kind::WebSocket => in_websocket(rt, scope),
+        Kind::Lifespan => in_lifespan(rt, scope),
+    }
+}
+
+fn is_copied(rt: &(impl Abort + AllocGlobal), scope: &Scope, kind: Kind) -> Result<(), Fail> {
+    let copied = scope.copy(rt.alloc())?;
+    is_whole(rt, &copied, kind)
+}
+
+fn scope_of(alloc: Global, kind: Kind) -> Result<Scope, Fail> {
+    match kind {
+        Kind::Http => Ok(Scope::Http(http_scope(alloc)?)),
+        Kind::WebSocket => Ok(Scope::WebSocket(ws_scope(alloc)?)),
+        Kind::Lifespan => Ok(Scope::Lifespan(lifespan_scope(alloc))),
+    }
+}
+
+fn copies(rt: &(impl Abort + AllocGlobal), kind: Kind) -> Result<(), Fail> {
+    let bare = scope_of(rt.alloc(), kind)?;
+    let scope = with_all(rt.alloc(), bare)?;
+    is_copied(rt, &scope, kind)
+}
+
+fn keeps(rt: &(impl Abort + AllocGlobal), kind: Kind) -> Result<(), Fail> {
+    let bare = scope_of(rt.alloc(), kind)?;
+    let scope = with_all(rt.alloc(), bare)?;
+    is_whole(rt, &scope, kind)
+}
+
+#[test]
+fn a_scope_has_what_its_connection_knows(rt: HostRuntime) -> Result<(), Fail> {
+    for kind in [Kind::Http, Kind::WebSocket, Kind::Lifespan] {
+        keeps(&rt, kind)?;
+    }
     Ok(())
 }
 
-fn is_lifespan(rt: &impl Abort, scope: &Scope) {
-    let Scope::Lifespan(held) = scope else {
-        panic!(rt; "another kind of scope");
-    };
-    assert_eq!(rt; held.asgi, Asgi::of(Kind::Lifespan));
-    has_seven(rt, &held.state);
-}
-
 #[test]
-fn an_http_scope_is_copied_with_all_its_fields(rt: HostRuntime) -> Result<(), Fail> {
-    let scope = with_all(rt.alloc(), Scope::Http(http_scope(rt.alloc())?))?;
-    is_http(&rt, &scope.copy(rt.alloc())?)?;
-    is_http(&rt, &scope)
-}
-
-#[test]
-fn a_websocket_scope_is_copied_with_all_its_fields(rt: HostRuntime) -> Result<(), Fail> {
-    let scope = with_all(rt.alloc(), Scope::WebSocket(ws_scope(rt.alloc())?))?;
-    is_websocket(&rt, &scope.copy(rt.alloc())?)?;
-    is_websocket(&rt, &scope)
-}
-
-#[test]
-fn a_lifespan_scope_has_only_a_state(rt: HostRuntime) -> Result<(), Fail> {
-    let scope = with_all(rt.alloc(), Scope::Lifespan(lifespan_scope(rt.alloc())))?;
-    is_lifespan(&rt, &scope.copy(rt.alloc())?);
-    is_lifespan(&rt, &scope);
+fn a_scope_is_copied_with_all_its_fields(rt: HostRuntime) -> Result<(), Fail> {
+    for kind in [Kind::Http, Kind::WebSocket, Kind::Lifespan] {
+        copies(&rt, kind)?;
+    }
     Ok(())
 }
 
