@@ -1,0 +1,6 @@
+pub mod JudgeLemmas
+pub mod LawLemmas
+pub mod OfferLemmas
+pub mod PassLemmas
+pub mod RowLemmas
+pub mod WordLemmas

@@ -1,0 +1,302 @@
+-- A judge that passes an event stands for the list with that event.
+use Rattle.std.proofs.Common.{◌≡◌, ℕ, ◌+◌, ◌-◌, ◌≤◌, Bool, true, false, ◌⊎◌, inl, inr, List, [], ◌∷◌, ◌++◌, length, refl, ap, sym, ◌∙◌, subst, Option, Some, None, append_assoc, arith, zero-add, add-zero}
+use Rattle.std.specs.Prelude.{not, ◌||◌, nat_lt, if◌then◌else◌}
+use Rattle.std.specs.Option.{option_map}
+use Rattle.std.proofs.lemmas.Bool.Decides.{Decides-ltb, not_from_Decides}
+use Rattle.asgi_types.specs.declared.scope.Kind.{Kind}
+use Rattle.asgi_types.specs.declared.scope.Kind.TheVariants.{Http, WebSocket, Lifespan}
+use Rattle.asgi_types.specs.declared.facts.Facts.{Facts}
+use Rattle.asgi_types.specs.declared.outgoing.Outgoing.{Outgoing}
+use Rattle.asgi_types.specs.declared.outgoing.Outgoing.TheVariants.{ResponseStart, ResponseBody, WsAccept, WsSend, WsClose, DenialStart, DenialBody, StartupComplete, StartupFailed, ShutdownComplete, ShutdownFailed}
+use Rattle.asgi_protocol.specs.declared.verdict.Verdict.{Verdict}
+use Rattle.asgi_protocol.specs.declared.verdict.Verdict.TheVariants.{Pass, Refused}
+use Rattle.asgi_protocol.specs.declared.judge.Stage.{Stage}
+use Rattle.asgi_protocol.specs.declared.judge.Stage.TheVariants.{Fresh, Begun, Accepted, Started}
+use Rattle.asgi_protocol.specs.declared.judge.Judge.{Judge}
+use Rattle.asgi_protocol.specs.Lawful.{IsLawful}
+use Rattle.asgi_protocol.specs.Rules.{MeetsRules, promised_length, body_bytes, is_above}
+use Rattle.asgi_protocol.specs.Shapes.{is_of, is_word, begins_word, goes_on}
+use Rattle.asgi_protocol.specs.Stages.{StandsFor, CountsBytes, lines_at, stage_behind, is_rest, begins_rest, has_place, takes_too_much}
+use Rattle.asgi_protocol.specs.Verdicts.{Lines, lines_on, first_line, verdict_on, verdict_on_closed}
+use Rattle.asgi_protocol.proofs.WordLemmas.{word_from_beginning}
+use Rattle.asgi_protocol.proofs.JudgeLemmas.{verdict_agrees}
+
+-- no line holds of an event that passes
+pub record NoLine (l : Lines) : Type 0 where
+  pub closed : l.closed ≡ false
+  pub disconnected : l.disconnected ≡ false
+  pub wrong_scope : l.wrong_scope ≡ false
+  pub out_of_order : l.out_of_order ≡ false
+  pub bad_status : l.bad_status ≡ false
+  pub bad_header : l.bad_header ≡ false
+  pub bad_code : l.bad_code ≡ false
+  pub bad_reason : l.bad_reason ≡ false
+  pub bad_subprotocol : l.bad_subprotocol ≡ false
+  pub too_much_body : l.too_much_body ≡ false
+  pub too_little_body : l.too_little_body ≡ false
+
+skip : (b : Bool) (v r : Verdict) → (v ≡ Pass → ⊥) → (if b then v else r) ≡ Pass → (b ≡ false) × (r ≡ Pass)
+skip true v r other h = absurd (other h)
+skip false v r other h = (refl, h)
+
+on_closed : (kind : Kind) → verdict_on_closed kind ≡ Pass → ⊥
+on_closed Http h = cc
+on_closed WebSocket h = cc
+on_closed Lifespan h = cc
+
+refused : (n : ℕ) → Refused n ≡ Pass → ⊥
+refused n h = cc
+
+pub no_line : (kind : Kind) (l : Lines) → first_line kind l ≡ Pass → NoLine l
+no_line kind l h =
+    let a = skip l.closed (verdict_on_closed kind) _ (on_closed kind) h in
+    let b = skip l.disconnected (Refused 2) _ (refused 2) a.1 in
+    let c = skip l.wrong_scope (Refused 3) _ (refused 3) b.1 in
+    let d = skip l.out_of_order (Refused 4) _ (refused 4) c.1 in
+    let e = skip l.bad_status (Refused 5) _ (refused 5) d.1 in
+    let f = skip l.bad_header (Refused 6) _ (refused 6) e.1 in
+    let g = skip l.bad_code (Refused 7) _ (refused 7) f.1 in
+    let i = skip l.bad_reason (Refused 8) _ (refused 8) g.1 in
+    let j = skip l.bad_subprotocol (Refused 9) _ (refused 9) i.1 in
+    let k = skip l.too_much_body (Refused 10) _ (refused 10) j.1 in
+    let m = skip l.too_little_body (Refused 11) Pass (refused 11) k.1 in
+    record {
+      closed = a.0;
+      disconnected = b.0;
+      wrong_scope = c.0;
+      out_of_order = d.0;
+      bad_status = e.0;
+      bad_header = f.0;
+      bad_code = g.0;
+      bad_reason = i.0;
+      bad_subprotocol = j.0;
+      too_much_body = k.0;
+      too_little_body = m.0;
+    }
+
+pub no_line_passes : (kind : Kind) (l : Lines) → NoLine l → first_line kind l ≡ Pass
+no_line_passes kind l n =
+    rw (n.closed, n.disconnected, n.wrong_scope, n.out_of_order, n.bad_status, n.bad_header, n.bad_code, n.bad_reason, n.bad_subprotocol, n.too_much_body, n.too_little_body) refl
+
+pub not_false : (b : Bool) → not b ≡ false → b ≡ true
+not_false true h = refl
+not_false false h = absurd (cc)
+
+-- what a pass says of the list
+pub record Passes (kind : Kind) (facts : Facts) (said : List Outgoing) (e : Outgoing) : Type 0 where
+  pub of : is_of kind e ≡ true
+  pub goes : goes_on kind said e ≡ true
+  pub meets : MeetsRules facts said e
+
+pub passes : (kind : Kind) (facts : Facts) (said : List Outgoing) (heard : Bool) (e : Outgoing) → verdict_on kind facts said heard e ≡ Pass → Passes kind facts said e
+passes kind facts said heard e h =
+    let n = no_line kind (lines_on kind facts said heard e) h in
+    record {
+      of = not_false (is_of kind e) n.wrong_scope;
+      goes = not_false (goes_on kind said e) n.out_of_order;
+      meets = record {
+        status = n.bad_status;
+        header = n.bad_header;
+        code = n.bad_code;
+        reason = n.bad_reason;
+        subprotocol = n.bad_subprotocol;
+        not_too_much = n.too_much_body;
+        not_too_little = n.too_little_body;
+      };
+    }
+
+-- a split of a list with one more event
+pub snoc_split : (said before after : List Outgoing) (e d : Outgoing) → said ++ e ∷ [] ≡ before ++ d ∷ after
+    → ((said ≡ before) × (e ≡ d)) ⊎ ((rest : List Outgoing) × (said ≡ before ++ d ∷ rest))
+snoc_split [] [] after e d h = inl (refl, cc)
+snoc_split [] (b ∷ []) after e d h = absurd (cc)
+snoc_split [] (b ∷ c ∷ before) after e d h = absurd (cc)
+snoc_split (s ∷ said) [] after e d h = let first : s ≡ d = cc in inr (said, ap (λ (x : Outgoing). x ∷ said) first)
+snoc_split (s ∷ said) (b ∷ before) after e d h =
+    let first : s ≡ b = cc in
+    let rest : said ++ e ∷ [] ≡ before ++ d ∷ after = cc in
+    elim (snoc_split said before after e d rest) [
+      | inl p ↦ let here : s ∷ said ≡ b ∷ before = cc (p.0) in inl (here, p.1)
+      | inr p ↦ let there : s ∷ said ≡ b ∷ (before ++ d ∷ p.0) = cc (p.1) in inr (p.0, there)
+    ]
+
+pub lawful_more : (kind : Kind) (facts : Facts) (said : List Outgoing) (e : Outgoing) → IsLawful kind facts said → Passes kind facts said e → IsLawful kind facts (said ++ e ∷ [])
+lawful_more kind facts said e l p = record {
+  begins = word_from_beginning kind (said ++ e ∷ []) p.goes;
+  each = λ before after d h. elim (snoc_split said before after e d h) [
+    | inl q ↦ subst (λ (b : List Outgoing). MeetsRules facts b d) q.0 (subst (λ (x : Outgoing). MeetsRules facts said x) q.1 p.meets)
+    | inr q ↦ l.each before q.0 d q.1
+  ];
+}
+
+-- the stage behind an event
+or_false : (b : Bool) → b ≡ (b || false)
+or_false true = refl
+or_false false = refl
+
+rest_behind : (kind : Kind) (facts : Facts) (stage : Stage) (e : Outgoing) (more : List Outgoing) → is_of kind e ≡ true → has_place stage e ≡ true
+    → is_rest kind stage (e ∷ more) ≡ is_rest kind (stage_behind facts stage e) more
+rest_behind Http facts Fresh (ResponseStart status headers) more of at = refl
+rest_behind Http facts _ (ResponseStart status headers) more of at = absurd (cc)
+rest_behind Http facts (Begun left) (ResponseBody body true) more of at = sym (or_false _)
+rest_behind Http facts (Begun left) (ResponseBody body false) more of at = refl
+rest_behind Http facts _ (ResponseBody body more_body) more of at = absurd (cc)
+rest_behind Http facts _ _ more of at = absurd (cc)
+rest_behind WebSocket facts Fresh (WsAccept subprotocol headers) more of at = refl
+rest_behind WebSocket facts _ (WsAccept subprotocol headers) more of at = absurd (cc)
+rest_behind WebSocket facts Accepted (WsSend payload) more of at = sym (or_false _)
+rest_behind WebSocket facts _ (WsSend payload) more of at = absurd (cc)
+rest_behind WebSocket facts Fresh (WsClose code reason) more of at = refl
+rest_behind WebSocket facts Accepted (WsClose code reason) more of at = refl
+rest_behind WebSocket facts _ (WsClose code reason) more of at = absurd (cc)
+rest_behind WebSocket facts Fresh (DenialStart status headers) more of at = refl
+rest_behind WebSocket facts _ (DenialStart status headers) more of at = absurd (cc)
+rest_behind WebSocket facts (Begun left) (DenialBody body true) more of at = sym (or_false _)
+rest_behind WebSocket facts (Begun left) (DenialBody body false) more of at = refl
+rest_behind WebSocket facts _ (DenialBody body more_body) more of at = absurd (cc)
+rest_behind WebSocket facts _ _ more of at = absurd (cc)
+rest_behind Lifespan facts Fresh (StartupComplete state) more of at = refl
+rest_behind Lifespan facts _ (StartupComplete state) more of at = absurd (cc)
+rest_behind Lifespan facts Fresh (StartupFailed message) more of at = refl
+rest_behind Lifespan facts _ (StartupFailed message) more of at = absurd (cc)
+rest_behind Lifespan facts Started ShutdownComplete more of at = refl
+rest_behind Lifespan facts _ ShutdownComplete more of at = absurd (cc)
+rest_behind Lifespan facts Started (ShutdownFailed message) more of at = refl
+rest_behind Lifespan facts _ (ShutdownFailed message) more of at = absurd (cc)
+rest_behind Lifespan facts _ _ more of at = absurd (cc)
+
+begins_behind : (kind : Kind) (facts : Facts) (stage : Stage) (e : Outgoing) (more : List Outgoing) → is_of kind e ≡ true → has_place stage e ≡ true
+    → begins_rest kind stage (e ∷ more) ≡ begins_rest kind (stage_behind facts stage e) more
+begins_behind Http facts Fresh (ResponseStart status headers) more of at = refl
+begins_behind Http facts _ (ResponseStart status headers) more of at = absurd (cc)
+begins_behind Http facts (Begun left) (ResponseBody body true) more of at = sym (or_false _)
+begins_behind Http facts (Begun left) (ResponseBody body false) more of at = refl
+begins_behind Http facts _ (ResponseBody body more_body) more of at = absurd (cc)
+begins_behind Http facts _ _ more of at = absurd (cc)
+begins_behind WebSocket facts Fresh (WsAccept subprotocol headers) more of at = refl
+begins_behind WebSocket facts _ (WsAccept subprotocol headers) more of at = absurd (cc)
+begins_behind WebSocket facts Accepted (WsSend payload) more of at = sym (or_false _)
+begins_behind WebSocket facts _ (WsSend payload) more of at = absurd (cc)
+begins_behind WebSocket facts Fresh (WsClose code reason) more of at = refl
+begins_behind WebSocket facts Accepted (WsClose code reason) more of at = refl
+begins_behind WebSocket facts _ (WsClose code reason) more of at = absurd (cc)
+begins_behind WebSocket facts Fresh (DenialStart status headers) more of at = refl
+begins_behind WebSocket facts _ (DenialStart status headers) more of at = absurd (cc)
+begins_behind WebSocket facts (Begun left) (DenialBody body true) more of at = sym (or_false _)
+begins_behind WebSocket facts (Begun left) (DenialBody body false) more of at = refl
+begins_behind WebSocket facts _ (DenialBody body more_body) more of at = absurd (cc)
+begins_behind WebSocket facts _ _ more of at = absurd (cc)
+begins_behind Lifespan facts Fresh (StartupComplete state) more of at = refl
+begins_behind Lifespan facts _ (StartupComplete state) more of at = absurd (cc)
+begins_behind Lifespan facts Fresh (StartupFailed message) more of at = refl
+begins_behind Lifespan facts _ (StartupFailed message) more of at = absurd (cc)
+begins_behind Lifespan facts Started ShutdownComplete more of at = refl
+begins_behind Lifespan facts _ ShutdownComplete more of at = absurd (cc)
+begins_behind Lifespan facts Started (ShutdownFailed message) more of at = refl
+begins_behind Lifespan facts _ (ShutdownFailed message) more of at = absurd (cc)
+begins_behind Lifespan facts _ _ more of at = absurd (cc)
+
+-- the bytes behind an event
+nothing_yet : (o : Option ℕ) → o ≡ option_map (λ n. 0 + n) o
+nothing_yet None = refl
+nothing_yet (Some n) = ap Some (sym (zero-add n))
+
+never : (b : Bool) → (if b then None else (let o : Option ℕ = None in o)) ≡ None
+never true = refl
+never false = refl
+
+pub body_bytes-append : (xs ys : List Outgoing) → body_bytes (xs ++ ys) ≡ body_bytes xs + body_bytes ys
+body_bytes-append [] ys = sym (zero-add (body_bytes ys))
+body_bytes-append (ResponseBody body more ∷ xs) ys = omega (arith, body_bytes-append xs ys)
+body_bytes-append (DenialBody body more ∷ xs) ys = omega (arith, body_bytes-append xs ys)
+body_bytes-append (_ ∷ xs) ys = body_bytes-append xs ys
+
+counts_down : (sum size : ℕ) (left : Option ℕ) → is_above size left ≡ false
+    → option_map (λ n. sum + n) left ≡ option_map (λ n. (sum + size) + n) (option_map (λ n. n - size) left)
+counts_down sum size None h = refl
+counts_down sum size (Some n) h =
+    let fits = not_from_Decides (nat_lt n size) (Decides-ltb n size) h in
+    let enough : size ≤ n = omega (arith, fits) in
+    ap Some (omega arith)
+
+first_counts : (facts : Facts) (said : List Outgoing) (e : Outgoing) → said ≡ [] → body_bytes (e ∷ []) ≡ 0 → CountsBytes facts (Begun (promised_length facts (e ∷ []))) (said ++ e ∷ [])
+first_counts facts said e none no_bytes = (
+  e,
+  [],
+  ap (λ (s : List Outgoing). s ++ e ∷ []) none,
+  ap (λ (s : List Outgoing). promised_length facts (s ++ e ∷ [])) none ∙ nothing_yet (promised_length facts (e ∷ []))
+      ∙ ap (λ (sum : ℕ). option_map (λ n. sum + n) (promised_length facts (e ∷ []))) (sym no_bytes ∙ ap (λ (s : List Outgoing). body_bytes (s ++ e ∷ [])) (sym none)),
+)
+
+body_counts : (facts : Facts) (said : List Outgoing) (e : Outgoing) (left : Option ℕ) (size : ℕ) → CountsBytes facts (Begun left) said → body_bytes (e ∷ []) ≡ size → is_above size left ≡ false
+    → CountsBytes facts (Begun (option_map (λ n. n - size) left)) (said ++ e ∷ [])
+body_counts facts said e left size counts bytes fits = (
+  counts.0,
+  counts.1 ++ e ∷ [],
+  ap (λ (s : List Outgoing). s ++ e ∷ []) counts.2,
+  ap (λ (s : List Outgoing). promised_length facts (s ++ e ∷ [])) counts.2 ∙ ap (promised_length facts) (sym counts.2) ∙ counts.3
+      ∙ counts_down (body_bytes said) size left fits
+      ∙ ap (λ (sum : ℕ). option_map (λ n. sum + n) (option_map (λ n. n - size) left)) (ap (λ (b : ℕ). body_bytes said + b) (sym bytes) ∙ sym (body_bytes-append said (e ∷ []))),
+)
+
+counts_behind : (kind : Kind) (facts : Facts) (stage : Stage) (said : List Outgoing) (e : Outgoing) → is_of kind e ≡ true → has_place stage e ≡ true
+    → takes_too_much stage e ≡ false → CountsBytes facts stage said → CountsBytes facts (stage_behind facts stage e) (said ++ e ∷ [])
+counts_behind kind facts Fresh said (ResponseStart status headers) of at fits counts = first_counts facts said (ResponseStart status headers) counts refl
+counts_behind kind facts _ said (ResponseStart status headers) of at fits counts = absurd (cc)
+counts_behind kind facts (Begun left) said (ResponseBody body true) of at fits counts = body_counts facts said (ResponseBody body true) left (length body) counts (add-zero (length body)) fits
+counts_behind kind facts (Begun left) said (ResponseBody body false) of at fits counts = tt
+counts_behind kind facts _ said (ResponseBody body more) of at fits counts = absurd (cc)
+counts_behind kind facts Fresh said (WsAccept subprotocol headers) of at fits counts = (
+  WsAccept subprotocol headers,
+  [],
+  ap (λ (s : List Outgoing). s ++ WsAccept subprotocol headers ∷ []) counts,
+  ap (λ (s : List Outgoing). promised_length facts (s ++ WsAccept subprotocol headers ∷ [])) counts ∙ never facts.head_only,
+)
+counts_behind kind facts _ said (WsAccept subprotocol headers) of at fits counts = absurd (cc)
+counts_behind kind facts Accepted said (WsSend payload) of at fits counts = (
+  counts.0,
+  counts.1 ++ WsSend payload ∷ [],
+  ap (λ (s : List Outgoing). s ++ WsSend payload ∷ []) counts.2,
+  ap (λ (s : List Outgoing). promised_length facts (s ++ WsSend payload ∷ [])) counts.2 ∙ ap (promised_length facts) (sym counts.2) ∙ counts.3,
+)
+counts_behind kind facts _ said (WsSend payload) of at fits counts = absurd (cc)
+counts_behind kind facts stage said (WsClose code reason) of at fits counts = tt
+counts_behind kind facts Fresh said (DenialStart status headers) of at fits counts = first_counts facts said (DenialStart status headers) counts refl
+counts_behind kind facts _ said (DenialStart status headers) of at fits counts = absurd (cc)
+counts_behind kind facts (Begun left) said (DenialBody body true) of at fits counts = body_counts facts said (DenialBody body true) left (length body) counts (add-zero (length body)) fits
+counts_behind kind facts (Begun left) said (DenialBody body false) of at fits counts = tt
+counts_behind kind facts _ said (DenialBody body more) of at fits counts = absurd (cc)
+counts_behind kind facts Fresh said (StartupComplete state) of at fits counts = (
+  StartupComplete state,
+  [],
+  ap (λ (s : List Outgoing). s ++ StartupComplete state ∷ []) counts,
+  ap (λ (s : List Outgoing). promised_length facts (s ++ StartupComplete state ∷ [])) counts ∙ never facts.head_only,
+)
+counts_behind kind facts _ said (StartupComplete state) of at fits counts = absurd (cc)
+counts_behind kind facts stage said (StartupFailed message) of at fits counts = tt
+counts_behind kind facts stage said ShutdownComplete of at fits counts = tt
+counts_behind kind facts stage said (ShutdownFailed message) of at fits counts = tt
+
+-- the judge behind an event that passed
+pub stands_behind : (judge : Judge) (kind : Kind) (facts : Facts) (said : List Outgoing) (heard : Bool) (e : Outgoing) → StandsFor judge kind facts said heard
+    → first_line judge.kind (lines_at judge facts e) ≡ Pass
+    → StandsFor (record judge { stage = stage_behind facts judge.stage e }) kind facts (said ++ e ∷ []) heard
+stands_behind judge kind facts said heard e s pass =
+    let n = no_line judge.kind (lines_at judge facts e) pass in
+    let p = passes kind facts said heard e (sym (verdict_agrees judge kind facts said heard e s) ∙ pass) in
+    let place = not_false (has_place judge.stage e) n.out_of_order in
+    record {
+      kind_is = s.kind_is;
+      heard_is = s.heard_is;
+      lawful = lawful_more kind facts said e s.lawful p;
+      rest = λ more. ap (is_word kind) (append_assoc said (e ∷ []) more) ∙ s.rest (e ∷ more) ∙ rest_behind kind facts judge.stage e more p.of place;
+      begins = λ more. ap (begins_word kind) (append_assoc said (e ∷ []) more) ∙ s.begins (e ∷ more) ∙ begins_behind kind facts judge.stage e more p.of place;
+      counts = counts_behind kind facts judge.stage said e p.of place n.too_much_body s.counts;
+    }
+
+pub stands_with : (judge : Judge) (stage : Stage) (kind : Kind) (facts : Facts) (said : List Outgoing) (heard : Bool) (e : Outgoing) (verdict : Verdict) → stage ≡ stage_behind facts judge.stage e
+    → verdict ≡ first_line judge.kind (lines_at judge facts e) → verdict ≡ Pass → StandsFor judge kind facts said heard
+    → StandsFor (record judge { stage = stage }) kind facts (said ++ e ∷ []) heard
+stands_with judge stage kind facts said heard e verdict moved tested pass s =
+    subst (λ (st : Stage). StandsFor (record judge { stage = st }) kind facts (said ++ e ∷ []) heard) (sym moved)
+    (stands_behind judge kind facts said heard e s (sym tested ∙ pass))

@@ -1,0 +1,40 @@
+-- Laws of lawful lists and verdicts.
+use Rattle.std.specs.Prelude.{◌≡◌, Bool, true, false, List, [], ◌∷◌, ◌++◌, ◌⊎◌, ◌↔◌}
+use Rattle.asgi_types.specs.declared.scope.Kind.{Kind}
+use Rattle.asgi_types.specs.declared.scope.Kind.TheVariants.{Http}
+use Rattle.asgi_types.specs.declared.facts.Facts.{Facts}
+use Rattle.asgi_types.specs.declared.outgoing.Outgoing.{Outgoing}
+use Rattle.asgi_protocol.specs.declared.verdict.Refusal.{Refusal}
+use Rattle.asgi_protocol.specs.declared.verdict.Verdict.{Verdict}
+use Rattle.asgi_protocol.specs.declared.verdict.Verdict.TheVariants.{Pass, Ignored, Refused}
+use Rattle.asgi_protocol.specs.Lawful.{IsLawful, IsClosed, BeginsWord}
+use Rattle.asgi_protocol.specs.Numbers.{number_of}
+use Rattle.asgi_protocol.specs.Shapes.{is_closed, goes_on}
+use Rattle.asgi_protocol.specs.Verdicts.{verdict_on}
+
+-- no lawful list goes on after a closed one
+abbrev pub ClosedIsLast : Type 0
+ClosedIsLast =
+    (kind : Kind) (facts : Facts) (said after : List Outgoing) (event : Outgoing) → IsClosed kind said → ¬ (IsLawful kind facts (said ++ event ∷ after))
+
+-- each event passes behind those before it, with no disconnect heard
+abbrev pub EachPasses : Kind → Facts → List Outgoing → Type 0
+EachPasses kind facts events =
+    (before after : List Outgoing) (event : Outgoing) → events ≡ before ++ event ∷ after → verdict_on kind facts before false event ≡ Pass
+
+-- a list is lawful exactly where each of its events passes
+abbrev pub LawfulWhereEachPasses : Type 0
+LawfulWhereEachPasses = (kind : Kind) (facts : Facts) (events : List Outgoing) → IsLawful kind facts events ↔ EachPasses kind facts events
+
+-- every verdict is one of the table, and `Ignored` comes in HTTP alone
+abbrev pub IsOfTable : Kind → Verdict → Type 0
+IsOfTable kind verdict = (verdict ≡ Pass) ⊎ ((verdict ≡ Ignored) × (kind ≡ Http)) ⊎ ((why : Refusal) × (verdict ≡ Refused (number_of why)))
+
+abbrev pub VerdictsAreOfTable : Type 0
+VerdictsAreOfTable =
+    (kind : Kind) (facts : Facts) (said : List Outgoing) (heard : Bool) (event : Outgoing) → IsOfTable kind (verdict_on kind facts said heard event)
+
+-- the tests of a verdict say what the shapes say
+pub record TestsAgree : Type 0 where
+  pub closed : (kind : Kind) (said : List Outgoing) → (is_closed kind said ≡ true) ↔ IsClosed kind said
+  pub in_order : (kind : Kind) (said : List Outgoing) (event : Outgoing) → (goes_on kind said event ≡ true) ↔ BeginsWord kind (said ++ event ∷ [])

@@ -1,0 +1,277 @@
+//! The judge of what an application sends.
+ghost use Rattle.std.specs.Prelude.{◌≡◌, ◌≢◌, Bool, false, ◌||◌, List, [], ◌∷◌, ◌++◌, length};
+ghost use Rattle.asgi_types.specs.declared.scope.Kind.{Kind};
+ghost use Rattle.asgi_types.specs.declared.facts.Facts.{Facts};
+ghost use Rattle.asgi_types.specs.declared.outgoing.Outgoing.{Outgoing};
+ghost use Rattle.asgi_protocol.specs.Stages.{StandsFor, lines_at, stage_behind, behind_body as behind_body_of, bytes_left as left_of, has_place as has_place_for, takes_too_much as is_too_much, leaves_too_much as is_too_little};
+ghost use Rattle.asgi_protocol.specs.Rules.{is_above, is_below};
+ghost use Rattle.asgi_protocol.specs.Shapes.{is_of as is_event_of};
+ghost use Rattle.asgi_protocol.specs.Verdicts.{verdict_on, first_line, verdict_on_closed, is_disconnect as is_disconnect_event};
+
+use crate::rules::{
+    has_bad_code, has_bad_header, has_bad_reason, has_bad_status, has_bad_subprotocol,
+    promised_length,
+};
+use crate::{Refusal, Verdict};
+use asgi_types::{Facts, Incoming, Kind, Octets, Outgoing};
+
+/// How far the conversation is.
+#[derive(Clone, Copy, Debug)]
+enum Stage {
+    /// Nothing was said.
+    Fresh,
+    /// A response or a denial has begun. So many bytes are left of the length that its start
+    /// gives.
+    Begun { left: Option<u64> },
+    /// The session was accepted.
+    Accepted,
+    /// The startup is complete.
+    Started,
+    /// All was said.
+    Ended,
+}
+
+/// Passes the events that go on lawfully with those that it passed before. It takes no memory.
+#[derive(Clone, Copy, Debug)]
+pub struct Judge {
+    kind: Kind,
+    stage: Stage,
+    disconnected: bool,
+}
+
+impl Judge {
+    /// A judge for one scope of this kind, in which nothing was said and no disconnect was heard.
+    pub fn new(kind: Kind) -> Self
+        ensures { (facts : Facts) → StandsFor result kind facts [] false }
+    {
+        Judge {
+            kind,
+            stage: Stage::Fresh,
+            disconnected: false,
+        }
+    }
+
+    /// The verdict on the event, which is not said by this.
+    pub fn look(&self, facts: &Facts, event: &Outgoing) -> Verdict
+        ensures { (kind : Kind) → (said : List Outgoing) → (disconnected : Bool)
+            → StandsFor self.now kind facts.now said disconnected
+            → result ≡ verdict_on kind facts.now said disconnected event.now }
+    {
+        self.verdict(facts, event)
+    }
+
+    /// The verdict on the event, which is said where it passes.
+    pub fn judge(&mut self, facts: &Facts, event: &Outgoing) -> Verdict
+        ensures verdict { (kind : Kind) → (said : List Outgoing) → (disconnected : Bool)
+            → StandsFor self.old kind facts.now said disconnected
+            → result ≡ verdict_on kind facts.now said disconnected event.now }
+        ensures passed { result ≡ Verdict.Pass
+            → (kind : Kind) → (said : List Outgoing) → (disconnected : Bool)
+            → StandsFor self.old kind facts.now said disconnected
+            → StandsFor self.new kind facts.now (said ++ event.now ∷ []) disconnected }
+        ensures kept { result ≢ Verdict.Pass → self.new ≡ self.old }
+    {
+        let verdict = self.verdict(facts, event);
+        if let Verdict::Pass = verdict {
+            self.stage = self.stage.behind(facts, event);
+        }
+        verdict
+    }
+
+    /// The application has heard the event.
+    pub fn heard(&mut self, event: &Incoming)
+        ensures { (kind : Kind) → (facts : Facts) → (said : List Outgoing) → (disconnected : Bool)
+            → StandsFor self.old kind facts said disconnected
+            → StandsFor self.new kind facts said (disconnected || is_disconnect_event event.now) }
+    {
+        if is_disconnect(event) {
+            self.disconnected = true;
+        }
+    }
+
+    /// The first line of the table that holds, else `Pass`.
+    fn verdict(&self, facts: &Facts, event: &Outgoing) -> Verdict
+        ensures { result ≡ first_line self.now.kind (lines_at self.now facts.now event.now) }
+    {
+        if let Stage::Ended = self.stage {
+            return on_closed(self.kind);
+        }
+        if self.disconnected {
+            return Verdict::from(Refusal::Disconnected);
+        }
+        if !is_of(self.kind, event) {
+            return Verdict::from(Refusal::WrongScope);
+        }
+        if !self.stage.has_place(event) {
+            return Verdict::from(Refusal::OutOfOrder);
+        }
+        if has_bad_status(event) {
+            return Verdict::from(Refusal::BadStatus);
+        }
+        if has_bad_header(event) {
+            return Verdict::from(Refusal::BadHeader);
+        }
+        if has_bad_code(event) {
+            return Verdict::from(Refusal::BadCode);
+        }
+        if has_bad_reason(event) {
+            return Verdict::from(Refusal::BadReason);
+        }
+        if has_bad_subprotocol(facts, event) {
+            return Verdict::from(Refusal::BadSubprotocol);
+        }
+        if self.stage.takes_too_much(event) {
+            return Verdict::from(Refusal::TooMuchBody);
+        }
+        if self.stage.leaves_too_much(event) {
+            return Verdict::from(Refusal::TooLittleBody);
+        }
+        Verdict::Pass
+    }
+}
+
+impl Stage {
+    /// The stage has a place for the event, which is of its kind of scope.
+    fn has_place(self, event: &Outgoing) -> bool
+        ensures { result ≡ has_place_for self event.now }
+    {
+        match event {
+            Outgoing::ResponseStart { .. }
+            | Outgoing::DenialStart { .. }
+            | Outgoing::WsAccept { .. }
+            | Outgoing::StartupComplete { .. }
+            | Outgoing::StartupFailed { .. } => matches!(self, Stage::Fresh),
+            Outgoing::ResponseBody { .. } | Outgoing::DenialBody { .. } => {
+                matches!(self, Stage::Begun { .. })
+            }
+            Outgoing::WsSend { .. } => matches!(self, Stage::Accepted),
+            Outgoing::WsClose { .. } => matches!(self, Stage::Fresh | Stage::Accepted),
+            Outgoing::ShutdownComplete | Outgoing::ShutdownFailed { .. } => {
+                matches!(self, Stage::Started)
+            }
+        }
+    }
+
+    /// A body with more bytes than are left.
+    fn takes_too_much(self, event: &Outgoing) -> bool
+        ensures { result ≡ is_too_much self event.now }
+    {
+        match event {
+            Outgoing::ResponseBody { body, .. } => self.is_exceeded_by(body),
+            Outgoing::DenialBody { body, .. } => self.is_exceeded_by(body),
+            _ => false,
+        }
+    }
+
+    /// A last body with fewer bytes than are left.
+    fn leaves_too_much(self, event: &Outgoing) -> bool
+        ensures { result ≡ is_too_little self event.now }
+    {
+        match event {
+            Outgoing::ResponseBody { body, more_body } => !*more_body && self.exceeds(body),
+            Outgoing::DenialBody { body, more_body } => !*more_body && self.exceeds(body),
+            _ => false,
+        }
+    }
+
+    /// The bytes that are left of the length that a start gave.
+    fn bytes_left(self) -> Option<u64>
+        ensures { result ≡ left_of self }
+    {
+        match self {
+            Stage::Begun { left } => left,
+            Stage::Fresh | Stage::Accepted | Stage::Started | Stage::Ended => None,
+        }
+    }
+
+    fn is_exceeded_by(self, body: &Octets) -> bool
+        ensures { result ≡ is_above (length body.now) (left_of self) }
+    {
+        match self.bytes_left() {
+            Some(left) => left < body.bytes().len() as u64,
+            None => false,
+        }
+    }
+
+    fn exceeds(self, body: &Octets) -> bool
+        ensures { result ≡ is_below (length body.now) (left_of self) }
+    {
+        match self.bytes_left() {
+            Some(left) => (body.bytes().len() as u64) < left,
+            None => false,
+        }
+    }
+
+    /// The stage behind an event that passed.
+    fn behind(self, facts: &Facts, event: &Outgoing) -> Stage
+        ensures { result ≡ stage_behind facts.now self event.now }
+    {
+        match event {
+            Outgoing::ResponseStart { .. } | Outgoing::DenialStart { .. } => Stage::Begun {
+                left: promised_length(facts, event),
+            },
+            Outgoing::ResponseBody { body, more_body } => self.behind_body(body, *more_body),
+            Outgoing::DenialBody { body, more_body } => self.behind_body(body, *more_body),
+            Outgoing::WsAccept { .. } | Outgoing::WsSend { .. } => Stage::Accepted,
+            Outgoing::StartupComplete { .. } => Stage::Started,
+            Outgoing::WsClose { .. }
+            | Outgoing::StartupFailed { .. }
+            | Outgoing::ShutdownComplete
+            | Outgoing::ShutdownFailed { .. } => Stage::Ended,
+        }
+    }
+
+    fn behind_body(self, body: &Octets, more_body: bool) -> Stage
+        ensures { result ≡ behind_body_of self body.now more_body }
+    {
+        if !more_body {
+            return Stage::Ended;
+        }
+        match self.bytes_left() {
+            Some(left) => Stage::Begun {
+                left: Some(left.saturating_sub(body.bytes().len() as u64)),
+            },
+            None => Stage::Begun { left: None },
+        }
+    }
+}
+
+/// Behind a whole response a server ignores what is sent; elsewhere that is refused.
+fn on_closed(kind: Kind) -> Verdict
+    ensures { result ≡ verdict_on_closed kind }
+{
+    match kind {
+        Kind::Http => Verdict::Ignored,
+        Kind::WebSocket | Kind::Lifespan => Verdict::from(Refusal::Closed),
+    }
+}
+
+/// The event belongs to a scope of this kind.
+fn is_of(kind: Kind, event: &Outgoing) -> bool
+    ensures { result ≡ is_event_of kind event.now }
+{
+    match event {
+        Outgoing::ResponseStart { .. } | Outgoing::ResponseBody { .. } => {
+            matches!(kind, Kind::Http)
+        }
+        Outgoing::WsAccept { .. }
+        | Outgoing::WsSend { .. }
+        | Outgoing::WsClose { .. }
+        | Outgoing::DenialStart { .. }
+        | Outgoing::DenialBody { .. } => matches!(kind, Kind::WebSocket),
+        Outgoing::StartupComplete { .. }
+        | Outgoing::StartupFailed { .. }
+        | Outgoing::ShutdownComplete
+        | Outgoing::ShutdownFailed { .. } => matches!(kind, Kind::Lifespan),
+    }
+}
+
+fn is_disconnect(event: &Incoming) -> bool
+    ensures { result ≡ is_disconnect_event event.now }
+{
+    match event {
+        Incoming::HttpDisconnect => true,
+        Incoming::WsDisconnect { .. } => true,
+        _ => false,
+    }
+}

@@ -1,0 +1,15 @@
+//! What an application may send in one scope, and a judge that passes just that.
+//! A judge keeps a few numbers; its contract speaks of the whole list of events.
+#![tactic(auto)]
+
+mod content_length;
+mod judge;
+pub mod laws;
+mod rules;
+mod verdict;
+
+pub use judge::Judge;
+pub use verdict::{Refusal, Verdict};
+
+#[cfg(test)]
+mod tests;

@@ -1,0 +1,166 @@
+//! What an event must meet at its place, its order aside.
+ghost use Rattle.std.specs.Prelude.{◌≡◌, ◌∷◌, [], IfSome, codes};
+ghost use Rattle.std.specs.List.{list_any};
+ghost use Rattle.asgi_protocol.specs.Rules.{is_status as is_status_code, is_close_code as is_code, is_offered as is_one_of, is_handshake_name as is_name, has_bad_status as bad_status, has_bad_header as bad_header, has_bad_code as bad_code, has_bad_reason as bad_reason, has_bad_subprotocol as bad_subprotocol, promised_length as promised_length_of, length_given_in, is_faulty};
+ghost use Rattle.asgi_protocol.specs.ContentLengths.{content_length as content_length_of};
+
+use crate::content_length::{ContentLength, content_length};
+use asgi_types::{Chars, Facts, Headers, Names, Outgoing};
+
+const PROTOCOL: &[u8] = b"sec-websocket-protocol";
+
+const ACCEPT: &[u8] = b"sec-websocket-accept";
+
+const EXTENSIONS: &[u8] = b"sec-websocket-extensions";
+
+const UPGRADE: &[u8] = b"upgrade";
+
+const CONNECTION: &[u8] = b"connection";
+
+const LENGTH: &[u8] = b"content-length";
+
+const CODING: &[u8] = b"transfer-encoding";
+
+/// A start with a status outside 200 to 599.
+pub(crate) fn has_bad_status(event: &Outgoing) -> bool
+    ensures { result ≡ bad_status event.now }
+{
+    match event {
+        Outgoing::ResponseStart { status, .. } => !is_status(*status),
+        Outgoing::DenialStart { status, .. } => !is_status(*status),
+        _ => false,
+    }
+}
+
+/// A start with a faulty content-length, or an accept with a field of the handshake.
+pub(crate) fn has_bad_header(event: &Outgoing) -> bool
+    ensures { result ≡ bad_header event.now }
+{
+    match event {
+        Outgoing::ResponseStart { headers, .. } => has_faulty_length(headers),
+        Outgoing::DenialStart { headers, .. } => has_faulty_length(headers),
+        Outgoing::WsAccept { headers, .. } => has_handshake_field(headers),
+        _ => false,
+    }
+}
+
+/// A close with a code that an application may not send.
+pub(crate) fn has_bad_code(event: &Outgoing) -> bool
+    ensures { result ≡ bad_code event.now }
+{
+    match event {
+        Outgoing::WsClose { code, .. } => !is_close_code(*code),
+        _ => false,
+    }
+}
+
+/// A close with a reason of more than 123 bytes.
+pub(crate) fn has_bad_reason(event: &Outgoing) -> bool
+    ensures { result ≡ bad_reason event.now }
+{
+    match event {
+        Outgoing::WsClose { reason, .. } => reason.as_str().len() > 123,
+        _ => false,
+    }
+}
+
+/// An accept with a subprotocol that the client does not offer.
+pub(crate) fn has_bad_subprotocol(facts: &Facts, event: &Outgoing) -> bool
+    ensures { result ≡ bad_subprotocol facts.now event.now }
+{
+    match event {
+        Outgoing::WsAccept { subprotocol, .. } => !is_offered(&facts.subprotocols, subprotocol),
+        _ => false,
+    }
+}
+
+/// How many bytes the bodies behind this start must have; any number in an answer to HEAD, at
+/// 204, at 304 and where no length is given.
+pub(crate) fn promised_length(facts: &Facts, start: &Outgoing) -> Option<u64>
+    ensures { result ≡ promised_length_of facts.now (start.now ∷ []) }
+{
+    if facts.head_only {
+        return None;
+    }
+    match start {
+        Outgoing::ResponseStart { status, headers } => given_length(*status, headers),
+        Outgoing::DenialStart { status, headers } => given_length(*status, headers),
+        _ => None,
+    }
+}
+
+fn given_length(status: u16, headers: &Headers) -> Option<u64>
+    ensures { result ≡ length_given_in status headers.now }
+{
+    if status == 204 || status == 304 {
+        return None;
+    }
+    match content_length(headers) {
+        ContentLength::Given(length) => Some(length),
+        ContentLength::Absent | ContentLength::Faulty => None,
+    }
+}
+
+fn is_status(status: u16) -> bool
+    ensures { result ≡ is_status_code status }
+{
+    200 <= status && status <= 599
+}
+
+fn is_close_code(code: u16) -> bool
+    ensures { result ≡ is_code code }
+{
+    (1000 <= code && code <= 1003)
+        || (1007 <= code && code <= 1011)
+        || (3000 <= code && code <= 4999)
+}
+
+fn has_faulty_length(headers: &Headers) -> bool
+    ensures { result ≡ is_faulty (content_length_of headers.now) }
+{
+    match content_length(headers) {
+        ContentLength::Faulty => true,
+        ContentLength::Absent | ContentLength::Given(_) => false,
+    }
+}
+
+fn has_handshake_field(headers: &Headers) -> bool
+    ensures { result ≡ list_any (λ field. is_name field.name) headers.now }
+{
+    for (name, _) in headers.iter() {
+        if is_handshake_name(name) {
+            return true;
+        }
+    }
+    false
+}
+
+fn is_handshake_name(name: &[u8]) -> bool
+    ensures { result ≡ is_name name.now }
+{
+    name == PROTOCOL
+        || name == ACCEPT
+        || name == EXTENSIONS
+        || name == UPGRADE
+        || name == CONNECTION
+        || name == LENGTH
+        || name == CODING
+}
+
+/// Whether the subprotocol, if there is one, is among the offers, byte for byte.
+fn is_offered(offers: &Names, subprotocol: &Option<Chars>) -> bool
+    ensures { result ≡ is_one_of offers.now subprotocol.now }
+{
+    let Some(name) = subprotocol else {
+        return true;
+    };
+    for index in 0..offers.len() {
+        let Some(offer) = offers.at(index) else {
+            return false;
+        };
+        if offer.as_str() == name.as_str() {
+            return true;
+        }
+    }
+    false
+}

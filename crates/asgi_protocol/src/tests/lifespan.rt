@@ -1,0 +1,75 @@
+//! Lifespan: start and stop.
+
+use super::{Heard, PASS, Step, facts, heard, judges, refused, says};
+use crate::{Judge, Refusal, Verdict};
+use asgi_types::Kind;
+use std::test::Fail;
+
+#[test]
+fn a_start_is_answered_and_then_a_stop(rt: HostRuntime) -> Result<(), Fail> {
+    let complete = [
+        (Step::Stopped, refused(4)),
+        (Step::NotStopped, refused(4)),
+        (Step::Start(200, ""), refused(3)),
+        (Step::Started, PASS),
+        (Step::Started, refused(4)),
+        (Step::NotStarted, refused(4)),
+        (Step::Stopped, PASS),
+        (Step::NotStopped, refused(1)),
+    ];
+    judges(&rt, Kind::Lifespan, "complete", &complete)?;
+    let failed = [
+        (Step::NotStarted, PASS),
+        (Step::Started, refused(1)),
+        (Step::Send, refused(1)),
+    ];
+    judges(&rt, Kind::Lifespan, "failed", &failed)?;
+    let not_stopped = [
+        (Step::Started, PASS),
+        (Step::NotStopped, PASS),
+        (Step::Stopped, refused(1)),
+    ];
+    judges(&rt, Kind::Lifespan, "not stopped", &not_stopped)
+}
+
+#[test]
+fn what_is_heard_is_no_disconnect(rt: HostRuntime) -> Result<(), Fail> {
+    let facts = facts(rt.alloc(), false)?;
+    let mut judge = Judge::new(Kind::Lifespan);
+    judge.heard(&heard(rt.alloc(), Heard::Startup));
+    says(&rt, &mut judge, &facts, "started", &[(Step::Started, PASS)])?;
+    // No server gives this to a lifespan, but a judge takes any event.
+    judge.heard(&heard(rt.alloc(), Heard::HttpDisconnect));
+    says(
+        &rt,
+        &mut judge,
+        &facts,
+        "disconnected",
+        &[(Step::Stopped, refused(2))],
+    )
+}
+
+#[test]
+fn refusals_are_numbered_from_1_to_11(rt: HostRuntime) {
+    let cases = [
+        (Refusal::Closed, 1),
+        (Refusal::Disconnected, 2),
+        (Refusal::WrongScope, 3),
+        (Refusal::OutOfOrder, 4),
+        (Refusal::BadStatus, 5),
+        (Refusal::BadHeader, 6),
+        (Refusal::BadCode, 7),
+        (Refusal::BadReason, 8),
+        (Refusal::BadSubprotocol, 9),
+        (Refusal::TooMuchBody, 10),
+        (Refusal::TooLittleBody, 11),
+    ];
+    for (refusal, number) in cases {
+        assert_eq!(rt; refusal.number(), number, "{refusal:?}");
+        assert_eq!(rt;
+            Verdict::from(refusal),
+            Verdict::Refused(number),
+            "{refusal:?}"
+        );
+    }
+}
