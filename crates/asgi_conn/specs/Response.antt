@@ -97,19 +97,19 @@ content_text chunked body more_body =
     (if length body == 0 then [] else (if chunked then chunk body else body))
     ++ (if chunked && not more_body then last_chunk else [])
 
--- the text of an event behind the start
+-- the text of an event behind the start: only a body has one
 abbrev pub event_text : ℕ → List HeaderField → Outgoing → List ℕ
-event_text status headers (ResponseStart again fields) = []
 event_text status headers (ResponseBody body more_body) =
     if has_no_content status then [] else content_text (is_chunked status headers) body more_body
+event_text status headers _ = []
 
 -- The text of a lawful list of events. The head is written with the first body: a start alone has no text.
 abbrev pub response_text : Bool → List Outgoing → List ℕ
 response_text close [] = []
-response_text close (ResponseBody body more_body ∷ events) = []
 response_text close (ResponseStart status headers ∷ []) = []
 response_text close (ResponseStart status headers ∷ event ∷ events) =
     head_text close status headers ++ flat_map (event_text status headers) (event ∷ events)
+response_text close (_ ∷ events) = []
 
 -- the text of a refusal, after which the connection closes
 abbrev pub refusal_text : ℕ → List ℕ

@@ -214,7 +214,6 @@ fn write_event(
     ensures { OnOk result (out.new.items ≡ out.old.items ++ spec.event_text status headers.now event.now) }
 {
     match event {
-        Outgoing::ResponseStart { .. } => Ok(()),
         Outgoing::ResponseBody { body, more_body } => {
             if has_no_content(status) {
                 return Ok(());
@@ -222,6 +221,16 @@ fn write_event(
             let chunked = is_chunked(status, headers);
             write_content(alloc, out, chunked, body.bytes(), *more_body)
         }
+        Outgoing::ResponseStart { .. }
+        | Outgoing::WsAccept { .. }
+        | Outgoing::WsSend { .. }
+        | Outgoing::WsClose { .. }
+        | Outgoing::DenialStart { .. }
+        | Outgoing::DenialBody { .. }
+        | Outgoing::StartupComplete { .. }
+        | Outgoing::StartupFailed { .. }
+        | Outgoing::ShutdownComplete
+        | Outgoing::ShutdownFailed { .. } => Ok(()),
     }
 }
 
