@@ -142,7 +142,7 @@ fn accept(alloc: Global, name: &str, text: &str) -> Result<Outgoing, Fail> {
     })
 }
 
-fn heard(alloc: Global, heard: Heard) -> Incoming {
+fn incoming(alloc: Global, heard: Heard) -> Incoming {
     match heard {
         Heard::Request => Incoming::HttpRequest {
             body: Octets::new(Vec::new(alloc)),

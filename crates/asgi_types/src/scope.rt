@@ -49,7 +49,9 @@ impl Asgi {
     pub fn version(&self) -> &'static str
         ensures { result.now ≡ codes "3.0" }
     {
-        "3.0"
+        match self.kind {
+            Kind::Http | Kind::WebSocket | Kind::Lifespan => "3.0",
+        }
     }
 
     /// The version of the message format: `2.4` for HTTP and WebSocket, `2.0` for lifespan.

@@ -1,6 +1,6 @@
 //! HTTP: responses.
 
-use super::{Heard, IGNORED, PASS, Step, facts, heard, judges, refused, says};
+use super::{Heard, IGNORED, PASS, Step, facts, incoming, judges, refused, says};
 use crate::Judge;
 use asgi_types::Kind;
 use std::test::Fail;
@@ -182,7 +182,7 @@ fn the_first_reason_counts(rt: HostRuntime) -> Result<(), Fail> {
 fn after_a_disconnect_nothing_passes(rt: HostRuntime) -> Result<(), Fail> {
     let facts = facts(rt.alloc(), false)?;
     let mut judge = Judge::new(Kind::Http);
-    judge.heard(&heard(rt.alloc(), Heard::Request));
+    judge.heard(&incoming(rt.alloc(), Heard::Request));
     says(
         &rt,
         &mut judge,
@@ -190,14 +190,14 @@ fn after_a_disconnect_nothing_passes(rt: HostRuntime) -> Result<(), Fail> {
         "before",
         &[(Step::Start(200, ""), PASS)],
     )?;
-    judge.heard(&heard(rt.alloc(), Heard::HttpDisconnect));
-    judge.heard(&heard(rt.alloc(), Heard::Request));
+    judge.heard(&incoming(rt.alloc(), Heard::HttpDisconnect));
+    judge.heard(&incoming(rt.alloc(), Heard::Request));
     let behind = [(Step::LastBody(1), refused(2)), (Step::Send, refused(2))];
     says(&rt, &mut judge, &facts, "behind", &behind)?;
     let mut whole = Judge::new(Kind::Http);
     let response = [(Step::Start(200, ""), PASS), (Step::LastBody(1), PASS)];
     says(&rt, &mut whole, &facts, "whole", &response)?;
-    whole.heard(&heard(rt.alloc(), Heard::HttpDisconnect));
+    whole.heard(&incoming(rt.alloc(), Heard::HttpDisconnect));
     says(
         &rt,
         &mut whole,

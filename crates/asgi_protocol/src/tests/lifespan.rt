@@ -1,6 +1,6 @@
 //! Lifespan: start and stop.
 
-use super::{Heard, PASS, Step, facts, heard, judges, refused, says};
+use super::{Heard, PASS, Step, facts, incoming, judges, refused, says};
 use crate::{Judge, Refusal, Verdict};
 use asgi_types::Kind;
 use std::test::Fail;
@@ -36,10 +36,10 @@ fn a_start_is_answered_and_then_a_stop(rt: HostRuntime) -> Result<(), Fail> {
 fn what_is_heard_is_no_disconnect(rt: HostRuntime) -> Result<(), Fail> {
     let facts = facts(rt.alloc(), false)?;
     let mut judge = Judge::new(Kind::Lifespan);
-    judge.heard(&heard(rt.alloc(), Heard::Startup));
+    judge.heard(&incoming(rt.alloc(), Heard::Startup));
     says(&rt, &mut judge, &facts, "started", &[(Step::Started, PASS)])?;
     // No server gives this to a lifespan, but a judge takes any event.
-    judge.heard(&heard(rt.alloc(), Heard::HttpDisconnect));
+    judge.heard(&incoming(rt.alloc(), Heard::HttpDisconnect));
     says(
         &rt,
         &mut judge,

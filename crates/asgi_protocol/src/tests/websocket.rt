@@ -1,6 +1,6 @@
 //! WebSocket: sessions, rejections and denials.
 
-use super::{Heard, PASS, Step, facts, heard, judges, refused, says};
+use super::{Heard, PASS, Step, facts, incoming, judges, refused, says};
 use crate::Judge;
 use asgi_types::Kind;
 use std::test::Fail;
@@ -154,15 +154,15 @@ fn the_first_reason_counts(rt: HostRuntime) -> Result<(), Fail> {
 fn after_a_disconnect_nothing_passes(rt: HostRuntime) -> Result<(), Fail> {
     let facts = facts(rt.alloc(), false)?;
     let mut judge = Judge::new(Kind::WebSocket);
-    judge.heard(&heard(rt.alloc(), Heard::Connect));
+    judge.heard(&incoming(rt.alloc(), Heard::Connect));
     let before = [
         (Step::DenialStart(199, ""), refused(5)),
         (Step::Accept("", ""), PASS),
     ];
     says(&rt, &mut judge, &facts, "before", &before)?;
-    judge.heard(&heard(rt.alloc(), Heard::Receive));
+    judge.heard(&incoming(rt.alloc(), Heard::Receive));
     says(&rt, &mut judge, &facts, "received", &[(Step::Send, PASS)])?;
-    judge.heard(&heard(rt.alloc(), Heard::WsDisconnect));
+    judge.heard(&incoming(rt.alloc(), Heard::WsDisconnect));
     let behind = [(Step::Send, refused(2)), (Step::Body(1), refused(2))];
     says(&rt, &mut judge, &facts, "behind", &behind)
 }
@@ -178,7 +178,7 @@ fn a_closed_session_stays_closed_where_a_disconnect_is_heard(rt: HostRuntime) ->
         "rejected",
         &[(Step::Close(1_000, 0), PASS)],
     )?;
-    judge.heard(&heard(rt.alloc(), Heard::WsDisconnect));
+    judge.heard(&incoming(rt.alloc(), Heard::WsDisconnect));
     says(
         &rt,
         &mut judge,
