@@ -31,6 +31,8 @@ pub use state::{State, StateError, StateValue};
 #[cfg(test)]
 mod tests;
 #[cfg(test)]
+mod tests_memory;
+#[cfg(test)]
 mod tests_scopes;
 #[cfg(test)]
 mod tests_values;

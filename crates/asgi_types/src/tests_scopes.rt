@@ -23,13 +23,13 @@ fn peer(alloc: Global, host: &str, port: u16) -> Result<Peer, AllocError> {
     })
 }
 
-fn headers(alloc: Global) -> Result<Headers, Fail> {
+fn headers(alloc: Global) -> Result<Headers, AllocError> {
     let mut headers = Headers::new(alloc);
-    headers.push(b"X-A", b"q")?;
+    headers.push(b"X-A", b"q").map_err(|_| AllocError)?;
     Ok(headers)
 }
 
-fn http_scope(alloc: Global) -> Result<HttpScope, Fail> {
+pub fn http_scope(alloc: Global) -> Result<HttpScope, AllocError> {
     Ok(HttpScope {
         asgi: Asgi::of(Kind::Http),
         http_version: HttpVersion::V11,
@@ -50,7 +50,7 @@ fn http_scope(alloc: Global) -> Result<HttpScope, Fail> {
     })
 }
 
-fn ws_scope(alloc: Global) -> Result<WsScope, Fail> {
+pub fn ws_scope(alloc: Global) -> Result<WsScope, AllocError> {
     let mut subprotocols = Names::new(alloc);
     subprotocols.push(chars(alloc, "chat")?)?;
     Ok(WsScope {
@@ -73,7 +73,7 @@ fn ws_scope(alloc: Global) -> Result<WsScope, Fail> {
     })
 }
 
-fn lifespan_scope(alloc: Global) -> LifespanScope {
+pub fn lifespan_scope(alloc: Global) -> LifespanScope {
     LifespanScope {
         asgi: Asgi::of(Kind::Lifespan),
         state: State::new(alloc),

@@ -204,7 +204,7 @@ fn lengths_are_1_to_19_digits(rt: HostRuntime) {
     }
 }
 
-fn facts(alloc: Global, framing: Framing) -> Result<Facts, AllocError> {
+pub fn facts(alloc: Global, framing: Framing) -> Result<Facts, AllocError> {
     let mut subprotocols = Names::new(alloc);
     subprotocols.push(chars(alloc, "chat")?)?;
     Ok(Facts {
