@@ -1,1 +1,4 @@
+pub mod LengthLemmas
 pub mod PlaceLemmas
+pub mod ReasonLemmas
+pub mod StateLemmas

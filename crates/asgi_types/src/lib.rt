@@ -2,12 +2,28 @@
 //! Contracts see each small type as a list, and a record by its fields.
 #![tactic(auto)]
 
+mod chars;
+mod facts;
 mod headers;
+mod incoming;
+mod lengths;
 mod limits;
+mod names;
 mod octets;
 mod outgoing;
+mod reason;
+mod scope;
+mod state;
 
+pub use chars::Chars;
+pub use facts::{Facts, Framing};
 pub use headers::{Fields, HeaderError, Headers};
+pub use incoming::{Incoming, Payload};
+pub use lengths::parse_length;
 pub use limits::{BadLimit, Limits};
+pub use names::Names;
 pub use octets::Octets;
 pub use outgoing::{HttpVersion, Outgoing};
+pub use reason::Reason;
+pub use scope::{Asgi, Extensions, HttpScope, Kind, LifespanScope, Peer, Scope, WsScope};
+pub use state::{State, StateError, StateValue};

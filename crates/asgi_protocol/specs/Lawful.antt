@@ -1,0 +1,74 @@
+-- The lists of events that an application may send in one scope (ASGI HTTP and WebSocket message
+-- format 2.4, lifespan protocol 2.0).
+use Rattle.std.specs.Prelude.{◌≡◌, ℕ, Bool, true, false, List, [], ◌∷◌, ◌++◌, map, Option, ◌⊎◌}
+use Rattle.asgi_types.specs.Fields.{HeaderField}
+use Rattle.asgi_types.specs.declared.scope.Kind.{Kind}
+use Rattle.asgi_types.specs.declared.scope.Kind.TheVariants.{Http, WebSocket, Lifespan}
+use Rattle.asgi_types.specs.declared.facts.Facts.{Facts}
+use Rattle.asgi_types.specs.declared.incoming.Payload.{Payload}
+use Rattle.asgi_types.specs.declared.outgoing.Outgoing.{Outgoing}
+use Rattle.asgi_types.specs.declared.outgoing.Outgoing.TheVariants.{ResponseStart, ResponseBody, WsAccept, WsSend, WsClose, DenialStart, DenialBody, StartupComplete, StartupFailed, ShutdownComplete, ShutdownFailed}
+use Rattle.asgi_types.specs.declared.state.StateValue.{StateValue}
+use Rattle.asgi_protocol.specs.Rules.{MeetsRules}
+
+-- HTTP: one "Response Start", bodies with `more_body`, and the last body
+pub record IsResponse (events : List Outgoing) : Type 0 where
+  pub status : ℕ
+  pub headers : List HeaderField
+  pub parts : List (List ℕ)
+  pub last : List ℕ
+  pub in_order : events ≡ ResponseStart status headers ∷ map (λ part. ResponseBody part true) parts ++ ResponseBody last false ∷ []
+
+-- WebSocket: "Accept", messages, and "Close"
+pub record IsSession (events : List Outgoing) : Type 0 where
+  pub subprotocol : Option (List ℕ)
+  pub headers : List HeaderField
+  pub messages : List Payload
+  pub code : ℕ
+  pub reason : List ℕ
+  pub in_order : events ≡ WsAccept subprotocol headers ∷ map WsSend messages ++ WsClose code reason ∷ []
+
+-- or "Close" alone
+pub record IsRejection (events : List Outgoing) : Type 0 where
+  pub code : ℕ
+  pub reason : List ℕ
+  pub in_order : events ≡ WsClose code reason ∷ []
+
+-- or a denial, with the shape of a response
+pub record IsDenial (events : List Outgoing) : Type 0 where
+  pub status : ℕ
+  pub headers : List HeaderField
+  pub parts : List (List ℕ)
+  pub last : List ℕ
+  pub in_order : events ≡ DenialStart status headers ∷ map (λ part. DenialBody part true) parts ++ DenialBody last false ∷ []
+
+-- Lifespan: "Startup Complete", and an answer to the shutdown
+pub record IsService (events : List Outgoing) : Type 0 where
+  pub state : List (List ℕ × StateValue)
+  pub answer : Outgoing
+  pub is_answer : (answer ≡ ShutdownComplete) ⊎ ((message : List ℕ) × (answer ≡ ShutdownFailed message))
+  pub in_order : events ≡ StartupComplete state ∷ answer ∷ []
+
+-- or "Startup Failed" alone
+pub record IsFailedStart (events : List Outgoing) : Type 0 where
+  pub message : List ℕ
+  pub in_order : events ≡ StartupFailed message ∷ []
+
+-- a whole word: all that an application says in a scope of this kind
+abbrev pub IsWord : Kind → List Outgoing → Type 0
+IsWord Http events = IsResponse events
+IsWord WebSocket events = IsSession events ⊎ IsRejection events ⊎ IsDenial events
+IsWord Lifespan events = IsService events ⊎ IsFailedStart events
+
+-- the events are the beginning of a word
+abbrev pub BeginsWord : Kind → List Outgoing → Type 0
+BeginsWord kind events = (rest : List Outgoing) × IsWord kind (events ++ rest)
+
+-- lawful: the beginning of a word, in which each event meets the rules at its place
+pub record IsLawful (kind : Kind) (facts : Facts) (events : List Outgoing) : Type 0 where
+  pub begins : BeginsWord kind events
+  pub each : (before after : List Outgoing) (event : Outgoing) → events ≡ before ++ event ∷ after → MeetsRules facts before event
+
+-- closed: the word is whole, and its last event was the closing one
+abbrev pub IsClosed : Kind → List Outgoing → Type 0
+IsClosed kind events = IsWord kind events

@@ -1,0 +1,5 @@
+pub mod ContentLengths
+pub mod Lawful
+pub mod Rules
+pub mod Shapes
+pub mod Verdicts

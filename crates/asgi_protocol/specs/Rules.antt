@@ -1,0 +1,115 @@
+-- What an event must meet at its place, its order aside.
+use Rattle.std.specs.Prelude.{◌≡◌, ℕ, ◌+◌, Bool, true, false, not, ◌&&◌, ◌||◌, ◌==◌, nat_le, nat_lt, List, [], ◌∷◌, ◌++◌, length, Option, Some, None, if◌then◌else◌, codes, bytes_eq}
+use Rattle.std.specs.List.{list_any}
+use Rattle.asgi_types.specs.Fields.{HeaderField}
+use Rattle.asgi_types.specs.declared.facts.Facts.{Facts}
+use Rattle.asgi_types.specs.declared.outgoing.Outgoing.{Outgoing}
+use Rattle.asgi_types.specs.declared.outgoing.Outgoing.TheVariants.{ResponseStart, ResponseBody, WsAccept, WsSend, WsClose, DenialStart, DenialBody}
+use Rattle.asgi_protocol.specs.ContentLengths.{ContentLength, Absent, Given, Faulty, content_length}
+
+-- the status codes of a final response (RFC 9110, section 15)
+abbrev pub is_status : ℕ → Bool
+is_status status = nat_le 200 status && nat_le status 599
+
+-- the close codes that an application may send (RFC 6455, section 7.4)
+abbrev pub is_close_code : ℕ → Bool
+is_close_code code = (nat_le 1000 code && nat_le code 1003) || (nat_le 1007 code && nat_le code 1011) || (nat_le 3000 code && nat_le code 4999)
+
+-- the fields of the opening handshake that the server writes itself (RFC 6455, section 4.2.2), and
+-- those that delimit a content
+abbrev pub is_handshake_field : HeaderField → Bool
+is_handshake_field field =
+    bytes_eq field.name (codes "sec-websocket-protocol") || bytes_eq field.name (codes "sec-websocket-accept")
+    || bytes_eq field.name (codes "sec-websocket-extensions") || bytes_eq field.name (codes "upgrade")
+    || bytes_eq field.name (codes "connection") || bytes_eq field.name (codes "content-length")
+    || bytes_eq field.name (codes "transfer-encoding")
+
+-- the subprotocol is one that the client offers, byte for byte (RFC 6455, section 4.2.2)
+abbrev pub is_offered : List (List ℕ) → Option (List ℕ) → Bool
+is_offered offers None = true
+is_offered offers (Some name) = list_any (λ offer. bytes_eq offer name) offers
+
+-- a start with a status outside 200 to 599
+abbrev pub has_bad_status : Outgoing → Bool
+has_bad_status (ResponseStart status headers) = not (is_status status)
+has_bad_status (DenialStart status headers) = not (is_status status)
+has_bad_status _ = false
+
+abbrev pub is_faulty : ContentLength → Bool
+is_faulty Faulty = true
+is_faulty (Given n) = false
+is_faulty Absent = false
+
+-- a start whose content-length is faulty, or an accept with a field of the handshake
+abbrev pub has_bad_header : Outgoing → Bool
+has_bad_header (ResponseStart status headers) = is_faulty (content_length headers)
+has_bad_header (DenialStart status headers) = is_faulty (content_length headers)
+has_bad_header (WsAccept subprotocol headers) = list_any is_handshake_field headers
+has_bad_header _ = false
+
+abbrev pub has_bad_code : Outgoing → Bool
+has_bad_code (WsClose code reason) = not (is_close_code code)
+has_bad_code _ = false
+
+-- a control frame has at most 125 bytes, and two are the code's (RFC 6455, section 5.5)
+abbrev pub has_bad_reason : Outgoing → Bool
+has_bad_reason (WsClose code reason) = nat_lt 123 (length reason)
+has_bad_reason _ = false
+
+abbrev pub has_bad_subprotocol : Facts → Outgoing → Bool
+has_bad_subprotocol facts (WsAccept subprotocol headers) = not (is_offered facts.subprotocols subprotocol)
+has_bad_subprotocol facts _ = false
+
+abbrev pub given_length : ContentLength → Option ℕ
+given_length (Given n) = Some n
+given_length Faulty = None
+given_length Absent = None
+
+-- the length that a start gives; 204 and 304 have no content (RFC 9110, sections 15.3.5, 15.4.5)
+abbrev pub length_given_by : Outgoing → Option ℕ
+length_given_by (ResponseStart status headers) = if status == 204 || status == 304 then None else given_length (content_length headers)
+length_given_by (DenialStart status headers) = if status == 204 || status == 304 then None else given_length (content_length headers)
+length_given_by _ = None
+
+-- how many bytes the bodies behind these events must have; any number in an answer to HEAD
+-- (RFC 9110, sections 8.6 and 9.3.2)
+abbrev pub promised_length : Facts → List Outgoing → Option ℕ
+promised_length facts [] = None
+promised_length facts (start ∷ bodies) = if facts.head_only then None else length_given_by start
+
+-- the bytes of all bodies together
+abbrev pub body_bytes : List Outgoing → ℕ
+body_bytes [] = 0
+body_bytes (ResponseBody body more_body ∷ events) = length body + body_bytes events
+body_bytes (DenialBody body more_body ∷ events) = length body + body_bytes events
+body_bytes (_ ∷ events) = body_bytes events
+
+abbrev pub is_above : ℕ → Option ℕ → Bool
+is_above n None = false
+is_above n (Some promised) = nat_lt promised n
+
+abbrev pub is_below : ℕ → Option ℕ → Bool
+is_below n None = false
+is_below n (Some promised) = nat_lt n promised
+
+-- with this body there are more bytes than were promised
+abbrev pub has_too_much_body : Facts → List Outgoing → Outgoing → Bool
+has_too_much_body facts before (ResponseBody body more_body) = is_above (body_bytes before + length body) (promised_length facts before)
+has_too_much_body facts before (DenialBody body more_body) = is_above (body_bytes before + length body) (promised_length facts before)
+has_too_much_body facts before _ = false
+
+-- this body is the last, and there are fewer bytes than were promised
+abbrev pub has_too_little_body : Facts → List Outgoing → Outgoing → Bool
+has_too_little_body facts before (ResponseBody body more_body) = not more_body && is_below (body_bytes before + length body) (promised_length facts before)
+has_too_little_body facts before (DenialBody body more_body) = not more_body && is_below (body_bytes before + length body) (promised_length facts before)
+has_too_little_body facts before _ = false
+
+-- the event behind the events before it meets each rule
+pub record MeetsRules (facts : Facts) (before : List Outgoing) (event : Outgoing) : Type 0 where
+  pub status : has_bad_status event ≡ false
+  pub header : has_bad_header event ≡ false
+  pub code : has_bad_code event ≡ false
+  pub reason : has_bad_reason event ≡ false
+  pub subprotocol : has_bad_subprotocol facts event ≡ false
+  pub not_too_much : has_too_much_body facts before event ≡ false
+  pub not_too_little : has_too_little_body facts before event ≡ false

@@ -1,0 +1,71 @@
+-- The verdict on an event behind others: the first line of the table that holds.
+use Rattle.std.specs.Prelude.{ℕ, Bool, true, false, not, List, ◌∷◌, [], ◌++◌, if◌then◌else◌}
+use Rattle.asgi_types.specs.declared.scope.Kind.{Kind}
+use Rattle.asgi_types.specs.declared.scope.Kind.TheVariants.{Http, WebSocket, Lifespan}
+use Rattle.asgi_types.specs.declared.facts.Facts.{Facts}
+use Rattle.asgi_types.specs.declared.incoming.Incoming.{Incoming}
+use Rattle.asgi_types.specs.declared.incoming.Incoming.TheVariants.{HttpDisconnect, WsDisconnect}
+use Rattle.asgi_types.specs.declared.outgoing.Outgoing.{Outgoing}
+use Rattle.asgi_protocol.specs.declared.verdict.Verdict.{Verdict}
+use Rattle.asgi_protocol.specs.declared.verdict.Verdict.TheVariants.{Pass, Ignored, Refused}
+use Rattle.asgi_protocol.specs.Rules.{has_bad_status, has_bad_header, has_bad_code, has_bad_reason, has_bad_subprotocol, has_too_much_body, has_too_little_body}
+use Rattle.asgi_protocol.specs.Shapes.{is_closed, is_of, goes_on}
+
+-- which lines of the table hold
+pub record Lines : Type 0 where
+  pub closed : Bool
+  pub disconnected : Bool
+  pub wrong_scope : Bool
+  pub out_of_order : Bool
+  pub bad_status : Bool
+  pub bad_header : Bool
+  pub bad_code : Bool
+  pub bad_reason : Bool
+  pub bad_subprotocol : Bool
+  pub too_much_body : Bool
+  pub too_little_body : Bool
+
+-- what each line says of an event behind these, with or without a heard disconnect
+abbrev pub lines_on : Kind → Facts → List Outgoing → Bool → Outgoing → Lines
+lines_on kind facts said heard event = record {
+  closed = is_closed kind said;
+  disconnected = heard;
+  wrong_scope = not (is_of kind event);
+  out_of_order = not (goes_on kind said event);
+  bad_status = has_bad_status event;
+  bad_header = has_bad_header event;
+  bad_code = has_bad_code event;
+  bad_reason = has_bad_reason event;
+  bad_subprotocol = has_bad_subprotocol facts event;
+  too_much_body = has_too_much_body facts said event;
+  too_little_body = has_too_little_body facts said event;
+}
+
+-- behind a whole response a server ignores what is sent (ASGI, Response Body)
+abbrev pub verdict_on_closed : Kind → Verdict
+verdict_on_closed Http = Ignored
+verdict_on_closed WebSocket = Refused 1
+verdict_on_closed Lifespan = Refused 1
+
+-- the first line that holds, else the event passes
+abbrev pub first_line : Kind → Lines → Verdict
+first_line kind l =
+    if l.closed then verdict_on_closed kind else (
+    if l.disconnected then Refused 2 else (
+    if l.wrong_scope then Refused 3 else (
+    if l.out_of_order then Refused 4 else (
+    if l.bad_status then Refused 5 else (
+    if l.bad_header then Refused 6 else (
+    if l.bad_code then Refused 7 else (
+    if l.bad_reason then Refused 8 else (
+    if l.bad_subprotocol then Refused 9 else (
+    if l.too_much_body then Refused 10 else (
+    if l.too_little_body then Refused 11 else Pass))))))))))
+
+abbrev pub verdict_on : Kind → Facts → List Outgoing → Bool → Outgoing → Verdict
+verdict_on kind facts said heard event = first_line kind (lines_on kind facts said heard event)
+
+abbrev pub is_disconnect : Incoming → Bool
+is_disconnect HttpDisconnect = true
+is_disconnect (WsDisconnect code reason) = true
+is_disconnect _ = false

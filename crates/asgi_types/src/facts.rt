@@ -1,0 +1,51 @@
+//! What a server keeps of a request for its answer.
+ghost use Rattle.std.specs.Prelude.{◌≡◌, IfOk};
+
+use crate::{HttpVersion, Names};
+use std::alloc::{AllocError, Global};
+
+/// How the body of a request is delimited (RFC 9112, section 6).
+#[derive(Clone, Copy, Debug, PartialEq, Eq)]
+pub enum Framing {
+    /// So many bytes.
+    Length(u64),
+    /// The chunked transfer coding.
+    Chunked,
+    /// An opening handshake (RFC 6455, section 4.1): there is no body.
+    Upgrade,
+}
+
+/// What a server keeps of a request for its answer.
+#[derive(Debug, Drop)]
+pub struct Facts {
+    pub version: HttpVersion,
+    /// The method is HEAD.
+    pub head_only: bool,
+    /// The connection closes after the answer.
+    pub close: bool,
+    /// The client waits for `100 Continue`.
+    pub expect: bool,
+    pub framing: Framing,
+    /// The value of `sec-websocket-key`; zero bytes where the request is no opening handshake.
+    pub key: [u8; 24],
+    /// The subprotocols that the client offers, in its order.
+    pub subprotocols: Names,
+}
+
+impl Facts {
+    /// The same facts once more, in memory of their own.
+    pub fn copy(&self, alloc: Global) -> Result<Self, AllocError>
+        ensures { IfOk result (λ copied. copied ≡ self.now) }
+    {
+        let subprotocols = self.subprotocols.copy(alloc)?;
+        Ok(Facts {
+            version: self.version,
+            head_only: self.head_only,
+            close: self.close,
+            expect: self.expect,
+            framing: self.framing,
+            key: self.key,
+            subprotocols,
+        })
+    }
+}

@@ -1,0 +1,246 @@
+//! What an application is called with: the connection scopes.
+ghost use Rattle.std.specs.Prelude.{◌≡◌, ◌≤◌, ◌↔◌, ℕ, List, IfOk, codes};
+ghost use Rattle.asgi_types.specs.Scopes.{spec_version_of, scope_with};
+
+use crate::{Chars, Headers, HttpVersion, Names, Octets, State};
+use std::alloc::{AllocError, Global};
+use std::marker::Model;
+
+/// One side of a connection.
+#[derive(Debug, Drop)]
+pub struct Peer {
+    pub host: Chars,
+    pub port: u16,
+}
+
+/// The type of a scope.
+#[derive(Clone, Copy, Debug, PartialEq, Eq)]
+pub enum Kind {
+    Http,
+    WebSocket,
+    Lifespan,
+}
+
+/// The versions of ASGI and of the message format that a scope is of.
+#[derive(Clone, Copy, Debug, PartialEq, Eq)]
+pub struct Asgi {
+    kind: Kind,
+}
+
+impl Model for Asgi {
+    ghost use Rattle.asgi_types.specs.declared.scope.Kind.{Kind};
+
+    ghost Value = { Kind };
+
+    ghost view = { λ a. a.kind };
+
+    ghost inverse = { λ kind. record { kind = kind } };
+}
+
+impl Asgi {
+    /// What a scope of this kind says.
+    pub fn of(kind: Kind) -> Self
+        ensures { result ≡ kind }
+    {
+        Asgi { kind }
+    }
+
+    /// The version of ASGI, always `3.0`.
+    pub fn version(&self) -> &'static str
+        ensures { result.now ≡ codes "3.0" }
+    {
+        "3.0"
+    }
+
+    /// The version of the message format: `2.4` for HTTP and WebSocket, `2.0` for lifespan.
+    pub fn spec_version(&self) -> &'static str
+        ensures { result.now ≡ spec_version_of self.now }
+    {
+        match self.kind {
+            Kind::Http | Kind::WebSocket => "2.4",
+            Kind::Lifespan => "2.0",
+        }
+    }
+}
+
+/// The extensions that a server has for a scope.
+#[derive(Clone, Copy, Debug, PartialEq, Eq)]
+pub struct Extensions {
+    /// `websocket.http.response`: an application may answer the handshake with a response.
+    pub websocket_http_response: bool,
+    /// `http.response.trailers`: an application may send trailer fields.
+    pub http_response_trailers: bool,
+}
+
+/// The scope of one HTTP request (ASGI HTTP message format 2.4, connection scope).
+#[derive(Debug, Drop)]
+pub struct HttpScope {
+    pub asgi: Asgi,
+    pub http_version: HttpVersion,
+    /// In upper case.
+    pub method: Chars,
+    pub scheme: Chars,
+    /// Percent-decoded.
+    pub path: Chars,
+    /// As it was received, without the query.
+    pub raw_path: Octets,
+    /// What stands behind the first `?`, still percent-encoded.
+    pub query_string: Octets,
+    /// The prefix under which the application is mounted.
+    pub root_path: Chars,
+    pub headers: Headers,
+    pub client: Option<Peer>,
+    pub server: Option<Peer>,
+    pub state: State,
+    pub extensions: Extensions,
+}
+
+/// The scope of one WebSocket session (ASGI WebSocket message format 2.4, connection scope).
+#[derive(Debug, Drop)]
+pub struct WsScope {
+    pub asgi: Asgi,
+    pub http_version: HttpVersion,
+    pub scheme: Chars,
+    /// Percent-decoded.
+    pub path: Chars,
+    /// As it was received, without the query.
+    pub raw_path: Octets,
+    /// What stands behind the first `?`, still percent-encoded.
+    pub query_string: Octets,
+    /// The prefix under which the application is mounted.
+    pub root_path: Chars,
+    pub headers: Headers,
+    pub client: Option<Peer>,
+    pub server: Option<Peer>,
+    /// The subprotocols that the client offers, in its order.
+    pub subprotocols: Names,
+    pub state: State,
+    pub extensions: Extensions,
+}
+
+/// The scope of the server's start and stop (ASGI lifespan protocol 2.0, scope).
+#[derive(Debug, Drop)]
+pub struct LifespanScope {
+    pub asgi: Asgi,
+    pub state: State,
+}
+
+/// What an application is called with.
+#[derive(Debug, Drop)]
+pub enum Scope {
+    Http(HttpScope),
+    WebSocket(WsScope),
+    Lifespan(LifespanScope),
+}
+
+impl Scope {
+    /// The scope with this client, this server and this state. A lifespan scope has a state alone.
+    pub fn with(self, client: Option<Peer>, server: Option<Peer>, state: State) -> Self
+        ensures { result ≡ scope_with self client server state }
+    {
+        match self {
+            Scope::Http(scope) => Scope::Http(HttpScope {
+                client,
+                server,
+                state,
+                ..scope
+            }),
+            Scope::WebSocket(scope) => Scope::WebSocket(WsScope {
+                client,
+                server,
+                state,
+                ..scope
+            }),
+            Scope::Lifespan(scope) => Scope::Lifespan(LifespanScope { state, ..scope }),
+        }
+    }
+
+    /// The same scope once more, in memory of its own.
+    pub fn copy(&self, alloc: Global) -> Result<Self, AllocError>
+        ensures { IfOk result (λ copied. copied ≡ self.now) }
+    {
+        match self {
+            Scope::Http(scope) => Ok(Scope::Http(scope.copy(alloc)?)),
+            Scope::WebSocket(scope) => Ok(Scope::WebSocket(scope.copy(alloc)?)),
+            Scope::Lifespan(scope) => Ok(Scope::Lifespan(scope.copy(alloc)?)),
+        }
+    }
+}
+
+impl Peer {
+    /// The same peer once more, in memory of its own.
+    pub fn copy(&self, alloc: Global) -> Result<Self, AllocError>
+        ensures { IfOk result (λ copied. copied ≡ self.now) }
+    {
+        let host = self.host.copy(alloc)?;
+        Ok(Peer {
+            host,
+            port: self.port,
+        })
+    }
+}
+
+impl HttpScope {
+    fn copy(&self, alloc: Global) -> Result<Self, AllocError>
+        ensures { IfOk result (λ copied. copied ≡ self.now) }
+    {
+        Ok(HttpScope {
+            asgi: self.asgi,
+            http_version: self.http_version,
+            method: self.method.copy(alloc)?,
+            scheme: self.scheme.copy(alloc)?,
+            path: self.path.copy(alloc)?,
+            raw_path: self.raw_path.copy(alloc)?,
+            query_string: self.query_string.copy(alloc)?,
+            root_path: self.root_path.copy(alloc)?,
+            headers: self.headers.copy(alloc)?,
+            client: copy_peer(&self.client, alloc)?,
+            server: copy_peer(&self.server, alloc)?,
+            state: self.state.copy(alloc)?,
+            extensions: self.extensions,
+        })
+    }
+}
+
+impl WsScope {
+    fn copy(&self, alloc: Global) -> Result<Self, AllocError>
+        ensures { IfOk result (λ copied. copied ≡ self.now) }
+    {
+        Ok(WsScope {
+            asgi: self.asgi,
+            http_version: self.http_version,
+            scheme: self.scheme.copy(alloc)?,
+            path: self.path.copy(alloc)?,
+            raw_path: self.raw_path.copy(alloc)?,
+            query_string: self.query_string.copy(alloc)?,
+            root_path: self.root_path.copy(alloc)?,
+            headers: self.headers.copy(alloc)?,
+            client: copy_peer(&self.client, alloc)?,
+            server: copy_peer(&self.server, alloc)?,
+            subprotocols: self.subprotocols.copy(alloc)?,
+            state: self.state.copy(alloc)?,
+            extensions: self.extensions,
+        })
+    }
+}
+
+impl LifespanScope {
+    fn copy(&self, alloc: Global) -> Result<Self, AllocError>
+        ensures { IfOk result (λ copied. copied ≡ self.now) }
+    {
+        let state = self.state.copy(alloc)?;
+        Ok(LifespanScope {
+            asgi: self.asgi,
+            state,
+        })
+    }
+}
+
+fn copy_peer(peer: &Option<Peer>, alloc: Global) -> Result<Option<Peer>, AllocError>
+    ensures { IfOk result (λ copied. copied ≡ peer.now) }
+{
+    match peer {
+        Some(peer) => Ok(Some(peer.copy(alloc)?)),
+        None => Ok(None),
+    }
+}
