@@ -1,0 +1,13 @@
+pub mod Tokens
+pub mod StatusLine
+pub mod Fields
+pub mod Content
+pub mod Accepted
+pub mod Response
+pub mod Exchange
+pub mod Standing
+pub mod Laws
+pub mod Counting
+pub mod Writing
+pub mod Refusals
+pub mod Lengths

@@ -1,0 +1,12 @@
+//! Laws of the text of a response.
+ghost use Rattle.asgi_response.specs.Laws.{TextOnlyGrows, PassedIsAccepted};
+
+/// The text of a list of events is the beginning of the text of each longer list.
+pub fn text_only_grows()
+    ensures { TextOnlyGrows }
+{}
+
+/// Events that a judge passes, one behind the other, are accepted whole.
+pub fn passed_is_accepted()
+    ensures { PassedIsAccepted }
+{}
