@@ -10,4 +10,4 @@ pub mod Laws
 pub mod Counting
 pub mod Writing
 pub mod Refusals
-pub mod Lengths
+pub mod Steps

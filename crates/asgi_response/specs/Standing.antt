@@ -1,42 +1,19 @@
 -- What a response text stands for: the facts of a request, and the list of events that it has taken.
-use Rattle.std.specs.Prelude.{◌≡◌, ℕ, ◌+◌, ◌-◌, Bool, true, false, List, [], ◌∷◌, ◌++◌, map, Option, Some, None, if◌then◌else◌, nat_le, ◌==◌}
+use Rattle.std.specs.Prelude.{◌≡◌, ℕ, ◌+◌, true, List, [], ◌∷◌, ◌++◌, map, Option, Some, None}
 use Rattle.asgi_types.specs.Fields.{HeaderField}
 use Rattle.asgi_types.specs.declared.facts.Facts.{Facts}
-use Rattle.asgi_types.specs.declared.outgoing.HttpVersion.{HttpVersion}
 use Rattle.asgi_types.specs.declared.outgoing.Outgoing.{Outgoing}
 use Rattle.asgi_types.specs.declared.outgoing.Outgoing.TheVariants.{ResponseStart, ResponseBody}
 use Rattle.asgi_protocol.specs.Lawful.{IsResponse}
 use Rattle.asgi_protocol.specs.Rules.{promised_length, body_bytes}
 use Rattle.asgi_response.specs.declared.text.ResponseText.{ResponseText}
-use Rattle.asgi_response.specs.declared.content.Coding.{Coding}
-use Rattle.asgi_response.specs.declared.content.Coding.TheVariants.{Nothing, Plain, Chunked}
 use Rattle.asgi_response.specs.declared.content.Content.{Content}
 use Rattle.asgi_response.specs.declared.text.Stage.{Stage}
 use Rattle.asgi_response.specs.declared.text.Stage.TheVariants.{Waiting, Started, Begun, Complete}
 use Rattle.asgi_response.specs.Fields.{is_chunked, closes, head_text}
-use Rattle.asgi_response.specs.Content.{has_content, part_text}
+use Rattle.asgi_response.specs.Content.{has_content}
 use Rattle.asgi_response.specs.Accepted.{accepted}
-use Rattle.asgi_response.specs.Response.{response_text}
-
--- how the bodies are written
-abbrev pub coding_of : Bool → Bool → Coding
-coding_of content chunked = if content then (if chunked then Chunked else Plain) else Nothing
-
--- the text of a body that is written so
-abbrev pub coded_text : Coding → List ℕ → Bool → List ℕ
-coded_text Nothing body more_body = []
-coded_text Plain body more_body = part_text false body more_body
-coded_text Chunked body more_body = part_text true body more_body
-
--- a body of so many bytes is neither too much nor too little
-abbrev pub is_allowed : Option ℕ → ℕ → Bool → Bool
-is_allowed None n more_body = true
-is_allowed (Some left) n more_body = if more_body then nat_le n left else n == left
-
--- the bytes that are left behind a body of so many
-abbrev pub left_behind : Option ℕ → ℕ → Option ℕ
-left_behind None n = None
-left_behind (Some left) n = Some (left - n)
+use Rattle.asgi_response.specs.Steps.{coding_of}
 
 -- the bytes that were promised, from those that were sent and those that are left
 abbrev pub with_sent : ℕ → Option ℕ → Option ℕ
@@ -60,18 +37,19 @@ pub record HasStart (facts : Facts) (said : List Outgoing) (content : Content) (
   pub text : head ≡ head_text (is_chunked facts.version status headers) (closes facts.close headers) status headers
 
 -- a start and one part or more
-pub record HasParts (facts : Facts) (said : List Outgoing) (content : Content) : Type 0 where
+pub record HasParts (facts : Facts) (said : List Outgoing) (content : Content) (head : List ℕ) : Type 0 where
   pub status : ℕ
   pub headers : List HeaderField
   pub first : List ℕ
   pub parts : List (List ℕ)
   pub is_open : IsOpen facts said status headers (first ∷ parts) content
+  pub written : head ≡ []
 
 -- the stage of a response of which these events were accepted
 abbrev pub IsStage : Facts → List Outgoing → List ℕ → Stage → Type 0
 IsStage facts said head Waiting = said ≡ []
 IsStage facts said head (Started content) = HasStart facts said content head
-IsStage facts said head (Begun content) = HasParts facts said content
+IsStage facts said head (Begun content) = HasParts facts said content head
 IsStage facts said head Complete = IsResponse said
 
 pub record StandsFor (text : ResponseText) (facts : Facts) (events : List Outgoing) : Type 0 where

@@ -1,6 +1,6 @@
 //! Texts appended together or not at all.
-ghost use Rattle.std.specs.Prelude.{◌≡◌, ◌++◌, ◌≤◌, OnOk, OnErr, flat_map, length};
-ghost use Rattle.std.specs.Fmt.{digits};
+ghost use Rattle.std.specs.Prelude.{◌≡◌, ◌++◌, ◌≤◌, ◌<◌, OnOk, OnErr, flat_map, drop, false};
+ghost use Rattle.std.specs.Fmt.{digits, digit_glyph};
 
 use std::alloc::AllocError;
 
@@ -29,22 +29,31 @@ fn total_len(texts: &[&[u8]]) -> usize {
     total
 }
 
-/// The hexadecimal digits, by their value.
-const DIGITS: &[u8; 16] = b"0123456789abcdef";
-
-/// The number in lowercase hexadecimal, without leading zeros, at the end of the buffer.
+/// Puts the number in lowercase hexadecimal, without leading zeros, at the end of the buffer, and says where it begins.
 pub fn hexadecimal(number: usize, buffer: &mut [u8; 16]) -> usize
     ensures inside { result ≤ 16 }
+    ensures digits { drop result buffer.new ≡ digits 16 false number }
 {
     let mut at = 16;
     let mut rest = number;
     while at > 0 {
         at -= 1;
-        buffer[at] = DIGITS[rest % 16];
+        buffer[at] = digit(rest % 16);
         rest /= 16;
         if rest == 0 {
             return at;
         }
     }
     at
+}
+
+/// The hexadecimal digit of this value.
+fn digit(value: usize) -> u8
+    requires { value < 16 }
+    ensures { result ≡ digit_glyph false value }
+{
+    if value < 10 {
+        return b'0' + value as u8;
+    }
+    b'a' + (value - 10) as u8
 }

@@ -21,7 +21,7 @@ pub struct Content {
 }
 
 impl Content {
-    ghost use Rattle.asgi_response.specs.Standing.{is_allowed, left_behind};
+    ghost use Rattle.asgi_response.specs.Steps.{is_allowed, left_behind};
 
     /// Whether a body of so many bytes is neither too much nor, where it is the last, too little.
     pub fn allows(self, len: usize, more_body: bool) -> bool

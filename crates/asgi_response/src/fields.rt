@@ -27,7 +27,8 @@ pub enum Length {
 }
 
 impl Length {
-    ghost use Rattle.asgi_response.specs.Lengths.{length_seen};
+    ghost use Rattle.asgi_response.specs.Steps.{length_seen, with_value};
+    ghost use Rattle.asgi_protocol.specs.Rules.{given_length};
 
     /// What the fields say.
     pub fn of(headers: &Headers) -> Self
@@ -42,8 +43,20 @@ impl Length {
         seen
     }
 
+    /// The length that is given.
+    pub fn given(self) -> Option<u64>
+        ensures { result ≡ given_length (length_seen self) }
+    {
+        match self {
+            Length::Given(number) => Some(number),
+            Length::Absent | Length::Faulty => None,
+        }
+    }
+
     /// What the fields say with one more of this value.
-    fn with(self, value: &[u8]) -> Self {
+    fn with(self, value: &[u8]) -> Self
+        ensures { length_seen result ≡ with_value (length_seen self) value.now }
+    {
         if self != Length::Absent {
             return Length::Faulty;
         }

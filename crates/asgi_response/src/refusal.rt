@@ -48,15 +48,25 @@ pub fn refusal_text(status: u16) -> &'static [u8]
     requires { IsTrue (is_refusal status) }
     ensures { result.now ≡ spec.refusal_text status }
 {
-    match status {
-        400 => REFUSED_400,
-        403 => REFUSED_403,
-        413 => REFUSED_413,
-        426 => REFUSED_426,
-        431 => REFUSED_431,
-        501 => REFUSED_501,
-        _ => REFUSED_500,
+    if status == 400 {
+        return REFUSED_400;
     }
+    if status == 403 {
+        return REFUSED_403;
+    }
+    if status == 413 {
+        return REFUSED_413;
+    }
+    if status == 426 {
+        return REFUSED_426;
+    }
+    if status == 431 {
+        return REFUSED_431;
+    }
+    if status == 501 {
+        return REFUSED_501;
+    }
+    REFUSED_500
 }
 
 /// Appends the text of a refusal, of any status. On an error the vector is as before.

@@ -1,5 +1,6 @@
 //! The text of what an application says.
-ghost use Rattle.std.specs.Prelude.{◌≡◌, ◌++◌, ◌∷◌, [], List, OnOk, OnErr};
+ghost use Rattle.std.specs.Prelude.{◌≡◌, ◌++◌, ◌∷◌, [], ◌&&◌, not, true, List, OnOk, OnErr, if◌then◌else◌};
+ghost use Rattle.httparse.specs.Ascii.{crlf_bytes};
 ghost use Rattle.asgi_types.specs.declared.facts.Facts.{Facts};
 ghost use Rattle.asgi_types.specs.declared.outgoing.Outgoing.{Outgoing};
 
@@ -71,13 +72,7 @@ impl ResponseText {
             → Grows (response_text facts events) (response_text facts (events ++ event.now ∷ [])) out.old.items out.new.items) }
         ensures err { OnErr result ((self.new ≡ self.old) × (out.new.items ≡ out.old.items)) }
     {
-        if let Outgoing::ResponseStart { status, headers } = event {
-            return self.take_start(*status, headers);
-        }
-        if let Outgoing::ResponseBody { body, more_body } = event {
-            return self.take_body(body.bytes(), *more_body, out);
-        }
-        Ok(())
+        self.step(event, out)
     }
 
     /// Appends the text in front of every event: `100 Continue` where the client waits for it.
@@ -98,80 +93,149 @@ impl ResponseText {
             → out.new.items ≡ out.old.items ++ end_text facts events input) }
         ensures err { OnErr result (out.new.items ≡ out.old.items) }
     {
-        match self.stage {
-            Stage::Waiting | Stage::Started(_) => append_answer(input, out),
-            Stage::Begun(_) | Stage::Complete => Ok(()),
+        if self.stage.is_begun() {
+            return Ok(());
         }
+        append_answer(input, out)
     }
+}
 
-    fn take_start(&mut self, status: u16, headers: &Headers) -> Result<(), AllocError> {
-        if self.stage != Stage::Waiting || status < 200 || status > 599 {
-            return Ok(());
+impl ResponseText {
+    ghost use Rattle.asgi_response.specs.Steps as steps;
+    ghost use Rattle.asgi_response.specs.Steps.{length_seen};
+    ghost use Rattle.asgi_response.specs.Fields as fields;
+    ghost use Rattle.asgi_response.specs.Content as contents;
+
+    /// Takes the event, and appends what it adds.
+    fn step(&mut self, event: &Outgoing, out: &mut Vec<u8>) -> Result<(), AllocError>
+        ensures ok { OnOk result (self.new ≡ steps.after_event self.old event.now) }
+        ensures text { OnOk result (out.new.items ≡ out.old.items ++ steps.added_by self.old event.now) }
+        ensures err { OnErr result ((self.new ≡ self.old) × (out.new.items ≡ out.old.items)) }
+    {
+        if let Outgoing::ResponseStart { status, headers } = event {
+            return self.take_start(*status, headers);
         }
-        let length = Length::of(headers);
-        if length == Length::Faulty {
-            return Ok(());
+        if let Outgoing::ResponseBody { body, more_body } = event {
+            return self.take_body(body.bytes(), *more_body, out);
         }
-        let chunked = self.is_chunked(status, length);
-        let closing = closes(self.close, headers);
-        self.head = head_text(self.alloc, chunked, closing, status, headers)?;
-        self.stage = Stage::Started(self.content(status, chunked, length));
         Ok(())
     }
 
-    fn is_chunked(&self, status: u16, length: Length) -> bool {
-        self.version == HttpVersion::V11 && length == Length::Absent && !has_no_content(status)
-    }
-
-    fn content(&self, status: u16, chunked: bool, length: Length) -> Content {
-        if self.head_only || has_no_content(status) {
-            return Content {
-                coding: Coding::Nothing,
-                left: None,
-            };
+    /// Keeps the head of a start that is lawful here.
+    fn take_start(&mut self, status: u16, headers: &Headers) -> Result<(), AllocError>
+        ensures ok { OnOk result (self.new ≡ steps.after_start self.old status headers.now) }
+        ensures err { OnErr result (self.new ≡ self.old) }
+    {
+        let length = Length::of(headers);
+        if !may_start(self.stage, status, length) {
+            return Ok(());
         }
-        let coding = if chunked {
-            Coding::Chunked
-        } else {
-            Coding::Plain
-        };
-        let left = match length {
-            Length::Given(n) => Some(n),
-            Length::Absent | Length::Faulty => None,
-        };
-        Content { coding, left }
+        let chunked = is_chunked(self.version, status, length);
+        let closing = closes(self.close, headers);
+        let head = head_text(self.alloc, chunked, closing, status, headers)?;
+        self.head = head;
+        self.stage = Stage::Started(content_at_start(self.head_only, status, chunked, length));
+        Ok(())
     }
 
+    /// Appends the text of a body that is lawful here, behind the head where it is the first.
     fn take_body(
         &mut self,
         body: &[u8],
         more_body: bool,
         out: &mut Vec<u8>,
-    ) -> Result<(), AllocError> {
-        match self.stage {
-            Stage::Waiting | Stage::Complete => return Ok(()),
-            Stage::Started(content) => {
-                if !content.allows(body.len(), more_body) {
-                    return Ok(());
-                }
-                append_part(self.head.bytes(), content.coding, body, more_body, out)?;
-                self.stage = next_stage(content, body.len(), more_body);
-                self.head = Octets::new(Vec::new(self.alloc));
-                return Ok(());
-            }
-            Stage::Begun(content) => {
-                if !content.allows(body.len(), more_body) {
-                    return Ok(());
-                }
-                append_part(&[], content.coding, body, more_body, out)?;
-                self.stage = next_stage(content, body.len(), more_body);
-                return Ok(());
-            }
+    ) -> Result<(), AllocError>
+        ensures ok { OnOk result (self.new ≡ steps.after_part self.old (steps.content_due self.old.stage) body.now more_body) }
+        ensures text { OnOk result (out.new.items ≡ out.old.items ++ steps.part_added self.old.head (steps.content_due self.old.stage) body.now more_body) }
+        ensures err { OnErr result ((self.new ≡ self.old) × (out.new.items ≡ out.old.items)) }
+    {
+        let Some(content) = self.stage.content_due() else {
+            return Ok(());
+        };
+        if !content.allows(body.len(), more_body) {
+            return Ok(());
+        }
+        append_part(self.head.bytes(), content.coding, body, more_body, out)?;
+        self.stage = next_stage(content, body.len(), more_body);
+        self.head = Octets::new(Vec::new(self.alloc));
+        Ok(())
+    }
+}
+
+impl Stage {
+    ghost use Rattle.asgi_response.specs.Steps as steps;
+
+    /// Whether a body was taken.
+    fn is_begun(self) -> bool
+        ensures { result ≡ steps.is_begun self }
+    {
+        match self {
+            Stage::Waiting | Stage::Started(_) => false,
+            Stage::Begun(_) | Stage::Complete => true,
+        }
+    }
+
+    /// What the next body may be, where one may follow.
+    fn content_due(self) -> Option<Content>
+        ensures { result ≡ steps.content_due self }
+    {
+        match self {
+            Stage::Waiting | Stage::Complete => None,
+            Stage::Started(content) | Stage::Begun(content) => Some(content),
         }
     }
 }
 
-fn next_stage(content: Content, len: usize, more_body: bool) -> Stage {
+ghost use Rattle.asgi_response.specs.Steps as steps;
+ghost use Rattle.asgi_response.specs.Steps.{length_seen};
+ghost use Rattle.asgi_response.specs.Fields as fields;
+ghost use Rattle.asgi_response.specs.Content as contents;
+ghost use Rattle.asgi_response.specs.Exchange as exchange;
+
+/// Whether a start is lawful here.
+fn may_start(stage: Stage, status: u16, length: Length) -> bool
+    ensures { result ≡ steps.may_start stage status (length_seen length) }
+{
+    stage == Stage::Waiting && 200 <= status && status <= 599 && length != Length::Faulty
+}
+
+/// Whether the content is chunked.
+fn is_chunked(version: HttpVersion, status: u16, length: Length) -> bool
+    ensures { result ≡ (fields.is_v11 version && fields.is_absent (length_seen length) && not (fields.has_no_content status)) }
+{
+    version == HttpVersion::V11 && length == Length::Absent && !has_no_content(status)
+}
+
+/// What the bodies behind a start may be.
+fn content_at_start(head_only: bool, status: u16, chunked: bool, length: Length) -> Content
+    ensures coding { result.coding ≡ steps.coding_of (contents.has_content head_only status) chunked }
+    ensures left { result.left ≡ steps.left_at_start head_only status (length_seen length) }
+{
+    if head_only || has_no_content(status) {
+        return Content {
+            coding: Coding::Nothing,
+            left: None,
+        };
+    }
+    Content {
+        coding: coding_of(chunked),
+        left: length.given(),
+    }
+}
+
+/// How the bodies of a response that has content are written.
+fn coding_of(chunked: bool) -> Coding
+    ensures { result ≡ steps.coding_of true chunked }
+{
+    if chunked {
+        return Coding::Chunked;
+    }
+    Coding::Plain
+}
+
+fn next_stage(content: Content, len: usize, more_body: bool) -> Stage
+    ensures { result ≡ steps.next_stage content len more_body }
+{
     if more_body {
         return Stage::Begun(content.behind(len));
     }
@@ -185,32 +249,73 @@ fn append_part(
     body: &[u8],
     more_body: bool,
     out: &mut Vec<u8>,
-) -> Result<(), AllocError> {
+) -> Result<(), AllocError>
+    ensures ok { OnOk result (out.new.items ≡ out.old.items ++ (front.now ++ steps.coded_text coding body.now more_body)) }
+    ensures err { OnErr result (out.new.items ≡ out.old.items) }
+{
     match coding {
-        Coding::Nothing => append_all(out, &[front]),
-        Coding::Plain => append_all(out, &[front, body]),
+        Coding::Nothing => out.extend_from_slice(front),
+        Coding::Plain => append_two(out, front, body),
         Coding::Chunked => append_chunk(front, body, more_body, out),
     }
 }
 
-/// Appends the front, then the body as a chunk where it has bytes, then the last chunk where no more follow.
+/// Appends the front, the body as a chunk where it has bytes, and the last chunk where no more follow.
 fn append_chunk(
     front: &[u8],
     body: &[u8],
     more_body: bool,
     out: &mut Vec<u8>,
-) -> Result<(), AllocError> {
-    let last = if more_body { &[] } else { LAST_CHUNK };
+) -> Result<(), AllocError>
+    ensures ok { OnOk result (out.new.items ≡ out.old.items ++ (front.now ++ contents.part_text true body.now more_body)) }
+    ensures err { OnErr result (out.new.items ≡ out.old.items) }
+{
+    let last = last_chunk(more_body);
     if body.is_empty() {
-        return append_all(out, &[front, last]);
+        return append_two(out, front, last);
     }
     let mut buffer = [0; 16];
     let at = hexadecimal(body.len(), &mut buffer);
-    append_all(out, &[front, &buffer[at..], CRLF, body, CRLF, last])
+    append_sized(out, front, &buffer[at..], body, last)
+}
+
+/// Appends two texts.
+fn append_two<'a>(out: &mut Vec<u8>, front: &'a [u8], text: &'a [u8]) -> Result<(), AllocError>
+    ensures ok { OnOk result (out.new.items ≡ out.old.items ++ (front.now ++ text.now)) }
+    ensures err { OnErr result (out.new.items ≡ out.old.items) }
+{
+    append_all(out, &[front, text])
+}
+
+/// Appends the front, a chunk of this size, and what follows it.
+fn append_sized<'a>(
+    out: &mut Vec<u8>,
+    front: &'a [u8],
+    size: &'a [u8],
+    body: &'a [u8],
+    last: &'a [u8],
+) -> Result<(), AllocError>
+    ensures ok { OnOk result (out.new.items ≡ out.old.items ++ (front.now ++ (size.now ++ crlf_bytes ++ body.now ++ crlf_bytes ++ last.now))) }
+    ensures err { OnErr result (out.new.items ≡ out.old.items) }
+{
+    append_all(out, &[front, size, CRLF, body, CRLF, last])
+}
+
+/// The last chunk, where no more bodies follow.
+fn last_chunk(more_body: bool) -> &'static [u8]
+    ensures { result.now ≡ (if not more_body then contents.last_chunk else []) }
+{
+    if more_body {
+        return &[];
+    }
+    LAST_CHUNK
 }
 
 /// Appends the answer in place of a response that never began.
-fn append_answer(input: Input, out: &mut Vec<u8>) -> Result<(), AllocError> {
+fn append_answer(input: Input, out: &mut Vec<u8>) -> Result<(), AllocError>
+    ensures ok { OnOk result (out.new.items ≡ out.old.items ++ exchange.answer_to input) }
+    ensures err { OnErr result (out.new.items ≡ out.old.items) }
+{
     match input {
         Input::Whole => append_refusal(500, out),
         Input::Faulty(status) => append_refusal(status, out),
