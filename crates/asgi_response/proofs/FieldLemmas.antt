@@ -1,8 +1,8 @@
 -- The content-length fields, one behind the other.
-use Rattle.std.proofs.Common.{◌≡◌, ℕ, Bool, true, false, List, [], ◌∷◌, ◌++◌, refl, sym, ap, ◌∙◌}
-use Rattle.std.proofs.lemmas.List.{append-nil}
+use Rattle.std.proofs.Common.{◌≡◌, ℕ, Bool, true, false, List, [], ◌∷◌, ◌++◌, refl, sym, ap, ◌∙◌, map, Bor}
+use Rattle.std.proofs.lemmas.List.{append-nil, map-append}
 use Rattle.std.specs.Prelude.{if◌then◌else◌, codes, bytes_eq, Option, Some, None}
-use Rattle.asgi_types.specs.Fields.{HeaderField}
+use Rattle.asgi_types.specs.Fields.{HeaderField, shown}
 use Rattle.asgi_protocol.specs.ContentLengths.{ContentLength, Absent, Given, Faulty, values_of, length_of_value, length_of_values, content_length}
 use Rattle.asgi_types.specs.Lengths.{length_of_text}
 use Rattle.asgi_response.specs.Steps.{with_value}
@@ -37,13 +37,25 @@ content_length-push fields f =
     ap length_of_values (values_of-push (codes "content-length") fields f)
     ∙ with_more (bytes_eq f.name (codes "content-length")) (values_of fields (codes "content-length")) f.value
 
-pub length_taken : (fields : List HeaderField) (f : HeaderField) (seen new : ContentLength) → bytes_eq f.name (codes "content-length") ≡ true
+length_taken : (fields : List HeaderField) (f : HeaderField) (seen new : ContentLength) → bytes_eq f.name (codes "content-length") ≡ true
     → seen ≡ content_length fields → new ≡ with_value seen f.value → new ≡ content_length (fields ++ f ∷ [])
 length_taken fields f seen new named before after =
     after ∙ ap (λ (l : ContentLength). with_value l f.value) before
     ∙ sym (content_length-push fields f ∙ ap (λ (b : Bool). if b then with_value (content_length fields) f.value else content_length fields) named)
 
-pub length_passed : (fields : List HeaderField) (f : HeaderField) (seen : ContentLength) → bytes_eq f.name (codes "content-length") ≡ false
+length_passed : (fields : List HeaderField) (f : HeaderField) (seen : ContentLength) → bytes_eq f.name (codes "content-length") ≡ false
     → seen ≡ content_length fields → seen ≡ content_length (fields ++ f ∷ [])
 length_passed fields f seen named before =
     before ∙ sym (content_length-push fields f ∙ ap (λ (b : Bool). if b then with_value (content_length fields) f.value else content_length fields) named)
+
+pub value_taken : (yielded : List (Bor (List ℕ) × Bor (List ℕ))) (x : Bor (List ℕ) × Bor (List ℕ)) (seen new : ContentLength)
+    → bytes_eq x.0.now (codes "content-length") ≡ true → seen ≡ content_length (map shown yielded) → new ≡ with_value seen x.1.now
+    → new ≡ content_length (map shown (yielded ++ x ∷ []))
+value_taken yielded x seen new named before after =
+    length_taken (map shown yielded) (shown x) seen new named before after ∙ ap content_length (sym (map-append shown yielded (x ∷ [])))
+
+pub value_passed : (yielded : List (Bor (List ℕ) × Bor (List ℕ))) (x : Bor (List ℕ) × Bor (List ℕ)) (seen : ContentLength)
+    → bytes_eq x.0.now (codes "content-length") ≡ false → seen ≡ content_length (map shown yielded)
+    → seen ≡ content_length (map shown (yielded ++ x ∷ []))
+value_passed yielded x seen named before =
+    length_passed (map shown yielded) (shown x) seen named before ∙ ap content_length (sym (map-append shown yielded (x ∷ [])))

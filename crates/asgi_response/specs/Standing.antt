@@ -36,13 +36,13 @@ pub record HasStart (facts : Facts) (said : List Outgoing) (content : Content) (
   pub is_open : IsOpen facts said status headers [] content
   pub text : head ≡ head_text (is_chunked facts.version status headers) (closes facts.close headers) status headers
 
--- a start and one part or more
+-- a start and one part or more, of which all is written
 pub record HasParts (facts : Facts) (said : List Outgoing) (content : Content) (head : List ℕ) : Type 0 where
   pub status : ℕ
   pub headers : List HeaderField
-  pub first : List ℕ
-  pub parts : List (List ℕ)
-  pub is_open : IsOpen facts said status headers (first ∷ parts) content
+  pub front : List (List ℕ)
+  pub last : List ℕ
+  pub is_open : IsOpen facts said status headers (front ++ last ∷ []) content
   pub written : head ≡ []
 
 -- the stage of a response of which these events were accepted
@@ -52,12 +52,17 @@ IsStage facts said head (Started content) = HasStart facts said content head
 IsStage facts said head (Begun content) = HasParts facts said content head
 IsStage facts said head Complete = IsResponse said
 
-pub record StandsFor (text : ResponseText) (facts : Facts) (events : List Outgoing) : Type 0 where
+-- the text has accepted these events
+pub record HasAccepted (text : ResponseText) (facts : Facts) (said : List Outgoing) : Type 0 where
   pub version : text.version ≡ facts.version
   pub head_only : text.head_only ≡ facts.head_only
   pub close : text.close ≡ facts.close
   pub expect : text.expect ≡ facts.expect
-  pub stage : IsStage facts (accepted facts events) text.head text.stage
+  pub stage : IsStage facts said text.head text.stage
+
+-- the text has taken these events
+abbrev pub StandsFor : ResponseText → Facts → List Outgoing → Type 0
+StandsFor text facts events = HasAccepted text facts (accepted facts events)
 
 -- the output grew by just what makes the one text the other
 pub record Grows (before after old new : List ℕ) : Type 0 where

@@ -7,6 +7,7 @@ invariant-loop-at l = record {
   inside : l.at ≤ 16;
   size : length l.buffer ≡ 16;
   rest : l.rest < 16 ^ l.at;
+  more : l.at < 16 → 0 < l.rest;
   front : digits_onto (l.at + 48) 16 false l.rest (drop l.at l.buffer) ≡ digits 16 false l.number;
 }
 

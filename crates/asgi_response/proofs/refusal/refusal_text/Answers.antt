@@ -1,6 +1,7 @@
 use Rattle.std.proofs.Common.{sym, ap}
 use Rattle.std.specs.Fmt.{digits}
 use Rattle.asgi_response.specs.Exchange as spec
+use Rattle.asgi_response.proofs.PlaceLemmas.{only_500}
 use Rattle.asgi_response.proofs.refusal.refusal_text.Goals as goal
 
 pub returns-then-status-eq400 : goal.returns-then-status-eq400
@@ -29,4 +30,6 @@ returns-then-status-eq501 c = ap spec.refusal_text (sym c.if-status-eq501.true)
 
 pub returns : goal.returns
 unfolding digits
-returns c = ?
+returns c =
+    ap spec.refusal_text (sym (only_500 c.args.status c.requires c.if-status-eq400.false c.if-status-eq403.false c.if-status-eq413.false
+      c.if-status-eq426.false c.if-status-eq431.false c.if-status-eq501.false))
