@@ -112,7 +112,7 @@ passes_open facts status headers parts left body more e =
     let sent : ℕ = body_bytes said in
     let n : ℕ = length body in
     body_lines (is_word Http said) (begins_word Http (said ++ ResponseBody body more ∷ [])) (is_above (sent + n) (promised_length facts said)) (not more && is_below (sent + n) (promised_length facts said))
-      (is_row-open parts) (begins_row-body parts body more)
+    (is_row-open parts) (begins_row-body parts body more)
     ∙ ap (λ (p : Option ℕ). not (is_above (sent + n) p) && not (not more && is_below (sent + n) p)) e
     ∙ allowed_at sent n left more
 

@@ -1,5 +1,6 @@
 -- Digits that are put in front of one another, the last one first.
-use Rattle.std.proofs.Common.{◌≡◌, ℕ, zero, suc, ◌+◌, ◌-◌, ◌*◌, ◌/◌, ◌%◌, ◌^◌, ◌<◌, ◌≤◌, Bool, true, false, List, [], ◌∷◌, length, drop, refl, sym, ap, ◌∙◌, subst, arith}
+use Rattle.std.proofs.Common.{◌≡◌, ℕ, zero, suc, ◌+◌, ◌-◌, ◌*◌, ◌/◌, ◌%◌, ◌^◌, ◌<◌, ◌≤◌, Bool, true, false, List, [], ◌∷◌, length, drop, sym, ap, ◌∙◌, subst, arith}
+use Rattle.std.proofs.Math.Nat.{pow-suc}
 use Rattle.std.proofs.lemmas.List.{drop-set}
 use Rattle.std.proofs.lemmas.Bool.Decides.{nat_tests}
 use Rattle.std.specs.Prelude.{if◌then◌else◌, ◌==◌, slice_set}
@@ -41,7 +42,16 @@ next_digit j at n glyph buffer all e inside g more front =
     ap (λ (rest : List ℕ). digits_onto (j + 48) 16 false (n / 16) rest) (glyph_put j n glyph buffer inside g)
     ∙ sym (next_step (j + 48) n (drop (j + 1) buffer) more) ∙ front_at j at n buffer all e front
 
+step_fits : (j n : ℕ) → n < 16 ^ suc j → n / 16 < 16 ^ j
+step_fits j n fits =
+    let bound : n < 16 ^ j * 16 = simp pow-suc at fits in
+    omega (arith, bound)
+
 pub rest_fits : (j at n : ℕ) → at ≡ j + 1 → n < 16 ^ at → n / 16 < 16 ^ j
 rest_fits j at n e fits =
-    let bound : n < 16 * 16 ^ j = subst (λ (i : ℕ). n < 16 ^ i) (e ∙ omega arith) fits in
-    omega (arith, bound)
+    let next : at ≡ suc j = omega (arith, e) in
+    step_fits j n (subst (λ (i : ℕ). n < 16 ^ i) next fits)
+
+pub no_rest : (at n : ℕ) → at ≤ 0 → n < 16 ^ at → (at < 16 → 0 < n) → ⊥
+no_rest zero n low fits more = let some : 0 < n = more (omega arith) in omega (arith, fits, some)
+no_rest (suc j) n low fits more = omega (arith, low)

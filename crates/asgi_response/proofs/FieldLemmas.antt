@@ -13,7 +13,7 @@ values_of-push name [] f = elim (bytes_eq f.name name) as (λ b. (if b then f.va
 values_of-push name (g ∷ fields) f =
     let last : List (List ℕ) = (if bytes_eq f.name name then f.value ∷ [] else []) in
     elim (bytes_eq g.name name) as (λ b. (if b then g.value ∷ values_of (fields ++ f ∷ []) name else values_of (fields ++ f ∷ []) name)
-        ≡ (if b then g.value ∷ values_of fields name else values_of fields name) ++ last)
+    ≡ (if b then g.value ∷ values_of fields name else values_of fields name) ++ last)
     [ true ↦ ap (λ (vs : List (List ℕ)). g.value ∷ vs) (values_of-push name fields f) | false ↦ values_of-push name fields f ]
 
 -- behind a first value the fields are faulty

@@ -6,3 +6,4 @@ pub mod HeadLemmas
 pub mod PlaceLemmas
 pub mod AcceptedLemmas
 pub mod StandingLemmas
+pub mod LawLemmas

@@ -9,6 +9,11 @@ use Rattle.asgi_response.specs.StatusLine.{reason_phrase, status_line}
 use Rattle.asgi_response.specs.Exchange.{closing_fields, upgrade_fields, refusal_text}
 use Rattle.asgi_response.specs.Refusals.{is_refusal}
 
+-- what follows from the promise of a call
+pub then_ok : {T E P Q : Type 0} (r : Result T E) → OnOk r P → (P → Q) → OnOk r Q
+then_ok (Ok u) h f = f h
+then_ok (Err x) h f = tt
+
 -- the same text in other words
 pub ok_text : {E : Type 0} (r : Result (Unit {0}) E) (new a b : List ℕ) → OnOk r (new ≡ a) → a ≡ b → OnOk r (new ≡ b)
 ok_text (Ok u) new a b h e = h ∙ e

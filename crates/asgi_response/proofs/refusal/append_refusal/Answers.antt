@@ -15,5 +15,5 @@ pub returns-clause-ok : goal.returns-clause-ok
 returns-clause-ok c =
     ok_text c.append_all.result c.append_all.new.out.items _ (c.args.out.now.items ++ spec.refusal_text c.args.status) c.append_all.ensures.ok
     (ap (λ (x : List ℕ). c.args.out.now.items ++ x)
-      (refused c.args.status c.as_bytes-code.result.now c.as_bytes-reason.result.now c.if-status-eq426.false
-        (c.as_bytes-code.ensures.value ∙ c.format.ensures.text) (c.as_bytes-reason.ensures.value ∙ c.reason_phrase.ensures)))
+    (refused c.args.status c.as_bytes-code.result.now c.as_bytes-reason.result.now c.if-status-eq426.false
+    (c.as_bytes-code.ensures.value ∙ c.format.ensures.text) (c.as_bytes-reason.ensures.value ∙ c.reason_phrase.ensures)))

@@ -32,4 +32,4 @@ pub returns : goal.returns
 unfolding digits
 returns c =
     ap spec.refusal_text (sym (only_500 c.args.status c.requires c.if-status-eq400.false c.if-status-eq403.false c.if-status-eq413.false
-      c.if-status-eq426.false c.if-status-eq431.false c.if-status-eq501.false))
+    c.if-status-eq426.false c.if-status-eq431.false c.if-status-eq501.false))

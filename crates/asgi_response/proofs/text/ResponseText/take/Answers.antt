@@ -1,0 +1,13 @@
+use Rattle.asgi_response.proofs.PlaceLemmas.{then_ok}
+use Rattle.asgi_response.proofs.StandingLemmas.{stands_behind, grows_behind}
+use Rattle.asgi_response.proofs.text.ResponseText.take.Goals as goal
+
+pub returns-clause-ok : goal.returns-clause-ok
+returns-clause-ok c =
+    then_ok c.step.result c.step.ensures.ok
+    (λ e. λ facts events at. stands_behind c.args.self.now c.step.new.self facts events c.args.event.now e at)
+
+pub returns-clause-text : goal.returns-clause-text
+returns-clause-text c =
+    then_ok c.step.result c.step.ensures.text
+    (λ e. λ facts events at. grows_behind c.args.self.now facts events c.args.event.now c.args.out.now.items c.step.new.out.items e at)
