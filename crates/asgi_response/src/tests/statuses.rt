@@ -47,7 +47,7 @@ fn statuses_have_their_phrases(rt: HostRuntime) -> Result<(), Fail> {
         let said = [Say::Start(status, &[]), Say::Last("")];
         let out = written(rt.alloc(), GET, &said, None)?;
         let line = format!(in rt.alloc(); "HTTP/1.1 {status} {phrase}\r\n")?;
-        assert_eq!(rt; &out[..line.len()], line.as_bytes(), "{status}");
+        assert!(rt; out.starts_with(line.as_bytes()), "{status}");
     }
     Ok(())
 }
