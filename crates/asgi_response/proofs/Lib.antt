@@ -7,3 +7,4 @@ pub mod PlaceLemmas
 pub mod AcceptedLemmas
 pub mod StandingLemmas
 pub mod LawLemmas
+pub mod RoomLemmas

@@ -1,5 +1,5 @@
 -- What a text stands for behind one more event, and what the event adds.
-use Rattle.std.proofs.Common.{◌≡◌, ℕ, ◌+◌, Bool, true, false, List, [], ◌∷◌, ◌++◌, length, map, flat_map, refl, sym, ap, ◌∙◌, subst, append_assoc, zero-add}
+use Rattle.std.proofs.Common.{◌≡◌, ℕ, ◌+◌, Bool, true, false, List, [], ◌∷◌, ◌++◌, length, map, flat_map, refl, sym, ap, ◌∙◌, subst, append_assoc, zero-add, length-append, ◌<◌, ◌⊎◌, inl, inr, IsTrue, arith}
 use Rattle.std.proofs.lemmas.List.{append-nil, map-append}
 use Rattle.std.proofs.lemmas.List.Concat.{flat_map-append}
 use Rattle.std.specs.Prelude.{not, ◌&&◌, if◌then◌else◌, Option, Some, None}
@@ -19,6 +19,7 @@ use Rattle.asgi_response.specs.Content.{part_text, has_content}
 use Rattle.asgi_response.specs.Exchange.{has_begun}
 use Rattle.asgi_response.specs.Fields.{is_chunked, closes, head_text}
 use Rattle.asgi_response.specs.Response.{body_text, message_text, continue_text, response_text}
+use Rattle.asgi_response.specs.Room.{LacksRoom, LacksMemory, is_start}
 use Rattle.asgi_response.specs.Standing.{part, with_sent, IsOpen, HasStart, HasParts, IsStage, HasAccepted, StandsFor, Grows}
 use Rattle.asgi_response.specs.Steps.{coding_of, coded_text, is_allowed, left_behind, left_at_start, is_begun, content_due, next_stage, may_start, content_at_start, after_start, after_part, part_added, after_event, added_by}
 use Rattle.asgi_response.proofs.AcceptedLemmas.{passes_body, second_start, after_closed, first_start, first_body, other_scope, accepted-push, promised_behind}
@@ -269,3 +270,13 @@ text_behind t facts events event at =
 pub grows_behind : (t : ResponseText) (facts : Facts) (events : List Outgoing) (event : Outgoing) (old new : List ℕ) → new ≡ old ++ added_by t event
     → StandsFor t facts events → Grows (response_text facts events) (response_text facts (events ++ event ∷ [])) old new
 grows_behind t facts events event old new e at = record { added = added_by t event; text = text_behind t facts events event at; output = e }
+
+-- an event is refused where its own head, or the output, has no room
+pub lacks_behind : (t : ResponseText) (facts : Facts) (events : List Outgoing) (event : Outgoing) (capacity len : ℕ)
+    → IsTrue (is_start event) ⊎ LacksRoom capacity len (added_by t event) → StandsFor t facts events
+    → LacksMemory capacity len event (response_text facts events) (response_text facts (events ++ event ∷ []))
+lacks_behind t facts events event capacity len (inl start) at = inl start
+lacks_behind t facts events event capacity len (inr room) at =
+    let longer : length (response_text facts (events ++ event ∷ [])) ≡ length (response_text facts events) + length (added_by t event) =
+        ap (λ (x : List ℕ). length x) (text_behind t facts events event at) ∙ length-append (response_text facts events) (added_by t event) in
+    inr (omega (arith, room, longer))

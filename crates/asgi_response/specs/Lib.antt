@@ -11,3 +11,4 @@ pub mod Counting
 pub mod Writing
 pub mod Refusals
 pub mod Steps
+pub mod Room

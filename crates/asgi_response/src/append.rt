@@ -1,5 +1,7 @@
 //! Texts appended together or not at all.
-ghost use Rattle.std.specs.Prelude.{◌≡◌, ◌++◌, ◌≤◌, ◌<◌, OnOk, OnErr, flat_map, drop, false};
+ghost use Rattle.std.specs.Prelude.{◌≡◌, ◌++◌, ◌≤◌, ◌<◌, OnOk, OnErr, flat_map, drop, false, length};
+ghost use Rattle.std.specs.Vec.{vec_len, vec_capacity};
+ghost use Rattle.asgi_response.specs.Room.{LacksRoom};
 ghost use Rattle.std.specs.Fmt.{digits, digit_glyph};
 
 use std::alloc::AllocError;
@@ -8,6 +10,7 @@ use std::alloc::AllocError;
 pub fn append_all(out: &mut Vec<u8>, texts: &[&[u8]]) -> Result<(), AllocError>
     ensures ok { OnOk result (out.new.items ≡ out.old.items ++ flat_map (λ text. text.now) texts.now) }
     ensures err { OnErr result (out.new.items ≡ out.old.items) }
+    ensures full { OnErr result (LacksRoom (vec_capacity out.old) (vec_len out.old) (flat_map (λ text. text.now) texts.now)) }
 {
     let start = out.len();
     out.reserve(total_len(texts))?;
@@ -21,7 +24,9 @@ pub fn append_all(out: &mut Vec<u8>, texts: &[&[u8]]) -> Result<(), AllocError>
 }
 
 /// How many bytes the texts have together.
-fn total_len(texts: &[&[u8]]) -> usize {
+fn total_len(texts: &[&[u8]]) -> usize
+    ensures { result ≤ length (flat_map (λ text. text.now) texts.now) }
+{
     let mut total = 0usize;
     for text in texts {
         total = total.saturating_add(text.len());

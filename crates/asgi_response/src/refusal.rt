@@ -41,7 +41,9 @@ const REFUSED_501: &[u8] =
 const CLOSING_FIELDS: &[u8] = b"content-length: 0\r\nconnection: close\r\n";
 
 ghost use Rattle.asgi_response.specs.Exchange as spec;
+ghost use Rattle.std.specs.Vec.{vec_len, vec_capacity};
 ghost use Rattle.asgi_response.specs.Refusals.{is_refusal};
+ghost use Rattle.asgi_response.specs.Room.{LacksRoom};
 
 /// The text of a refusal: of 400, 403, 413, 426, 431, 500 or 501.
 pub fn refusal_text(status: u16) -> &'static [u8]
@@ -73,6 +75,7 @@ pub fn refusal_text(status: u16) -> &'static [u8]
 pub fn append_refusal(status: u16, out: &mut Vec<u8>) -> Result<(), AllocError>
     ensures ok { OnOk result (out.new.items ≡ out.old.items ++ spec.refusal_text status) }
     ensures err { OnErr result (out.new.items ≡ out.old.items) }
+    ensures full { OnErr result (LacksRoom (vec_capacity out.old) (vec_len out.old) (spec.refusal_text status)) }
 {
     if status == 426 {
         return out.extend_from_slice(REFUSED_426);

@@ -1,8 +1,10 @@
 //! The text of what an application says.
-ghost use Rattle.std.specs.Prelude.{◌≡◌, ◌++◌, ◌∷◌, [], ◌&&◌, not, true, List, OnOk, OnErr, if◌then◌else◌};
+ghost use Rattle.std.specs.Prelude.{◌≡◌, ◌++◌, ◌∷◌, [], ◌&&◌, ◌⊎◌, not, true, IsTrue, List, OnOk, OnErr, if◌then◌else◌};
+ghost use Rattle.std.specs.Vec.{vec_len, vec_capacity};
 ghost use Rattle.httparse.specs.Ascii.{crlf_bytes};
 ghost use Rattle.asgi_types.specs.declared.facts.Facts.{Facts};
 ghost use Rattle.asgi_types.specs.declared.outgoing.Outgoing.{Outgoing};
+ghost use Rattle.asgi_response.specs.Room.{LacksRoom, LacksMemory, is_start};
 
 use crate::append::{append_all, hexadecimal};
 use crate::content::{Coding, Content};
@@ -71,6 +73,8 @@ impl ResponseText {
         ensures text { OnOk result ((facts : Facts) (events : List Outgoing) → StandsFor self.old facts events
             → Grows (response_text facts events) (response_text facts (events ++ event.now ∷ [])) out.old.items out.new.items) }
         ensures err { OnErr result ((self.new ≡ self.old) × (out.new.items ≡ out.old.items)) }
+        ensures full { OnErr result ((facts : Facts) (events : List Outgoing) → StandsFor self.old facts events
+            → LacksMemory (vec_capacity out.old) (vec_len out.old) event.now (response_text facts events) (response_text facts (events ++ event.now ∷ []))) }
     {
         self.step(event, out)
     }
@@ -80,6 +84,8 @@ impl ResponseText {
         ensures ok { OnOk result ((facts : Facts) (events : List Outgoing) → StandsFor self.now facts events
             → out.new.items ≡ out.old.items ++ response_text facts []) }
         ensures err { OnErr result (out.new.items ≡ out.old.items) }
+        ensures full { OnErr result ((facts : Facts) (events : List Outgoing) → StandsFor self.now facts events
+            → LacksRoom (vec_capacity out.old) (vec_len out.old) (response_text facts [])) }
     {
         if self.expect {
             out.extend_from_slice(CONTINUE)?;
@@ -92,6 +98,8 @@ impl ResponseText {
         ensures ok { OnOk result ((facts : Facts) (events : List Outgoing) → StandsFor self.now facts events
             → out.new.items ≡ out.old.items ++ end_text facts events input) }
         ensures err { OnErr result (out.new.items ≡ out.old.items) }
+        ensures full { OnErr result ((facts : Facts) (events : List Outgoing) → StandsFor self.now facts events
+            → LacksRoom (vec_capacity out.old) (vec_len out.old) (end_text facts events input)) }
     {
         if self.stage.is_begun() {
             return Ok(());
@@ -111,6 +119,7 @@ impl ResponseText {
         ensures ok { OnOk result (self.new ≡ steps.after_event self.old event.now) }
         ensures text { OnOk result (out.new.items ≡ out.old.items ++ steps.added_by self.old event.now) }
         ensures err { OnErr result ((self.new ≡ self.old) × (out.new.items ≡ out.old.items)) }
+        ensures full { OnErr result (IsTrue (is_start event.now) ⊎ LacksRoom (vec_capacity out.old) (vec_len out.old) (steps.added_by self.old event.now)) }
     {
         if let Outgoing::ResponseStart { status, headers } = event {
             return self.take_start(*status, headers);
@@ -148,6 +157,7 @@ impl ResponseText {
         ensures ok { OnOk result (self.new ≡ steps.after_part self.old (steps.content_due self.old.stage) body.now more_body) }
         ensures text { OnOk result (out.new.items ≡ out.old.items ++ steps.part_added self.old.head (steps.content_due self.old.stage) body.now more_body) }
         ensures err { OnErr result ((self.new ≡ self.old) × (out.new.items ≡ out.old.items)) }
+        ensures full { OnErr result (LacksRoom (vec_capacity out.old) (vec_len out.old) (steps.part_added self.old.head (steps.content_due self.old.stage) body.now more_body)) }
     {
         let Some(content) = self.stage.content_due() else {
             return Ok(());
@@ -252,6 +262,7 @@ fn append_part(
 ) -> Result<(), AllocError>
     ensures ok { OnOk result (out.new.items ≡ out.old.items ++ (front.now ++ steps.coded_text coding body.now more_body)) }
     ensures err { OnErr result (out.new.items ≡ out.old.items) }
+    ensures full { OnErr result (LacksRoom (vec_capacity out.old) (vec_len out.old) (front.now ++ steps.coded_text coding body.now more_body)) }
 {
     match coding {
         Coding::Nothing => out.extend_from_slice(front),
@@ -269,6 +280,7 @@ fn append_chunk(
 ) -> Result<(), AllocError>
     ensures ok { OnOk result (out.new.items ≡ out.old.items ++ (front.now ++ contents.part_text true body.now more_body)) }
     ensures err { OnErr result (out.new.items ≡ out.old.items) }
+    ensures full { OnErr result (LacksRoom (vec_capacity out.old) (vec_len out.old) (front.now ++ contents.part_text true body.now more_body)) }
 {
     let last = last_chunk(more_body);
     if body.is_empty() {
@@ -283,6 +295,7 @@ fn append_chunk(
 fn append_two<'a>(out: &mut Vec<u8>, front: &'a [u8], text: &'a [u8]) -> Result<(), AllocError>
     ensures ok { OnOk result (out.new.items ≡ out.old.items ++ (front.now ++ text.now)) }
     ensures err { OnErr result (out.new.items ≡ out.old.items) }
+    ensures full { OnErr result (LacksRoom (vec_capacity out.old) (vec_len out.old) (front.now ++ text.now)) }
 {
     append_all(out, &[front, text])
 }
@@ -297,6 +310,7 @@ fn append_sized<'a>(
 ) -> Result<(), AllocError>
     ensures ok { OnOk result (out.new.items ≡ out.old.items ++ (front.now ++ (size.now ++ crlf_bytes ++ body.now ++ crlf_bytes ++ last.now))) }
     ensures err { OnErr result (out.new.items ≡ out.old.items) }
+    ensures full { OnErr result (LacksRoom (vec_capacity out.old) (vec_len out.old) (front.now ++ (size.now ++ crlf_bytes ++ body.now ++ crlf_bytes ++ last.now))) }
 {
     append_all(out, &[front, size, CRLF, body, CRLF, last])
 }
@@ -315,6 +329,7 @@ fn last_chunk(more_body: bool) -> &'static [u8]
 fn append_answer(input: Input, out: &mut Vec<u8>) -> Result<(), AllocError>
     ensures ok { OnOk result (out.new.items ≡ out.old.items ++ exchange.answer_to input) }
     ensures err { OnErr result (out.new.items ≡ out.old.items) }
+    ensures full { OnErr result (LacksRoom (vec_capacity out.old) (vec_len out.old) (exchange.answer_to input)) }
 {
     match input {
         Input::Whole => append_refusal(500, out),

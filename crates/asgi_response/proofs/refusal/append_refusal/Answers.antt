@@ -1,7 +1,9 @@
 use Rattle.std.proofs.Common.{List, ℕ, ap, sym, ◌++◌, ◌∙◌}
 use Rattle.std.specs.Fmt.{digits}
 use Rattle.asgi_response.specs.Exchange as spec
+use Rattle.std.specs.Vec.{vec_len, vec_capacity}
 use Rattle.asgi_response.proofs.PlaceLemmas.{ok_text, extended, refused}
+use Rattle.asgi_response.proofs.RoomLemmas.{err_text}
 use Rattle.asgi_response.proofs.refusal.append_refusal.Goals as goal
 
 pub returns-then-status-eq426-clause-ok : goal.returns-then-status-eq426-clause-ok
@@ -17,3 +19,15 @@ returns-clause-ok c =
     (ap (λ (x : List ℕ). c.args.out.now.items ++ x)
     (refused c.args.status c.as_bytes-code.result.now c.as_bytes-reason.result.now c.if-status-eq426.false
     (c.as_bytes-code.ensures.value ∙ c.format.ensures.text) (c.as_bytes-reason.ensures.value ∙ c.reason_phrase.ensures)))
+
+pub returns-then-status-eq426-clause-full : goal.returns-then-status-eq426-clause-full
+unfolding digits
+returns-then-status-eq426-clause-full c =
+    err_text c.extend_from_slice.result (vec_capacity c.args.out.now) (vec_len c.args.out.now) (spec.refusal_text 426) (spec.refusal_text c.args.status)
+    c.extend_from_slice.ensures.full (ap spec.refusal_text (sym c.if-status-eq426.true))
+
+pub returns-clause-full : goal.returns-clause-full
+returns-clause-full c =
+    err_text c.append_all.result (vec_capacity c.args.out.now) (vec_len c.args.out.now) _ (spec.refusal_text c.args.status) c.append_all.ensures.full
+    (refused c.args.status c.as_bytes-code.result.now c.as_bytes-reason.result.now c.if-status-eq426.false
+      (c.as_bytes-code.ensures.value ∙ c.format.ensures.text) (c.as_bytes-reason.ensures.value ∙ c.reason_phrase.ensures))
