@@ -8,3 +8,4 @@ pub mod AcceptedLemmas
 pub mod StandingLemmas
 pub mod LawLemmas
 pub mod RoomLemmas
+pub mod ReadBackLemmas

@@ -12,3 +12,4 @@ pub mod Writing
 pub mod Refusals
 pub mod Steps
 pub mod Room
+pub mod ReadBack

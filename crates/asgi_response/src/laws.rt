@@ -1,5 +1,6 @@
 //! Laws of the text of a response.
 ghost use Rattle.asgi_response.specs.Laws.{TextOnlyGrows, PassedIsAccepted};
+ghost use Rattle.asgi_response.specs.ReadBack.{HeadIsReadBack};
 
 /// The text of a list of events is the beginning of the text of each longer list.
 pub fn text_only_grows()
@@ -10,3 +11,9 @@ pub fn text_only_grows()
 pub fn passed_is_accepted()
     ensures { PassedIsAccepted }
 {}
+
+/// A recipient reads the status and just the fields that were sent: no value can add a line.
+pub fn head_is_read_back()
+    ensures { HeadIsReadBack }
+{
+}
