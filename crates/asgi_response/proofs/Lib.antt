@@ -9,3 +9,4 @@ pub mod StandingLemmas
 pub mod LawLemmas
 pub mod RoomLemmas
 pub mod ReadBackLemmas
+pub mod ReadBackBodyLemmas

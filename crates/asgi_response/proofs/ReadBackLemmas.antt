@@ -33,7 +33,7 @@ three_digits : (n : ℕ) → 200 ≤ n → n ≤ 599 → decimal n ≡ (48 + n /
 three_digits n low high =
     decimal_step n (omega (arith, low)) (omega (arith, high))
     ∙ ap (λ (d : List ℕ). d ++ (48 + n % 10) ∷ []) (decimal_step (n / 10) (omega (arith, low)) (omega (arith, high))
-      ∙ ap (λ (d : List ℕ). d ++ (48 + n / 10 % 10) ∷ []) (decimal_digit (n / 10 / 10) (omega (arith, high))))
+    ∙ ap (λ (d : List ℕ). d ++ (48 + n / 10 % 10) ∷ []) (decimal_digit (n / 10 / 10) (omega (arith, high))))
 
 digit_passes : (d : ℕ) → d < 10 → is_ascii_digit (48 + d) ≡ true
 digit_passes d h = grind (arith, nat_tests)
@@ -41,10 +41,12 @@ digit_passes d h = grind (arith, nat_tests)
 status_digits : (n : ℕ) → 200 ≤ n → n ≤ 599 → (length (decimal n) ≡ 3) × AllPass is_ascii_digit (decimal n)
 status_digits n low high =
     let P : List ℕ → Type 0 = λ d. (length d ≡ 3) × AllPass is_ascii_digit d in
-    subst P (sym (three_digits n low high))
-    (refl, pass-cons is_ascii_digit (48 + n / 10 / 10) ((48 + n / 10 % 10) ∷ (48 + n % 10) ∷ []) (digit_passes (n / 10 / 10) (omega (arith, high)))
-      (pass-cons is_ascii_digit (48 + n / 10 % 10) ((48 + n % 10) ∷ []) (digit_passes (n / 10 % 10) (omega arith))
-        (pass-cons is_ascii_digit (48 + n % 10) [] (digit_passes (n % 10) (omega arith)) (All-nil (λ b. IsTrue (is_ascii_digit b))))))
+    subst P (sym (three_digits n low high)) (
+      refl,
+      pass-cons is_ascii_digit (48 + n / 10 / 10) ((48 + n / 10 % 10) ∷ (48 + n % 10) ∷ []) (digit_passes (n / 10 / 10) (omega (arith, high)))
+          (pass-cons is_ascii_digit (48 + n / 10 % 10) ((48 + n % 10) ∷ []) (digit_passes (n / 10 % 10) (omega arith))
+          (pass-cons is_ascii_digit (48 + n % 10) [] (digit_passes (n % 10) (omega arith)) (All-nil (λ b. IsTrue (is_ascii_digit b))))),
+    )
 
 -- ---- the reason phrase
 
@@ -145,9 +147,9 @@ all_sendable chunked closing status headers h =
     let te : HeaderField = record { name = codes "transfer-encoding"; value = codes "chunked" } in
     let cl : HeaderField = record { name = codes "connection"; value = codes "close" } in
     All-append IsSendable (shown_fields ++ (if chunked then te ∷ [] else [])) (if closing then cl ∷ [] else [])
-      (All-append IsSendable shown_fields (if chunked then te ∷ [] else []) (All-filter (λ f. is_shown status f.name) IsSendable headers h)
-        (sendable_one chunked te (own_sendable (codes "transfer-encoding") (codes "chunked") (omega arith) refl refl)))
-      (sendable_one closing cl (own_sendable (codes "connection") (codes "close") (omega arith) refl refl))
+    (All-append IsSendable shown_fields (if chunked then te ∷ [] else []) (All-filter (λ f. is_shown status f.name) IsSendable headers h)
+    (sendable_one chunked te (own_sendable (codes "transfer-encoding") (codes "chunked") (omega arith) refl refl)))
+    (sendable_one closing cl (own_sendable (codes "connection") (codes "close") (omega arith) refl refl))
 
 head_sent : ℕ → List HeaderField → ResponseHead
 head_sent status fields = record {
@@ -178,12 +180,15 @@ head_is_read_back chunked closing status headers rest low high clean =
     let sent : List HeaderField = fields_sent chunked closing status headers in
     record {
       head = head_sent status sent;
-      reads = (record {
-        minor = omega arith;
-        digits = status_digits status low high;
-        reason = all_pass is_value_byte (reason_phrase status) (reason_passes status);
-        fields = All-map IsField field_sent sent (All-weaker IsSendable (λ f. IsField (field_sent f)) sendable sent (all_sendable chunked closing status headers clean));
-      }, head_printed chunked closing status headers rest);
+      reads = (
+        record {
+          minor = omega arith;
+          digits = status_digits status low high;
+          reason = all_pass is_value_byte (reason_phrase status) (reason_passes status);
+          fields = All-map IsField field_sent sent (All-weaker IsSendable (λ f. IsField (field_sent f)) sendable sent (all_sendable chunked closing status headers clean));
+        },
+        head_printed chunked closing status headers rest,
+      );
       code = (decimal_is_IsNumeral status (omega (arith, high))).1;
       named = sent-named sent;
     }

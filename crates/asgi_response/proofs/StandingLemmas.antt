@@ -278,5 +278,5 @@ pub lacks_behind : (t : ResponseText) (facts : Facts) (events : List Outgoing) (
 lacks_behind t facts events event capacity len (inl start) at = inl start
 lacks_behind t facts events event capacity len (inr room) at =
     let longer : length (response_text facts (events ++ event ∷ [])) ≡ length (response_text facts events) + length (added_by t event) =
-        ap (λ (x : List ℕ). length x) (text_behind t facts events event at) ∙ length-append (response_text facts events) (added_by t event) in
+    ap (λ (x : List ℕ). length x) (text_behind t facts events event at) ∙ length-append (response_text facts events) (added_by t event) in
     inr (omega (arith, room, longer))

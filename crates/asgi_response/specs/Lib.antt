@@ -13,3 +13,4 @@ pub mod Refusals
 pub mod Steps
 pub mod Room
 pub mod ReadBack
+pub mod ReadBackBody

@@ -15,7 +15,7 @@ mod text;
 mod write;
 
 pub use counts::{Counted, Counts};
-pub use laws::{head_is_read_back, passed_is_accepted, text_only_grows};
+pub use laws::{head_is_read_back, passed_is_accepted, response_is_read_back, text_only_grows};
 pub use refusal::{Input, refusal_text};
 pub use text::ResponseText;
 pub use write::{Wrote, write_out};

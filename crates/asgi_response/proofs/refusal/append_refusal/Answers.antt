@@ -30,4 +30,4 @@ pub returns-clause-full : goal.returns-clause-full
 returns-clause-full c =
     err_text c.append_all.result (vec_capacity c.args.out.now) (vec_len c.args.out.now) _ (spec.refusal_text c.args.status) c.append_all.ensures.full
     (refused c.args.status c.as_bytes-code.result.now c.as_bytes-reason.result.now c.if-status-eq426.false
-      (c.as_bytes-code.ensures.value ∙ c.format.ensures.text) (c.as_bytes-reason.ensures.value ∙ c.reason_phrase.ensures))
+    (c.as_bytes-code.ensures.value ∙ c.format.ensures.text) (c.as_bytes-reason.ensures.value ∙ c.reason_phrase.ensures))
