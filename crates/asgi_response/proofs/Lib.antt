@@ -10,3 +10,4 @@ pub mod LawLemmas
 pub mod RoomLemmas
 pub mod ReadBackLemmas
 pub mod ReadBackBodyLemmas
+pub mod StartLemmas

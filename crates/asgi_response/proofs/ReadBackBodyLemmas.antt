@@ -23,6 +23,7 @@ use Rattle.asgi_response.specs.ReadBack.{IsReadAs, fields_sent}
 use Rattle.asgi_response.specs.ReadBackBody.{IsChunked, Carries, IsSized, IsRead, ResponseIsReadBack}
 use Rattle.asgi_response.specs.Standing.{part}
 use Rattle.asgi_response.proofs.ReadBackLemmas.{head_is_read_back}
+use Rattle.asgi_response.proofs.StartLemmas.{final_status}
 
 -- ---- the bodies of a response
 
@@ -164,7 +165,8 @@ carried true parts last sized = record {
 carried false parts last sized = plain_text parts last
 
 pub response_is_read_back : ResponseIsReadBack
-response_is_read_back facts events r low high clean sized has =
+response_is_read_back facts events r clean sized has =
+    let range = final_status facts events r in
     let chunked : Bool = is_chunked facts.version r.status r.headers in
     let closing : Bool = closes facts.close r.headers in
     let body : List ℕ = flat_map (body_text facts r.status r.headers) (map part r.parts ++ ResponseBody r.last false ∷ []) in
@@ -172,7 +174,7 @@ response_is_read_back facts events r low high clean sized has =
       body = body;
       head = subst (λ (t : List ℕ). IsReadAs t r.status (fields_sent chunked closing r.status r.headers) body)
           (sym (ap (message_text facts) r.in_order ∙ message_whole facts r.status r.headers r.parts (ResponseBody r.last false)))
-          (head_is_read_back chunked closing r.status r.headers body low high clean);
+          (head_is_read_back chunked closing r.status r.headers body range.0 range.1 clean);
       carries = subst (λ (t : List ℕ). Carries chunked t (concat (r.parts ++ r.last ∷ [])))
           (sym (all_text facts r.status r.headers r.parts r.last has)) (carried chunked r.parts r.last sized);
     }

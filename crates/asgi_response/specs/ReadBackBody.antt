@@ -1,5 +1,5 @@
 -- What a recipient reads of a whole response, by the grammars of `httparse` and `http1` (RFC 9112, sections 4 to 7).
-use Rattle.std.specs.Prelude.{◌≡◌, ℕ, ◌≤◌, ◌<◌, ◌^◌, Bool, true, false, List, [], ◌∷◌, ◌++◌, length, All}
+use Rattle.std.specs.Prelude.{◌≡◌, ℕ, ◌<◌, ◌^◌, Bool, true, false, List, [], ◌∷◌, ◌++◌, length, All}
 use Rattle.std.specs.List.{concat}
 use Rattle.httparse.specs.Ascii.{crlf_bytes}
 use Rattle.http1.specs.ChunkedBody.{Chunks, AreChunks, print_chunks, content}
@@ -35,10 +35,10 @@ pub record IsRead (facts : Facts) (text : List ℕ) (status : ℕ) (headers : Li
   pub head : IsReadAs text status (fields_sent (is_chunked facts.version status headers) (closes facts.close headers) status headers) body
   pub carries : Carries (is_chunked facts.version status headers) body sent
 
--- The text of a complete response that has content, behind any `100 Continue`, is read back. The status is that of a
--- final response, each field can be sent, and each body is sized.
+-- The text of a complete response that has content, behind any `100 Continue`, is read back, where each field can be
+-- sent and each body is sized.
 abbrev pub ResponseIsReadBack : Type 0
 ResponseIsReadBack = (facts : Facts) (events : List Outgoing) (r : IsResponse (accepted facts events))
-    → 200 ≤ r.status → r.status ≤ 599 → All IsSendable r.headers → All IsSized (r.parts ++ r.last ∷ [])
+    → All IsSendable r.headers → All IsSized (r.parts ++ r.last ∷ [])
     → has_content facts.head_only r.status ≡ true
     → IsRead facts (message_text facts (accepted facts events)) r.status r.headers (concat (r.parts ++ r.last ∷ []))
