@@ -1,5 +1,5 @@
 -- What passes behind a start and the parts that follow it.
-use Rattle.std.proofs.Common.{◌≡◌, ℕ, ◌+◌, ◌≤◌, ◌<◌, Bool, true, false, List, [], ◌∷◌, ◌++◌, length, map, refl, sym, ap, ◌∙◌, subst, arith}
+use Rattle.std.proofs.Common.{◌≡◌, ℕ, ◌+◌, ◌≤◌, Bool, true, false, List, [], ◌∷◌, ◌++◌, length, map, refl, sym, ap, ◌∙◌, subst, arith}
 use Rattle.std.proofs.lemmas.Bool.Decides.{nat_tests}
 use Rattle.std.proofs.lemmas.List.Sums.{fold-append}
 use Rattle.std.specs.Prelude.{not, ◌&&◌, ◌||◌, ◌==◌, nat_le, nat_lt, if◌then◌else◌, Option, Some, None}
@@ -9,12 +9,12 @@ use Rattle.asgi_types.specs.declared.scope.Kind.TheVariants.{Http}
 use Rattle.asgi_types.specs.declared.outgoing.Outgoing.{Outgoing}
 use Rattle.asgi_types.specs.declared.outgoing.Outgoing.TheVariants.{ResponseStart, ResponseBody}
 use Rattle.asgi_protocol.specs.declared.verdict.Verdict.{Verdict}
-use Rattle.asgi_protocol.specs.declared.verdict.Verdict.TheVariants.{Pass, Ignored, Refused}
+use Rattle.asgi_protocol.specs.declared.verdict.Verdict.TheVariants.{Ignored, Refused}
 use Rattle.asgi_protocol.specs.ContentLengths.{content_length}
 use Rattle.asgi_protocol.specs.Lawful.{IsResponse}
 use Rattle.asgi_protocol.specs.Rules.{is_status, is_faulty, is_above, is_below, promised_length, body_bytes}
 use Rattle.asgi_protocol.specs.Shapes.{is_part, is_last_part, is_row, begins_row, is_word, begins_word}
-use Rattle.asgi_protocol.specs.Verdicts.{Lines, lines_on, first_line, verdict_on}
+use Rattle.asgi_protocol.specs.Verdicts.{Lines, lines_on, first_line}
 use Rattle.asgi_response.specs.Accepted.{is_pass, passes, with_event, accepted}
 use Rattle.asgi_response.specs.Standing.{part, with_sent}
 use Rattle.asgi_response.specs.Steps.{is_allowed, left_behind}

@@ -1,5 +1,5 @@
 -- A count of failures over several calls.
-use Rattle.std.proofs.Common.{◌≡◌, ℕ, zero, suc, ◌+◌, ◌-◌, ◌^◌, ◌<◌, ◌≤◌, ◌⊎◌, inl, inr, List, length, refl, sym, subst, add-zero, arith, Result, Ok, Err}
+use Rattle.std.proofs.Common.{◌≡◌, ℕ, zero, suc, ◌<◌, inl, inr, List, length, refl, sym, subst, arith, Result, Ok, Err}
 use Rattle.asgi_response.specs.Counting.{IsFailure, RoseBy, CountsFailures}
 
 pub never_fell : (a : ℕ) → RoseBy 0 a a

@@ -3,7 +3,7 @@ use Rattle.std.proofs.Common.{◌≡◌, ℕ, Bool, true, false, List, [], ◌�
 use Rattle.std.proofs.lemmas.List.{append-nil, map-append}
 use Rattle.std.specs.Prelude.{if◌then◌else◌, codes, bytes_eq, Option, Some, None}
 use Rattle.asgi_types.specs.Fields.{HeaderField, shown}
-use Rattle.asgi_protocol.specs.ContentLengths.{ContentLength, Absent, Given, Faulty, values_of, length_of_value, length_of_values, content_length}
+use Rattle.asgi_protocol.specs.ContentLengths.{ContentLength, Faulty, values_of, length_of_value, length_of_values, content_length}
 use Rattle.asgi_types.specs.Lengths.{length_of_text}
 use Rattle.asgi_response.specs.Steps.{with_value}
 

@@ -1,5 +1,5 @@
 -- Texts that are written one part after another.
-use Rattle.std.proofs.Common.{◌≡◌, ℕ, Bool, List, [], ◌∷◌, ◌++◌, refl, sym, ap, ◌∙◌, append_assoc}
+use Rattle.std.proofs.Common.{◌≡◌, ℕ, Bool, List, [], ◌++◌, ap, ◌∙◌, append_assoc}
 use Rattle.std.specs.Prelude.{if◌then◌else◌, codes}
 use Rattle.httparse.specs.Ascii.{crlf_bytes}
 use Rattle.asgi_types.specs.Fields.{HeaderField}

@@ -10,7 +10,7 @@ use Rattle.asgi_types.specs.declared.outgoing.Outgoing.{Outgoing}
 use Rattle.asgi_types.specs.declared.outgoing.Outgoing.TheVariants.{ResponseStart, ResponseBody, WsAccept, WsSend, WsClose, DenialStart, DenialBody, StartupComplete, StartupFailed, ShutdownComplete, ShutdownFailed}
 use Rattle.asgi_response.specs.Accepted.{passes, with_event, accepted}
 use Rattle.asgi_response.specs.Fields.{is_chunked, closes, head_text}
-use Rattle.asgi_response.specs.Response.{body_text, message_text, continue_text, response_text}
+use Rattle.asgi_response.specs.Response.{body_text, message_text, continue_text}
 use Rattle.asgi_response.specs.Laws.{BeginsWith, TextOnlyGrows}
 
 same_front : (xs : List ℕ) → BeginsWith xs xs

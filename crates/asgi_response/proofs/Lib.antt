@@ -3,7 +3,7 @@ pub mod CountLemmas
 pub mod DigitLemmas
 pub mod FieldLemmas
 pub mod HeadLemmas
-pub mod PlaceLemmas
+pub mod RefusalLemmas
 pub mod AcceptedLemmas
 pub mod StandingLemmas
 pub mod LawLemmas

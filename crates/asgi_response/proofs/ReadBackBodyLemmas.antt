@@ -1,26 +1,23 @@
 -- The content of a response is read back by the grammar of chunks.
-use Rattle.std.proofs.Common.{◌≡◌, ℕ, zero, suc, ◌+◌, ◌^◌, ◌≤◌, ◌<◌, Bool, true, false, List, [], ◌∷◌, ◌++◌, length, map, flat_map, refl, sym, ap, ◌∙◌, subst, append_assoc, add-zero, arith, All, IsTrue, None}
+use Rattle.std.proofs.Common.{◌≡◌, ℕ, suc, ◌+◌, ◌^◌, ◌<◌, Bool, true, false, List, [], ◌∷◌, ◌++◌, length, map, flat_map, refl, sym, ap, ◌∙◌, subst, append_assoc, add-zero, arith, All, None}
 use Rattle.std.proofs.lemmas.List.{append-nil}
-use Rattle.std.proofs.lemmas.List.Concat.{flat_map-append}
 use Rattle.std.proofs.lemmas.List.Elements.{All-head, All-tail}
 use Rattle.std.proofs.lemmas.Bool.Decides.{nat_tests}
 use Rattle.std.proofs.lemmas.Fmt.{digits_is_IsNumeral}
-use Rattle.std.specs.Prelude.{if◌then◌else◌, ◌==◌, codes, sum_by}
+use Rattle.std.specs.Prelude.{if◌then◌else◌, ◌==◌, codes}
 use Rattle.std.specs.List.{concat, fold, AllByRecursion}
 use Rattle.std.specs.Fmt.{digits}
 use Rattle.httparse.specs.Ascii.{crlf_bytes}
-use Rattle.http1.specs.ChunkedBody.{SizeLine, Chunk, Chunks, IsSizeLine, IsChunk, AreChunks, print_chunk, print_chunks, content, extension_len}
+use Rattle.http1.specs.ChunkedBody.{SizeLine, Chunk, IsSizeLine, IsChunk, print_chunk, extension_len}
 use Rattle.asgi_types.specs.Fields.{HeaderField}
 use Rattle.asgi_types.specs.declared.facts.Facts.{Facts}
 use Rattle.asgi_types.specs.declared.outgoing.Outgoing.{Outgoing}
 use Rattle.asgi_types.specs.declared.outgoing.Outgoing.TheVariants.{ResponseStart, ResponseBody}
-use Rattle.asgi_protocol.specs.Lawful.{IsResponse}
-use Rattle.asgi_response.specs.Accepted.{accepted}
 use Rattle.asgi_response.specs.Content.{chunk, last_chunk, part_text, has_content}
 use Rattle.asgi_response.specs.Fields.{is_chunked, closes, head_text}
 use Rattle.asgi_response.specs.Response.{body_text, message_text}
 use Rattle.asgi_response.specs.ReadBack.{IsReadAs, fields_sent}
-use Rattle.asgi_response.specs.ReadBackBody.{IsChunked, Carries, IsSized, IsRead, ResponseIsReadBack}
+use Rattle.asgi_response.specs.ReadBackBody.{Carries, IsSized, ResponseIsReadBack}
 use Rattle.asgi_response.specs.Standing.{part}
 use Rattle.asgi_response.proofs.ReadBackLemmas.{head_is_read_back}
 use Rattle.asgi_response.proofs.StartLemmas.{final_status}

@@ -1,6 +1,6 @@
 -- The head of a response is read back by the grammar of heads.
-use Rattle.std.proofs.Common.{◌≡◌, ℕ, ◌+◌, ◌*◌, ◌/◌, ◌%◌, ◌^◌, ◌≤◌, ◌<◌, Bool, true, false, List, [], ◌∷◌, ◌++◌, length, map, flat_map, refl, sym, ap, ◌∙◌, subst, append_assoc, arith, All, IsTrue, Some}
-use Rattle.std.proofs.lemmas.List.{append-nil, map-append}
+use Rattle.std.proofs.Common.{◌≡◌, ℕ, ◌+◌, ◌/◌, ◌%◌, ◌≤◌, ◌<◌, Bool, true, false, List, [], ◌∷◌, ◌++◌, length, map, flat_map, refl, sym, ap, ◌∙◌, subst, append_assoc, arith, All, IsTrue, Some}
+use Rattle.std.proofs.lemmas.List.{append-nil}
 use Rattle.std.proofs.lemmas.List.Concat.{flat_map-append}
 use Rattle.std.proofs.lemmas.List.Elements.{All-nil, All-cons, All-append, All-map, All-filter, All-weaker}
 use Rattle.std.proofs.lemmas.Fmt.{decimal_is_IsNumeral, decimal_step, decimal_digit}
@@ -10,14 +10,13 @@ use Rattle.std.specs.Prelude.{if◌then◌else◌, ◌==◌, codes}
 use Rattle.std.specs.List.{filter, list_all}
 use Rattle.std.specs.Fmt.{decimal}
 use Rattle.std.specs.Char.{is_ascii_digit}
-use Rattle.std.specs.Str.Parse.{digits_value}
 use Rattle.httparse.specs.Ascii.{space, crlf_bytes}
-use Rattle.httparse.specs.Grammar.{AllPass, Field, IsField, IsToken, ResponseHead, IsResponseHead, crlf, print_field, print_response, is_token_byte, is_value_byte, trim_ows}
+use Rattle.httparse.specs.Grammar.{AllPass, Field, IsField, ResponseHead, crlf, print_field, print_response, is_token_byte, is_value_byte, trim_ows}
 use Rattle.httparse.specs.Spans.{name_and_value}
 use Rattle.asgi_types.specs.Fields.{HeaderField}
 use Rattle.asgi_response.specs.StatusLine.{reason_phrase, status_line}
 use Rattle.asgi_response.specs.Fields.{is_shown, field_line, field_lines, head_text}
-use Rattle.asgi_response.specs.ReadBack.{IsSendable, fields_sent, as_read, IsReadAs, HeadIsReadBack}
+use Rattle.asgi_response.specs.ReadBack.{IsSendable, fields_sent, as_read, HeadIsReadBack}
 
 -- ---- bytes that pass a test
 

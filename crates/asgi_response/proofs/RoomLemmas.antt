@@ -1,6 +1,5 @@
 -- A text that is one of several fits with those before it where all of them fit.
-use Rattle.std.proofs.Common.{◌≡◌, ℕ, zero, suc, ◌+◌, ◌≤◌, ◌<◌, Bool, List, [], ◌∷◌, ◌++◌, length, take, get_or, flat_map, sym, ap, subst, ◌∙◌, Bor, arith, length-append, append_assoc, Result, Ok, Err, OnErr}
-use Rattle.std.specs.Prelude.{if◌then◌else◌}
+use Rattle.std.proofs.Common.{◌≡◌, ℕ, zero, suc, ◌+◌, ◌≤◌, ◌<◌, List, [], ◌∷◌, length, take, get_or, flat_map, subst, Bor, arith, length-append, Result, Ok, Err, OnErr}
 use Rattle.asgi_response.specs.Room.{LacksRoom}
 
 size-cons : (t : Bor (List ℕ)) (texts : List (Bor (List ℕ))) → length (flat_map (λ (x : Bor (List ℕ)). x.now) (t ∷ texts)) ≡ length t.now + length (flat_map (λ (x : Bor (List ℕ)). x.now) texts)

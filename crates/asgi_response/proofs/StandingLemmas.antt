@@ -1,5 +1,5 @@
 -- What a text stands for behind one more event, and what the event adds.
-use Rattle.std.proofs.Common.{◌≡◌, ℕ, ◌+◌, Bool, true, false, List, [], ◌∷◌, ◌++◌, length, map, flat_map, refl, sym, ap, ◌∙◌, subst, append_assoc, zero-add, length-append, ◌<◌, ◌⊎◌, inl, inr, IsTrue, arith}
+use Rattle.std.proofs.Common.{◌≡◌, ℕ, ◌+◌, Bool, true, false, List, [], ◌∷◌, ◌++◌, length, map, flat_map, refl, sym, ap, ◌∙◌, subst, append_assoc, zero-add, length-append, ◌⊎◌, inl, inr, IsTrue, arith}
 use Rattle.std.proofs.lemmas.List.{append-nil, map-append}
 use Rattle.std.proofs.lemmas.List.Concat.{flat_map-append}
 use Rattle.std.specs.Prelude.{not, ◌&&◌, if◌then◌else◌, Option, Some, None}
@@ -16,12 +16,11 @@ use Rattle.asgi_response.specs.declared.text.Stage.{Stage}
 use Rattle.asgi_response.specs.declared.text.Stage.TheVariants.{Waiting, Started, Begun, Complete}
 use Rattle.asgi_response.specs.Accepted.{passes, with_event, accepted}
 use Rattle.asgi_response.specs.Content.{part_text, has_content}
-use Rattle.asgi_response.specs.Exchange.{has_begun}
 use Rattle.asgi_response.specs.Fields.{is_chunked, closes, head_text}
 use Rattle.asgi_response.specs.Response.{body_text, message_text, continue_text, response_text}
 use Rattle.asgi_response.specs.Room.{LacksRoom, LacksMemory, is_start}
 use Rattle.asgi_response.specs.Standing.{part, with_sent, IsOpen, HasStart, HasParts, IsStage, HasAccepted, StandsFor, Grows}
-use Rattle.asgi_response.specs.Steps.{coding_of, coded_text, is_allowed, left_behind, left_at_start, is_begun, content_due, next_stage, may_start, content_at_start, after_start, after_part, part_added, after_event, added_by}
+use Rattle.asgi_response.specs.Steps.{coding_of, coded_text, is_allowed, left_at_start, content_due, next_stage, may_start, content_at_start, after_part, part_added, after_event, added_by}
 use Rattle.asgi_response.proofs.AcceptedLemmas.{passes_body, second_start, after_closed, first_start, first_body, other_scope, accepted-push, promised_behind}
 
 -- ---- an event that passes or not

@@ -2,7 +2,7 @@ use Rattle.std.proofs.Common.{List, ℕ, ap, sym, ◌++◌, ◌∙◌}
 use Rattle.std.specs.Fmt.{digits}
 use Rattle.asgi_response.specs.Exchange as spec
 use Rattle.std.specs.Vec.{vec_len, vec_capacity}
-use Rattle.asgi_response.proofs.PlaceLemmas.{ok_text, extended, refused}
+use Rattle.asgi_response.proofs.RefusalLemmas.{ok_text, extended, refused}
 use Rattle.asgi_response.proofs.RoomLemmas.{err_text}
 use Rattle.asgi_response.proofs.refusal.append_refusal.Goals as goal
 

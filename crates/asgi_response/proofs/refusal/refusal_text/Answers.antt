@@ -1,7 +1,7 @@
 use Rattle.std.proofs.Common.{sym, ap}
 use Rattle.std.specs.Fmt.{digits}
 use Rattle.asgi_response.specs.Exchange as spec
-use Rattle.asgi_response.proofs.PlaceLemmas.{only_500}
+use Rattle.asgi_response.proofs.RefusalLemmas.{only_500}
 use Rattle.asgi_response.proofs.refusal.refusal_text.Goals as goal
 
 pub returns-then-status-eq400 : goal.returns-then-status-eq400

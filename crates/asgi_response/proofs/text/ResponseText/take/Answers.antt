@@ -1,5 +1,5 @@
 use Rattle.std.specs.Vec.{vec_len, vec_capacity}
-use Rattle.asgi_response.proofs.PlaceLemmas.{then_ok, then_err}
+use Rattle.asgi_response.proofs.RefusalLemmas.{then_ok, then_err}
 use Rattle.asgi_response.proofs.StandingLemmas.{stands_behind, grows_behind, lacks_behind}
 use Rattle.asgi_response.proofs.text.ResponseText.take.Goals as goal
 
