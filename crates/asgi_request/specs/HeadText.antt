@@ -1,0 +1,37 @@
+-- Which bytes are the head of a request (RFC 9112, sections 2.1 and 2.2).
+use Rattle.std.specs.Prelude.{◌≡◌, ℕ, ◌<◌, ◌≤◌, Bool, false, ◌||◌, List, [], ◌∷◌, ◌++◌, length, take, ◌==◌, IsTrue, All}
+use Rattle.httparse.specs.Ascii.{line_feed, carriage_return}
+use Rattle.httparse.specs.Grammar.{LineEnd, print_end}
+
+-- CR or LF
+abbrev pub is_line_break : ℕ → Bool
+is_line_break b = b == carriage_return || b == line_feed
+
+-- The text ends as a head does: behind empty lines and the first byte of a line, somewhere a line feed and then an
+-- empty line, which is CR LF or, as section 2.2 lets a server take it, LF alone.
+pub record EndsAsHead (text : List ℕ) : Type 0 where
+  pub blank : List ℕ
+  pub first : ℕ
+  pub lines : List ℕ
+  pub last : LineEnd
+  pub only_breaks : All (λ b. IsTrue (is_line_break b)) blank
+  pub no_break : is_line_break first ≡ false
+  pub text_is : text ≡ blank ++ first ∷ lines ++ line_feed ∷ print_end last
+
+-- The bytes begin with this head text, and rest follows: no shorter text in front of them ends as a head does.
+pub record IsHeadText (bytes text rest : List ℕ) : Type 0 where
+  pub splits : bytes ≡ text ++ rest
+  pub ends : EndsAsHead text
+  pub shortest : (shorter more : List ℕ) → text ≡ shorter ++ more → EndsAsHead shorter → more ≡ []
+
+-- No head text is in front of the bytes.
+abbrev pub HasNoHeadText : List ℕ → Type 0
+HasNoHeadText bytes = (text rest : List ℕ) → bytes ≡ text ++ rest → ¬ (EndsAsHead text)
+
+-- So many bytes are there, and none of the first max_head ends a head (RFC 6585, section 5).
+abbrev pub IsTooLong : ℕ → List ℕ → Type 0
+IsTooLong max_head bytes = (max_head ≤ length bytes) × HasNoHeadText (take max_head bytes)
+
+-- The bytes may still become a head.
+abbrev pub IsUnfinished : ℕ → List ℕ → Type 0
+IsUnfinished max_head bytes = (length bytes < max_head) × HasNoHeadText bytes

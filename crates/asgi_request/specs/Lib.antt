@@ -1,0 +1,9 @@
+pub mod HeadText
+pub mod Head
+pub mod FieldValues
+pub mod Target
+pub mod Refusals
+pub mod BodyLength
+pub mod Framings
+pub mod Scopes
+pub mod Steps
