@@ -1,3 +1,10 @@
 pub mod RecordLemmas
 pub mod FieldLemmas
 pub mod MethodLemmas
+pub mod HeadLemmas
+pub mod Growth
+pub mod FrontLemmas
+pub mod UniqueLemmas
+pub mod SearchLemmas
+pub mod PartLemmas
+pub mod ReaderLemmas

@@ -7,3 +7,7 @@ pub mod BodyLength
 pub mod Framings
 pub mod Scopes
 pub mod Steps
+pub mod Fronts
+pub mod Parts
+pub mod Places
+pub mod Reading

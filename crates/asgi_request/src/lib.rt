@@ -5,9 +5,17 @@
 mod fields;
 mod framing;
 mod head;
+mod judge;
+mod next;
+mod parts;
+mod place;
+mod reader;
 mod refusal;
 mod scope;
+mod search;
 mod target;
 
 pub use framing::{HeadFraming, framing_of};
 pub use head::HeadRecord;
+pub use next::Next;
+pub use reader::RequestReader;

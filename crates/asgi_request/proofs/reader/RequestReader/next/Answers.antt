@@ -1,0 +1,17 @@
+use Rattle.std.proofs.Common.{◌≡◌, refl, sym, ◌∙◌, subst, ap, Option, Some, None}
+use Rattle.asgi_request.specs.declared.next.Next.{Next}
+use Rattle.asgi_request.specs.Reading.{Answers, RefusesAgain}
+use Rattle.asgi_request.proofs.ReaderLemmas.{none_need, none_again, some_again}
+use Rattle.asgi_request.proofs.reader.RequestReader.next.Goals as goal
+
+pub returns-in-None-clause-need : goal.returns-in-None-clause-need
+returns-in-None-clause-need c e =
+    none_need c.args.self.now c.next_item.new.self c.in_ok-next_item.field-0 c.in-None.is c.in_ok-next_item.ensures.answers c.in_ok-next_item.ensures.again
+
+pub returns-in-None-clause-again : goal.returns-in-None-clause-again
+returns-in-None-clause-again c status refused =
+    absurd (none_again c.args.self.now c.next_item.new.self c.in_ok-next_item.field-0 c.in-None.is c.in_ok-next_item.ensures.again status refused)
+
+pub returns-in-Some-clause-again : goal.returns-in-Some-clause-again
+returns-in-Some-clause-again c status refused =
+    some_again c.args.self.now c.next_item.new.self c.in_ok-next_item.field-0 _ c.in-Some.is c.in_ok-next_item.ensures.again status refused
