@@ -8,3 +8,7 @@ pub mod UniqueLemmas
 pub mod SearchLemmas
 pub mod PartLemmas
 pub mod ReaderLemmas
+pub mod HeadTextLemmas
+pub mod TextLemmas
+pub mod LineLemmas
+pub mod BlockLemmas

@@ -1,7 +1,8 @@
 -- Which bytes are the head of a request (RFC 9112, sections 2.1 and 2.2).
-use Rattle.std.specs.Prelude.{◌≡◌, ℕ, ◌<◌, ◌≤◌, Bool, false, ◌||◌, List, [], ◌∷◌, ◌++◌, length, take, ◌==◌, IsTrue, All}
+use Rattle.std.specs.Prelude.{◌≡◌, ℕ, Bool, false, ◌||◌, List, ◌∷◌, ◌++◌, ◌==◌, IsTrue, All}
 use Rattle.httparse.specs.Ascii.{line_feed, carriage_return}
 use Rattle.httparse.specs.Grammar.{LineEnd, print_end}
+use Rattle.asgi_request.specs.Texts.{IsFirst}
 
 -- CR or LF
 abbrev pub is_line_break : ℕ → Bool
@@ -18,20 +19,6 @@ pub record EndsAsHead (text : List ℕ) : Type 0 where
   pub no_break : is_line_break first ≡ false
   pub text_is : text ≡ blank ++ first ∷ lines ++ line_feed ∷ print_end last
 
--- The bytes begin with this head text, and rest follows: no shorter text in front of them ends as a head does.
-pub record IsHeadText (bytes text rest : List ℕ) : Type 0 where
-  pub splits : bytes ≡ text ++ rest
-  pub ends : EndsAsHead text
-  pub shortest : (shorter more : List ℕ) → text ≡ shorter ++ more → EndsAsHead shorter → more ≡ []
-
--- No head text is in front of the bytes.
-abbrev pub HasNoHeadText : List ℕ → Type 0
-HasNoHeadText bytes = (text rest : List ℕ) → bytes ≡ text ++ rest → ¬ (EndsAsHead text)
-
--- So many bytes are there, and none of the first max_head ends a head (RFC 6585, section 5).
-abbrev pub IsTooLong : ℕ → List ℕ → Type 0
-IsTooLong max_head bytes = (max_head ≤ length bytes) × HasNoHeadText (take max_head bytes)
-
--- The bytes may still become a head.
-abbrev pub IsUnfinished : ℕ → List ℕ → Type 0
-IsUnfinished max_head bytes = (length bytes < max_head) × HasNoHeadText bytes
+-- The bytes begin with this head text, and rest follows.
+abbrev pub IsHeadText : List ℕ → List ℕ → List ℕ → Type 0
+IsHeadText bytes text rest = IsFirst EndsAsHead bytes text rest
