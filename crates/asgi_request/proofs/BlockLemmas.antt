@@ -31,13 +31,13 @@ no_le n l h = grind (arith, nat_tests)
 
 -- ---- lists
 
-take-take-le : (a b : ℕ) (l : List ℕ) → a ≤ b → take a (take b l) ≡ take a l
+pub take-take-le : (a b : ℕ) (l : List ℕ) → a ≤ b → take a (take b l) ≡ take a l
 take-take-le zero b l h = refl
 take-take-le (suc a) zero l h = absurd (omega (arith, h))
 take-take-le (suc a) (suc b) [] h = refl
 take-take-le (suc a) (suc b) (x ∷ l) h = ap (λ (r : List ℕ). x ∷ r) (take-take-le a b l (omega (arith, h)))
 
-drop-take : (a b : ℕ) (l : List ℕ) → drop a (take b l) ≡ take (b - a) (drop a l)
+pub drop-take : (a b : ℕ) (l : List ℕ) → drop a (take b l) ≡ take (b - a) (drop a l)
 drop-take zero b l = ap (λ k. take k l) (omega arith)
 drop-take (suc a) zero l = refl_nil (suc a) l
   where

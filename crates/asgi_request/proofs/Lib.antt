@@ -12,3 +12,8 @@ pub mod HeadTextLemmas
 pub mod TextLemmas
 pub mod LineLemmas
 pub mod BlockLemmas
+pub mod ForwardLemmas
+pub mod StandardLemmas
+pub mod SizeLemmas
+pub mod SectionLemmas
+pub mod BackwardLemmas

@@ -1,6 +1,6 @@
 -- Chunked bodies (RFC 9112, section 7.1): whole, begun or faulty.
 use Rattle.std.specs.Prelude.{◌≡◌, ℕ, ◌+◌, ◌<◌, ◌≤◌, ◌⊎◌, List, [], ◌∷◌, ◌++◌, length, take, drop, map, All}
-use Rattle.std.specs.List.{flat_map, sum_by}
+use Rattle.std.specs.List.{flat_map}
 use Rattle.httparse.specs.Ascii.{line_feed, crlf_bytes}
 use Rattle.httparse.specs.Grammar.{ChunkLine, IsChunkLine, ReadsChunkLine, chunk_size, print_chunk_line, Field, LineEnd, print_end, print_section, ReadsSection}
 use Rattle.asgi_types.specs.declared.limits.Limits.{Limits}
@@ -49,7 +49,8 @@ pub record IsChunk (c : Chunk) : Type 0 where
 
 -- how much data the chunks have
 abbrev pub total : List Chunk → ℕ
-total chunks = sum_by (λ c. chunk_size c.line) chunks
+total [] = 0
+total (c ∷ chunks) = chunk_size c.line + total chunks
 
 -- ---- the last chunk and the trailer section (section 7.1.2)
 
@@ -62,15 +63,15 @@ pub record LastChunk : Type 0 where
 abbrev pub print_last : LastChunk → List ℕ
 print_last l = print_chunk_line l.line ++ print_section l.fields l.end
 
--- a text is these fields, an empty line and nothing else
-pub record IsTrailerSection (limits : Limits) (text : List ℕ) (fields : List Field) (end : LineEnd) : Type 0 where
+-- the text is these field lines, an empty line and nothing else, with at most max_headers field lines
+pub record IsTrailerSection (max_headers : ℕ) (text : List ℕ) (fields : List Field) (end : LineEnd) : Type 0 where
   pub reads : ReadsSection text fields end []
-  pub few : length fields ≤ limits.max_headers
+  pub few : length fields ≤ max_headers
 
 pub record IsLastChunk (limits : Limits) (l : LastChunk) : Type 0 where
   pub line : IsSizeLine l.line
   pub zero_size : chunk_size l.line ≡ 0
-  pub section : IsTrailerSection limits (print_section l.fields l.end) l.fields l.end
+  pub section : IsTrailerSection limits.max_headers (print_section l.fields l.end) l.fields l.end
   pub short : length (print_section l.fields l.end) ≤ limits.max_head
 
 -- ---- texts that are judged once they are whole
@@ -119,7 +120,7 @@ abbrev pub IsBadSection : Limits → List ℕ → Type 0
 IsBadSection limits bytes =
     IsTooLong EndsAsSection limits.max_head bytes
     ⊎ ((text : List ℕ) × (rest : List ℕ) × IsFirstWithin EndsAsSection limits.max_head bytes text rest
-    × ((fields : List Field) (end : LineEnd) → ¬ (IsTrailerSection limits text fields end)))
+    × ((fields : List Field) (end : LineEnd) → ¬ (IsTrailerSection limits.max_headers text fields end)))
 
 -- the bytes are a size line of some data, which stays in the limit, and then those behind
 pub record BeginsChunk (limits : Limits) (sum : ℕ) (bytes : List ℕ) (line : ChunkLine) (behind : List ℕ) : Type 0 where
