@@ -41,14 +41,14 @@ use Rattle.asgi_request.proofs.ForwardLemmas.{lt_yes, lt_no, yes_lt, no_lt, yes_
 
 -- ---- turns
 
-takes_found : (limits : Limits) (place : Place) (bytes text rest : List ℕ) (turn : Turn) → front limits place bytes ≡ found text
+pub takes_found : (limits : Limits) (place : Place) (bytes text rest : List ℕ) (turn : Turn) → front limits place bytes ≡ found text
     → bytes ≡ text ++ rest → JudgesText limits place text turn → Takes limits place bytes turn rest
 takes_found limits place bytes text rest turn e s judged = record {
   splits = s ∙ ap (λ (f : Front). front_text f ++ rest) (sym e);
   judged = subst (λ (f : Front). Judges limits place f turn) (sym e) judged;
 }
 
-takes_long : (limits : Limits) (place : Place) (bytes : List ℕ) → front limits place bytes ≡ too_long → Takes limits place bytes (after_too_long place) bytes
+pub takes_long : (limits : Limits) (place : Place) (bytes : List ℕ) → front limits place bytes ≡ too_long → Takes limits place bytes (after_too_long place) bytes
 takes_long limits place bytes e = record {
   splits = ap (λ (f : Front). front_text f ++ bytes) (sym e);
   judged = subst (λ (f : Front). Judges limits place f (after_too_long place)) (sym e) refl;
@@ -61,13 +61,13 @@ first_open : (n : ℕ) (bytes : List ℕ) → length bytes < n → first n bytes
 first_open n bytes h = ap (λ (b : Bool). if b then found (take n bytes) else unfinished) (le_no n (length bytes) h)
 
 -- from one place to another the bytes give these results
-record Goes (limits : Limits) (place : Place) (bytes : List ℕ) (results : List Next) (end : Place) (rest : List ℕ) : Type 0 where
+pub record Goes (limits : Limits) (place : Place) (bytes : List ℕ) (results : List Next) (end : Place) (rest : List ℕ) : Type 0 where
   pub steps : List (Option Next)
   pub reads : Reads limits place bytes steps end rest
   pub shows : shown steps ≡ results
 
 -- the bytes give these results, and no more
-record Ends (limits : Limits) (place : Place) (bytes : List ℕ) (results : List Next) : Type 0 where
+pub record Ends (limits : Limits) (place : Place) (bytes : List ℕ) (results : List Next) : Type 0 where
   pub end : Place
   pub rest : List ℕ
   pub goes : Goes limits place bytes results end rest
@@ -81,10 +81,10 @@ Reads-then limits place bytes [] mid middle b end rest r q =
     subst R (sym r.1) (subst P (sym r.0) q)
 Reads-then limits place bytes (x ∷ a) mid middle b end rest r q = (r.0, r.1, r.2, Reads-then limits r.0 r.1 a mid middle b end rest r.3 q)
 
-here : (limits : Limits) (place : Place) (bytes : List ℕ) → Goes limits place bytes [] place bytes
+pub here : (limits : Limits) (place : Place) (bytes : List ℕ) → Goes limits place bytes [] place bytes
 here limits place bytes = record { steps = []; reads = (refl, refl); shows = refl }
 
-goes_on : (limits : Limits) (place : Place) (bytes : List ℕ) (a : List Next) (mid : Place) (middle : List ℕ) (b : List Next) (end : Place) (rest : List ℕ)
+pub goes_on : (limits : Limits) (place : Place) (bytes : List ℕ) (a : List Next) (mid : Place) (middle : List ℕ) (b : List Next) (end : Place) (rest : List ℕ)
     → Goes limits place bytes a mid middle → Goes limits mid middle b end rest → Goes limits place bytes (a ++ b) end rest
 goes_on limits place bytes a mid middle b end rest x y = record {
   steps = x.steps ++ y.steps;
@@ -92,28 +92,28 @@ goes_on limits place bytes a mid middle b end rest x y = record {
   shows = shown-append x.steps y.steps ∙ ap (λ (l : List Next). l ++ shown y.steps) x.shows ∙ ap (λ (l : List Next). a ++ l) y.shows;
 }
 
-then_ends : (limits : Limits) (place : Place) (bytes : List ℕ) (a : List Next) (mid : Place) (middle : List ℕ) (b : List Next)
+pub then_ends : (limits : Limits) (place : Place) (bytes : List ℕ) (a : List Next) (mid : Place) (middle : List ℕ) (b : List Next)
     → Goes limits place bytes a mid middle → Ends limits mid middle b → Ends limits place bytes (a ++ b)
 then_ends limits place bytes a mid middle b x y =
     record { end = y.end; rest = y.rest; goes = goes_on limits place bytes a mid middle b y.end y.rest x y.goes; waits = y.waits }
 
-one : (limits : Limits) (place : Place) (bytes : List ℕ) (item : Option Next) (mid : Place) (rest : List ℕ)
+pub one : (limits : Limits) (place : Place) (bytes : List ℕ) (item : Option Next) (mid : Place) (rest : List ℕ)
     → Takes limits place bytes (record { item = item; place = mid }) rest → Goes limits place bytes (shown (item ∷ [])) mid rest
 one limits place bytes item mid rest t = record { steps = item ∷ []; reads = (mid, rest, t, (refl, refl)); shows = refl }
 
-waiting : (limits : Limits) (place : Place) (bytes : List ℕ) → front limits place bytes ≡ unfinished → Ends limits place bytes []
+pub waiting : (limits : Limits) (place : Place) (bytes : List ℕ) → front limits place bytes ≡ unfinished → Ends limits place bytes []
 waiting limits place bytes e = record { end = place; rest = bytes; goes = here limits place bytes; waits = e }
 
-refusal : (limits : Limits) (place : Place) (bytes rest : List ℕ) (why : Refusal) → Takes limits place bytes (bad why) rest
+pub refusal : (limits : Limits) (place : Place) (bytes rest : List ℕ) (why : Refusal) → Takes limits place bytes (bad why) rest
     → Ends limits place bytes (Bad (status_of why) ∷ [])
 refusal limits place bytes rest why t =
     record { end = Stopped why; rest = rest; goes = one limits place bytes (Some (Bad (status_of why))) (Stopped why) rest t; waits = refl }
 
-goes_as : (limits : Limits) (place : Place) (bytes : List ℕ) (a b : List Next) (end : Place) (rest : List ℕ) → a ≡ b
+pub goes_as : (limits : Limits) (place : Place) (bytes : List ℕ) (a b : List Next) (end : Place) (rest : List ℕ) → a ≡ b
     → Goes limits place bytes a end rest → Goes limits place bytes b end rest
 goes_as limits place bytes a b end rest e x = subst (λ (l : List Next). Goes limits place bytes l end rest) e x
 
-ends_as : (limits : Limits) (place : Place) (bytes : List ℕ) (a b : List Next) → a ≡ b → Ends limits place bytes a → Ends limits place bytes b
+pub ends_as : (limits : Limits) (place : Place) (bytes : List ℕ) (a b : List Next) → a ≡ b → Ends limits place bytes a → Ends limits place bytes b
 ends_as limits place bytes a b e x = subst (λ (l : List Next). Ends limits place bytes l) e x
 
 -- ---- a body of n bytes
@@ -140,7 +140,7 @@ counted_end limits n bytes near there =
     (sym (counted_turn_last n text (length-take-le n bytes there))))
 
 -- fuel bounds the blocks
-counted_whole : (limits : Limits) → 0 < limits.block → (fuel n : ℕ) (bytes : List ℕ) → n ≤ fuel → n ≤ length bytes
+pub counted_whole : (limits : Limits) → 0 < limits.block → (fuel n : ℕ) (bytes : List ℕ) → n ≤ fuel → n ≤ length bytes
     → Goes limits (Counted n) bytes (map Event (length_events limits.block n bytes)) BodyEnd (drop n bytes)
 counted_whole limits h zero n bytes f there =
     let near : n ≤ limits.block = omega (arith, f) in
@@ -174,7 +174,7 @@ counted_none limits n bytes far below =
     ends_as limits (Counted n) bytes [] (map Event (length_events limits.block n bytes)) (sym (ap (map Event) (length_none limits.block n bytes far below)))
     (waiting limits (Counted n) bytes (first_open (min n limits.block) bytes (omega (arith, far, below))))
 
-counted_open : (limits : Limits) → 0 < limits.block → (fuel n : ℕ) (bytes : List ℕ) → length bytes ≤ fuel → length bytes < n
+pub counted_open : (limits : Limits) → 0 < limits.block → (fuel n : ℕ) (bytes : List ℕ) → length bytes ≤ fuel → length bytes < n
     → Ends limits (Counted n) bytes (map Event (length_events limits.block n bytes))
 counted_open limits h zero n bytes f far = counted_none limits n bytes far (omega (arith, f, h))
 counted_open limits h (suc fuel) n bytes f far = by (nat_le limits.block (length bytes)) refl
@@ -350,12 +350,12 @@ pair_refused limits sum bytes there other =
 -- ---- a chunk
 
 -- the results of a body's bytes
-abbrev BodyGoes : Limits → Place → List ℕ → List Incoming → BodyState → Type 0
+abbrev pub BodyGoes : Limits → Place → List ℕ → List Incoming → BodyState → Type 0
 BodyGoes limits place bytes events partial = Ends limits place bytes (map Event events)
 BodyGoes limits place bytes events (complete rest) = Goes limits place bytes (map Event events) BodyEnd rest
 BodyGoes limits place bytes events (faulty why) = Ends limits place bytes (map Event events ++ Bad (status_of why) ∷ [])
 
-then_body : (limits : Limits) (place : Place) (bytes : List ℕ) (a : List Incoming) (mid : Place) (middle : List ℕ) (b : List Incoming) (state : BodyState)
+pub then_body : (limits : Limits) (place : Place) (bytes : List ℕ) (a : List Incoming) (mid : Place) (middle : List ℕ) (b : List Incoming) (state : BodyState)
     → Goes limits place bytes (map Event a) mid middle → BodyGoes limits mid middle b state → BodyGoes limits place bytes (a ++ b) state
 then_body limits place bytes a mid middle b partial x y =
     ends_as limits place bytes (map Event a ++ map Event b) (map Event (a ++ b)) (sym (map-append Event a b)) (then_ends limits place bytes (map Event a) mid middle (map Event b) x y)
@@ -367,11 +367,11 @@ then_body limits place bytes a mid middle b (faulty why) x y =
     (sym (append_assoc (map Event a) (map Event b) (Bad (status_of why) ∷ [])) ∙ ap (λ (l : List Next). l ++ Bad (status_of why) ∷ []) (sym (map-append Event a b)))
     (then_ends limits place bytes (map Event a) mid middle (map Event b ++ Bad (status_of why) ∷ []) x y)
 
-piece_events : Limits → Piece → List Incoming
+unfoldable pub piece_events : Limits → Piece → List Incoming
 piece_events limits p = map more_event (piece_blocks limits.block p)
 
 -- one whole chunk
-chunk_goes : (limits : Limits) → 0 < limits.block → (sum : ℕ) (c : body.Chunk) (rest : List ℕ) → IsChunk c → sum + chunk_size c.line ≤ limits.max_body
+pub chunk_goes : (limits : Limits) → 0 < limits.block → (sum : ℕ) (c : body.Chunk) (rest : List ℕ) → IsChunk c → sum + chunk_size c.line ≤ limits.max_body
     → Goes limits (SizeLine sum) (print_chunk c ++ rest) (map Event (piece_events limits (chunk_piece c))) (SizeLine (sum + chunk_size c.line)) rest
 unfolding events_of piece_events
 chunk_goes limits h sum c rest x fits =
@@ -399,7 +399,7 @@ chunk_goes limits h sum c rest x fits =
 
 -- ---- what stands behind the whole chunks
 
-tail_events : Limits → body.Tail → List Incoming
+unfoldable pub tail_events : Limits → body.Tail → List Incoming
 tail_events limits t = map more_event (flat_map (piece_blocks limits.block) (tail_pieces t)) ++ closing_event (tail_state t)
 
 -- one piece
@@ -464,7 +464,7 @@ last_goes limits sum bytes behind l fits x split =
     (takes_found limits Trailers (section ++ behind) section behind (after_trailers true)
     (trailer_front limits l.fields l.end behind x.section.reads.0 x.short) refl (true, (l.fields, l.end, x.section), refl)))
 
-tail_goes : (limits : Limits) → 0 < limits.block → (sum : ℕ) (bytes : List ℕ) (t : body.Tail) → sum ≤ limits.max_body → body.IsTail limits sum bytes t
+pub tail_goes : (limits : Limits) → 0 < limits.block → (sum : ℕ) (bytes : List ℕ) (t : body.Tail) → sum ≤ limits.max_body → body.IsTail limits sum bytes t
     → BodyGoes limits (SizeLine sum) bytes (tail_events limits t) (tail_state t)
 unfolding tail_events events_of piece_events
 tail_goes limits h sum bytes body.open_line fits x = waiting limits (SizeLine sum) bytes (open_front EndsAsLine line_len line_search_for size_line_limit bytes x)

@@ -17,3 +17,5 @@ pub mod StandardLemmas
 pub mod SizeLemmas
 pub mod SectionLemmas
 pub mod BackwardLemmas
+pub mod ResultsLemmas
+pub mod HeldLemmas

@@ -1,5 +1,7 @@
 -- What a reader stands for.
-use Rattle.std.specs.Prelude.{◌≡◌, ℕ, ◌≤◌, List, [], ◌∷◌, ◌++◌, length, take, drop, Bool, true, false, Option, Some, None}
+use Rattle.std.specs.Prelude.{◌≡◌, ℕ, ◌≤◌, ◌⊎◌, List, [], ◌∷◌, ◌++◌, length, take, drop, Bool, true, false, Option, Some, None}
+use Rattle.std.specs.List.{flat_map}
+use Rattle.asgi_request.specs.Results.{AreRequests, GivesResults}
 use Rattle.asgi_types.specs.declared.limits.Limits.{Limits}
 use Rattle.asgi_request.specs.declared.place.Place.{Place}
 use Rattle.asgi_request.specs.declared.place.Place.TheVariants.{Start, Counted, SizeLine, Chunk, ChunkEnd, Trailers, BodyEnd, Stopped}
@@ -22,6 +24,18 @@ pub record Reading : Type 0 where
 -- the reader was fed these bytes and gave these results
 abbrev pub StandsFor : Reading → List ℕ → List Next → Type 0
 StandsFor r bytes given = Reaches r.limits bytes given r.place r.held
+
+-- the last result given ended a request, or none was given
+abbrev pub EndsWhole : List Next → Type 0
+EndsWhole given = (given ≡ []) ⊎ ((before : List Next) × (given ≡ before ++ Whole ∷ []))
+
+-- these are all the results of the bytes
+abbrev pub AllGiven : Reading → List ℕ → List Next → Type 0
+AllGiven r bytes given = (rest : List ℕ) × GivesResults r.limits bytes given rest
+
+-- what was given are the results of whole requests, behind which these bytes stand
+abbrev pub WholeGiven : Reading → List ℕ → List Next → List ℕ → Type 0
+WholeGiven r bytes given rest = (requests : List (List Next)) × AreRequests r.limits bytes requests rest × (given ≡ flat_map (λ request. request) requests)
 
 -- no result is there
 abbrev pub IsWaiting : Reading → Type 0

@@ -6,6 +6,7 @@ mod fields;
 mod framing;
 mod head;
 mod judge;
+pub mod laws;
 mod next;
 mod parts;
 mod place;

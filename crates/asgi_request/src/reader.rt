@@ -2,7 +2,7 @@
 ghost use Rattle.std.specs.Prelude.{◌≡◌, ◌≢◌, ◌++◌, ◌∷◌, [], ℕ, List, OnOk, OnErr, IfOk, Option};
 ghost use Rattle.asgi_request.specs.declared.next.Next.{Next};
 ghost use Rattle.asgi_request.specs.declared.place.Place.TheVariants.{Start};
-ghost use Rattle.asgi_request.specs.Reading.{StandsFor, IsWaiting, IsRefused, Keeps, GoesOn, Answers, RefusesAgain, IsResult, Steps};
+ghost use Rattle.asgi_request.specs.Reading.{StandsFor, EndsWhole, AllGiven, WholeGiven, IsRefused, Keeps, GoesOn, Answers, RefusesAgain, IsResult, Steps};
 
 use crate::judge::{after_too_long, judge};
 use crate::next::Next;
@@ -74,7 +74,7 @@ impl RequestReader {
 
     /// The next result, `Need` where more bytes are needed, or the last `Bad` again.
     pub fn next(&mut self) -> Result<Next, AllocError>
-        ensures need { IfOk result (λ next. next ≡ Next.Need → IsWaiting self.new × Keeps self.old self.new) }
+        ensures need { IfOk result (λ next. next ≡ Next.Need → (bytes : List ℕ) (given : List Next) → StandsFor self.old bytes given → StandsFor self.new bytes given × AllGiven self.new bytes given) }
         ensures given { IfOk result (λ next. next ≢ Next.Need → ((status : ℕ) → ¬ (IsRefused self.old status)) → GoesOn self.old self.new next) }
         ensures refused { IfOk result (λ next. (status : ℕ) → next ≡ Next.Bad status → IsRefused self.new status) }
         ensures again { IfOk result (λ next. (status : ℕ) → IsRefused self.old status → (next ≡ Next.Bad status) × (self.new ≡ self.old)) }
@@ -139,9 +139,10 @@ impl RequestReader {
         }
     }
 
-    /// The bytes behind the last text.
+    /// The bytes behind the last `Whole`, or all of them where none was given yet; to be called while no
+    /// `Head` or `Bad` has followed. It takes no memory.
     pub fn held(&self) -> &[u8]
-        ensures { result.now ≡ self.now.held }
+        ensures { (bytes : List ℕ) (given : List Next) → StandsFor self.now bytes given → EndsWhole given → WholeGiven self.now bytes given result.now }
     {
         &self.bytes[self.start..]
     }
