@@ -2,7 +2,8 @@
 ghost use Rattle.std.specs.Prelude.{◌≡◌, ◌++◌, ℕ, List};
 ghost use Rattle.asgi_types.specs.declared.limits.Limits.{Limits};
 ghost use Rattle.asgi_request.specs.declared.next.Next.{Next};
-ghost use Rattle.asgi_request.specs.Reading.{Reading, StandsFor, IsWaiting, AllGiven};
+ghost use Rattle.asgi_request.specs.Reading.{Reading, StandsFor, IsWaiting, IsRefused, AllGiven};
+ghost use Rattle.asgi_request.specs.Places.{ResultsOf};
 ghost use Rattle.asgi_request.specs.Results.{GivesResults};
 
 /// The results of a front of the bytes come first among the results of all of them, so however
@@ -34,5 +35,21 @@ pub fn given_results_come_first()
 pub fn waiting_reader_gave_all()
     ensures { (reader : Reading) (bytes : List ℕ) (given : List Next)
         → StandsFor reader bytes given → IsWaiting reader → AllGiven reader bytes given }
+{
+}
+
+/// Where a reader has refused, it gave all the results of the bytes that it was fed.
+pub fn refused_reader_gave_all()
+    ensures { (reader : Reading) (bytes : List ℕ) (given : List Next) (status : ℕ)
+        → StandsFor reader bytes given → IsRefused reader status → AllGiven reader bytes given }
+{
+}
+
+/// The private places give the results that the bytes have by the definition, and no others.
+pub fn places_give_the_results()
+    ensures to_results { (limits : Limits) (bytes : List ℕ) (results : List Next)
+        → ResultsOf limits bytes results → (rest : List ℕ) × GivesResults limits bytes results rest }
+    ensures to_places { (limits : Limits) (bytes : List ℕ) (results : List Next) (rest : List ℕ)
+        → GivesResults limits bytes results rest → ResultsOf limits bytes results }
 {
 }

@@ -20,3 +20,6 @@ pub use framing::{HeadFraming, framing_of};
 pub use head::HeadRecord;
 pub use next::Next;
 pub use reader::RequestReader;
+
+#[cfg(test)]
+mod tests;

@@ -144,6 +144,7 @@ impl RequestReader {
     pub fn held(&self) -> &[u8]
         ensures { (bytes : List ℕ) (given : List Next) → StandsFor self.now bytes given → EndsWhole given → WholeGiven self.now bytes given result.now }
     {
-        &self.bytes[self.start..]
+        let start = self.start;
+        &self.bytes[start..]
     }
 }
