@@ -1,37 +1,29 @@
 -- What the bytes give is what the places give.
-use Rattle.std.proofs.Common.{◌≡◌, ℕ, zero, suc, ◌+◌, ◌-◌, ◌<◌, ◌≤◌, ◌⊎◌, inl, inr, Bool, true, false, List, [], ◌∷◌, ◌++◌, length, take, drop, map, refl, sym, ap, ◌∙◌, append_assoc, arith, subst, Option, Some, None, Result, Ok, Err, flat_map, All}
+use Rattle.std.proofs.Common.{◌≡◌, ℕ, zero, suc, ◌+◌, ◌-◌, ◌<◌, ◌≤◌, inl, inr, Bool, true, false, List, [], ◌∷◌, ◌++◌, length, take, drop, map, refl, sym, ap, ◌∙◌, append_assoc, arith, subst, Option, Some, None, flat_map}
 use Rattle.std.specs.Prelude.{nat_le, nat_lt, min, ◌==◌, if◌then◌else◌, bytes_eq}
-use Rattle.std.proofs.lemmas.Bool.Decides.{nat_tests, not_from_Decides}
+use Rattle.std.proofs.lemmas.Bool.Decides.{nat_tests}
 use Rattle.std.proofs.lemmas.Slice.Eq.{bytes_eq-Decides}
-use Rattle.std.proofs.lemmas.List.{append-nil, length-append, length-take-le, length-drop, take-append-drop, map-append, drop-drop, take_all}
-use Rattle.std.proofs.lemmas.List.Elements.{All-head, All-tail}
+use Rattle.std.proofs.lemmas.List.{append-nil, length-append, length-take-le, length-drop, take-append-drop, map-append, drop-drop}
 use Rattle.std.proofs.Math.Seq.{take-append_seam}
 use Rattle.httparse.specs.Ascii.{crlf_bytes}
 use Rattle.httparse.specs.Grammar.{ChunkLine, chunk_size, print_chunk_line, print_section}
-use Rattle.asgi_types.specs.declared.facts.Framing.{Framing}
-use Rattle.asgi_types.specs.declared.facts.Framing.TheVariants.{Length, Chunked, Upgrade}
 use Rattle.asgi_types.specs.declared.incoming.Incoming.{Incoming}
 use Rattle.asgi_types.specs.declared.incoming.Incoming.TheVariants.{HttpRequest}
 use Rattle.asgi_types.specs.declared.limits.Limits.{Limits}
 use Rattle.asgi_request.specs.declared.next.Next.{Next}
-use Rattle.asgi_request.specs.declared.next.Next.TheVariants.{Head, Event, Whole, Bad}
+use Rattle.asgi_request.specs.declared.next.Next.TheVariants.{Event, Bad}
 use Rattle.asgi_request.specs.declared.place.Place.{Place}
-use Rattle.asgi_request.specs.declared.place.Place.TheVariants.{Start, Counted, SizeLine, Chunk, ChunkEnd, Trailers, BodyEnd, Stopped}
+use Rattle.asgi_request.specs.declared.place.Place.TheVariants.{Counted, SizeLine, Chunk, ChunkEnd, Trailers, BodyEnd, Stopped}
 use Rattle.asgi_request.specs.declared.place.Turn.{Turn}
 use Rattle.asgi_request.specs.declared.refusal.Refusal.{Refusal}
-use Rattle.asgi_request.specs.declared.refusal.Refusal.TheVariants.{BadRequest, ContentTooLarge, HeaderFieldsTooLarge}
+use Rattle.asgi_request.specs.declared.refusal.Refusal.TheVariants.{BadRequest, ContentTooLarge}
 use Rattle.asgi_request.specs.Refusals.{status_of}
-use Rattle.asgi_request.specs.HeadText.{EndsAsHead}
-use Rattle.asgi_request.specs.Head.{record_of}
-use Rattle.asgi_request.specs.BodyLength.{body_length}
-use Rattle.asgi_request.specs.Scopes.{scope_of, facts_of}
-use Rattle.asgi_request.specs.Fronts.{Front, found, too_long, unfinished, first, front_text, head_len, line_len, trailer_len}
+use Rattle.asgi_request.specs.Fronts.{Front, found, too_long, unfinished, first, front_text, line_len, trailer_len}
 use Rattle.asgi_request.specs.ChunkedBody as body
 use Rattle.asgi_request.specs.ChunkedBody.{BodyState, partial, complete, faulty, Piece, print_chunk, size_line_limit, IsSizeLine, IsChunk, total, chunk_piece, EndsAsLine, EndsAsSection, tail_pieces, tail_state, ReadsChunks}
-use Rattle.asgi_request.specs.RequestEvents.{more_event, last_event, length_events, length_state, closing_event, chunked_events, piece_blocks, ReadsBody}
-use Rattle.asgi_request.specs.Results.{ReadsHead, RefusesHead, closing, ReadsRequest, BeginsRequest, AreRequests, GivesResults}
-use Rattle.asgi_request.specs.Places.{front, bad, silent, gives, body_place, after_framing, after_head, after_counted, after_size, after_chunk, after_chunk_end, after_trailers, after_too_long, JudgesText, Judges, Takes, Reads, shown, Reaches, ResultsOf}
-use Rattle.asgi_request.proofs.TextLemmas.{found_front, long_front, open_front, head_search_for}
+use Rattle.asgi_request.specs.RequestEvents.{more_event, last_event, length_events, closing_event, piece_blocks}
+use Rattle.asgi_request.specs.Places.{front, bad, silent, gives, after_size, after_trailers, after_too_long, JudgesText, Judges, Takes, Reads, shown}
+use Rattle.asgi_request.proofs.TextLemmas.{found_front, long_front, open_front}
 use Rattle.asgi_request.proofs.LineLemmas.{line_search_for, section_search_for}
 use Rattle.asgi_request.proofs.BlockLemmas.{length_more, length_last, length_none, rest_blocks, chunk_more, chunk_last, chunk_none}
 use Rattle.asgi_request.proofs.SizeLemmas.{size_front}

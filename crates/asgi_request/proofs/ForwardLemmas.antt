@@ -1,34 +1,31 @@
 -- What the places give is what the bytes give.
-use Rattle.std.proofs.Common.{◌≡◌, ℕ, zero, suc, ◌+◌, ◌-◌, ◌<◌, ◌≤◌, ◌⊎◌, inl, inr, Bool, true, false, List, [], ◌∷◌, ◌++◌, length, take, drop, map, refl, sym, ap, ◌∙◌, append_assoc, arith, subst, Option, Some, None, Result, Ok, Err, flat_map, All}
+use Rattle.std.proofs.Common.{◌≡◌, ℕ, suc, ◌+◌, ◌-◌, ◌<◌, ◌≤◌, ◌⊎◌, inl, inr, Bool, true, false, List, [], ◌∷◌, ◌++◌, length, take, drop, map, refl, sym, ap, ◌∙◌, append_assoc, arith, subst, Option, Some, None, flat_map}
 use Rattle.std.specs.Prelude.{nat_le, nat_lt, min, ◌==◌, if◌then◌else◌, bytes_eq}
 use Rattle.std.proofs.lemmas.Bool.Decides.{nat_tests, not_from_Decides}
 use Rattle.std.proofs.lemmas.Slice.Eq.{bytes_eq-Decides}
-use Rattle.std.proofs.lemmas.List.{append-nil, length-append, length-take-le, take-append-drop, map-append, drop-drop}
+use Rattle.std.proofs.lemmas.List.{append-nil, length-append, length-take-le, map-append}
 use Rattle.std.proofs.lemmas.List.Elements.{All-nil, All-cons}
 use Rattle.std.proofs.Math.Seq.{take-append_seam}
 use Rattle.httparse.specs.Ascii.{crlf_bytes}
 use Rattle.httparse.specs.Grammar.{ChunkLine, ReadsChunkLine, chunk_size, print_chunk_line, Field, LineEnd, print_section}
-use Rattle.asgi_types.specs.declared.facts.Framing.{Framing}
-use Rattle.asgi_types.specs.declared.facts.Framing.TheVariants.{Length, Chunked, Upgrade}
 use Rattle.asgi_types.specs.declared.incoming.Incoming.{Incoming}
 use Rattle.asgi_types.specs.declared.incoming.Incoming.TheVariants.{HttpRequest}
 use Rattle.asgi_types.specs.declared.limits.Limits.{Limits}
 use Rattle.asgi_request.specs.declared.next.Next.{Next}
-use Rattle.asgi_request.specs.declared.next.Next.TheVariants.{Head, Event, Whole, Bad}
+use Rattle.asgi_request.specs.declared.next.Next.TheVariants.{Event, Whole, Bad}
 use Rattle.asgi_request.specs.declared.place.Place.{Place}
 use Rattle.asgi_request.specs.declared.place.Place.TheVariants.{Start, Counted, SizeLine, Chunk, ChunkEnd, Trailers, BodyEnd, Stopped}
 use Rattle.asgi_request.specs.declared.place.Turn.{Turn}
 use Rattle.asgi_request.specs.declared.refusal.Refusal.{Refusal}
-use Rattle.asgi_request.specs.declared.refusal.Refusal.TheVariants.{BadRequest, ContentTooLarge, HeaderFieldsTooLarge}
+use Rattle.asgi_request.specs.declared.refusal.Refusal.TheVariants.{BadRequest, ContentTooLarge}
 use Rattle.asgi_request.specs.Refusals.{status_of}
-use Rattle.asgi_request.specs.Texts.{IsFirstWithin, IsTooLong, IsUnfinished}
+use Rattle.asgi_request.specs.Texts.{IsFirstWithin, IsUnfinished}
 use Rattle.asgi_request.specs.Fronts.{Front, found, too_long, unfinished, first, front_text, line_len, trailer_len}
 use Rattle.asgi_request.specs.Parts.{ParsesSize, ParsesTrailers}
 use Rattle.asgi_request.specs.ChunkedBody as body
 use Rattle.asgi_request.specs.ChunkedBody.{BodyState, partial, complete, faulty, Piece, print_chunk, size_line_limit, IsSizeLine, IsChunk, total, IsTrailerSection, EndsAsLine, EndsAsSection, IsBadSection, tail_state, ReadsChunks}
-use Rattle.asgi_request.specs.RequestEvents.{more_event, last_event, length_events, length_state, closing_event, chunked_events, piece_blocks}
-use Rattle.asgi_request.specs.Places as places
-use Rattle.asgi_request.specs.Places.{front, bad, silent, gives, after_counted, after_size, after_chunk, after_chunk_end, after_trailers, after_too_long, JudgesText, Judges, Takes, shown}
+use Rattle.asgi_request.specs.RequestEvents.{more_event, length_events, length_state, closing_event, chunked_events, piece_blocks}
+use Rattle.asgi_request.specs.Places.{front, bad, silent, gives, after_counted, after_size, after_chunk, after_trailers, after_too_long, JudgesText, Judges, Takes, shown}
 use Rattle.asgi_request.proofs.TextLemmas.{tells}
 use Rattle.asgi_request.proofs.LineLemmas.{line_search_for, section_search_for}
 use Rattle.asgi_request.proofs.BlockLemmas.{length_more, state_more, length_last, length_none, rest_blocks, chunk_more, chunk_last, chunk_none}
@@ -159,8 +156,7 @@ counted_more : (E : List ℕ → List Next → List ℕ → Type 0) (limits : Li
     → From E limits (Counted n) bytes (Event (HttpRequest (take limits.block bytes) true) ∷ results) r
 counted_more E limits n bytes rest h far there e results r from =
     let b = limits.block in
-    let state : length_state (n - b) rest ≡ length_state n bytes = ap (length_state (n - b)) e ∙ sym (state_more b n bytes far there) in
-    (
+    let state : length_state (n - b) rest ≡ length_state n bytes = ap (length_state (n - b)) e ∙ sym (state_more b n bytes far there) in (
       from.0,
       subst (λ (s : BodyState). Follows E s from.0 r) state from.1,
       ap (λ (l : List Next). Event (HttpRequest (take b bytes) true) ∷ l) (from.2 ∙ ap (λ (l : List ℕ). map Event (length_events b (n - b) l) ++ from.0) e)
@@ -172,8 +168,7 @@ counted_last : (E : List ℕ → List Next → List ℕ → Type 0) (limits : Li
     → From E limits BodyEnd rest results r → From E limits (Counted n) bytes (Event (HttpRequest (take n bytes) false) ∷ results) r
 counted_last E limits n bytes rest h near there e results r from =
     let state : complete rest ≡ length_state n bytes =
-    ap (λ (l : List ℕ). complete l) e ∙ sym (ap (λ (b : Bool). if b then complete (drop n bytes) else partial) (le_yes n (length bytes) there)) in
-    (
+    ap (λ (l : List ℕ). complete l) e ∙ sym (ap (λ (b : Bool). if b then complete (drop n bytes) else partial) (le_yes n (length bytes) there)) in (
       results,
       subst (λ (s : BodyState). Follows E s results r) state from,
       sym (ap (λ (l : List Incoming). map Event l ++ results) (length_last limits.block n bytes h near there)),
@@ -205,7 +200,7 @@ counted_good E limits h n bytes text rest turn t inside split e = by (nat_lt lim
         good E limits (Counted n) bytes rest turn (gives (Event (HttpRequest text true)) (Counted (n - b))) (e ∙ counted_turn_more n text b size (yes_lt b n far)) (
           tt,
           λ results r from. subst (λ (l : List ℕ). From E limits (Counted n) bytes (Event (HttpRequest l true) ∷ results) r) (sym text_is)
-          (counted_more E limits n bytes rest h (yes_lt b n far) there (rest_is b bytes text rest text_is there split) results r from),
+              (counted_more E limits n bytes rest h (yes_lt b n far) there (rest_is b bytes text rest text_is there split) results r from),
         )
     by false far =
         let b = limits.block in
@@ -216,7 +211,7 @@ counted_good E limits h n bytes text rest turn t inside split e = by (nat_lt lim
         good E limits (Counted n) bytes rest turn (gives (Event (HttpRequest text false)) BodyEnd) (e ∙ counted_turn_last n text size) (
           tt,
           λ results r from. subst (λ (l : List ℕ). From E limits (Counted n) bytes (Event (HttpRequest l false) ∷ results) r) (sym text_is)
-          (counted_last E limits n bytes rest h (no_lt b n far) there (rest_is n bytes text rest text_is there split) results r from),
+              (counted_last E limits n bytes rest h (no_lt b n far) there (rest_is n bytes text rest text_is there split) results r from),
         )
 
 -- ---- a size line
@@ -242,17 +237,16 @@ refused : (E : List ℕ → List Next → List ℕ → Type 0) (limits : Limits)
     → sum ≤ limits.max_body → body.IsTail limits sum bytes t → body.tail_pieces t ≡ [] → tail_state t ≡ faulty why
     → Good E limits (SizeLine sum) bytes rest (bad why)
 refused E limits sum bytes rest t why h tail none state = (
-    tt,
-    λ results r from. (
-        let read = ended limits sum bytes t h tail in
-        let moved = subst (λ (s : BodyState). ReadsChunks limits sum bytes [] s) state (subst (λ (p : List Piece). ReadsChunks limits sum bytes p (tail_state t)) none read) in
-        (
-          [],
-          faulty why,
-          moved,
-          (Bad (status_of why) ∷ results, (ap (λ (l : List Next). Bad (status_of why) ∷ l) from.0, from.1), refl),
-        )
-        ),
+  tt,
+  λ results r from. (
+      let read = ended limits sum bytes t h tail in
+      let moved = subst (λ (s : BodyState). ReadsChunks limits sum bytes [] s) state (subst (λ (p : List Piece). ReadsChunks limits sum bytes p (tail_state t)) none read) in (
+        [],
+        faulty why,
+        moved,
+        (Bad (status_of why) ∷ results, (ap (λ (l : List Next). Bad (status_of why) ∷ l) from.0, from.1), refl),
+      )
+      ),
 )
 
 -- a size line was read
@@ -316,8 +310,8 @@ data_good : (E : List ℕ → List Next → List ℕ → Type 0) (limits : Limit
     → SizeRead bytes rest line → 0 < chunk_size line → sum ≤ limits.max_body → sum + chunk_size line ≤ limits.max_body
     → Good E limits (SizeLine sum) bytes rest (silent (Chunk (chunk_size line) (sum + chunk_size line)))
 data_good E limits sum bytes rest line s some_data h fits = (
-    (some_data, fits),
-    λ results r from. (data_piece line rest ∷ from.0, from.1, chunks from.0 from.1 from.2, (from.3.0, from.3.1, from.3.2 ∙ ap (λ (l : List Incoming). map Event l ++ from.3.0) (sym (first_piece from.0 from.1)))),
+  (some_data, fits),
+  λ results r from. (data_piece line rest ∷ from.0, from.1, chunks from.0 from.1 from.2, (from.3.0, from.3.1, from.3.2 ∙ ap (λ (l : List Incoming). map Event l ++ from.3.0) (sym (first_piece from.0 from.1)))),
 )
   where
     begins : body.BeginsChunk limits sum bytes line rest
@@ -389,8 +383,13 @@ rest_of_more limits left k sum bytes text rest pieces state split e (inr (inl x)
     drop_over [] b k = ap (λ n. drop n b) (omega arith)
     drop_over (y ∷ a) b k = ap (λ n. drop n (y ∷ (a ++ b))) (let z : length (y ∷ a) + k ≡ suc (length a + k) = omega arith in z) ∙ drop_over a b k
 rest_of_more limits left k sum bytes text rest pieces state split e (inr (inr x)) =
-    inr (inr (text ++ x.0, x.1, split ∙ ap (λ (l : List ℕ). text ++ l) x.2 ∙ sym (append_assoc text x.0 (crlf_bytes ++ x.1)),
-    omega (arith, length-append text x.0, x.3, e), x.4))
+    inr (inr (
+      text ++ x.0,
+      x.1,
+      split ∙ ap (λ (l : List ℕ). text ++ l) x.2 ∙ sym (append_assoc text x.0 (crlf_bytes ++ x.1)),
+      omega (arith, length-append text x.0, x.3, e),
+      x.4,
+    ))
 
 pub chunk_turn_more : (left sum : ℕ) (text : List ℕ) (b : ℕ) → length text ≡ b → b < left → after_chunk left sum text ≡ gives (Event (HttpRequest text true)) (Chunk (left - b) sum)
 chunk_turn_more left sum text b size h =
@@ -423,11 +422,15 @@ chunk_good E limits h left sum bytes text rest turn some fits t inside split e =
         good E limits (Chunk left sum) bytes rest turn (gives (Event (HttpRequest text true)) (Chunk (left - b) sum)) (e ∙ chunk_turn_more left sum text b size (yes_lt b left far)) (
           (omega (arith, yes_lt b left far), fits),
           λ results r from. (
-              from.0,
-              from.1,
-              rest_of_more limits left (left - b) sum bytes text rest from.0 from.1 split (omega (arith, size, yes_lt b left far)) from.2,
-              (from.3.0, from.3.1, ap (λ (l : List Next). Event (HttpRequest text true) ∷ l) from.3.2
-              ∙ sym (ap (λ (l : List (List ℕ)). map Event (map more_event l ++ chunked_events b from.0 from.1) ++ from.3.0) blocks_are)),
+            from.0,
+            from.1,
+            rest_of_more limits left (left - b) sum bytes text rest from.0 from.1 split (omega (arith, size, yes_lt b left far)) from.2,
+            (
+              from.3.0,
+              from.3.1,
+              ap (λ (l : List Next). Event (HttpRequest text true) ∷ l) from.3.2
+                  ∙ sym (ap (λ (l : List (List ℕ)). map Event (map more_event l ++ chunked_events b from.0 from.1) ++ from.3.0) blocks_are),
+            ),
           ),
         )
     by false far =
@@ -441,11 +444,15 @@ chunk_good E limits h left sum bytes text rest turn some fits t inside split e =
         good E limits (Chunk left sum) bytes rest turn (gives (Event (HttpRequest text true)) (ChunkEnd sum)) (e ∙ chunk_turn_last left sum text size) (
           fits,
           λ results r from. (
-              from.0,
-              from.1,
-              rest_of_more limits left 0 sum bytes text rest from.0 from.1 split (omega (arith, size)) from.2,
-              (from.3.0, from.3.1, ap (λ (l : List Next). Event (HttpRequest text true) ∷ l) from.3.2
-              ∙ sym (ap (λ (l : List (List ℕ)). map Event (map more_event l ++ chunked_events b from.0 from.1) ++ from.3.0) blocks_are)),
+            from.0,
+            from.1,
+            rest_of_more limits left 0 sum bytes text rest from.0 from.1 split (omega (arith, size)) from.2,
+            (
+              from.3.0,
+              from.3.1,
+              ap (λ (l : List Next). Event (HttpRequest text true) ∷ l) from.3.2
+                  ∙ sym (ap (λ (l : List (List ℕ)). map Event (map more_event l ++ chunked_events b from.0 from.1) ++ from.3.0) blocks_are),
+            ),
           ),
         )
 
@@ -464,20 +471,20 @@ pair_good E limits sum bytes text rest turn h t inside split true x e =
     good E limits (ChunkEnd sum) bytes rest turn (silent (SizeLine sum)) e (
       h,
       λ results r from. (
-          from.0,
-          from.1,
-          inr (inr ([], rest, split ∙ ap (λ (l : List ℕ). l ++ rest) (eq_yes text crlf_bytes x), refl, from.2)),
-          from.3,
+        from.0,
+        from.1,
+        inr (inr ([], rest, split ∙ ap (λ (l : List ℕ). l ++ rest) (eq_yes text crlf_bytes x), refl, from.2)),
+        from.3,
       ),
     )
 pair_good E limits sum bytes text rest turn h t inside split false x e =
     good E limits (ChunkEnd sum) bytes rest turn (bad BadRequest) e (
       tt,
       λ results r from. (
-          [],
-          faulty BadRequest,
-          inr (inl (omega (arith, inside), (λ c. eq_no text crlf_bytes x (t ∙ c)), refl, refl)),
-          (Bad (status_of BadRequest) ∷ results, (ap (λ (l : List Next). Bad (status_of BadRequest) ∷ l) from.0, from.1), refl),
+        [],
+        faulty BadRequest,
+        inr (inl (omega (arith, inside), (λ c. eq_no text crlf_bytes x (t ∙ c)), refl, refl)),
+        (Bad (status_of BadRequest) ∷ results, (ap (λ (l : List Next). Bad (status_of BadRequest) ∷ l) from.0, from.1), refl),
       ),
     )
 
@@ -486,12 +493,12 @@ pair_good E limits sum bytes text rest turn h t inside split false x e =
 bad_trailers_good : (E : List ℕ → List Next → List ℕ → Type 0) (limits : Limits) (bytes rest : List ℕ) → IsBadSection limits bytes
     → Good E limits Trailers bytes rest (bad BadRequest)
 bad_trailers_good E limits bytes rest x = (
-    tt,
-    λ results r from. (
-        faulty BadRequest,
-        (x, refl),
-        (Bad (status_of BadRequest) ∷ results, (ap (λ (l : List Next). Bad (status_of BadRequest) ∷ l) from.0, from.1), refl),
-    ),
+  tt,
+  λ results r from. (
+    faulty BadRequest,
+    (x, refl),
+    (Bad (status_of BadRequest) ∷ results, (ap (λ (l : List Next). Bad (status_of BadRequest) ∷ l) from.0, from.1), refl),
+  ),
 )
 
 section_good : (E : List ℕ → List Next → List ℕ → Type 0) (limits : Limits) (bytes text rest : List ℕ) (turn : Turn)
@@ -504,15 +511,15 @@ section_good E limits bytes text rest turn x split true parses e =
     good E limits Trailers bytes rest turn (gives (Event (HttpRequest [] false)) BodyEnd) e (
       tt,
       λ results r from. (
-          complete rest,
-          (
-            parses.0,
-            parses.1,
-            split ∙ ap (λ (l : List ℕ). l ++ rest) is,
-            subst (λ (l : List ℕ). IsTrailerSection limits.max_headers l parses.0 parses.1) is parses.2,
-            subst (λ (l : List ℕ). length l ≤ limits.max_head) is x.1,
-          ),
-          (results, from, refl),
+        complete rest,
+        (
+          parses.0,
+          parses.1,
+          split ∙ ap (λ (l : List ℕ). l ++ rest) is,
+          subst (λ (l : List ℕ). IsTrailerSection limits.max_headers l parses.0 parses.1) is parses.2,
+          subst (λ (l : List ℕ). length l ≤ limits.max_head) is x.1,
+        ),
+        (results, from, refl),
       ),
     )
 
@@ -577,8 +584,7 @@ pub open_from : (E : List ℕ → List Next → List ℕ → Type 0) (limits : L
 open_from E limits h Start bytes other fits f = absurd (other refl)
 open_from E limits h (Counted n) bytes other fits f =
     let t = first_tells (min n limits.block) bytes unfinished f in
-    let state : partial ≡ length_state n bytes = sym (ap (λ (b : Bool). if b then complete (drop n bytes) else partial) (le_no n (length bytes) (omega (arith, t)))) in
-    (
+    let state : partial ≡ length_state n bytes = sym (ap (λ (b : Bool). if b then complete (drop n bytes) else partial) (le_no n (length bytes) (omega (arith, t)))) in (
       [],
       subst (λ (s : BodyState). Follows E s [] None) state (refl, refl),
       sym (ap (λ (l : List Incoming). map Event l ++ []) (length_none limits.block n bytes (omega (arith, t)) (omega (arith, t)))),
@@ -587,8 +593,7 @@ open_from E limits h (SizeLine sum) bytes other fits f =
     let t = tells EndsAsLine line_len line_search_for size_line_limit bytes unfinished f in
     ([], partial, ended limits sum bytes body.open_line fits t, ([], (refl, refl), refl))
 open_from E limits h (Chunk left sum) bytes other fits f =
-    let t = first_tells (min left limits.block) bytes unfinished f in
-    (
+    let t = first_tells (min left limits.block) bytes unfinished f in (
       [],
       partial,
       inl (omega (arith, t), refl, refl),

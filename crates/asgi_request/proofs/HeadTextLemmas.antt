@@ -1,8 +1,8 @@
 -- The search for the end of a head finds each text that ends as a head does, and nothing else.
-use Rattle.std.proofs.Common.{◌≡◌, ℕ, suc, ◌+◌, ◌<◌, ◌≤◌, Bool, true, false, List, [], ◌∷◌, ◌++◌, length, take, drop, refl, sym, ap, ◌∙◌, append_assoc, arith, Option, Some, None, All, subst, IsTrue, ◌-◌}
+use Rattle.std.proofs.Common.{◌≡◌, ℕ, suc, ◌+◌, ◌<◌, ◌≤◌, Bool, true, false, List, [], ◌∷◌, ◌++◌, length, take, refl, sym, ap, ◌∙◌, append_assoc, arith, Option, Some, None, All, subst, IsTrue}
 use Rattle.std.specs.Prelude.{◌==◌, ◌&&◌, nat_lt, if◌then◌else◌}
 use Rattle.std.proofs.lemmas.Bool.Decides.{nat_tests}
-use Rattle.std.proofs.lemmas.List.{length-append, length-take-le, length-drop, take-append-drop, take-append-le}
+use Rattle.std.proofs.lemmas.List.{length-append}
 use Rattle.std.proofs.lemmas.List.Elements.{All-nil, All-cons, All-head, All-tail}
 use Rattle.httparse.specs.Grammar.{LineEnd, crlf, lf, print_end}
 use Rattle.asgi_request.specs.HeadText.{is_line_break, EndsAsHead}
@@ -218,4 +218,3 @@ head_by b s n false t f on = let m = more-some 1 (lines_len s) n f in head_begin
 pub head_sound : (s : List ℕ) (n : ℕ) → head_len s ≡ Some n → Ends s n
 head_sound [] n e = cc
 head_sound (b ∷ s) n e = head_by b s n (is_line_break b) refl e (λ m f. head_sound s m f)
-

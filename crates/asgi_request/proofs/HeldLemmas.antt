@@ -1,5 +1,5 @@
 -- Behind the last result of a request, what is due next is a head.
-use Rattle.std.proofs.Common.{◌≡◌, ℕ, ◌-◌, ◌+◌, Bool, true, false, List, [], ◌∷◌, ◌++◌, length, ◌⊎◌, inl, inr, refl, sym, ap, ◌∙◌, subst, Option, Some, None, Result, Ok, Err}
+use Rattle.std.proofs.Common.{◌≡◌, ℕ, ◌-◌, ◌+◌, Bool, true, false, List, [], ◌∷◌, ◌++◌, length, inl, inr, refl, sym, ap, ◌∙◌, subst, Option, Some, None, Result, Ok, Err}
 use Rattle.std.specs.Prelude.{nat_lt, ◌==◌, if◌then◌else◌, bytes_eq}
 use Rattle.httparse.specs.Ascii.{crlf_bytes}
 use Rattle.asgi_types.specs.declared.facts.Framing.{Framing}
@@ -17,7 +17,7 @@ use Rattle.asgi_request.specs.BodyLength.{body_length}
 use Rattle.asgi_request.specs.Fronts.{Front, found, too_long, unfinished}
 use Rattle.asgi_request.specs.Reading.{Reading, StandsFor, EndsWhole, WholeGiven}
 use Rattle.asgi_request.proofs.StandardLemmas.{whole_requests}
-use Rattle.asgi_request.specs.Places.{front, bad, silent, gives, after_framing, after_head, after_counted, after_chunk, after_size, after_chunk_end, after_trailers, after_too_long, JudgesText, Judges, Takes, Reads, shown, Reaches}
+use Rattle.asgi_request.specs.Places.{front, bad, silent, gives, after_framing, after_head, after_counted, after_chunk, after_size, after_chunk_end, after_trailers, after_too_long, JudgesText, Judges, Reads, shown, Reaches}
 
 -- a request ends before a head
 abbrev WholeStart : Turn → Type 0

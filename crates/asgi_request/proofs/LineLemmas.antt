@@ -1,5 +1,5 @@
 -- The searches for the end of a line and of a trailer section.
-use Rattle.std.proofs.Common.{◌≡◌, ℕ, zero, suc, ◌+◌, ◌-◌, ◌<◌, ◌≤◌, ◌⊎◌, Bool, true, false, List, [], ◌∷◌, ◌++◌, length, take, drop, refl, sym, ap, ◌∙◌, append_assoc, arith, Option, Some, None, subst, inl, inr}
+use Rattle.std.proofs.Common.{◌≡◌, ℕ, zero, suc, ◌+◌, ◌-◌, ◌≤◌, ◌⊎◌, Bool, true, false, List, [], ◌∷◌, ◌++◌, length, take, refl, sym, ap, ◌∙◌, append_assoc, arith, Option, Some, None, subst, inl, inr}
 use Rattle.std.specs.Prelude.{◌==◌, if◌then◌else◌}
 use Rattle.std.specs.Option.{option_map}
 use Rattle.std.proofs.lemmas.Bool.Decides.{nat_tests}
@@ -7,7 +7,7 @@ use Rattle.std.proofs.lemmas.List.{length-append}
 use Rattle.httparse.specs.Grammar.{LineEnd, print_end}
 use Rattle.asgi_request.specs.ChunkedBody.{EndsAsLine, EndsAsSection}
 use Rattle.asgi_request.specs.Fronts.{more, line_len, lines_len, trailer_len}
-use Rattle.asgi_request.proofs.HeadTextLemmas.{Finds, EndsLines, lines_sound, lines_found}
+use Rattle.asgi_request.proofs.HeadTextLemmas.{Finds, lines_sound, lines_found}
 use Rattle.asgi_request.proofs.TextLemmas.{IsSearchFor}
 
 -- ---- lines
@@ -31,8 +31,8 @@ line_at_once b s n t e =
 
 line_later : (b : ℕ) (s : List ℕ) (n m : ℕ) → n ≡ 1 + m → EndsLine s m → EndsLine (b ∷ s) n
 line_later b s n m size on = (
-    omega (arith, size, on.0),
-    (b ∷ on.1.0, ap (λ k. take k (b ∷ s)) (size ∙ one-plus m) ∙ ap (λ (l : List ℕ). b ∷ l) on.1.1),
+  omega (arith, size, on.0),
+  (b ∷ on.1.0, ap (λ k. take k (b ∷ s)) (size ∙ one-plus m) ∙ ap (λ (l : List ℕ). b ∷ l) on.1.1),
 )
 
 line_by : (b : ℕ) (s : List ℕ) (n : ℕ) (x : Bool) → (b == 10) ≡ x → (if x then Some 1 else more 1 (line_len s)) ≡ Some n

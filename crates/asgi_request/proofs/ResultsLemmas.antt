@@ -1,5 +1,5 @@
 -- The results of a byte list are one list, and begin with those of each front of it.
-use Rattle.std.proofs.Common.{◌≡◌, ℕ, ◌+◌, ◌<◌, ◌≤◌, ◌⊎◌, inl, inr, Bool, true, false, List, [], ◌∷◌, ◌++◌, length, take, drop, map, refl, sym, ap, ◌∙◌, append_assoc, arith, subst, Option, Some, None, Result, Ok, Err, flat_map, All}
+use Rattle.std.proofs.Common.{◌≡◌, ℕ, ◌+◌, ◌<◌, ◌≤◌, inl, inr, Bool, true, false, List, [], ◌∷◌, ◌++◌, length, drop, map, refl, sym, ap, ◌∙◌, append_assoc, arith, subst, Some, None, flat_map, All}
 use Rattle.std.specs.Prelude.{nat_le, if◌then◌else◌}
 use Rattle.std.proofs.lemmas.List.{append-nil, map-append}
 use Rattle.std.proofs.lemmas.List.Elements.{All-head, All-tail}
@@ -12,7 +12,6 @@ use Rattle.asgi_request.specs.declared.next.Next.{Next}
 use Rattle.asgi_request.specs.declared.next.Next.TheVariants.{Head, Event, Whole, Bad}
 use Rattle.asgi_request.specs.declared.place.Place.{Place}
 use Rattle.asgi_request.specs.declared.place.Place.TheVariants.{Start, Counted, SizeLine, BodyEnd}
-use Rattle.asgi_request.specs.declared.place.Turn.{Turn}
 use Rattle.asgi_request.specs.declared.refusal.Refusal.{Refusal}
 use Rattle.asgi_request.specs.declared.refusal.Refusal.TheVariants.{BadRequest, HeaderFieldsTooLarge}
 use Rattle.asgi_request.specs.Refusals.{status_of}
@@ -23,12 +22,12 @@ use Rattle.asgi_request.specs.ChunkedBody as body
 use Rattle.asgi_request.specs.ChunkedBody.{BodyState, partial, complete, faulty, Piece, print_chunk, IsChunk, total, chunk_piece, tail_pieces, tail_state, ReadsChunks}
 use Rattle.asgi_request.specs.RequestEvents.{more_event, length_events, length_state, closing_event, chunked_events, piece_blocks, ReadsBody}
 use Rattle.asgi_request.specs.Results.{ReadsHead, RefusesHead, closing, ReadsRequest, BeginsRequest, AreRequests, GivesResults}
-use Rattle.asgi_request.specs.Fronts.{found, too_long, unfinished, head_len}
-use Rattle.asgi_request.specs.Places.{front, bad, gives, body_place, after_framing, shown, Reaches, ResultsOf}
+use Rattle.asgi_request.specs.Fronts.{found, too_long, head_len}
+use Rattle.asgi_request.specs.Places.{front, bad, gives, body_place, after_framing, Reaches, ResultsOf}
 use Rattle.asgi_request.proofs.TextLemmas.{found_front, long_front, open_front, head_search_for}
 use Rattle.asgi_request.proofs.UniqueLemmas.{results_begin, results_same, reached_begin}
 use Rattle.asgi_request.proofs.ForwardLemmas.{yes_le, no_le}
-use Rattle.asgi_request.proofs.BackwardLemmas.{Goes, Ends, BodyGoes, takes_found, takes_long, here, goes_on, then_ends, one, waiting, refusal, goes_as, ends_as, then_body, piece_events, chunk_goes, tail_events, tail_goes, counted_whole, counted_open}
+use Rattle.asgi_request.proofs.BackwardLemmas.{Goes, Ends, BodyGoes, takes_found, takes_long, here, goes_on, then_ends, one, waiting, refusal, ends_as, then_body, piece_events, chunk_goes, tail_events, tail_goes, counted_whole, counted_open}
 
 -- ---- a chunked body
 

@@ -1,6 +1,5 @@
 -- All that the places give are all the results of the bytes.
-use Rattle.std.proofs.Common.{◌≡◌, ℕ, zero, suc, ◌+◌, ◌<◌, ◌≤◌, ◌⊎◌, inl, inr, List, [], ◌∷◌, ◌++◌, length, map, refl, sym, ap, ◌∙◌, append_assoc, arith, subst, Option, Some, None, Result, Ok, Err, flat_map}
-use Rattle.std.proofs.lemmas.List.{append-nil}
+use Rattle.std.proofs.Common.{◌≡◌, ℕ, ◌<◌, ◌⊎◌, inl, inr, List, [], ◌∷◌, ◌++◌, map, refl, sym, ap, ◌∙◌, append_assoc, arith, subst, Option, Some, None, Result, Ok, Err, flat_map}
 use Rattle.asgi_types.specs.declared.facts.Framing.{Framing}
 use Rattle.asgi_types.specs.declared.facts.Framing.TheVariants.{Length, Chunked, Upgrade}
 use Rattle.asgi_types.specs.declared.incoming.Incoming.{Incoming}
@@ -22,12 +21,12 @@ use Rattle.asgi_request.specs.BodyLength.{body_length}
 use Rattle.asgi_request.specs.Scopes.{scope_of, facts_of}
 use Rattle.asgi_request.specs.ChunkedBody.{BodyState, partial, complete, faulty}
 use Rattle.asgi_request.specs.RequestEvents.{length_events, length_state, chunked_events, ReadsBody}
-use Rattle.asgi_request.specs.Results.{ReadsHead, HoldsNoHead, HoldsRefusedHead, RefusesHead, closing, ReadsRequest, BeginsRequest, AreRequests, GivesResults}
+use Rattle.asgi_request.specs.Results.{ReadsHead, RefusesHead, closing, ReadsRequest, BeginsRequest, AreRequests, GivesResults}
 use Rattle.asgi_request.specs.Fronts.{Front, found, too_long, unfinished, front_text, head_len}
-use Rattle.asgi_request.specs.Places.{front, bad, gives, body_place, after_framing, after_head, after_too_long, Judges, Takes, Reads, shown, Reaches}
+use Rattle.asgi_request.specs.Places.{front, body_place, after_framing, after_head, Judges, Takes, Reads, shown, Reaches}
 use Rattle.asgi_request.proofs.TextLemmas.{tells, head_search_for}
 use Rattle.asgi_request.proofs.UniqueLemmas.{shown-append}
-use Rattle.asgi_request.proofs.ForwardLemmas.{Follows, Gives, From, Fits, turn_good, open_from}
+use Rattle.asgi_request.proofs.ForwardLemmas.{Follows, From, Fits, turn_good, open_from}
 
 -- ---- a head
 
@@ -128,23 +127,23 @@ framing_good : (E : List ℕ → List Next → List ℕ → Type 0) (limits : Li
     → (f : Result Framing Refusal) → body_length (record_of head) limits ≡ f → StartGood E limits bytes rest (after_framing (record_of head) f)
 unfolding head_item
 framing_good E limits bytes text rest head x is (Ok framing) e = (
-    fits_body limits framing,
-    λ results r from. head_gives E limits bytes rest head framing results r
-    (record { text = text; text_is = x; head_is = is; framing_is = e }) (body_from E limits framing rest results r from),
+  fits_body limits framing,
+  λ results r from. head_gives E limits bytes rest head framing results r
+      (record { text = text; text_is = x; head_is = is; framing_is = e }) (body_from E limits framing rest results r from),
 )
 framing_good E limits bytes text rest head x is (Err why) e = (
-    tt,
-    λ results r from. refusal_gives E limits bytes rest why results r
-    (inr (inr (record { text = text; behind = rest; head = head; text_is = x; head_is = is; refused = e }))) from,
+  tt,
+  λ results r from. refusal_gives E limits bytes rest why results r
+      (inr (inr (record { text = text; behind = rest; head = head; text_is = x; head_is = is; refused = e }))) from,
 )
 
 head_good : (E : List ℕ → List Next → List ℕ → Type 0) (limits : Limits) (bytes text rest : List ℕ)
     → IsFirstWithin EndsAsHead limits.max_head bytes text rest → (o : Option HeadRecord) → ParsesHead limits.max_headers text o
     → StartGood E limits bytes rest (after_head limits o)
 head_good E limits bytes text rest x None parses = (
-    tt,
-    λ results r from. refusal_gives E limits bytes rest BadRequest results r
-    (inr (inl (record { text = text; behind = rest; text_is = x; no_head = parses }, refl))) from,
+  tt,
+  λ results r from. refusal_gives E limits bytes rest BadRequest results r
+      (inr (inl (record { text = text; behind = rest; text_is = x; no_head = parses }, refl))) from,
 )
 head_good E limits bytes text rest x (Some record_) parses =
     subst (λ (h : HeadRecord). StartGood E limits bytes rest (after_head limits (Some h))) (sym parses.2)
@@ -230,8 +229,7 @@ all_from limits h place bytes (item ∷ items) end rest fits reads e =
         let good = start_good (All_of limits) limits bytes reads.1 (record { item = item; place = reads.0 })
         (subst (λ (p : Place). Takes limits p bytes (record { item = item; place = reads.0 }) reads.1) s reads.2) in
         let on = go good.0 in
-        let all = start_all limits bytes (shown (item ∷ []) ++ shown items) on.0 (good.1 (shown items) on.0 on.1) in
-        (
+        let all = start_all limits bytes (shown (item ∷ []) ++ shown items) on.0 (good.1 (shown items) on.0 on.1) in (
           Some all.0,
           subst (λ (p : Place). From (All_of limits) limits p bytes (shown (item ∷ items)) (Some all.0)) (sym s)
               (all.0, subst (λ (l : List Next). GivesResults limits bytes l all.0) (sym same) all.1, refl),

@@ -82,8 +82,8 @@ no_le n l h = grind (arith, nat_tests)
 some_tells : (Ends : List ℕ → Type 0) (len : List ℕ → Option ℕ) → IsSearchFor Ends len → (limit : ℕ) (bytes : List ℕ) (n : ℕ) → len bytes ≡ Some n
     → (b : Bool) → nat_le n limit ≡ b → Tells Ends limit bytes (if b then found (take n bytes) else too_long)
 some_tells Ends len s limit bytes n e true h = λ rest split. (
-    record { splits = split; ends = (s.sound bytes n e).1; shortest = shortest_of Ends len s bytes n e },
-    omega (arith, yes_le n limit h, length-take-le n bytes (s.sound bytes n e).0),
+  record { splits = split; ends = (s.sound bytes n e).1; shortest = shortest_of Ends len s bytes n e },
+  omega (arith, yes_le n limit h, length-take-le n bytes (s.sound bytes n e).0),
 )
 some_tells Ends len s limit bytes n e false h = late Ends len s limit bytes n e (no_le n limit h)
 

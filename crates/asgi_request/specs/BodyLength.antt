@@ -1,5 +1,5 @@
 -- Message body length (RFC 9112, section 6.3), and the heads that are refused.
-use Rattle.std.specs.Prelude.{ℕ, Bool, true, false, ◌&&◌, not, List, [], ◌∷◌, if◌then◌else◌, ◌==◌, nat_lt, codes, bytes_eq, Result, Ok, Err, Option, Some, None}
+use Rattle.std.specs.Prelude.{ℕ, Bool, true, false, ◌&&◌, not, List, if◌then◌else◌, ◌==◌, nat_lt, codes, bytes_eq, Result, Ok, Err, Option, Some, None}
 use Rattle.std.specs.Option.{unwrap_or}
 use Rattle.asgi_types.specs.declared.facts.Framing.{Framing}
 use Rattle.asgi_types.specs.declared.facts.Framing.TheVariants.{Length, Chunked}

@@ -1,6 +1,6 @@
 -- Where the private searches end a text that is judged only once it is whole: a head, a size line, a trailer section,
 -- or so many bytes. No promise is stated by these words.
-use Rattle.std.specs.Prelude.{ℕ, ◌+◌, ◌-◌, Bool, ◌&&◌, List, [], ◌∷◌, length, take, if◌then◌else◌, ◌==◌, nat_lt, nat_le, Option, Some, None}
+use Rattle.std.specs.Prelude.{ℕ, ◌+◌, ◌-◌, ◌&&◌, List, [], ◌∷◌, length, take, if◌then◌else◌, ◌==◌, nat_lt, nat_le, Option, Some, None}
 use Rattle.std.specs.Option.{option_map}
 use Rattle.httparse.specs.Ascii.{line_feed, carriage_return}
 use Rattle.asgi_request.specs.HeadText.{is_line_break}

@@ -1,6 +1,6 @@
 -- All the results that a byte list has, in order (RFC 9112, sections 2.2, 6 and 9.3.2). Nothing here names a read or a
 -- buffer.
-use Rattle.std.specs.Prelude.{◌≡◌, ℕ, ◌≤◌, ◌⊎◌, List, [], ◌∷◌, ◌++◌, length, map, Ok, Err}
+use Rattle.std.specs.Prelude.{◌≡◌, ℕ, ◌⊎◌, List, [], ◌∷◌, ◌++◌, map, Ok, Err}
 use Rattle.std.specs.List.{flat_map}
 use Rattle.httparse.specs.Grammar.{RequestHead}
 use Rattle.asgi_types.specs.declared.facts.Framing.{Framing}

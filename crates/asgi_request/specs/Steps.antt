@@ -1,6 +1,5 @@
 -- What the private functions that read a head tell each other. No promise is stated by these words.
-use Rattle.std.specs.Prelude.{◌≡◌, ℕ, List, Option, Some, None}
-use Rattle.httparse.specs.Grammar.{RequestHead}
+use Rattle.std.specs.Prelude.{ℕ, List}
 use Rattle.httparse.specs.declared.spans.HeaderSpan.{HeaderSpan}
 use Rattle.httparse.specs.Spans.{span_bytes}
 use Rattle.http_header.specs.FieldName.{IsFieldName}

@@ -75,11 +75,7 @@ fn judge_head(alloc: Global, limits: &Limits, text: &[u8]) -> Result<Turn, Alloc
     after_head(alloc, limits, found)
 }
 
-fn after_head(
-    alloc: Global,
-    limits: &Limits,
-    found: Option<HeadRecord>,
-) -> Result<Turn, AllocError>
+fn after_head(alloc: Global, limits: &Limits, found: Option<HeadRecord>) -> Result<Turn, AllocError>
     ensures { IfOk result (λ turn. turn ≡ spec.after_head limits.now found) }
 {
     let Some(head) = found else {

@@ -5,7 +5,10 @@ ghost use Rattle.asgi_request.specs.Scopes as spec;
 use crate::fields::has_token;
 use crate::head::HeadRecord;
 use crate::target::{path_of, query_of};
-use asgi_types::{Asgi, Chars, Extensions, Facts, Framing, HttpScope, HttpVersion, Kind, Names, Octets, Scope, State};
+use asgi_types::{
+    Asgi, Chars, Extensions, Facts, Framing, HttpScope, HttpVersion, Kind, Names, Octets, Scope,
+    State,
+};
 use percent_encoding::percent_decode;
 use std::alloc::{AllocError, Global};
 

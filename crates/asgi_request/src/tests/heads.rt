@@ -2,6 +2,8 @@
 use super::{between, check_rows, limits};
 use crate::{HeadFraming, Next, RequestReader, framing_of};
 use asgi_types::{Limits, Scope};
+use std::alloc::Global;
+use std::process::Abort;
 use std::test::Fail;
 
 #[test]
@@ -39,12 +41,30 @@ fn refuses_heads_by_the_first_case_that_holds(rt: HostRuntime) -> Result<(), Fai
             b"POST / HTTP/1.1\r\nHost: a\r\nContent-Length: 3\r\nContent-Length: 3\r\n\r\nabc",
             " bad 400",
         ),
-        (b"POST / HTTP/1.1\r\nHost: a\r\nContent-Length: +3\r\n\r\nabc", " bad 400"),
-        (b"POST / HTTP/1.1\r\nHost: a\r\nContent-Length: -3\r\n\r\nabc", " bad 400"),
-        (b"POST / HTTP/1.1\r\nHost: a\r\nContent-Length: 3 3\r\n\r\nabc", " bad 400"),
-        (b"POST / HTTP/1.1\r\nHost: a\r\nContent-Length: 3, 3\r\n\r\nabc", " bad 400"),
-        (b"POST / HTTP/1.1\r\nHost: a\r\nContent-Length: 0x3\r\n\r\nabc", " bad 400"),
-        (b"POST / HTTP/1.1\r\nHost: a\r\nContent-Length:\r\n\r\n", " bad 400"),
+        (
+            b"POST / HTTP/1.1\r\nHost: a\r\nContent-Length: +3\r\n\r\nabc",
+            " bad 400",
+        ),
+        (
+            b"POST / HTTP/1.1\r\nHost: a\r\nContent-Length: -3\r\n\r\nabc",
+            " bad 400",
+        ),
+        (
+            b"POST / HTTP/1.1\r\nHost: a\r\nContent-Length: 3 3\r\n\r\nabc",
+            " bad 400",
+        ),
+        (
+            b"POST / HTTP/1.1\r\nHost: a\r\nContent-Length: 3, 3\r\n\r\nabc",
+            " bad 400",
+        ),
+        (
+            b"POST / HTTP/1.1\r\nHost: a\r\nContent-Length: 0x3\r\n\r\nabc",
+            " bad 400",
+        ),
+        (
+            b"POST / HTTP/1.1\r\nHost: a\r\nContent-Length:\r\n\r\n",
+            " bad 400",
+        ),
         (
             b"POST / HTTP/1.1\r\nHost: a\r\nContent-Length: 00000000000000000003\r\n\r\nabc",
             " bad 400",
@@ -79,7 +99,10 @@ fn refuses_heads_by_the_first_case_that_holds(rt: HostRuntime) -> Result<(), Fai
             "head POST chunked; last() whole;",
         ),
         // What is no head: a folded line, a space before the colon, a bare CR, a NUL.
-        (b"GET / HTTP/1.1\r\nHost: a\r\nX: b\r\n c\r\n\r\n", " bad 400"),
+        (
+            b"GET / HTTP/1.1\r\nHost: a\r\nX: b\r\n c\r\n\r\n",
+            " bad 400",
+        ),
         (b"GET / HTTP/1.1\r\nHost : a\r\n\r\n", " bad 400"),
         (b"GET / HTTP/1.1\r\nHost: a\rb\r\n\r\n", " bad 400"),
         (b"GET / HTTP/1.1\r\nHost: a\0\r\n\r\n", " bad 400"),
@@ -154,17 +177,27 @@ fn shows_the_parts_of_a_target(rt: HostRuntime) -> Result<(), Fail> {
         ("/a#b", b"/a#b", b"/a#b", b""),
         ("//a/b", b"//a/b", b"//a/b", b""),
     ];
-    for (target, path, raw_path, query) in rows {
-        let text = format!(in alloc; "OPTIONS {target} HTTP/1.1\r\nHost: a\r\n\r\n")?;
-        let mut reader = RequestReader::new(alloc, Limits::usual());
-        reader.feed(text.as_bytes())?;
-        let Next::Head(Scope::Http(scope), _) = reader.next()? else {
-            panic!(&rt; "{target} is taken");
-        };
-        assert!(&rt; scope.path.as_str().as_bytes() == path, "path of {target}");
-        assert!(&rt; scope.raw_path.bytes() == raw_path, "raw path of {target}");
-        assert!(&rt; scope.query_string.bytes() == query, "query of {target}");
+    for row in rows {
+        check_target(&rt, alloc, row)?;
     }
+    Ok(())
+}
+
+fn check_target(rt: &impl Abort, alloc: Global, row: Target<'_>) -> Result<(), Fail> {
+    let (target, path, raw_path, query) = row;
+    let text = format!(in alloc; "OPTIONS {target} HTTP/1.1\r\nHost: a\r\n\r\n")?;
+    let mut reader = RequestReader::new(alloc, Limits::usual());
+    reader.feed(text.as_bytes())?;
+    let next = reader.next()?;
+    let Next::Head(scope, _) = &next else {
+        panic!(rt; "{target} is taken");
+    };
+    let Scope::Http(http) = scope else {
+        panic!(rt; "{target} is a request's");
+    };
+    assert!(rt; http.path.as_str().as_bytes() == path, "path of {target}");
+    assert!(rt; http.raw_path.bytes() == raw_path, "raw path of {target}");
+    assert!(rt; http.query_string.bytes() == query, "query of {target}");
     Ok(())
 }
 
@@ -172,8 +205,12 @@ fn shows_the_parts_of_a_target(rt: HostRuntime) -> Result<(), Fail> {
 fn shows_the_fields_of_a_scope(rt: HostRuntime) -> Result<(), Fail> {
     let mut reader = RequestReader::new(rt.alloc(), Limits::usual());
     reader.feed(b"get /x HTTP/1.0\r\nX-A: \t q  q \r\nhost:a\r\nX-A:\r\n\r\n")?;
-    let Next::Head(Scope::Http(scope), facts) = reader.next()? else {
+    let next = reader.next()?;
+    let Next::Head(any, facts) = &next else {
         panic!(&rt; "a head");
+    };
+    let Scope::Http(scope) = any else {
+        panic!(&rt; "the scope of a request");
     };
     assert_eq!(&rt; scope.method.as_str(), "GET");
     assert_eq!(&rt; scope.scheme.as_str(), "http");
@@ -205,7 +242,10 @@ fn holds_what_stands_behind_a_whole_request(rt: HostRuntime) -> Result<(), Fail>
     assert!(&rt; reader.held() == b"\r\nGE".as_slice(), "behind a request");
     reader.feed(b"T")?;
     assert!(&rt; matches!(reader.next()?, Next::Need), "an open head");
-    assert!(&rt; reader.held() == b"\r\nGET".as_slice(), "and what was fed since");
+    assert!(&rt;
+        reader.held() == b"\r\nGET".as_slice(),
+        "and what was fed since"
+    );
     Ok(())
 }
 
@@ -216,7 +256,12 @@ fn answers_the_framing_of_a_record(rt: HostRuntime) -> Result<(), Fail> {
         ("GET", b"host", b"a", HeadFraming::Length(0)),
         ("GET", b"x", b"a", HeadFraming::Bad(400)),
         ("CONNECT", b"host", b"a", HeadFraming::Bad(501)),
-        ("POST", b"transfer-encoding", b"chunked", HeadFraming::Bad(400)),
+        (
+            "POST",
+            b"transfer-encoding",
+            b"chunked",
+            HeadFraming::Bad(400),
+        ),
     ];
     for (method, name, value, wanted) in rows {
         let mut headers = asgi_types::Headers::new(alloc);

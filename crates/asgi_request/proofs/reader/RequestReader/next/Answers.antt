@@ -1,6 +1,3 @@
-use Rattle.std.proofs.Common.{◌≡◌, refl, sym, ◌∙◌, subst, ap, Option, Some, None}
-use Rattle.asgi_request.specs.declared.next.Next.{Next}
-use Rattle.asgi_request.specs.Reading.{Answers, RefusesAgain}
 use Rattle.asgi_request.proofs.ReaderLemmas.{none_need, none_again, some_again}
 use Rattle.asgi_request.proofs.StandardLemmas.{all_results}
 use Rattle.asgi_request.proofs.reader.RequestReader.next.Goals as goal
