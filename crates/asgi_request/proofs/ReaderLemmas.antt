@@ -1,0 +1,263 @@
+-- What a reader stands for after one call.
+use Rattle.std.proofs.Common.{◌≡◌, ℕ, ◌+◌, ◌<◌, ◌≤◌, Bool, true, false, List, [], ◌∷◌, ◌++◌, length, take, drop, refl, sym, ap, ◌∙◌, subst, arith, Option, Some, None, Result, Ok, Err}
+use Rattle.std.specs.Prelude.{nat_lt, ◌-◌, ◌==◌, if◌then◌else◌, bytes_eq}
+use Rattle.std.proofs.lemmas.List.{append-nil, drop-append-le, take-append-drop, drop-drop}
+use Rattle.asgi_types.specs.declared.limits.Limits.{Limits}
+use Rattle.asgi_types.specs.declared.facts.Framing.{Framing}
+use Rattle.asgi_types.specs.declared.incoming.Incoming.TheVariants.{HttpRequest}
+use Rattle.httparse.specs.Ascii.{crlf_bytes}
+use Rattle.asgi_request.specs.declared.refusal.Refusal.{Refusal}
+use Rattle.asgi_request.specs.declared.refusal.Refusal.TheVariants.{BadRequest, ContentTooLarge, HeaderFieldsTooLarge}
+use Rattle.asgi_request.specs.Refusals.{status_of}
+use Rattle.asgi_request.specs.declared.head.HeadRecord.{HeadRecord}
+use Rattle.asgi_request.specs.declared.place.Place.{Place}
+use Rattle.asgi_request.specs.declared.place.Place.TheVariants.{Start, Counted, SizeLine, Chunk, ChunkEnd, Trailers, BodyEnd, Stopped}
+use Rattle.asgi_request.specs.declared.next.Next.{Next}
+use Rattle.asgi_request.specs.declared.next.Next.TheVariants.{Need, Head, Event, Whole, Bad}
+use Rattle.asgi_request.specs.declared.place.Turn.{Turn}
+use Rattle.asgi_request.specs.Fronts.{Front, found, too_long, unfinished, front_text}
+use Rattle.asgi_request.specs.BodyLength.{body_length}
+use Rattle.asgi_request.specs.Places.{front, bad, silent, gives, after_framing, after_head, after_counted, after_chunk, after_size, after_chunk_end, after_trailers, after_too_long, JudgesText, Judges, Takes, shown, Reaches}
+use Rattle.asgi_request.specs.Reading.{Reading, StandsFor, Stepped, IsRefused, IsResult, Answers, RefusesAgain, rank}
+use Rattle.asgi_request.proofs.UniqueLemmas.{Reads-append, Reads-push, shown-append}
+
+pub held_grown : (bytes a new : List ℕ) (start : ℕ) → start ≤ length bytes → new ≡ bytes ++ a → drop start new ≡ drop start bytes ++ a
+held_grown bytes a new start h e = ap (drop start) e ∙ drop-append-le start bytes a h
+
+Reaches-append : (limits : Limits) (bytes : List ℕ) (items : List Next) (place : Place) (rest a : List ℕ)
+    → Reaches limits bytes items place rest → Reaches limits (bytes ++ a) items place (rest ++ a)
+Reaches-append limits bytes items place rest a r =
+    record { steps = r.steps; reads = Reads-append limits Start bytes r.steps place rest a r.reads; shows = r.shows }
+
+pub feed_stands : (old seen : Reading) (piece grown : List ℕ) → seen ≡ old → grown ≡ seen.held ++ piece
+    → (bytes : List ℕ) (given : List Next) → StandsFor old bytes given → Reaches seen.limits (bytes ++ piece) given seen.place grown
+feed_stands old seen piece grown same e bytes given stands =
+    let P : Reading → Type 0 = λ r. StandsFor r bytes given in
+    let Q : List ℕ → Type 0 = λ h. Reaches seen.limits (bytes ++ piece) given seen.place h in
+    subst Q (sym e) (Reaches-append seen.limits bytes given seen.place seen.held piece (subst P (sym same) stands))
+
+-- a whole text was judged
+takes_text : (limits : Limits) (place : Place) (held rest : List ℕ) (n : ℕ) (turn : Turn) → front limits place held ≡ found (take n held)
+    → JudgesText limits place (take n held) turn → drop n held ≡ rest → Takes limits place held turn rest
+takes_text limits place held rest n turn e judged r = record {
+  splits = sym (take-append-drop n held) ∙ ap (λ (l : List ℕ). take n held ++ l) r ∙ ap (λ (f : Front). front_text f ++ rest) (sym e);
+  judged = subst (λ (f : Front). Judges limits place f turn) (sym e) judged;
+}
+
+pub step_text : (old seen : Reading) (bytes : List ℕ) (start n : ℕ) (arrived text : List ℕ) (turn : Turn)
+    → seen ≡ old → seen.held ≡ drop start bytes → arrived ≡ seen.held → text ≡ take n seen.held
+    → found (take n arrived) ≡ front seen.limits seen.place arrived → JudgesText seen.limits seen.place text turn
+    → Takes old.limits old.place old.held turn (drop (start + n) bytes)
+step_text old seen bytes start n arrived text turn same held at cut is_front judged =
+    let F : List ℕ → Type 0 = λ l. front seen.limits seen.place l ≡ found (take n l) in
+    let J : List ℕ → Type 0 = λ l. JudgesText seen.limits seen.place l turn in
+    let T : Reading → Type 0 = λ r. Takes r.limits r.place r.held turn (drop (start + n) bytes) in
+    subst T same
+    (takes_text seen.limits seen.place seen.held (drop (start + n) bytes) n turn (subst F at (sym is_front)) (subst J cut judged)
+    (ap (drop n) held ∙ drop-drop n start bytes))
+
+-- one turn more
+pub stepped_stands : (old new : Reading) (item : Option Next) → Stepped old new item → (bytes : List ℕ) (given : List Next)
+    → StandsFor old bytes given → Reaches new.limits bytes (given ++ shown (item ∷ [])) new.place new.held
+stepped_stands old new item step bytes given stands =
+    let L : Limits → Type 0 = λ l. Reaches l bytes (given ++ shown (item ∷ [])) new.place new.held in
+    subst L (sym step.limits) record {
+      steps = stands.steps ++ item ∷ [];
+      reads = Reads-push old.limits Start bytes stands.steps old.place old.held item new.place new.held stands.reads step.takes;
+      shows = shown-append stands.steps (item ∷ []) ∙ ap (λ (l : List Next). l ++ shown (item ∷ [])) stands.shows;
+    }
+
+pub silent_stands : (old new : Reading) → Stepped old new None → (bytes : List ℕ) (given : List Next)
+    → StandsFor old bytes given → Reaches new.limits bytes given new.place new.held
+silent_stands old new step bytes given stands =
+    let G : List Next → Type 0 = λ g. Reaches new.limits bytes g new.place new.held in
+    subst G (append-nil given) (stepped_stands old new None step bytes given stands)
+
+-- ---- few silent turns follow one another
+
+-- a silent turn goes to a place of lower rank
+abbrev pub Falls : ℕ → Turn → Type 0
+Falls k t = t.item ≡ None → rank t.place < k
+
+moved : (k : ℕ) (turn t : Turn) → turn ≡ t → Falls k t → Falls k turn
+moved k turn t e f = let P : Turn → Type 0 = λ x. Falls k x in subst P (sym e) f
+
+framing_falls : (k : ℕ) (r : HeadRecord) (f : Result Framing Refusal) → Falls k (after_framing r f)
+framing_falls k r (Ok framing) e = absurd cc
+framing_falls k r (Err refusal) e = absurd cc
+
+head_falls : (k : ℕ) (limits : Limits) (r : Option HeadRecord) → Falls k (after_head limits r)
+head_falls k limits None e = absurd cc
+head_falls k limits (Some r) e = framing_falls k r (body_length r limits) e
+
+either_falls : (k : ℕ) (b : Bool) (x y : Next) (p q : Place) → Falls k (if b then gives x p else gives y q)
+either_falls k true x y p q e = absurd cc
+either_falls k false x y p q e = absurd cc
+
+pair_falls : (b : Bool) (sum : ℕ) → Falls 2 (if b then silent (SizeLine sum) else bad BadRequest)
+pair_falls true sum e = omega arith
+pair_falls false sum e = absurd cc
+
+size_cases : (a b : Bool) (n total : ℕ) → Falls 1 (if a then bad ContentTooLarge else (if b then silent Trailers else silent (Chunk n total)))
+size_cases true b n total e = absurd cc
+size_cases false true n total e = omega arith
+size_cases false false n total e = omega arith
+
+size_falls : (max_body sum : ℕ) (n : Option ℕ) → Falls 1 (after_size max_body sum n)
+size_falls max_body sum None e = absurd cc
+size_falls max_body sum (Some n) e = size_cases (nat_lt max_body (sum + n)) (n == 0) n (sum + n) e
+
+trailers_falls : (k : ℕ) (ok : Bool) → Falls k (after_trailers ok)
+trailers_falls k true e = absurd cc
+trailers_falls k false e = absurd cc
+
+long_falls : (k : ℕ) (place : Place) → Falls k (after_too_long place)
+long_falls k Start e = absurd cc
+long_falls k (Counted n) e = absurd cc
+long_falls k (SizeLine sum) e = absurd cc
+long_falls k (Chunk left sum) e = absurd cc
+long_falls k (ChunkEnd sum) e = absurd cc
+long_falls k Trailers e = absurd cc
+long_falls k BodyEnd e = absurd cc
+long_falls k (Stopped refusal) e = absurd cc
+
+text_falls : (limits : Limits) (place : Place) (text : List ℕ) (turn : Turn) → JudgesText limits place text turn → Falls (rank place) turn
+text_falls limits Start text turn j = moved 0 turn (after_head limits j.0) j.2 (head_falls 0 limits j.0)
+text_falls limits (Counted n) text turn j =
+    moved 0 turn (after_counted n text) j (either_falls 0 (nat_lt (length text) n) (Event (HttpRequest text true)) (Event (HttpRequest text false)) (Counted (n - length text)) BodyEnd)
+text_falls limits (SizeLine sum) text turn j = moved 1 turn (after_size limits.max_body sum j.0) j.2 (size_falls limits.max_body sum j.0)
+text_falls limits (Chunk left sum) text turn j =
+    moved 0 turn (after_chunk left sum text) j
+    (either_falls 0 (nat_lt (length text) left) (Event (HttpRequest text true)) (Event (HttpRequest text true)) (Chunk (left - length text) sum) (ChunkEnd sum))
+text_falls limits (ChunkEnd sum) text turn j = moved 2 turn (after_chunk_end sum text) j (pair_falls (bytes_eq text crlf_bytes) sum)
+text_falls limits Trailers text turn j = moved 0 turn (after_trailers j.0) j.2 (trailers_falls 0 j.0)
+text_falls limits BodyEnd text turn j = moved 0 turn (gives Whole Start) j (λ e. absurd cc)
+text_falls limits (Stopped refusal) text turn j = absurd j
+
+turn_falls : (limits : Limits) (place : Place) (f : Front) (turn : Turn) → Judges limits place f turn → Falls (rank place) turn
+turn_falls limits place (found text) turn j = text_falls limits place text turn j
+turn_falls limits place too_long turn j = moved (rank place) turn (after_too_long place) j (long_falls (rank place) place)
+turn_falls limits place unfinished turn j = absurd j
+
+pub silent_rank : (old new : Reading) → Stepped old new None → rank new.place < rank old.place
+silent_rank old new step = turn_falls old.limits old.place (front old.limits old.place old.held) (record { item = None; place = new.place }) step.takes.judged refl
+
+-- ---- what a turn gives is a result
+
+-- what a turn's item says of its place
+abbrev pub Tells : Option Next → Place → Type 0
+Tells None place = Unit {0}
+Tells (Some Need) place = ⊥
+Tells (Some (Head scope facts)) place = Unit {0}
+Tells (Some (Event event)) place = Unit {0}
+Tells (Some Whole) place = Unit {0}
+Tells (Some (Bad status)) place = (why : Refusal) × (place ≡ Stopped why) × (status ≡ status_of why)
+
+told : (turn t : Turn) → turn ≡ t → Tells t.item t.place → Tells turn.item turn.place
+told turn t e f = let P : Turn → Type 0 = λ x. Tells x.item x.place in subst P (sym e) f
+
+bad_tells : (why : Refusal) → Tells (bad why).item (bad why).place
+bad_tells why = (why, refl, refl)
+
+framing_tells : (r : HeadRecord) (f : Result Framing Refusal) → Tells (after_framing r f).item (after_framing r f).place
+framing_tells r (Ok framing) = tt
+framing_tells r (Err why) = bad_tells why
+
+head_tells : (limits : Limits) (r : Option HeadRecord) → Tells (after_head limits r).item (after_head limits r).place
+head_tells limits None = bad_tells BadRequest
+head_tells limits (Some r) = framing_tells r (body_length r limits)
+
+counted_tells : (b : Bool) (x : List ℕ) (p q : Place) (m n : Bool)
+    → let t = if b then gives (Event (HttpRequest x m)) p else gives (Event (HttpRequest x n)) q in Tells t.item t.place
+counted_tells true x p q m n = tt
+counted_tells false x p q m n = tt
+
+pair_tells : (b : Bool) (sum : ℕ) → let t = if b then silent (SizeLine sum) else bad BadRequest in Tells t.item t.place
+pair_tells true sum = tt
+pair_tells false sum = bad_tells BadRequest
+
+size_tells : (a b : Bool) (n total : ℕ) → let t = if a then bad ContentTooLarge else (if b then silent Trailers else silent (Chunk n total)) in Tells t.item t.place
+size_tells true b n total = bad_tells ContentTooLarge
+size_tells false true n total = tt
+size_tells false false n total = tt
+
+sizes_tell : (max_body sum : ℕ) (n : Option ℕ) → Tells (after_size max_body sum n).item (after_size max_body sum n).place
+sizes_tell max_body sum None = bad_tells BadRequest
+sizes_tell max_body sum (Some n) = size_tells (nat_lt max_body (sum + n)) (n == 0) n (sum + n)
+
+trailers_tell : (ok : Bool) → Tells (after_trailers ok).item (after_trailers ok).place
+trailers_tell true = tt
+trailers_tell false = bad_tells BadRequest
+
+long_tells : (place : Place) → Tells (after_too_long place).item (after_too_long place).place
+long_tells Start = bad_tells HeaderFieldsTooLarge
+long_tells (Counted n) = bad_tells BadRequest
+long_tells (SizeLine sum) = bad_tells BadRequest
+long_tells (Chunk left sum) = bad_tells BadRequest
+long_tells (ChunkEnd sum) = bad_tells BadRequest
+long_tells Trailers = bad_tells BadRequest
+long_tells BodyEnd = bad_tells BadRequest
+long_tells (Stopped refusal) = bad_tells BadRequest
+
+text_tells : (limits : Limits) (place : Place) (text : List ℕ) (turn : Turn) → JudgesText limits place text turn → Tells turn.item turn.place
+text_tells limits Start text turn j = told turn (after_head limits j.0) j.2 (head_tells limits j.0)
+text_tells limits (Counted n) text turn j = told turn (after_counted n text) j (counted_tells (nat_lt (length text) n) text (Counted (n - length text)) BodyEnd true false)
+text_tells limits (SizeLine sum) text turn j = told turn (after_size limits.max_body sum j.0) j.2 (sizes_tell limits.max_body sum j.0)
+text_tells limits (Chunk left sum) text turn j =
+    told turn (after_chunk left sum text) j (counted_tells (nat_lt (length text) left) text (Chunk (left - length text) sum) (ChunkEnd sum) true true)
+text_tells limits (ChunkEnd sum) text turn j = told turn (after_chunk_end sum text) j (pair_tells (bytes_eq text crlf_bytes) sum)
+text_tells limits Trailers text turn j = told turn (after_trailers j.0) j.2 (trailers_tell j.0)
+text_tells limits BodyEnd text turn j = told turn (gives Whole Start) j tt
+text_tells limits (Stopped refusal) text turn j = absurd j
+
+turn_tells : (limits : Limits) (place : Place) (f : Front) (turn : Turn) → Judges limits place f turn → Tells turn.item turn.place
+turn_tells limits place (found text) turn j = text_tells limits place text turn j
+turn_tells limits place too_long turn j = told turn (after_too_long place) j (long_tells place)
+turn_tells limits place unfinished turn j = absurd j
+
+of_tells : (new : Reading) (item : Option Next) → Tells item new.place → IsResult new item
+of_tells new None t = tt
+of_tells new (Some Need) t = t
+of_tells new (Some (Head scope facts)) t = tt
+of_tells new (Some (Event event)) t = tt
+of_tells new (Some Whole) t = tt
+of_tells new (Some (Bad status)) t = t
+
+pub stepped_result : (old new : Reading) (item : Option Next) → Stepped old new item → IsResult new item
+stepped_result old new item step =
+    of_tells new item (turn_tells old.limits old.place (front old.limits old.place old.held) (record { item = item; place = new.place }) step.takes.judged)
+
+-- ---- answers from results
+
+pub answers_need : (old new : Reading) (next : Next) → IsResult new (Some next) → next ≡ Need → ⊥
+answers_need old new Need r e = r
+answers_need old new (Head scope facts) r e = cc
+answers_need old new (Event event) r e = cc
+answers_need old new Whole r e = cc
+answers_need old new (Bad status) r e = cc
+
+pub answers_bad : (new : Reading) (next : Next) (status : ℕ) → IsResult new (Some next) → next ≡ Bad status → IsRefused new status
+answers_bad new next status r e = let P : Next → Type 0 = λ n. IsResult new (Some n) in subst P e r
+
+-- two refusals of one place are one
+pub same_refusal : (place : Place) (a b : Refusal) → place ≡ Stopped a → place ≡ Stopped b → status_of a ≡ status_of b
+same_refusal place a b e f = let x : Stopped a ≡ Stopped b = sym e ∙ f in let y : a ≡ b = cc in ap status_of y
+
+pub none_again : (old new : Reading) (answer : Option Next) → answer ≡ None → RefusesAgain old new answer → (status : ℕ) → IsRefused old status → ⊥
+none_again old new answer none again status refused =
+    let same : None ≡ Some (Bad status) = sym none ∙ (again status refused).0 in cc
+
+pub none_need : (old new : Reading) (answer : Option Next) → answer ≡ None
+    → (((status : ℕ) → IsRefused old status → ⊥) → Answers old new answer) → RefusesAgain old new answer → Answers old new None
+none_need old new answer none answers again =
+    let P : Option Next → Type 0 = λ a. Answers old new a in
+    subst P none (answers (none_again old new answer none again))
+
+pub some_again : (old new : Reading) (answer : Option Next) (next : Next) → answer ≡ Some next → RefusesAgain old new answer
+    → (status : ℕ) → IsRefused old status → (next ≡ Bad status) × (new ≡ old)
+some_again old new answer next some again status refused =
+    let both : Some next ≡ Some (Bad status) = sym some ∙ (again status refused).0 in
+    (same next (Bad status) both, (again status refused).1)
+  where
+    same : (a b : Next) → Some a ≡ Some b → a ≡ b
+    same a b e = cc

@@ -1,0 +1,17 @@
+pub mod HeadText
+pub mod Head
+pub mod FieldValues
+pub mod Target
+pub mod Refusals
+pub mod BodyLength
+pub mod Framings
+pub mod Scopes
+pub mod Steps
+pub mod Fronts
+pub mod Parts
+pub mod Places
+pub mod Reading
+pub mod Texts
+pub mod ChunkedBody
+pub mod RequestEvents
+pub mod Results

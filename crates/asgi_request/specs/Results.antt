@@ -1,0 +1,94 @@
+-- All the results that a byte list has, in order (RFC 9112, sections 2.2, 6 and 9.3.2). Nothing here names a read or a
+-- buffer.
+use Rattle.std.specs.Prelude.{◌≡◌, ℕ, ◌⊎◌, List, [], ◌∷◌, ◌++◌, map, Ok, Err}
+use Rattle.std.specs.List.{flat_map}
+use Rattle.httparse.specs.Grammar.{RequestHead}
+use Rattle.asgi_types.specs.declared.facts.Framing.{Framing}
+use Rattle.asgi_types.specs.declared.incoming.Incoming.{Incoming}
+use Rattle.asgi_types.specs.declared.limits.Limits.{Limits}
+use Rattle.asgi_request.specs.declared.next.Next.{Next}
+use Rattle.asgi_request.specs.declared.next.Next.TheVariants.{Head, Event, Whole, Bad}
+use Rattle.asgi_request.specs.declared.refusal.Refusal.{Refusal}
+use Rattle.asgi_request.specs.declared.refusal.Refusal.TheVariants.{BadRequest, HeaderFieldsTooLarge}
+use Rattle.asgi_request.specs.Texts.{IsFirstWithin, IsTooLong, IsUnfinished}
+use Rattle.asgi_request.specs.HeadText.{EndsAsHead}
+use Rattle.asgi_request.specs.Head.{IsHeadOf, record_of}
+use Rattle.asgi_request.specs.BodyLength.{body_length}
+use Rattle.asgi_request.specs.Scopes.{scope_of, facts_of}
+use Rattle.asgi_request.specs.Refusals.{status_of}
+use Rattle.asgi_request.specs.ChunkedBody.{BodyState, partial, complete, faulty}
+use Rattle.asgi_request.specs.RequestEvents.{ReadsBody}
+
+-- ---- one head
+
+-- The bytes begin with this head, which announces a body framed that way, and then come those behind it.
+pub record ReadsHead (limits : Limits) (bytes : List ℕ) (head : RequestHead) (framing : Framing) (behind : List ℕ) : Type 0 where
+  pub text : List ℕ
+  pub text_is : IsFirstWithin EndsAsHead limits.max_head bytes text behind
+  pub head_is : IsHeadOf limits.max_headers text head
+  pub framing_is : body_length (record_of head) limits ≡ Ok framing
+
+-- The head text is no head.
+pub record HoldsNoHead (limits : Limits) (bytes : List ℕ) : Type 0 where
+  pub text : List ℕ
+  pub behind : List ℕ
+  pub text_is : IsFirstWithin EndsAsHead limits.max_head bytes text behind
+  pub no_head : (head : RequestHead) → ¬ (IsHeadOf limits.max_headers text head)
+
+-- The bytes begin with a head that is refused.
+pub record HoldsRefusedHead (limits : Limits) (bytes : List ℕ) (why : Refusal) : Type 0 where
+  pub text : List ℕ
+  pub behind : List ℕ
+  pub head : RequestHead
+  pub text_is : IsFirstWithin EndsAsHead limits.max_head bytes text behind
+  pub head_is : IsHeadOf limits.max_headers text head
+  pub refused : body_length (record_of head) limits ≡ Err why
+
+-- What the bytes begin with is refused: it is too long a head, or none, or one that is not served.
+abbrev pub RefusesHead : Limits → List ℕ → Refusal → Type 0
+RefusesHead limits bytes why =
+    (IsTooLong EndsAsHead limits.max_head bytes × (why ≡ HeaderFieldsTooLarge))
+    ⊎ ((HoldsNoHead limits bytes × (why ≡ BadRequest)) ⊎ HoldsRefusedHead limits bytes why)
+
+-- ---- one request
+
+-- what follows the events of a body
+abbrev pub closing : BodyState → List Next
+closing partial = []
+closing (complete behind) = Whole ∷ []
+closing (faulty why) = Bad (status_of why) ∷ []
+
+-- The bytes begin with a request, as far as they go: its head, the events of its body, and how that ends.
+pub record ReadsRequest (limits : Limits) (bytes : List ℕ) (results : List Next) (state : BodyState) : Type 0 where
+  pub head : RequestHead
+  pub framing : Framing
+  pub behind : List ℕ
+  pub events : List Incoming
+  pub head_is : ReadsHead limits bytes head framing behind
+  pub body_is : ReadsBody limits framing behind events state
+  pub results_are : results ≡ Head (scope_of (record_of head)) (facts_of (record_of head) framing) ∷ (map Event events ++ closing state)
+
+-- What bytes give that begin with no whole request.
+abbrev pub BeginsRequest : Limits → List ℕ → List Next → Type 0
+BeginsRequest limits bytes results =
+    (IsUnfinished EndsAsHead limits.max_head bytes × (results ≡ []))
+    ⊎ (((why : Refusal) × RefusesHead limits bytes why × (results ≡ Bad (status_of why) ∷ []))
+    ⊎ (ReadsRequest limits bytes results partial
+    ⊎ ((why : Refusal) × ReadsRequest limits bytes results (faulty why))))
+
+-- ---- all of them
+
+-- The bytes are whole requests, one after another, which give these results, and rest stands behind them
+-- (section 9.3.2).
+abbrev pub AreRequests : Limits → List ℕ → List (List Next) → List ℕ → Type 0
+AreRequests limits bytes [] rest = bytes ≡ rest
+AreRequests limits bytes (results ∷ requests) rest =
+    (behind : List ℕ) × ReadsRequest limits bytes results (complete behind) × AreRequests limits behind requests rest
+
+-- These are all the results of the bytes, and rest stands behind the last whole request.
+pub record GivesResults (limits : Limits) (bytes : List ℕ) (results : List Next) (rest : List ℕ) : Type 0 where
+  pub requests : List (List Next)
+  pub begun : List Next
+  pub whole : AreRequests limits bytes requests rest
+  pub goes_on : BeginsRequest limits rest begun
+  pub results_are : results ≡ flat_map (λ request. request) requests ++ begun

@@ -1,0 +1,60 @@
+-- The scope and the facts of a request (ASGI HTTP message format 2.4, connection scope).
+use Rattle.std.specs.Prelude.{ℕ, Bool, true, false, ◌&&◌, ◌||◌, not, List, [], nat_lt, codes, bytes_eq, replicate, None}
+use Rattle.std.specs.Str.Lossy.{utf8_lossy}
+use Rattle.percent_encoding.specs.Percent.{percent_decode}
+use Rattle.asgi_types.specs.declared.facts.Facts.{Facts}
+use Rattle.asgi_types.specs.declared.facts.Framing.{Framing}
+use Rattle.asgi_types.specs.declared.facts.Framing.TheVariants.{Length, Chunked, Upgrade}
+use Rattle.asgi_types.specs.declared.scope.Kind.TheVariants as kind
+use Rattle.asgi_types.specs.declared.scope.Scope.{Scope}
+use Rattle.asgi_types.specs.declared.scope.Scope.TheVariants.{Http}
+use Rattle.asgi_request.specs.declared.head.HeadRecord.{HeadRecord}
+use Rattle.asgi_request.specs.BodyLength.{is_v11}
+use Rattle.asgi_request.specs.FieldValues.{has_token}
+use Rattle.asgi_request.specs.Target.{path_of, query_of}
+
+-- percent-decoded, with U+FFFD for what is not UTF-8
+abbrev pub decoded : List ℕ → List ℕ
+decoded path = utf8_lossy (percent_decode path)
+
+-- the scope, without what the connection knows: the client, the server and the state
+abbrev pub scope_of : HeadRecord → Scope
+scope_of head = Http (record {
+  asgi = kind.Http;
+  http_version = head.version;
+  method = head.method;
+  scheme = codes "http";
+  path = decoded (path_of head.target);
+  raw_path = path_of head.target;
+  query_string = query_of head.target;
+  root_path = [];
+  headers = head.headers;
+  client = None;
+  server = None;
+  state = [];
+  extensions = record { websocket_http_response = false; http_response_trailers = false };
+})
+
+-- a body is announced
+abbrev pub has_body : Framing → Bool
+has_body (Length n) = nat_lt 0 n
+has_body Chunked = true
+has_body Upgrade = false
+
+-- the client waits for `100 Continue` (RFC 9110, section 10.1.1)
+abbrev pub expects : HeadRecord → Framing → Bool
+expects head framing = is_v11 head.version && has_body framing && has_token head.headers (codes "expect") (codes "100-continue")
+
+abbrev pub facts_of : HeadRecord → Framing → Facts
+facts_of head framing = record {
+  version = head.version;
+  -- RFC 9110, section 9.3.2
+  head_only = bytes_eq head.method (codes "HEAD");
+  -- RFC 9112, section 9.3; connections of HTTP/1.0 are not kept
+  close = not (is_v11 head.version) || has_token head.headers (codes "connection") (codes "close");
+  expect = expects head framing;
+  framing = framing;
+  -- no opening handshake
+  key = replicate 24 0;
+  subprotocols = [];
+}

@@ -1,0 +1,126 @@
+//! The record of a head.
+ghost use Rattle.std.specs.Prelude.{◌≡◌, ◌<◌, ◌≤◌, length, map, take, All, IfOk, IsUtf8};
+ghost use Rattle.std.specs.Char.{to_ascii_uppercase};
+ghost use Rattle.httparse.specs.Grammar.{RequestHead};
+ghost use Rattle.httparse.specs.Spans.{span_bytes, IsHeaderWithin, IsRequestWithin, IsRequestAt};
+ghost use Rattle.asgi_request.specs.Head.{record_of as record_of_head};
+ghost use Rattle.asgi_request.specs.Head.{ParsesHead};
+ghost use Rattle.asgi_request.specs.Steps.{IsKeepable, field_at};
+
+use asgi_types::{Chars, HeaderError, Headers, HttpVersion, Octets};
+use httparse::Status;
+use httparse::spans::{EMPTY_HEADER_SPAN, HeaderSpan, RequestSpans, parse_request};
+use std::alloc::{AllocError, Global};
+
+/// The parts of a request's head.
+#[derive(Drop)]
+pub struct HeadRecord {
+    pub version: HttpVersion,
+    /// In upper case.
+    pub method: Chars,
+    /// As received.
+    pub target: Octets,
+    pub headers: Headers,
+}
+
+/// The record of a head text, or `None` where it is no head.
+pub fn parse_head(
+    alloc: Global,
+    max_headers: usize,
+    text: &[u8],
+) -> Result<Option<HeadRecord>, AllocError>
+    requires room { max_headers ≤ 128 }
+    requires short { length text.now ≤ 65535 }
+    ensures { IfOk result (λ found. ParsesHead max_headers text.now found) }
+{
+    let mut spans = [EMPTY_HEADER_SPAN; 128];
+    parse_into(alloc, text, &mut spans[..max_headers])
+}
+
+/// The same, with room for as many fields as there are spans.
+fn parse_into(
+    alloc: Global,
+    text: &[u8],
+    spans: &mut [HeaderSpan],
+) -> Result<Option<HeadRecord>, AllocError>
+    requires { length text.now ≤ 65535 }
+    ensures { IfOk result (λ found. ParsesHead (length spans.old) text.now found) }
+{
+    match parse_request(text, spans) {
+        Ok(Status::Complete(request)) if request.len == text.len() => {
+            let record = record_of(alloc, text, spans, &request)?;
+            Ok(Some(record))
+        }
+        _ => Ok(None),
+    }
+}
+
+fn record_of(
+    alloc: Global,
+    text: &[u8],
+    spans: &[HeaderSpan],
+    request: &RequestSpans,
+) -> Result<HeadRecord, AllocError>
+    requires within { IsRequestWithin text.now spans.now request.now }
+    requires fields { All (IsKeepable text.now) (take request.now.headers spans.now) }
+    requires ascii { All (λ b. b < 128) (span_bytes text.now request.now.method) }
+    ensures { (head : RequestHead) → IsRequestAt text.now spans.now request.now head → IfOk result (λ r. r ≡ record_of_head head) }
+{
+    let method = upper_case(alloc, request.method.of(text))?;
+    let target = Vec::from_slice(alloc, request.path.of(text))?;
+    let headers = headers_of(alloc, text, &spans[..request.headers])?;
+    let version = if request.version == 0 {
+        HttpVersion::V10
+    } else {
+        HttpVersion::V11
+    };
+    Ok(HeadRecord {
+        version,
+        method,
+        target: Octets::new(target),
+        headers,
+    })
+}
+
+/// The text in upper case.
+fn upper_case(alloc: Global, text: &[u8]) -> Result<Chars, AllocError>
+    requires { All (λ b. b < 128) text.now }
+    ensures { IfOk result (λ upper. upper ≡ map to_ascii_uppercase text.now) }
+{
+    let bytes = upper_bytes(alloc, text)?;
+    Ok(text_of(bytes))
+}
+
+fn upper_bytes(alloc: Global, text: &[u8]) -> Result<Vec<u8>, AllocError>
+    ensures { IfOk result (λ bytes. bytes.items ≡ map to_ascii_uppercase text.now) }
+{
+    text.iter().map(|b| b.to_ascii_uppercase()).collect(alloc)
+}
+
+fn text_of(bytes: Vec<u8>) -> Chars
+    requires { IsUtf8 bytes.items }
+    ensures { result ≡ bytes.items }
+{
+    match String::from_utf8(bytes) {
+        Ok(text) => Chars::new(text),
+        Err(_) => unreachable!(),
+    }
+}
+
+/// The fields that the spans cover.
+fn headers_of(alloc: Global, text: &[u8], spans: &[HeaderSpan]) -> Result<Headers, AllocError>
+    requires within { All (IsHeaderWithin (length text.now)) spans.now }
+    requires fields { All (IsKeepable text.now) spans.now }
+    ensures { IfOk result (λ headers. headers ≡ map (field_at text.now) spans.now) }
+{
+    let mut headers = Headers::new(alloc);
+    for span in spans {
+        match headers.push(span.name.of(text), span.value.of(text)) {
+            Ok(()) => {}
+            Err(HeaderError::NoMemory(e)) => return Err(e),
+            Err(HeaderError::BadName) => unreachable!(),
+            Err(HeaderError::BadValue) => unreachable!(),
+        }
+    }
+    Ok(headers)
+}

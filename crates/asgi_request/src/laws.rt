@@ -1,0 +1,49 @@
+//! Laws of the definitions.
+ghost use Rattle.std.specs.Prelude.{◌≡◌, ◌++◌, ℕ, List};
+ghost use Rattle.asgi_types.specs.declared.limits.Limits.{Limits};
+ghost use Rattle.asgi_request.specs.declared.next.Next.{Next};
+ghost use Rattle.asgi_request.specs.Reading.{Reading, StandsFor, IsWaiting, IsRefused, AllGiven};
+ghost use Rattle.asgi_request.specs.Places.{ResultsOf};
+ghost use Rattle.asgi_request.specs.Results.{GivesResults};
+
+/// The results of a front of the bytes come first among the results of all of them, so however
+/// the bytes are cut the results are the same.
+pub fn results_of_a_front_come_first()
+    ensures { (limits : Limits) (bytes more : List ℕ) (results others : List Next) (rest other_rest : List ℕ)
+        → GivesResults limits bytes results rest → GivesResults limits (bytes ++ more) others other_rest
+        → (further : List Next) × (others ≡ results ++ further) }
+{}
+
+/// Bytes have one list of results.
+pub fn results_are_one_list()
+    ensures { (limits : Limits) (bytes : List ℕ) (results others : List Next) (rest other_rest : List ℕ)
+        → GivesResults limits bytes results rest → GivesResults limits bytes others other_rest → results ≡ others }
+{}
+
+/// What a reader gave comes first among the results of the bytes that it was fed.
+pub fn given_results_come_first()
+    ensures { (reader : Reading) (bytes : List ℕ) (given results : List Next) (rest : List ℕ)
+        → StandsFor reader bytes given → GivesResults reader.limits bytes results rest
+        → (further : List Next) × (results ≡ given ++ further) }
+{}
+
+/// Where nothing more is due at a reader's place, it gave all the results of the bytes that it
+/// was fed.
+pub fn waiting_reader_gave_all()
+    ensures { (reader : Reading) (bytes : List ℕ) (given : List Next)
+        → StandsFor reader bytes given → IsWaiting reader → AllGiven reader bytes given }
+{}
+
+/// Where a reader has refused, it gave all the results of the bytes that it was fed.
+pub fn refused_reader_gave_all()
+    ensures { (reader : Reading) (bytes : List ℕ) (given : List Next) (status : ℕ)
+        → StandsFor reader bytes given → IsRefused reader status → AllGiven reader bytes given }
+{}
+
+/// The private places give the results that the bytes have by the definition, and no others.
+pub fn places_give_the_results()
+    ensures to_results { (limits : Limits) (bytes : List ℕ) (results : List Next)
+        → ResultsOf limits bytes results → (rest : List ℕ) × GivesResults limits bytes results rest }
+    ensures to_places { (limits : Limits) (bytes : List ℕ) (results : List Next) (rest : List ℕ)
+        → GivesResults limits bytes results rest → ResultsOf limits bytes results }
+{}

@@ -1,0 +1,25 @@
+//! Requests out of bytes that come in any pieces: scopes, facts and events
+//! (RFC 9112, ASGI HTTP message format 2.4).
+#![tactic(auto)]
+
+mod fields;
+mod framing;
+mod head;
+mod judge;
+pub mod laws;
+mod next;
+mod parts;
+mod place;
+mod reader;
+mod refusal;
+mod scope;
+mod search;
+mod target;
+
+pub use framing::{HeadFraming, framing_of};
+pub use head::HeadRecord;
+pub use next::Next;
+pub use reader::RequestReader;
+
+#[cfg(test)]
+mod tests;

@@ -1,0 +1,35 @@
+//! What one whole text is.
+ghost use Rattle.std.specs.Prelude.{◌≤◌, length};
+ghost use Rattle.asgi_request.specs.Parts.{ParsesSize, ParsesTrailers};
+
+use httparse::spans::{EMPTY_HEADER_SPAN, HeaderSpan, parse_headers};
+use httparse::{Status, parse_chunk_size};
+
+/// The size that a line announces, or `None` where it is no size line.
+pub fn parse_size(text: &[u8]) -> Option<u64>
+    ensures { ParsesSize text.now result }
+{
+    match parse_chunk_size(text) {
+        Ok(Status::Complete((n, size))) if n == text.len() => Some(size),
+        _ => None,
+    }
+}
+
+/// Whether the text is a section of at most so many fields.
+pub fn is_trailer(max_headers: usize, text: &[u8]) -> bool
+    requires { max_headers ≤ 128 }
+    ensures { ParsesTrailers max_headers text.now result }
+{
+    let mut spans = [EMPTY_HEADER_SPAN; 128];
+    is_section(text, &mut spans[..max_headers])
+}
+
+/// The same, with room for as many fields as there are spans.
+fn is_section(text: &[u8], spans: &mut [HeaderSpan]) -> bool
+    ensures { ParsesTrailers (length spans.old) text.now result }
+{
+    match parse_headers(text, spans) {
+        Ok(Status::Complete((n, _))) if n == text.len() => true,
+        _ => false,
+    }
+}

@@ -1,0 +1,150 @@
+//! Requests out of bytes that come in any pieces.
+ghost use Rattle.std.specs.Prelude.{◌≡◌, ◌≢◌, ◌++◌, ◌∷◌, [], ℕ, List, OnOk, OnErr, IfOk, Option};
+ghost use Rattle.asgi_request.specs.declared.next.Next.{Next};
+ghost use Rattle.asgi_request.specs.declared.place.Place.TheVariants.{Start};
+ghost use Rattle.asgi_request.specs.Reading.{StandsFor, EndsWhole, AllGiven, WholeGiven, IsRefused, Keeps, GoesOn, Answers, RefusesAgain, IsResult, Steps};
+
+use crate::judge::{after_too_long, judge};
+use crate::next::Next;
+use crate::place::Place;
+use crate::search::{Arrival, NEW_SEARCH, Search, arrive};
+use asgi_types::Limits;
+use std::alloc::{AllocError, Global};
+use std::marker::Model;
+
+/// Reads requests out of bytes that come in any pieces.
+#[derive(Drop)]
+pub struct RequestReader {
+    alloc: Global,
+    limits: Limits,
+    bytes: Vec<u8>,
+    /// Where the bytes behind the last text begin.
+    start: usize,
+    place: Place,
+    search: Search,
+}
+
+impl Model for RequestReader {
+    ghost use Rattle.std.specs.Prelude.{◌≤◌, length, drop};
+    ghost use Rattle.asgi_request.specs.Reading.{Reading, Resumes};
+
+    ghost Value = { Reading };
+
+    ghost view = { λ r. record { limits = r.limits; place = r.place; held = drop r.start r.bytes.items } };
+
+    ghost invariant = { λ r. (r.start ≤ length r.bytes.items) × Resumes r.place r.search (drop r.start r.bytes.items) };
+}
+
+impl RequestReader {
+    /// A reader that was fed nothing. It takes no memory.
+    pub fn new(alloc: Global, limits: Limits) -> Self
+        ensures limits { result.limits ≡ limits }
+        ensures empty { StandsFor result [] [] }
+    {
+        RequestReader {
+            alloc,
+            limits,
+            bytes: Vec::new(alloc),
+            start: 0,
+            place: Place::Start,
+            search: NEW_SEARCH,
+        }
+    }
+
+    /// Takes the next piece.
+    pub fn feed(&mut self, piece: &[u8]) -> Result<(), AllocError>
+        ensures fed { OnOk result ((bytes : List ℕ) (given : List Next) → StandsFor self.old bytes given → StandsFor self.new (bytes ++ piece.now) given) }
+        ensures limits { self.new.limits ≡ self.old.limits }
+        ensures err { OnErr result (self.new ≡ self.old) }
+    {
+        self.compact();
+        self.bytes.extend_from_slice(piece)?;
+        Ok(())
+    }
+
+    /// Drops the bytes that were read, once they are more than half of all.
+    fn compact(&mut self)
+        ensures { self.new ≡ self.old }
+    {
+        if self.start > self.bytes.len() - self.start {
+            let _read = self.bytes.drain(..self.start);
+            self.start = 0;
+        }
+    }
+
+    /// The next result, `Need` where more bytes are needed, or the last `Bad` again.
+    pub fn next(&mut self) -> Result<Next, AllocError>
+        ensures need { IfOk result (λ next. next ≡ Next.Need → (bytes : List ℕ) (given : List Next) → StandsFor self.old bytes given → StandsFor self.new bytes given × AllGiven self.new bytes given) }
+        ensures given { IfOk result (λ next. next ≢ Next.Need → ((status : ℕ) → ¬ (IsRefused self.old status)) → GoesOn self.old self.new next) }
+        ensures refused { IfOk result (λ next. (status : ℕ) → next ≡ Next.Bad status → IsRefused self.new status) }
+        ensures again { IfOk result (λ next. (status : ℕ) → IsRefused self.old status → (next ≡ Next.Bad status) × (self.new ≡ self.old)) }
+        ensures limits { self.new.limits ≡ self.old.limits }
+        ensures err { OnErr result (Keeps self.old self.new) }
+    {
+        match self.next_item()? {
+            None => Ok(Next::Need),
+            Some(item) => Ok(item),
+        }
+    }
+
+    /// The next result, or `None` where more bytes are needed.
+    fn next_item(&mut self) -> Result<Option<Next>, AllocError>
+        ensures answers { IfOk result (λ answer. ((status : ℕ) → ¬ (IsRefused self.old status)) → Answers self.old self.new answer) }
+        ensures again { IfOk result (λ answer. RefusesAgain self.old self.new answer) }
+        ensures is_result { IfOk result (λ answer. IsResult self.new answer) }
+        ensures limits { self.new.limits ≡ self.old.limits }
+        ensures err { OnErr result (Keeps self.old self.new) }
+    {
+        if let Place::Stopped(refusal) = self.place {
+            return Ok(Some(Next::Bad(refusal.status())));
+        }
+        loop {
+            let Some(turn) = self.step()? else {
+                return Ok(None);
+            };
+            if let Some(item) = turn {
+                return Ok(Some(item));
+            }
+        }
+    }
+
+    /// One turn: what the next text gives, or `None` where it is not whole.
+    fn step(&mut self) -> Result<Option<Option<Next>>, AllocError>
+        ensures steps { IfOk result (λ turn. Steps self.old self.new turn) }
+        ensures err { OnErr result (self.new ≡ self.old) }
+    {
+        let (arrival, search) = arrive(
+            &self.limits,
+            self.place,
+            &self.bytes[self.start..],
+            self.search,
+        );
+        self.search = search;
+        match arrival {
+            Arrival::Partial => Ok(None),
+            Arrival::TooLong => {
+                let turn = after_too_long(self.place);
+                self.place = turn.place;
+                self.search = NEW_SEARCH;
+                Ok(Some(turn.item))
+            }
+            Arrival::Text(n) => {
+                let text = &self.bytes[self.start..self.start + n];
+                let turn = judge(self.alloc, &self.limits, self.place, text)?;
+                self.start += n;
+                self.place = turn.place;
+                self.search = NEW_SEARCH;
+                Ok(Some(turn.item))
+            }
+        }
+    }
+
+    /// The bytes behind the last `Whole`, or all of them where none was given yet; to be called while no
+    /// `Head` or `Bad` has followed. It takes no memory.
+    pub fn held(&self) -> &[u8]
+        ensures { (bytes : List ℕ) (given : List Next) → StandsFor self.now bytes given → EndsWhole given → WholeGiven self.now bytes given result.now }
+    {
+        let start = self.start;
+        &self.bytes[start..]
+    }
+}

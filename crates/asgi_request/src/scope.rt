@@ -1,0 +1,94 @@
+//! The scope and the facts of a request.
+ghost use Rattle.std.specs.Prelude.{◌≡◌, IfOk};
+ghost use Rattle.asgi_request.specs.Scopes as spec;
+
+use crate::fields::has_token;
+use crate::head::HeadRecord;
+use crate::target::{path_of, query_of};
+use asgi_types::{
+    Asgi, Chars, Extensions, Facts, Framing, HttpScope, HttpVersion, Kind, Names, Octets, Scope,
+    State,
+};
+use percent_encoding::percent_decode;
+use std::alloc::{AllocError, Global};
+
+const HEAD: &[u8] = b"HEAD";
+
+const CONNECTION: &[u8] = b"connection";
+
+const CLOSE: &[u8] = b"close";
+
+const EXPECT: &[u8] = b"expect";
+
+const CONTINUE: &[u8] = b"100-continue";
+
+/// The scope of the request, without a client, a server and a state.
+pub fn scope_of(alloc: Global, head: HeadRecord) -> Result<Scope, AllocError>
+    ensures { IfOk result (λ scope. scope ≡ spec.scope_of head) }
+{
+    let path = decoded(alloc, path_of(head.target.bytes()))?;
+    let raw_path = Octets::new(Vec::from_slice(alloc, path_of(head.target.bytes()))?);
+    let query_string = Octets::new(Vec::from_slice(alloc, query_of(head.target.bytes()))?);
+    let scheme = Chars::new(String::from_str(alloc, "http")?);
+    Ok(Scope::Http(HttpScope {
+        asgi: Asgi::of(Kind::Http),
+        http_version: head.version,
+        method: head.method,
+        scheme,
+        path,
+        raw_path,
+        query_string,
+        root_path: Chars::new(String::new(alloc)),
+        headers: head.headers,
+        client: None,
+        server: None,
+        state: State::new(alloc),
+        extensions: Extensions {
+            websocket_http_response: false,
+            http_response_trailers: false,
+        },
+    }))
+}
+
+/// The path, percent-decoded, with U+FFFD for what is not UTF-8.
+fn decoded(alloc: Global, path: &[u8]) -> Result<Chars, AllocError>
+    ensures { IfOk result (λ text. text ≡ spec.decoded path.now) }
+{
+    let mut bytes = Vec::new(alloc);
+    percent_decode(path).append_to(&mut bytes)?;
+    Ok(Chars::new(String::from_utf8_lossy(alloc, &bytes)?))
+}
+
+/// What the server keeps of the request. It takes no memory.
+pub fn facts_of(alloc: Global, head: &HeadRecord, framing: Framing) -> Facts
+    ensures { result ≡ spec.facts_of head.now framing }
+{
+    Facts {
+        version: head.version,
+        head_only: head.method.as_str().as_bytes() == HEAD,
+        close: head.version == HttpVersion::V10 || has_token(&head.headers, CONNECTION, CLOSE),
+        expect: expects(head, framing),
+        framing,
+        key: [0; 24],
+        subprotocols: Names::new(alloc),
+    }
+}
+
+/// Whether the client waits for `100 Continue` before its body.
+fn expects(head: &HeadRecord, framing: Framing) -> bool
+    ensures { result ≡ spec.expects head.now framing }
+{
+    head.version == HttpVersion::V11
+        && has_body(framing)
+        && has_token(&head.headers, EXPECT, CONTINUE)
+}
+
+fn has_body(framing: Framing) -> bool
+    ensures { result ≡ spec.has_body framing }
+{
+    match framing {
+        Framing::Length(n) => n > 0,
+        Framing::Chunked => true,
+        Framing::Upgrade => false,
+    }
+}
