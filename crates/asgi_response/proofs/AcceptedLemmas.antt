@@ -1,0 +1,176 @@
+-- What passes behind a start and the parts that follow it.
+use Rattle.std.proofs.Common.{◌≡◌, ℕ, ◌+◌, ◌≤◌, Bool, true, false, List, [], ◌∷◌, ◌++◌, length, map, refl, sym, ap, ◌∙◌, subst, arith}
+use Rattle.std.proofs.lemmas.Bool.Decides.{nat_tests}
+use Rattle.std.proofs.lemmas.List.Sums.{fold-append}
+use Rattle.std.specs.Prelude.{not, ◌&&◌, ◌||◌, ◌==◌, nat_le, nat_lt, if◌then◌else◌, Option, Some, None}
+use Rattle.asgi_types.specs.Fields.{HeaderField}
+use Rattle.asgi_types.specs.declared.facts.Facts.{Facts}
+use Rattle.asgi_types.specs.declared.scope.Kind.TheVariants.{Http}
+use Rattle.asgi_types.specs.declared.outgoing.Outgoing.{Outgoing}
+use Rattle.asgi_types.specs.declared.outgoing.Outgoing.TheVariants.{ResponseStart, ResponseBody}
+use Rattle.asgi_protocol.specs.declared.verdict.Verdict.{Verdict}
+use Rattle.asgi_protocol.specs.declared.verdict.Verdict.TheVariants.{Ignored, Refused}
+use Rattle.asgi_protocol.specs.ContentLengths.{content_length}
+use Rattle.asgi_protocol.specs.Lawful.{IsResponse}
+use Rattle.asgi_protocol.specs.Rules.{is_status, is_faulty, is_above, is_below, promised_length, body_bytes}
+use Rattle.asgi_protocol.specs.Shapes.{is_part, is_last_part, is_row, begins_row, is_word, begins_word}
+use Rattle.asgi_protocol.specs.Verdicts.{Lines, lines_on, first_line}
+use Rattle.asgi_response.specs.Accepted.{is_pass, passes, with_event, accepted}
+use Rattle.asgi_response.specs.Standing.{part, with_sent}
+use Rattle.asgi_response.specs.Steps.{is_allowed, left_behind}
+
+-- ---- the words
+
+is_row-open : (parts : List (List ℕ)) → is_row is_part is_last_part (map part parts) ≡ false
+is_row-open [] = refl
+is_row-open (p ∷ parts) = ap (λ (b : Bool). b || false) (is_row-open parts)
+
+is_row-closed : (parts : List (List ℕ)) (last : List ℕ) → is_row is_part is_last_part (map part parts ++ ResponseBody last false ∷ []) ≡ true
+is_row-closed [] last = refl
+is_row-closed (p ∷ parts) last = ap (λ (b : Bool). b || false) (is_row-closed parts last)
+
+one_body : (body : List ℕ) (more : Bool) → begins_row is_part is_last_part (ResponseBody body more ∷ []) ≡ true
+one_body body true = refl
+one_body body false = refl
+
+begins_row-body : (parts : List (List ℕ)) (body : List ℕ) (more : Bool) → begins_row is_part is_last_part (map part parts ++ ResponseBody body more ∷ []) ≡ true
+begins_row-body [] body more = one_body body more
+begins_row-body (p ∷ parts) body more = ap (λ (b : Bool). b || false) (begins_row-body parts body more)
+
+begins_row-start : (parts : List (List ℕ)) (status : ℕ) (headers : List HeaderField) → begins_row is_part is_last_part (map part parts ++ ResponseStart status headers ∷ []) ≡ false
+begins_row-start [] status headers = refl
+begins_row-start (p ∷ parts) status headers = ap (λ (b : Bool). b || false) (begins_row-start parts status headers)
+
+-- ---- the table, where nothing was heard
+
+wrong : (a b c : Bool) (v : Verdict) → c ≡ true → is_pass (if a then Ignored else (if b then Refused 2 else (if c then Refused 3 else v))) ≡ false
+wrong true b c v h = refl
+wrong false true c v h = refl
+wrong false false true v h = refl
+wrong false false false v h = cc
+
+wrong_scope : (l : Lines) → l.wrong_scope ≡ true → is_pass (first_line Http l) ≡ false
+wrong_scope l h = wrong l.closed l.disconnected l.wrong_scope _ h
+
+closed_or_wrong : (a b c d : Bool) (v : Verdict) → d ≡ true → is_pass (if a then Ignored else (if b then Refused 2 else (if c then Refused 3 else (if d then Refused 4 else v)))) ≡ false
+closed_or_wrong true b c d v h = refl
+closed_or_wrong false true c d v h = refl
+closed_or_wrong false false true d v h = refl
+closed_or_wrong false false false true v h = refl
+closed_or_wrong false false false false v h = cc
+
+out_of_order : (l : Lines) → l.out_of_order ≡ true → is_pass (first_line Http l) ≡ false
+out_of_order l h = closed_or_wrong l.closed l.disconnected l.wrong_scope l.out_of_order _ h
+
+closed : (a : Bool) (v : Verdict) → a ≡ true → is_pass (if a then Ignored else v) ≡ false
+closed true v h = refl
+closed false v h = cc
+
+is_closed : (l : Lines) → l.closed ≡ true → is_pass (first_line Http l) ≡ false
+is_closed l h = closed l.closed _ h
+
+body_lines : (closed goes much little : Bool) → closed ≡ false → goes ≡ true
+    → is_pass (first_line Http (record { closed = closed; disconnected = false; wrong_scope = false; out_of_order = not goes; bad_status = false; bad_header = false; bad_code = false; bad_reason = false; bad_subprotocol = false; too_much_body = much; too_little_body = little }))
+    ≡ (not much && not little)
+body_lines true goes much little h k = cc
+body_lines false false much little h k = cc
+body_lines false true true little h k = refl
+body_lines false true false true h k = refl
+body_lines false true false false h k = refl
+
+start_lines : (status header : Bool)
+    → is_pass (first_line Http (record { closed = false; disconnected = false; wrong_scope = false; out_of_order = false; bad_status = not status; bad_header = header; bad_code = false; bad_reason = false; bad_subprotocol = false; too_much_body = false; too_little_body = false }))
+    ≡ (status && not header)
+start_lines true true = refl
+start_lines true false = refl
+start_lines false header = refl
+
+-- ---- the bytes that are left
+
+fits_more : (sent n left : ℕ) → (not (nat_lt (sent + left) (sent + n)) && not (false && nat_lt (sent + n) (sent + left))) ≡ nat_le n left
+fits_more sent n left = grind (arith, nat_tests)
+
+fits_last : (sent n left : ℕ) → (not (nat_lt (sent + left) (sent + n)) && not (true && nat_lt (sent + n) (sent + left))) ≡ (n == left)
+fits_last sent n left = grind (arith, nat_tests)
+
+allowed_at : (sent n : ℕ) (left : Option ℕ) (more : Bool) → (not (is_above (sent + n) (with_sent sent left)) && not (not more && is_below (sent + n) (with_sent sent left))) ≡ is_allowed left n more
+allowed_at sent n None true = refl
+allowed_at sent n None false = refl
+allowed_at sent n (Some left) true = fits_more sent n left
+allowed_at sent n (Some left) false = fits_last sent n left
+
+-- ---- the events that pass
+
+start_text : ℕ → List HeaderField → List (List ℕ) → List Outgoing
+start_text status headers parts = ResponseStart status headers ∷ map part parts
+
+passes_open : (facts : Facts) (status : ℕ) (headers : List HeaderField) (parts : List (List ℕ)) (left : Option ℕ) (body : List ℕ) (more : Bool)
+    → promised_length facts (ResponseStart status headers ∷ map part parts) ≡ with_sent (body_bytes (ResponseStart status headers ∷ map part parts)) left
+    → passes facts (ResponseStart status headers ∷ map part parts) (ResponseBody body more) ≡ is_allowed left (length body) more
+passes_open facts status headers parts left body more e =
+    let said : List Outgoing = ResponseStart status headers ∷ map part parts in
+    let sent : ℕ = body_bytes said in
+    let n : ℕ = length body in
+    body_lines (is_word Http said) (begins_word Http (said ++ ResponseBody body more ∷ [])) (is_above (sent + n) (promised_length facts said)) (not more && is_below (sent + n) (promised_length facts said))
+    (is_row-open parts) (begins_row-body parts body more)
+    ∙ ap (λ (p : Option ℕ). not (is_above (sent + n) p) && not (not more && is_below (sent + n) p)) e
+    ∙ allowed_at sent n left more
+
+pub passes_body : (facts : Facts) (said : List Outgoing) (status : ℕ) (headers : List HeaderField) (parts : List (List ℕ)) (left : Option ℕ) (body : List ℕ) (more : Bool)
+    → said ≡ ResponseStart status headers ∷ map part parts → promised_length facts said ≡ with_sent (body_bytes said) left
+    → passes facts said (ResponseBody body more) ≡ is_allowed left (length body) more
+passes_body facts said status headers parts left body more e promised =
+    ap (λ (s : List Outgoing). passes facts s (ResponseBody body more)) e
+    ∙ passes_open facts status headers parts left body more (subst (λ (s : List Outgoing). promised_length facts s ≡ with_sent (body_bytes s) left) e promised)
+
+-- no other start passes behind a start
+pub second_start : (facts : Facts) (said : List Outgoing) (status : ℕ) (headers : List HeaderField) (parts : List (List ℕ)) (again : ℕ) (fields : List HeaderField)
+    → said ≡ ResponseStart status headers ∷ map part parts → passes facts said (ResponseStart again fields) ≡ false
+second_start facts said status headers parts again fields e =
+    ap (λ (s : List Outgoing). passes facts s (ResponseStart again fields)) e
+    ∙ out_of_order (lines_on Http facts (ResponseStart status headers ∷ map part parts) false (ResponseStart again fields)) (ap not (begins_row-start parts again fields))
+
+-- nothing passes behind a whole response
+pub after_closed : (facts : Facts) (said : List Outgoing) (event : Outgoing) → IsResponse said → passes facts said event ≡ false
+after_closed facts said event r =
+    is_closed (lines_on Http facts said false event) (ap (λ (s : List Outgoing). is_word Http s) r.in_order ∙ is_row-closed r.parts r.last)
+
+pub first_start : (facts : Facts) (said : List Outgoing) (status : ℕ) (headers : List HeaderField) → said ≡ []
+    → passes facts said (ResponseStart status headers) ≡ (is_status status && not (is_faulty (content_length headers)))
+first_start facts said status headers e =
+    ap (λ (s : List Outgoing). passes facts s (ResponseStart status headers)) e ∙ start_lines (is_status status) (is_faulty (content_length headers))
+
+pub first_body : (facts : Facts) (said : List Outgoing) (body : List ℕ) (more : Bool) → said ≡ [] → passes facts said (ResponseBody body more) ≡ false
+first_body facts said body more e = ap (λ (s : List Outgoing). passes facts s (ResponseBody body more)) e
+
+pub other_scope : (facts : Facts) (said : List Outgoing) (event : Outgoing) → (lines_on Http facts said false event).wrong_scope ≡ true → passes facts said event ≡ false
+other_scope facts said event h = wrong_scope (lines_on Http facts said false event) h
+
+-- ---- the accepted events
+
+pub accepted-push : (facts : Facts) (events : List Outgoing) (event : Outgoing) → accepted facts (events ++ event ∷ []) ≡ with_event facts (accepted facts events) event
+accepted-push facts events event = fold-append (with_event facts) [] events (event ∷ [])
+
+-- ---- the bytes behind a body
+
+body_bytes-parts : (parts : List (List ℕ)) (body : List ℕ) (more : Bool) → body_bytes (map part parts ++ ResponseBody body more ∷ []) ≡ body_bytes (map part parts) + length body
+body_bytes-parts [] body more = omega arith
+body_bytes-parts (p ∷ parts) body more = ap (λ (n : ℕ). length p + n) (body_bytes-parts parts body more) ∙ omega arith
+
+left_after : (sent n : ℕ) (left : Option ℕ) → is_allowed left n true ≡ true → with_sent sent left ≡ with_sent (sent + n) (left_behind left n)
+left_after sent n None h = refl
+left_after sent n (Some left) h =
+    let fits : n ≤ left = grind (arith, nat_tests, h) in
+    ap (λ (m : ℕ). let o : Option ℕ = Some m in o) (omega (arith, fits))
+
+pub promised_behind : (facts : Facts) (said : List Outgoing) (status : ℕ) (headers : List HeaderField) (parts : List (List ℕ)) (left : Option ℕ) (body : List ℕ)
+    → said ≡ ResponseStart status headers ∷ map part parts → promised_length facts said ≡ with_sent (body_bytes said) left
+    → is_allowed left (length body) true ≡ true
+    → promised_length facts (said ++ part body ∷ []) ≡ with_sent (body_bytes (said ++ part body ∷ [])) (left_behind left (length body))
+promised_behind facts said status headers parts left body e promised fits =
+    let start : List Outgoing = ResponseStart status headers ∷ map part parts in
+    let same : promised_length facts start ≡ with_sent (body_bytes start) left = subst (λ (s : List Outgoing). promised_length facts s ≡ with_sent (body_bytes s) left) e promised in
+    ap (λ (s : List Outgoing). promised_length facts (s ++ part body ∷ [])) e ∙ same
+    ∙ left_after (body_bytes start) (length body) left fits
+    ∙ ap (λ (n : ℕ). with_sent n (left_behind left (length body))) (sym (body_bytes-parts parts body true))
+    ∙ sym (ap (λ (s : List Outgoing). with_sent (body_bytes (s ++ part body ∷ [])) (left_behind left (length body))) e)

@@ -1,0 +1,63 @@
+-- The text of a longer list goes on from that of a shorter one.
+use Rattle.std.proofs.Common.{◌≡◌, ℕ, Bool, true, false, List, [], ◌∷◌, ◌++◌, flat_map, refl, sym, ap, ◌∙◌, append_assoc}
+use Rattle.std.specs.List.{fold}
+use Rattle.std.proofs.lemmas.List.{append-nil}
+use Rattle.std.proofs.lemmas.List.Concat.{flat_map-append}
+use Rattle.std.proofs.lemmas.List.Sums.{fold-append}
+use Rattle.std.specs.Prelude.{if◌then◌else◌}
+use Rattle.asgi_types.specs.declared.facts.Facts.{Facts}
+use Rattle.asgi_types.specs.declared.outgoing.Outgoing.{Outgoing}
+use Rattle.asgi_types.specs.declared.outgoing.Outgoing.TheVariants.{ResponseStart, ResponseBody, WsAccept, WsSend, WsClose, DenialStart, DenialBody, StartupComplete, StartupFailed, ShutdownComplete, ShutdownFailed}
+use Rattle.asgi_response.specs.Accepted.{passes, with_event, accepted}
+use Rattle.asgi_response.specs.Fields.{is_chunked, closes, head_text}
+use Rattle.asgi_response.specs.Response.{body_text, message_text, continue_text}
+use Rattle.asgi_response.specs.Laws.{BeginsWith, TextOnlyGrows}
+
+same_front : (xs : List ℕ) → BeginsWith xs xs
+same_front xs = ([], sym (append-nil xs))
+
+behind : (front a b : List ℕ) → BeginsWith a b → BeginsWith (front ++ a) (front ++ b)
+behind front a b h = (h.0, ap (λ (x : List ℕ). front ++ x) h.1 ∙ sym (append_assoc front b h.0))
+
+longer : (a b c : List ℕ) → BeginsWith a b → BeginsWith b c → BeginsWith a c
+longer a b c h k = (k.0 ++ h.0, h.1 ∙ ap (λ (x : List ℕ). x ++ h.0) k.1 ∙ append_assoc c k.0 h.0)
+
+nothing_in_front : (xs : List ℕ) → BeginsWith xs []
+nothing_in_front xs = (xs, refl)
+
+message_grows : (facts : Facts) (said : List Outgoing) (event : Outgoing) → BeginsWith (message_text facts (said ++ event ∷ [])) (message_text facts said)
+message_grows facts [] event = nothing_in_front (message_text facts (event ∷ []))
+message_grows facts (ResponseStart status headers ∷ []) event = nothing_in_front (message_text facts (ResponseStart status headers ∷ event ∷ []))
+message_grows facts (ResponseStart status headers ∷ body ∷ bodies) event =
+    behind (head_text (is_chunked facts.version status headers) (closes facts.close headers) status headers)
+    (flat_map (body_text facts status headers) ((body ∷ bodies) ++ event ∷ [])) (flat_map (body_text facts status headers) (body ∷ bodies))
+    (flat_map (body_text facts status headers) (event ∷ []), flat_map-append (body_text facts status headers) (body ∷ bodies) (event ∷ []))
+message_grows facts (ResponseBody a b ∷ said) event = same_front []
+message_grows facts (WsAccept a b ∷ said) event = same_front []
+message_grows facts (WsSend a ∷ said) event = same_front []
+message_grows facts (WsClose a b ∷ said) event = same_front []
+message_grows facts (DenialStart a b ∷ said) event = same_front []
+message_grows facts (DenialBody a b ∷ said) event = same_front []
+message_grows facts (StartupComplete a ∷ said) event = same_front []
+message_grows facts (StartupFailed a ∷ said) event = same_front []
+message_grows facts (ShutdownComplete ∷ said) event = same_front []
+message_grows facts (ShutdownFailed a ∷ said) event = same_front []
+
+one_grows : (facts : Facts) (said : List Outgoing) (event : Outgoing) (b : Bool)
+    → BeginsWith (message_text facts (if b then said ++ event ∷ [] else said)) (message_text facts said)
+one_grows facts said event true = message_grows facts said event
+one_grows facts said event false = same_front (message_text facts said)
+
+fold_grows : (facts : Facts) (more said : List Outgoing) → BeginsWith (message_text facts (fold (with_event facts) said more)) (message_text facts said)
+fold_grows facts [] said = same_front (message_text facts said)
+fold_grows facts (event ∷ more) said =
+    longer (message_text facts (fold (with_event facts) (with_event facts said event) more)) (message_text facts (with_event facts said event)) (message_text facts said)
+    (fold_grows facts more (with_event facts said event)) (one_grows facts said event (passes facts said event))
+
+along : (a a' b : List ℕ) → a ≡ a' → BeginsWith a' b → BeginsWith a b
+along a a' b e h = (h.0, e ∙ h.1)
+
+pub text_grows : TextOnlyGrows
+text_grows facts events more =
+    behind (continue_text facts.expect) (message_text facts (accepted facts (events ++ more))) (message_text facts (accepted facts events))
+    (along _ _ _ (ap (message_text facts) (fold-append (with_event facts) [] events more)) (fold_grows facts more (accepted facts events)))

@@ -1,0 +1,13 @@
+pub mod BytesLemmas
+pub mod CountLemmas
+pub mod DigitLemmas
+pub mod FieldLemmas
+pub mod HeadLemmas
+pub mod RefusalLemmas
+pub mod AcceptedLemmas
+pub mod StandingLemmas
+pub mod LawLemmas
+pub mod RoomLemmas
+pub mod ReadBackLemmas
+pub mod ReadBackBodyLemmas
+pub mod StartLemmas

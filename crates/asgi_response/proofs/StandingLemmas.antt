@@ -1,0 +1,281 @@
+-- What a text stands for behind one more event, and what the event adds.
+use Rattle.std.proofs.Common.{◌≡◌, ℕ, ◌+◌, Bool, true, false, List, [], ◌∷◌, ◌++◌, length, map, flat_map, refl, sym, ap, ◌∙◌, subst, append_assoc, zero-add, length-append, ◌⊎◌, inl, inr, IsTrue, arith}
+use Rattle.std.proofs.lemmas.List.{append-nil, map-append}
+use Rattle.std.proofs.lemmas.List.Concat.{flat_map-append}
+use Rattle.std.specs.Prelude.{not, ◌&&◌, if◌then◌else◌, Option, Some, None}
+use Rattle.asgi_types.specs.Fields.{HeaderField}
+use Rattle.asgi_types.specs.declared.facts.Facts.{Facts}
+use Rattle.asgi_types.specs.declared.outgoing.Outgoing.{Outgoing}
+use Rattle.asgi_types.specs.declared.outgoing.Outgoing.TheVariants.{ResponseStart, ResponseBody, WsAccept, WsSend, WsClose, DenialStart, DenialBody, StartupComplete, StartupFailed, ShutdownComplete, ShutdownFailed}
+use Rattle.asgi_protocol.specs.ContentLengths.{content_length}
+use Rattle.asgi_protocol.specs.Rules.{is_status, is_faulty, promised_length, body_bytes}
+use Rattle.asgi_response.specs.declared.content.Coding.{Coding}
+use Rattle.asgi_response.specs.declared.content.Content.{Content}
+use Rattle.asgi_response.specs.declared.text.ResponseText.{ResponseText}
+use Rattle.asgi_response.specs.declared.text.Stage.{Stage}
+use Rattle.asgi_response.specs.declared.text.Stage.TheVariants.{Waiting, Started, Begun, Complete}
+use Rattle.asgi_response.specs.Accepted.{passes, with_event, accepted}
+use Rattle.asgi_response.specs.Content.{part_text, has_content}
+use Rattle.asgi_response.specs.Fields.{is_chunked, closes, head_text}
+use Rattle.asgi_response.specs.Response.{body_text, message_text, continue_text, response_text}
+use Rattle.asgi_response.specs.Room.{LacksRoom, LacksMemory, is_start}
+use Rattle.asgi_response.specs.Standing.{part, with_sent, IsOpen, HasStart, HasParts, IsStage, HasAccepted, StandsFor, Grows}
+use Rattle.asgi_response.specs.Steps.{coding_of, coded_text, is_allowed, left_at_start, content_due, next_stage, may_start, content_at_start, after_part, part_added, after_event, added_by}
+use Rattle.asgi_response.proofs.AcceptedLemmas.{passes_body, second_start, after_closed, first_start, first_body, other_scope, accepted-push, promised_behind}
+
+-- ---- an event that passes or not
+
+not_taken : (facts : Facts) (said : List Outgoing) (event : Outgoing) → passes facts said event ≡ false → said ≡ with_event facts said event
+not_taken facts said event h = sym (ap (λ (b : Bool). if b then said ++ event ∷ [] else said) h)
+
+keeps : (t : ResponseText) (facts : Facts) (said : List Outgoing) (event : Outgoing) → HasAccepted t facts said → passes facts said event ≡ false → HasAccepted t facts (with_event facts said event)
+keeps t facts said event at h = subst (λ (s : List Outgoing). HasAccepted t facts s) (not_taken facts said event h) at
+
+-- the one choice follows the other
+choose : (P : ResponseText → List Outgoing → Type 0) (b p : Bool) (t u : ResponseText) (said more : List Outgoing)
+    → p ≡ b → (b ≡ true → P u more) → P t said → P (if b then u else t) (if p then more else said)
+choose P true true t u said more e taken kept = taken refl
+choose P false false t u said more e taken kept = kept
+choose P true false t u said more e taken kept = cc
+choose P false true t u said more e taken kept = cc
+
+-- ---- a start
+
+with_sent-zero : (left : Option ℕ) → left ≡ with_sent 0 left
+with_sent-zero None = refl
+with_sent-zero (Some n) = ap (λ (m : ℕ). let o : Option ℕ = Some m in o) (sym (zero-add n))
+
+started : (t : ResponseText) (facts : Facts) (said : List Outgoing) (status : ℕ) (headers : List HeaderField) → HasAccepted t facts said → said ≡ []
+    → HasAccepted (record t { stage = Started (content_at_start t.version t.head_only status headers); head = head_text (is_chunked t.version status headers) (closes t.close headers) status headers })
+    facts (said ++ ResponseStart status headers ∷ [])
+started t facts said status headers at none = record {
+  version = at.version;
+  head_only = at.head_only;
+  close = at.close;
+  expect = at.expect;
+  stage = record {
+    status = status;
+    headers = headers;
+    is_open = record {
+      events = ap (λ (s : List Outgoing). s ++ ResponseStart status headers ∷ []) none;
+      coding = ap (λ v. coding_of (has_content t.head_only status) (is_chunked v status headers)) at.version
+          ∙ ap (λ (b : Bool). coding_of (has_content b status) (is_chunked facts.version status headers)) at.head_only;
+      left = ap (λ (s : List Outgoing). promised_length facts (s ++ ResponseStart status headers ∷ [])) none
+          ∙ with_sent-zero (left_at_start facts.head_only status (content_length headers))
+          ∙ sym (ap (λ (s : List Outgoing). with_sent (body_bytes (s ++ ResponseStart status headers ∷ [])) (left_at_start t.head_only status (content_length headers))) none
+          ∙ ap (λ (b : Bool). with_sent 0 (left_at_start b status (content_length headers))) at.head_only);
+    };
+    text = ap (λ v. head_text (is_chunked v status headers) (closes t.close headers) status headers) at.version
+        ∙ ap (λ (b : Bool). head_text (is_chunked facts.version status headers) (closes b headers) status headers) at.close;
+  };
+}
+
+start_step : (t : ResponseText) (facts : Facts) (said : List Outgoing) (status : ℕ) (headers : List HeaderField) → HasAccepted t facts said
+    → (stage : Stage) → IsStage facts said t.head stage
+    → HasAccepted (if may_start stage status (content_length headers)
+    then record t { stage = Started (content_at_start t.version t.head_only status headers); head = head_text (is_chunked t.version status headers) (closes t.close headers) status headers } else t)
+    facts (with_event facts said (ResponseStart status headers))
+start_step t facts said status headers at Waiting none =
+    choose (λ u s. HasAccepted u facts s) (is_status status && not (is_faulty (content_length headers))) (passes facts said (ResponseStart status headers)) t _ said _
+    (first_start facts said status headers none) (λ h. started t facts said status headers at none) at
+start_step t facts said status headers at (Started content) h =
+    keeps t facts said (ResponseStart status headers) at (second_start facts said h.status h.headers [] status headers h.is_open.events)
+start_step t facts said status headers at (Begun content) h =
+    keeps t facts said (ResponseStart status headers) at (second_start facts said h.status h.headers (h.front ++ h.last ∷ []) status headers h.is_open.events)
+start_step t facts said status headers at Complete r =
+    keeps t facts said (ResponseStart status headers) at (after_closed facts said (ResponseStart status headers) r)
+
+-- ---- a body
+
+events_behind : (said : List Outgoing) (status : ℕ) (headers : List HeaderField) (parts : List (List ℕ)) (body : List ℕ)
+    → said ≡ ResponseStart status headers ∷ map part parts → said ++ part body ∷ [] ≡ ResponseStart status headers ∷ map part (parts ++ body ∷ [])
+events_behind said status headers parts body e =
+    ap (λ (s : List Outgoing). s ++ part body ∷ []) e ∙ ap (λ (es : List Outgoing). ResponseStart status headers ∷ es) (sym (map-append part parts (body ∷ [])))
+
+next_is : (facts : Facts) (said : List Outgoing) (status : ℕ) (headers : List HeaderField) (parts : List (List ℕ)) (content : Content) (body : List ℕ) (more : Bool)
+    → IsOpen facts said status headers parts content → is_allowed content.left (length body) more ≡ true
+    → IsStage facts (said ++ ResponseBody body more ∷ []) [] (next_stage content (length body) more)
+next_is facts said status headers parts content body true o fits = record {
+  status = status;
+  headers = headers;
+  front = parts;
+  last = body;
+  is_open = record {
+    events = events_behind said status headers parts body o.events;
+    coding = o.coding;
+    left = promised_behind facts said status headers parts content.left body o.events o.left fits;
+  };
+  written = refl;
+}
+next_is facts said status headers parts content body false o fits = record {
+  status = status;
+  headers = headers;
+  parts = parts;
+  last = body;
+  in_order = ap (λ (s : List Outgoing). s ++ ResponseBody body false ∷ []) o.events;
+}
+
+open_step : (t : ResponseText) (facts : Facts) (said : List Outgoing) (status : ℕ) (headers : List HeaderField) (parts : List (List ℕ)) (content : Content) (body : List ℕ) (more : Bool)
+    → HasAccepted t facts said → IsOpen facts said status headers parts content
+    → HasAccepted (after_part t (Some content) body more) facts (with_event facts said (ResponseBody body more))
+open_step t facts said status headers parts content body more at o =
+    choose (λ u s. HasAccepted u facts s) (is_allowed content.left (length body) more) (passes facts said (ResponseBody body more)) t
+    (record t { stage = next_stage content (length body) more; head = [] }) said (said ++ ResponseBody body more ∷ [])
+    (passes_body facts said status headers parts content.left body more o.events o.left)
+    (λ fits. record { version = at.version; head_only = at.head_only; close = at.close; expect = at.expect; stage = next_is facts said status headers parts content body more o fits })
+    at
+
+body_step : (t : ResponseText) (facts : Facts) (said : List Outgoing) (body : List ℕ) (more : Bool) → HasAccepted t facts said
+    → (stage : Stage) → IsStage facts said t.head stage
+    → HasAccepted (after_part t (content_due stage) body more) facts (with_event facts said (ResponseBody body more))
+body_step t facts said body more at Waiting none = keeps t facts said (ResponseBody body more) at (first_body facts said body more none)
+body_step t facts said body more at (Started content) h = open_step t facts said h.status h.headers [] content body more at h.is_open
+body_step t facts said body more at (Begun content) h = open_step t facts said h.status h.headers (h.front ++ h.last ∷ []) content body more at h.is_open
+body_step t facts said body more at Complete r = keeps t facts said (ResponseBody body more) at (after_closed facts said (ResponseBody body more) r)
+
+-- ---- any event
+
+event_step : (t : ResponseText) (facts : Facts) (said : List Outgoing) (event : Outgoing) → HasAccepted t facts said
+    → HasAccepted (after_event t event) facts (with_event facts said event)
+event_step t facts said (ResponseStart status headers) at = start_step t facts said status headers at t.stage at.stage
+event_step t facts said (ResponseBody body more) at = body_step t facts said body more at t.stage at.stage
+event_step t facts said (WsAccept a b) at = keeps t facts said (WsAccept a b) at (other_scope facts said (WsAccept a b) refl)
+event_step t facts said (WsSend a) at = keeps t facts said (WsSend a) at (other_scope facts said (WsSend a) refl)
+event_step t facts said (WsClose a b) at = keeps t facts said (WsClose a b) at (other_scope facts said (WsClose a b) refl)
+event_step t facts said (DenialStart a b) at = keeps t facts said (DenialStart a b) at (other_scope facts said (DenialStart a b) refl)
+event_step t facts said (DenialBody a b) at = keeps t facts said (DenialBody a b) at (other_scope facts said (DenialBody a b) refl)
+event_step t facts said (StartupComplete a) at = keeps t facts said (StartupComplete a) at (other_scope facts said (StartupComplete a) refl)
+event_step t facts said (StartupFailed a) at = keeps t facts said (StartupFailed a) at (other_scope facts said (StartupFailed a) refl)
+event_step t facts said ShutdownComplete at = keeps t facts said ShutdownComplete at (other_scope facts said ShutdownComplete refl)
+event_step t facts said (ShutdownFailed a) at = keeps t facts said (ShutdownFailed a) at (other_scope facts said (ShutdownFailed a) refl)
+
+pub stands_behind : (t new : ResponseText) (facts : Facts) (events : List Outgoing) (event : Outgoing) → new ≡ after_event t event
+    → StandsFor t facts events → StandsFor new facts (events ++ event ∷ [])
+stands_behind t new facts events event e at =
+    subst (λ (u : ResponseText). HasAccepted u facts (accepted facts (events ++ event ∷ []))) (sym e)
+    (subst (λ (s : List Outgoing). HasAccepted (after_event t event) facts s) (sym (accepted-push facts events event)) (event_step t facts (accepted facts events) event at))
+
+-- ---- what the event adds
+
+coded_is : (content chunked : Bool) (body : List ℕ) (more : Bool)
+    → (if content then part_text chunked body more else []) ≡ coded_text (coding_of content chunked) body more
+coded_is true true body more = refl
+coded_is true false body more = refl
+coded_is false chunked body more = refl
+
+body_coded : (facts : Facts) (status : ℕ) (headers : List HeaderField) (coding : Coding) (body : List ℕ) (more : Bool)
+    → coding ≡ coding_of (has_content facts.head_only status) (is_chunked facts.version status headers)
+    → body_text facts status headers (ResponseBody body more) ≡ coded_text coding body more
+body_coded facts status headers coding body more e =
+    coded_is (has_content facts.head_only status) (is_chunked facts.version status headers) body more ∙ ap (λ (c : Coding). coded_text c body more) (sym e)
+
+-- the text of a start and what is behind it, where that is not empty
+message_push : (facts : Facts) (status : ℕ) (headers : List HeaderField) (first : Outgoing) (bodies : List Outgoing) (event : Outgoing)
+    → message_text facts ((ResponseStart status headers ∷ first ∷ bodies) ++ event ∷ [])
+    ≡ message_text facts (ResponseStart status headers ∷ first ∷ bodies) ++ body_text facts status headers event
+message_push facts status headers first bodies event =
+    let head : List ℕ = head_text (is_chunked facts.version status headers) (closes facts.close headers) status headers in
+    ap (λ (x : List ℕ). head ++ x) (flat_map-append (body_text facts status headers) (first ∷ bodies) (event ∷ [])
+    ∙ ap (λ (x : List ℕ). flat_map (body_text facts status headers) (first ∷ bodies) ++ x) (append-nil (body_text facts status headers event)))
+    ∙ sym (append_assoc head (flat_map (body_text facts status headers) (first ∷ bodies)) (body_text facts status headers event))
+
+parts_push : (facts : Facts) (status : ℕ) (headers : List HeaderField) (front : List (List ℕ)) (last : List ℕ) (event : Outgoing)
+    → message_text facts ((ResponseStart status headers ∷ map part (front ++ last ∷ [])) ++ event ∷ [])
+    ≡ message_text facts (ResponseStart status headers ∷ map part (front ++ last ∷ [])) ++ body_text facts status headers event
+parts_push facts status headers [] last event = message_push facts status headers (part last) [] event
+parts_push facts status headers (f ∷ front) last event = message_push facts status headers (part f) (map part (front ++ last ∷ [])) event
+
+nothing_added : (facts : Facts) (said : List Outgoing) (event : Outgoing) → passes facts said event ≡ false
+    → message_text facts (with_event facts said event) ≡ message_text facts said ++ []
+nothing_added facts said event h = ap (message_text facts) (sym (not_taken facts said event h)) ∙ sym (append-nil (message_text facts said))
+
+choose_text : (b p : Bool) (said more : List Outgoing) (facts : Facts) (added : List ℕ) → p ≡ b
+    → message_text facts more ≡ message_text facts said ++ added
+    → message_text facts (if p then more else said) ≡ message_text facts said ++ (if b then added else [])
+choose_text true true said more facts added e taken = taken
+choose_text false false said more facts added e taken = sym (append-nil (message_text facts said))
+choose_text true false said more facts added e taken = cc
+choose_text false true said more facts added e taken = cc
+
+first_part : (facts : Facts) (said : List Outgoing) (content : Content) (head body : List ℕ) (more : Bool) → HasStart facts said content head
+    → message_text facts (said ++ ResponseBody body more ∷ []) ≡ message_text facts said ++ (head ++ coded_text content.coding body more)
+first_part facts said content head body more h =
+    let event : Outgoing = ResponseBody body more in
+    let text : List ℕ = head_text (is_chunked facts.version h.status h.headers) (closes facts.close h.headers) h.status h.headers in
+    ap (λ (s : List Outgoing). message_text facts (s ++ event ∷ [])) h.is_open.events
+    ∙ ap (λ (x : List ℕ). text ++ x) (append-nil (body_text facts h.status h.headers event) ∙ body_coded facts h.status h.headers content.coding body more h.is_open.coding)
+    ∙ ap (λ (x : List ℕ). x ++ coded_text content.coding body more) (sym h.text)
+    ∙ sym (ap (λ (s : List Outgoing). message_text facts s ++ (head ++ coded_text content.coding body more)) h.is_open.events)
+
+later_part : (facts : Facts) (said : List Outgoing) (content : Content) (head body : List ℕ) (more : Bool) → HasParts facts said content head
+    → message_text facts (said ++ ResponseBody body more ∷ []) ≡ message_text facts said ++ (head ++ coded_text content.coding body more)
+later_part facts said content head body more h =
+    let event : Outgoing = ResponseBody body more in
+    ap (λ (s : List Outgoing). message_text facts (s ++ event ∷ [])) h.is_open.events
+    ∙ parts_push facts h.status h.headers h.front h.last event
+    ∙ sym (ap (λ (s : List Outgoing). message_text facts s ++ body_text facts h.status h.headers event) h.is_open.events)
+    ∙ ap (λ (x : List ℕ). message_text facts said ++ x) (body_coded facts h.status h.headers content.coding body more h.is_open.coding)
+    ∙ ap (λ (x : List ℕ). message_text facts said ++ (x ++ coded_text content.coding body more)) (sym h.written)
+
+body_adds : (facts : Facts) (said : List Outgoing) (head body : List ℕ) (more : Bool) (stage : Stage) → IsStage facts said head stage
+    → message_text facts (with_event facts said (ResponseBody body more)) ≡ message_text facts said ++ part_added head (content_due stage) body more
+body_adds facts said head body more Waiting none = nothing_added facts said (ResponseBody body more) (first_body facts said body more none)
+body_adds facts said head body more (Started content) h =
+    choose_text (is_allowed content.left (length body) more) (passes facts said (ResponseBody body more)) said (said ++ ResponseBody body more ∷ []) facts (head ++ coded_text content.coding body more)
+    (passes_body facts said h.status h.headers [] content.left body more h.is_open.events h.is_open.left) (first_part facts said content head body more h)
+body_adds facts said head body more (Begun content) h =
+    choose_text (is_allowed content.left (length body) more) (passes facts said (ResponseBody body more)) said (said ++ ResponseBody body more ∷ []) facts (head ++ coded_text content.coding body more)
+    (passes_body facts said h.status h.headers (h.front ++ h.last ∷ []) content.left body more h.is_open.events h.is_open.left) (later_part facts said content head body more h)
+body_adds facts said head body more Complete r = nothing_added facts said (ResponseBody body more) (after_closed facts said (ResponseBody body more) r)
+
+-- a start alone has no text
+start_alone : (facts : Facts) (said : List Outgoing) (status : ℕ) (headers : List HeaderField) (b : Bool) → said ≡ []
+    → message_text facts (if b then said ++ ResponseStart status headers ∷ [] else said) ≡ message_text facts said ++ []
+start_alone facts said status headers true none =
+    ap (λ (s : List Outgoing). message_text facts (s ++ ResponseStart status headers ∷ [])) none ∙ sym (ap (λ (s : List Outgoing). message_text facts s ++ []) none)
+start_alone facts said status headers false none = sym (append-nil (message_text facts said))
+
+start_adds : (facts : Facts) (said : List Outgoing) (head : List ℕ) (status : ℕ) (headers : List HeaderField) (stage : Stage) → IsStage facts said head stage
+    → message_text facts (with_event facts said (ResponseStart status headers)) ≡ message_text facts said ++ []
+start_adds facts said head status headers Waiting none = start_alone facts said status headers (passes facts said (ResponseStart status headers)) none
+start_adds facts said head status headers (Started content) h =
+    nothing_added facts said (ResponseStart status headers) (second_start facts said h.status h.headers [] status headers h.is_open.events)
+start_adds facts said head status headers (Begun content) h =
+    nothing_added facts said (ResponseStart status headers) (second_start facts said h.status h.headers (h.front ++ h.last ∷ []) status headers h.is_open.events)
+start_adds facts said head status headers Complete r = nothing_added facts said (ResponseStart status headers) (after_closed facts said (ResponseStart status headers) r)
+
+event_adds : (t : ResponseText) (facts : Facts) (said : List Outgoing) (event : Outgoing) → HasAccepted t facts said
+    → message_text facts (with_event facts said event) ≡ message_text facts said ++ added_by t event
+event_adds t facts said (ResponseStart status headers) at = start_adds facts said t.head status headers t.stage at.stage
+event_adds t facts said (ResponseBody body more) at = body_adds facts said t.head body more t.stage at.stage
+event_adds t facts said (WsAccept a b) at = nothing_added facts said (WsAccept a b) (other_scope facts said (WsAccept a b) refl)
+event_adds t facts said (WsSend a) at = nothing_added facts said (WsSend a) (other_scope facts said (WsSend a) refl)
+event_adds t facts said (WsClose a b) at = nothing_added facts said (WsClose a b) (other_scope facts said (WsClose a b) refl)
+event_adds t facts said (DenialStart a b) at = nothing_added facts said (DenialStart a b) (other_scope facts said (DenialStart a b) refl)
+event_adds t facts said (DenialBody a b) at = nothing_added facts said (DenialBody a b) (other_scope facts said (DenialBody a b) refl)
+event_adds t facts said (StartupComplete a) at = nothing_added facts said (StartupComplete a) (other_scope facts said (StartupComplete a) refl)
+event_adds t facts said (StartupFailed a) at = nothing_added facts said (StartupFailed a) (other_scope facts said (StartupFailed a) refl)
+event_adds t facts said ShutdownComplete at = nothing_added facts said ShutdownComplete (other_scope facts said ShutdownComplete refl)
+event_adds t facts said (ShutdownFailed a) at = nothing_added facts said (ShutdownFailed a) (other_scope facts said (ShutdownFailed a) refl)
+
+text_behind : (t : ResponseText) (facts : Facts) (events : List Outgoing) (event : Outgoing) → StandsFor t facts events
+    → response_text facts (events ++ event ∷ []) ≡ response_text facts events ++ added_by t event
+text_behind t facts events event at =
+    let front : List ℕ = continue_text facts.expect in
+    ap (λ (s : List Outgoing). front ++ message_text facts s) (accepted-push facts events event)
+    ∙ ap (λ (x : List ℕ). front ++ x) (event_adds t facts (accepted facts events) event at)
+    ∙ sym (append_assoc front (message_text facts (accepted facts events)) (added_by t event))
+
+pub grows_behind : (t : ResponseText) (facts : Facts) (events : List Outgoing) (event : Outgoing) (old new : List ℕ) → new ≡ old ++ added_by t event
+    → StandsFor t facts events → Grows (response_text facts events) (response_text facts (events ++ event ∷ [])) old new
+grows_behind t facts events event old new e at = record { added = added_by t event; text = text_behind t facts events event at; output = e }
+
+-- an event is refused where its own head, or the output, has no room
+pub lacks_behind : (t : ResponseText) (facts : Facts) (events : List Outgoing) (event : Outgoing) (capacity len : ℕ)
+    → IsTrue (is_start event) ⊎ LacksRoom capacity len (added_by t event) → StandsFor t facts events
+    → LacksMemory capacity len event (response_text facts events) (response_text facts (events ++ event ∷ []))
+lacks_behind t facts events event capacity len (inl start) at = inl start
+lacks_behind t facts events event capacity len (inr room) at =
+    let longer : length (response_text facts (events ++ event ∷ [])) ≡ length (response_text facts events) + length (added_by t event) =
+    ap (λ (x : List ℕ). length x) (text_behind t facts events event at) ∙ length-append (response_text facts events) (added_by t event) in
+    inr (omega (arith, room, longer))

@@ -1,0 +1,24 @@
+-- The content of a response, part by part (RFC 9112, sections 6 and 7.1).
+use Rattle.std.specs.Prelude.{ℕ, Bool, false, ◌&&◌, not, List, [], ◌++◌, length, if◌then◌else◌, ◌==◌, codes}
+use Rattle.std.specs.Fmt.{digits}
+use Rattle.httparse.specs.Ascii.{crlf_bytes}
+use Rattle.asgi_response.specs.Fields.{has_no_content}
+
+-- chunk = chunk-size CRLF chunk-data CRLF, the size in hexadecimal (section 7.1)
+abbrev pub chunk : List ℕ → List ℕ
+chunk data_bytes = digits 16 false (length data_bytes) ++ crlf_bytes ++ data_bytes ++ crlf_bytes
+
+-- last-chunk, and an empty trailer section
+abbrev pub last_chunk : List ℕ
+last_chunk = codes "0" ++ crlf_bytes ++ crlf_bytes
+
+-- a part of the content, and behind the last part of chunked content the last chunk; a part of no bytes is no chunk,
+-- since that would be the last one
+abbrev pub part_text : Bool → List ℕ → Bool → List ℕ
+part_text chunked body more_body =
+    (if length body == 0 then [] else (if chunked then chunk body else body))
+    ++ (if chunked && not more_body then last_chunk else [])
+
+-- an answer to HEAD, 204 and 304 have no content (section 6.3, rule 1)
+abbrev pub has_content : Bool → ℕ → Bool
+has_content head_only status = not head_only && not (has_no_content status)

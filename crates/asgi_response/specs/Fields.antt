@@ -1,0 +1,53 @@
+-- The head of a response: its status line, its fields and the empty line (RFC 9112, sections 4 to 6 and 9.6).
+use Rattle.std.specs.Prelude.{ℕ, Bool, true, false, ◌&&◌, ◌||◌, not, List, [], ◌++◌, if◌then◌else◌, ◌==◌, codes, bytes_eq}
+use Rattle.std.specs.List.{filter, flat_map}
+use Rattle.httparse.specs.Ascii.{crlf_bytes}
+use Rattle.asgi_types.specs.Fields.{HeaderField}
+use Rattle.asgi_types.specs.declared.outgoing.HttpVersion.{HttpVersion}
+use Rattle.asgi_types.specs.declared.outgoing.HttpVersion.TheVariants.{V10, V11}
+use Rattle.asgi_protocol.specs.ContentLengths.{ContentLength, Absent, Given, Faulty, content_length}
+use Rattle.asgi_response.specs.StatusLine.{status_line}
+use Rattle.asgi_response.specs.Tokens.{has_token}
+
+-- field-line = field-name ":" OWS field-value OWS (section 5), and its CRLF
+abbrev pub field_line : HeaderField → List ℕ
+field_line f = f.name ++ codes ": " ++ f.value ++ crlf_bytes
+
+-- such a status has no content (RFC 9110, sections 15.3.5 and 15.4.5)
+abbrev pub has_no_content : ℕ → Bool
+has_no_content status = status == 204 || status == 304
+
+-- A field of the name is the application's to say: the server alone says how the message is framed and whether it
+-- closes, and 204 has no content-length (RFC 9110, section 8.6).
+abbrev pub is_shown : ℕ → List ℕ → Bool
+is_shown status name =
+    not (bytes_eq name (codes "transfer-encoding")) && not (bytes_eq name (codes "connection"))
+    && not (status == 204 && bytes_eq name (codes "content-length"))
+
+-- the lines of the application's fields, in its order
+abbrev pub field_lines : ℕ → List HeaderField → List ℕ
+field_lines status headers = flat_map field_line (filter (λ f. is_shown status f.name) headers)
+
+abbrev pub is_v11 : HttpVersion → Bool
+is_v11 V11 = true
+is_v11 V10 = false
+
+abbrev pub is_absent : ContentLength → Bool
+is_absent Absent = true
+is_absent (Given n) = false
+is_absent Faulty = false
+
+-- The content is chunked where its length is not given (section 6.1), in an answer to HTTP/1.1 alone.
+abbrev pub is_chunked : HttpVersion → ℕ → List HeaderField → Bool
+is_chunked version status headers = is_v11 version && is_absent (content_length headers) && not (has_no_content status)
+
+-- the response says `close` where the connection closes for the request, or the application says so (section 9.6)
+abbrev pub closes : Bool → List HeaderField → Bool
+closes close headers = close || has_token headers (codes "connection") (codes "close")
+
+-- the status line, the application's fields, the server's, and the empty line
+abbrev pub head_text : Bool → Bool → ℕ → List HeaderField → List ℕ
+head_text chunked closing status headers =
+    status_line status ++ field_lines status headers
+    ++ (if chunked then codes "transfer-encoding: chunked" ++ crlf_bytes else [])
+    ++ (if closing then codes "connection: close" ++ crlf_bytes else []) ++ crlf_bytes

@@ -1,0 +1,16 @@
+pub mod Tokens
+pub mod StatusLine
+pub mod Fields
+pub mod Content
+pub mod Accepted
+pub mod Response
+pub mod Exchange
+pub mod Standing
+pub mod Laws
+pub mod Counting
+pub mod Writing
+pub mod Refusals
+pub mod Steps
+pub mod Room
+pub mod ReadBack
+pub mod ReadBackBody

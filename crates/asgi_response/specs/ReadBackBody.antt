@@ -1,0 +1,44 @@
+-- What a recipient reads of a whole response, by the grammars of `httparse` and `http1` (RFC 9112, sections 4 to 7).
+use Rattle.std.specs.Prelude.{◌≡◌, ℕ, ◌<◌, ◌^◌, Bool, true, false, List, [], ◌∷◌, ◌++◌, length, All}
+use Rattle.std.specs.List.{concat}
+use Rattle.httparse.specs.Ascii.{crlf_bytes}
+use Rattle.http1.specs.ChunkedBody.{Chunks, AreChunks, print_chunks, content}
+use Rattle.asgi_types.specs.Fields.{HeaderField}
+use Rattle.asgi_types.specs.declared.facts.Facts.{Facts}
+use Rattle.asgi_types.specs.declared.outgoing.Outgoing.{Outgoing}
+use Rattle.asgi_protocol.specs.Lawful.{IsResponse}
+use Rattle.asgi_response.specs.Accepted.{accepted}
+use Rattle.asgi_response.specs.Fields.{is_chunked, closes}
+use Rattle.asgi_response.specs.Content.{has_content}
+use Rattle.asgi_response.specs.Response.{message_text}
+use Rattle.asgi_response.specs.ReadBack.{IsSendable, IsReadAs, fields_sent}
+
+-- the bytes are chunks without extensions that carry just this content, and an empty trailer section
+pub record IsChunked (bytes sent : List ℕ) : Type 0 where
+  pub chunks : Chunks
+  pub well_formed : AreChunks 0 chunks
+  pub text : bytes ≡ print_chunks chunks ++ crlf_bytes
+  pub carried : content chunks ≡ sent
+
+-- the bytes carry just this content: chunked, or as they are
+abbrev pub Carries : Bool → List ℕ → List ℕ → Type 0
+Carries true bytes sent = IsChunked bytes sent
+Carries false bytes sent = bytes ≡ sent
+
+-- a size fits 64 bits, as that of any bytes in memory does
+abbrev pub IsSized : List ℕ → Type 0
+IsSized body = length body < 2 ^ 64
+
+-- the text of these events is read as the status, the fields, and just the bytes of the bodies
+pub record IsRead (facts : Facts) (text : List ℕ) (status : ℕ) (headers : List HeaderField) (sent : List ℕ) : Type 0 where
+  pub body : List ℕ
+  pub head : IsReadAs text status (fields_sent (is_chunked facts.version status headers) (closes facts.close headers) status headers) body
+  pub carries : Carries (is_chunked facts.version status headers) body sent
+
+-- The text of a complete response that has content, behind any `100 Continue`, is read back, where each field can be
+-- sent and each body is sized.
+abbrev pub ResponseIsReadBack : Type 0
+ResponseIsReadBack = (facts : Facts) (events : List Outgoing) (r : IsResponse (accepted facts events))
+    → All IsSendable r.headers → All IsSized (r.parts ++ r.last ∷ [])
+    → has_content facts.head_only r.status ≡ true
+    → IsRead facts (message_text facts (accepted facts events)) r.status r.headers (concat (r.parts ++ r.last ∷ []))

@@ -1,0 +1,17 @@
+-- When a text may be refused for want of memory: only where the output had no room for it.
+use Rattle.std.specs.Prelude.{ℕ, ◌+◌, ◌<◌, ◌⊎◌, Bool, true, false, IsTrue, List, length}
+use Rattle.asgi_types.specs.declared.outgoing.Outgoing.{Outgoing}
+use Rattle.asgi_types.specs.declared.outgoing.Outgoing.TheVariants.{ResponseStart}
+
+-- a vector of so many bytes and of this capacity has no room for the text
+abbrev pub LacksRoom : ℕ → ℕ → List ℕ → Type 0
+LacksRoom capacity len text = capacity < len + length text
+
+-- the head of a start is kept in memory of its own
+abbrev pub is_start : Outgoing → Bool
+is_start (ResponseStart status headers) = true
+is_start _ = false
+
+-- there was no memory for the head of a start, or the vector has no room for what makes the one text the other
+abbrev pub LacksMemory : ℕ → ℕ → Outgoing → List ℕ → List ℕ → Type 0
+LacksMemory capacity len event before after = IsTrue (is_start event) ⊎ (capacity + length before < len + length after)

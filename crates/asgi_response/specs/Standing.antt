@@ -1,0 +1,71 @@
+-- What a response text stands for: the facts of a request, and the list of events that it has taken.
+use Rattle.std.specs.Prelude.{◌≡◌, ℕ, ◌+◌, true, List, [], ◌∷◌, ◌++◌, map, Option, Some, None}
+use Rattle.asgi_types.specs.Fields.{HeaderField}
+use Rattle.asgi_types.specs.declared.facts.Facts.{Facts}
+use Rattle.asgi_types.specs.declared.outgoing.Outgoing.{Outgoing}
+use Rattle.asgi_types.specs.declared.outgoing.Outgoing.TheVariants.{ResponseStart, ResponseBody}
+use Rattle.asgi_protocol.specs.Lawful.{IsResponse}
+use Rattle.asgi_protocol.specs.Rules.{promised_length, body_bytes}
+use Rattle.asgi_response.specs.declared.text.ResponseText.{ResponseText}
+use Rattle.asgi_response.specs.declared.content.Content.{Content}
+use Rattle.asgi_response.specs.declared.text.Stage.{Stage}
+use Rattle.asgi_response.specs.declared.text.Stage.TheVariants.{Waiting, Started, Begun, Complete}
+use Rattle.asgi_response.specs.Fields.{is_chunked, closes, head_text}
+use Rattle.asgi_response.specs.Content.{has_content}
+use Rattle.asgi_response.specs.Accepted.{accepted}
+use Rattle.asgi_response.specs.Steps.{coding_of}
+
+-- the bytes that were promised, from those that were sent and those that are left
+abbrev pub with_sent : ℕ → Option ℕ → Option ℕ
+with_sent sent None = None
+with_sent sent (Some left) = Some (sent + left)
+
+abbrev pub part : List ℕ → Outgoing
+part body = ResponseBody body true
+
+-- a start and the parts behind it, and what it says of the content
+pub record IsOpen (facts : Facts) (said : List Outgoing) (status : ℕ) (headers : List HeaderField) (parts : List (List ℕ)) (content : Content) : Type 0 where
+  pub events : said ≡ ResponseStart status headers ∷ map part parts
+  pub coding : content.coding ≡ coding_of (has_content facts.head_only status) (is_chunked facts.version status headers)
+  pub left : promised_length facts said ≡ with_sent (body_bytes said) content.left
+
+-- a start alone, and the head that will be written
+pub record HasStart (facts : Facts) (said : List Outgoing) (content : Content) (head : List ℕ) : Type 0 where
+  pub status : ℕ
+  pub headers : List HeaderField
+  pub is_open : IsOpen facts said status headers [] content
+  pub text : head ≡ head_text (is_chunked facts.version status headers) (closes facts.close headers) status headers
+
+-- a start and one part or more, of which all is written
+pub record HasParts (facts : Facts) (said : List Outgoing) (content : Content) (head : List ℕ) : Type 0 where
+  pub status : ℕ
+  pub headers : List HeaderField
+  pub front : List (List ℕ)
+  pub last : List ℕ
+  pub is_open : IsOpen facts said status headers (front ++ last ∷ []) content
+  pub written : head ≡ []
+
+-- the stage of a response of which these events were accepted
+abbrev pub IsStage : Facts → List Outgoing → List ℕ → Stage → Type 0
+IsStage facts said head Waiting = said ≡ []
+IsStage facts said head (Started content) = HasStart facts said content head
+IsStage facts said head (Begun content) = HasParts facts said content head
+IsStage facts said head Complete = IsResponse said
+
+-- the text has accepted these events
+pub record HasAccepted (text : ResponseText) (facts : Facts) (said : List Outgoing) : Type 0 where
+  pub version : text.version ≡ facts.version
+  pub head_only : text.head_only ≡ facts.head_only
+  pub close : text.close ≡ facts.close
+  pub expect : text.expect ≡ facts.expect
+  pub stage : IsStage facts said text.head text.stage
+
+-- the text has taken these events
+abbrev pub StandsFor : ResponseText → Facts → List Outgoing → Type 0
+StandsFor text facts events = HasAccepted text facts (accepted facts events)
+
+-- the output grew by just what makes the one text the other
+pub record Grows (before after old new : List ℕ) : Type 0 where
+  pub added : List ℕ
+  pub text : after ≡ before ++ added
+  pub output : new ≡ old ++ added

@@ -1,0 +1,121 @@
+-- What the private functions of a response text tell each other. No promise is stated by these words.
+use Rattle.std.specs.Prelude.{ℕ, ◌-◌, Bool, true, false, ◌&&◌, not, List, [], ◌++◌, length, Option, Some, None, if◌then◌else◌, nat_le, ◌==◌}
+use Rattle.asgi_types.specs.Fields.{HeaderField}
+use Rattle.asgi_types.specs.declared.outgoing.HttpVersion.{HttpVersion}
+use Rattle.asgi_types.specs.declared.outgoing.Outgoing.{Outgoing}
+use Rattle.asgi_types.specs.declared.outgoing.Outgoing.TheVariants.{ResponseStart, ResponseBody}
+use Rattle.asgi_protocol.specs.ContentLengths as lengths
+use Rattle.asgi_protocol.specs.ContentLengths.{ContentLength, length_of_value, content_length}
+use Rattle.asgi_protocol.specs.Rules.{is_status, is_faulty, given_length}
+use Rattle.asgi_types.specs.Lengths.{length_of_text}
+use Rattle.asgi_response.specs.declared.content.Coding.{Coding}
+use Rattle.asgi_response.specs.declared.content.Coding.TheVariants.{Nothing, Plain, Chunked}
+use Rattle.asgi_response.specs.declared.content.Content.{Content}
+use Rattle.asgi_response.specs.declared.fields.Length.{Length}
+use Rattle.asgi_response.specs.declared.fields.Length.TheVariants as seen
+use Rattle.asgi_response.specs.declared.text.ResponseText.{ResponseText}
+use Rattle.asgi_response.specs.declared.text.Stage.{Stage}
+use Rattle.asgi_response.specs.declared.text.Stage.TheVariants.{Waiting, Started, Begun, Complete}
+use Rattle.asgi_response.specs.Fields.{has_no_content, is_chunked, closes, head_text}
+use Rattle.asgi_response.specs.Content.{has_content, part_text}
+
+-- ---- of the fields
+
+abbrev pub length_seen : Length → ContentLength
+length_seen seen.Absent = lengths.Absent
+length_seen (seen.Given n) = lengths.Given n
+length_seen seen.Faulty = lengths.Faulty
+
+-- the length with one more field of this value
+abbrev pub with_value : ContentLength → List ℕ → ContentLength
+with_value lengths.Absent value = length_of_value (length_of_text value)
+with_value (lengths.Given n) value = lengths.Faulty
+with_value lengths.Faulty value = lengths.Faulty
+
+-- ---- of the content
+
+-- how the bodies are written
+abbrev pub coding_of : Bool → Bool → Coding
+coding_of content chunked = if content then (if chunked then Chunked else Plain) else Nothing
+
+-- the text of a body that is written so
+abbrev pub coded_text : Coding → List ℕ → Bool → List ℕ
+coded_text Nothing body more_body = []
+coded_text Plain body more_body = part_text false body more_body
+coded_text Chunked body more_body = part_text true body more_body
+
+-- a body of so many bytes is neither too much nor too little
+abbrev pub is_allowed : Option ℕ → ℕ → Bool → Bool
+is_allowed None n more_body = true
+is_allowed (Some left) n more_body = if more_body then nat_le n left else n == left
+
+-- the bytes that are left behind a body of so many
+abbrev pub left_behind : Option ℕ → ℕ → Option ℕ
+left_behind None n = None
+left_behind (Some left) n = Some (left - n)
+
+-- the bytes that are left behind a start
+abbrev pub left_at_start : Bool → ℕ → ContentLength → Option ℕ
+left_at_start head_only status given = if head_only then None else (if has_no_content status then None else given_length given)
+
+-- ---- of the text
+
+abbrev pub is_waiting : Stage → Bool
+is_waiting Waiting = true
+is_waiting (Started content) = false
+is_waiting (Begun content) = false
+is_waiting Complete = false
+
+abbrev pub is_begun : Stage → Bool
+is_begun Waiting = false
+is_begun (Started content) = false
+is_begun (Begun content) = true
+is_begun Complete = true
+
+-- what may follow, where a body may
+abbrev pub content_due : Stage → Option Content
+content_due Waiting = None
+content_due (Started content) = Some content
+content_due (Begun content) = Some content
+content_due Complete = None
+
+abbrev pub next_stage : Content → ℕ → Bool → Stage
+next_stage content n more_body = if more_body then Begun (record content { left = left_behind content.left n }) else Complete
+
+abbrev pub may_start : Stage → ℕ → ContentLength → Bool
+may_start stage status given = is_waiting stage && is_status status && not (is_faulty given)
+
+abbrev pub content_at_start : HttpVersion → Bool → ℕ → List HeaderField → Content
+content_at_start version head_only status headers = record {
+  coding = coding_of (has_content head_only status) (is_chunked version status headers);
+  left = left_at_start head_only status (content_length headers);
+}
+
+abbrev pub after_start : ResponseText → ℕ → List HeaderField → ResponseText
+after_start text status headers =
+    if may_start text.stage status (content_length headers)
+    then record text {
+      stage = Started (content_at_start text.version text.head_only status headers);
+      head = head_text (is_chunked text.version status headers) (closes text.close headers) status headers;
+    } else text
+
+abbrev pub after_part : ResponseText → Option Content → List ℕ → Bool → ResponseText
+after_part text None body more_body = text
+after_part text (Some content) body more_body =
+    if is_allowed content.left (length body) more_body
+    then record text { stage = next_stage content (length body) more_body; head = [] } else text
+
+abbrev pub part_added : List ℕ → Option Content → List ℕ → Bool → List ℕ
+part_added head None body more_body = []
+part_added head (Some content) body more_body =
+    if is_allowed content.left (length body) more_body then head ++ coded_text content.coding body more_body else []
+
+-- the text behind an event, and what it added to the output
+abbrev pub after_event : ResponseText → Outgoing → ResponseText
+after_event text (ResponseStart status headers) = after_start text status headers
+after_event text (ResponseBody body more_body) = after_part text (content_due text.stage) body more_body
+after_event text _ = text
+
+abbrev pub added_by : ResponseText → Outgoing → List ℕ
+added_by text (ResponseBody body more_body) = part_added text.head (content_due text.stage) body more_body
+added_by text _ = []

@@ -1,0 +1,64 @@
+//! Texts appended together or not at all.
+ghost use Rattle.std.specs.Prelude.{◌≡◌, ◌++◌, ◌≤◌, ◌<◌, OnOk, OnErr, flat_map, drop, false, length};
+ghost use Rattle.std.specs.Vec.{vec_len, vec_capacity};
+ghost use Rattle.asgi_response.specs.Room.{LacksRoom};
+ghost use Rattle.std.specs.Fmt.{digits, digit_glyph};
+
+use std::alloc::AllocError;
+
+/// Appends the texts, one behind the other, in one reservation. On an error the vector is as before.
+pub fn append_all(out: &mut Vec<u8>, texts: &[&[u8]]) -> Result<(), AllocError>
+    ensures ok { OnOk result (out.new.items ≡ out.old.items ++ flat_map (λ text. text.now) texts.now) }
+    ensures err { OnErr result (out.new.items ≡ out.old.items) }
+    ensures full { OnErr result (LacksRoom (vec_capacity out.old) (vec_len out.old) (flat_map (λ text. text.now) texts.now)) }
+{
+    let start = out.len();
+    out.reserve(total_len(texts))?;
+    for text in texts {
+        if let Err(e) = out.extend_from_slice(*text) {
+            out.truncate(start);
+            return Err(e);
+        }
+    }
+    Ok(())
+}
+
+/// How many bytes the texts have together.
+fn total_len(texts: &[&[u8]]) -> usize
+    ensures { result ≤ length (flat_map (λ text. text.now) texts.now) }
+{
+    let mut total = 0usize;
+    for text in texts {
+        total = total.saturating_add(text.len());
+    }
+    total
+}
+
+/// Puts the number in lowercase hexadecimal, without leading zeros, at the end of the buffer, and says where it begins.
+pub fn hexadecimal(number: usize, buffer: &mut [u8; 16]) -> usize
+    ensures inside { result ≤ 16 }
+    ensures digits { drop result buffer.new ≡ digits 16 false number }
+{
+    let mut at = 16;
+    let mut rest = number;
+    while at > 0 {
+        at -= 1;
+        buffer[at] = digit(rest % 16);
+        rest /= 16;
+        if rest == 0 {
+            return at;
+        }
+    }
+    at
+}
+
+/// The hexadecimal digit of this value.
+fn digit(value: usize) -> u8
+    requires { value < 16 }
+    ensures { result ≡ digit_glyph false value }
+{
+    if value < 10 {
+        return b'0' + value as u8;
+    }
+    b'a' + (value - 10) as u8
+}

@@ -1,0 +1,52 @@
+//! The content of a response: how its bodies are written, and how many bytes are left.
+ghost use Rattle.std.specs.Prelude.{◌≡◌};
+
+/// How the bodies are written (RFC 9112, section 6).
+#[derive(Clone, Copy, Debug, PartialEq, Eq)]
+pub enum Coding {
+    /// The response has no content: an answer to HEAD, 204 or 304.
+    Nothing,
+    /// The bytes as they are: by their length, or until the connection closes.
+    Plain,
+    /// The chunked transfer coding.
+    Chunked,
+}
+
+/// What the bodies behind a start may be.
+#[derive(Clone, Copy, Debug, PartialEq, Eq)]
+pub struct Content {
+    pub coding: Coding,
+    /// The bytes that content-length promises and that are not there yet; `None` for any number.
+    pub left: Option<u64>,
+}
+
+impl Content {
+    ghost use Rattle.asgi_response.specs.Steps.{is_allowed, left_behind};
+
+    /// Whether a body of so many bytes is neither too much nor, where it is the last, too little.
+    pub fn allows(self, len: usize, more_body: bool) -> bool
+        ensures { result ≡ is_allowed self.left len more_body }
+    {
+        let Some(left) = self.left else {
+            return true;
+        };
+        if more_body {
+            return len as u64 <= left;
+        }
+        len as u64 == left
+    }
+
+    /// What the bodies may be behind one of so many bytes.
+    pub fn behind(self, len: usize) -> Self
+        ensures coding { result.coding ≡ self.coding }
+        ensures left { result.left ≡ left_behind self.left len }
+    {
+        let Some(left) = self.left else {
+            return self;
+        };
+        Content {
+            coding: self.coding,
+            left: Some(left.saturating_sub(len as u64)),
+        }
+    }
+}

@@ -1,0 +1,71 @@
+//! A writer that counts its failures.
+ghost use Rattle.std.specs.Prelude.{◌≡◌, ℕ, List, Option};
+ghost use Rattle.std.specs.Io.{WritesAtMost};
+ghost use Rattle.std.specs.Io.KnownBytes.{WriteAppends};
+ghost use Rattle.asgi_response.specs.Counting.{CountsFailures};
+
+use std::io::{self, Write};
+
+/// A writer that counts its failures. The count stops at the greatest `u64`.
+pub trait Counts {
+    /// The bytes that the writer holds, where they are known.
+    ghost written: { Self → Option (List ℕ) };
+
+    /// How many calls failed.
+    ghost failed: { Self → ℕ };
+
+    /// Writes some of the bytes, and answers how many. A failure is an error, or that none of some bytes were taken.
+    fn write_some(&mut self, bytes: &[u8]) -> io::Result<usize>
+        ensures bound { WritesAtMost result bytes.now }
+        ensures bytes { WriteAppends (written self.old) (written self.new) result bytes.now }
+        ensures counts { CountsFailures (failed self.old) (failed self.new) bytes.now result };
+
+    /// The count of failures.
+    fn failures(&self) -> u64
+        ensures { result ≡ failed self.now };
+}
+
+/// Any writer, with a count of its failures.
+#[derive(Drop)]
+pub struct Counted<W> {
+    pub writer: W,
+    failures: u64,
+}
+
+impl<W: Write> Counted<W> {
+    /// No failure is counted yet.
+    pub fn new(writer: W) -> Self
+        ensures writer { result.writer ≡ writer }
+        ensures failures { result.failures ≡ 0 }
+    {
+        Counted {
+            writer,
+            failures: 0,
+        }
+    }
+}
+
+impl<W: Write> Counts for Counted<W> {
+    ghost written = { λ s. W.contents s.writer };
+
+    ghost failed = { λ s. s.failures };
+
+    fn write_some(&mut self, bytes: &[u8]) -> io::Result<usize> {
+        match self.writer.write(bytes) {
+            Ok(n) => {
+                if n == 0 && !bytes.is_empty() {
+                    self.failures = self.failures.saturating_add(1);
+                }
+                Ok(n)
+            }
+            Err(e) => {
+                self.failures = self.failures.saturating_add(1);
+                Err(e)
+            }
+        }
+    }
+
+    fn failures(&self) -> u64 {
+        self.failures
+    }
+}

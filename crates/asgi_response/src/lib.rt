@@ -1,0 +1,21 @@
+//! The bytes of a response: the text of what an application says, and its writing.
+//! A text keeps a few numbers; its contract speaks of the whole list of events.
+#![tactic(auto)]
+
+mod append;
+mod content;
+mod counts;
+mod fields;
+mod head;
+mod laws;
+mod refusal;
+#[cfg(test)]
+mod tests;
+mod text;
+mod write;
+
+pub use counts::{Counted, Counts};
+pub use laws::{head_is_read_back, passed_is_accepted, response_is_read_back, text_only_grows};
+pub use refusal::{Input, refusal_text};
+pub use text::ResponseText;
+pub use write::{Wrote, write_out};

@@ -1,0 +1,153 @@
+//! Tests on public calls.
+
+mod ends;
+mod responses;
+mod statuses;
+mod writing;
+
+use crate::{Input, ResponseText};
+use asgi_types::{Facts, Framing, Headers, HttpVersion, Names, Octets, Outgoing};
+use std::alloc::Global;
+use std::test::Fail;
+
+/// What a request says of itself.
+#[derive(Clone, Copy)]
+struct Ask {
+    version: HttpVersion,
+    head_only: bool,
+    close: bool,
+    expect: bool,
+}
+
+/// A plain request over HTTP/1.1.
+const GET: Ask = Ask {
+    version: HttpVersion::V11,
+    head_only: false,
+    close: false,
+    expect: false,
+};
+
+/// The same over HTTP/1.0, after which the connection closes.
+const OLD: Ask = Ask {
+    version: HttpVersion::V10,
+    head_only: false,
+    close: true,
+    expect: false,
+};
+
+const HEAD: Ask = Ask {
+    version: HttpVersion::V11,
+    head_only: true,
+    close: false,
+    expect: false,
+};
+
+const EXPECTING: Ask = Ask {
+    version: HttpVersion::V11,
+    head_only: false,
+    close: false,
+    expect: true,
+};
+
+const CLOSING: Ask = Ask {
+    version: HttpVersion::V11,
+    head_only: false,
+    close: true,
+    expect: false,
+};
+
+type Fields = &'static [(&'static str, &'static str)];
+
+/// An event in a table.
+#[derive(Clone, Copy)]
+enum Say {
+    Start(u16, Fields),
+    Part(&'static str),
+    Last(&'static str),
+    DenialStart(u16),
+    DenialLast(&'static str),
+    StopComplete,
+}
+
+impl Ask {
+    fn facts(self, alloc: Global) -> Facts {
+        Facts {
+            version: self.version,
+            head_only: self.head_only,
+            close: self.close,
+            expect: self.expect,
+            framing: Framing::Length(0),
+            key: [0; 24],
+            subprotocols: Names::new(alloc),
+        }
+    }
+}
+
+impl Say {
+    fn event(self, alloc: Global) -> Result<Outgoing, Fail> {
+        match self {
+            Say::Start(status, fields) => {
+                let headers = headers_of(alloc, fields)?;
+                Ok(Outgoing::ResponseStart { status, headers })
+            }
+            Say::Part(text) => Ok(Outgoing::ResponseBody {
+                body: body_of(alloc, text)?,
+                more_body: true,
+            }),
+            Say::Last(text) => Ok(Outgoing::ResponseBody {
+                body: body_of(alloc, text)?,
+                more_body: false,
+            }),
+            Say::DenialStart(status) => Ok(Outgoing::DenialStart {
+                status,
+                headers: Headers::new(alloc),
+            }),
+            Say::DenialLast(text) => Ok(Outgoing::DenialBody {
+                body: body_of(alloc, text)?,
+                more_body: false,
+            }),
+            Say::StopComplete => Ok(Outgoing::ShutdownComplete),
+        }
+    }
+}
+
+fn headers_of(alloc: Global, fields: Fields) -> Result<Headers, Fail> {
+    let mut headers = Headers::new(alloc);
+    for (name, value) in fields {
+        headers.push(name.as_bytes(), value.as_bytes())?;
+    }
+    Ok(headers)
+}
+
+fn body_of(alloc: Global, text: &str) -> Result<Octets, Fail> {
+    Ok(Octets::new(Vec::from_slice(alloc, text.as_bytes())?))
+}
+
+/// All that is written for the events: what comes in front, each event's text, and what the end adds.
+fn written(alloc: Global, ask: Ask, said: &[Say], end: Option<Input>) -> Result<Vec<u8>, Fail> {
+    let mut out = Vec::new(alloc);
+    let mut text = ResponseText::new(alloc, &ask.facts(alloc));
+    text.begin(&mut out)?;
+    for say in said {
+        let event = say.event(alloc)?;
+        text.take(&event, &mut out)?;
+    }
+    if let Some(input) = end {
+        text.end(input, &mut out)?;
+    }
+    Ok(out)
+}
+
+/// The text of a start with no fields and of one last body.
+fn chunked(alloc: Global, body: Vec<u8>) -> Result<Vec<u8>, Fail> {
+    let mut out = Vec::new(alloc);
+    let mut text = ResponseText::new(alloc, &GET.facts(alloc));
+    let start = Say::Start(200, &[]).event(alloc)?;
+    text.take(&start, &mut out)?;
+    let last = Outgoing::ResponseBody {
+        body: Octets::new(body),
+        more_body: false,
+    };
+    text.take(&last, &mut out)?;
+    Ok(out)
+}

@@ -1,0 +1,115 @@
+//! What the end of a task adds.
+
+use super::{Ask, EXPECTING, GET, Say, written};
+use crate::Input;
+use std::test::Fail;
+
+const REFUSED_500: &str =
+    "HTTP/1.1 500 Internal Server Error\r\ncontent-length: 0\r\nconnection: close\r\n\r\n";
+
+const REFUSED_413: &str =
+    "HTTP/1.1 413 Content Too Large\r\ncontent-length: 0\r\nconnection: close\r\n\r\n";
+
+const REFUSED_400: &str =
+    "HTTP/1.1 400 Bad Request\r\ncontent-length: 0\r\nconnection: close\r\n\r\n";
+
+const BEGUN: &str = "HTTP/1.1 200 OK\r\ntransfer-encoding: chunked\r\n\r\n1\r\nx\r\n";
+
+const COMPLETE: &str = "HTTP/1.1 200 OK\r\ntransfer-encoding: chunked\r\n\r\n1\r\nx\r\n0\r\n\r\n";
+
+const CLOSED: &str =
+    "HTTP/1.1 200 OK\r\ntransfer-encoding: chunked\r\nconnection: close\r\n\r\n1\r\nx\r\n0\r\n\r\n";
+
+const START: Say = Say::Start(200, &[]);
+
+const CLOSE: Say = Say::Start(200, &[("connection", "close")]);
+
+type Row = (&'static str, &'static [Say], Input, &'static str);
+
+const ROWS: [Row; 16] = [
+    ("nothing said, whole", &[], Input::Whole, REFUSED_500),
+    ("nothing said, faulty", &[], Input::Faulty(400), REFUSED_400),
+    ("nothing said, broken off", &[], Input::Broken, ""),
+    ("a start, whole", &[START], Input::Whole, REFUSED_500),
+    ("a start, faulty", &[START], Input::Faulty(413), REFUSED_413),
+    ("a start, broken off", &[START], Input::Broken, ""),
+    (
+        "begun, whole",
+        &[START, Say::Part("x")],
+        Input::Whole,
+        BEGUN,
+    ),
+    (
+        "begun, faulty",
+        &[START, Say::Part("x")],
+        Input::Faulty(413),
+        BEGUN,
+    ),
+    (
+        "begun, broken off",
+        &[START, Say::Part("x")],
+        Input::Broken,
+        BEGUN,
+    ),
+    (
+        "complete, whole",
+        &[START, Say::Last("x")],
+        Input::Whole,
+        COMPLETE,
+    ),
+    (
+        "complete, faulty",
+        &[START, Say::Last("x")],
+        Input::Faulty(400),
+        COMPLETE,
+    ),
+    (
+        "complete, broken off",
+        &[START, Say::Last("x")],
+        Input::Broken,
+        COMPLETE,
+    ),
+    (
+        "complete and it closes, whole",
+        &[CLOSE, Say::Last("x")],
+        Input::Whole,
+        CLOSED,
+    ),
+    (
+        "complete and it closes, faulty",
+        &[CLOSE, Say::Last("x")],
+        Input::Faulty(413),
+        CLOSED,
+    ),
+    (
+        "complete and it closes, broken off",
+        &[CLOSE, Say::Last("x")],
+        Input::Broken,
+        CLOSED,
+    ),
+    (
+        "another status",
+        &[],
+        Input::Faulty(777),
+        "HTTP/1.1 777 \r\ncontent-length: 0\r\nconnection: close\r\n\r\n",
+    ),
+];
+
+#[test]
+fn the_end_answers_where_no_body_was_taken(rt: HostRuntime) -> Result<(), Fail> {
+    for (name, said, input, text) in ROWS {
+        let out = written(rt.alloc(), GET, said, Some(input))?;
+        assert_eq!(rt; out.as_slice(), text.as_bytes(), "{name}");
+    }
+    Ok(())
+}
+
+#[test]
+fn a_client_that_waits_is_told_to_go_on_before_a_refusal(rt: HostRuntime) -> Result<(), Fail> {
+    let ask: Ask = EXPECTING;
+    let out = written(rt.alloc(), ask, &[], Some(Input::Faulty(413)))?;
+    let text =
+        "HTTP/1.1 100 Continue\r\n\r\nHTTP/1.1 413 Content Too Large\r\ncontent-length: 0\r\nconnection: close\r\n\r\n";
+    assert_eq!(rt; out.as_slice(), text.as_bytes());
+    Ok(())
+}

@@ -1,0 +1,170 @@
+//! Writing to a writer that fails at stated calls.
+
+use crate::{Counted, Counts, Wrote, write_out};
+use std::io::{self, ErrorKind, Write};
+use std::test::Fail;
+
+/// Would block so many times, then takes at most so many bytes a call, and fails once it holds so many.
+#[derive(Drop)]
+struct Choppy {
+    held: Vec<u8>,
+    blocks: u32,
+    kind: ErrorKind,
+    most: usize,
+    room: usize,
+}
+
+impl Write for Choppy {
+    fn write(&mut self, buf: &[u8]) -> io::Result<usize> {
+        if self.blocks > 0 {
+            self.blocks -= 1;
+            return Err(self.kind.into());
+        }
+        if self.held.len() >= self.room {
+            return Err(ErrorKind::BrokenPipe.into());
+        }
+        let count = buf.len().min(self.most);
+        self.held.extend_from_slice(&buf[..count])?;
+        Ok(count)
+    }
+
+    fn flush(&mut self) -> io::Result<()> {
+        Ok(())
+    }
+}
+
+type Row = (
+    &'static str,
+    u32,
+    ErrorKind,
+    usize,
+    usize,
+    Wrote,
+    &'static str,
+    u64,
+);
+
+const ROWS: [Row; 9] = [
+    (
+        "at once",
+        0,
+        ErrorKind::WouldBlock,
+        9,
+        9,
+        Wrote::Done,
+        "abc",
+        0,
+    ),
+    (
+        "byte by byte",
+        0,
+        ErrorKind::WouldBlock,
+        1,
+        9,
+        Wrote::Done,
+        "abc",
+        0,
+    ),
+    (
+        "1,000 that would block",
+        1_000,
+        ErrorKind::WouldBlock,
+        9,
+        9,
+        Wrote::Done,
+        "abc",
+        1_000,
+    ),
+    (
+        "1,001 that would block",
+        1_001,
+        ErrorKind::WouldBlock,
+        9,
+        9,
+        Wrote::Failed(0),
+        "",
+        1_001,
+    ),
+    (
+        "1,000 interrupted",
+        1_000,
+        ErrorKind::Interrupted,
+        2,
+        9,
+        Wrote::Done,
+        "abc",
+        1_000,
+    ),
+    (
+        "1,001 interrupted",
+        1_001,
+        ErrorKind::Interrupted,
+        2,
+        9,
+        Wrote::Failed(0),
+        "",
+        1_001,
+    ),
+    (
+        "another fault is no pause",
+        1,
+        ErrorKind::TimedOut,
+        9,
+        9,
+        Wrote::Failed(0),
+        "",
+        1,
+    ),
+    (
+        "a fault behind two bytes",
+        0,
+        ErrorKind::WouldBlock,
+        1,
+        2,
+        Wrote::Failed(2),
+        "ab",
+        1,
+    ),
+    (
+        "nothing is taken",
+        0,
+        ErrorKind::WouldBlock,
+        0,
+        9,
+        Wrote::Failed(0),
+        "",
+        1,
+    ),
+];
+
+#[test]
+fn writes_are_tried_again(rt: HostRuntime) -> Result<(), Fail> {
+    for (name, blocks, kind, most, room, wrote, held, failures) in ROWS {
+        let held_bytes = Vec::new(rt.alloc());
+        let mut writer = Counted::new(Choppy {
+            held: held_bytes,
+            blocks,
+            kind,
+            most,
+            room,
+        });
+        assert_eq!(rt; write_out(&mut writer, b"abc"), wrote, "{name}");
+        assert_eq!(rt; writer.writer.held.as_slice(), held.as_bytes(), "{name}");
+        assert_eq!(rt; writer.failures(), failures, "{name}");
+    }
+    Ok(())
+}
+
+#[test]
+fn an_empty_text_is_written_without_a_call(rt: HostRuntime) -> Result<(), Fail> {
+    let mut writer = Counted::new(Choppy {
+        held: Vec::new(rt.alloc()),
+        blocks: 1,
+        kind: ErrorKind::BrokenPipe,
+        most: 1,
+        room: 1,
+    });
+    assert_eq!(rt; write_out(&mut writer, b""), Wrote::Done);
+    assert_eq!(rt; writer.failures(), 0);
+    Ok(())
+}

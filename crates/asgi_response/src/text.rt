@@ -1,0 +1,339 @@
+//! The text of what an application says.
+ghost use Rattle.std.specs.Prelude.{◌≡◌, ◌++◌, ◌∷◌, [], ◌&&◌, ◌⊎◌, not, true, IsTrue, List, OnOk, OnErr, if◌then◌else◌};
+ghost use Rattle.std.specs.Vec.{vec_len, vec_capacity};
+ghost use Rattle.httparse.specs.Ascii.{crlf_bytes};
+ghost use Rattle.asgi_types.specs.declared.facts.Facts.{Facts};
+ghost use Rattle.asgi_types.specs.declared.outgoing.Outgoing.{Outgoing};
+ghost use Rattle.asgi_response.specs.Room.{LacksRoom, LacksMemory, is_start};
+
+use crate::append::{append_all, hexadecimal};
+use crate::content::{Coding, Content};
+use crate::fields::{Length, closes, has_no_content};
+use crate::head::{CRLF, head_text};
+use crate::refusal::{Input, append_refusal};
+use asgi_types::{Facts, Headers, HttpVersion, Octets, Outgoing};
+use std::alloc::{AllocError, Global};
+
+const CONTINUE: &[u8] = b"HTTP/1.1 100 Continue\r\n\r\n";
+
+const LAST_CHUNK: &[u8] = b"0\r\n\r\n";
+
+/// How far a response is.
+#[derive(Clone, Copy, Debug, PartialEq, Eq)]
+pub enum Stage {
+    /// There is no start.
+    Waiting,
+    /// There is a start alone: its head is written with the first body.
+    Started(Content),
+    /// The head and a body are written, and another body may follow.
+    Begun(Content),
+    /// The last body is written.
+    Complete,
+}
+
+/// The text of one response, event by event.
+#[derive(Debug, Drop)]
+pub struct ResponseText {
+    alloc: Global,
+    version: HttpVersion,
+    head_only: bool,
+    close: bool,
+    expect: bool,
+    stage: Stage,
+    // The head of a response that has started, until it is written.
+    head: Octets,
+}
+
+impl ResponseText {
+    ghost use Rattle.asgi_response.specs.Standing.{StandsFor, Grows};
+    ghost use Rattle.asgi_response.specs.Response.{response_text};
+    ghost use Rattle.asgi_response.specs.Exchange.{end_text};
+
+    /// No event is taken yet. It takes no memory.
+    pub fn new(alloc: Global, facts: &Facts) -> Self
+        ensures { StandsFor result facts.now [] }
+    {
+        ResponseText {
+            alloc,
+            version: facts.version,
+            head_only: facts.head_only,
+            close: facts.close,
+            expect: facts.expect,
+            stage: Stage::Waiting,
+            head: Octets::new(Vec::new(alloc)),
+        }
+    }
+
+    /// Appends what the event adds to the text of the events before it.
+    ///
+    /// An event that is not lawful in its place has no text.
+    pub fn take(&mut self, event: &Outgoing, out: &mut Vec<u8>) -> Result<(), AllocError>
+        ensures ok { OnOk result ((facts : Facts) (events : List Outgoing) → StandsFor self.old facts events
+            → StandsFor self.new facts (events ++ event.now ∷ [])) }
+        ensures text { OnOk result ((facts : Facts) (events : List Outgoing) → StandsFor self.old facts events
+            → Grows (response_text facts events) (response_text facts (events ++ event.now ∷ [])) out.old.items out.new.items) }
+        ensures err { OnErr result ((self.new ≡ self.old) × (out.new.items ≡ out.old.items)) }
+        ensures full { OnErr result ((facts : Facts) (events : List Outgoing) → StandsFor self.old facts events
+            → LacksMemory (vec_capacity out.old) (vec_len out.old) event.now (response_text facts events) (response_text facts (events ++ event.now ∷ []))) }
+    {
+        self.step(event, out)
+    }
+
+    /// Appends the text in front of every event: `100 Continue` where the client waits for it.
+    pub fn begin(&self, out: &mut Vec<u8>) -> Result<(), AllocError>
+        ensures ok { OnOk result ((facts : Facts) (events : List Outgoing) → StandsFor self.now facts events
+            → out.new.items ≡ out.old.items ++ response_text facts []) }
+        ensures err { OnErr result (out.new.items ≡ out.old.items) }
+        ensures full { OnErr result ((facts : Facts) (events : List Outgoing) → StandsFor self.now facts events
+            → LacksRoom (vec_capacity out.old) (vec_len out.old) (response_text facts [])) }
+    {
+        if self.expect {
+            out.extend_from_slice(CONTINUE)?;
+        }
+        Ok(())
+    }
+
+    /// Appends what the end of the task adds: a refusal where no body was taken.
+    pub fn end(&self, input: Input, out: &mut Vec<u8>) -> Result<(), AllocError>
+        ensures ok { OnOk result ((facts : Facts) (events : List Outgoing) → StandsFor self.now facts events
+            → out.new.items ≡ out.old.items ++ end_text facts events input) }
+        ensures err { OnErr result (out.new.items ≡ out.old.items) }
+        ensures full { OnErr result ((facts : Facts) (events : List Outgoing) → StandsFor self.now facts events
+            → LacksRoom (vec_capacity out.old) (vec_len out.old) (end_text facts events input)) }
+    {
+        if self.stage.is_begun() {
+            return Ok(());
+        }
+        append_answer(input, out)
+    }
+}
+
+impl ResponseText {
+    ghost use Rattle.asgi_response.specs.Steps as steps;
+    ghost use Rattle.asgi_response.specs.Steps.{length_seen};
+    ghost use Rattle.asgi_response.specs.Fields as fields;
+    ghost use Rattle.asgi_response.specs.Content as contents;
+
+    /// Takes the event, and appends what it adds.
+    fn step(&mut self, event: &Outgoing, out: &mut Vec<u8>) -> Result<(), AllocError>
+        ensures ok { OnOk result (self.new ≡ steps.after_event self.old event.now) }
+        ensures text { OnOk result (out.new.items ≡ out.old.items ++ steps.added_by self.old event.now) }
+        ensures err { OnErr result ((self.new ≡ self.old) × (out.new.items ≡ out.old.items)) }
+        ensures full { OnErr result (IsTrue (is_start event.now) ⊎ LacksRoom (vec_capacity out.old) (vec_len out.old) (steps.added_by self.old event.now)) }
+    {
+        if let Outgoing::ResponseStart { status, headers } = event {
+            return self.take_start(*status, headers);
+        }
+        if let Outgoing::ResponseBody { body, more_body } = event {
+            return self.take_body(body.bytes(), *more_body, out);
+        }
+        Ok(())
+    }
+
+    /// Keeps the head of a start that is lawful here.
+    fn take_start(&mut self, status: u16, headers: &Headers) -> Result<(), AllocError>
+        ensures ok { OnOk result (self.new ≡ steps.after_start self.old status headers.now) }
+        ensures err { OnErr result (self.new ≡ self.old) }
+    {
+        let length = Length::of(headers);
+        if !may_start(self.stage, status, length) {
+            return Ok(());
+        }
+        let chunked = is_chunked(self.version, status, length);
+        let closing = closes(self.close, headers);
+        let head = head_text(self.alloc, chunked, closing, status, headers)?;
+        self.head = head;
+        self.stage = Stage::Started(content_at_start(self.head_only, status, chunked, length));
+        Ok(())
+    }
+
+    /// Appends the text of a body that is lawful here, behind the head where it is the first.
+    fn take_body(
+        &mut self,
+        body: &[u8],
+        more_body: bool,
+        out: &mut Vec<u8>,
+    ) -> Result<(), AllocError>
+        ensures ok { OnOk result (self.new ≡ steps.after_part self.old (steps.content_due self.old.stage) body.now more_body) }
+        ensures text { OnOk result (out.new.items ≡ out.old.items ++ steps.part_added self.old.head (steps.content_due self.old.stage) body.now more_body) }
+        ensures err { OnErr result ((self.new ≡ self.old) × (out.new.items ≡ out.old.items)) }
+        ensures full { OnErr result (LacksRoom (vec_capacity out.old) (vec_len out.old) (steps.part_added self.old.head (steps.content_due self.old.stage) body.now more_body)) }
+    {
+        let Some(content) = self.stage.content_due() else {
+            return Ok(());
+        };
+        if !content.allows(body.len(), more_body) {
+            return Ok(());
+        }
+        append_part(self.head.bytes(), content.coding, body, more_body, out)?;
+        self.stage = next_stage(content, body.len(), more_body);
+        self.head = Octets::new(Vec::new(self.alloc));
+        Ok(())
+    }
+}
+
+impl Stage {
+    ghost use Rattle.asgi_response.specs.Steps as steps;
+
+    /// Whether a body was taken.
+    fn is_begun(self) -> bool
+        ensures { result ≡ steps.is_begun self }
+    {
+        match self {
+            Stage::Waiting | Stage::Started(_) => false,
+            Stage::Begun(_) | Stage::Complete => true,
+        }
+    }
+
+    /// What the next body may be, where one may follow.
+    fn content_due(self) -> Option<Content>
+        ensures { result ≡ steps.content_due self }
+    {
+        match self {
+            Stage::Waiting | Stage::Complete => None,
+            Stage::Started(content) | Stage::Begun(content) => Some(content),
+        }
+    }
+}
+
+ghost use Rattle.asgi_response.specs.Steps as steps;
+ghost use Rattle.asgi_response.specs.Steps.{length_seen};
+ghost use Rattle.asgi_response.specs.Fields as fields;
+ghost use Rattle.asgi_response.specs.Content as contents;
+ghost use Rattle.asgi_response.specs.Exchange as exchange;
+
+/// Whether a start is lawful here.
+fn may_start(stage: Stage, status: u16, length: Length) -> bool
+    ensures { result ≡ steps.may_start stage status (length_seen length) }
+{
+    stage == Stage::Waiting && 200 <= status && status <= 599 && length != Length::Faulty
+}
+
+/// Whether the content is chunked.
+fn is_chunked(version: HttpVersion, status: u16, length: Length) -> bool
+    ensures { result ≡ (fields.is_v11 version && fields.is_absent (length_seen length) && not (fields.has_no_content status)) }
+{
+    version == HttpVersion::V11 && length == Length::Absent && !has_no_content(status)
+}
+
+/// What the bodies behind a start may be.
+fn content_at_start(head_only: bool, status: u16, chunked: bool, length: Length) -> Content
+    ensures coding { result.coding ≡ steps.coding_of (contents.has_content head_only status) chunked }
+    ensures left { result.left ≡ steps.left_at_start head_only status (length_seen length) }
+{
+    if head_only || has_no_content(status) {
+        return Content {
+            coding: Coding::Nothing,
+            left: None,
+        };
+    }
+    Content {
+        coding: coding_of(chunked),
+        left: length.given(),
+    }
+}
+
+/// How the bodies of a response that has content are written.
+fn coding_of(chunked: bool) -> Coding
+    ensures { result ≡ steps.coding_of true chunked }
+{
+    if chunked {
+        return Coding::Chunked;
+    }
+    Coding::Plain
+}
+
+fn next_stage(content: Content, len: usize, more_body: bool) -> Stage
+    ensures { result ≡ steps.next_stage content len more_body }
+{
+    if more_body {
+        return Stage::Begun(content.behind(len));
+    }
+    Stage::Complete
+}
+
+/// Appends the front and then the text of a body. On an error the vector is as before.
+fn append_part(
+    front: &[u8],
+    coding: Coding,
+    body: &[u8],
+    more_body: bool,
+    out: &mut Vec<u8>,
+) -> Result<(), AllocError>
+    ensures ok { OnOk result (out.new.items ≡ out.old.items ++ (front.now ++ steps.coded_text coding body.now more_body)) }
+    ensures err { OnErr result (out.new.items ≡ out.old.items) }
+    ensures full { OnErr result (LacksRoom (vec_capacity out.old) (vec_len out.old) (front.now ++ steps.coded_text coding body.now more_body)) }
+{
+    match coding {
+        Coding::Nothing => out.extend_from_slice(front),
+        Coding::Plain => append_two(out, front, body),
+        Coding::Chunked => append_chunk(front, body, more_body, out),
+    }
+}
+
+/// Appends the front, the body as a chunk where it has bytes, and the last chunk where no more follow.
+fn append_chunk(
+    front: &[u8],
+    body: &[u8],
+    more_body: bool,
+    out: &mut Vec<u8>,
+) -> Result<(), AllocError>
+    ensures ok { OnOk result (out.new.items ≡ out.old.items ++ (front.now ++ contents.part_text true body.now more_body)) }
+    ensures err { OnErr result (out.new.items ≡ out.old.items) }
+    ensures full { OnErr result (LacksRoom (vec_capacity out.old) (vec_len out.old) (front.now ++ contents.part_text true body.now more_body)) }
+{
+    let last = last_chunk(more_body);
+    if body.is_empty() {
+        return append_two(out, front, last);
+    }
+    let mut buffer = [0; 16];
+    let at = hexadecimal(body.len(), &mut buffer);
+    append_sized(out, front, &buffer[at..], body, last)
+}
+
+/// Appends two texts.
+fn append_two<'a>(out: &mut Vec<u8>, front: &'a [u8], text: &'a [u8]) -> Result<(), AllocError>
+    ensures ok { OnOk result (out.new.items ≡ out.old.items ++ (front.now ++ text.now)) }
+    ensures err { OnErr result (out.new.items ≡ out.old.items) }
+    ensures full { OnErr result (LacksRoom (vec_capacity out.old) (vec_len out.old) (front.now ++ text.now)) }
+{
+    append_all(out, &[front, text])
+}
+
+/// Appends the front, a chunk of this size, and what follows it.
+fn append_sized<'a>(
+    out: &mut Vec<u8>,
+    front: &'a [u8],
+    size: &'a [u8],
+    body: &'a [u8],
+    last: &'a [u8],
+) -> Result<(), AllocError>
+    ensures ok { OnOk result (out.new.items ≡ out.old.items ++ (front.now ++ (size.now ++ crlf_bytes ++ body.now ++ crlf_bytes ++ last.now))) }
+    ensures err { OnErr result (out.new.items ≡ out.old.items) }
+    ensures full { OnErr result (LacksRoom (vec_capacity out.old) (vec_len out.old) (front.now ++ (size.now ++ crlf_bytes ++ body.now ++ crlf_bytes ++ last.now))) }
+{
+    append_all(out, &[front, size, CRLF, body, CRLF, last])
+}
+
+/// The last chunk, where no more bodies follow.
+fn last_chunk(more_body: bool) -> &'static [u8]
+    ensures { result.now ≡ (if not more_body then contents.last_chunk else []) }
+{
+    if more_body {
+        return &[];
+    }
+    LAST_CHUNK
+}
+
+/// Appends the answer in place of a response that never began.
+fn append_answer(input: Input, out: &mut Vec<u8>) -> Result<(), AllocError>
+    ensures ok { OnOk result (out.new.items ≡ out.old.items ++ exchange.answer_to input) }
+    ensures err { OnErr result (out.new.items ≡ out.old.items) }
+    ensures full { OnErr result (LacksRoom (vec_capacity out.old) (vec_len out.old) (exchange.answer_to input)) }
+{
+    match input {
+        Input::Whole => append_refusal(500, out),
+        Input::Faulty(status) => append_refusal(status, out),
+        Input::Broken => Ok(()),
+    }
+}
