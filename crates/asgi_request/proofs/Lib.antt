@@ -19,3 +19,6 @@ pub mod SectionLemmas
 pub mod BackwardLemmas
 pub mod ResultsLemmas
 pub mod HeldLemmas
+pub mod FirstLemmas
+pub mod RefusalLemmas
+pub mod OpeningLemmas

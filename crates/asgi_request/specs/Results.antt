@@ -7,7 +7,7 @@ use Rattle.asgi_types.specs.declared.facts.Framing.{Framing}
 use Rattle.asgi_types.specs.declared.incoming.Incoming.{Incoming}
 use Rattle.asgi_types.specs.declared.limits.Limits.{Limits}
 use Rattle.asgi_request.specs.declared.next.Next.{Next}
-use Rattle.asgi_request.specs.declared.next.Next.TheVariants.{Head, Event, Whole, Bad}
+use Rattle.asgi_request.specs.declared.next.Next.TheVariants.{Need, Head, Event, Whole, Bad}
 use Rattle.asgi_request.specs.declared.refusal.Refusal.{Refusal}
 use Rattle.asgi_request.specs.declared.refusal.Refusal.TheVariants.{BadRequest, HeaderFieldsTooLarge}
 use Rattle.asgi_request.specs.Texts.{IsFirstWithin, IsTooLong, IsUnfinished}
@@ -92,3 +92,21 @@ pub record GivesResults (limits : Limits) (bytes : List ℕ) (results : List Nex
   pub whole : AreRequests limits bytes requests rest
   pub goes_on : BeginsRequest limits rest begun
   pub results_are : results ≡ flat_map (λ request. request) requests ++ begun
+
+-- These are the first results of the bytes: a front of them has these, and more perhaps. No byte behind the front changes
+-- them.
+pub record HasFirst (limits : Limits) (bytes : List ℕ) (results : List Next) : Type 0 where
+  pub front : List ℕ
+  pub behind : List ℕ
+  pub further : List Next
+  pub rest : List ℕ
+  pub splits : bytes ≡ front ++ behind
+  pub gives : GivesResults limits front (results ++ further) rest
+
+-- what the results of bytes begin with: a head, or a refusal
+abbrev pub Opens : Next → Type 0
+Opens (Head scope facts) = Unit {0}
+Opens (Bad status) = Unit {0}
+Opens (Event event) = ⊥
+Opens Whole = ⊥
+Opens Need = ⊥

@@ -1,10 +1,10 @@
 //! Laws of the definitions.
-ghost use Rattle.std.specs.Prelude.{◌≡◌, ◌++◌, ℕ, List};
+ghost use Rattle.std.specs.Prelude.{◌≡◌, ◌++◌, ◌∷◌, [], ℕ, List};
 ghost use Rattle.asgi_types.specs.declared.limits.Limits.{Limits};
 ghost use Rattle.asgi_request.specs.declared.next.Next.{Next};
 ghost use Rattle.asgi_request.specs.Reading.{Reading, StandsFor, IsWaiting, IsRefused, AllGiven};
 ghost use Rattle.asgi_request.specs.Places.{ResultsOf};
-ghost use Rattle.asgi_request.specs.Results.{GivesResults};
+ghost use Rattle.asgi_request.specs.Results.{GivesResults, HasFirst, Opens};
 
 /// The results of a front of the bytes come first among the results of all of them, so however
 /// the bytes are cut the results are the same.
@@ -25,6 +25,34 @@ pub fn given_results_come_first()
     ensures { (reader : Reading) (bytes : List ℕ) (given results : List Next) (rest : List ℕ)
         → StandsFor reader bytes given → GivesResults reader.limits bytes results rest
         → (further : List Next) × (results ≡ given ++ further) }
+{}
+
+/// What a reader gave are the first results of the bytes that it was fed.
+pub fn given_results_are_the_first()
+    ensures { (reader : Reading) (bytes : List ℕ) (given : List Next)
+        → StandsFor reader bytes given → HasFirst reader.limits bytes given }
+{}
+
+/// The first results of bytes come first among all that they have.
+pub fn first_results_come_first()
+    ensures { (limits : Limits) (bytes : List ℕ) (first results : List Next) (rest : List ℕ)
+        → HasFirst limits bytes first → GivesResults limits bytes results rest
+        → (further : List Next) × (results ≡ first ++ further) }
+{}
+
+/// The first result of bytes is one, it opens a request or refuses it, and it stays where more bytes follow.
+pub fn first_result_is_one()
+    ensures one { (limits : Limits) (bytes : List ℕ) (first other : Next)
+        → HasFirst limits bytes (first ∷ []) → HasFirst limits bytes (other ∷ []) → first ≡ other }
+    ensures opens { (limits : Limits) (bytes : List ℕ) (first : Next) → HasFirst limits bytes (first ∷ []) → Opens first }
+    ensures stays { (limits : Limits) (bytes more : List ℕ) (first : Next)
+        → HasFirst limits bytes (first ∷ []) → HasFirst limits (bytes ++ more) (first ∷ []) }
+{}
+
+/// A reader that has refused gave the refusal last.
+pub fn refused_reader_gave_the_refusal()
+    ensures { (reader : Reading) (bytes : List ℕ) (given : List Next) (status : ℕ)
+        → StandsFor reader bytes given → IsRefused reader status → (before : List Next) × (given ≡ before ++ Next.Bad status ∷ []) }
 {}
 
 /// Where nothing more is due at a reader's place, it gave all the results of the bytes that it

@@ -1,6 +1,0 @@
-use Rattle.std.proofs.Common.{◌≡◌, take, map}
-use Rattle.asgi_conn.specs.Steps.{field_at}
-use Rattle.asgi_conn.proofs.head.headers_of.Given as goal
-
-abbrev pub invariant-loop-span : goal.invariant-loop-span
-invariant-loop-span l = l.headers ≡ map (field_at l.text) (take l.span-index l.spans)

@@ -1,7 +1,0 @@
-use Rattle.std.proofs.Common.{◌≡◌, ◌++◌, map}
-use Rattle.asgi_types.specs.Fields.{shown}
-use Rattle.asgi_conn.specs.Response as spec
-use Rattle.asgi_conn.proofs.text.write_fields.Given as goal
-
-abbrev pub invariant-loop-name : goal.invariant-loop-name
-invariant-loop-name l = l.out.items ≡ l.initial.out.items ++ spec.field_lines l.status (map shown l.yielded)

@@ -1,0 +1,98 @@
+-- The first result of bytes: there is one at most, it opens a request or refuses it, and it stays where more bytes follow.
+use Rattle.std.proofs.Common.{◌≡◌, ℕ, ◌≤◌, inl, inr, length, take, drop, List, [], ◌∷◌, ◌++◌, refl, sym, ap, ◌∙◌, subst, append_assoc, arith, flat_map}
+use Rattle.std.specs.Prelude.{◌⊎◌}
+use Rattle.std.proofs.lemmas.List.{length-append, append_cancel_left}
+use Rattle.asgi_types.specs.declared.limits.Limits.{Limits}
+use Rattle.asgi_request.specs.declared.next.Next.{Next}
+use Rattle.asgi_request.specs.declared.next.Next.TheVariants.{Need, Head, Event, Whole, Bad}
+use Rattle.asgi_request.specs.Refusals.{status_of}
+use Rattle.asgi_request.specs.Head.{record_of}
+use Rattle.asgi_request.specs.Scopes.{scope_of, facts_of}
+use Rattle.asgi_request.specs.ChunkedBody.{BodyState, partial, complete, faulty}
+use Rattle.asgi_request.specs.Results.{ReadsRequest, BeginsRequest, AreRequests, GivesResults, HasFirst, Opens}
+use Rattle.asgi_request.proofs.ResultsLemmas.{prefix_of}
+
+-- ---- what opens the results
+
+same_first : (a b : Next) (x y : List Next) → a ∷ x ≡ b ∷ y → a ≡ b
+same_first a b x y e = cc
+
+request_opens : (limits : Limits) (bytes : List ℕ) (results : List Next) (state : BodyState) (first : Next) (more : List Next)
+    → ReadsRequest limits bytes results state → results ≡ first ∷ more → Opens first
+request_opens limits bytes results state first more x e =
+    let head = Head (scope_of (record_of x.head)) (facts_of (record_of x.head) x.framing) in
+    let is : head ≡ first = same_first head first _ more (sym x.results_are ∙ e) in
+    subst Opens is tt
+
+begun_opens : (limits : Limits) (bytes : List ℕ) (results : List Next) (first : Next) (more : List Next)
+    → BeginsRequest limits bytes results → results ≡ first ∷ more → Opens first
+begun_opens limits bytes results first more (inl x) e = let never : [] ≡ first ∷ more = sym x.1 ∙ e in cc
+begun_opens limits bytes results first more (inr (inl x)) e =
+    let is : Bad (status_of x.0) ≡ first = same_first (Bad (status_of x.0)) first [] more (sym x.2 ∙ e) in
+    subst Opens is tt
+begun_opens limits bytes results first more (inr (inr (inl x))) e = request_opens limits bytes results partial first more x e
+begun_opens limits bytes results first more (inr (inr (inr x))) e = request_opens limits bytes results (faulty x.0) first more x.1 e
+
+whole_opens : (limits : Limits) (bytes : List ℕ) (requests : List (List Next)) (rest : List ℕ) (begun : List Next) (first : Next) (more : List Next)
+    → AreRequests limits bytes requests rest → BeginsRequest limits rest begun → flat_map (λ request. request) requests ++ begun ≡ first ∷ more → Opens first
+whole_opens limits bytes [] rest begun first more are goes e = begun_opens limits rest begun first more goes e
+whole_opens limits bytes (results ∷ requests) rest begun first more are goes e =
+    let x = are.1 in
+    let head = Head (scope_of (record_of x.head)) (facts_of (record_of x.head) x.framing) in
+    let tail : List Next = _ in
+    let opened : results ++ (flat_map (λ request. request) requests ++ begun) ≡ head ∷ tail =
+    ap (λ (l : List Next). l ++ (flat_map (λ request. request) requests ++ begun)) x.results_are in
+    let is : head ≡ first =
+    same_first head first tail more (sym opened ∙ sym (append_assoc results (flat_map (λ request. request) requests) begun) ∙ e) in
+    subst Opens is tt
+
+pub gives_opens : (limits : Limits) (bytes : List ℕ) (first : Next) (more : List Next) (rest : List ℕ) → GivesResults limits bytes (first ∷ more) rest → Opens first
+gives_opens limits bytes first more rest x = whole_opens limits bytes x.requests rest x.begun first more x.whole x.goes_on (sym x.results_are)
+
+pub first_opens : (limits : Limits) (bytes : List ℕ) (first : Next) (more : List Next) → HasFirst limits bytes (first ∷ more) → Opens first
+first_opens limits bytes first more x = gives_opens limits x.front first (more ++ x.further) x.rest x.gives
+
+-- ---- the first result is one
+
+-- of two fronts one is a front of the other
+fronts : (a b x y : List ℕ) → a ++ x ≡ b ++ y → ((more : List ℕ) × (b ≡ a ++ more)) ⊎ ((more : List ℕ) × (a ≡ b ++ more))
+fronts [] b x y e = inl (b, refl)
+fronts (n ∷ a) [] x y e = inr (n ∷ a, refl)
+fronts (n ∷ a) (m ∷ b) x y e = by (fronts a b x y cc)
+  where
+    heads : n ≡ m
+    heads = cc
+
+    by : ((more : List ℕ) × (b ≡ a ++ more)) ⊎ ((more : List ℕ) × (a ≡ b ++ more))
+        → ((more : List ℕ) × (m ∷ b ≡ (n ∷ a) ++ more)) ⊎ ((more : List ℕ) × (n ∷ a ≡ (m ∷ b) ++ more))
+    by (inl z) = inl (z.0, let t = z.1 in cc)
+    by (inr z) = inr (z.0, let t = z.1 in cc)
+
+one_of : (limits : Limits) (front more : List ℕ) (a b : Next) (x y : List Next) (rest other : List ℕ)
+    → GivesResults limits front (a ∷ x) rest → GivesResults limits (front ++ more) (b ∷ y) other → a ≡ b
+one_of limits front more a b x y rest other g h =
+    let on = prefix_of limits limits.block_in_range.0 front more (a ∷ x) (b ∷ y) rest other g h in
+    sym (same_first b a y (x ++ on.0) on.1)
+
+pub one_first : (limits : Limits) (bytes : List ℕ) (a b : Next) (x y : List Next) → HasFirst limits bytes (a ∷ x) → HasFirst limits bytes (b ∷ y) → a ≡ b
+one_first limits bytes a b x y g h = by (fronts g.front h.front g.behind h.behind (sym g.splits ∙ h.splits))
+  where
+    by : ((more : List ℕ) × (h.front ≡ g.front ++ more)) ⊎ ((more : List ℕ) × (g.front ≡ h.front ++ more)) → a ≡ b
+    by (inl z) =
+        one_of limits g.front z.0 a b (x ++ g.further) (y ++ h.further) g.rest h.rest g.gives
+        (subst (λ (l : List ℕ). GivesResults limits l (b ∷ (y ++ h.further)) h.rest) z.1 h.gives)
+    by (inr z) =
+        sym (one_of limits h.front z.0 b a (y ++ h.further) (x ++ g.further) h.rest g.rest h.gives
+        (subst (λ (l : List ℕ). GivesResults limits l (a ∷ (x ++ g.further)) g.rest) z.1 g.gives))
+
+-- ---- it stays
+
+pub first_stays : (limits : Limits) (bytes more : List ℕ) (results : List Next) → HasFirst limits bytes results → HasFirst limits (bytes ++ more) results
+first_stays limits bytes more results x = record {
+  front = x.front;
+  behind = x.behind ++ more;
+  further = x.further;
+  rest = x.rest;
+  splits = ap (λ (l : List ℕ). l ++ more) x.splits ∙ append_assoc x.front x.behind more;
+  gives = x.gives;
+}
