@@ -1,44 +1,41 @@
 -- At most one answer is due, it stays due, and where the connection was not cut short it is written.
-use Rattle.std.proofs.Common.{◌≡◌, ℕ, ◌≤◌, List, [], ◌++◌, length, refl, sym, ap, ◌∙◌, inl, inr, subst}
+use Rattle.std.proofs.Common.{◌≡◌, ℕ, List, [], ◌∷◌, ◌++◌, refl, sym, ap, ◌∙◌, inl, inr, subst}
 use Rattle.std.specs.Prelude.{◌⊎◌}
-use Rattle.httparse.proofs.GrammarLemmas.{request_unique}
 use Rattle.asgi_types.specs.declared.limits.Limits.{Limits}
-use Rattle.asgi_conn.specs.declared.framing.Answer.{Answer}
+use Rattle.asgi_request.specs.declared.next.Next.{Next}
+use Rattle.asgi_request.specs.declared.next.Next.TheVariants as next
+use Rattle.asgi_request.specs.Results.{GivesResults}
+use Rattle.asgi_request.proofs.OpeningLemmas.{one_first, first_stays}
+use Rattle.asgi_request.proofs.ResultsLemmas.{prefix_of}
 use Rattle.asgi_conn.specs.declared.report.Outcome.{Outcome}
 use Rattle.asgi_conn.specs.declared.report.Outcome.TheVariants.{Finished, Refused, InputBroke, WriteFailed, Idle, NoMemory}
-use Rattle.asgi_conn.specs.Head.{record_of}
-use Rattle.asgi_conn.specs.Framing.{answer_of}
-use Rattle.asgi_conn.specs.Conversation.{AnswersText, AnswersHead, IsDue, NothingIsDue, answer_text, Agrees, IsWhole}
-use Rattle.asgi_conn.proofs.FrontLemmas.{one_head_text, not_too_long, not_unfinished, not_both, IsHeadText-append, IsTooLong-append}
+use Rattle.asgi_conn.specs.Conversation.{Answer, Answers, IsDue, NothingIsDue, answer_text, Agrees, IsWhole}
 
-same_answer : (max_headers : ℕ) (text : List ℕ) (a b : Answer) → AnswersText max_headers text a → AnswersText max_headers text b → a ≡ b
-same_answer max_headers text a b (inl x) (inl y) =
-    x.2 ∙ ap (λ h. answer_of (record_of h)) (request_unique text x.0 y.0 [] [] x.1.reads y.1.reads).0 ∙ sym y.2
-same_answer max_headers text a b (inl x) (inr y) = absurd (y.0 x.0 x.1)
-same_answer max_headers text a b (inr x) (inl y) = absurd (x.0 y.0 y.1)
-same_answer max_headers text a b (inr x) (inr y) = x.1 ∙ sym y.1
+same_answer : (first : Next) (a b : Answer) → Answers first a → Answers first b → a ≡ b
+same_answer (next.Head scope facts) a b x y = x ∙ sym y
+same_answer (next.Bad status) a b x y = x ∙ sym y
+same_answer (next.Event event) a b x y = absurd x
+same_answer next.Whole a b x y = absurd x
+same_answer next.Need a b x y = absurd x
 
 pub one_due : (limits : Limits) (read : List ℕ) (a b : Answer) → IsDue limits read a → IsDue limits read b → a ≡ b
-one_due limits read a b (inl x) (inl y) =
-    let same = one_head_text read x.text x.rest y.text y.rest x.is_head y.is_head in
-    same_answer limits.max_headers y.text a b (subst (λ (t : List ℕ). AnswersText limits.max_headers t a) same x.answers) y.answers
-one_due limits read a b (inl x) (inr y) = absurd (not_too_long limits.max_head read x.text x.rest x.is_head x.fits y.0)
-one_due limits read a b (inr x) (inl y) = absurd (not_too_long limits.max_head read y.text y.rest y.is_head y.fits x.0)
-one_due limits read a b (inr x) (inr y) = x.1 ∙ sym y.1
+one_due limits read a b x y =
+    let same = one_first limits read x.first y.first [] [] x.is_first y.is_first in
+    same_answer y.first a b (subst (λ (n : Next). Answers n a) same x.answers) y.answers
 
 pub due_not_open : (limits : Limits) (read : List ℕ) (a : Answer) → IsDue limits read a → NothingIsDue limits read → ⊥
-due_not_open limits read a (inl x) waits = not_unfinished limits.max_head read x.text x.rest x.is_head waits
-due_not_open limits read a (inr x) waits = not_both limits.max_head read x.0 waits
+due_not_open limits read a x waits =
+    let f = x.is_first in
+    let on = prefix_of limits limits.block_in_range.0 f.front f.behind (x.first ∷ f.further) [] f.rest waits.0 f.gives
+    (subst (λ (l : List ℕ). GivesResults limits l [] waits.0) f.splits waits.1) in
+    never x.first (f.further ++ on.0) on.1
+  where
+    never : (first : Next) (more : List Next) → [] ≡ first ∷ more → ⊥
+    never first more e = cc
 
 pub due_stays : (limits : Limits) (read more : List ℕ) (a : Answer) → IsDue limits read a → IsDue limits (read ++ more) a
-due_stays limits read more a (inl x) = inl (record {
-  text = x.text;
-  rest = x.rest ++ more;
-  is_head = IsHeadText-append read x.text x.rest more x.is_head;
-  fits = x.fits;
-  answers = x.answers;
-})
-due_stays limits read more a (inr x) = inr (IsTooLong-append limits.max_head read more x.0, x.1)
+due_stays limits read more a x =
+    record { first = x.first; is_first = first_stays limits read more (x.first ∷ []) x.is_first; answers = x.answers }
 
 -- where an outcome is whole, an answer is due and written, or nothing is due and nothing is written
 Whole : Limits → List ℕ → List ℕ → Type 0

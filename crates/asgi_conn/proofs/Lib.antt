@@ -1,11 +1,4 @@
-pub mod HeadTextLemmas
-pub mod SearchLemmas
-pub mod FrontLemmas
-pub mod BytesLemmas
-pub mod TurnLemmas
-pub mod RecordLemmas
-pub mod FieldLemmas
-pub mod TextLemmas
-pub mod ReadingLemmas
-pub mod EndLemmas
 pub mod LawLemmas
+pub mod EndLemmas
+pub mod TurnLemmas
+pub mod ReadingLemmas

@@ -3,26 +3,27 @@ use Rattle.std.proofs.Common.{◌≡◌, ℕ, ◌+◌, ◌-◌, ◌*◌, ◌^◌
 use Rattle.std.proofs.lemmas.Bool.{cases_lt}
 use Rattle.std.proofs.lemmas.List.{length-append, append-nil}
 use Rattle.asgi_types.specs.declared.limits.Limits.{Limits}
-use Rattle.asgi_conn.specs.Turns.{piece_size, RoseBy, CountsTurns}
+use Rattle.asgi_response.specs.Counting.{RoseBy}
+use Rattle.asgi_conn.specs.Turns.{piece_size, CountsTurns}
 use Rattle.asgi_conn.specs.Conversation.{NothingIsDue, IsPrompt}
 
 -- so many whole turns were taken, and each read a byte or paused
 pub record TurnsSoFar (read : List ℕ) (old new turns : ℕ) : Type 0 where
   pub pieces : length read ≤ piece_size * turns
-  pub moved : RoseBy old new (turns - length read)
+  pub moved : RoseBy (turns - length read) old new
   pub pauses : new ≤ old + turns
 
-pub RoseBy-less : (old new n m : ℕ) → m ≤ n → RoseBy old new n → RoseBy old new m
+pub RoseBy-less : (old new n m : ℕ) → m ≤ n → RoseBy n old new → RoseBy m old new
 RoseBy-less old new n m less (inl h) = inl (omega (arith, less, h))
 RoseBy-less old new n m less (inr h) = inr h
 
-pub RoseBy-paused : (old new newer n m : ℕ) → m ≤ n + 1 → newer ≡ min (new + 1) (2 ^ 64 - 1) → RoseBy old new n → RoseBy old newer m
+pub RoseBy-paused : (old new newer n m : ℕ) → m ≤ n + 1 → newer ≡ min (new + 1) (2 ^ 64 - 1) → RoseBy n old new → RoseBy m old newer
 RoseBy-paused old new newer n m less e (inl h) = at (order (new + 1) (2 ^ 64 - 1))
   where
     order : (a b : ℕ) → (a ≤ b) ⊎ (b < a)
     order a b = elim (cases_lt b a) [ inl h ↦ inr h | inr h ↦ inl h ]
 
-    at : ((new + 1 ≤ 2 ^ 64 - 1) ⊎ (2 ^ 64 - 1 < new + 1)) → RoseBy old newer m
+    at : ((new + 1 ≤ 2 ^ 64 - 1) ⊎ (2 ^ 64 - 1 < new + 1)) → RoseBy m old newer
     at (inl low) = inl (omega (arith, less, h, e, low))
     at (inr high) = inr (omega (arith, e, high))
 RoseBy-paused old new newer n m less e (inr h) = inr (omega (arith, e, h))

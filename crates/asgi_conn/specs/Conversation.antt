@@ -1,62 +1,66 @@
 -- The conversation of one request: what the bytes read, the bytes written and the report say of each other
 -- (RFC 9112, sections 2.1 and 9). No sentence of it names a read or a write: only whole lists of bytes.
-use Rattle.std.specs.Prelude.{◌≡◌, ℕ, ◌<◌, ◌≤◌, ◌⊎◌, List, [], ◌++◌, length, take, All, IsTrue}
-use Rattle.httparse.specs.Grammar.{RequestHead}
+use Rattle.std.specs.Prelude.{◌≡◌, ℕ, ◌<◌, ◌≤◌, ◌⊎◌, List, [], ◌∷◌, ◌++◌, length, take, All, IsTrue, if◌then◌else◌}
+use Rattle.asgi_types.specs.declared.facts.Facts.{Facts}
 use Rattle.asgi_types.specs.declared.limits.Limits.{Limits}
-use Rattle.asgi_conn.specs.declared.framing.Answer.{Answer}
-use Rattle.asgi_conn.specs.declared.framing.Answer.TheVariants.{Refuse, Serve}
-use Rattle.asgi_conn.specs.declared.framing.Refusal.TheVariants.{BadRequest, HeaderFieldsTooLarge}
+use Rattle.asgi_request.specs.declared.next.Next.{Next}
+use Rattle.asgi_request.specs.declared.next.Next.TheVariants.{Need, Head, Event, Whole, Bad}
+use Rattle.asgi_request.specs.HeadText.{is_line_break}
+use Rattle.asgi_request.specs.Results.{GivesResults, HasFirst}
+use Rattle.asgi_request.specs.Scopes.{has_body}
+use Rattle.asgi_response.specs.declared.refusal.Input.TheVariants as input
+use Rattle.asgi_response.specs.Exchange.{exchange_text, refusal_text}
 use Rattle.asgi_conn.specs.declared.report.Outcome.{Outcome}
 use Rattle.asgi_conn.specs.declared.report.Outcome.TheVariants.{Finished, Refused, InputBroke, WriteFailed, Idle, NoMemory}
 use Rattle.asgi_conn.specs.declared.report.Report.{Report}
-use Rattle.asgi_conn.specs.HeadText.{is_line_break, IsHeadText, IsTooLong, IsUnfinished}
-use Rattle.asgi_conn.specs.Head.{IsHeadOf, record_of}
-use Rattle.asgi_conn.specs.Framing.{answer_of, status_of}
-use Rattle.asgi_conn.specs.Response.{response_text, refusal_text}
 use Rattle.asgi_conn.specs.Hello.{hello_events}
 use Rattle.asgi_conn.specs.Turns.{piece_size}
 
 -- ---- what is due to the bytes read
 
--- The answer to a head text: that to the head which it is, or 400 where it is none.
-abbrev pub AnswersText : ℕ → List ℕ → Answer → Type 0
-AnswersText max_headers text answer =
-    ((head : RequestHead) × IsHeadOf max_headers text head × (answer ≡ answer_of (record_of head)))
-    ⊎ (((head : RequestHead) → ¬ (IsHeadOf max_headers text head)) × (answer ≡ Refuse BadRequest))
+-- what answers a request: the text of a refusal with this status, or the exchange with the application
+pub data Answer : Type 0 where
+  refusal : ℕ → Answer
+  exchange : Facts → Answer
 
--- The bytes begin with a head text of at most max_head bytes, and this is the answer to it.
-pub record AnswersHead (limits : Limits) (read : List ℕ) (answer : Answer) : Type 0 where
-  pub text : List ℕ
-  pub rest : List ℕ
-  pub is_head : IsHeadText read text rest
-  pub fits : length text ≤ limits.max_head
-  pub answers : AnswersText limits.max_headers text answer
+-- the answer to a head: a request that announces a body is not served yet (RFC 9110, section 15.6.2)
+abbrev pub answer_to : Facts → Answer
+answer_to facts = if has_body facts.framing then refusal 501 else exchange facts
 
--- This answer is due to the bytes: to the head that they begin with, or 431 to a head that is too long.
-abbrev pub IsDue : Limits → List ℕ → Answer → Type 0
-IsDue limits read answer =
-    AnswersHead limits read answer ⊎ (IsTooLong limits.max_head read × (answer ≡ Refuse HeaderFieldsTooLarge))
+-- the answer to the first result of the bytes: only a head or a refusal is one
+abbrev pub Answers : Next → Answer → Type 0
+Answers (Head scope facts) answer = answer ≡ answer_to facts
+Answers (Bad status) answer = answer ≡ refusal status
+Answers (Event event) answer = ⊥
+Answers Whole answer = ⊥
+Answers Need answer = ⊥
 
--- No answer is due: the head may still come.
+-- this answer is due: to the first result of the bytes
+pub record IsDue (limits : Limits) (read : List ℕ) (answer : Answer) : Type 0 where
+  pub first : Next
+  pub is_first : HasFirst limits read (first ∷ [])
+  pub answers : Answers first answer
+
+-- no answer is due: the bytes have no result
 abbrev pub NothingIsDue : Limits → List ℕ → Type 0
-NothingIsDue limits read = IsUnfinished limits.max_head read
+NothingIsDue limits read = (rest : List ℕ) × GivesResults limits read [] rest
 
 -- ---- what an answer is
 
 -- its text: what is written
 abbrev pub answer_text : Answer → List ℕ
-answer_text (Refuse refusal) = refusal_text (status_of refusal)
-answer_text (Serve close) = response_text close hello_events
+answer_text (refusal status) = refusal_text status
+answer_text (exchange facts) = exchange_text facts hello_events input.Whole
 
 -- the outcome once its text is out
 abbrev pub outcome_of : Answer → Outcome
-outcome_of (Refuse refusal) = Refused (status_of refusal)
-outcome_of (Serve close) = Finished
+outcome_of (refusal status) = Refused status
+outcome_of (exchange facts) = Finished
 
 -- how many exchanges it makes
 abbrev pub exchanges_of : Answer → ℕ
-exchanges_of (Refuse refusal) = 0
-exchanges_of (Serve close) = 1
+exchanges_of (refusal status) = 0
+exchanges_of (exchange facts) = 1
 
 -- ---- what each outcome says
 

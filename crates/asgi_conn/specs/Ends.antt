@@ -1,10 +1,10 @@
 -- How the private functions that write end a connection. No promise is stated by these words.
 use Rattle.std.specs.Prelude.{◌≡◌, ℕ, ◌<◌, ◌⊎◌, List, length, take, Option}
 use Rattle.std.specs.Io.KnownBytes.{Appends, Keeps}
+use Rattle.asgi_response.specs.Counting.{RoseBy}
 use Rattle.asgi_conn.specs.declared.connection.End.{End}
-use Rattle.asgi_conn.specs.declared.framing.Answer.{Answer}
 use Rattle.asgi_conn.specs.declared.report.Outcome.TheVariants.{WriteFailed, NoMemory}
-use Rattle.asgi_conn.specs.Conversation.{AnswersText, answer_text, outcome_of, exchanges_of}
+use Rattle.asgi_conn.specs.Conversation.{Answer, answer_text, outcome_of, exchanges_of}
 
 -- the end, where the whole text is out
 abbrev pub AsWhole : List ℕ → End → Option (List ℕ) → Option (List ℕ) → End → Type 0
@@ -29,8 +29,6 @@ SendsAnswer answer old new e =
     Puts (answer_text answer) (end_of answer) old new e
     ⊎ ((e ≡ record { exchanges = exchanges_of answer; outcome = NoMemory }) × Keeps old new)
 
--- the head text was answered, or memory was refused
-abbrev pub Replies : ℕ → List ℕ → Option (List ℕ) → Option (List ℕ) → End → Type 0
-Replies max_headers text old new e =
-    ((answer : Answer) × AnswersText max_headers text answer × SendsAnswer answer old new e)
-    ⊎ ((e ≡ record { exchanges = 0; outcome = NoMemory }) × Keeps old new)
+-- a write is said to have failed only where the count of failures rose
+abbrev pub TellsFailure : ℕ → ℕ → End → Type 0
+TellsFailure old new e = (n : ℕ) → e.outcome ≡ WriteFailed n → RoseBy 1 old new

@@ -1,24 +1,27 @@
 //! One connection from its first byte to its last.
-ghost use Rattle.std.specs.Prelude.{◌≡◌, ◌≢◌, ◌≤◌, ◌↔◌, ◌⊎◌, ℕ, List, length, IfOk, IsTrue};
+ghost use Rattle.std.specs.Prelude.{◌≡◌, ◌≢◌, ◌≤◌, ◌⊎◌, ℕ, List, IsTrue};
 ghost use Rattle.std.specs.Io.KnownBytes.{Appends, Consumes, IsAtEnd};
-ghost use Rattle.asgi_conn.specs.Conversation.{Agrees, AnswersText, Conversation, IsBlank};
-ghost use Rattle.asgi_conn.specs.Hello.{hello_events};
-ghost use Rattle.asgi_conn.specs.Response.{response_text as spec_response_text};
-ghost use Rattle.asgi_conn.specs.Turns.{RoseBy, CountsTurns};
-ghost use Rattle.asgi_conn.specs.Ends.{Puts, Replies, SendsAnswer};
-ghost use Rattle.asgi_conn.specs.Steps.{FitsHeld, StopsAs};
+ghost use Rattle.asgi_types.specs.declared.limits.Limits.{Limits};
+ghost use Rattle.asgi_request.specs.Scopes as scopes;
+ghost use Rattle.asgi_response.specs.Counting.{RoseBy};
+ghost use Rattle.asgi_response.specs.Refusals.{is_refusal};
+ghost use Rattle.asgi_conn.specs.Conversation.{refusal, answer_to, Agrees, Conversation};
+ghost use Rattle.asgi_conn.specs.Endings.{HasText, StopsAs};
+ghost use Rattle.asgi_conn.specs.Ends.{Puts, SendsAnswer, TellsFailure};
+ghost use Rattle.asgi_conn.specs.Turns.{CountsTurns};
 
-use crate::framing::{Answer, Refusal, answer_to};
-use crate::head::parse_head;
+use crate::exchange::exchange_text;
 use crate::hello::Hello;
 use crate::pause::Pause;
-use crate::reading::{Ending, Reading, read_head};
+use crate::reading::{Ending, read_request};
 use crate::report::{Outcome, Report};
-use crate::text::{refusal_text, response_text};
-use crate::write::{Wrote, write_out};
-use asgi_types::Limits;
-use std::alloc::{AllocError, Global};
-use std::io::{Read, Write};
+use asgi_response::{Counts, Wrote, refusal_text, write_out};
+use asgi_types::{Facts, Framing, Limits};
+use std::alloc::Global;
+use std::io::Read;
+
+/// The status of a request that announces a body.
+const NOT_IMPLEMENTED: u16 = 501;
 
 /// The exchanges and the outcome of a connection.
 #[derive(Clone, Copy, Debug, PartialEq, Eq)]
@@ -31,7 +34,7 @@ struct End {
 ///
 /// The answer is written as soon as the head is whole. A head that is none, too long, or not served
 /// gets the text of a refusal. The connection ends after its answer; the caller closes it.
-pub fn serve_connection<H: AllocGlobal, R: Read, W: Write, P: Pause>(
+pub fn serve_connection<H: AllocGlobal, R: Read, W: Counts, P: Pause>(
     rt: &H,
     limits: &Limits,
     app: &Hello,
@@ -41,22 +44,25 @@ pub fn serve_connection<H: AllocGlobal, R: Read, W: Write, P: Pause>(
 ) -> Report
     ensures conversation { (read : List ℕ) × (written : List ℕ)
         × Consumes (R.remaining reader.old) (R.remaining reader.new) read
-        × Appends (W.contents writer.old) (W.contents writer.new) written
+        × Appends (W.written writer.old) (W.written writer.new) written
         × Conversation limits.now read written result
         × CountsTurns read (P.count pause.old) (P.count pause.new) result.turns }
 
     // An input that is only empty lines is finished where it ended, and nowhere else.
     ensures at_end { result.outcome ≡ Outcome.Finished → result.exchanges ≡ 0 → IsAtEnd (R.remaining reader.new) }
 
+    // WriteFailed is said only of a writer that failed.
+    ensures write_failed { (n : ℕ) → result.outcome ≡ Outcome.WriteFailed n → RoseBy 1 (W.failed writer.old) (W.failed writer.new) }
+
     // The turns and the idle turns in a row keep their limits, and Idle comes at one of them.
     ensures turns_limit { result.turns ≤ limits.now.turns }
     ensures idle_limit { result.idle ≤ limits.now.idle_turns }
-    ensures idle_paused { RoseBy (P.count pause.old) (P.count pause.new) result.idle }
+    ensures idle_paused { RoseBy result.idle (P.count pause.old) (P.count pause.new) }
     ensures idle_cause { result.outcome ≡ Outcome.Idle → (result.idle ≡ limits.now.idle_turns) ⊎ (result.turns ≡ limits.now.turns) }
 {
     let alloc = rt.alloc();
-    let reading = read_head(alloc, limits, reader, pause);
-    let end = finish(alloc, limits, app, &reading, writer);
+    let reading = read_request(alloc, limits, reader, pause);
+    let end = finish(alloc, app, &reading.ending, writer);
     Report {
         exchanges: end.exchanges,
         faults: 0,
@@ -67,30 +73,20 @@ pub fn serve_connection<H: AllocGlobal, R: Read, W: Write, P: Pause>(
 }
 
 /// Ends the connection once reading has stopped.
-fn finish<W: Write>(
-    alloc: Global,
-    limits: &Limits,
-    app: &Hello,
-    reading: &Reading,
-    writer: &mut W,
-) -> End
-    requires { FitsHeld reading.now.ending limits.now reading.now.held }
-    ensures agrees { (read : List ℕ) → StopsAs reading.now.ending limits.now read reading.now.held →
-        (written : List ℕ) × Appends (W.contents writer.old) (W.contents writer.new) written
-        × Agrees result.outcome limits.now read written result.exchanges }
-    ensures at_end { result.outcome ≡ Outcome.Finished → result.exchanges ≡ 0 → reading.now.ending ≡ Ending.InputEnded }
-    ensures idle { result.outcome ≡ Outcome.Idle → reading.now.ending ≡ Ending.Idle }
+fn finish<W: Counts>(alloc: Global, app: &Hello, ending: &Ending, writer: &mut W) -> End
+    requires { HasText ending.now }
+    ensures agrees { (limits : Limits) (read : List ℕ) → StopsAs ending.now limits read →
+        (written : List ℕ) × Appends (W.written writer.old) (W.written writer.new) written
+        × Agrees result.outcome limits read written result.exchanges }
+    ensures at_end { result.outcome ≡ Outcome.Finished → result.exchanges ≡ 0 → ending.now ≡ Ending.Blank }
+    ensures idle { result.outcome ≡ Outcome.Idle → ending.now ≡ Ending.Idle }
+    ensures write_failed { TellsFailure (W.failed writer.old) (W.failed writer.new) result }
 {
-    let held = reading.held.bytes();
-    match reading.ending {
-        Ending::Head(n) => reply(alloc, limits, app, &held[..n], writer),
-        Ending::TooLong => {
-            let refusal = Refusal::HeaderFieldsTooLarge;
-            send(alloc, app, Answer::Refuse(refusal), writer)
-        }
-        Ending::InputEnded if is_blank(held) => silent(Outcome::Finished),
-        Ending::InputEnded => silent(Outcome::InputBroke),
-        Ending::InputFailed => silent(Outcome::InputBroke),
+    match ending {
+        Ending::Head(facts) => reply(alloc, app, facts, writer),
+        Ending::Refused(status) => refuse(*status, writer),
+        Ending::Blank => silent(Outcome::Finished),
+        Ending::InputBroke => silent(Outcome::InputBroke),
         Ending::Idle => silent(Outcome::Idle),
         Ending::NoMemory => silent(Outcome::NoMemory),
     }
@@ -106,74 +102,55 @@ fn silent(outcome: Outcome) -> End
     }
 }
 
-fn is_blank(bytes: &[u8]) -> bool
-    ensures { IsTrue result ↔ IsBlank bytes.now }
+/// Answers a request as the application says, or refuses one that announces a body.
+fn reply<W: Counts>(alloc: Global, app: &Hello, facts: &Facts, writer: &mut W) -> End
+    ensures answers { SendsAnswer (answer_to facts.now) (W.written writer.old) (W.written writer.new) result }
+    ensures write_failed { TellsFailure (W.failed writer.old) (W.failed writer.new) result }
 {
-    bytes.iter().all(|b| *b == b'\r' || *b == b'\n')
-}
-
-/// Writes what is due to a head text.
-fn reply<W: Write>(alloc: Global, limits: &Limits, app: &Hello, text: &[u8], writer: &mut W) -> End
-    requires { length text.now ≤ limits.now.max_head }
-    ensures { Replies limits.now.max_headers text.now (W.contents writer.old) (W.contents writer.new) result }
-{
-    let Ok(answer) = answer_to_text(alloc, limits.max_headers, text) else {
-        return silent(Outcome::NoMemory);
+    if has_body(facts.framing) {
+        return refuse(NOT_IMPLEMENTED, writer);
+    }
+    let Ok(text) = exchange_text(alloc, app, facts) else {
+        return End {
+            exchanges: 1,
+            outcome: Outcome::NoMemory,
+        };
     };
-    send(alloc, app, answer, writer)
+    let served = End {
+        exchanges: 1,
+        outcome: Outcome::Finished,
+    };
+    put(&text, writer, served)
 }
 
-/// The answer to a head text.
-fn answer_to_text(alloc: Global, max_headers: usize, text: &[u8]) -> Result<Answer, AllocError>
-    requires room { max_headers ≤ 128 }
-    requires short { length text.now ≤ 65535 }
-    ensures { IfOk result (λ answer. AnswersText max_headers text.now answer) }
+/// Whether the request announces a body.
+fn has_body(framing: Framing) -> bool
+    ensures { result ≡ scopes.has_body framing }
 {
-    match parse_head(alloc, max_headers, text)? {
-        Some(head) => Ok(answer_to(&head)),
-        None => Ok(Answer::Refuse(Refusal::BadRequest)),
+    match framing {
+        Framing::Length(n) => n > 0,
+        Framing::Chunked => true,
+        Framing::Upgrade => false,
     }
 }
 
-/// Writes the text of an answer.
-fn send<W: Write>(alloc: Global, app: &Hello, answer: Answer, writer: &mut W) -> End
-    ensures { SendsAnswer answer (W.contents writer.old) (W.contents writer.new) result }
+/// Writes the text of a refusal.
+fn refuse<W: Counts>(status: u16, writer: &mut W) -> End
+    requires { IsTrue (is_refusal status) }
+    ensures answers { SendsAnswer (refusal status) (W.written writer.old) (W.written writer.new) result }
+    ensures write_failed { TellsFailure (W.failed writer.old) (W.failed writer.new) result }
 {
-    match answer {
-        Answer::Refuse(refusal) => {
-            let refused = End {
-                exchanges: 0,
-                outcome: Outcome::Refused(refusal.status()),
-            };
-            put(refusal_text(refusal), writer, refused)
-        }
-        Answer::Serve { close } => {
-            let Ok(text) = hello_text(alloc, app, close) else {
-                return End {
-                    exchanges: 1,
-                    outcome: Outcome::NoMemory,
-                };
-            };
-            let served = End {
-                exchanges: 1,
-                outcome: Outcome::Finished,
-            };
-            put(&text, writer, served)
-        }
-    }
-}
-
-/// The text of what the application says.
-fn hello_text(alloc: Global, app: &Hello, close: bool) -> Result<Vec<u8>, AllocError>
-    ensures { IfOk result (λ text. text.items ≡ spec_response_text close hello_events) }
-{
-    let said = app.said(alloc)?;
-    response_text(alloc, close, &said)
+    let refused = End {
+        exchanges: 0,
+        outcome: Outcome::Refused(status),
+    };
+    put(refusal_text(status), writer, refused)
 }
 
 /// Writes a text, and says how the connection ends: as given where all of it is out.
-fn put<W: Write>(text: &[u8], writer: &mut W, whole: End) -> End
-    ensures { Puts text.now whole (W.contents writer.old) (W.contents writer.new) result }
+fn put<W: Counts>(text: &[u8], writer: &mut W, whole: End) -> End
+    ensures puts { Puts text.now whole (W.written writer.old) (W.written writer.new) result }
+    ensures write_failed { ((n : ℕ) → whole.outcome ≢ Outcome.WriteFailed n) → TellsFailure (W.failed writer.old) (W.failed writer.new) result }
 {
     match write_out(writer, text) {
         Wrote::Done => whole,

@@ -1,9 +1,8 @@
 //! Laws of the definitions, each the contract of a function that does nothing.
 ghost use Rattle.std.specs.Prelude.{◌≡◌, ◌++◌, List, ℕ};
 ghost use Rattle.asgi_types.specs.declared.limits.Limits.{Limits};
-ghost use Rattle.asgi_conn.specs.declared.framing.Answer.{Answer};
 ghost use Rattle.asgi_conn.specs.declared.report.Report.{Report};
-ghost use Rattle.asgi_conn.specs.Conversation.{Conversation, IsDue, IsWhole, NothingIsDue, answer_text};
+ghost use Rattle.asgi_conn.specs.Conversation.{Answer, Conversation, IsDue, IsWhole, NothingIsDue, answer_text};
 
 /// At most one answer is due to the bytes read, and none where the head may still come.
 pub fn one_answer()

@@ -2,17 +2,12 @@
 #![tactic(auto)]
 
 mod connection;
-mod fields;
-mod framing;
-mod head;
+mod exchange;
 mod hello;
 pub mod laws;
 mod pause;
 mod reading;
 mod report;
-mod search;
-mod text;
-mod write;
 
 pub use connection::serve_connection;
 pub use hello::Hello;

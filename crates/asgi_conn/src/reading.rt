@@ -1,31 +1,32 @@
 //! Reading until it is known what the bytes begin with.
-ghost use Rattle.std.specs.Prelude.{◌≡◌, ◌+◌, ◌≤◌, ◌⊎◌, ℕ, List};
+ghost use Rattle.std.specs.Prelude.{◌≡◌, ◌≤◌, ◌⊎◌, ◌↔◌, [], ◌++◌, ℕ, List, Option, IsTrue};
 ghost use Rattle.std.specs.Io.KnownBytes.{Consumes, IsAtEnd};
-ghost use Rattle.asgi_conn.specs.Conversation.{IsPrompt};
-ghost use Rattle.asgi_conn.specs.Turns.{RoseBy, CountsTurns};
-ghost use Rattle.asgi_conn.specs.Steps.{FitsHeld, StopsAs};
+ghost use Rattle.asgi_request.specs.Reading.{StandsFor};
+ghost use Rattle.asgi_response.specs.Counting.{RoseBy};
+ghost use Rattle.asgi_conn.specs.Conversation.{NothingIsDue, IsBlank, IsPrompt};
+ghost use Rattle.asgi_conn.specs.Endings.{HasText, StopsAs, Stops};
+ghost use Rattle.asgi_conn.specs.Turns.{CountsTurns};
 
 use crate::pause::Pause;
-use crate::search::{Arrival, HeadBuffer};
-use crate::write::is_passing;
-use asgi_types::Limits;
+use asgi_request::{Next, RequestReader};
+use asgi_types::{Facts, Limits};
 use std::alloc::Global;
-use std::io::Read;
+use std::io::{self, ErrorKind, Read};
 
 /// The most bytes that one turn reads.
 const PIECE: usize = 4_096;
 
 /// Why reading stopped.
-#[derive(Clone, Copy, Debug, PartialEq, Eq)]
+#[derive(Debug, Drop)]
 pub enum Ending {
-    /// A head text of this length is in front of the bytes.
-    Head(usize),
-    /// No head text is within the limit.
-    TooLong,
-    /// The input ended before.
-    InputEnded,
-    /// A read failed before.
-    InputFailed,
+    /// The bytes begin with the head of a request.
+    Head(Facts),
+    /// What they begin with is refused with this status.
+    Refused(u16),
+    /// The input ended, and had only empty lines.
+    Blank,
+    /// The input ended or failed before the head was whole.
+    InputBroke,
     /// A limit on turns was reached before.
     Idle,
     /// Memory was refused.
@@ -33,70 +34,109 @@ pub enum Ending {
 }
 
 /// What was read, and how.
-#[derive(Drop)]
+#[derive(Debug, Drop)]
 pub struct Reading {
-    pub held: HeadBuffer,
     pub ending: Ending,
     pub turns: u64,
     /// The idle turns in a row at the end.
     pub idle: u32,
 }
 
-/// Reads until a head or a refusal is due, the input is at its end, or a limit is reached.
-pub fn read_head<R: Read, P: Pause>(
+/// Reads until a head or a refusal is there, the input is at its end, or a limit is reached.
+pub fn read_request<R: Read, P: Pause>(
     alloc: Global,
     limits: &Limits,
     reader: &mut R,
     pause: &mut P,
 ) -> Reading
     ensures reads { (read : List ℕ) × Consumes (R.remaining reader.old) (R.remaining reader.new) read
-        × StopsAs result.ending limits.now read result.held × IsPrompt limits.now read
+        × StopsAs result.ending limits.now read × IsPrompt limits.now read
         × CountsTurns read (P.count pause.old) (P.count pause.new) result.turns }
-    ensures fits { FitsHeld result.ending limits.now result.held }
-    ensures at_end { result.ending ≡ Ending.InputEnded → IsAtEnd (R.remaining reader.new) }
+    ensures has_text { HasText result.ending }
+    ensures at_end { result.ending ≡ Ending.Blank → IsAtEnd (R.remaining reader.new) }
     ensures turns_limit { result.turns ≤ limits.now.turns }
     ensures idle_limit { result.idle ≤ limits.now.idle_turns }
-    ensures idle_paused { RoseBy (P.count pause.old) (P.count pause.new) result.idle }
+    ensures idle_paused { RoseBy result.idle (P.count pause.old) (P.count pause.new) }
     ensures idle_cause { result.ending ≡ Ending.Idle → (result.idle ≡ limits.now.idle_turns) ⊎ (result.turns ≡ limits.now.turns) }
 {
     let mut piece = [0; PIECE];
-    let mut held = HeadBuffer::new(alloc);
+    let mut requests = RequestReader::new(alloc, *limits);
     let mut idle = 0;
     for turn in 0..limits.turns {
         match reader.read(&mut piece) {
-            Ok(0) => return stop(held, Ending::InputEnded, turn + 1, idle),
+            Ok(0) => return stop(end_of_input(&requests), turn + 1, idle),
             Ok(n) => {
                 idle = 0;
-                match held.feed(limits.max_head, &piece[..n]) {
-                    Ok(Arrival::Partial) => {}
-                    Ok(Arrival::Head(n)) => return stop(held, Ending::Head(n), turn + 1, idle),
-                    Ok(Arrival::TooLong) => return stop(held, Ending::TooLong, turn + 1, idle),
-                    Err(_) => return stop(held, Ending::NoMemory, turn + 1, idle),
+                if let Some(ending) = take_piece(&mut requests, &piece[..n]) {
+                    return stop(ending, turn + 1, idle);
                 }
             }
             Err(e) => {
                 if !is_passing(&e) {
-                    return stop(held, Ending::InputFailed, turn + 1, idle);
+                    return stop(Ending::InputBroke, turn + 1, idle);
                 }
                 idle += 1;
                 pause.pause();
                 if idle >= limits.idle_turns {
-                    return stop(held, Ending::Idle, turn + 1, idle);
+                    return stop(Ending::Idle, turn + 1, idle);
                 }
             }
         }
     }
-    stop(held, Ending::Idle, limits.turns, idle)
+    stop(Ending::Idle, limits.turns, idle)
 }
 
-fn stop(held: HeadBuffer, ending: Ending, turns: u64, idle: u32) -> Reading
-    ensures held { result.held ≡ held }
+/// Takes a piece of the input, and answers why reading stops behind it, or `None` where more is needed.
+fn take_piece(requests: &mut RequestReader, piece: &[u8]) -> Option<Ending>
+    requires { (bytes : List ℕ) × StandsFor requests.now bytes [] }
+    ensures limits { requests.new.limits ≡ requests.old.limits }
+    ensures takes { (bytes : List ℕ) → StandsFor requests.old bytes [] → Stops result requests.old.limits (bytes ++ piece.now) requests.new }
+{
+    if requests.feed(piece).is_err() {
+        return Some(Ending::NoMemory);
+    }
+    let Ok(next) = requests.next() else {
+        return Some(Ending::NoMemory);
+    };
+    match next {
+        Next::Need => None,
+        Next::Head(_, facts) => Some(Ending::Head(facts)),
+        Next::Bad(status) => Some(Ending::Refused(status)),
+        Next::Event(_) => unreachable!(),
+        Next::Whole => unreachable!(),
+    }
+}
+
+/// Why reading stops at the end of the input.
+fn end_of_input(requests: &RequestReader) -> Ending
+    ensures { (bytes : List ℕ) → StandsFor requests.now bytes [] → NothingIsDue requests.now.limits bytes → StopsAs result requests.now.limits bytes }
+    ensures has_text { HasText result }
+    ensures is_end { (result ≡ Ending.Blank) ⊎ (result ≡ Ending.InputBroke) }
+{
+    if is_blank(requests.held()) {
+        return Ending::Blank;
+    }
+    Ending::InputBroke
+}
+
+/// Whether the bytes are only empty lines.
+fn is_blank(bytes: &[u8]) -> bool
+    ensures { IsTrue result ↔ IsBlank bytes.now }
+{
+    bytes.iter().all(|b| *b == b'\r' || *b == b'\n')
+}
+
+/// Whether the fault passes: an interruption, or a call that would block.
+fn is_passing(e: &io::Error) -> bool {
+    e.kind() == ErrorKind::Interrupted || e.kind() == ErrorKind::WouldBlock
+}
+
+fn stop(ending: Ending, turns: u64, idle: u32) -> Reading
     ensures ending { result.ending ≡ ending }
     ensures turns { result.turns ≡ turns }
     ensures idle { result.idle ≡ idle }
 {
     Reading {
-        held,
         ending,
         turns,
         idle,
