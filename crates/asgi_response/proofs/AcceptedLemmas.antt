@@ -21,11 +21,11 @@ use Rattle.asgi_response.specs.Steps.{is_allowed, left_behind}
 
 -- ---- the words
 
-is_row-open : (parts : List (List ℕ)) → is_row is_part is_last_part (map part parts) ≡ false
+pub is_row-open : (parts : List (List ℕ)) → is_row is_part is_last_part (map part parts) ≡ false
 is_row-open [] = refl
 is_row-open (p ∷ parts) = ap (λ (b : Bool). b || false) (is_row-open parts)
 
-is_row-closed : (parts : List (List ℕ)) (last : List ℕ) → is_row is_part is_last_part (map part parts ++ ResponseBody last false ∷ []) ≡ true
+pub is_row-closed : (parts : List (List ℕ)) (last : List ℕ) → is_row is_part is_last_part (map part parts ++ ResponseBody last false ∷ []) ≡ true
 is_row-closed [] last = refl
 is_row-closed (p ∷ parts) last = ap (λ (b : Bool). b || false) (is_row-closed parts last)
 

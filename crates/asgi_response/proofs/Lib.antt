@@ -6,6 +6,7 @@ pub mod HeadLemmas
 pub mod RefusalLemmas
 pub mod AcceptedLemmas
 pub mod StandingLemmas
+pub mod ProgressLemmas
 pub mod LawLemmas
 pub mod RoomLemmas
 pub mod ReadBackLemmas

@@ -8,7 +8,7 @@ use Rattle.asgi_types.specs.declared.facts.Facts.{Facts}
 use Rattle.asgi_types.specs.declared.outgoing.Outgoing.{Outgoing}
 use Rattle.asgi_types.specs.declared.outgoing.Outgoing.TheVariants.{ResponseStart, ResponseBody, WsAccept, WsSend, WsClose, DenialStart, DenialBody, StartupComplete, StartupFailed, ShutdownComplete, ShutdownFailed}
 use Rattle.asgi_protocol.specs.ContentLengths.{content_length}
-use Rattle.asgi_protocol.specs.Rules.{is_status, is_faulty, promised_length, body_bytes}
+use Rattle.asgi_protocol.specs.Rules.{is_status, is_faulty, given_length, promised_length, body_bytes}
 use Rattle.asgi_response.specs.declared.content.Coding.{Coding}
 use Rattle.asgi_response.specs.declared.content.Content.{Content}
 use Rattle.asgi_response.specs.declared.text.ResponseText.{ResponseText}
@@ -17,6 +17,7 @@ use Rattle.asgi_response.specs.declared.text.Stage.TheVariants.{Waiting, Started
 use Rattle.asgi_response.specs.Accepted.{passes, with_event, accepted}
 use Rattle.asgi_response.specs.Content.{part_text, has_content}
 use Rattle.asgi_response.specs.Fields.{is_chunked, closes, head_text}
+use Rattle.asgi_response.specs.Progress.{closes_behind}
 use Rattle.asgi_response.specs.Response.{body_text, message_text, continue_text, response_text}
 use Rattle.asgi_response.specs.Room.{LacksRoom, LacksMemory, is_start}
 use Rattle.asgi_response.specs.Standing.{part, with_sent, IsOpen, HasStart, HasParts, IsStage, HasAccepted, StandsFor, Grows}
@@ -45,13 +46,17 @@ with_sent-zero : (left : Option ℕ) → left ≡ with_sent 0 left
 with_sent-zero None = refl
 with_sent-zero (Some n) = ap (λ (m : ℕ). let o : Option ℕ = Some m in o) (sym (zero-add n))
 
+-- in front of a start the request alone says whether the connection closes
+closes_first : (t : ResponseText) (facts : Facts) (said : List Outgoing) → HasAccepted t facts said → said ≡ [] → t.close ≡ facts.close
+closes_first t facts said at none = at.close ∙ ap (closes_behind facts) none
+
 started : (t : ResponseText) (facts : Facts) (said : List Outgoing) (status : ℕ) (headers : List HeaderField) → HasAccepted t facts said → said ≡ []
-    → HasAccepted (record t { stage = Started (content_at_start t.version t.head_only status headers); head = head_text (is_chunked t.version status headers) (closes t.close headers) status headers })
+    → HasAccepted (record t { stage = Started (content_at_start t.version t.head_only status headers); head = head_text (is_chunked t.version status headers) (closes t.close headers) status headers; close = closes t.close headers })
     facts (said ++ ResponseStart status headers ∷ [])
 started t facts said status headers at none = record {
   version = at.version;
   head_only = at.head_only;
-  close = at.close;
+  close = ap (λ (b : Bool). closes b headers) (closes_first t facts said at none) ∙ sym (ap (λ (s : List Outgoing). closes_behind facts (s ++ ResponseStart status headers ∷ [])) none);
   expect = at.expect;
   stage = record {
     status = status;
@@ -61,19 +66,19 @@ started t facts said status headers at none = record {
       coding = ap (λ v. coding_of (has_content t.head_only status) (is_chunked v status headers)) at.version
           ∙ ap (λ (b : Bool). coding_of (has_content b status) (is_chunked facts.version status headers)) at.head_only;
       left = ap (λ (s : List Outgoing). promised_length facts (s ++ ResponseStart status headers ∷ [])) none
-          ∙ with_sent-zero (left_at_start facts.head_only status (content_length headers))
-          ∙ sym (ap (λ (s : List Outgoing). with_sent (body_bytes (s ++ ResponseStart status headers ∷ [])) (left_at_start t.head_only status (content_length headers))) none
-          ∙ ap (λ (b : Bool). with_sent 0 (left_at_start b status (content_length headers))) at.head_only);
+          ∙ with_sent-zero (left_at_start facts.head_only status (given_length (content_length headers)))
+          ∙ sym (ap (λ (s : List Outgoing). with_sent (body_bytes (s ++ ResponseStart status headers ∷ [])) (left_at_start t.head_only status (given_length (content_length headers)))) none
+          ∙ ap (λ (b : Bool). with_sent 0 (left_at_start b status (given_length (content_length headers)))) at.head_only);
     };
     text = ap (λ v. head_text (is_chunked v status headers) (closes t.close headers) status headers) at.version
-        ∙ ap (λ (b : Bool). head_text (is_chunked facts.version status headers) (closes b headers) status headers) at.close;
+        ∙ ap (λ (b : Bool). head_text (is_chunked facts.version status headers) (closes b headers) status headers) (closes_first t facts said at none);
   };
 }
 
 start_step : (t : ResponseText) (facts : Facts) (said : List Outgoing) (status : ℕ) (headers : List HeaderField) → HasAccepted t facts said
     → (stage : Stage) → IsStage facts said t.head stage
-    → HasAccepted (if may_start stage status (content_length headers)
-    then record t { stage = Started (content_at_start t.version t.head_only status headers); head = head_text (is_chunked t.version status headers) (closes t.close headers) status headers } else t)
+    → HasAccepted (if may_start stage status (is_faulty (content_length headers))
+    then record t { stage = Started (content_at_start t.version t.head_only status headers); head = head_text (is_chunked t.version status headers) (closes t.close headers) status headers; close = closes t.close headers } else t)
     facts (with_event facts said (ResponseStart status headers))
 start_step t facts said status headers at Waiting none =
     choose (λ u s. HasAccepted u facts s) (is_status status && not (is_faulty (content_length headers))) (passes facts said (ResponseStart status headers)) t _ said _
@@ -115,6 +120,11 @@ next_is facts said status headers parts content body false o fits = record {
   in_order = ap (λ (s : List Outgoing). s ++ ResponseBody body false ∷ []) o.events;
 }
 
+closes_on : (facts : Facts) (said : List Outgoing) (status : ℕ) (headers : List HeaderField) (parts : List (List ℕ)) (body : List ℕ) (more : Bool)
+    → said ≡ ResponseStart status headers ∷ map part parts → closes_behind facts said ≡ closes_behind facts (said ++ ResponseBody body more ∷ [])
+closes_on facts said status headers parts body more e =
+    ap (closes_behind facts) e ∙ sym (ap (λ (s : List Outgoing). closes_behind facts (s ++ ResponseBody body more ∷ [])) e)
+
 open_step : (t : ResponseText) (facts : Facts) (said : List Outgoing) (status : ℕ) (headers : List HeaderField) (parts : List (List ℕ)) (content : Content) (body : List ℕ) (more : Bool)
     → HasAccepted t facts said → IsOpen facts said status headers parts content
     → HasAccepted (after_part t (Some content) body more) facts (with_event facts said (ResponseBody body more))
@@ -122,7 +132,7 @@ open_step t facts said status headers parts content body more at o =
     choose (λ u s. HasAccepted u facts s) (is_allowed content.left (length body) more) (passes facts said (ResponseBody body more)) t
     (record t { stage = next_stage content (length body) more; head = [] }) said (said ++ ResponseBody body more ∷ [])
     (passes_body facts said status headers parts content.left body more o.events o.left)
-    (λ fits. record { version = at.version; head_only = at.head_only; close = at.close; expect = at.expect; stage = next_is facts said status headers parts content body more o fits })
+    (λ fits. record { version = at.version; head_only = at.head_only; close = at.close ∙ closes_on facts said status headers parts body more o.events; expect = at.expect; stage = next_is facts said status headers parts content body more o fits })
     at
 
 body_step : (t : ResponseText) (facts : Facts) (said : List Outgoing) (body : List ℕ) (more : Bool) → HasAccepted t facts said

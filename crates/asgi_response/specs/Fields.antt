@@ -1,11 +1,11 @@
 -- The head of a response: its status line, its fields and the empty line (RFC 9112, sections 4 to 6 and 9.6).
-use Rattle.std.specs.Prelude.{ℕ, Bool, true, false, ◌&&◌, ◌||◌, not, List, [], ◌++◌, if◌then◌else◌, ◌==◌, codes, bytes_eq}
+use Rattle.std.specs.Prelude.{ℕ, Bool, true, false, ◌&&◌, ◌||◌, not, List, [], ◌++◌, length, if◌then◌else◌, ◌==◌, codes, bytes_eq}
 use Rattle.std.specs.List.{filter, flat_map}
 use Rattle.httparse.specs.Ascii.{crlf_bytes}
 use Rattle.asgi_types.specs.Fields.{HeaderField}
 use Rattle.asgi_types.specs.declared.outgoing.HttpVersion.{HttpVersion}
 use Rattle.asgi_types.specs.declared.outgoing.HttpVersion.TheVariants.{V10, V11}
-use Rattle.asgi_protocol.specs.ContentLengths.{ContentLength, Absent, Given, Faulty, content_length}
+use Rattle.asgi_protocol.specs.ContentLengths.{values_of}
 use Rattle.asgi_response.specs.StatusLine.{status_line}
 use Rattle.asgi_response.specs.Tokens.{has_token}
 
@@ -32,14 +32,13 @@ abbrev pub is_v11 : HttpVersion → Bool
 is_v11 V11 = true
 is_v11 V10 = false
 
-abbrev pub is_absent : ContentLength → Bool
-is_absent Absent = true
-is_absent (Given n) = false
-is_absent Faulty = false
+-- there is no content-length field
+abbrev pub gives_no_length : List HeaderField → Bool
+gives_no_length headers = length (values_of headers (codes "content-length")) == 0
 
 -- The content is chunked where its length is not given (section 6.1), in an answer to HTTP/1.1 alone.
 abbrev pub is_chunked : HttpVersion → ℕ → List HeaderField → Bool
-is_chunked version status headers = is_v11 version && is_absent (content_length headers) && not (has_no_content status)
+is_chunked version status headers = is_v11 version && gives_no_length headers && not (has_no_content status)
 
 -- the response says `close` where the connection closes for the request, or the application says so (section 9.6)
 abbrev pub closes : Bool → List HeaderField → Bool

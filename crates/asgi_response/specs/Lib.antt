@@ -5,6 +5,7 @@ pub mod Content
 pub mod Accepted
 pub mod Response
 pub mod Exchange
+pub mod Progress
 pub mod Standing
 pub mod Laws
 pub mod Counting

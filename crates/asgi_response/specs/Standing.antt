@@ -13,6 +13,7 @@ use Rattle.asgi_response.specs.declared.text.Stage.TheVariants.{Waiting, Started
 use Rattle.asgi_response.specs.Fields.{is_chunked, closes, head_text}
 use Rattle.asgi_response.specs.Content.{has_content}
 use Rattle.asgi_response.specs.Accepted.{accepted}
+use Rattle.asgi_response.specs.Progress.{closes_behind}
 use Rattle.asgi_response.specs.Steps.{coding_of}
 
 -- the bytes that were promised, from those that were sent and those that are left
@@ -56,7 +57,7 @@ IsStage facts said head Complete = IsResponse said
 pub record HasAccepted (text : ResponseText) (facts : Facts) (said : List Outgoing) : Type 0 where
   pub version : text.version ≡ facts.version
   pub head_only : text.head_only ≡ facts.head_only
-  pub close : text.close ≡ facts.close
+  pub close : text.close ≡ closes_behind facts said
   pub expect : text.expect ≡ facts.expect
   pub stage : IsStage facts said text.head text.stage
 

@@ -1,11 +1,10 @@
 -- What the private functions of a response text tell each other. No promise is stated by these words.
-use Rattle.std.specs.Prelude.{ℕ, ◌-◌, Bool, true, false, ◌&&◌, not, List, [], ◌++◌, length, Option, Some, None, if◌then◌else◌, nat_le, ◌==◌}
+use Rattle.std.specs.Prelude.{ℕ, ◌-◌, Bool, true, false, ◌&&◌, not, List, [], ◌∷◌, ◌++◌, length, Option, Some, None, if◌then◌else◌, nat_le, ◌==◌}
 use Rattle.asgi_types.specs.Fields.{HeaderField}
 use Rattle.asgi_types.specs.declared.outgoing.HttpVersion.{HttpVersion}
 use Rattle.asgi_types.specs.declared.outgoing.Outgoing.{Outgoing}
 use Rattle.asgi_types.specs.declared.outgoing.Outgoing.TheVariants.{ResponseStart, ResponseBody}
-use Rattle.asgi_protocol.specs.ContentLengths as lengths
-use Rattle.asgi_protocol.specs.ContentLengths.{ContentLength, length_of_value, content_length}
+use Rattle.asgi_protocol.specs.ContentLengths.{content_length}
 use Rattle.asgi_protocol.specs.Rules.{is_status, is_faulty, given_length}
 use Rattle.asgi_types.specs.Lengths.{length_of_text}
 use Rattle.asgi_response.specs.declared.content.Coding.{Coding}
@@ -13,6 +12,8 @@ use Rattle.asgi_response.specs.declared.content.Coding.TheVariants.{Nothing, Pla
 use Rattle.asgi_response.specs.declared.content.Content.{Content}
 use Rattle.asgi_response.specs.declared.fields.Length.{Length}
 use Rattle.asgi_response.specs.declared.fields.Length.TheVariants as seen
+use Rattle.asgi_response.specs.declared.progress.Progress.{Progress}
+use Rattle.asgi_response.specs.declared.progress.Progress.TheVariants as progress
 use Rattle.asgi_response.specs.declared.text.ResponseText.{ResponseText}
 use Rattle.asgi_response.specs.declared.text.Stage.{Stage}
 use Rattle.asgi_response.specs.declared.text.Stage.TheVariants.{Waiting, Started, Begun, Complete}
@@ -21,16 +22,36 @@ use Rattle.asgi_response.specs.Content.{has_content, part_text}
 
 -- ---- of the fields
 
-abbrev pub length_seen : Length → ContentLength
-length_seen seen.Absent = lengths.Absent
-length_seen (seen.Given n) = lengths.Given n
-length_seen seen.Faulty = lengths.Faulty
+abbrev pub seen_absent : Length → Bool
+seen_absent seen.Absent = true
+seen_absent (seen.Given n) = false
+seen_absent seen.Faulty = false
+
+abbrev pub seen_faulty : Length → Bool
+seen_faulty seen.Absent = false
+seen_faulty (seen.Given n) = false
+seen_faulty seen.Faulty = true
+
+abbrev pub seen_given : Length → Option ℕ
+seen_given seen.Absent = None
+seen_given (seen.Given n) = Some n
+seen_given seen.Faulty = None
+
+abbrev pub seen_number : Option ℕ → Length
+seen_number None = seen.Faulty
+seen_number (Some n) = seen.Given n
 
 -- the length with one more field of this value
-abbrev pub with_value : ContentLength → List ℕ → ContentLength
-with_value lengths.Absent value = length_of_value (length_of_text value)
-with_value (lengths.Given n) value = lengths.Faulty
-with_value lengths.Faulty value = lengths.Faulty
+abbrev pub with_value : Length → List ℕ → Length
+with_value seen.Absent value = seen_number (length_of_text value)
+with_value (seen.Given n) value = seen.Faulty
+with_value seen.Faulty value = seen.Faulty
+
+-- what the values of the fields say, all together
+abbrev pub seen_in : List (List ℕ) → Length
+seen_in [] = seen.Absent
+seen_in (value ∷ []) = seen_number (length_of_text value)
+seen_in (value ∷ another ∷ values) = seen.Faulty
 
 -- ---- of the content
 
@@ -55,8 +76,8 @@ left_behind None n = None
 left_behind (Some left) n = Some (left - n)
 
 -- the bytes that are left behind a start
-abbrev pub left_at_start : Bool → ℕ → ContentLength → Option ℕ
-left_at_start head_only status given = if head_only then None else (if has_no_content status then None else given_length given)
+abbrev pub left_at_start : Bool → ℕ → Option ℕ → Option ℕ
+left_at_start head_only status given = if head_only then None else (if has_no_content status then None else given)
 
 -- ---- of the text
 
@@ -82,21 +103,22 @@ content_due Complete = None
 abbrev pub next_stage : Content → ℕ → Bool → Stage
 next_stage content n more_body = if more_body then Begun (record content { left = left_behind content.left n }) else Complete
 
-abbrev pub may_start : Stage → ℕ → ContentLength → Bool
-may_start stage status given = is_waiting stage && is_status status && not (is_faulty given)
+abbrev pub may_start : Stage → ℕ → Bool → Bool
+may_start stage status faulty = is_waiting stage && is_status status && not faulty
 
 abbrev pub content_at_start : HttpVersion → Bool → ℕ → List HeaderField → Content
 content_at_start version head_only status headers = record {
   coding = coding_of (has_content head_only status) (is_chunked version status headers);
-  left = left_at_start head_only status (content_length headers);
+  left = left_at_start head_only status (given_length (content_length headers));
 }
 
 abbrev pub after_start : ResponseText → ℕ → List HeaderField → ResponseText
 after_start text status headers =
-    if may_start text.stage status (content_length headers)
+    if may_start text.stage status (is_faulty (content_length headers))
     then record text {
       stage = Started (content_at_start text.version text.head_only status headers);
       head = head_text (is_chunked text.version status headers) (closes text.close headers) status headers;
+      close = closes text.close headers;
     } else text
 
 abbrev pub after_part : ResponseText → Option Content → List ℕ → Bool → ResponseText
@@ -109,6 +131,12 @@ abbrev pub part_added : List ℕ → Option Content → List ℕ → Bool → Li
 part_added head None body more_body = []
 part_added head (Some content) body more_body =
     if is_allowed content.left (length body) more_body then head ++ coded_text content.coding body more_body else []
+
+abbrev pub progress_at : Stage → Bool → Progress
+progress_at Waiting close = progress.Nothing
+progress_at (Started content) close = progress.Nothing
+progress_at (Begun content) close = progress.Begun
+progress_at Complete close = progress.Complete close
 
 -- the text behind an event, and what it added to the output
 abbrev pub after_event : ResponseText → Outgoing → ResponseText

@@ -1,7 +1,6 @@
 //! What the fields of a response say of its framing.
 ghost use Rattle.std.specs.Prelude.{◌≡◌, ◌||◌, ◌&&◌, ◌==◌, not, reverse};
 ghost use Rattle.httparse.specs.Grammar.{is_ows, skip_ows, trim_ows};
-ghost use Rattle.asgi_protocol.specs.ContentLengths as lengths;
 ghost use Rattle.asgi_response.specs.Tokens as spec;
 ghost use Rattle.asgi_response.specs.Fields as fields;
 
@@ -27,12 +26,16 @@ pub enum Length {
 }
 
 impl Length {
-    ghost use Rattle.asgi_response.specs.Steps.{length_seen, with_value};
-    ghost use Rattle.asgi_protocol.specs.Rules.{given_length};
+    ghost use Rattle.asgi_response.specs.Steps.{seen_absent, seen_faulty, seen_given, with_value};
+    ghost use Rattle.asgi_response.specs.Fields.{gives_no_length};
+    ghost use Rattle.asgi_protocol.specs.ContentLengths.{content_length};
+    ghost use Rattle.asgi_protocol.specs.Rules.{is_faulty, given_length};
 
     /// What the fields say.
     pub fn of(headers: &Headers) -> Self
-        ensures { length_seen result ≡ lengths.content_length headers.now }
+        ensures absent { seen_absent result ≡ gives_no_length headers.now }
+        ensures faulty { seen_faulty result ≡ is_faulty (content_length headers.now) }
+        ensures given { seen_given result ≡ given_length (content_length headers.now) }
     {
         let mut seen = Length::Absent;
         for (name, value) in headers.iter() {
@@ -45,7 +48,7 @@ impl Length {
 
     /// The length that is given.
     pub fn given(self) -> Option<u64>
-        ensures { result ≡ given_length (length_seen self) }
+        ensures { result ≡ seen_given self }
     {
         match self {
             Length::Given(number) => Some(number),
@@ -55,7 +58,7 @@ impl Length {
 
     /// What the fields say with one more of this value.
     fn with(self, value: &[u8]) -> Self
-        ensures { length_seen result ≡ with_value (length_seen self) value.now }
+        ensures { result ≡ with_value self value.now }
     {
         if self != Length::Absent {
             return Length::Faulty;

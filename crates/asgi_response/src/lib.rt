@@ -8,6 +8,7 @@ mod counts;
 mod fields;
 mod head;
 mod laws;
+mod progress;
 mod refusal;
 #[cfg(test)]
 mod tests;
@@ -16,6 +17,7 @@ mod write;
 
 pub use counts::{Counted, Counts};
 pub use laws::{head_is_read_back, passed_is_accepted, response_is_read_back, text_only_grows};
+pub use progress::Progress;
 pub use refusal::{Input, refusal_text};
 pub use text::ResponseText;
 pub use write::{Wrote, write_out};

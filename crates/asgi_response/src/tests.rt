@@ -1,13 +1,15 @@
 //! Tests on public calls.
 
 mod ends;
+mod memory;
+mod progress;
 mod responses;
 mod statuses;
 mod writing;
 
 use crate::{Input, ResponseText};
-use asgi_types::{Facts, Framing, Headers, HttpVersion, Names, Octets, Outgoing};
-use std::alloc::Global;
+use asgi_types::{Facts, Framing, HeaderError, Headers, HttpVersion, Names, Octets, Outgoing};
+use std::alloc::{AllocError, Global};
 use std::test::Fail;
 
 /// What a request says of itself.
@@ -84,7 +86,7 @@ impl Ask {
 }
 
 impl Say {
-    fn event(self, alloc: Global) -> Result<Outgoing, Fail> {
+    fn event(self, alloc: Global) -> Result<Outgoing, HeaderError> {
         match self {
             Say::Start(status, fields) => {
                 let headers = headers_of(alloc, fields)?;
@@ -111,7 +113,7 @@ impl Say {
     }
 }
 
-fn headers_of(alloc: Global, fields: Fields) -> Result<Headers, Fail> {
+fn headers_of(alloc: Global, fields: Fields) -> Result<Headers, HeaderError> {
     let mut headers = Headers::new(alloc);
     for (name, value) in fields {
         headers.push(name.as_bytes(), value.as_bytes())?;
@@ -119,7 +121,7 @@ fn headers_of(alloc: Global, fields: Fields) -> Result<Headers, Fail> {
     Ok(headers)
 }
 
-fn body_of(alloc: Global, text: &str) -> Result<Octets, Fail> {
+fn body_of(alloc: Global, text: &str) -> Result<Octets, AllocError> {
     Ok(Octets::new(Vec::from_slice(alloc, text.as_bytes())?))
 }
 
@@ -136,6 +138,17 @@ fn written(alloc: Global, ask: Ask, said: &[Say], end: Option<Input>) -> Result<
         text.end(input, &mut out)?;
     }
     Ok(out)
+}
+
+/// The text that took these events.
+fn taken(alloc: Global, ask: Ask, said: &[Say]) -> Result<ResponseText, Fail> {
+    let mut out = Vec::new(alloc);
+    let mut text = ResponseText::new(alloc, &ask.facts(alloc));
+    for say in said {
+        let event = say.event(alloc)?;
+        text.take(&event, &mut out)?;
+    }
+    Ok(text)
 }
 
 /// The text of a start with no fields and of one last body.

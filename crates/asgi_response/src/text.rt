@@ -10,6 +10,7 @@ use crate::append::{append_all, hexadecimal};
 use crate::content::{Coding, Content};
 use crate::fields::{Length, closes, has_no_content};
 use crate::head::{CRLF, head_text};
+use crate::progress::Progress;
 use crate::refusal::{Input, append_refusal};
 use asgi_types::{Facts, Headers, HttpVersion, Octets, Outgoing};
 use std::alloc::{AllocError, Global};
@@ -37,6 +38,7 @@ pub struct ResponseText {
     alloc: Global,
     version: HttpVersion,
     head_only: bool,
+    // Whether the connection closes behind the response: for the request, or because the start says so.
     close: bool,
     expect: bool,
     stage: Stage,
@@ -48,6 +50,7 @@ impl ResponseText {
     ghost use Rattle.asgi_response.specs.Standing.{StandsFor, Grows};
     ghost use Rattle.asgi_response.specs.Response.{response_text};
     ghost use Rattle.asgi_response.specs.Exchange.{end_text};
+    ghost use Rattle.asgi_response.specs.Progress.{progress_of};
 
     /// No event is taken yet. It takes no memory.
     pub fn new(alloc: Global, facts: &Facts) -> Self
@@ -106,13 +109,17 @@ impl ResponseText {
         }
         append_answer(input, out)
     }
+
+    /// How far the response is.
+    pub fn progress(&self) -> Progress
+        ensures { (facts : Facts) (events : List Outgoing) → StandsFor self.now facts events → result ≡ progress_of facts events }
+    {
+        self.stage.progress(self.close)
+    }
 }
 
 impl ResponseText {
     ghost use Rattle.asgi_response.specs.Steps as steps;
-    ghost use Rattle.asgi_response.specs.Steps.{length_seen};
-    ghost use Rattle.asgi_response.specs.Fields as fields;
-    ghost use Rattle.asgi_response.specs.Content as contents;
 
     /// Takes the event, and appends what it adds.
     fn step(&mut self, event: &Outgoing, out: &mut Vec<u8>) -> Result<(), AllocError>
@@ -143,6 +150,7 @@ impl ResponseText {
         let closing = closes(self.close, headers);
         let head = head_text(self.alloc, chunked, closing, status, headers)?;
         self.head = head;
+        self.close = closing;
         self.stage = Stage::Started(content_at_start(self.head_only, status, chunked, length));
         Ok(())
     }
@@ -194,24 +202,35 @@ impl Stage {
             Stage::Started(content) | Stage::Begun(content) => Some(content),
         }
     }
+
+    /// How far the response is, where the connection closes behind it or not.
+    fn progress(self, closes: bool) -> Progress
+        ensures { result ≡ steps.progress_at self closes }
+    {
+        match self {
+            Stage::Waiting | Stage::Started(_) => Progress::Nothing,
+            Stage::Begun(_) => Progress::Begun,
+            Stage::Complete => Progress::Complete { closes },
+        }
+    }
 }
 
 ghost use Rattle.asgi_response.specs.Steps as steps;
-ghost use Rattle.asgi_response.specs.Steps.{length_seen};
+ghost use Rattle.asgi_response.specs.Steps.{seen_absent, seen_faulty, seen_given};
 ghost use Rattle.asgi_response.specs.Fields as fields;
 ghost use Rattle.asgi_response.specs.Content as contents;
 ghost use Rattle.asgi_response.specs.Exchange as exchange;
 
 /// Whether a start is lawful here.
 fn may_start(stage: Stage, status: u16, length: Length) -> bool
-    ensures { result ≡ steps.may_start stage status (length_seen length) }
+    ensures { result ≡ steps.may_start stage status (seen_faulty length) }
 {
     stage == Stage::Waiting && 200 <= status && status <= 599 && length != Length::Faulty
 }
 
 /// Whether the content is chunked.
 fn is_chunked(version: HttpVersion, status: u16, length: Length) -> bool
-    ensures { result ≡ (fields.is_v11 version && fields.is_absent (length_seen length) && not (fields.has_no_content status)) }
+    ensures { result ≡ (fields.is_v11 version && seen_absent length && not (fields.has_no_content status)) }
 {
     version == HttpVersion::V11 && length == Length::Absent && !has_no_content(status)
 }
@@ -219,7 +238,7 @@ fn is_chunked(version: HttpVersion, status: u16, length: Length) -> bool
 /// What the bodies behind a start may be.
 fn content_at_start(head_only: bool, status: u16, chunked: bool, length: Length) -> Content
     ensures coding { result.coding ≡ steps.coding_of (contents.has_content head_only status) chunked }
-    ensures left { result.left ≡ steps.left_at_start head_only status (length_seen length) }
+    ensures left { result.left ≡ steps.left_at_start head_only status (seen_given length) }
 {
     if head_only || has_no_content(status) {
         return Content {

@@ -1,0 +1,55 @@
+-- The stage of a text tells how far the response is.
+use Rattle.std.proofs.Common.{◌≡◌, ℕ, Bool, true, false, List, [], ◌∷◌, ◌++◌, map, refl, sym, ap, ◌∙◌}
+use Rattle.std.specs.Prelude.{if◌then◌else◌}
+use Rattle.asgi_types.specs.Fields.{HeaderField}
+use Rattle.asgi_types.specs.declared.facts.Facts.{Facts}
+use Rattle.asgi_types.specs.declared.scope.Kind.TheVariants.{Http}
+use Rattle.asgi_types.specs.declared.outgoing.Outgoing.{Outgoing}
+use Rattle.asgi_types.specs.declared.outgoing.Outgoing.TheVariants.{ResponseStart}
+use Rattle.asgi_protocol.specs.Shapes.{is_closed}
+use Rattle.asgi_response.specs.declared.progress.Progress.{Progress}
+use Rattle.asgi_response.specs.declared.progress.Progress.TheVariants as progress
+use Rattle.asgi_response.specs.declared.text.ResponseText.{ResponseText}
+use Rattle.asgi_response.specs.declared.text.Stage.{Stage}
+use Rattle.asgi_response.specs.declared.text.Stage.TheVariants.{Waiting, Started, Begun, Complete}
+use Rattle.asgi_response.specs.Accepted.{accepted}
+use Rattle.asgi_response.specs.Exchange.{has_begun}
+use Rattle.asgi_response.specs.Progress.{closes_behind, progress_in, progress_of}
+use Rattle.asgi_response.specs.Standing.{part, IsStage, StandsFor}
+use Rattle.asgi_response.specs.Steps.{progress_at}
+use Rattle.asgi_response.proofs.AcceptedLemmas.{is_row-open, is_row-closed}
+
+begun_in : (closed begun close : Bool) → closed ≡ false → begun ≡ true
+    → (if closed then progress.Complete close else (if begun then progress.Begun else progress.Nothing)) ≡ progress.Begun
+begun_in true begun close h k = cc
+begun_in false true close h k = refl
+begun_in false false close h k = cc
+
+complete_in : (closed begun close : Bool) → closed ≡ true
+    → (if closed then progress.Complete close else (if begun then progress.Begun else progress.Nothing)) ≡ progress.Complete close
+complete_in true begun close h = refl
+complete_in false begun close h = cc
+
+has_body : (start : Outgoing) (front : List (List ℕ)) (last : List ℕ) → has_begun (start ∷ map part (front ++ last ∷ [])) ≡ true
+has_body start [] last = refl
+has_body start (p ∷ front) last = refl
+
+start_and_parts : (facts : Facts) (status : ℕ) (headers : List HeaderField) (front : List (List ℕ)) (last : List ℕ)
+    → progress_in facts (ResponseStart status headers ∷ map part (front ++ last ∷ [])) ≡ progress.Begun
+start_and_parts facts status headers front last =
+    let said : List Outgoing = ResponseStart status headers ∷ map part (front ++ last ∷ []) in
+    begun_in (is_closed Http said) (has_begun said) (closes_behind facts said) (is_row-open (front ++ last ∷ [])) (has_body (ResponseStart status headers) front last)
+
+at_stage : (facts : Facts) (said : List Outgoing) (head : List ℕ) (close : Bool) (stage : Stage) → IsStage facts said head stage
+    → close ≡ closes_behind facts said → progress_at stage close ≡ progress_in facts said
+at_stage facts said head close Waiting none e = sym (ap (progress_in facts) none)
+at_stage facts said head close (Started content) h e = sym (ap (progress_in facts) h.is_open.events)
+at_stage facts said head close (Begun content) h e =
+    sym (ap (progress_in facts) h.is_open.events ∙ start_and_parts facts h.status h.headers h.front h.last)
+at_stage facts said head close Complete r e =
+    ap (λ (b : Bool). let p : Progress = progress.Complete b in p) e
+    ∙ sym (complete_in (is_closed Http said) (has_begun said) (closes_behind facts said)
+    (ap (λ (s : List Outgoing). is_closed Http s) r.in_order ∙ is_row-closed r.parts r.last))
+
+pub progress_is : (t : ResponseText) (facts : Facts) (events : List Outgoing) → StandsFor t facts events → progress_at t.stage t.close ≡ progress_of facts events
+progress_is t facts events at = at_stage facts (accepted facts events) t.head t.close t.stage at.stage at.close
