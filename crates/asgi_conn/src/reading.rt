@@ -1,5 +1,5 @@
 //! Reading until it is known what the bytes begin with.
-ghost use Rattle.std.specs.Prelude.{◌≡◌, ◌≤◌, ◌⊎◌, ◌↔◌, [], ◌++◌, ℕ, List, Option, IsTrue};
+ghost use Rattle.std.specs.Prelude.{◌≡◌, ◌≢◌, ◌≤◌, ◌⊎◌, ◌↔◌, [], ◌++◌, ℕ, List, Option, IsTrue};
 ghost use Rattle.std.specs.Io.KnownBytes.{Consumes, IsAtEnd};
 ghost use Rattle.asgi_request.specs.Reading.{StandsFor};
 ghost use Rattle.asgi_response.specs.Counting.{RoseBy};
@@ -91,10 +91,12 @@ fn take_piece(requests: &mut RequestReader, piece: &[u8]) -> Option<Ending>
     requires { (bytes : List ℕ) × StandsFor requests.now bytes [] }
     ensures limits { requests.new.limits ≡ requests.old.limits }
     ensures takes { (bytes : List ℕ) → StandsFor requests.old bytes [] → Stops result requests.old.limits (bytes ++ piece.now) requests.new }
+    ensures not_blank { result ≢ Option.Some Ending.Blank }
+    ensures not_idle { result ≢ Option.Some Ending.Idle }
 {
-    if requests.feed(piece).is_err() {
+    let Ok(()) = requests.feed(piece) else {
         return Some(Ending::NoMemory);
-    }
+    };
     let Ok(next) = requests.next() else {
         return Some(Ending::NoMemory);
     };
@@ -109,7 +111,7 @@ fn take_piece(requests: &mut RequestReader, piece: &[u8]) -> Option<Ending>
 
 /// Why reading stops at the end of the input.
 fn end_of_input(requests: &RequestReader) -> Ending
-    ensures { (bytes : List ℕ) → StandsFor requests.now bytes [] → NothingIsDue requests.now.limits bytes → StopsAs result requests.now.limits bytes }
+    ensures stops { (bytes : List ℕ) → StandsFor requests.now bytes [] → NothingIsDue requests.now.limits bytes → StopsAs result requests.now.limits bytes }
     ensures has_text { HasText result }
     ensures is_end { (result ≡ Ending.Blank) ⊎ (result ≡ Ending.InputBroke) }
 {

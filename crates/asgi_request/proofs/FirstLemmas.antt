@@ -214,3 +214,10 @@ first_of limits bytes given place held x = by (cut_reads limits Start bytes x.st
         let results = all_results limits limits.block_in_range.0 p.passed (given ++ on.0) all.end all.rest
         (record { steps = all.goes.steps; reads = all.goes.reads; shows = all.goes.shows }) all.waits in
         record { front = p.passed; behind = held; further = on.0; rest = results.0; splits = p.splits; gives = results.1 }
+
+-- no bytes give no result
+pub none_gives : (limits : Limits) → (rest : List ℕ) × GivesResults limits [] [] rest
+none_gives limits =
+    let all = start_waits limits in
+    all_results limits limits.block_in_range.0 [] [] all.end all.rest
+    (record { steps = all.goes.steps; reads = all.goes.reads; shows = all.goes.shows }) all.waits

@@ -52,6 +52,19 @@ gives_opens limits bytes first more rest x = whole_opens limits bytes x.requests
 pub first_opens : (limits : Limits) (bytes : List ℕ) (first : Next) (more : List Next) → HasFirst limits bytes (first ∷ more) → Opens first
 first_opens limits bytes first more x = gives_opens limits x.front first (more ++ x.further) x.rest x.gives
 
+-- whole requests give a result each, and bytes that give none are not read
+pub whole_is_some : (limits : Limits) (bytes : List ℕ) (requests : List (List Next)) (rest : List ℕ) → AreRequests limits bytes requests rest
+    → [] ≡ flat_map (λ request. request) requests → bytes ≡ rest
+whole_is_some limits bytes [] rest are e = are
+whole_is_some limits bytes (results ∷ requests) rest are e =
+    let x = are.1 in
+    let head = Head (scope_of (record_of x.head)) (facts_of (record_of x.head) x.framing) in
+    let opened = ap (λ (l : List Next). l ++ flat_map (λ request. request) requests) x.results_are in
+    absurd (nothing head _ (e ∙ opened))
+  where
+    nothing : (first : Next) (more : List Next) → [] ≡ first ∷ more → ⊥
+    nothing first more f = cc
+
 -- ---- the first result is one
 
 -- of two fronts one is a front of the other

@@ -5,7 +5,7 @@ use Rattle.http_header.specs.FieldName.{IsFieldName}
 use Rattle.http_header.specs.FieldValue.{IsFieldValue}
 use Rattle.http_header.specs.Token.{is_value_byte}
 use Rattle.http_header.proofs.TokenLemmas.{IsFieldName-from_test}
-use Rattle.asgi_conn.proofs.FieldLemmas.{never_bad_name, never_bad_value}
+use Rattle.asgi_request.proofs.FieldLemmas.{never_bad_name, never_bad_value}
 use Rattle.asgi_conn.proofs.hello.Hello.said.Goals as goal
 
 content_type_is_a_name : IsFieldName (codes "content-type")
