@@ -1,5 +1,5 @@
 -- The text of an exchange, event by event.
-use Rattle.std.proofs.Common.{◌≡◌, ℕ, ◌<◌, ◌≤◌, ◌+◌, List, [], ◌∷◌, ◌++◌, length, take, get_or, refl, sym, ap, ◌∙◌, subst}
+use Rattle.std.proofs.Common.{◌≡◌, ℕ, ◌<◌, ◌≤◌, ◌+◌, List, [], ◌∷◌, ◌++◌, length, take, get_or, sym, ap, ◌∙◌, subst}
 use Rattle.std.proofs.lemmas.List.{take_more, take_all}
 use Rattle.asgi_types.specs.declared.facts.Facts.{Facts}
 use Rattle.asgi_types.specs.declared.outgoing.Outgoing.{Outgoing}
@@ -29,8 +29,8 @@ taken_more old mid new front out grown events event d i lt is x stands text =
     subst (λ (l : List Outgoing). Taken old new front grown l) (sym all) (record {
       stands = λ facts s. stands facts (take i events) (x.stands facts s);
       text = λ facts s e.
-      let g = text facts (take i events) (x.stands facts s) in
-      g.output ∙ ap (λ (l : List ℕ). l ++ g.added) (x.text facts s e) ∙ sym g.text;
+          let g = text facts (take i events) (x.stands facts s) in
+          g.output ∙ ap (λ (l : List ℕ). l ++ g.added) (x.text facts s e) ∙ sym g.text;
     })
 
 pub taken_all : (old new : ResponseText) (front out : List ℕ) (events : List Outgoing) (i : ℕ) → length events ≤ i

@@ -1,20 +1,18 @@
 -- What is known while the input is read.
-use Rattle.std.proofs.Common.{◌≡◌, ℕ, ◌+◌, ◌-◌, ◌<◌, ◌≤◌, List, [], ◌∷◌, ◌++◌, length, take, refl, sym, ap, ◌∙◌, subst, inl, inr, Option, Some, None, arith}
+use Rattle.std.proofs.Common.{◌≡◌, ℕ, ◌+◌, ◌-◌, ◌<◌, ◌≤◌, List, [], ◌∷◌, ◌++◌, length, take, refl, sym, ap, ◌∙◌, subst, inl, Option, Some, None, arith}
 use Rattle.std.specs.Prelude.{IsTrue, ◌^◌, min}
 use Rattle.std.specs.Io.KnownBytes.{Consumes, Keeps}
 use Rattle.std.proofs.lemmas.List.{append-nil}
-use Rattle.asgi_types.specs.declared.facts.Facts.{Facts}
 use Rattle.asgi_types.specs.declared.limits.Limits.{Limits}
-use Rattle.asgi_types.specs.declared.scope.Scope.{Scope}
 use Rattle.asgi_request.specs.declared.next.Next.{Next}
-use Rattle.asgi_request.specs.declared.next.Next.TheVariants.{Need, Head, Event, Whole, Bad}
+use Rattle.asgi_request.specs.declared.next.Next.TheVariants.{Need, Bad}
 use Rattle.asgi_request.specs.declared.refusal.Refusal.{Refusal}
 use Rattle.asgi_request.specs.declared.refusal.Refusal.TheVariants.{BadRequest, ContentTooLarge, HeaderFieldsTooLarge, NotImplemented}
-use Rattle.asgi_request.specs.Reading.{Reading, StandsFor, IsRefused, AllGiven, WholeGiven, GoesOn}
+use Rattle.asgi_request.specs.Reading.{Reading, StandsFor, IsRefused, WholeGiven, GoesOn}
 use Rattle.asgi_request.specs.Refusals.{status_of}
 use Rattle.asgi_request.specs.Results.{GivesResults, HasFirst}
 use Rattle.asgi_request.proofs.FirstLemmas.{first_of, none_gives}
-use Rattle.asgi_request.proofs.OpeningLemmas.{first_opens, whole_is_some}
+use Rattle.asgi_request.proofs.OpeningLemmas.{whole_is_some}
 use Rattle.asgi_request.proofs.RefusalLemmas.{refused_last}
 use Rattle.asgi_response.proofs.BytesLemmas.{Keeps-same}
 use Rattle.asgi_response.specs.Counting.{RoseBy}
@@ -175,11 +173,11 @@ ends_piece limits known left new requests after piece e ended old now turn idle 
     let Q : Ending → Type 0 = λ f. StopsAs f limits (x.read ++ piece) in
     let T : ℕ → Type 0 = λ t. CountsTurns (x.read ++ piece) old now t in (
       (
-          x.read ++ piece,
-          Consumes-then known left new x.read piece x.consumed more,
-          subst Q (sym is) (subst P x.same on.0),
-          prompt_piece limits x.read piece fits x.waits,
-          subst T (sym sum) (counted_last x.read piece old now turn fits x.turns),
+        x.read ++ piece,
+        Consumes-then known left new x.read piece x.consumed more,
+        subst Q (sym is) (subst P x.same on.0),
+        prompt_piece limits x.read piece fits x.waits,
+        subst T (sym sum) (counted_last x.read piece old now turn fits x.turns),
       ),
       subst HasText (sym is) on.1,
     )

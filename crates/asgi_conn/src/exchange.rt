@@ -25,7 +25,11 @@ pub fn exchange_text(alloc: Global, app: &Hello, facts: &Facts) -> Result<Vec<u8
 }
 
 /// Appends the text of the events behind that of none.
-fn take_all(text: &mut ResponseText, events: &[Outgoing], out: &mut Vec<u8>) -> Result<(), AllocError>
+fn take_all(
+    text: &mut ResponseText,
+    events: &[Outgoing],
+    out: &mut Vec<u8>,
+) -> Result<(), AllocError>
     ensures stands { OnOk result ((facts : Facts) → StandsFor text.old facts [] → StandsFor text.new facts events.now) }
     ensures text { OnOk result ((facts : Facts) → StandsFor text.old facts [] → out.old.items ≡ response_text facts []
         → out.new.items ≡ response_text facts events.now) }

@@ -5,6 +5,7 @@ ghost use Rattle.asgi_demo.specs.Command as spec;
 ghost use Rattle.asgi_demo.specs.Command.{IsOnceHello, ServesOnce};
 
 use asgi_conn::{Hello, Outcome, Pause, serve_connection};
+use asgi_response::Counts;
 use asgi_types::Limits;
 use std::io::{Read, Write};
 
@@ -34,7 +35,7 @@ impl Pause for NoPause {
 ///
 /// `once hello` serves the input to the output. Any other words give the usage text on `errors`,
 /// and nothing else is done.
-pub fn command<H: AllocGlobal, R: Read, W: Write, E: Write>(
+pub fn command<H: AllocGlobal, R: Read, W: Counts, E: Write>(
     rt: &H,
     words: &[String],
     input: &mut R,
@@ -42,9 +43,9 @@ pub fn command<H: AllocGlobal, R: Read, W: Write, E: Write>(
     errors: &mut E,
 ) -> u8
     ensures serves { IsOnceHello (map string_bytes words.now) →
-        ServesOnce (R.remaining input.old) (R.remaining input.new) (W.contents output.old) (W.contents output.new) result }
+        ServesOnce (R.remaining input.old) (R.remaining input.new) (W.written output.old) (W.written output.new) result }
     ensures usage { (¬ (IsOnceHello (map string_bytes words.now))) →
-        (result ≡ 2) × Keeps (R.remaining input.old) (R.remaining input.new) × Keeps (W.contents output.old) (W.contents output.new) }
+        (result ≡ 2) × Keeps (R.remaining input.old) (R.remaining input.new) × Keeps (W.written output.old) (W.written output.new) }
 {
     if !is_once_hello(words) {
         return usage(errors);

@@ -2,6 +2,7 @@
 ghost use Rattle.std.specs.Prelude.{◌≤◌, length};
 
 use asgi_conn::{Hello, Pause, Report, serve_connection};
+use asgi_response::Counted;
 use asgi_types::Limits;
 use std::alloc::AllocError;
 use std::io::{self, ErrorKind, Read, Write};
@@ -137,8 +138,8 @@ pub fn serve<H: AllocGlobal, R: Read>(
     limits: &Limits,
     reader: &mut R,
 ) -> Result<(Report, Vec<u8>, u64), AllocError> {
-    let mut written = Vec::with_capacity(rt.alloc(), 256)?;
+    let mut writer = Counted::new(Vec::with_capacity(rt.alloc(), 256)?);
     let mut pause = Counter { count: 0 };
-    let report = serve_connection(rt, limits, &Hello, reader, &mut written, &mut pause);
-    Ok((report, written, pause.count))
+    let report = serve_connection(rt, limits, &Hello, reader, &mut writer, &mut pause);
+    Ok((report, writer.writer, pause.count))
 }

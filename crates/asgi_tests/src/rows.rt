@@ -1,6 +1,9 @@
 //! What is answered to each form of a head, given whole.
 use crate::fakes::{Pieces, serve};
-use crate::texts::{BAD_REQUEST, GET, HELLO, HELLO_AND_CLOSE, NOT_IMPLEMENTED, TOO_LARGE};
+use crate::texts::{
+    BAD_REQUEST, GET, HELLO, HELLO_AND_CLOSE, HELLO_HEAD, NOT_IMPLEMENTED, OLD_HELLO, OLD_HELLO_HEAD,
+    TOO_LARGE, TOO_LARGE_CONTENT,
+};
 use asgi_conn::Outcome;
 use asgi_types::Limits;
 use std::process::Abort;
@@ -125,18 +128,39 @@ fn what_is_no_head_is_bad(rt: HostRuntime) -> Result<(), Fail> {
 }
 
 #[test]
-fn what_is_not_served_yet_is_said_so(rt: HostRuntime) -> Result<(), Fail> {
-    let inputs: [&[u8]; 10] = [
-        b"CONNECT a:1 HTTP/1.1\r\nHost: a\r\n\r\n",
-        b"connect a:1 HTTP/1.0\r\n\r\n",
+fn an_old_version_and_head_are_answered(rt: HostRuntime) -> Result<(), Fail> {
+    let limits = Limits::usual();
+    let old: [&[u8]; 3] = [
         b"GET / HTTP/1.0\r\n\r\n",
         b"GET / HTTP/1.0\r\nHost: a\r\nHost: a\r\n\r\n",
+        b"GET / HTTP/1.0\r\nConnection: keep-alive\r\nContent-Length: 0\r\n\r\n",
+    ];
+    check(&rt, &old, &limits, OLD_HELLO, Outcome::Finished, 1)?;
+    let head: [&[u8]; 2] = [
         b"HEAD / HTTP/1.1\r\nHost: a\r\n\r\n",
+        b"head / HTTP/1.1\r\nHost: a\r\nContent-Length: 0\r\n\r\n",
+    ];
+    check(&rt, &head, &limits, HELLO_HEAD, Outcome::Finished, 1)?;
+    let both: [&[u8]; 1] = [b"HEAD / HTTP/1.0\r\n\r\n"];
+    check(&rt, &both, &limits, OLD_HELLO_HEAD, Outcome::Finished, 1)?;
+    let empty: [&[u8]; 2] = [
         b"GET / HTTP/1.1\r\nHost: a\r\nContent-Length: 0\r\n\r\n",
+        b"POST / HTTP/1.1\r\nHost: a\r\nExpect: 100-continue\r\nContent-Length: 000\r\n\r\n",
+    ];
+    check(&rt, &empty, &limits, HELLO, Outcome::Finished, 1)
+}
+
+#[test]
+fn what_is_not_served_yet_is_said_so(rt: HostRuntime) -> Result<(), Fail> {
+    let inputs: [&[u8]; 8] = [
+        b"CONNECT a:1 HTTP/1.1\r\nHost: a\r\n\r\n",
+        b"connect a:1 HTTP/1.0\r\n\r\n",
         b"POST / HTTP/1.1\r\nHost: a\r\nContent-Length: 3\r\n\r\nabc",
+        b"POST / HTTP/1.1\r\nHost: a\r\nExpect: 100-continue\r\nContent-Length: 3\r\n\r\n",
+        b"POST / HTTP/1.0\r\nContent-Length: 3\r\n\r\nabc",
+        b"HEAD / HTTP/1.1\r\nHost: a\r\nContent-Length: 1\r\n\r\n",
         b"POST / HTTP/1.1\r\nHost: a\r\nTransfer-Encoding: chunked\r\n\r\n0\r\n\r\n",
         b"POST / HTTP/1.1\r\nHost: a\r\nTransfer-Encoding: gzip\r\n\r\n",
-        b"POST / HTTP/1.1\r\nHost: a\r\nContent-Length: 3\r\nTransfer-Encoding: chunked\r\n\r\n",
     ];
     check(
         &rt,
@@ -146,6 +170,26 @@ fn what_is_not_served_yet_is_said_so(rt: HostRuntime) -> Result<(), Fail> {
         Outcome::Refused(501),
         0,
     )
+}
+
+#[test]
+fn a_faulty_framing_is_refused(rt: HostRuntime) -> Result<(), Fail> {
+    let inputs: [&[u8]; 6] = [
+        b"POST / HTTP/1.1\r\nHost: a\r\nContent-Length: 3\r\nTransfer-Encoding: chunked\r\n\r\n0\r\n\r\nGET / HTTP/1.1\r\nHost: a\r\n\r\n",
+        b"POST / HTTP/1.1\r\nHost: a\r\nContent-Length: +3\r\n\r\nabc",
+        b"POST / HTTP/1.1\r\nHost: a\r\nContent-Length: 3, 3\r\n\r\nabc",
+        b"POST / HTTP/1.1\r\nHost: a\r\nContent-Length: 3\r\nContent-Length: 3\r\n\r\nabc",
+        b"POST / HTTP/1.1\r\nHost: a\r\nContent-Length:\r\n\r\n",
+        b"POST / HTTP/1.0\r\nTransfer-Encoding: chunked\r\n\r\n0\r\n\r\n",
+    ];
+    let refused = Outcome::Refused(400);
+    check(&rt, &inputs, &Limits::usual(), BAD_REQUEST, refused, 0)?;
+    let large: [&[u8]; 2] = [
+        b"POST / HTTP/1.1\r\nHost: a\r\nContent-Length: 1048577\r\n\r\n",
+        b"POST / HTTP/1.1\r\nHost: a\r\nContent-Length: 9999999999999999999\r\n\r\n",
+    ];
+    let refused = Outcome::Refused(413);
+    check(&rt, &large, &Limits::usual(), TOO_LARGE_CONTENT, refused, 0)
 }
 
 #[test]

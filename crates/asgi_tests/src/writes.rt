@@ -2,22 +2,23 @@
 use crate::fakes::{Counter, Sink};
 use crate::texts::{GET, HELLO};
 use asgi_conn::{Hello, Outcome, Report, serve_connection};
+use asgi_response::{Counted, Counts};
 use asgi_types::{Limits, Outgoing};
 use std::io::ErrorKind;
 use std::test::Fail;
 
-fn sink<H: AllocGlobal>(rt: &H, most: usize) -> Result<Sink, Fail> {
-    Ok(Sink {
+fn sink<H: AllocGlobal>(rt: &H, most: usize) -> Result<Counted<Sink>, Fail> {
+    Ok(Counted::new(Sink {
         taken: Vec::with_capacity(rt.alloc(), 256)?,
         most,
         fails_at: 0,
         faults: 0,
         fault: ErrorKind::WouldBlock,
         calls: 0,
-    })
+    }))
 }
 
-fn serve<H: AllocGlobal>(rt: &H, writer: &mut Sink) -> Report {
+fn serve<H: AllocGlobal>(rt: &H, writer: &mut Counted<Sink>) -> Report {
     let mut reader = GET;
     let mut pause = Counter { count: 0 };
     serve_connection(
@@ -35,31 +36,33 @@ fn a_failed_write_says_how_far_it_came(rt: HostRuntime) -> Result<(), Fail> {
     assert_eq!(rt; HELLO.len(), 89);
     for failing in 1..=30usize {
         let mut writer = sink(&rt, 3)?;
-        writer.fails_at = failing as u64;
+        writer.writer.fails_at = failing as u64;
         let report = serve(&rt, &mut writer);
         let out = 3 * (failing - 1);
         assert_eq!(rt;
-            Some(writer.taken.as_slice()),
+            Some(writer.writer.taken.as_slice()),
             HELLO.get(..out),
             "call {failing}"
         );
         assert_eq!(rt; report.outcome, Outcome::WriteFailed(out), "call {failing}");
+        assert_eq!(rt; writer.failures(), 1, "call {failing}");
         assert_eq!(rt; report.exchanges, 1, "call {failing}");
     }
     let mut writer = sink(&rt, 3)?;
-    writer.fails_at = 31;
+    writer.writer.fails_at = 31;
     let report = serve(&rt, &mut writer);
-    assert_eq!(rt; writer.taken.as_slice(), HELLO);
+    assert_eq!(rt; writer.writer.taken.as_slice(), HELLO);
     assert_eq!(rt; report.outcome, Outcome::Finished);
+    assert_eq!(rt; writer.failures(), 0);
     Ok(())
 }
 
 #[test]
 fn nine_bytes_and_then_a_fault(rt: HostRuntime) -> Result<(), Fail> {
     let mut writer = sink(&rt, 9)?;
-    writer.fails_at = 2;
+    writer.writer.fails_at = 2;
     let report = serve(&rt, &mut writer);
-    assert_eq!(rt; writer.taken.as_slice(), b"HTTP/1.1 ".as_slice());
+    assert_eq!(rt; writer.writer.taken.as_slice(), b"HTTP/1.1 ".as_slice());
     assert_eq!(rt; report.outcome, Outcome::WriteFailed(9));
     Ok(())
 }
@@ -68,9 +71,9 @@ fn nine_bytes_and_then_a_fault(rt: HostRuntime) -> Result<(), Fail> {
 fn a_writer_that_takes_nothing_has_failed(rt: HostRuntime) -> Result<(), Fail> {
     let mut writer = sink(&rt, 0)?;
     let report = serve(&rt, &mut writer);
-    assert_eq!(rt; writer.taken.len(), 0);
+    assert_eq!(rt; writer.writer.taken.len(), 0);
     assert_eq!(rt; report.outcome, Outcome::WriteFailed(0));
-    assert_eq!(rt; writer.calls, 1);
+    assert_eq!(rt; writer.writer.calls, 1);
     Ok(())
 }
 
@@ -78,17 +81,17 @@ fn a_writer_that_takes_nothing_has_failed(rt: HostRuntime) -> Result<(), Fail> {
 fn a_thousand_retries_and_no_more(rt: HostRuntime) -> Result<(), Fail> {
     for fault in [ErrorKind::WouldBlock, ErrorKind::Interrupted] {
         let mut writer = sink(&rt, 100)?;
-        writer.fault = fault;
-        writer.faults = 1_000;
+        writer.writer.fault = fault;
+        writer.writer.faults = 1_000;
         let report = serve(&rt, &mut writer);
-        assert_eq!(rt; writer.taken.as_slice(), HELLO);
+        assert_eq!(rt; writer.writer.taken.as_slice(), HELLO);
         assert_eq!(rt; report.outcome, Outcome::Finished);
 
         let mut writer = sink(&rt, 100)?;
-        writer.fault = fault;
-        writer.faults = 1_001;
+        writer.writer.fault = fault;
+        writer.writer.faults = 1_001;
         let report = serve(&rt, &mut writer);
-        assert_eq!(rt; writer.taken.len(), 0);
+        assert_eq!(rt; writer.writer.taken.len(), 0);
         assert_eq!(rt; report.outcome, Outcome::WriteFailed(0));
     }
     Ok(())

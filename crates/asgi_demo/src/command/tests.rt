@@ -1,4 +1,5 @@
 use super::*;
+use asgi_response::Counted;
 use std::alloc::Global;
 use std::io::{self, ErrorKind};
 use std::test::Fail;
@@ -19,12 +20,12 @@ fn words(alloc: Global, texts: &[&str]) -> Result<Vec<String>, Fail> {
 #[test]
 fn once_hello_answers(rt: HostRuntime) -> Result<(), Fail> {
     let mut input = REQUEST;
-    let mut output = Vec::new(rt.alloc());
+    let mut output = Counted::new(Vec::new(rt.alloc()));
     let mut errors = Vec::new(rt.alloc());
     let words = words(rt.alloc(), &["once", "hello"])?;
     let status = command(&rt, &words, &mut input, &mut output, &mut errors);
     assert_eq!(rt; status, 0);
-    assert_eq!(rt; output.as_slice(), ANSWER);
+    assert_eq!(rt; output.writer.as_slice(), ANSWER);
     assert_eq!(rt; errors.len(), 0);
     Ok(())
 }
@@ -43,13 +44,13 @@ fn any_other_words_give_the_usage(rt: HostRuntime) -> Result<(), Fail> {
     ];
     for (row, texts) in wrong.iter().enumerate() {
         let mut input = REQUEST;
-        let mut output = Vec::new(rt.alloc());
+        let mut output = Counted::new(Vec::new(rt.alloc()));
         let mut errors = Vec::new(rt.alloc());
         let words = words(rt.alloc(), texts)?;
         let status = command(&rt, &words, &mut input, &mut output, &mut errors);
         assert_eq!(rt; status, 2, "row {row}");
         assert_eq!(rt; input.len(), REQUEST.len(), "row {row}");
-        assert_eq!(rt; output.len(), 0, "row {row}");
+        assert_eq!(rt; output.writer.len(), 0, "row {row}");
         assert_eq!(rt; errors.as_slice(), USAGE, "row {row}");
     }
     Ok(())
@@ -93,7 +94,7 @@ fn a_connection_that_stops_is_said_so(rt: HostRuntime) -> Result<(), Fail> {
     let mut input = Stuck {
         kind: ErrorKind::WouldBlock,
     };
-    let mut output = Vec::new(rt.alloc());
+    let mut output = Counted::new(Vec::new(rt.alloc()));
     let status = command(&rt, &words, &mut input, &mut output, &mut errors);
     assert_eq!(rt; status, 5);
     assert_eq!(rt; errors.as_slice(), b"stopped: idle\n".as_slice());

@@ -1,4 +1,4 @@
-use Rattle.std.proofs.Common.{subst, List, ℕ}
+use Rattle.std.proofs.Common.{subst}
 use Rattle.asgi_conn.specs.declared.reading.Ending.{Ending}
 use Rattle.asgi_conn.specs.Endings.{StopsAs}
 use Rattle.asgi_conn.proofs.EndLemmas.{replied, refused}

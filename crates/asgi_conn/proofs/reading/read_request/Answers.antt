@@ -29,7 +29,7 @@ returns-in-Some-clause-has_text g c =
 
 pub loop-turn-preserved : goal.loop-turn-preserved
 loop-turn-preserved g c = elim c.match-read.branch [
-  in-Ok+in_default w ↦
+  | in-Ok+in_default w ↦
       (let t = c.loop-turn in
       let limits = c.args.limits.now in
       let known = g.R.Read.remaining c.args.reader.now in

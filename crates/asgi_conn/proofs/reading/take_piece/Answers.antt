@@ -1,5 +1,5 @@
-use Rattle.std.proofs.Common.{◌≡◌, [], ◌∷◌, ◌++◌, ◌∙◌}
-use Rattle.asgi_request.specs.declared.next.Next.TheVariants.{Need, Head, Event, Whole, Bad}
+use Rattle.std.proofs.Common.{[], ◌++◌, ◌∙◌}
+use Rattle.asgi_request.specs.declared.next.Next.TheVariants.{Head, Event, Whole, Bad}
 use Rattle.asgi_request.proofs.OpeningLemmas.{first_opens}
 use Rattle.asgi_conn.proofs.ReadingLemmas.{first_given, given_none, refusal_known}
 use Rattle.asgi_conn.proofs.reading.take_piece.Goals as goal
@@ -15,9 +15,9 @@ returns-in-Head-clause-takes c bytes stands =
     let fed = c.in-Ok.ensures.fed bytes [] stands in
     let head = Head c.in-Head.field-0 c.in-Head.facts in (
       (
-          c.in-Head.field-0,
-          first_given c.feed.new.self c.next.new.self c.args.requests.now.limits (bytes ++ c.args.piece.now) c.in-Ok-next.next head fed
-              (c.next.ensures.limits ∙ c.feed.ensures.limits) c.in-Ok-next.ensures.given c.in-Head.is (λ e. cc),
+        c.in-Head.field-0,
+        first_given c.feed.new.self c.next.new.self c.args.requests.now.limits (bytes ++ c.args.piece.now) c.in-Ok-next.next head fed
+            (c.next.ensures.limits ∙ c.feed.ensures.limits) c.in-Ok-next.ensures.given c.in-Head.is (λ e. cc),
       ),
       tt,
     )
