@@ -11,7 +11,8 @@ use Rattle.asgi_types.specs.Lengths.{length_of_text}
 use Rattle.asgi_request.specs.declared.head.HeadRecord.{HeadRecord}
 use Rattle.asgi_request.specs.declared.refusal.Refusal.{Refusal}
 use Rattle.asgi_request.specs.declared.refusal.Refusal.TheVariants.{BadRequest, ContentTooLarge, NotImplemented}
-use Rattle.asgi_request.specs.FieldValues.{same_ignoring_case, count_named, has_field, value_named}
+use Rattle.asgi_types.specs.Tokens.{same_ignoring_case}
+use Rattle.asgi_request.specs.FieldValues.{count_named, has_field, value_named}
 use Rattle.asgi_request.specs.Target.{is_target}
 
 abbrev pub is_v11 : HttpVersion → Bool

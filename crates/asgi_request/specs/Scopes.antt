@@ -10,7 +10,7 @@ use Rattle.asgi_types.specs.declared.scope.Scope.{Scope}
 use Rattle.asgi_types.specs.declared.scope.Scope.TheVariants.{Http}
 use Rattle.asgi_request.specs.declared.head.HeadRecord.{HeadRecord}
 use Rattle.asgi_request.specs.BodyLength.{is_v11}
-use Rattle.asgi_request.specs.FieldValues.{has_token}
+use Rattle.asgi_types.specs.Tokens.{has_token}
 use Rattle.asgi_request.specs.Target.{path_of, query_of}
 
 -- percent-decoded, with U+FFFD for what is not UTF-8

@@ -1,6 +1,6 @@
 -- The target of a request (RFC 9112, section 3.2), and the parts of it that a scope shows.
 use Rattle.std.specs.Prelude.{ℕ, Bool, ◌&&◌, ◌||◌, not, List, [], ◌∷◌, length, take, drop, if◌then◌else◌, ◌==◌, nat_lt, codes, bytes_eq, slice_index}
-use Rattle.asgi_request.specs.FieldValues.{same_ignoring_case}
+use Rattle.asgi_types.specs.Tokens.{same_ignoring_case}
 
 -- b'/'
 abbrev pub slash : ℕ

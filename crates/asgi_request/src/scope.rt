@@ -2,7 +2,6 @@
 ghost use Rattle.std.specs.Prelude.{◌≡◌, IfOk};
 ghost use Rattle.asgi_request.specs.Scopes as spec;
 
-use crate::fields::has_token;
 use crate::head::HeadRecord;
 use crate::target::{path_of, query_of};
 use asgi_types::{
@@ -66,7 +65,7 @@ pub fn facts_of(alloc: Global, head: &HeadRecord, framing: Framing) -> Facts
     Facts {
         version: head.version,
         head_only: head.method.as_str().as_bytes() == HEAD,
-        close: head.version == HttpVersion::V10 || has_token(&head.headers, CONNECTION, CLOSE),
+        close: head.version == HttpVersion::V10 || head.headers.has_token(CONNECTION, CLOSE),
         expect: expects(head, framing),
         framing,
         key: [0; 24],
@@ -80,7 +79,7 @@ fn expects(head: &HeadRecord, framing: Framing) -> bool
 {
     head.version == HttpVersion::V11
         && has_body(framing)
-        && has_token(&head.headers, EXPECT, CONTINUE)
+        && head.headers.has_token(EXPECT, CONTINUE)
 }
 
 fn has_body(framing: Framing) -> bool

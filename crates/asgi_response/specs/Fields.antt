@@ -7,7 +7,7 @@ use Rattle.asgi_types.specs.declared.outgoing.HttpVersion.{HttpVersion}
 use Rattle.asgi_types.specs.declared.outgoing.HttpVersion.TheVariants.{V10, V11}
 use Rattle.asgi_protocol.specs.ContentLengths.{values_of}
 use Rattle.asgi_response.specs.StatusLine.{status_line}
-use Rattle.asgi_response.specs.Tokens.{has_token}
+use Rattle.asgi_types.specs.Tokens.{has_token}
 
 -- field-line = field-name ":" OWS field-value OWS (section 5), and its CRLF
 abbrev pub field_line : HeaderField → List ℕ

@@ -1,4 +1,3 @@
-pub mod Tokens
 pub mod StatusLine
 pub mod Fields
 pub mod Content

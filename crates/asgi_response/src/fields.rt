@@ -1,7 +1,5 @@
 //! What the fields of a response say of its framing.
-ghost use Rattle.std.specs.Prelude.{◌≡◌, ◌||◌, ◌&&◌, ◌==◌, not, reverse};
-ghost use Rattle.httparse.specs.Grammar.{is_ows, skip_ows, trim_ows};
-ghost use Rattle.asgi_response.specs.Tokens as spec;
+ghost use Rattle.std.specs.Prelude.{◌≡◌, ◌||◌, ◌&&◌, ◌==◌, not};
 ghost use Rattle.asgi_response.specs.Fields as fields;
 
 use asgi_types::{Headers, HttpVersion, parse_length};
@@ -88,69 +86,5 @@ pub fn is_shown(status: u16, name: &[u8]) -> bool
 pub fn closes(close: bool, headers: &Headers) -> bool
     ensures { result ≡ fields.closes close headers.now }
 {
-    close || has_token(headers, CONNECTION, CLOSE)
-}
-
-/// Whether a field of the name lists the token, in any case.
-fn has_token(headers: &Headers, name: &[u8], token: &[u8]) -> bool
-    ensures { result ≡ spec.has_token headers.now name.now token.now }
-{
-    headers
-        .iter()
-        .any(|field| is_listed(field.0, field.1, name, token))
-}
-
-/// Whether a field has the name, and lists the token.
-fn is_listed(field_name: &[u8], value: &[u8], name: &[u8], token: &[u8]) -> bool
-    ensures { result ≡ spec.is_listed (record { name = field_name.now; value = value.now }) name.now token.now }
-{
-    field_name == name && lists_token(value, token)
-}
-
-/// Whether the token is among the parts between commas, in any case.
-fn lists_token(value: &[u8], token: &[u8]) -> bool
-    ensures { result ≡ spec.lists_token value.now token.now }
-{
-    value
-        .split(|b| *b == b',')
-        .any(|part| is_token(part, token))
-}
-
-/// Whether the part is the token in any case, between spaces and tabs.
-fn is_token(part: &[u8], token: &[u8]) -> bool
-    ensures { result ≡ spec.same_ignoring_case (trim_ows part.now) token.now }
-{
-    trim_end(trim_start(part)).eq_ignore_ascii_case(token)
-}
-
-fn is_blank(b: u8) -> bool
-    ensures { result ≡ is_ows b }
-{
-    b == b' ' || b == b'\t'
-}
-
-/// The bytes from the first that is neither a space nor a tab.
-fn trim_start(bytes: &[u8]) -> &[u8]
-    ensures { result.now ≡ skip_ows bytes.now }
-{
-    for (i, b) in bytes.iter().enumerate() {
-        if !is_blank(*b) {
-            return &bytes[i..];
-        }
-    }
-    &[]
-}
-
-/// The bytes up to the last that is neither a space nor a tab.
-fn trim_end(bytes: &[u8]) -> &[u8]
-    ensures { result.now ≡ reverse (skip_ows (reverse bytes.now)) }
-{
-    let mut rest = bytes;
-    while let [front @ .., last] = rest {
-        if !is_blank(*last) {
-            return rest;
-        }
-        rest = front;
-    }
-    rest
+    close || headers.has_token(CONNECTION, CLOSE)
 }

@@ -7,3 +7,4 @@ pub mod Reasons
 pub mod Scopes
 pub mod StatePlaces
 pub mod States
+pub mod Tokens

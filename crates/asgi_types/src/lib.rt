@@ -14,6 +14,7 @@ mod outgoing;
 mod reason;
 mod scope;
 mod state;
+mod tokens;
 
 pub use chars::Chars;
 pub use facts::{Facts, Framing};

@@ -1,7 +1,7 @@
 //! The small values, on examples: what they take, what they refuse, and what a copy has.
 
 use crate::{
-    Asgi, Chars, Facts, Framing, HttpVersion, Kind, Names, Octets, Reason, State, StateError,
+    Asgi, Chars, Facts, Framing, Headers, HttpVersion, Kind, Names, Octets, Reason, State, StateError,
     StateValue, parse_length,
 };
 use std::alloc::{AllocError, Global};
@@ -238,6 +238,30 @@ fn a_copy_of_facts_is_equal(rt: HostRuntime) -> Result<(), Fail> {
         let facts = facts(rt.alloc(), framing)?;
         are_facts(&rt, &facts.copy(rt.alloc())?, framing)?;
         are_facts(&rt, &facts, framing)?;
+    }
+    Ok(())
+}
+
+#[test]
+fn a_field_lists_its_tokens(rt: HostRuntime) -> Result<(), Fail> {
+    let rows: [(&[u8], bool); 11] = [
+        (b"close", true),
+        (b"CLOSE", true),
+        (b"keep-alive , Close\t,x", true),
+        (b",,close", true),
+        (b"", false),
+        (b"x-close", false),
+        (b"closed", false),
+        (b"keep-alive close", false),
+        (b"close;q=1", false),
+        (b"keep-alive;close", false),
+        (b"\x0cclose", false),
+    ];
+    for (row, (value, listed)) in rows.iter().enumerate() {
+        let mut headers = Headers::new(rt.alloc());
+        headers.push(b"X-Other", b"close")?;
+        let _refused = headers.push(b"Connection", value);
+        assert_eq!(rt; headers.has_token(b"connection", b"close"), *listed, "row {row}");
     }
     Ok(())
 }

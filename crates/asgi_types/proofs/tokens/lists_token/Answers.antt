@@ -2,8 +2,8 @@ use Rattle.std.proofs.Common.{rules, tests, ◌==◌}
 use Rattle.std.proofs.lemmas.Iterator.Search.{any_from_yields_List}
 use Rattle.std.proofs.lemmas.Iterator.Splits.{YieldsList-from_slice_split}
 use Rattle.httparse.specs.Grammar.{trim_ows}
-use Rattle.asgi_response.specs.Tokens as spec
-use Rattle.asgi_response.proofs.fields.lists_token.Goals as goal
+use Rattle.asgi_types.specs.Tokens as spec
+use Rattle.asgi_types.proofs.tokens.lists_token.Goals as goal
 
 pub returns : goal.returns
 returns c =

@@ -2,8 +2,8 @@ use Rattle.std.proofs.Common.{List, ℕ, ap, ◌∙◌, reverse}
 use Rattle.std.proofs.lemmas.Slice.Eq.{bytes_eq-Decides}
 use Rattle.std.proofs.lemmas.Bool.Decides.{same_from_decides}
 use Rattle.httparse.specs.Grammar.{skip_ows, trim_ows}
-use Rattle.asgi_request.specs.FieldValues as spec
-use Rattle.asgi_request.proofs.fields.is_token.Goals as goal
+use Rattle.asgi_types.specs.Tokens as spec
+use Rattle.asgi_types.proofs.tokens.is_token.Goals as goal
 
 pub returns : goal.returns
 unfolding trim_ows

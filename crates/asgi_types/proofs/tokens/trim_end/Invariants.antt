@@ -1,6 +1,6 @@
 use Rattle.std.proofs.Common.{◌≡◌, length, reverse}
 use Rattle.httparse.specs.Grammar.{skip_ows}
-use Rattle.asgi_response.proofs.fields.trim_end.Given as goal
+use Rattle.asgi_types.proofs.tokens.trim_end.Given as goal
 
 abbrev pub invariant-loop-rest : goal.invariant-loop-rest
 invariant-loop-rest l = reverse (skip_ows (reverse l.bytes)) ≡ reverse (skip_ows (reverse l.rest))
