@@ -23,3 +23,5 @@ pub use reader::RequestReader;
 
 #[cfg(test)]
 mod tests;
+#[cfg(test)]
+mod tests_memory;

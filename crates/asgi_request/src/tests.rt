@@ -6,141 +6,213 @@ use std::process::Abort;
 use std::test::Fail;
 
 mod bodies;
+mod chunks;
+mod edges;
 mod heads;
+mod scopes;
 
-/// One line of a table: the bytes, and what the reader gives of them, in words.
-type Row<'a> = (&'a [u8], &'a str);
-
-/// What a reader gives of the bytes, fed up to each cut and then to the end.
-fn story(alloc: Global, limits: Limits, bytes: &[u8], cuts: &[usize]) -> Result<String, Fail> {
-    let mut reader = RequestReader::new(alloc, limits);
-    let mut words = String::new(alloc);
-    let mut at = 0;
-    for cut in cuts {
-        reader.feed(&bytes[at..*cut])?;
-        at = *cut;
-        tell(alloc, &mut reader, &mut words)?;
+/// Feeds each input in pieces of 1, 2, 7 and 1000 bytes, of which the last is the whole, and cut in two at each place:
+/// the reader gives the same results, which are these words.
+fn gives(
+    rt: &impl Abort,
+    alloc: Global,
+    limits: Limits,
+    inputs: &[&[u8]],
+    wanted: &str,
+) -> Result<(), Fail> {
+    for bytes in inputs {
+        gives_in_pieces(rt, alloc, limits, bytes, wanted)?;
+        gives_in_two(rt, alloc, limits, bytes, wanted)?;
     }
-    reader.feed(&bytes[at..])?;
-    tell(alloc, &mut reader, &mut words)?;
+    Ok(())
+}
+
+fn gives_in_pieces(
+    rt: &impl Abort,
+    alloc: Global,
+    limits: Limits,
+    bytes: &[u8],
+    wanted: &str,
+) -> Result<(), Fail> {
+    for size in [1, 2, 7, 1_000] {
+        let words = in_pieces(new_reader(alloc, limits), String::new(alloc), bytes, size)?;
+        assert_eq!(rt; words.as_str(), wanted);
+    }
+    Ok(())
+}
+
+fn gives_in_two(
+    rt: &impl Abort,
+    alloc: Global,
+    limits: Limits,
+    bytes: &[u8],
+    wanted: &str,
+) -> Result<(), Fail> {
+    for cut in 0..bytes.len() {
+        let words = in_two(new_reader(alloc, limits), String::new(alloc), bytes, cut)?;
+        assert_eq!(rt; words.as_str(), wanted);
+    }
+    Ok(())
+}
+
+/// What the reader gives of the bytes, fed in pieces of so many.
+fn in_pieces(
+    mut reader: RequestReader,
+    mut words: String,
+    bytes: &[u8],
+    size: usize,
+) -> Result<String, AllocError> {
+    feed_pieces(&mut reader, bytes, size, &mut words)?;
     Ok(words)
 }
 
-/// Adds the words of all results that are there.
-fn tell(alloc: Global, reader: &mut RequestReader, words: &mut String) -> Result<(), Fail> {
+fn feed_pieces(
+    reader: &mut RequestReader,
+    bytes: &[u8],
+    size: usize,
+    words: &mut String,
+) -> Result<(), AllocError> {
+    let mut rest = bytes;
+    for _ in 0..bytes.len() {
+        let (piece, behind) = rest.split_at(size.min(rest.len()));
+        feed(reader, piece, words)?;
+        rest = behind;
+    }
+    Ok(())
+}
+
+/// What the reader gives of the bytes, fed up to the cut and then from it on.
+fn in_two(
+    mut reader: RequestReader,
+    mut words: String,
+    bytes: &[u8],
+    cut: usize,
+) -> Result<String, AllocError> {
+    let (front, behind) = bytes.split_at(cut.min(bytes.len()));
+    feed(&mut reader, front, &mut words)?;
+    feed(&mut reader, behind, &mut words)?;
+    Ok(words)
+}
+
+/// Feeds a piece, and adds the words of all results that are there then.
+fn feed(reader: &mut RequestReader, piece: &[u8], words: &mut String) -> Result<(), AllocError> {
+    put(reader, piece)?;
+    drain(reader, words)
+}
+
+fn drain(reader: &mut RequestReader, words: &mut String) -> Result<(), AllocError> {
     for _ in 0..1_000 {
-        let next = reader.next()?;
-        let going = add_words(alloc, &next, words)?;
-        if !going {
+        if add_next(reader, words)? {
             return Ok(());
         }
     }
     Ok(())
 }
 
-/// Adds the words of one result, and says whether more may be there.
-fn add_words(alloc: Global, next: &Next, words: &mut String) -> Result<bool, AllocError> {
-    match next {
-        Next::Need => return Ok(false),
-        Next::Head(scope, facts) => add_head(alloc, scope, facts, words)?,
-        Next::Event(event) => add_event(event, words)?,
-        Next::Whole => words.push_str(" whole;")?,
-        Next::Bad(status) => {
-            add_refusal(alloc, *status, words)?;
-            return Ok(false);
-        }
-    }
-    Ok(true)
+/// Adds the words of the next result, and says whether nothing follows before more is fed.
+fn add_next(reader: &mut RequestReader, words: &mut String) -> Result<bool, AllocError> {
+    let next = take(reader)?;
+    add_words(&next, words)?;
+    Ok(is_last(&next))
 }
 
-fn add_head(
-    alloc: Global,
-    scope: &Scope,
-    facts: &Facts,
-    words: &mut String,
-) -> Result<(), AllocError> {
+// What a test proves needs none of the clauses of these calls.
+pub fn new_reader(alloc: Global, limits: Limits) -> RequestReader {
+    RequestReader::new(alloc, limits)
+}
+
+pub fn put(reader: &mut RequestReader, piece: &[u8]) -> Result<(), AllocError> {
+    reader.feed(piece)
+}
+
+pub fn take(reader: &mut RequestReader) -> Result<Next, AllocError> {
+    reader.next()
+}
+
+pub fn held(reader: &RequestReader) -> &[u8] {
+    reader.held()
+}
+
+fn is_last(next: &Next) -> bool {
+    matches!(next, Next::Need | Next::Bad(_))
+}
+
+/// Adds the words of a result.
+fn add_words(next: &Next, words: &mut String) -> Result<(), AllocError> {
+    match next {
+        Next::Need => Ok(()),
+        Next::Head(scope, facts) => add_head(scope, facts, words),
+        Next::Event(event) => add_event(event, words),
+        Next::Whole => words.push_str(" whole;"),
+        Next::Bad(status) => add_refusal(*status, words),
+    }
+}
+
+fn add_head(scope: &Scope, facts: &Facts, words: &mut String) -> Result<(), AllocError> {
     words.push_str("head ")?;
     if let Scope::Http(http) = scope {
         words.push_str(http.method.as_str())?;
     }
-    add_framing(alloc, facts.framing, words)?;
-    words.push_str(if facts.head_only { " head_only" } else { "" })?;
-    words.push_str(if facts.close { " close" } else { "" })?;
-    words.push_str(if facts.expect { " expect" } else { "" })?;
-    words.push_str(";")?;
+    add_framing(facts.framing, words)?;
+    add_flag(facts.head_only, " head_only", words)?;
+    add_flag(facts.close, " close", words)?;
+    add_flag(facts.expect, " expect", words)?;
+    words.push_str(";")
+}
+
+fn add_flag(holds: bool, word: &str, words: &mut String) -> Result<(), AllocError> {
+    if holds {
+        return words.push_str(word);
+    }
     Ok(())
 }
 
-fn add_framing(alloc: Global, framing: Framing, words: &mut String) -> Result<(), AllocError> {
+fn add_framing(framing: Framing, words: &mut String) -> Result<(), AllocError> {
     match framing {
-        Framing::Length(n) => {
-            let text = format!(in alloc; " {n}")?;
-            words.push_str(&text)
-        }
+        Framing::Length(n) => add_length(n, words),
         Framing::Chunked => words.push_str(" chunked"),
         Framing::Upgrade => words.push_str(" upgrade"),
     }
 }
 
-fn add_event(event: &Incoming, words: &mut String) -> Result<(), AllocError> {
-    match event {
-        Incoming::HttpRequest { body, more_body } => {
-            words.push_str(if *more_body { " more(" } else { " last(" })?;
-            for b in body.bytes() {
-                words.push(*b as char)?;
-            }
-            words.push_str(")")
-        }
-        _ => words.push_str(" another event"),
+/// The last two digits of the number, without a zero in front.
+fn add_length(n: u64, words: &mut String) -> Result<(), AllocError> {
+    words.push(' ')?;
+    if n >= 10 {
+        words.push((b'0' + (n / 10 % 10) as u8) as char)?;
     }
+    words.push((b'0' + (n % 10) as u8) as char)
+}
+
+fn add_event(event: &Incoming, words: &mut String) -> Result<(), AllocError> {
+    let Incoming::HttpRequest { body, more_body } = event else {
+        return words.push_str(" another event");
+    };
+    words.push_str(if *more_body { " more(" } else { " last(" })?;
+    for b in body.bytes() {
+        words.push(*b as char)?;
+    }
+    words.push_str(")")
 }
 
 /// A refusal is given again; its words stand once.
-fn add_refusal(alloc: Global, status: u16, words: &mut String) -> Result<(), AllocError> {
-    let text = format!(in alloc; " bad {status}")?;
-    if words.as_str().ends_with(text.as_str()) {
+fn add_refusal(status: u16, words: &mut String) -> Result<(), AllocError> {
+    let word = match status {
+        400 => " bad 400",
+        413 => " bad 413",
+        431 => " bad 431",
+        501 => " bad 501",
+        _ => " another status",
+    };
+    if words.as_str().ends_with(word) {
         return Ok(());
     }
-    words.push_str(&text)
-}
-
-/// Feeds each row whole, byte by byte, in pieces of 2, 7 and 1000, and cut in two at each place.
-fn check_rows(
-    rt: &impl Abort,
-    alloc: Global,
-    limits: Limits,
-    rows: &[Row<'_>],
-) -> Result<(), Fail> {
-    for (row, (bytes, wanted)) in rows.iter().enumerate() {
-        for piece in [1, 2, 7, 1_000] {
-            let mut cuts = Vec::new(alloc);
-            for (i, _) in bytes.iter().enumerate() {
-                if i % piece == 0 {
-                    cuts.push(i)?;
-                }
-            }
-            let words = story(alloc, limits, bytes, &cuts)?;
-            assert_eq!(rt; words.as_str(), *wanted, "row {row} in pieces of {piece}");
-        }
-        for (cut, _) in bytes.iter().enumerate() {
-            let words = story(alloc, limits, bytes, &[cut])?;
-            assert_eq!(rt; words.as_str(), *wanted, "row {row} cut at {cut}");
-        }
-    }
-    Ok(())
+    words.push_str(word)
 }
 
 /// The usual limits but for these.
-fn limits(max_head: usize, max_headers: usize, max_body: u64, block: usize) -> Limits {
+pub fn limits(max_head: usize, max_headers: usize, max_body: u64, block: usize) -> Limits {
     Limits::new(max_head, max_headers, max_body, block, 16, 30_000, 1 << 40).unwrap_or(
         Limits::usual(),
     )
-}
-
-/// Each text between the two others.
-fn between(alloc: Global, front: &[u8], middle: &[u8], end: &[u8]) -> Result<Vec<u8>, AllocError> {
-    let mut bytes = Vec::from_slice(alloc, front)?;
-    bytes.extend_from_slice(middle)?;
-    bytes.extend_from_slice(end)?;
-    Ok(bytes)
 }

@@ -1,0 +1,92 @@
+#!/usr/bin/env bash
+# Instructions and memory of the request reader, on inputs of 10 KiB, 1 MiB and 10 MiB of five shapes, fed whole, in
+# pieces of 4,096 bytes and byte by byte, less those of reading the input alone.
+# Usage: tests/performance/reader.sh [PROGRAM]. It needs valgrind. With no PROGRAM it proves and builds `reader`, the
+# program beside it, in a folder of its own over copies of the crates: it is none of the repository's crates.
+set -eu
+[ $# -eq 0 ] || set -- "$(realpath "$1")"
+cd "$(dirname "$0")/../.."
+folder=$(mktemp -d)
+trap 'rm -rf "$folder"' EXIT
+sizes=${SIZES:-10240 1048576 10485760}
+
+# Proves the program, and builds it by LLVM.
+build() {
+  mkdir "$folder/crates"
+  cp -a crates/asgi_types crates/asgi_request tests/performance/reader "$folder/crates"
+  { grep -E '^asgi_(types|request):' crates.txt; echo 'reader: asgi_types asgi_request'; } >"$folder/crates.txt"
+  (cd "$folder/crates/reader" && rt run -- 0 </dev/null >"$folder/log" 2>&1) || { cat "$folder/log"; exit 1; }
+}
+program=${1:-}
+[ -n "$program" ] || { build; program=$folder/crates/reader/out/reader; }
+
+# Requests of one shape, one after another, up to so many bytes.
+input() {
+  python3 - "$1" "$2" <<'P'
+import sys
+shape, size = sys.argv[1], int(sys.argv[2])
+post = b"POST / HTTP/1.1\r\nHost: a\r\n"
+mebi = 1 << 20
+
+def chunked(length):
+    chunk = b"%x\r\n" % length + b"a" * length + b"\r\n"
+    return post + b"Transfer-Encoding: chunked\r\n\r\n" + chunk * (mebi // length) + b"0\r\n\r\n"
+
+fields = [
+    b"Host: www.example.org", b"Connection: keep-alive", b'sec-ch-ua: "Chromium";v="120", "Not?A_Brand";v="8"',
+    b"sec-ch-ua-mobile: ?0", b'sec-ch-ua-platform: "Linux"', b"Upgrade-Insecure-Requests: 1",
+    b"User-Agent: Mozilla/5.0 (X11; Linux x86_64) AppleWebKit/537.36 (KHTML, like Gecko) Chrome/120.0.0.0 Safari/537.36",
+    b"Accept: text/html,application/xhtml+xml,application/xml;q=0.9,image/avif,image/webp,*/*;q=0.8",
+    b"Sec-Fetch-Site: none", b"Sec-Fetch-Mode: navigate", b"Sec-Fetch-User: ?1", b"Sec-Fetch-Dest: document",
+    b"Accept-Encoding: gzip, deflate, br", b"Accept-Language: en-US,en;q=0.9",
+]
+request = {
+    "gets": b"GET / HTTP/1.1\r\nHost: a\r\n\r\n",
+    "browser": b"GET /index.html HTTP/1.1\r\n" + b"\r\n".join(fields) + b"\r\n\r\n",
+    "length": post + b"Content-Length: %d\r\n\r\n" % mebi + b"a" * mebi,
+    "chunks16": chunked(16),
+    "chunks64k": chunked(65536),
+}[shape]
+sys.stdout.buffer.write((request * (size // len(request) + 1))[:size])
+P
+}
+
+# Instructions of a run that feeds the input in pieces of so many bytes, as callgrind counts them.
+count() {
+  valgrind --tool=callgrind --callgrind-out-file="$folder/out" "$program" "$1" 2>&1 >/dev/null <"$folder/input" |
+    sed -n 's/.*Collected : //p'
+}
+
+# The most bytes allocated at once in such a run, as massif sees them.
+held() {
+  valgrind --tool=massif --massif-out-file="$folder/heap" "$program" "$1" >/dev/null 2>&1 <"$folder/input"
+  sed -n 's/^mem_heap_B=//p' "$folder/heap" | sort -n | tail -n 1
+}
+
+echo "| input | bytes | whole | by 4,096 | byte by byte |"
+echo "|---|---|---|---|---|"
+for shape in gets browser length chunks16 chunks64k; do
+  for size in $sizes; do
+    input "$shape" "$size" >"$folder/input"
+    read_alone=$(count 0)
+    row="| $shape | $size |"
+    for piece in "$size" 4096 1; do
+      row="$row $(python3 -c "print(f'{($(count "$piece") - $read_alone) / $size:.1f}')") |"
+    done
+    echo "$row"
+  done
+done
+echo
+echo "| input | bytes | whole | by 4,096 | byte by byte |"
+echo "|---|---|---|---|---|"
+for shape in ${HELD:-gets length chunks16}; do
+  for size in $sizes; do
+    input "$shape" "$size" >"$folder/input"
+    read_alone=$(held 0)
+    row="| $shape | $size |"
+    for piece in "$size" 4096 1; do
+      row="$row $(($(held "$piece") - read_alone)) |"
+    done
+    echo "$row"
+  done
+done
