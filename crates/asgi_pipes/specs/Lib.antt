@@ -1,0 +1,7 @@
+pub mod Boxes
+pub mod Closings
+pub mod Disconnects
+pub mod Items
+pub mod Laws
+pub mod Pairs
+pub mod Queues
