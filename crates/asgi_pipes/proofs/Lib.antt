@@ -1,3 +1,6 @@
+pub mod BoxLemmas
 pub mod ClosingLemmas
 pub mod DisconnectLemmas
+pub mod JudgedLemmas
 pub mod LawLemmas
+pub mod StartLemmas

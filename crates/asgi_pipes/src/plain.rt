@@ -44,6 +44,7 @@ fn pass_all<T: Drop>(from: &mut Outbox<T>, to: &mut Inbox<T>)
     ensures from { (put_by from.new ≡ put_by from.old) × (from.new.places ≡ from.old.places) }
     ensures to { (to.new.taken.items ≡ to.old.taken.items) × (to.new.places ≡ to.old.places) }
     ensures told { free_in from.new + length to.new.queue.items ≡ from.new.places }
+    ensures free { free_in from.old ≤ free_in from.new }
 {
     for _passed in 0..from.len() {
         if let Some(item) = from.pass() {

@@ -8,5 +8,6 @@ invariant-loop-passed g l = record {
   put : put_by l.from ≡ put_by l.initial.from;
   places : (l.from.places ≡ l.initial.from.places) × (l.to.places ≡ l.initial.to.places);
   taken : l.to.taken.items ≡ l.initial.to.taken.items;
+  sum : length l.from.queue.items + l.from.away ≡ length l.initial.from.queue.items + l.initial.from.away;
   left : length l.from.queue.items + l._passed ≡ length l.initial.from.queue.items;
 }
