@@ -38,7 +38,7 @@ closed_hears Http said heard other closed = rw closed refl
 closed_hears WebSocket said heard other closed = rw closed refl
 closed_hears Lifespan said heard other closed = absurd (other refl)
 
-own_is : (kind : Kind) (said : List Outgoing) → disconnect_in (own_disconnect kind said) ≡ Some (own_disconnect kind said)
+pub own_is : (kind : Kind) (said : List Outgoing) → disconnect_in (own_disconnect kind said) ≡ Some (own_disconnect kind said)
 own_is Http said = refl
 own_is WebSocket said = refl
 own_is Lifespan said = refl

@@ -4,4 +4,5 @@ pub mod Disconnects
 pub mod Items
 pub mod Laws
 pub mod Pairs
+pub mod PlainPairs
 pub mod Queues

@@ -1,6 +1,8 @@
 //! Pairs of ends.
 ghost use Rattle.std.specs.Prelude.{◌≡◌, false, [], None, IfSome, IsSome, IfOk};
 ghost use Rattle.asgi_types.specs.declared.scope.Kind.{Kind};
+ghost use Rattle.asgi_protocol.specs.Lawful.{IsLawful};
+ghost use Rattle.asgi_pipes.specs.Disconnects.{Hears};
 ghost use Rattle.asgi_pipes.specs.Items.{items_of};
 ghost use Rattle.asgi_pipes.specs.Queues.{KeepsOrder};
 
@@ -40,7 +42,9 @@ pub trait Pipes {
         requires { is_pair conn app }
         ensures met { IsSome result }
         ensures inward { IfSome result (λ met. KeepsOrder (Self.Conn.ring conn) (Self.Conn.offered conn) (Self.App.pulled app) met.left_in) }
-        ensures outward { IfSome result (λ met. KeepsOrder (Self.Conn.ring conn) (items_of (Self.App.said app) (Self.App.ended app)) (Self.Conn.got conn) met.left_out) };
+        ensures outward { IfSome result (λ met. KeepsOrder (Self.Conn.ring conn) (items_of (Self.App.said app) (Self.App.ended app)) (Self.Conn.got conn) met.left_out) }
+        ensures heard { Hears (Self.App.kind app) (Self.App.said app) (Self.App.pulled app) (Self.App.heard app) }
+        ensures lawful { IsLawful (Self.App.kind app) (Self.App.facts app) (Self.App.said app) };
 
     // The calls of an end keep its tag, and so the pair.
     ghost stays_pair: { (c d : Self.Conn) (a b : Self.App) → Self.Conn.tag d ≡ Self.Conn.tag c → Self.App.tag b ≡ Self.App.tag a → is_pair c a → is_pair d b };

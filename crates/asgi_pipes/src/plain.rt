@@ -1,8 +1,8 @@
 //! Ends for one thread: what one end puts stays there until it is carried to the other.
 ghost use Rattle.std.specs.Prelude.{◌≡◌, ◌+◌, ◌-◌, ◌≤◌, ◌<◌, [], ◌++◌, length};
-ghost use Rattle.asgi_pipes.specs.Boxes.{put_by, free_in, carriage_from, carriage_to, AreJoined};
+ghost use Rattle.asgi_pipes.specs.Boxes.{put_by, free_in, AreJoined};
 ghost use Rattle.asgi_pipes.specs.Items.{items_of};
-ghost use Rattle.asgi_pipes.specs.Pairs.{carried};
+ghost use Rattle.asgi_pipes.specs.PlainPairs.{IsPlainPair};
 
 use crate::history::History;
 use crate::inbox::Inbox;
@@ -22,8 +22,8 @@ impl Plain {
     /// Moves what was put at each end of one pair on to the other end's queue, and tells each end
     /// its free places.
     pub fn carry(conn: &mut PlainConn, app: &mut PlainApp)
-        requires { carried (carriage_from conn.old.out) (carriage_to conn.old.inn) ≡ carried (carriage_to app.old.inn) (carriage_from app.old.out) }
-        ensures pair { carried (carriage_from conn.new.out) (carriage_to conn.new.inn) ≡ carried (carriage_to app.new.inn) (carriage_from app.new.out) }
+        requires { IsPlainPair conn.old app.old }
+        ensures pair { IsPlainPair conn.new app.new }
         ensures inward { app.new.inn.taken.items ++ app.new.inn.queue.items ≡ put_by conn.new.out }
         ensures outward { conn.new.inn.taken.items ++ conn.new.inn.queue.items ≡ items_of app.new.said.items app.new.ended }
         ensures told { (free_in conn.new.out + length app.new.inn.queue.items ≡ conn.new.out.places) × (free_in app.new.out + length conn.new.inn.queue.items ≡ app.new.out.places) }
@@ -62,10 +62,9 @@ impl Pipes for Plain {
 
     ghost use Rattle.std.specs.Prelude.{◌≡◌};
     ghost use Rattle.std.proofs.Common.{sym, ◌∙◌};
-    ghost use Rattle.asgi_pipes.specs.Boxes.{carriage_from, carriage_to};
-    ghost use Rattle.asgi_pipes.specs.Pairs.{carried};
+    ghost use Rattle.asgi_pipes.specs.PlainPairs.{IsPlainPair};
 
-    ghost is_pair = { λ c a. carried (carriage_from c.out) (carriage_to c.inn) ≡ carried (carriage_to a.inn) (carriage_from a.out) };
+    ghost is_pair = { IsPlainPair };
 
     fn make(
         &self,
