@@ -1,8 +1,7 @@
 //! Pairs of plain ends on tables of calls, each with its answer.
-ghost use Rattle.std.specs.Prelude.{◌≡◌, false, None, IfOk, IfSome};
+ghost use Rattle.std.specs.Prelude.{◌≡◌, false, None};
 ghost use Rattle.futures.specs.Task.{Keeps};
-ghost use Rattle.asgi_pipes.specs.Boxes.{carriage_from, carriage_to};
-ghost use Rattle.asgi_pipes.specs.Pairs.{carried};
+ghost use Rattle.asgi_pipes.specs.PlainPairs.{IsPlainPair};
 
 mod http;
 mod lifespan;
@@ -70,7 +69,7 @@ struct Pair {
     conn: PlainConn,
     app: PlainApp,
     finished: bool,
-    ghost pair: { carried (carriage_from conn.out) (carriage_to conn.inn) ≡ carried (carriage_to app.inn) (carriage_from app.out) },
+    ghost pair: { IsPlainPair conn app },
     ghost open: { finished ≡ false → app.ended ≡ None },
 }
 
