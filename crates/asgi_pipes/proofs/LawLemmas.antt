@@ -1,0 +1,93 @@
+-- What was heard is a beginning of what was offered, and then equal disconnects.
+use Rattle.std.proofs.Common.{◌≡◌, ◌≢◌, ℕ, ◌+◌, ◌<◌, Bool, true, false, ◌⊎◌, inl, inr, List, [], ◌∷◌, ◌++◌, Option, Some, None, replicate, suc, zero, refl, sym, ap, ◌∙◌, append_assoc, append-nil, arith}
+use Rattle.std.specs.Prelude.{if◌then◌else◌}
+use Rattle.asgi_types.specs.declared.scope.Kind.{Kind}
+use Rattle.asgi_types.specs.declared.scope.Kind.TheVariants.{Http, WebSocket, Lifespan}
+use Rattle.asgi_types.specs.declared.incoming.Incoming.{Incoming}
+use Rattle.asgi_types.specs.declared.incoming.Incoming.TheVariants.{HttpDisconnect}
+use Rattle.asgi_types.specs.declared.outgoing.Outgoing.{Outgoing}
+use Rattle.asgi_protocol.specs.Shapes.{is_closed}
+use Rattle.asgi_pipes.specs.Disconnects.{disconnect_in, first_disconnect, own_disconnect, answer_at_once, HearsUntil, Hears}
+use Rattle.asgi_pipes.specs.Queues.{KeepsOrder}
+use Rattle.asgi_pipes.specs.Laws.{HeardIsOfferedInOrder, ClosedScopeHearsItsDisconnect, DisconnectIsHeardAgain, OnlyEqualDisconnectsFollow}
+use Rattle.asgi_pipes.proofs.DisconnectLemmas.{first_until, or_else_first_none, or_else_second_none, decide, some_inj, none_heard}
+
+abbrev InOrder : List Incoming → List Incoming → Type 0
+InOrder offered heard =
+    (events : List Incoming) × (unheard : List Incoming) × (times : ℕ) × (disconnect : Incoming)
+    × (offered ≡ events ++ unheard) × (heard ≡ events ++ replicate times disconnect)
+
+in_order_until : (kind : Kind) (said : List Outgoing) (ring count : ℕ) (offered pulled heard : List Incoming)
+    → KeepsOrder ring offered pulled count → HearsUntil kind said pulled heard → InOrder offered heard
+in_order_until kind said ring count offered pulled heard order h = elim h.cause [
+  | inl none ↦ (h.events, order.0, h.times, h.disconnect, order.1 ∙ ap (λ (l : List Incoming). l ++ order.0) none.1, h.in_order)
+  | inr (pos, inl own) ↦ (h.events, order.0, h.times, h.disconnect, order.1 ∙ ap (λ (l : List Incoming). l ++ order.0) own.2, h.in_order)
+  | inr (pos, inr came) ↦
+      (h.events, h.disconnect ∷ order.0, h.times, h.disconnect,
+        order.1 ∙ ap (λ (l : List Incoming). l ++ order.0) came.2 ∙ append_assoc h.events (h.disconnect ∷ []) order.0, h.in_order)
+]
+
+pub in_order : HeardIsOfferedInOrder
+in_order Http said ring count offered pulled heard order h = in_order_until Http said ring count offered pulled heard order h
+in_order WebSocket said ring count offered pulled heard order h = in_order_until WebSocket said ring count offered pulled heard order h
+in_order Lifespan said ring count offered pulled heard order h =
+    (pulled, order.0, 0, HttpDisconnect, order.1, h ∙ sym (append-nil pulled))
+
+pub closed_hears : ClosedScopeHearsItsDisconnect
+closed_hears Http said heard other closed = rw closed refl
+closed_hears WebSocket said heard other closed = rw closed refl
+closed_hears Lifespan said heard other closed = absurd (other refl)
+
+pub own_is : (kind : Kind) (said : List Outgoing) → disconnect_in (own_disconnect kind said) ≡ Some (own_disconnect kind said)
+own_is Http said = refl
+own_is WebSocket said = refl
+own_is Lifespan said = refl
+
+again_until : (kind : Kind) (said : List Outgoing) (pulled heard : List Incoming) (d : Incoming)
+    → HearsUntil kind said pulled heard → first_disconnect heard ≡ Some d
+    → (if is_closed kind said then Some (own_disconnect kind said) else first_disconnect heard) ≡ Some d
+again_until kind said pulled heard d h first = elim (decide (is_closed kind said)) [
+  | inr open_is ↦ rw open_is first
+  | inl closed ↦ elim h.cause [
+      | inl none ↦
+          let clash : None ≡ Some d = sym (ap first_disconnect (none_heard h.events heard h.times h.disconnect h.in_order none.0) ∙ h.no_other) ∙ first in
+          absurd (cc)
+      | inr (pos, inl own) ↦
+          let is : disconnect_in h.disconnect ≡ Some h.disconnect = rw own.1 (own_is kind said) in
+          let found : first_disconnect heard ≡ Some h.disconnect = ap first_disconnect h.in_order ∙ first_until h.events h.times h.disconnect h.no_other pos is in
+          rw closed (ap (λ (x : Incoming). Some x) (sym own.1) ∙ sym found ∙ first)
+      | inr (pos, inr came) ↦ let clash : true ≡ false = sym closed ∙ came.0 in absurd (cc)
+    ]
+]
+
+pub heard_again : DisconnectIsHeardAgain
+heard_again Http said pulled heard d other h first = again_until Http said pulled heard d h first
+heard_again WebSocket said pulled heard d other h first = again_until WebSocket said pulled heard d h first
+heard_again Lifespan said pulled heard d other h first = absurd (other refl)
+
+behind_equal : (before behind : List Incoming) (times : ℕ) (d event : Incoming) → before ++ event ∷ behind ≡ replicate times d
+    → (n : ℕ) × (behind ≡ replicate n event)
+behind_equal [] behind zero d event is = absurd (cc)
+behind_equal [] behind (suc m) d event is =
+    let head : event ≡ d = cc in
+    let tail : behind ≡ replicate m d = cc in
+    (m, tail ∙ ap (λ (x : Incoming). replicate m x) (sym head))
+behind_equal (x ∷ before) behind zero d event is = absurd (cc)
+behind_equal (x ∷ before) behind (suc m) d event is =
+    let tail : before ++ event ∷ behind ≡ replicate m d = cc in behind_equal before behind m d event tail
+
+behind_events : (events before behind : List Incoming) (times : ℕ) (d event : Incoming) → first_disconnect events ≡ None → disconnect_in event ≡ Some event
+    → before ++ event ∷ behind ≡ events ++ replicate times d → (n : ℕ) × (behind ≡ replicate n event)
+behind_events [] before behind times d event none is same = behind_equal before behind times d event same
+behind_events (y ∷ events) [] behind times d event none is same =
+    let head : event ≡ y = cc in
+    let clash : Some event ≡ None = sym is ∙ ap disconnect_in head ∙ or_else_first_none (disconnect_in y) (first_disconnect events) none in
+    absurd (cc)
+behind_events (y ∷ events) (x ∷ before) behind times d event none is same =
+    let tail : before ++ event ∷ behind ≡ events ++ replicate times d = cc in
+    behind_events events before behind times d event (or_else_second_none (disconnect_in y) (first_disconnect events) none) is tail
+
+pub only_equal : OnlyEqualDisconnectsFollow
+only_equal Http said pulled before behind event other is h = behind_events h.events before behind h.times h.disconnect event h.no_other is h.in_order
+only_equal WebSocket said pulled before behind event other is h = behind_events h.events before behind h.times h.disconnect event h.no_other is h.in_order
+only_equal Lifespan said pulled before behind event other is h = absurd (other refl)

@@ -1,0 +1,44 @@
+use Rattle.std.proofs.Common.{◌≡◌, [], ◌∷◌, ◌++◌, sym, ap, ◌∙◌}
+use Rattle.std.specs.Prelude.{◌||◌}
+use Rattle.std.proofs.Math.Logic.{∥∥₁_map}
+use Rattle.asgi_pipes.specs.Closings.{closing_of}
+use Rattle.asgi_pipes.specs.Disconnects.{is_accept, has_disconnect}
+use Rattle.asgi_pipes.specs.Items.{items_of}
+use Rattle.asgi_pipes.specs.declared.items.OutItem.TheVariants.{Event}
+use Rattle.asgi_pipes.proofs.ClosingLemmas.{accepted-append, passed, answer_behind, items_event}
+use Rattle.asgi_pipes.proofs.DisconnectLemmas.{hears_said}
+use Rattle.asgi_pipes.proofs.JudgedLemmas.{passes}
+use Rattle.asgi_pipes.proofs.plain_app.PlainAppAppEnd.poll_send.Goals as goal
+
+pub invariant_of-self-2-clause-put_is : goal.invariant_of-self-2-clause-put_is
+invariant_of-self-2-clause-put_is c =
+    let s = c.args.self.now in
+    rw (c.with.ensures, c.requires)
+    (c.put.ensures.put ∙ ap (λ l. l ++ Event c.args.event ∷ []) (s.put_is ∙ ap (items_of s.said.items) c.requires) ∙ sym (items_event s.said.items c.args.event))
+
+pub invariant_of-self-2-clause-judged : goal.invariant_of-self-2-clause-judged
+invariant_of-self-2-clause-judged c =
+    let s = c.args.self.now in
+    let pass = sym (c.verdict_of-verdict.ensures s.kind s.said.items (has_disconnect s.heard.items) s.judged) ∙ passes _ c.in_default.not-Ignored c.in_default-verdict.not-Refused in
+    rw c.with.ensures
+    (∥∥₁_map s.judged (λ x. c.judge-passes.ensures.passed (c.judge-passes.ensures.verdict s.kind s.said.items (has_disconnect s.heard.items) x ∙ pass) s.kind s.said.items (has_disconnect s.heard.items) x))
+
+pub invariant_of-self-2-clause-opened : goal.invariant_of-self-2-clause-opened
+invariant_of-self-2-clause-opened c =
+    let s = c.args.self.now in
+    rw c.with.ensures (c.opens-self.ensures ∙ ap (λ b. b || is_accept c.args.event) s.opened ∙ sym (accepted-append s.said.items c.args.event))
+
+pub invariant_of-self-2-clause-at_once : goal.invariant_of-self-2-clause-at_once
+invariant_of-self-2-clause-at_once c =
+    let s = c.args.self.now in
+    let pass = sym (c.verdict_of-verdict.ensures s.kind s.said.items (has_disconnect s.heard.items) s.judged) ∙ passes _ c.in_default.not-Ignored c.in_default-verdict.not-Refused in
+    rw c.with.ensures
+    (c.behind-self.ensures ∙ ap (λ b. closing_of b c.args.event) s.opened
+      ∙ sym (answer_behind s.kind s.said.items s.heard.items c.args.event (passed s.kind s.facts s.said.items s.heard.items c.args.event pass)))
+
+pub invariant_of-self-2-clause-hears_is : goal.invariant_of-self-2-clause-hears_is
+invariant_of-self-2-clause-hears_is c =
+    let s = c.args.self.now in
+    let pass = sym (c.verdict_of-verdict.ensures s.kind s.said.items (has_disconnect s.heard.items) s.judged) ∙ passes _ c.in_default.not-Ignored c.in_default-verdict.not-Refused in
+    let p = passed s.kind s.facts s.said.items s.heard.items c.args.event pass in
+    rw c.with.ensures (∥∥₁_map s.hears_is (hears_said s.kind s.said.items (s.said.items ++ c.args.event ∷ []) s.inn.taken.items s.heard.items p.open_is p.none))

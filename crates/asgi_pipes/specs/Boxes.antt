@@ -1,0 +1,33 @@
+-- The two halves of a queue, as the lists of what went through them.
+use Rattle.std.specs.Prelude.{◌≡◌, ℕ, ◌+◌, ◌-◌, List, ◌++◌, length}
+use Rattle.asgi_pipes.specs.declared.outbox.Outbox.{Outbox}
+use Rattle.asgi_pipes.specs.declared.inbox.Inbox.{Inbox}
+
+-- what was carried between two ends in one direction, how many items waited behind that, and the
+-- places of the direction
+pub record Carriage (T : Type 0) : Type 0 where
+  pub items : List T
+  pub waiting : ℕ
+  pub places : ℕ
+
+module _ {T : Type 0} where
+  -- all that was put
+  abbrev pub put_by : Outbox T → List T
+  put_by o = o.passed.items ++ o.queue.items
+
+  abbrev pub free_in : Outbox T → ℕ
+  free_in o = o.places - (length o.queue.items + o.away)
+
+  -- all that was carried here
+  abbrev pub come_to : Inbox T → List T
+  come_to i = i.taken.items ++ i.queue.items
+
+  abbrev pub carriage_from : Outbox T → Carriage T
+  carriage_from o = record { items = o.passed.items; waiting = o.away; places = o.places }
+
+  abbrev pub carriage_to : Inbox T → Carriage T
+  carriage_to i = record { items = come_to i; waiting = i.arrived; places = i.places }
+
+  -- what one half has passed on is what the other got
+  abbrev pub AreJoined : Outbox T → Inbox T → Type 0
+  AreJoined o i = (o.passed.items ≡ come_to i) × (o.away ≡ i.arrived) × (o.places ≡ i.places)

@@ -1,0 +1,13 @@
+-- The events that close a scope, each with the disconnect that is heard behind it.
+use Rattle.std.specs.Prelude.{Bool, true, false, [], Option, Some, None}
+use Rattle.asgi_types.specs.declared.incoming.Incoming.{Incoming}
+use Rattle.asgi_types.specs.declared.incoming.Incoming.TheVariants.{HttpDisconnect, WsDisconnect}
+use Rattle.asgi_types.specs.declared.outgoing.Outgoing.{Outgoing}
+use Rattle.asgi_types.specs.declared.outgoing.Outgoing.TheVariants.{ResponseBody, WsClose, DenialBody}
+use Rattle.asgi_pipes.specs.Disconnects.{code_of}
+
+abbrev pub closing_of : Bool → Outgoing → Option Incoming
+closing_of is_open (ResponseBody body false) = Some HttpDisconnect
+closing_of is_open (WsClose code reason) = Some (WsDisconnect (code_of is_open (Some (WsClose code reason))) [])
+closing_of is_open (DenialBody body false) = Some (WsDisconnect 1006 [])
+closing_of _ _ = None

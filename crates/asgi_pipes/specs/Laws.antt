@@ -1,0 +1,49 @@
+-- Laws of what is heard, over every list.
+use Rattle.std.specs.Prelude.{◌≡◌, ◌≢◌, ℕ, ◌-◌, ◌⊎◌, Bool, true, List, ◌∷◌, ◌++◌, Option, Some, replicate}
+use Rattle.asgi_types.specs.declared.scope.Kind.{Kind}
+use Rattle.asgi_types.specs.declared.scope.Kind.TheVariants.{Http, WebSocket, Lifespan}
+use Rattle.asgi_types.specs.declared.incoming.Incoming.{Incoming}
+use Rattle.asgi_types.specs.declared.outgoing.Outgoing.{Outgoing}
+use Rattle.asgi_protocol.specs.Shapes.{is_closed}
+use Rattle.asgi_pipes.specs.Disconnects.{Hears, answer_at_once, own_disconnect, first_disconnect, disconnect_in}
+use Rattle.asgi_pipes.specs.declared.plain_conn.PlainConn.{PlainConn}
+use Rattle.asgi_pipes.specs.declared.plain_app.PlainApp.{PlainApp}
+use Rattle.asgi_pipes.specs.Boxes.{put_by}
+use Rattle.asgi_pipes.specs.Items.{items_of}
+use Rattle.asgi_pipes.specs.PlainPairs.{IsPlainPair}
+use Rattle.asgi_pipes.specs.Queues.{KeepsOrder}
+
+-- what is heard is a beginning of what was offered, and then equal disconnects
+abbrev pub HeardIsOfferedInOrder : Type 0
+HeardIsOfferedInOrder = (kind : Kind) (said : List Outgoing) (ring count : ℕ) (offered pulled heard : List Incoming)
+    → KeepsOrder ring offered pulled count → Hears kind said pulled heard
+    → (events : List Incoming) × (unheard : List Incoming) × (times : ℕ) × (disconnect : Incoming)
+        × (offered ≡ events ++ unheard) × (heard ≡ events ++ replicate times disconnect)
+
+-- behind the own closing event nothing but its disconnect is heard
+abbrev pub ClosedScopeHearsItsDisconnect : Type 0
+ClosedScopeHearsItsDisconnect = (kind : Kind) (said : List Outgoing) (heard : List Incoming)
+    → kind ≢ Lifespan → is_closed kind said ≡ true → answer_at_once kind said heard ≡ Some (own_disconnect kind said)
+
+-- what was heard as a disconnect is heard again, whatever waits in the queue
+abbrev pub DisconnectIsHeardAgain : Type 0
+DisconnectIsHeardAgain = (kind : Kind) (said : List Outgoing) (pulled heard : List Incoming) (disconnect : Incoming)
+    → kind ≢ Lifespan → Hears kind said pulled heard → first_disconnect heard ≡ Some disconnect
+    → answer_at_once kind said heard ≡ Some disconnect
+
+-- behind a heard disconnect there are only equal ones
+abbrev pub OnlyEqualDisconnectsFollow : Type 0
+OnlyEqualDisconnectsFollow = (kind : Kind) (said : List Outgoing) (pulled before behind : List Incoming) (event : Incoming)
+    → kind ≢ Lifespan → disconnect_in event ≡ Some event → Hears kind said pulled (before ++ event ∷ behind)
+    → (times : ℕ) × (behind ≡ replicate times event)
+
+-- what was heard is had where it merely exists, since it has one reading
+abbrev pub HeardHasOneReading : Type 0
+HeardHasOneReading = (kind : Kind) (said : List Outgoing) (pulled heard : List Incoming)
+    → ∥ Hears kind said pulled heard ∥₁ → Hears kind said pulled heard
+
+-- the ends of a plain pair keep both orders at any moment
+abbrev pub PlainPairsKeepOrder : Type 0
+PlainPairsKeepOrder = (conn : PlainConn) (app : PlainApp) → IsPlainPair conn app
+    → ((left_in : ℕ) × KeepsOrder (conn.out.places - 1) (put_by conn.out) app.inn.taken.items left_in)
+    × ((left_out : ℕ) × KeepsOrder (conn.out.places - 1) (items_of app.said.items app.ended) conn.inn.taken.items left_out)

@@ -1,0 +1,88 @@
+//! Disconnects, which an application hears again and again.
+ghost use Rattle.std.specs.Prelude.{◌≡◌, []};
+ghost use Rattle.std.specs.Option.{option_map};
+ghost use Rattle.asgi_pipes.specs.Disconnects.{event_of, disconnect_in, is_accept as is_accept_event};
+ghost use Rattle.asgi_pipes.specs.Closings.{closing_of};
+
+use asgi_types::{Incoming, Outgoing, Reason};
+
+/// A disconnect. It takes no memory, so that it can be heard at any time.
+#[derive(Clone, Copy, Debug)]
+pub enum Disconnect {
+    Http,
+    WebSocket { code: u16, reason: Reason },
+}
+
+impl Disconnect {
+    pub fn event(self) -> Incoming
+        ensures { result ≡ event_of self }
+    {
+        match self {
+            Disconnect::Http => Incoming::HttpDisconnect,
+            Disconnect::WebSocket { code, reason } => Incoming::WsDisconnect { code, reason },
+        }
+    }
+
+    /// The disconnect that the event is, if it is one.
+    pub fn of(event: &Incoming) -> Option<Disconnect>
+        ensures { option_map event_of result ≡ disconnect_in event.now }
+    {
+        match event {
+            Incoming::HttpDisconnect => Some(Disconnect::Http),
+            Incoming::WsDisconnect { code, reason } => Some(Disconnect::WebSocket {
+                code: *code,
+                reason: *reason,
+            }),
+            _ => None,
+        }
+    }
+
+    /// What is heard from then on where the event, which passed, closes the scope.
+    pub fn behind(is_open: bool, event: &Outgoing) -> Option<Disconnect>
+        ensures { option_map event_of result ≡ closing_of is_open event.now }
+    {
+        match event {
+            Outgoing::ResponseBody { body: _, more_body } => {
+                if *more_body {
+                    None
+                } else {
+                    Some(Disconnect::Http)
+                }
+            }
+            Outgoing::WsClose { code, reason: _ } => {
+                if is_open {
+                    Some(of_session(*code))
+                } else {
+                    Some(of_session(ABNORMAL))
+                }
+            }
+            Outgoing::DenialBody { body: _, more_body } => {
+                if *more_body {
+                    None
+                } else {
+                    Some(of_session(ABNORMAL))
+                }
+            }
+            _ => None,
+        }
+    }
+}
+
+/// The code of a session that ended without a close (RFC 6455, section 7.4.1).
+const ABNORMAL: u16 = 1006;
+
+fn of_session(code: u16) -> Disconnect
+    ensures { result ≡ Disconnect.WebSocket code [] }
+{
+    match Reason::new("") {
+        Some(reason) => Disconnect::WebSocket { code, reason },
+        None => unreachable!(),
+    }
+}
+
+/// The event accepts a session.
+pub fn is_accept(event: &Outgoing) -> bool
+    ensures { result ≡ is_accept_event event.now }
+{
+    matches!(event, Outgoing::WsAccept { .. })
+}

@@ -1,0 +1,161 @@
+//! The two ends of an exchange, by the lists of what went through them. A contract speaks of the
+//! lists of its own end alone, since the other end may be in another thread.
+ghost use Rattle.std.specs.Prelude.{◌≡◌, ℕ, ◌+◌, ◌≤◌, ◌⊎◌, Bool, true, false, not, List, [], ◌∷◌, ◌++◌, Option, Some, None, is_none, IsTrue, IsFalse, IfSome, IfNone, IsOk, OnOk, IfErr};
+ghost use mathlib.Core.List.{IsPrefix};
+ghost use Rattle.futures.specs.Poll.{IfReady, OnPending};
+ghost use Rattle.futures.specs.Task.{IsArmed, Keeps};
+ghost use Rattle.asgi_types.specs.declared.scope.Kind.{Kind};
+ghost use Rattle.asgi_types.specs.declared.facts.Facts.{Facts};
+ghost use Rattle.asgi_types.specs.declared.incoming.Incoming.{Incoming};
+ghost use Rattle.asgi_types.specs.declared.outgoing.Outgoing.{Outgoing};
+ghost use Rattle.asgi_protocol.specs.Lawful.{IsLawful};
+ghost use Rattle.asgi_protocol.specs.Verdicts.{verdict_on};
+ghost use Rattle.asgi_pipes.specs.declared.items.EndKind.{EndKind};
+ghost use Rattle.asgi_pipes.specs.declared.items.OutItem.{OutItem};
+ghost use Rattle.asgi_pipes.specs.Disconnects.{has_disconnect, answer_at_once, Hears};
+ghost use Rattle.asgi_pipes.specs.Items.{Answers, IfDone, IfFull, IfTurnedAway};
+
+use crate::items::{EndKind, OutItem, Sent};
+use asgi_types::{Incoming, Outgoing};
+use futures::task::{Context, Poll};
+
+/// The end of the connection. No call takes memory or waits.
+pub trait ConnEnd: Drop {
+    // What names the pair that the end belongs to.
+    ghost Tag: { Type 0 };
+
+    ghost tag: { Self → Tag };
+
+    // The places of each direction, without the reserved one.
+    ghost ring: { Self → ℕ };
+
+    // What was offered, the disconnect last of all.
+    ghost offered: { Self → List Incoming };
+
+    // The disconnect was offered.
+    ghost is_broken: { Self → Bool };
+
+    // The places that the end knows to be free, without the reserved one.
+    ghost room: { Self → ℕ };
+
+    // What was taken.
+    ghost got: { Self → List OutItem };
+
+    // What the end knows to wait for a take, oldest first.
+    ghost seen: { Self → List OutItem };
+
+    /// Offers an event behind those before it. It comes back where no place is free, and after
+    /// the disconnect was offered.
+    fn offer(&mut self, event: Incoming) -> Result<(), Incoming>
+        ensures ok { OnOk result ((offered self.new ≡ offered self.old ++ event ∷ []) × (is_broken self.old ≡ false) × (room self.old ≤ room self.new + 1)) }
+        ensures err { IfErr result (λ back. (back ≡ event) × (offered self.new ≡ offered self.old) × ((is_broken self.old ≡ true) ⊎ ((room self.old ≡ 0) × (room self.new ≡ 0)))) }
+        ensures same { (is_broken self.new ≡ is_broken self.old) × (got self.new ≡ got self.old) × (seen self.new ≡ seen self.old) }
+        ensures tag { (tag self.new ≡ tag self.old) × (ring self.new ≡ ring self.old) };
+
+    /// Offers the one disconnect, behind all events, in the reserved place. The answer is true
+    /// the first time; after that nothing changes.
+    fn offer_disconnect(&mut self, event: Incoming) -> bool
+        ensures first { result ≡ not (is_broken self.old) }
+        ensures yes { IsTrue result → offered self.new ≡ offered self.old ++ event ∷ [] }
+        ensures no { IsFalse result → self.new ≡ self.old }
+        ensures broken { is_broken self.new ≡ true }
+        ensures same { (got self.new ≡ got self.old) × (seen self.new ≡ seen self.old) }
+        ensures tag { (tag self.new ≡ tag self.old) × (ring self.new ≡ ring self.old) };
+
+    /// Takes the oldest item.
+    fn take(&mut self) -> Option<OutItem>
+        ensures some { IfSome result (λ item. (got self.new ≡ got self.old ++ item ∷ []) × IsPrefix (seen self.old) (item ∷ seen self.new)) }
+        ensures none { IfNone result ((got self.new ≡ got self.old) × (seen self.old ≡ []) × (seen self.new ≡ [])) }
+        ensures same { (offered self.new ≡ offered self.old) × (is_broken self.new ≡ is_broken self.old) × (room self.new ≡ room self.old) }
+        ensures tag { (tag self.new ≡ tag self.old) × (ring self.new ≡ ring self.old) };
+}
+
+/// The end of the application. The polls take no memory of their own, and no call waits.
+pub trait AppEnd: Drop {
+    // What names the pair that the end belongs to.
+    ghost Tag: { Type 0 };
+
+    ghost tag: { Self → Tag };
+
+    // The places of each direction, without the reserved one.
+    ghost ring: { Self → ℕ };
+
+    // The kind of scope, and what is known of its request.
+    ghost kind: { Self → Kind };
+
+    ghost facts: { Self → Facts };
+
+    // What the application heard.
+    ghost heard: { Self → List Incoming };
+
+    // What came through the queue; `heard` has further disconnects.
+    ghost pulled: { Self → List Incoming };
+
+    // What the end knows to wait for a receive, oldest first.
+    ghost seen: { Self → List Incoming };
+
+    // What the application said, and how it ended.
+    ghost said: { Self → List Outgoing };
+
+    ghost ended: { Self → Option EndKind };
+
+    // The places that the end knows to be free, without the reserved one.
+    ghost room: { Self → ℕ };
+
+    // A call of this end put an item into a queue or took one out since `moved` was asked.
+    ghost has_moved: { Self → Bool };
+
+    /// The next event. Behind the application's own closing event that is its disconnect, and
+    /// behind a heard disconnect an equal one; else the front of the queue. Where the queue is
+    /// empty the poll is pending, and has registered with a source or asked for another poll.
+    fn poll_receive(&mut self, cx: &mut Context<'_>) -> Poll<Incoming>
+        ensures ready { IfReady result (λ event. heard self.new ≡ heard self.old ++ event ∷ []) }
+        ensures at_once { (event : Incoming) → answer_at_once (kind self.old) (said self.old) (heard self.old) ≡ Some event
+            → (result ≡ Poll.Ready event) × (pulled self.new ≡ pulled self.old) × (seen self.new ≡ seen self.old) × (has_moved self.new ≡ has_moved self.old) }
+        ensures front { answer_at_once (kind self.old) (said self.old) (heard self.old) ≡ None
+            → IfReady result (λ event. (pulled self.new ≡ pulled self.old ++ event ∷ []) × IsPrefix (seen self.old) (event ∷ seen self.new) × (has_moved self.new ≡ true)) }
+        ensures pending { OnPending result ((heard self.new ≡ heard self.old) × (pulled self.new ≡ pulled self.old) × (seen self.old ≡ []) × (seen self.new ≡ []) × (has_moved self.new ≡ has_moved self.old) × IsArmed cx.new) }
+        ensures same { (said self.new ≡ said self.old) × (ended self.new ≡ ended self.old) × (room self.new ≡ room self.old) }
+        ensures scope { (kind self.new ≡ kind self.old) × (facts self.new ≡ facts self.old) }
+        ensures tag { (tag self.new ≡ tag self.old) × (ring self.new ≡ ring self.old) }
+        ensures kept { Keeps cx.old cx.new };
+
+    /// Says an event, before `finish`. The judge looks first; `Full` comes only for an event that
+    /// would pass, which is then not said, and has registered with a source or asked for another
+    /// poll.
+    fn poll_send(&mut self, cx: &mut Context<'_>, event: Outgoing) -> Sent
+        requires { ended self.old ≡ None }
+        ensures verdict { Answers (verdict_on (kind self.old) (facts self.old) (said self.old) (has_disconnect (heard self.old)) event) event (said self.old) (said self.new) result }
+        ensures done { IfDone result ((has_moved self.new ≡ true) × (room self.old ≤ room self.new + 1)) }
+        ensures full { IfFull result ((room self.old ≡ 0) × (room self.new ≡ 0) × (has_moved self.new ≡ has_moved self.old) × IsArmed cx.new) }
+        ensures turned_away { IfTurnedAway result (self.new ≡ self.old) }
+        ensures same { (heard self.new ≡ heard self.old) × (pulled self.new ≡ pulled self.old) × (seen self.new ≡ seen self.old) × (ended self.new ≡ ended self.old) }
+        ensures scope { (kind self.new ≡ kind self.old) × (facts self.new ≡ facts self.old) }
+        ensures tag { (tag self.new ≡ tag self.old) × (ring self.new ≡ ring self.old) }
+        ensures kept { Keeps cx.old cx.new };
+
+    /// Puts the end behind all that was said, in the reserved place. The answer is true the first
+    /// time; after that nothing changes.
+    fn finish(&mut self, end: EndKind) -> bool
+        ensures first { result ≡ is_none (ended self.old) }
+        ensures yes { IsTrue result → (ended self.new ≡ Some end) × (has_moved self.new ≡ true) }
+        ensures no { IsFalse result → self.new ≡ self.old }
+        ensures same { (heard self.new ≡ heard self.old) × (pulled self.new ≡ pulled self.old) × (seen self.new ≡ seen self.old) × (said self.new ≡ said self.old) }
+        ensures scope { (kind self.new ≡ kind self.old) × (facts self.new ≡ facts self.old) }
+        ensures tag { (tag self.new ≡ tag self.old) × (ring self.new ≡ ring self.old) };
+
+    /// A call of this end put an item into a queue or took one out since this was last asked.
+    fn moved(&mut self) -> bool
+        ensures said { result ≡ has_moved self.old }
+        ensures cleared { has_moved self.new ≡ false }
+        ensures lists { (heard self.new ≡ heard self.old) × (pulled self.new ≡ pulled self.old) × (seen self.new ≡ seen self.old) }
+        ensures same { (said self.new ≡ said self.old) × (ended self.new ≡ ended self.old) × (room self.new ≡ room self.old) }
+        ensures scope { (kind self.new ≡ kind self.old) × (facts self.new ≡ facts self.old) }
+        ensures tag { (tag self.new ≡ tag self.old) × (ring self.new ≡ ring self.old) };
+
+    // What was said is lawful.
+    ghost lawful: { (end : Self) → ∥ IsLawful (kind end) (facts end) (said end) ∥₁ };
+
+    // What was heard is what came through the queue, and then equal disconnects.
+    ghost hears: { (end : Self) → ∥ Hears (kind end) (said end) (pulled end) (heard end) ∥₁ };
+}

@@ -1,0 +1,74 @@
+//! What was carried to one end, as far as it waits to be taken.
+ghost use Rattle.std.specs.Prelude.{◌≡◌, ◌<◌, ◌≤◌, ◌+◌, [], ◌∷◌, ◌++◌, length, IfOk, IfSome, IfNone};
+ghost use Rattle.std.specs.VecDeque.{deque_capacity};
+
+use crate::history::History;
+use std::alloc::{AllocError, Global};
+use std::collections::VecDeque;
+
+#[derive(Drop)]
+pub struct Inbox<T> {
+    queue: VecDeque<T>,
+    /// All places of this direction, here and at the other end.
+    places: usize,
+    /// The items that waited here when items were last carried.
+    arrived: usize,
+    /// What was taken out.
+    taken: History<T>,
+    ghost fewer: { length queue.items ≤ arrived },
+    ghost fits: { arrived ≤ places },
+    ghost reserved: { places ≤ deque_capacity queue },
+}
+
+impl<T: Drop> Inbox<T> {
+    /// An empty one. All its places are reserved here, and no later call takes memory.
+    pub fn with_places(alloc: Global, places: usize) -> Result<Inbox<T>, AllocError>
+        ensures { IfOk result (λ made. (made.queue.items ≡ []) × (made.taken.items ≡ []) × (made.arrived ≡ 0) × (made.places ≡ places)) }
+    {
+        let queue = VecDeque::with_capacity(alloc, places)?;
+        Ok(Inbox {
+            queue,
+            places,
+            arrived: 0,
+            taken: History::new(),
+        })
+    }
+
+    /// Takes the oldest item.
+    pub fn take(&mut self) -> Option<T>
+        ensures some { IfSome result (λ item. (self.new.taken.items ≡ self.old.taken.items ++ item ∷ []) × (self.old.queue.items ≡ item ∷ self.new.queue.items)) }
+        ensures none { IfNone result ((self.old.queue.items ≡ []) × (self.new.queue.items ≡ []) × (self.new.taken.items ≡ self.old.taken.items)) }
+        ensures same { (self.new.arrived ≡ self.old.arrived) × (self.new.places ≡ self.old.places) }
+    {
+        let item = self.queue.pop_front()?;
+        self.taken = History::with(&self.taken, &item);
+        Some(item)
+    }
+
+    /// The items that wait to be taken.
+    pub fn len(&self) -> usize
+        ensures { result ≡ length self.now.queue.items }
+    {
+        self.queue.len()
+    }
+
+    /// Puts an item that was carried here behind the others.
+    pub fn accept(&mut self, item: T)
+        requires { self.old.arrived < self.old.places }
+        ensures queue { self.new.queue.items ≡ self.old.queue.items ++ item ∷ [] }
+        ensures arrived { self.new.arrived ≡ self.old.arrived + 1 }
+        ensures same { (self.new.taken.items ≡ self.old.taken.items) × (self.new.places ≡ self.old.places) }
+    {
+        self.queue.push_back_reserved(item);
+        self.arrived += 1;
+    }
+
+    /// Counts the items that wait here, for the other end to know.
+    pub fn count(&mut self) -> usize
+        ensures count { (result ≡ length self.old.queue.items) × (self.new.arrived ≡ length self.old.queue.items) }
+        ensures same { (self.new.queue.items ≡ self.old.queue.items) × (self.new.taken.items ≡ self.old.taken.items) × (self.new.places ≡ self.old.places) }
+    {
+        self.arrived = self.queue.len();
+        self.arrived
+    }
+}

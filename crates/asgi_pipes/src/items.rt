@@ -1,0 +1,33 @@
+//! What goes from an application to its connection.
+use asgi_types::Outgoing;
+
+/// How a task ended.
+#[derive(Clone, Copy, Debug, PartialEq, Eq)]
+pub enum EndKind {
+    /// It returned.
+    Returned,
+    /// It faulted.
+    Faulted,
+    /// It reached a limit of turns.
+    Idle,
+}
+
+/// What a connection takes: the events that the application said, and then its end.
+#[derive(Debug, Drop)]
+pub enum OutItem {
+    Event(Outgoing),
+    Ended(EndKind),
+}
+
+/// What became of an event that was said.
+#[derive(Debug, Drop)]
+pub enum Sent {
+    /// It went into the queue.
+    Done,
+    /// The response is complete: the event has no effect.
+    Ignored,
+    /// It would pass, but no place is free.
+    Full(Outgoing),
+    /// It is refused, by the number of a `Refusal`.
+    Refused(u8, Outgoing),
+}

@@ -1,0 +1,32 @@
+//! Laws of what is heard, over every list: contracts of functions with no code.
+ghost use Rattle.asgi_pipes.specs.Laws.{HeardIsOfferedInOrder, ClosedScopeHearsItsDisconnect, DisconnectIsHeardAgain, OnlyEqualDisconnectsFollow, HeardHasOneReading, PlainPairsKeepOrder};
+
+/// What is heard is a beginning of what was offered, and then equal disconnects.
+pub fn heard_is_offered_in_order()
+    ensures { HeardIsOfferedInOrder }
+{}
+
+/// Behind the application's own closing event its disconnect is heard at once.
+pub fn closed_scope_hears_its_disconnect()
+    ensures { ClosedScopeHearsItsDisconnect }
+{}
+
+/// A heard disconnect is heard again.
+pub fn disconnect_is_heard_again()
+    ensures { DisconnectIsHeardAgain }
+{}
+
+/// Behind a heard disconnect there are only equal ones.
+pub fn only_equal_disconnects_follow()
+    ensures { OnlyEqualDisconnectsFollow }
+{}
+
+/// What was heard can be read in one way only.
+pub fn heard_has_one_reading()
+    ensures { HeardHasOneReading }
+{}
+
+/// The ends of a plain pair keep the order of both directions at any moment.
+pub fn plain_pairs_keep_order()
+    ensures { PlainPairsKeepOrder }
+{}

@@ -1,0 +1,27 @@
+//! The two queues of an exchange: what a connection offers to an application, and what the
+//! application says back. Contracts speak of whole lists of events; an end keeps only what waits.
+#![tactic(auto)]
+
+mod disconnect;
+mod ends;
+mod history;
+mod inbox;
+mod items;
+pub mod laws;
+mod outbox;
+mod pipes;
+mod plain;
+mod plain_app;
+mod plain_conn;
+
+pub use ends::{AppEnd, ConnEnd};
+pub use items::{EndKind, OutItem, Sent};
+pub use pipes::{Met, Pipes};
+pub use plain::Plain;
+pub use plain_app::PlainApp;
+pub use plain_conn::PlainConn;
+
+#[cfg(test)]
+mod tests;
+#[cfg(test)]
+mod tests_memory;

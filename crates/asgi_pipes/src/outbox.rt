@@ -1,0 +1,82 @@
+//! What one end has put, as far as it waits to be carried to the other end.
+ghost use Rattle.std.specs.Prelude.{◌≡◌, ◌<◌, ◌≤◌, ◌+◌, [], ◌∷◌, ◌++◌, length, IfOk, IfSome, IfNone};
+ghost use Rattle.std.specs.VecDeque.{deque_capacity};
+
+use crate::history::History;
+use std::alloc::{AllocError, Global};
+use std::collections::VecDeque;
+
+#[derive(Drop)]
+pub struct Outbox<T> {
+    queue: VecDeque<T>,
+    /// All places of this direction, here and at the other end.
+    places: usize,
+    /// The places that items take at the other end, as far as this end was told.
+    away: usize,
+    /// What was carried on.
+    passed: History<T>,
+    ghost fits: { length queue.items + away ≤ places },
+    ghost reserved: { places ≤ deque_capacity queue },
+}
+
+impl<T: Drop> Outbox<T> {
+    ghost use Rattle.asgi_pipes.specs.Boxes.{put_by, free_in};
+
+    /// An empty one. All its places are reserved here, and no later call takes memory.
+    pub fn with_places(alloc: Global, places: usize) -> Result<Outbox<T>, AllocError>
+        ensures { IfOk result (λ made. (made.queue.items ≡ []) × (made.passed.items ≡ []) × (made.away ≡ 0) × (made.places ≡ places)) }
+    {
+        let queue = VecDeque::with_capacity(alloc, places)?;
+        Ok(Outbox {
+            queue,
+            places,
+            away: 0,
+            passed: History::new(),
+        })
+    }
+
+    /// The places that are free, as far as this end was told.
+    pub fn free(&self) -> usize
+        ensures { result ≡ free_in self.now }
+    {
+        self.places - (self.queue.len() + self.away)
+    }
+
+    /// Puts one item behind the others.
+    pub fn put(&mut self, item: T)
+        requires { 0 < free_in self.old }
+        ensures put { put_by self.new ≡ put_by self.old ++ item ∷ [] }
+        ensures free { free_in self.old ≡ free_in self.new + 1 }
+        ensures same { (self.new.passed.items ≡ self.old.passed.items) × (self.new.away ≡ self.old.away) × (self.new.places ≡ self.old.places) }
+    {
+        self.queue.push_back_reserved(item);
+    }
+
+    /// The items that wait to be carried.
+    pub fn len(&self) -> usize
+        ensures { result ≡ length self.now.queue.items }
+    {
+        self.queue.len()
+    }
+
+    /// Lets the oldest item go to the other end.
+    pub fn pass(&mut self) -> Option<T>
+        ensures some { IfSome result (λ item. (self.new.passed.items ≡ self.old.passed.items ++ item ∷ []) × (self.old.queue.items ≡ item ∷ self.new.queue.items) × (self.new.away ≡ self.old.away + 1)) }
+        ensures none { IfNone result ((self.old.queue.items ≡ []) × (self.new.queue.items ≡ []) × (self.new.passed.items ≡ self.old.passed.items) × (self.new.away ≡ self.old.away)) }
+        ensures places { self.new.places ≡ self.old.places }
+    {
+        let item = self.queue.pop_front()?;
+        self.passed = History::with(&self.passed, &item);
+        self.away += 1;
+        Some(item)
+    }
+
+    /// Tells how many items wait at the other end.
+    pub fn hear_of(&mut self, away: usize)
+        requires { length self.old.queue.items + away ≤ self.old.places }
+        ensures away { self.new.away ≡ away }
+        ensures same { (self.new.queue.items ≡ self.old.queue.items) × (self.new.passed.items ≡ self.old.passed.items) × (self.new.places ≡ self.old.places) }
+    {
+        self.away = away;
+    }
+}

@@ -1,0 +1,51 @@
+//! Pairs of ends.
+ghost use Rattle.std.specs.Prelude.{◌≡◌, false, [], None, IfSome, IsSome, IfOk};
+ghost use Rattle.asgi_types.specs.declared.scope.Kind.{Kind};
+ghost use Rattle.asgi_protocol.specs.Lawful.{IsLawful};
+ghost use Rattle.asgi_pipes.specs.Disconnects.{Hears};
+ghost use Rattle.asgi_pipes.specs.Items.{items_of};
+ghost use Rattle.asgi_pipes.specs.Queues.{KeepsOrder};
+
+use crate::ends::{AppEnd, ConnEnd};
+use asgi_types::{Facts, Kind};
+use std::alloc::{AllocError, Global};
+
+/// What was left in the two queues.
+#[derive(Clone, Copy, Debug, PartialEq, Eq)]
+pub struct Met {
+    /// What was offered and not heard.
+    pub left_in: usize,
+    /// What was put and not taken.
+    pub left_out: usize,
+}
+
+/// Makes pairs of ends, and brings them together again.
+pub trait Pipes {
+    type Conn: ConnEnd;
+
+    type App: AppEnd;
+
+    // They are the ends of one pair.
+    ghost is_pair: { Self.Conn → Self.App → Type 0 };
+
+    /// The two ends of an exchange in a scope of this kind, whose request has these facts, with
+    /// so many event places each way. Every place of every queue is reserved here.
+    fn make(&self, alloc: Global, kind: Kind, facts: Facts, ring: usize) -> Result<(Self::Conn, Self::App), AllocError>
+        ensures inward { IfOk result (λ ends. (Self.Conn.offered ends.0 ≡ []) × (Self.Conn.is_broken ends.0 ≡ false) × (Self.App.heard ends.1 ≡ []) × (Self.App.pulled ends.1 ≡ []) × (Self.App.seen ends.1 ≡ [])) }
+        ensures outward { IfOk result (λ ends. (Self.App.said ends.1 ≡ []) × (Self.App.ended ends.1 ≡ None) × (Self.Conn.got ends.0 ≡ []) × (Self.Conn.seen ends.0 ≡ [])) }
+        ensures places { IfOk result (λ ends. (Self.Conn.ring ends.0 ≡ ring) × (Self.Conn.room ends.0 ≡ ring) × (Self.App.ring ends.1 ≡ ring) × (Self.App.room ends.1 ≡ ring)) }
+        ensures scope { IfOk result (λ ends. (Self.App.kind ends.1 ≡ kind) × (Self.App.facts ends.1 ≡ facts) × (Self.App.has_moved ends.1 ≡ false)) }
+        ensures pair { IfOk result (λ ends. is_pair ends.0 ends.1) };
+
+    /// Brings the ends of one pair together, and counts what was left between them.
+    fn meet(conn: Self::Conn, app: Self::App) -> Option<Met>
+        requires { is_pair conn app }
+        ensures met { IsSome result }
+        ensures inward { IfSome result (λ met. KeepsOrder (Self.Conn.ring conn) (Self.Conn.offered conn) (Self.App.pulled app) met.left_in) }
+        ensures outward { IfSome result (λ met. KeepsOrder (Self.Conn.ring conn) (items_of (Self.App.said app) (Self.App.ended app)) (Self.Conn.got conn) met.left_out) }
+        ensures heard { Hears (Self.App.kind app) (Self.App.said app) (Self.App.pulled app) (Self.App.heard app) }
+        ensures lawful { IsLawful (Self.App.kind app) (Self.App.facts app) (Self.App.said app) };
+
+    // The calls of an end keep its tag, and so the pair.
+    ghost stays_pair: { (c d : Self.Conn) (a b : Self.App) → Self.Conn.tag d ≡ Self.Conn.tag c → Self.App.tag b ≡ Self.App.tag a → is_pair c a → is_pair d b };
+}

@@ -1,0 +1,108 @@
+//! Ends for one thread: what one end puts stays there until it is carried to the other.
+ghost use Rattle.std.specs.Prelude.{◌≡◌, ◌+◌, ◌-◌, ◌≤◌, ◌<◌, [], ◌++◌, length};
+ghost use Rattle.asgi_pipes.specs.Boxes.{put_by, free_in, AreJoined};
+ghost use Rattle.asgi_pipes.specs.Items.{items_of};
+ghost use Rattle.asgi_pipes.specs.PlainPairs.{IsPlainPair};
+
+use crate::history::History;
+use crate::inbox::Inbox;
+use crate::outbox::Outbox;
+use crate::pipes::{Met, Pipes};
+use crate::plain_app::PlainApp;
+use crate::plain_conn::PlainConn;
+use asgi_protocol::Judge;
+use asgi_types::{Facts, Kind};
+use std::alloc::{AllocError, Global};
+
+/// Ends with queues of their own.
+#[derive(Clone, Copy, Debug)]
+pub struct Plain;
+
+impl Plain {
+    /// Moves what was put at each end of one pair on to the other end's queue, and tells each end
+    /// its free places.
+    pub fn carry(conn: &mut PlainConn, app: &mut PlainApp)
+        requires { IsPlainPair conn.old app.old }
+        ensures pair { IsPlainPair conn.new app.new }
+        ensures inward { app.new.inn.taken.items ++ app.new.inn.queue.items ≡ put_by conn.new.out }
+        ensures outward { conn.new.inn.taken.items ++ conn.new.inn.queue.items ≡ items_of app.new.said.items app.new.ended }
+        ensures told { (free_in conn.new.out + length app.new.inn.queue.items ≡ conn.new.out.places) × (free_in app.new.out + length conn.new.inn.queue.items ≡ app.new.out.places) }
+        ensures conn { (put_by conn.new.out ≡ put_by conn.old.out) × (conn.new.inn.taken.items ≡ conn.old.inn.taken.items) × (conn.new.broken ≡ conn.old.broken) × (conn.new.out.places ≡ conn.old.out.places) }
+        ensures app { (app.new.heard.items ≡ app.old.heard.items) × (app.new.inn.taken.items ≡ app.old.inn.taken.items) × (app.new.said.items ≡ app.old.said.items) × (app.new.ended ≡ app.old.ended) × (app.new.moved ≡ app.old.moved) × (app.new.out.places ≡ app.old.out.places) }
+        ensures scope { (app.new.kind ≡ app.old.kind) × (app.new.facts ≡ app.old.facts) }
+    {
+        pass_all(&mut conn.out, &mut app.inn);
+        pass_all(&mut app.out, &mut conn.inn);
+    }
+}
+
+/// Moves all that one end put on to the other end's queue, and tells the one its free places.
+fn pass_all<T: Drop>(from: &mut Outbox<T>, to: &mut Inbox<T>)
+    requires { AreJoined from.old to.old }
+    ensures joined { AreJoined from.new to.new }
+    ensures all { from.new.queue.items ≡ [] }
+    ensures from { (put_by from.new ≡ put_by from.old) × (from.new.places ≡ from.old.places) }
+    ensures to { (to.new.taken.items ≡ to.old.taken.items) × (to.new.places ≡ to.old.places) }
+    ensures told { free_in from.new + length to.new.queue.items ≡ from.new.places }
+    ensures free { free_in from.old ≤ free_in from.new }
+{
+    for _passed in 0..from.len() {
+        if let Some(item) = from.pass() {
+            to.accept(item);
+        }
+    }
+    let waiting = to.count();
+    from.hear_of(waiting);
+}
+
+impl Pipes for Plain {
+    type Conn = PlainConn;
+
+    type App = PlainApp;
+
+    ghost use Rattle.std.specs.Prelude.{◌≡◌};
+    ghost use Rattle.std.proofs.Common.{sym, ◌∙◌};
+    ghost use Rattle.asgi_pipes.specs.PlainPairs.{IsPlainPair};
+
+    ghost is_pair = { IsPlainPair };
+
+    fn make(
+        &self,
+        alloc: Global,
+        kind: Kind,
+        facts: Facts,
+        ring: usize,
+    ) -> Result<(PlainConn, PlainApp), AllocError> {
+        // No memory holds so many places.
+        let Some(places) = ring.checked_add(1) else {
+            return Err(AllocError);
+        };
+        let conn = PlainConn {
+            out: Outbox::with_places(alloc, places)?,
+            inn: Inbox::with_places(alloc, places)?,
+            broken: false,
+        };
+        let app = PlainApp {
+            inn: Inbox::with_places(alloc, places)?,
+            out: Outbox::with_places(alloc, places)?,
+            kind,
+            facts,
+            judge: Judge::new(kind),
+            is_open: false,
+            disconnect: None,
+            ended: None,
+            moved: false,
+            heard: History::new(),
+            said: History::new(),
+        };
+        Ok((conn, app))
+    }
+
+    fn meet(conn: PlainConn, app: PlainApp) -> Option<Met> {
+        let left_in = app.inn.len() + conn.out.len();
+        let left_out = conn.inn.len() + app.out.len();
+        Some(Met { left_in, left_out })
+    }
+
+    ghost stays_pair = { λ c d a b same_c same_a pair. same_c ∙ (pair ∙ sym same_a) };
+}

@@ -1,0 +1,50 @@
+//! `make`, where one allocation is refused: it answers so, and can be called again. No other call of an end takes memory.
+//! `tests/memory` runs these with each allocation refused in turn; with ample memory none is refused.
+use crate::tests::{Answer, Step, facts, run_table};
+use crate::{AppEnd, ConnEnd, EndKind, Pipes, Plain, PlainApp, PlainConn};
+use asgi_types::{Incoming, Kind};
+use std::alloc::{AllocError, Global};
+use std::test::Fail;
+
+fn made(alloc: Global) -> Result<(PlainConn, PlainApp), AllocError> {
+    Plain.make(alloc, Kind::WebSocket, facts(alloc), 2)
+}
+
+#[test]
+fn memory_for_a_pair(rt: HostRuntime) -> Result<(), Fail> {
+    let alloc = rt.alloc();
+    let pair = match made(alloc) {
+        Ok(pair) => pair,
+        Err(_) => made(alloc)?,
+    };
+    let (mut conn, mut app) = pair;
+    assert!(rt; conn.offer(Incoming::WsConnect).is_ok());
+    assert!(rt; conn.offer(Incoming::WsConnect).is_ok());
+    assert!(rt; conn.offer(Incoming::WsConnect).is_err());
+    assert!(rt; conn.offer_disconnect(Incoming::HttpDisconnect));
+    assert!(rt; app.finish(EndKind::Returned));
+    assert!(rt; app.moved());
+    assert!(rt; conn.take().is_none());
+    Ok(())
+}
+
+const ROWS: &[(Step, Answer)] = &[
+    (Step::OfferConnect, Answer::Taken),
+    (Step::Receive, Answer::Event("connect", 0)),
+    (Step::Receive, Answer::Pending),
+    (Step::Accept, Answer::Done),
+    (Step::Take, Answer::Event("accept", 0)),
+    (Step::Close(1000), Answer::Done),
+    (Step::Receive, Answer::Event("disconnect", 1000)),
+];
+
+#[test]
+fn memory_for_a_table(rt: HostRuntime) -> Result<(), Fail> {
+    let ran = match run_table(&rt, Kind::WebSocket, 1, true, ROWS) {
+        Ok(ran) => ran,
+        Err(_) => run_table(&rt, Kind::WebSocket, 1, true, ROWS)?,
+    };
+    assert_eq!(rt; ran.other, None);
+    assert_eq!(rt; (ran.met.left_in, ran.met.left_out), (0, 1));
+    Ok(())
+}
