@@ -1,8 +1,8 @@
 //! What is answered to each form of a head, given whole.
 use crate::fakes::{Pieces, serve};
 use crate::texts::{
-    BAD_REQUEST, GET, HELLO, HELLO_AND_CLOSE, HELLO_HEAD, NOT_IMPLEMENTED, OLD_HELLO, OLD_HELLO_HEAD,
-    TOO_LARGE, TOO_LARGE_CONTENT,
+    BAD_REQUEST, GET, HELLO, HELLO_AND_CLOSE, HELLO_HEAD, NOT_IMPLEMENTED, OLD_HELLO,
+    OLD_HELLO_HEAD, TOO_LARGE, TOO_LARGE_CONTENT,
 };
 use asgi_conn::Outcome;
 use asgi_types::Limits;

@@ -1,8 +1,8 @@
 //! The small values, on examples: what they take, what they refuse, and what a copy has.
 
 use crate::{
-    Asgi, Chars, Facts, Framing, Headers, HttpVersion, Kind, Names, Octets, Reason, State, StateError,
-    StateValue, parse_length,
+    Asgi, Chars, Facts, Framing, Headers, HttpVersion, Kind, Names, Octets, Reason, State,
+    StateError, StateValue, parse_length,
 };
 use std::alloc::{AllocError, Global};
 use std::process::Abort;
@@ -261,7 +261,11 @@ fn a_field_lists_its_tokens(rt: HostRuntime) -> Result<(), Fail> {
         let mut headers = Headers::new(rt.alloc());
         headers.push(b"X-Other", b"close")?;
         let _refused = headers.push(b"Connection", value);
-        assert_eq!(rt; headers.has_token(b"connection", b"close"), *listed, "row {row}");
+        assert_eq!(rt;
+            headers.has_token(b"connection", b"close"),
+            *listed,
+            "row {row}"
+        );
     }
     Ok(())
 }
