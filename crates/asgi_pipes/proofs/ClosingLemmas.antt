@@ -60,7 +60,7 @@ row_last each last (x ∷ es) e h =
     let q = goes (each x) (last x) (begins_row each last (es ++ e ∷ [])) split in
     let inner = row_last each last es e q.0 in
     let outer : ((each x && is_row each last (es ++ e ∷ [])) || (last x && is_empty (es ++ e ∷ []))) ≡ is_row each last (es ++ e ∷ []) =
-    rw stuck (before (each x) (last x) (is_row each last (es ++ e ∷ [])) q.1) in
+      rw stuck (before (each x) (last x) (is_row each last (es ++ e ∷ [])) q.1) in
     record { ends = outer ∙ inner.ends; sort = inner.sort }
 
 pub accepted-append : (xs : List Outgoing) (e : Outgoing) → is_accepted (xs ++ e ∷ []) ≡ (is_accepted xs || is_accept e)
@@ -187,11 +187,11 @@ pub answer_behind : (kind : Kind) (said : List Outgoing) (heard : List Incoming)
     → answer_at_once kind (said ++ e ∷ []) heard ≡ closing_of (is_accepted said) e
 answer_behind Http said heard e p =
     rw p.none (closes_where (is_closed Http (said ++ e ∷ [])) HttpDisconnect (closing_of (is_accepted said) e) e
-    (http_closes said e p.of p.begins) (http_closing (is_accepted said) e p.of) (not_closing (is_accepted said) e))
+      (http_closes said e p.of p.begins) (http_closing (is_accepted said) e p.of) (not_closing (is_accepted said) e))
 answer_behind WebSocket said heard e p =
     rw (p.none, accepted-append said e, last-append said e)
     (closes_where (is_closed WebSocket (said ++ e ∷ [])) (WsDisconnect (code_of (is_accepted said || is_accept e) (Some e)) []) (closing_of (is_accepted said) e) e
-    (session_word_closes said e p.begins) (code_closing (is_accepted said) e p.of) (not_closing (is_accepted said) e))
+      (session_word_closes said e p.begins) (code_closing (is_accepted said) e p.of) (not_closing (is_accepted said) e))
 answer_behind Lifespan said heard e p = lifespan_closing (is_accepted said) e p.of
 
 -- the items with one more

@@ -66,7 +66,7 @@ module _ (kind : Kind) (said : List Outgoing) (pulled heard : List Incoming) whe
         let same : h.disconnect ≡ d = some_inj _ _ (sym (ap first_disconnect h.in_order ∙ first_until h.events h.times h.disconnect h.no_other pos is) ∙ first) in
         let events : before heard ≡ h.events = ap before h.in_order ∙ before_until h.events h.times h.disconnect h.no_other pos is in
         let long : length heard ≡ length h.events + h.times =
-        ap length h.in_order ∙ length-append h.events (replicate h.times h.disconnect) ∙ ap (λ (n : ℕ). length h.events + n) (length-replicate h.times h.disconnect) in
+          ap length h.in_order ∙ length-append h.events (replicate h.times h.disconnect) ∙ ap (λ (n : ℕ). length h.events + n) (length-replicate h.times h.disconnect) in
         let count : h.times ≡ length heard - length h.events = omega (arith, long) in
         let more : 0 < length heard - length h.events = omega (arith, long, pos) in
         let all : Had h.events h.disconnect = record {

@@ -22,14 +22,9 @@ in_order_until : (kind : Kind) (said : List Outgoing) (ring count : ℕ) (offere
 in_order_until kind said ring count offered pulled heard order h = elim h.cause [
   | inl none ↦ (h.events, order.0, h.times, h.disconnect, order.1 ∙ ap (λ (l : List Incoming). l ++ order.0) none.1, h.in_order)
   | inr (pos, inl own) ↦ (h.events, order.0, h.times, h.disconnect, order.1 ∙ ap (λ (l : List Incoming). l ++ order.0) own.2, h.in_order)
-  | inr (pos, inr came) ↦ (
-    h.events,
-    h.disconnect ∷ order.0,
-    h.times,
-    h.disconnect,
-    order.1 ∙ ap (λ (l : List Incoming). l ++ order.0) came.2 ∙ append_assoc h.events (h.disconnect ∷ []) order.0,
-    h.in_order,
-  )
+  | inr (pos, inr came) ↦
+      (h.events, h.disconnect ∷ order.0, h.times, h.disconnect,
+        order.1 ∙ ap (λ (l : List Incoming). l ++ order.0) came.2 ∙ append_assoc h.events (h.disconnect ∷ []) order.0, h.in_order)
 ]
 
 pub in_order : HeardIsOfferedInOrder
@@ -54,15 +49,15 @@ again_until : (kind : Kind) (said : List Outgoing) (pulled heard : List Incoming
 again_until kind said pulled heard d h first = elim (decide (is_closed kind said)) [
   | inr open_is ↦ rw open_is first
   | inl closed ↦ elim h.cause [
-    | inl none ↦
-        let clash : None ≡ Some d = sym (ap first_disconnect (none_heard h.events heard h.times h.disconnect h.in_order none.0) ∙ h.no_other) ∙ first in
-        absurd (cc)
-    | inr (pos, inl own) ↦
-        let is : disconnect_in h.disconnect ≡ Some h.disconnect = rw own.1 (own_is kind said) in
-        let found : first_disconnect heard ≡ Some h.disconnect = ap first_disconnect h.in_order ∙ first_until h.events h.times h.disconnect h.no_other pos is in
-        rw closed (ap (λ (x : Incoming). Some x) (sym own.1) ∙ sym found ∙ first)
-    | inr (pos, inr came) ↦ let clash : true ≡ false = sym closed ∙ came.0 in absurd (cc)
-  ]
+      | inl none ↦
+          let clash : None ≡ Some d = sym (ap first_disconnect (none_heard h.events heard h.times h.disconnect h.in_order none.0) ∙ h.no_other) ∙ first in
+          absurd (cc)
+      | inr (pos, inl own) ↦
+          let is : disconnect_in h.disconnect ≡ Some h.disconnect = rw own.1 (own_is kind said) in
+          let found : first_disconnect heard ≡ Some h.disconnect = ap first_disconnect h.in_order ∙ first_until h.events h.times h.disconnect h.no_other pos is in
+          rw closed (ap (λ (x : Incoming). Some x) (sym own.1) ∙ sym found ∙ first)
+      | inr (pos, inr came) ↦ let clash : true ≡ false = sym closed ∙ came.0 in absurd (cc)
+    ]
 ]
 
 pub heard_again : DisconnectIsHeardAgain

@@ -18,7 +18,7 @@ abbrev pub HeardIsOfferedInOrder : Type 0
 HeardIsOfferedInOrder = (kind : Kind) (said : List Outgoing) (ring count : ℕ) (offered pulled heard : List Incoming)
     → KeepsOrder ring offered pulled count → Hears kind said pulled heard
     → (events : List Incoming) × (unheard : List Incoming) × (times : ℕ) × (disconnect : Incoming)
-    × (offered ≡ events ++ unheard) × (heard ≡ events ++ replicate times disconnect)
+        × (offered ≡ events ++ unheard) × (heard ≡ events ++ replicate times disconnect)
 
 -- behind the own closing event nothing but its disconnect is heard
 abbrev pub ClosedScopeHearsItsDisconnect : Type 0
