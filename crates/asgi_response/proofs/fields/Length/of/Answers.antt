@@ -1,5 +1,5 @@
 use Rattle.std.proofs.Common.{sym, ◌∙◌}
-use Rattle.asgi_response.proofs.FieldLemmas.{value_taken, value_passed, same_absent, same_faulty, same_given}
+use Rattle.asgi_response.proofs.FieldLemmas.{value_taken, value_passed}
 use Rattle.asgi_response.proofs.fields.Length.of.Goals as goal
 
 pub loop-name-preserved-then-eq : goal.loop-name-preserved-then-eq
