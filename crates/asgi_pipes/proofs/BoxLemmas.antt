@@ -1,5 +1,5 @@
 -- The two halves of a queue, brought together.
-use Rattle.std.proofs.Common.{◌≡◌, ℕ, ◌+◌, ◌-◌, ◌≤◌, List, ◌++◌, length, refl, sym, ap, ◌∙◌, append_assoc, length-append, arith}
+use Rattle.std.proofs.Common.{◌+◌, ◌-◌, List, ◌++◌, length, ap, ◌∙◌, append_assoc, length-append, arith}
 use Rattle.asgi_pipes.specs.declared.outbox.Outbox.{Outbox}
 use Rattle.asgi_pipes.specs.declared.inbox.Inbox.{Inbox}
 use Rattle.asgi_pipes.specs.Boxes.{AreJoined, put_by}

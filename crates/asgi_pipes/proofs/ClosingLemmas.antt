@@ -1,5 +1,5 @@
 -- An event that passes closes its scope or not, by its sort alone.
-use Rattle.std.proofs.Common.{◌≡◌, ◌≢◌, ℕ, Bool, true, false, ◌⊎◌, inl, inr, List, [], ◌∷◌, ◌++◌, Option, Some, None, refl, sym, ap, ◌∙◌, map, append-nil}
+use Rattle.std.proofs.Common.{◌≡◌, Bool, true, false, List, [], ◌∷◌, ◌++◌, Option, Some, None, refl, sym, ap, ◌∙◌, map, append-nil}
 use Rattle.std.specs.Prelude.{not, ◌&&◌, ◌||◌, if◌then◌else◌, is_some}
 use Rattle.std.proofs.lemmas.List.{map-append}
 use Rattle.asgi_types.specs.declared.scope.Kind.{Kind}
@@ -12,9 +12,8 @@ use Rattle.asgi_types.specs.declared.outgoing.Outgoing.TheVariants.{ResponseStar
 use Rattle.asgi_protocol.specs.declared.verdict.Verdict.TheVariants.{Pass}
 use Rattle.asgi_protocol.specs.Shapes.{is_of, is_closed, is_word, begins_word, is_row, begins_row, is_empty, is_part, is_last_part, is_message, is_close, is_denial_part, is_last_denial_part}
 use Rattle.asgi_protocol.specs.Verdicts.{verdict_on, lines_on}
-use Rattle.asgi_protocol.proofs.RowLemmas.{both, either}
 use Rattle.asgi_protocol.proofs.PassLemmas.{no_line}
-use Rattle.asgi_pipes.specs.Disconnects.{first_disconnect, has_disconnect, is_accept, is_accepted, last_of, code_of, own_disconnect, answer_at_once}
+use Rattle.asgi_pipes.specs.Disconnects.{first_disconnect, has_disconnect, is_accept, is_accepted, last_of, code_of, answer_at_once}
 use Rattle.asgi_pipes.specs.Closings.{closing_of}
 use Rattle.asgi_pipes.specs.Items.{items_of}
 use Rattle.asgi_pipes.specs.declared.items.EndKind.{EndKind}
@@ -60,7 +59,7 @@ row_last each last (x ∷ es) e h =
     let q = goes (each x) (last x) (begins_row each last (es ++ e ∷ [])) split in
     let inner = row_last each last es e q.0 in
     let outer : ((each x && is_row each last (es ++ e ∷ [])) || (last x && is_empty (es ++ e ∷ []))) ≡ is_row each last (es ++ e ∷ []) =
-      rw stuck (before (each x) (last x) (is_row each last (es ++ e ∷ [])) q.1) in
+    rw stuck (before (each x) (last x) (is_row each last (es ++ e ∷ [])) q.1) in
     record { ends = outer ∙ inner.ends; sort = inner.sort }
 
 pub accepted-append : (xs : List Outgoing) (e : Outgoing) → is_accepted (xs ++ e ∷ []) ≡ (is_accepted xs || is_accept e)
@@ -187,11 +186,11 @@ pub answer_behind : (kind : Kind) (said : List Outgoing) (heard : List Incoming)
     → answer_at_once kind (said ++ e ∷ []) heard ≡ closing_of (is_accepted said) e
 answer_behind Http said heard e p =
     rw p.none (closes_where (is_closed Http (said ++ e ∷ [])) HttpDisconnect (closing_of (is_accepted said) e) e
-      (http_closes said e p.of p.begins) (http_closing (is_accepted said) e p.of) (not_closing (is_accepted said) e))
+    (http_closes said e p.of p.begins) (http_closing (is_accepted said) e p.of) (not_closing (is_accepted said) e))
 answer_behind WebSocket said heard e p =
     rw (p.none, accepted-append said e, last-append said e)
     (closes_where (is_closed WebSocket (said ++ e ∷ [])) (WsDisconnect (code_of (is_accepted said || is_accept e) (Some e)) []) (closing_of (is_accepted said) e) e
-      (session_word_closes said e p.begins) (code_closing (is_accepted said) e p.of) (not_closing (is_accepted said) e))
+    (session_word_closes said e p.begins) (code_closing (is_accepted said) e p.of) (not_closing (is_accepted said) e))
 answer_behind Lifespan said heard e p = lifespan_closing (is_accepted said) e p.of
 
 -- the items with one more

@@ -1,5 +1,5 @@
 -- One more event behind those that were heard.
-use Rattle.std.proofs.Common.{◌≡◌, ◌≢◌, ℕ, ◌+◌, ◌<◌, Bool, true, false, ◌⊎◌, inl, inr, List, [], ◌∷◌, ◌++◌, Option, Some, None, replicate, suc, zero, refl, sym, ap, ◌∙◌, subst, append_assoc, append-nil, arith}
+use Rattle.std.proofs.Common.{◌≡◌, ℕ, ◌+◌, ◌<◌, Bool, true, false, ◌⊎◌, inl, inr, List, [], ◌∷◌, ◌++◌, Option, Some, None, replicate, suc, zero, refl, sym, ap, ◌∙◌, append_assoc, append-nil, arith}
 use Rattle.std.specs.Prelude.{◌||◌, if◌then◌else◌, is_some}
 use Rattle.std.proofs.lemmas.List.{replicate_more}
 use Rattle.asgi_types.specs.declared.scope.Kind.{Kind}
@@ -117,13 +117,13 @@ again_until kind said pulled heard e is h = elim h.cause [
       let all : heard ≡ h.events = none_heard h.events heard h.times h.disconnect h.in_order none.0 in
       elim (decide (is_closed kind said)) [
         | inl closed ↦ record {
-            events = h.events;
-            times = 1;
-            disconnect = e;
-            in_order = ap (λ (l : List Incoming). l ++ e ∷ []) all;
-            no_other = h.no_other;
-            cause = inr (omega arith, inl (closed, sym (some_inj _ _ (answer_closed kind said heard (Some e) closed is)), none.1));
-          }
+          events = h.events;
+          times = 1;
+          disconnect = e;
+          in_order = ap (λ (l : List Incoming). l ++ e ∷ []) all;
+          no_other = h.no_other;
+          cause = inr (omega arith, inl (closed, sym (some_inj _ _ (answer_closed kind said heard (Some e) closed is)), none.1));
+        }
         | inr open_is ↦
             let clash : None ≡ Some e = sym (ap first_disconnect all ∙ h.no_other) ∙ answer_open kind said heard (Some e) open_is is in
             absurd (cc)
@@ -187,21 +187,21 @@ next_until kind said pulled heard e open_is none h =
     let all : heard ≡ h.events = none_heard h.events heard h.times h.disconnect h.in_order came.0 in
     elim (sort e) [
       | inl other ↦ record {
-          events = h.events ++ e ∷ [];
-          times = 0;
-          disconnect = e;
-          in_order = ap (λ (l : List Incoming). l ++ e ∷ []) all ∙ sym (append-nil (h.events ++ e ∷ []));
-          no_other = first-append h.events e ∙ ap (λ (o : Option Incoming). or_else o (disconnect_in e)) h.no_other ∙ other;
-          cause = inl (refl, ap (λ (l : List Incoming). l ++ e ∷ []) came.1);
-        }
+        events = h.events ++ e ∷ [];
+        times = 0;
+        disconnect = e;
+        in_order = ap (λ (l : List Incoming). l ++ e ∷ []) all ∙ sym (append-nil (h.events ++ e ∷ []));
+        no_other = first-append h.events e ∙ ap (λ (o : Option Incoming). or_else o (disconnect_in e)) h.no_other ∙ other;
+        cause = inl (refl, ap (λ (l : List Incoming). l ++ e ∷ []) came.1);
+      }
       | inr is ↦ record {
-          events = h.events;
-          times = 1;
-          disconnect = e;
-          in_order = ap (λ (l : List Incoming). l ++ e ∷ []) all;
-          no_other = h.no_other;
-          cause = inr (omega arith, inr (open_is, is, ap (λ (l : List Incoming). l ++ e ∷ []) came.1));
-        }
+        events = h.events;
+        times = 1;
+        disconnect = e;
+        in_order = ap (λ (l : List Incoming). l ++ e ∷ []) all;
+        no_other = h.no_other;
+        cause = inr (omega arith, inr (open_is, is, ap (λ (l : List Incoming). l ++ e ∷ []) came.1));
+      }
     ]
   where
     sort : (e : Incoming) → (disconnect_in e ≡ None) ⊎ (disconnect_in e ≡ Some e)

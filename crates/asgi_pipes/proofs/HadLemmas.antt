@@ -1,5 +1,5 @@
 -- What was heard has one reading, so that it is had where it merely exists.
-use Rattle.std.proofs.Common.{◌≡◌, ℕ, ◌+◌, ◌-◌, ◌<◌, Bool, true, false, ◌⊎◌, inl, inr, List, [], ◌∷◌, ◌++◌, Option, Some, None, length, replicate, suc, zero, refl, sym, ap, ◌∙◌, append-nil, arith, length-append}
+use Rattle.std.proofs.Common.{◌≡◌, ℕ, ◌+◌, ◌-◌, ◌<◌, true, false, ◌⊎◌, inl, inr, List, [], ◌∷◌, ◌++◌, Option, Some, None, length, replicate, suc, zero, refl, sym, ap, ◌∙◌, append-nil, arith, length-append}
 use Rattle.std.proofs.Math.Logic.{∥∥₁_elim, ∥∥₁_map}
 use Rattle.std.proofs.lemmas.List.{length-replicate}
 use denote.Struct.Props.{props}
@@ -66,7 +66,7 @@ module _ (kind : Kind) (said : List Outgoing) (pulled heard : List Incoming) whe
         let same : h.disconnect ≡ d = some_inj _ _ (sym (ap first_disconnect h.in_order ∙ first_until h.events h.times h.disconnect h.no_other pos is) ∙ first) in
         let events : before heard ≡ h.events = ap before h.in_order ∙ before_until h.events h.times h.disconnect h.no_other pos is in
         let long : length heard ≡ length h.events + h.times =
-          ap length h.in_order ∙ length-append h.events (replicate h.times h.disconnect) ∙ ap (λ (n : ℕ). length h.events + n) (length-replicate h.times h.disconnect) in
+        ap length h.in_order ∙ length-append h.events (replicate h.times h.disconnect) ∙ ap (λ (n : ℕ). length h.events + n) (length-replicate h.times h.disconnect) in
         let count : h.times ≡ length heard - length h.events = omega (arith, long) in
         let more : 0 < length heard - length h.events = omega (arith, long, pos) in
         let all : Had h.events h.disconnect = record {

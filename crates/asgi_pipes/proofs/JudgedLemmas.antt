@@ -1,5 +1,5 @@
 -- What a judge stands for behind an event that was heard, or said.
-use Rattle.std.proofs.Common.{◌≡◌, ◌≢◌, ℕ, Bool, List, [], ◌∷◌, ◌++◌, refl, ◌∙◌}
+use Rattle.std.proofs.Common.{◌≡◌, ◌≢◌, ℕ, Bool, List, [], ◌∷◌, ◌++◌, refl}
 use Rattle.std.specs.Prelude.{◌||◌}
 use Rattle.std.proofs.Math.Logic.{∥∥₁_map}
 use Rattle.asgi_types.specs.declared.scope.Kind.{Kind}

@@ -1,5 +1,5 @@
 -- What was heard is a beginning of what was offered, and then equal disconnects.
-use Rattle.std.proofs.Common.{◌≡◌, ◌≢◌, ℕ, ◌+◌, ◌<◌, Bool, true, false, ◌⊎◌, inl, inr, List, [], ◌∷◌, ◌++◌, Option, Some, None, replicate, suc, zero, refl, sym, ap, ◌∙◌, append_assoc, append-nil, arith}
+use Rattle.std.proofs.Common.{◌≡◌, ℕ, true, false, inl, inr, List, [], ◌∷◌, ◌++◌, Some, None, replicate, suc, zero, refl, sym, ap, ◌∙◌, append_assoc, append-nil}
 use Rattle.std.specs.Prelude.{if◌then◌else◌}
 use Rattle.asgi_types.specs.declared.scope.Kind.{Kind}
 use Rattle.asgi_types.specs.declared.scope.Kind.TheVariants.{Http, WebSocket, Lifespan}
@@ -7,10 +7,10 @@ use Rattle.asgi_types.specs.declared.incoming.Incoming.{Incoming}
 use Rattle.asgi_types.specs.declared.incoming.Incoming.TheVariants.{HttpDisconnect}
 use Rattle.asgi_types.specs.declared.outgoing.Outgoing.{Outgoing}
 use Rattle.asgi_protocol.specs.Shapes.{is_closed}
-use Rattle.asgi_pipes.specs.Disconnects.{disconnect_in, first_disconnect, own_disconnect, answer_at_once, HearsUntil, Hears}
+use Rattle.asgi_pipes.specs.Disconnects.{disconnect_in, first_disconnect, own_disconnect, HearsUntil}
 use Rattle.asgi_pipes.specs.Queues.{KeepsOrder}
 use Rattle.asgi_pipes.specs.Laws.{HeardIsOfferedInOrder, ClosedScopeHearsItsDisconnect, DisconnectIsHeardAgain, OnlyEqualDisconnectsFollow}
-use Rattle.asgi_pipes.proofs.DisconnectLemmas.{first_until, or_else_first_none, or_else_second_none, decide, some_inj, none_heard}
+use Rattle.asgi_pipes.proofs.DisconnectLemmas.{first_until, or_else_first_none, or_else_second_none, decide, none_heard}
 
 abbrev InOrder : List Incoming → List Incoming → Type 0
 InOrder offered heard =
@@ -22,9 +22,14 @@ in_order_until : (kind : Kind) (said : List Outgoing) (ring count : ℕ) (offere
 in_order_until kind said ring count offered pulled heard order h = elim h.cause [
   | inl none ↦ (h.events, order.0, h.times, h.disconnect, order.1 ∙ ap (λ (l : List Incoming). l ++ order.0) none.1, h.in_order)
   | inr (pos, inl own) ↦ (h.events, order.0, h.times, h.disconnect, order.1 ∙ ap (λ (l : List Incoming). l ++ order.0) own.2, h.in_order)
-  | inr (pos, inr came) ↦
-      (h.events, h.disconnect ∷ order.0, h.times, h.disconnect,
-        order.1 ∙ ap (λ (l : List Incoming). l ++ order.0) came.2 ∙ append_assoc h.events (h.disconnect ∷ []) order.0, h.in_order)
+  | inr (pos, inr came) ↦ (
+    h.events,
+    h.disconnect ∷ order.0,
+    h.times,
+    h.disconnect,
+    order.1 ∙ ap (λ (l : List Incoming). l ++ order.0) came.2 ∙ append_assoc h.events (h.disconnect ∷ []) order.0,
+    h.in_order,
+  )
 ]
 
 pub in_order : HeardIsOfferedInOrder
@@ -49,15 +54,15 @@ again_until : (kind : Kind) (said : List Outgoing) (pulled heard : List Incoming
 again_until kind said pulled heard d h first = elim (decide (is_closed kind said)) [
   | inr open_is ↦ rw open_is first
   | inl closed ↦ elim h.cause [
-      | inl none ↦
-          let clash : None ≡ Some d = sym (ap first_disconnect (none_heard h.events heard h.times h.disconnect h.in_order none.0) ∙ h.no_other) ∙ first in
-          absurd (cc)
-      | inr (pos, inl own) ↦
-          let is : disconnect_in h.disconnect ≡ Some h.disconnect = rw own.1 (own_is kind said) in
-          let found : first_disconnect heard ≡ Some h.disconnect = ap first_disconnect h.in_order ∙ first_until h.events h.times h.disconnect h.no_other pos is in
-          rw closed (ap (λ (x : Incoming). Some x) (sym own.1) ∙ sym found ∙ first)
-      | inr (pos, inr came) ↦ let clash : true ≡ false = sym closed ∙ came.0 in absurd (cc)
-    ]
+    | inl none ↦
+        let clash : None ≡ Some d = sym (ap first_disconnect (none_heard h.events heard h.times h.disconnect h.in_order none.0) ∙ h.no_other) ∙ first in
+        absurd (cc)
+    | inr (pos, inl own) ↦
+        let is : disconnect_in h.disconnect ≡ Some h.disconnect = rw own.1 (own_is kind said) in
+        let found : first_disconnect heard ≡ Some h.disconnect = ap first_disconnect h.in_order ∙ first_until h.events h.times h.disconnect h.no_other pos is in
+        rw closed (ap (λ (x : Incoming). Some x) (sym own.1) ∙ sym found ∙ first)
+    | inr (pos, inr came) ↦ let clash : true ≡ false = sym closed ∙ came.0 in absurd (cc)
+  ]
 ]
 
 pub heard_again : DisconnectIsHeardAgain

@@ -1,5 +1,5 @@
 -- A plain pair keeps its order in both directions, at any moment.
-use Rattle.std.proofs.Common.{◌≡◌, ◌+◌, ◌-◌, ap, sym, ◌∙◌, length}
+use Rattle.std.proofs.Common.{◌+◌, ◌-◌, ap, sym, ◌∙◌, length}
 use Rattle.asgi_pipes.specs.declared.plain_conn.PlainConn.{PlainConn}
 use Rattle.asgi_pipes.specs.declared.plain_app.PlainApp.{PlainApp}
 use Rattle.asgi_pipes.specs.Boxes.{put_by}

@@ -1,8 +1,7 @@
 -- Nothing was said or heard yet.
-use Rattle.std.proofs.Common.{◌≡◌, List, [], Option, None, replicate, inl, refl}
+use Rattle.std.proofs.Common.{◌≡◌, [], None, inl, refl}
 use Rattle.asgi_types.specs.declared.scope.Kind.{Kind}
 use Rattle.asgi_types.specs.declared.scope.Kind.TheVariants.{Http, WebSocket, Lifespan}
-use Rattle.asgi_types.specs.declared.incoming.Incoming.{Incoming}
 use Rattle.asgi_types.specs.declared.incoming.Incoming.TheVariants.{HttpDisconnect}
 use Rattle.asgi_pipes.specs.Disconnects.{answer_at_once, HearsUntil, Hears}
 

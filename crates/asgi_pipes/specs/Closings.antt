@@ -1,5 +1,5 @@
 -- The events that close a scope, each with the disconnect that is heard behind it.
-use Rattle.std.specs.Prelude.{Bool, true, false, [], Option, Some, None}
+use Rattle.std.specs.Prelude.{Bool, false, [], Option, Some, None}
 use Rattle.asgi_types.specs.declared.incoming.Incoming.{Incoming}
 use Rattle.asgi_types.specs.declared.incoming.Incoming.TheVariants.{HttpDisconnect, WsDisconnect}
 use Rattle.asgi_types.specs.declared.outgoing.Outgoing.{Outgoing}

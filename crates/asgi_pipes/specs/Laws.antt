@@ -1,7 +1,7 @@
 -- Laws of what is heard, over every list.
-use Rattle.std.specs.Prelude.{◌≡◌, ◌≢◌, ℕ, ◌-◌, ◌⊎◌, Bool, true, List, ◌∷◌, ◌++◌, Option, Some, replicate}
+use Rattle.std.specs.Prelude.{◌≡◌, ◌≢◌, ℕ, ◌-◌, true, List, ◌∷◌, ◌++◌, Some, replicate}
 use Rattle.asgi_types.specs.declared.scope.Kind.{Kind}
-use Rattle.asgi_types.specs.declared.scope.Kind.TheVariants.{Http, WebSocket, Lifespan}
+use Rattle.asgi_types.specs.declared.scope.Kind.TheVariants.{Lifespan}
 use Rattle.asgi_types.specs.declared.incoming.Incoming.{Incoming}
 use Rattle.asgi_types.specs.declared.outgoing.Outgoing.{Outgoing}
 use Rattle.asgi_protocol.specs.Shapes.{is_closed}
@@ -18,7 +18,7 @@ abbrev pub HeardIsOfferedInOrder : Type 0
 HeardIsOfferedInOrder = (kind : Kind) (said : List Outgoing) (ring count : ℕ) (offered pulled heard : List Incoming)
     → KeepsOrder ring offered pulled count → Hears kind said pulled heard
     → (events : List Incoming) × (unheard : List Incoming) × (times : ℕ) × (disconnect : Incoming)
-        × (offered ≡ events ++ unheard) × (heard ≡ events ++ replicate times disconnect)
+    × (offered ≡ events ++ unheard) × (heard ≡ events ++ replicate times disconnect)
 
 -- behind the own closing event nothing but its disconnect is heard
 abbrev pub ClosedScopeHearsItsDisconnect : Type 0

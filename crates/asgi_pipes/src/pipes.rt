@@ -30,7 +30,13 @@ pub trait Pipes {
 
     /// The two ends of an exchange in a scope of this kind, whose request has these facts, with
     /// so many event places each way. Every place of every queue is reserved here.
-    fn make(&self, alloc: Global, kind: Kind, facts: Facts, ring: usize) -> Result<(Self::Conn, Self::App), AllocError>
+    fn make(
+        &self,
+        alloc: Global,
+        kind: Kind,
+        facts: Facts,
+        ring: usize,
+    ) -> Result<(Self::Conn, Self::App), AllocError>
         ensures inward { IfOk result (λ ends. (Self.Conn.offered ends.0 ≡ []) × (Self.Conn.is_broken ends.0 ≡ false) × (Self.App.heard ends.1 ≡ []) × (Self.App.pulled ends.1 ≡ []) × (Self.App.seen ends.1 ≡ [])) }
         ensures outward { IfOk result (λ ends. (Self.App.said ends.1 ≡ []) × (Self.App.ended ends.1 ≡ None) × (Self.Conn.got ends.0 ≡ []) × (Self.Conn.seen ends.0 ≡ [])) }
         ensures places { IfOk result (λ ends. (Self.Conn.ring ends.0 ≡ ring) × (Self.Conn.room ends.0 ≡ ring) × (Self.App.ring ends.1 ≡ ring) × (Self.App.room ends.1 ≡ ring)) }

@@ -1,34 +1,33 @@
 -- `new` makes a value of no bytes, whose ghost field is the empty list.
-use mathlib.Core.Path.{refl, sym, subst}
-use mathlib.Core.List.{List, [], ◌∷◌, ◌++◌}
+use mathlib.Core.Path.{refl}
+use mathlib.Core.List.{[], ◌∷◌}
 use seplogic.Ra.Ura.{Ura}
 use mir.Syntax.{Fn, a_type}
-use mir.Val.{Val, vptr, vstruct, vcons, vnil}
+use mir.Val.{Val, vstruct, vcons, vnil}
 use mir.MapTy.{inst_fn}
-use base.Logic.{SProp, ent, emp, via, fst∗, snd∗}
+use base.Logic.{SProp, ent}
 use base.Fml.{Fml}
 use prog.Memory.{Memory}
 use prog.Routine.{Routine}
 use prog.Wp.{Calls, Loops, WpFn, Tables}
-use types.Logic.{Logic, sem}
+use types.Logic.{Logic}
 use contract.Monad.{Fun}
 use contract.Running.{tables, tables_of}
 use sound.WpLaws.{WpFn-mono}
-use types.Kit.{‵, raw, ◌⊛◌, ◌$◌, ◌∵◌, !, qed, move, keep, split, join, fjoin, use0, suffices, done}
+use types.Kit.{‵, raw, ◌⊛◌, ◌$◌, ◌∵◌, !, qed, move, keep, split, use0, suffices, done}
 use types.Run.{no_more, and_then, returns, enter}
 use types.Part.{agg}
 use types.ByLocal.{alloc_all, pass_all, free_all, look_at, get, sets}
 use denote.RattleType.{RattleType, owns}
-use denote.Param.{param, layouts}
+use denote.Param.{layouts}
 use denote.Param.Laws.{Laws}
 use denote.Shadow.{makes_shadow}
-use denote.Steps.{nothing}
-use denote.Signature.{types_at, type_at, plain}
+use denote.Signature.{types_at, type_at}
 use denote.Triple.Clauses.{Clauses, closing}
 use denote.Triple.Entry.{on_entry, alive}
 use denote.Triple.Spec.{Meets, triple_of}
 use denote.Triple.Table.{entered}
-use denote.Triple.Walked.{says, Stays, walk_of, Walks, ends_at, walked, walk_Meets}
+use denote.Triple.Walked.{says, Stays, walk_of, ends_at, walk_Meets}
 use Rattle.asgi_pipes.specs.contracts.history.History.new.{ended, clauses}
 use Rattle.asgi_pipes.specs.contracts.history.History.new.Key.{name as #self}
 use Rattle.asgi_pipes.proofs.history.History.new.Statement as stated

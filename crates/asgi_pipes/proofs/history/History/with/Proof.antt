@@ -5,7 +5,7 @@ use seplogic.Ra.Ura.{Ura}
 use mir.Syntax.{Fn, a_type}
 use mir.Val.{Val, vptr, vstruct, vcons, vnil}
 use mir.MapTy.{inst_fn}
-use base.Logic.{SProp, ent, emp, via, fst∗, snd∗}
+use base.Logic.{SProp, ent, via, fst∗, snd∗}
 use base.Fml.{Fml}
 use prog.Memory.{Memory}
 use prog.Routine.{Routine}
@@ -17,11 +17,9 @@ use sound.WpLaws.{WpFn-mono}
 use types.Kit.{‵, raw, ◌⊛◌, ◌$◌, ◌∵◌, !, qed, move, keep, split, join, fjoin, use0, suffices, done}
 use types.Run.{no_more, and_then, returns, enter}
 use types.Part.{agg}
-use denote.Memory.{mem}
 use denote.Exit.{yes}
 use denote.Laws.{Are, Ises, owns_show, showss}
 use denote.Builtin.{RefOf}
-use Prim.Native.Nat.{ℕ}
 use types.ByLocal.{alloc_all, pass_all, free_all, look_at, get, sets}
 use denote.RattleType.{RattleType, owns}
 use denote.Param.{param, layouts}

@@ -1,4 +1,3 @@
-use Rattle.std.proofs.Common.{◌≡◌, ap, sym, ◌∙◌}
 use Rattle.std.proofs.Math.Logic.{∥∥₁_map}
 use Rattle.asgi_pipes.proofs.HadLemmas.{hears_was, lawful_was}
 use Rattle.asgi_pipes.proofs.PairLemmas.{left_inward, left_outward}

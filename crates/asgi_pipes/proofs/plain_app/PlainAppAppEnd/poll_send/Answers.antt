@@ -1,4 +1,4 @@
-use Rattle.std.proofs.Common.{◌≡◌, [], ◌∷◌, ◌++◌, sym, ap, ◌∙◌}
+use Rattle.std.proofs.Common.{[], ◌∷◌, ◌++◌, sym, ap, ◌∙◌}
 use Rattle.std.specs.Prelude.{◌||◌}
 use Rattle.std.proofs.Math.Logic.{∥∥₁_map}
 use Rattle.asgi_pipes.specs.Closings.{closing_of}
@@ -34,7 +34,7 @@ invariant_of-self-2-clause-at_once c =
     let pass = sym (c.verdict_of-verdict.ensures s.kind s.said.items (has_disconnect s.heard.items) s.judged) ∙ passes _ c.in_default.not-Ignored c.in_default-verdict.not-Refused in
     rw c.with.ensures
     (c.behind-self.ensures ∙ ap (λ b. closing_of b c.args.event) s.opened
-      ∙ sym (answer_behind s.kind s.said.items s.heard.items c.args.event (passed s.kind s.facts s.said.items s.heard.items c.args.event pass)))
+    ∙ sym (answer_behind s.kind s.said.items s.heard.items c.args.event (passed s.kind s.facts s.said.items s.heard.items c.args.event pass)))
 
 pub invariant_of-self-2-clause-hears_is : goal.invariant_of-self-2-clause-hears_is
 invariant_of-self-2-clause-hears_is c =
