@@ -65,7 +65,7 @@ held() {
 
 echo "| input | bytes | whole | by 4,096 | byte by byte |"
 echo "|---|---|---|---|---|"
-for shape in gets browser length chunks16 chunks64k; do
+for shape in ${SHAPES-gets browser length chunks16 chunks64k}; do
   for size in $sizes; do
     input "$shape" "$size" >"$folder/input"
     read_alone=$(count 0)
@@ -79,7 +79,7 @@ done
 echo
 echo "| input | bytes | whole | by 4,096 | byte by byte |"
 echo "|---|---|---|---|---|"
-for shape in ${HELD:-gets length chunks16}; do
+for shape in ${HELD-gets length chunks16}; do
   for size in $sizes; do
     input "$shape" "$size" >"$folder/input"
     read_alone=$(held 0)
