@@ -1,5 +1,5 @@
 //! Requests out of bytes that come in any pieces.
-ghost use Rattle.std.specs.Prelude.{◌≡◌, ◌≢◌, ◌++◌, ◌∷◌, [], ℕ, List, OnOk, OnErr, IfOk, Option};
+ghost use Rattle.std.specs.Prelude.{◌≡◌, ◌≢◌, ◌++◌, ◌∷◌, [], ℕ, List, OnOk, OnErr, IfOk, IsOk, Option};
 ghost use Rattle.asgi_request.specs.declared.next.Next.{Next};
 ghost use Rattle.asgi_request.specs.declared.place.Place.TheVariants.{Start};
 ghost use Rattle.asgi_request.specs.Reading.{StandsFor, EndsWhole, AllGiven, WholeGiven, IsRefused, Keeps, GoesOn, Answers, RefusesAgain, IsResult, Steps};
@@ -78,6 +78,7 @@ impl RequestReader {
         ensures given { IfOk result (λ next. next ≢ Next.Need → ((status : ℕ) → ¬ (IsRefused self.old status)) → GoesOn self.old self.new next) }
         ensures refused { IfOk result (λ next. (status : ℕ) → next ≡ Next.Bad status → IsRefused self.new status) }
         ensures again { IfOk result (λ next. (status : ℕ) → IsRefused self.old status → (next ≡ Next.Bad status) × (self.new ≡ self.old)) }
+        ensures sure { (status : ℕ) → IsRefused self.old status → IsOk result }
         ensures limits { self.new.limits ≡ self.old.limits }
         ensures err { OnErr result (Keeps self.old self.new) }
     {
@@ -91,6 +92,7 @@ impl RequestReader {
     fn next_item(&mut self) -> Result<Option<Next>, AllocError>
         ensures answers { IfOk result (λ answer. ((status : ℕ) → ¬ (IsRefused self.old status)) → Answers self.old self.new answer) }
         ensures again { IfOk result (λ answer. RefusesAgain self.old self.new answer) }
+        ensures sure { (status : ℕ) → IsRefused self.old status → IsOk result }
         ensures is_result { IfOk result (λ answer. IsResult self.new answer) }
         ensures limits { self.new.limits ≡ self.old.limits }
         ensures err { OnErr result (Keeps self.old self.new) }

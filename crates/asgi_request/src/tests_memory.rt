@@ -2,21 +2,19 @@
 //! be made again. `tests/memory` runs these with each allocation refused in turn; with ample memory none is refused.
 use crate::tests::{held, limits, new_reader, put, take};
 use crate::{Next, RequestReader};
-use asgi_types::{Incoming, Scope};
-use std::alloc::{AllocError, Global};
+use asgi_types::{HttpScope, Incoming, Scope};
+use std::alloc::AllocError;
 use std::test::Fail;
 
-/// A reader that gives blocks of 4.
-fn reader(alloc: Global) -> RequestReader {
-    new_reader(alloc, limits(16_384, 64, 1_048_576, 4))
-}
-
-/// Feeds the piece, and again where memory was refused.
-fn feed(reader: &mut RequestReader, piece: &[u8]) -> Result<(), AllocError> {
-    match put(reader, piece) {
-        Ok(()) => Ok(()),
-        Err(_) => put(reader, piece),
+/// Feeds the piece, and again where memory was refused: then nothing was taken.
+fn feed(reader: &mut RequestReader, piece: &[u8]) -> Result<bool, AllocError> {
+    let before = held(reader).len();
+    if put(reader, piece).is_ok() {
+        return Ok(true);
     }
+    let kept = held(reader).len() == before;
+    put(reader, piece)?;
+    Ok(kept)
 }
 
 /// The next result, asked for again where memory was refused.
@@ -27,94 +25,95 @@ fn next(reader: &mut RequestReader) -> Result<Next, AllocError> {
     }
 }
 
+fn gives_head(reader: &mut RequestReader) -> Result<bool, AllocError> {
+    let next = next(reader)?;
+    Ok(is_head(&next))
+}
+
+/// Whether it is the head of a request for `/a%20b?c` with two fields.
+fn is_head(next: &Next) -> bool {
+    let Next::Head(Scope::Http(http), _) = next else {
+        return false;
+    };
+    is_scope(http)
+}
+
+fn is_scope(http: &HttpScope) -> bool {
+    http.method.as_str() == "POST"
+        && http.scheme.as_str() == "http"
+        && http.path.as_str() == "/a b"
+        && http.raw_path.bytes() == b"/a%20b".as_slice()
+        && http.query_string.bytes() == b"c".as_slice()
+        && http.headers.len() == 2
+}
+
 /// Whether the next result is this event.
 fn gives_event(reader: &mut RequestReader, block: &[u8], more: bool) -> Result<bool, AllocError> {
-    let Next::Event(Incoming::HttpRequest { body, more_body }) = next(reader)? else {
-        return Ok(false);
+    let next = next(reader)?;
+    Ok(is_event(&next, block, more))
+}
+
+fn is_event(next: &Next, block: &[u8], more: bool) -> bool {
+    let Next::Event(Incoming::HttpRequest { body, more_body }) = next else {
+        return false;
     };
-    Ok(body.bytes() == block && more_body == more)
+    body.bytes() == block && *more_body == more
+}
+
+fn gives_end(reader: &mut RequestReader) -> Result<bool, AllocError> {
+    let next = next(reader)?;
+    Ok(matches!(&next, Next::Whole))
+}
+
+fn gives_refusal(reader: &mut RequestReader) -> Result<bool, AllocError> {
+    let next = next(reader)?;
+    Ok(matches!(&next, Next::Bad(400)))
 }
 
 #[test]
 fn memory_for_what_is_fed(rt: HostRuntime) -> Result<(), Fail> {
-    let mut reader = reader(rt.alloc());
-    for piece in [
-        [b'\n'; 10].as_slice(),
-        [b'\r'; 100].as_slice(),
-        [b'\n'; 1_000].as_slice(),
-    ] {
-        let before = held(&reader).len();
-        if put(&mut reader, piece).is_err() {
-            assert_eq!(rt; held(&reader).len(), before);
-            put(&mut reader, piece)?;
-        }
-        assert_eq!(rt; held(&reader).len(), before.saturating_add(piece.len()));
-    }
-    Ok(())
-}
-
-#[test]
-fn memory_for_a_head(rt: HostRuntime) -> Result<(), Fail> {
-    let mut reader = reader(rt.alloc());
-    feed(
-        &mut reader,
-        b"get /a%20b?c HTTP/1.1\r\nHost: a\r\nX: y\r\n\r\n",
-    )?;
-    let Next::Head(scope, facts) = next(&mut reader)? else {
-        return Err(Fail::from("no head"));
-    };
-    let Scope::Http(http) = scope else {
-        return Err(Fail::from("not the scope of a request"));
-    };
-    assert_eq!(rt; http.method.as_str(), "GET");
-    assert_eq!(rt; http.scheme.as_str(), "http");
-    assert_eq!(rt; http.path.as_str(), "/a b");
-    assert_eq!(rt; http.raw_path.bytes(), b"/a%20b".as_slice());
-    assert_eq!(rt; http.query_string.bytes(), b"c".as_slice());
-    assert_eq!(rt; http.headers.len(), 2);
-    assert!(rt; !facts.close);
+    let mut reader = new_reader(rt.alloc(), limits(16_384, 64, 1_048_576, 4));
+    assert!(rt; feed(&mut reader, &[b'\n'; 10])?);
+    assert!(rt; feed(&mut reader, &[b'\r'; 100])?);
+    assert!(rt; feed(&mut reader, &[b'\n'; 1_000])?);
+    assert_eq!(rt; held(&reader).len(), 1_110);
     Ok(())
 }
 
 #[test]
 fn memory_for_a_body(rt: HostRuntime) -> Result<(), Fail> {
-    let mut reader = reader(rt.alloc());
-    feed(
-        &mut reader,
-        b"POST / HTTP/1.1\r\nHost: a\r\nContent-Length: 5\r\n\r\nabcdeGET",
-    )?;
-    assert!(rt; matches!(next(&mut reader)?, Next::Head(_, _)));
+    let mut reader = new_reader(rt.alloc(), limits(16_384, 64, 1_048_576, 4));
+    let bytes = b"post /a%20b?c HTTP/1.1\r\nHost: a\r\nContent-Length: 5\r\n\r\nabcdeGET";
+    assert!(rt; feed(&mut reader, bytes)?);
+    assert!(rt; gives_head(&mut reader)?);
     assert!(rt; gives_event(&mut reader, b"abcd", true)?);
     assert!(rt; gives_event(&mut reader, b"e", false)?);
-    assert!(rt; matches!(next(&mut reader)?, Next::Whole));
+    assert!(rt; gives_end(&mut reader)?);
     assert_eq!(rt; held(&reader), b"GET".as_slice());
     Ok(())
 }
 
 #[test]
 fn memory_for_a_chunked_body(rt: HostRuntime) -> Result<(), Fail> {
-    let mut reader = reader(rt.alloc());
-    feed(
-        &mut reader,
-        b"POST / HTTP/1.1\r\nHost: a\r\nTransfer-Encoding: chunked\r\n\r\n",
-    )?;
-    assert!(rt; matches!(next(&mut reader)?, Next::Head(_, _)));
-    feed(&mut reader, b"5\r\nabcde\r\n0\r\n\r\nGET")?;
+    let mut reader = new_reader(rt.alloc(), limits(16_384, 64, 1_048_576, 4));
+    let head = b"post /a%20b?c HTTP/1.1\r\nHost: a\r\nTransfer-Encoding: chunked\r\n\r\n";
+    assert!(rt; feed(&mut reader, head)?);
+    assert!(rt; gives_head(&mut reader)?);
+    assert!(rt; feed(&mut reader, b"5\r\nabcde\r\n0\r\n\r\nGET")?);
     assert!(rt; gives_event(&mut reader, b"abcd", true)?);
     assert!(rt; gives_event(&mut reader, b"e", true)?);
     assert!(rt; gives_event(&mut reader, b"", false)?);
-    assert!(rt; matches!(next(&mut reader)?, Next::Whole));
+    assert!(rt; gives_end(&mut reader)?);
     assert_eq!(rt; held(&reader), b"GET".as_slice());
     Ok(())
 }
 
 #[test]
 fn memory_for_a_refusal(rt: HostRuntime) -> Result<(), Fail> {
-    let mut reader = reader(rt.alloc());
-    feed(&mut reader, b"GET / HTTP/1.1\r\n\r\n")?;
-    for _ in 0..2 {
-        assert!(rt; matches!(next(&mut reader)?, Next::Bad(400)));
-        feed(&mut reader, b"GET / HTTP/1.1\r\nHost: a\r\n\r\n")?;
-    }
+    let mut reader = new_reader(rt.alloc(), limits(16_384, 64, 1_048_576, 4));
+    assert!(rt; feed(&mut reader, b"GET / HTTP/1.1\r\n\r\n")?);
+    assert!(rt; gives_refusal(&mut reader)?);
+    assert!(rt; feed(&mut reader, b"GET / HTTP/1.1\r\nHost: a\r\n\r\n")?);
+    assert!(rt; gives_refusal(&mut reader)?);
     Ok(())
 }

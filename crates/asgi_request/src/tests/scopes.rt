@@ -1,22 +1,45 @@
 //! The fields of a scope, what is held behind a request, and the framing of a record.
 use super::{held, new_reader, put, take};
-use crate::{HeadFraming, HeadRecord, Next, framing_of};
+use crate::{HeadFraming, HeadRecord, Next, RequestReader, framing_of};
 use asgi_types::{Chars, Facts, Headers, HttpScope, HttpVersion, Limits, Octets, Scope};
 use std::alloc::{AllocError, Global};
 use std::process::Abort;
 use std::test::Fail;
 
-/// The scope and the facts of the first request.
-fn first_head(alloc: Global, bytes: &[u8]) -> Result<(HttpScope, Facts), Fail> {
+/// What is given first of the bytes.
+fn first(alloc: Global, bytes: &[u8]) -> Result<Next, AllocError> {
     let mut reader = new_reader(alloc, Limits::usual());
     put(&mut reader, bytes)?;
-    let Next::Head(scope, facts) = take(&mut reader)? else {
-        return Err(Fail::from("no head"));
-    };
-    let Scope::Http(http) = scope else {
-        return Err(Fail::from("not the scope of a request"));
-    };
-    Ok((http, facts))
+    take(&mut reader)
+}
+
+/// The scope of a request's head.
+fn scope_of(next: &Next) -> Option<&HttpScope> {
+    match next {
+        Next::Head(Scope::Http(http), _) => Some(http),
+        _ => None,
+    }
+}
+
+/// The facts of a request's head.
+fn facts_of(next: &Next) -> Option<&Facts> {
+    match next {
+        Next::Head(_, facts) => Some(facts),
+        _ => None,
+    }
+}
+
+/// A head with this target.
+fn head_for(alloc: Global, target: &[u8]) -> Result<Vec<u8>, AllocError> {
+    let mut bytes = Vec::from_slice(alloc, b"OPTIONS ")?;
+    bytes.extend_from_slice(target)?;
+    bytes.extend_from_slice(b" HTTP/1.1\r\nHost: a\r\n\r\n")?;
+    Ok(bytes)
+}
+
+fn scope_for(alloc: Global, target: &[u8]) -> Result<Next, AllocError> {
+    let bytes = head_for(alloc, target)?;
+    first(alloc, &bytes)
 }
 
 /// A target has this path, this raw path and this query.
@@ -28,14 +51,18 @@ fn shows(
     raw_path: &[u8],
     query: &[u8],
 ) -> Result<(), Fail> {
-    let mut bytes = Vec::from_slice(alloc, b"OPTIONS ")?;
-    bytes.extend_from_slice(target)?;
-    bytes.extend_from_slice(b" HTTP/1.1\r\nHost: a\r\n\r\n")?;
-    let (scope, _) = first_head(alloc, &bytes)?;
-    assert_eq!(rt; scope.path.as_str().as_bytes(), path);
-    assert_eq!(rt; scope.raw_path.bytes(), raw_path);
-    assert_eq!(rt; scope.query_string.bytes(), query);
+    let next = scope_for(alloc, target)?;
+    assert!(rt; has_parts(&next, path, raw_path, query));
     Ok(())
+}
+
+fn has_parts(next: &Next, path: &[u8], raw_path: &[u8], query: &[u8]) -> bool {
+    let Some(scope) = scope_of(next) else {
+        return false;
+    };
+    scope.path.as_str().as_bytes() == path
+        && scope.raw_path.bytes() == raw_path
+        && scope.query_string.bytes() == query
 }
 
 #[test]
@@ -91,31 +118,45 @@ const FIELDS: &[u8] = b"get /x HTTP/1.0\r\nX-A: \t q  q \r\nhost:a\r\nX-A:\r\n\r
 
 #[test]
 fn a_scope_has_the_fields_of_its_head(rt: HostRuntime) -> Result<(), Fail> {
-    let (scope, facts) = first_head(rt.alloc(), FIELDS)?;
-    assert_eq!(rt; scope.method.as_str(), "GET");
-    assert_eq!(rt; scope.scheme.as_str(), "http");
-    assert_eq!(rt; scope.root_path.as_str(), "");
-    assert_eq!(rt; scope.asgi.spec_version(), "2.4");
-    assert!(rt; scope.client.is_none());
-    assert!(rt; scope.server.is_none());
-    assert!(rt; !scope.extensions.websocket_http_response);
-    assert!(rt; facts.close);
-    assert!(rt; !facts.expect);
-    assert!(rt; !facts.head_only);
+    let next = first(rt.alloc(), FIELDS)?;
+    assert!(rt; scope_of(&next).is_some_and(is_scope_of_fields));
+    assert!(rt; facts_of(&next).is_some_and(closes_alone));
     Ok(())
+}
+
+fn is_scope_of_fields(scope: &HttpScope) -> bool {
+    scope.method.as_str() == "GET"
+        && scope.scheme.as_str() == "http"
+        && scope.root_path.as_str() == ""
+        && scope.asgi.spec_version() == "2.4"
+        && scope.client.is_none()
+        && scope.server.is_none()
+        && !scope.extensions.websocket_http_response
+}
+
+fn closes_alone(facts: &Facts) -> bool {
+    facts.close && !facts.expect && !facts.head_only
 }
 
 #[test]
 fn header_names_are_in_lower_case(rt: HostRuntime) -> Result<(), Fail> {
-    let (scope, _) = first_head(rt.alloc(), FIELDS)?;
-    assert_eq!(rt; scope.headers.len(), 3);
-    let fields: [(&[u8], &[u8]); 3] = [(b"x-a", b"q  q"), (b"host", b"a"), (b"x-a", b"")];
-    for (index, (name, value)) in fields.iter().enumerate() {
-        let (kept_name, kept_value) = scope.headers.at(index).ok_or("no field")?;
-        assert_eq!(rt; kept_name, *name);
-        assert_eq!(rt; kept_value, *value);
-    }
+    let next = first(rt.alloc(), FIELDS)?;
+    assert!(rt; scope_of(&next).is_some_and(has_fields));
     Ok(())
+}
+
+fn has_fields(scope: &HttpScope) -> bool {
+    scope.headers.len() == 3
+        && has_field(&scope.headers, 0, b"x-a", b"q  q")
+        && has_field(&scope.headers, 1, b"host", b"a")
+        && has_field(&scope.headers, 2, b"x-a", b"")
+}
+
+fn has_field(headers: &Headers, index: usize, name: &[u8], value: &[u8]) -> bool {
+    let Some((kept_name, kept_value)) = headers.at(index) else {
+        return false;
+    };
+    kept_name == name && kept_value == value
 }
 
 #[test]
@@ -124,15 +165,20 @@ fn what_stands_behind_a_whole_request_is_held(rt: HostRuntime) -> Result<(), Fai
     put(&mut reader, b"\r\n")?;
     assert_eq!(rt; held(&reader), b"\r\n".as_slice());
     put(&mut reader, b"GET / HTTP/1.1\r\nHost: a\r\n\r\n\r\nGE")?;
-    for _ in 0..3 {
-        take(&mut reader)?;
-    }
+    assert!(rt; !waits(&mut reader)?);
+    assert!(rt; !waits(&mut reader)?);
+    assert!(rt; !waits(&mut reader)?);
     assert_eq!(rt; held(&reader), b"\r\nGE".as_slice());
     put(&mut reader, b"T")?;
-    let next = take(&mut reader)?;
-    assert!(rt; matches!(next, Next::Need));
+    assert!(rt; waits(&mut reader)?);
     assert_eq!(rt; held(&reader), b"\r\nGET".as_slice());
     Ok(())
+}
+
+/// Whether the reader needs more bytes; it gives its next result away.
+fn waits(reader: &mut RequestReader) -> Result<bool, AllocError> {
+    let next = take(reader)?;
+    Ok(matches!(&next, Next::Need))
 }
 
 /// A record with this method and this field.

@@ -17,3 +17,6 @@ returns-in-None-clause-again c status refused =
 pub returns-in-Some-clause-again : goal.returns-in-Some-clause-again
 returns-in-Some-clause-again c status refused =
     some_again c.args.self.now c.next_item.new.self c.in_ok-next_item.field-0 _ c.in-Some.is c.in_ok-next_item.ensures.again status refused
+
+pub returns-in_err-next_item-clause-sure : goal.returns-in_err-next_item-clause-sure
+returns-in_err-next_item-clause-sure c status refused = let e = c.in_err-next_item.ensures.sure status refused in absurd cc

@@ -24,6 +24,7 @@ returns-in-Some-turn c =
     record {
       answers = λ _ bytes given stands. stepped_stands c.loop-turn.self c.step.new.self (Some c.in-Some-turn.item) stepped bytes given (c.loop-turn.invariant.keeps bytes given stands);
       again = λ status e. absurd (c.in_default.not-Stopped e.0 (ap (λ (r : Reading). r.place) c.self.view_is ∙ e.1));
+      sure = λ status e. absurd (c.in_default.not-Stopped e.0 (ap (λ (r : Reading). r.place) c.self.view_is ∙ e.1));
       is_result = stepped_result c.loop-turn.self c.step.new.self (Some c.in-Some-turn.item) stepped;
       limits = stepped.limits ∙ c.loop-turn.invariant.limits;
       err = tt;
