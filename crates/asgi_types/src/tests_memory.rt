@@ -3,7 +3,7 @@
 use crate::tests_scopes::{http_scope, lifespan_scope, ws_scope};
 use crate::tests_values::facts;
 use crate::{
-    Chars, Framing, HeaderError, Headers, Names, Octets, Scope, State, StateError, StateValue,
+    Chars, Framing, HeaderError, Headers, Names, Octets, Peer, Scope, State, StateError, StateValue,
 };
 use std::alloc::{AllocError, Global};
 use std::test::Fail;
@@ -117,5 +117,29 @@ fn memory_for_scopes_and_facts(rt: HostRuntime) -> Result<(), Fail> {
     let known = either(facts(alloc, framing), facts(alloc, framing))?;
     let copied = either(known.copy(alloc), known.copy(alloc))?;
     assert_eq!(rt; copied.framing, framing);
+    Ok(())
+}
+
+#[test]
+fn memory_for_peers_and_values(rt: HostRuntime) -> Result<(), Fail> {
+    let alloc = rt.alloc();
+    let peer = Peer {
+        host: text(alloc, "::1")?,
+        port: 8_080,
+    };
+    let copied = either(peer.copy(alloc), peer.copy(alloc))?;
+    assert_eq!(rt; copied.host.as_str(), "::1");
+    assert_eq!(rt; copied.port, 8_080);
+    let named = StateValue::Text(text(alloc, "pool")?);
+    match either(named.copy(alloc), named.copy(alloc))? {
+        StateValue::Text(kept) => assert_eq!(rt; kept.as_str(), "pool"),
+        _ => return Err(Fail::from("the value is a text")),
+    }
+    let bytes = either(b"ab".to_vec(alloc), b"ab".to_vec(alloc))?;
+    let held = StateValue::Bytes(Octets::new(bytes));
+    match either(held.copy(alloc), held.copy(alloc))? {
+        StateValue::Bytes(kept) => assert_eq!(rt; kept.bytes(), b"ab".as_slice()),
+        _ => return Err(Fail::from("the value is bytes")),
+    }
     Ok(())
 }
