@@ -83,9 +83,9 @@ fn a_connection_that_stops_is_said_so(rt: HostRuntime) -> Result<(), Fail> {
     let words = words(rt.alloc(), &["once", "hello"])?;
     let mut errors = Vec::new(rt.alloc());
     let mut input = REQUEST;
-    let mut output = Stuck {
+    let mut output = Counted::new(Stuck {
         kind: ErrorKind::BrokenPipe,
-    };
+    });
     let status = command(&rt, &words, &mut input, &mut output, &mut errors);
     assert_eq!(rt; status, 5);
     assert_eq!(rt; errors.as_slice(), b"stopped: write-failed 0\n".as_slice());
