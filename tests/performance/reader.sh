@@ -1,6 +1,8 @@
 #!/usr/bin/env bash
 # Instructions and memory of the request reader, on inputs of 10 KiB, 1 MiB and 10 MiB of five shapes, fed whole, in
-# pieces of 4,096 bytes and byte by byte, less those of reading the input alone.
+# pieces of 4,096 bytes and byte by byte, less those of reading the input alone. The shapes of large blocks are also
+# given in blocks of 256 bytes, of which 10 KiB hold many. The C library is asked to copy by the same instructions
+# whatever the size, so that a byte copied counts the same.
 # Usage: tests/performance/reader.sh [PROGRAM]. It needs valgrind. With no PROGRAM it proves and builds one, which
 # stands below, in a folder of its own over copies of the crates.
 set -eu
@@ -9,12 +11,14 @@ cd "$(dirname "$0")/../.."
 folder=$(mktemp -d)
 trap 'rm -rf "$folder"' EXIT
 sizes=${SIZES:-10240 1048576 10485760}
+library=glibc.cpu.x86_rep_movsb_threshold=1000000000000:glibc.cpu.x86_rep_stosb_threshold=1000000000000
+export GLIBC_TUNABLES=$library:glibc.cpu.x86_non_temporal_threshold=1000000000
 
 # A program that feeds a reader with standard input.
 program_text() {
   cat <<'P'
 //! Feeds standard input to a request reader in pieces of so many bytes, asks it for all that it gives after each, and
-//! prints how much it gave. With a size of 0 it only reads its input.
+//! prints how much it gave. With a size of 0 it only reads its input. A second word is the bytes of a block.
 #![tactic(auto)]
 
 use asgi_request::{Next, RequestReader};
@@ -47,10 +51,10 @@ fn run<H: Env + AllocGlobal, R: Read, W: Write>(
     input: &mut R,
     output: &mut W,
 ) -> io::Result<()> {
-    let size = piece_size(rt)?;
+    let size = word(rt, 1)?;
     let mut bytes = Vec::new(rt.alloc());
     input.read_to_end(&mut bytes)?;
-    let mut reader = RequestReader::new(rt.alloc(), Limits::usual());
+    let mut reader = RequestReader::new(rt.alloc(), limits(word(rt, 2)?));
     let given = feed_all(&mut reader, &bytes, size)?;
     writeln!(
         output,
@@ -59,12 +63,18 @@ fn run<H: Env + AllocGlobal, R: Read, W: Write>(
     )
 }
 
-/// The first word behind the program's name, or 0.
-fn piece_size<H: Env + AllocGlobal>(rt: &H) -> io::Result<usize> {
-    for word in env::args(rt)?.skip(1) {
+/// A word of the command line as a number, or 0.
+fn word<H: Env + AllocGlobal>(rt: &H, index: usize) -> io::Result<usize> {
+    for word in env::args(rt)?.skip(index) {
         return Ok(word.parse().unwrap_or(0));
     }
     Ok(0)
+}
+
+/// The usual limits, with blocks of so many bytes where that is a size.
+fn limits(block: usize) -> Limits {
+    Limits::new(16_384, 64, 1_048_576, block, 16, 30_000, 1_099_511_627_776)
+        .unwrap_or(Limits::usual())
 }
 
 /// Feeds the bytes in pieces of so many, and counts all that the reader gives.
@@ -153,9 +163,9 @@ sys.stdout.buffer.write((request * (size // len(request) + 1))[:size])
 P
 }
 
-# Instructions of a run that feeds the input in pieces of so many bytes, as callgrind counts them.
+# Instructions of a run that feeds the input in pieces of so many bytes, in blocks of so many, as callgrind counts them.
 count() {
-  valgrind --tool=callgrind --callgrind-out-file="$folder/out" "$program" "$1" 2>&1 >/dev/null <"$folder/input" |
+  valgrind --tool=callgrind --callgrind-out-file="$folder/out" "$program" "$1" "$2" 2>&1 >/dev/null <"$folder/input" |
     sed -n 's/.*Collected : //p'
 }
 
@@ -167,13 +177,15 @@ held() {
 
 echo "| input | bytes | whole | by 4,096 | byte by byte |"
 echo "|---|---|---|---|---|"
-for shape in ${SHAPES-gets browser length chunks16 chunks64k}; do
+for shape in ${SHAPES-gets browser length chunks16 chunks64k length:256 chunks64k:256}; do
+  block=${shape#*:}
+  [ "$block" != "$shape" ] || block=16384
   for size in $sizes; do
-    input "$shape" "$size" >"$folder/input"
-    read_alone=$(count 0)
+    input "${shape%:*}" "$size" >"$folder/input"
+    read_alone=$(count 0 "$block")
     row="| $shape | $size |"
     for piece in "$size" 4096 1; do
-      row="$row $(python3 -c "print(f'{($(count "$piece") - $read_alone) / $size:.1f}')") |"
+      row="$row $(python3 -c "print(f'{($(count "$piece" "$block") - $read_alone) / $size:.2f}')") |"
     done
     echo "$row"
   done
@@ -181,7 +193,7 @@ done
 echo
 echo "| input | bytes | whole | by 4,096 | byte by byte |"
 echo "|---|---|---|---|---|"
-for shape in ${HELD-gets length chunks16}; do
+for shape in ${HELD-gets browser length chunks16 chunks64k}; do
   for size in $sizes; do
     input "$shape" "$size" >"$folder/input"
     read_alone=$(held 0)
