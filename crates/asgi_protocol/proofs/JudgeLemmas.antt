@@ -14,7 +14,8 @@ use Rattle.asgi_protocol.specs.declared.judge.Stage.TheVariants.{Fresh, Begun, A
 use Rattle.asgi_protocol.specs.declared.judge.Judge.{Judge}
 use Rattle.asgi_protocol.specs.Rules.{promised_length, body_bytes, is_above, is_below, has_too_much_body, has_too_little_body}
 use Rattle.asgi_protocol.specs.Shapes.{is_of, is_word, is_closed}
-use Rattle.asgi_protocol.specs.Stages.{StandsFor, CountsBytes, lines_at, bytes_left, is_rest, begins_rest, has_place, is_ended, takes_too_much, leaves_too_much}
+use Rattle.asgi_protocol.specs.Stages.{StandsFor, CountsBytes, is_rest, begins_rest}
+use Rattle.asgi_protocol.specs.Steps.{lines_at, bytes_left, has_place, is_ended, takes_too_much, leaves_too_much}
 use Rattle.asgi_protocol.specs.Verdicts.{Lines, lines_on, first_line, verdict_on}
 use Rattle.asgi_protocol.proofs.WordLemmas.{word_from_beginning}
 

@@ -16,7 +16,8 @@ use Rattle.asgi_protocol.specs.declared.judge.Judge.{Judge}
 use Rattle.asgi_protocol.specs.Lawful.{IsLawful}
 use Rattle.asgi_protocol.specs.Rules.{MeetsRules, promised_length, body_bytes, is_above}
 use Rattle.asgi_protocol.specs.Shapes.{is_of, is_word, begins_word, goes_on}
-use Rattle.asgi_protocol.specs.Stages.{StandsFor, CountsBytes, lines_at, stage_behind, is_rest, begins_rest, has_place, takes_too_much}
+use Rattle.asgi_protocol.specs.Stages.{StandsFor, CountsBytes, is_rest, begins_rest}
+use Rattle.asgi_protocol.specs.Steps.{lines_at, stage_behind, has_place, takes_too_much}
 use Rattle.asgi_protocol.specs.Verdicts.{Lines, lines_on, first_line, verdict_on, verdict_on_closed}
 use Rattle.asgi_protocol.proofs.WordLemmas.{word_from_beginning}
 use Rattle.asgi_protocol.proofs.JudgeLemmas.{verdict_agrees}

@@ -5,7 +5,7 @@ use Rattle.asgi_types.specs.Lengths.{length_of_text}
 use Rattle.asgi_protocol.specs.declared.content_length.ContentLength.{ContentLength}
 use Rattle.asgi_protocol.specs.declared.content_length.ContentLength.TheVariants.{Absent, Given, Faulty}
 
--- the values of the fields with this name
+-- the values of the fields with this name; names are in lower case, as `Headers` keeps them
 abbrev pub values_of : List HeaderField → List ℕ → List (List ℕ)
 values_of [] name = []
 values_of (field ∷ fields) name = if bytes_eq field.name name then field.value ∷ values_of fields name else values_of fields name

@@ -5,4 +5,5 @@ pub mod Numbers
 pub mod Rules
 pub mod Shapes
 pub mod Stages
+pub mod Steps
 pub mod Verdicts

@@ -13,12 +13,12 @@ use Rattle.asgi_protocol.specs.ContentLengths.{content_length}
 abbrev pub is_status : ℕ → Bool
 is_status status = nat_le 200 status && nat_le status 599
 
--- the close codes that an application may send (RFC 6455, section 7.4)
+-- of the close codes in RFC 6455, section 7.4, those that an application may send; the ranges are our choice
 abbrev pub is_close_code : ℕ → Bool
 is_close_code code = (nat_le 1000 code && nat_le code 1003) || (nat_le 1007 code && nat_le code 1011) || (nat_le 3000 code && nat_le code 4999)
 
 -- the fields of the opening handshake that the server writes itself (RFC 6455, section 4.2.2), and
--- those that delimit a content
+-- those that delimit a content; names are in lower case, as `Headers` keeps them
 abbrev pub is_handshake_name : List ℕ → Bool
 is_handshake_name name =
     bytes_eq name (codes "sec-websocket-protocol") || bytes_eq name (codes "sec-websocket-accept")

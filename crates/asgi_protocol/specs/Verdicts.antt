@@ -6,8 +6,11 @@ use Rattle.asgi_types.specs.declared.facts.Facts.{Facts}
 use Rattle.asgi_types.specs.declared.incoming.Incoming.{Incoming}
 use Rattle.asgi_types.specs.declared.incoming.Incoming.TheVariants.{HttpDisconnect, WsDisconnect}
 use Rattle.asgi_types.specs.declared.outgoing.Outgoing.{Outgoing}
+use Rattle.asgi_protocol.specs.declared.verdict.Refusal.{Refusal}
+use Rattle.asgi_protocol.specs.declared.verdict.Refusal.TheVariants as why
 use Rattle.asgi_protocol.specs.declared.verdict.Verdict.{Verdict}
 use Rattle.asgi_protocol.specs.declared.verdict.Verdict.TheVariants.{Pass, Ignored, Refused}
+use Rattle.asgi_protocol.specs.Numbers.{number_of}
 use Rattle.asgi_protocol.specs.Rules.{has_bad_status, has_bad_header, has_bad_code, has_bad_reason, has_bad_subprotocol, has_too_much_body, has_too_little_body}
 use Rattle.asgi_protocol.specs.Shapes.{is_closed, is_of, goes_on}
 
@@ -41,26 +44,29 @@ lines_on kind facts said heard event = record {
   too_little_body = has_too_little_body facts said event;
 }
 
+abbrev pub refused : Refusal → Verdict
+refused reason = Refused (number_of reason)
+
 -- behind a whole response a server ignores what is sent (ASGI, Response Body)
 abbrev pub verdict_on_closed : Kind → Verdict
 verdict_on_closed Http = Ignored
-verdict_on_closed WebSocket = Refused 1
-verdict_on_closed Lifespan = Refused 1
+verdict_on_closed WebSocket = refused why.Closed
+verdict_on_closed Lifespan = refused why.Closed
 
 -- the first line that holds, else the event passes
 abbrev pub first_line : Kind → Lines → Verdict
 first_line kind l =
     if l.closed then verdict_on_closed kind else (
-    if l.disconnected then Refused 2 else (
-    if l.wrong_scope then Refused 3 else (
-    if l.out_of_order then Refused 4 else (
-    if l.bad_status then Refused 5 else (
-    if l.bad_header then Refused 6 else (
-    if l.bad_code then Refused 7 else (
-    if l.bad_reason then Refused 8 else (
-    if l.bad_subprotocol then Refused 9 else (
-    if l.too_much_body then Refused 10 else (
-    if l.too_little_body then Refused 11 else Pass))))))))))
+    if l.disconnected then refused why.Disconnected else (
+    if l.wrong_scope then refused why.WrongScope else (
+    if l.out_of_order then refused why.OutOfOrder else (
+    if l.bad_status then refused why.BadStatus else (
+    if l.bad_header then refused why.BadHeader else (
+    if l.bad_code then refused why.BadCode else (
+    if l.bad_reason then refused why.BadReason else (
+    if l.bad_subprotocol then refused why.BadSubprotocol else (
+    if l.too_much_body then refused why.TooMuchBody else (
+    if l.too_little_body then refused why.TooLittleBody else Pass))))))))))
 
 abbrev pub verdict_on : Kind → Facts → List Outgoing → Bool → Outgoing → Verdict
 verdict_on kind facts said heard event = first_line kind (lines_on kind facts said heard event)

@@ -4,7 +4,7 @@ ghost use Rattle.asgi_protocol.specs.ContentLengths.{content_length as content_l
 
 use asgi_types::{Headers, parse_length};
 
-const CONTENT_LENGTH: &[u8] = b"content-length";
+pub(crate) const CONTENT_LENGTH: &[u8] = b"content-length";
 
 /// What the content-length fields of a start say (RFC 9110, section 8.6).
 #[derive(Clone, Copy, Debug, PartialEq, Eq)]

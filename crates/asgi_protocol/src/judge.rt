@@ -3,7 +3,8 @@ ghost use Rattle.std.specs.Prelude.{◌≡◌, ◌≢◌, Bool, false, ◌||◌,
 ghost use Rattle.asgi_types.specs.declared.scope.Kind.{Kind};
 ghost use Rattle.asgi_types.specs.declared.facts.Facts.{Facts};
 ghost use Rattle.asgi_types.specs.declared.outgoing.Outgoing.{Outgoing};
-ghost use Rattle.asgi_protocol.specs.Stages.{StandsFor, lines_at, stage_behind, behind_body as behind_body_of, bytes_left as left_of, has_place as has_place_for, takes_too_much as is_too_much, leaves_too_much as is_too_little};
+ghost use Rattle.asgi_protocol.specs.Stages.{StandsFor};
+ghost use Rattle.asgi_protocol.specs.Steps.{lines_at, stage_behind, behind_body as behind_body_of, bytes_left as left_of, has_place as has_place_for, takes_too_much as is_too_much, leaves_too_much as is_too_little};
 ghost use Rattle.asgi_protocol.specs.Rules.{is_above, is_below};
 ghost use Rattle.asgi_protocol.specs.Shapes.{is_of as is_event_of};
 ghost use Rattle.asgi_protocol.specs.Verdicts.{verdict_on, first_line, verdict_on_closed, is_disconnect as is_disconnect_event};

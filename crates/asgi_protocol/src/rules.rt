@@ -4,7 +4,7 @@ ghost use Rattle.std.specs.List.{list_any};
 ghost use Rattle.asgi_protocol.specs.Rules.{is_status as is_status_code, is_close_code as is_code, is_offered as is_one_of, is_handshake_name as is_name, has_bad_status as bad_status, has_bad_header as bad_header, has_bad_code as bad_code, has_bad_reason as bad_reason, has_bad_subprotocol as bad_subprotocol, promised_length as promised_length_of, length_given_in, is_faulty};
 ghost use Rattle.asgi_protocol.specs.ContentLengths.{content_length as content_length_of};
 
-use crate::content_length::{ContentLength, content_length};
+use crate::content_length::{CONTENT_LENGTH, ContentLength, content_length};
 use asgi_types::{Chars, Facts, Headers, Names, Outgoing};
 
 const PROTOCOL: &[u8] = b"sec-websocket-protocol";
@@ -16,8 +16,6 @@ const EXTENSIONS: &[u8] = b"sec-websocket-extensions";
 const UPGRADE: &[u8] = b"upgrade";
 
 const CONNECTION: &[u8] = b"connection";
-
-const LENGTH: &[u8] = b"content-length";
 
 const CODING: &[u8] = b"transfer-encoding";
 
@@ -143,7 +141,7 @@ fn is_handshake_name(name: &[u8]) -> bool
         || name == EXTENSIONS
         || name == UPGRADE
         || name == CONNECTION
-        || name == LENGTH
+        || name == CONTENT_LENGTH
         || name == CODING
 }
 

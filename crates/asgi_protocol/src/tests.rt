@@ -183,7 +183,7 @@ fn facts(alloc: Global, head_only: bool) -> Result<Facts, AllocError> {
     })
 }
 
-/// Says the steps in order. To look gives the same verdict, as often as one looks.
+/// Says the steps in order, and looks at each before: that gives the same verdict.
 fn says(
     rt: &(impl Abort + AllocGlobal),
     judge: &mut Judge,

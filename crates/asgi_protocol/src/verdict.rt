@@ -19,26 +19,37 @@ pub enum Verdict {
 /// Why an event is refused, in the order in which the reasons are looked at.
 #[derive(Clone, Copy, Debug, PartialEq, Eq, Error)]
 pub enum Refusal {
+    /// All was said, and the scope is none of HTTP.
     #[error("the conversation is closed")]
     Closed,
+    /// The application has heard that its client is gone.
     #[error("a disconnect was heard")]
     Disconnected,
+    /// A response belongs to HTTP, a session or a denial to WebSocket, the answers of a start and a stop to lifespan.
     #[error("the event belongs to another kind of scope")]
     WrongScope,
+    /// No event of this sort may follow what was said.
     #[error("the event is out of order")]
     OutOfOrder,
+    /// A start does not have the status of a final response.
     #[error("the status is outside 200 to 599")]
     BadStatus,
+    /// A start has a faulty content-length, or an accept has a field of the handshake or of a content.
     #[error("a field is not allowed here, or content-length is not one field of 1 to 19 digits")]
     BadHeader,
+    /// A close has a code that is reserved or unknown.
     #[error("an application may not send this close code")]
     BadCode,
+    /// A control frame has no room for the reason (RFC 6455, section 5.5).
     #[error("the close reason has more than 123 bytes")]
     BadReason,
+    /// An accept chooses a subprotocol that is none of the offers, byte for byte.
     #[error("the client did not offer this subprotocol")]
     BadSubprotocol,
+    /// A body goes past the length that the start gave.
     #[error("the bodies have more bytes than content-length says")]
     TooMuchBody,
+    /// The last body ends before the length that the start gave.
     #[error("the bodies have fewer bytes than content-length says")]
     TooLittleBody,
 }

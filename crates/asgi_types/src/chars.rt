@@ -24,6 +24,7 @@ impl Chars {
         Chars { text }
     }
 
+    /// The text in its place.
     pub fn as_str(&self) -> &str
         ensures { result.now ≡ self.now }
     {

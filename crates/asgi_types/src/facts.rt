@@ -18,6 +18,7 @@ pub enum Framing {
 /// What a server keeps of a request for its answer.
 #[derive(Debug, Drop)]
 pub struct Facts {
+    /// The version that the request is of.
     pub version: HttpVersion,
     /// The method is HEAD.
     pub head_only: bool,
@@ -25,6 +26,7 @@ pub struct Facts {
     pub close: bool,
     /// The client waits for `100 Continue`.
     pub expect: bool,
+    /// How the body of the request is delimited.
     pub framing: Framing,
     /// The value of `sec-websocket-key`; zero bytes where the request is no opening handshake.
     pub key: [u8; 24],

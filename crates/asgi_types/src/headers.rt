@@ -22,6 +22,7 @@ pub enum HeaderError {
     /// The value has a control byte other than the tab.
     #[error("the field value has a control byte")]
     BadValue,
+    /// Memory was refused.
     #[error(transparent)]
     NoMemory(#[from(alloc)] AllocError),
 }
@@ -87,12 +88,14 @@ impl Headers {
         Ok(())
     }
 
+    /// How many fields were added; a name may stand in several.
     pub fn len(&self) -> usize
         ensures { result ≡ length self.now }
     {
         self.places.len()
     }
 
+    /// Whether no field was added.
     pub fn is_empty(&self) -> bool
         ensures { IsTrue result ↔ (self.now ≡ []) }
     {

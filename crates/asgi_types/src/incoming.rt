@@ -4,7 +4,9 @@ use crate::{Chars, Octets, Reason};
 /// The content of a WebSocket message (RFC 6455, section 5.6).
 #[derive(Debug, Drop)]
 pub enum Payload {
+    /// A text message.
     Text(Chars),
+    /// A binary message.
     Bytes(Octets),
 }
 

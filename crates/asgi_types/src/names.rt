@@ -36,6 +36,7 @@ impl Names {
         Ok(())
     }
 
+    /// How many names were added.
     pub fn len(&self) -> usize
         ensures { result ≡ length self.now }
     {

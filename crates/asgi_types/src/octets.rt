@@ -24,12 +24,14 @@ impl Octets {
         Self { bytes }
     }
 
+    /// The bytes in their place.
     pub fn bytes(&self) -> &[u8]
         ensures { result.now ≡ self.now }
     {
         self.bytes.as_slice()
     }
 
+    /// The bytes, taken out. It takes no memory.
     pub fn into_vec(self) -> Vec<u8>
         ensures { result.items ≡ self }
     {

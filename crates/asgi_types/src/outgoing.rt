@@ -4,7 +4,9 @@ use crate::{Chars, Headers, Octets, Payload, State};
 /// The version of a request: HTTP/1.0 or HTTP/1.1 (RFC 9112, section 2.3).
 #[derive(Clone, Copy, Debug, PartialEq, Eq)]
 pub enum HttpVersion {
+    /// HTTP/1.0.
     V10,
+    /// HTTP/1.1.
     V11,
 }
 

@@ -48,6 +48,7 @@ impl Reason {
         })
     }
 
+    /// The bytes of the text, without the zero bytes behind it.
     pub fn bytes(&self) -> &[u8]
         ensures { result.now ≡ self.now }
     {

@@ -9,15 +9,20 @@ use std::marker::Model;
 /// One side of a connection.
 #[derive(Debug, Drop)]
 pub struct Peer {
+    /// The address of the host, as a text.
     pub host: Chars,
+    /// The port at that address.
     pub port: u16,
 }
 
 /// The type of a scope.
 #[derive(Clone, Copy, Debug, PartialEq, Eq)]
 pub enum Kind {
+    /// `http`: one request and its response.
     Http,
+    /// `websocket`: one session, from its handshake on.
     WebSocket,
+    /// `lifespan`: the start and the stop of the server.
     Lifespan,
 }
 
@@ -77,10 +82,13 @@ pub struct Extensions {
 /// The scope of one HTTP request (ASGI HTTP message format 2.4, connection scope).
 #[derive(Debug, Drop)]
 pub struct HttpScope {
+    /// The versions of ASGI and of the message format.
     pub asgi: Asgi,
+    /// The version that the request is of.
     pub http_version: HttpVersion,
     /// In upper case.
     pub method: Chars,
+    /// The scheme of the request's URL, such as `http`.
     pub scheme: Chars,
     /// Percent-decoded.
     pub path: Chars,
@@ -90,18 +98,26 @@ pub struct HttpScope {
     pub query_string: Octets,
     /// The prefix under which the application is mounted.
     pub root_path: Chars,
+    /// The fields of the request, in its order.
     pub headers: Headers,
+    /// The client's side of the connection, where it is known.
     pub client: Option<Peer>,
+    /// The server's side of the connection, where it is known.
     pub server: Option<Peer>,
+    /// A copy of what the application kept at its start.
     pub state: State,
+    /// What the server has beside the events that each server has.
     pub extensions: Extensions,
 }
 
 /// The scope of one WebSocket session (ASGI WebSocket message format 2.4, connection scope).
 #[derive(Debug, Drop)]
 pub struct WsScope {
+    /// The versions of ASGI and of the message format.
     pub asgi: Asgi,
+    /// The version of the request that asks for the session.
     pub http_version: HttpVersion,
+    /// The scheme of the session's URL, such as `ws`.
     pub scheme: Chars,
     /// Percent-decoded.
     pub path: Chars,
@@ -111,27 +127,37 @@ pub struct WsScope {
     pub query_string: Octets,
     /// The prefix under which the application is mounted.
     pub root_path: Chars,
+    /// The fields of the request, in its order.
     pub headers: Headers,
+    /// The client's side of the connection, where it is known.
     pub client: Option<Peer>,
+    /// The server's side of the connection, where it is known.
     pub server: Option<Peer>,
     /// The subprotocols that the client offers, in its order.
     pub subprotocols: Names,
+    /// A copy of what the application kept at its start.
     pub state: State,
+    /// What the server has beside the events that each server has.
     pub extensions: Extensions,
 }
 
 /// The scope of the server's start and stop (ASGI lifespan protocol 2.0, scope).
 #[derive(Debug, Drop)]
 pub struct LifespanScope {
+    /// The versions of ASGI and of the message format.
     pub asgi: Asgi,
+    /// What the application keeps for each later scope.
     pub state: State,
 }
 
 /// What an application is called with.
 #[derive(Debug, Drop)]
 pub enum Scope {
+    /// One request.
     Http(HttpScope),
+    /// One session.
     WebSocket(WsScope),
+    /// The start and the stop of the server.
     Lifespan(LifespanScope),
 }
 

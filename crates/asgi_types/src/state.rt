@@ -13,8 +13,11 @@ use thiserror::Error;
 /// One value of a state.
 #[derive(Debug, Drop)]
 pub enum StateValue {
+    /// A text, such as a message or a path.
     Text(Chars),
+    /// Any bytes.
     Bytes(Octets),
+    /// A number, such as a count.
     Number(u64),
 }
 
@@ -24,6 +27,7 @@ pub enum StateError {
     /// 64 other names are held.
     #[error("the state holds 64 names")]
     StateFull,
+    /// Memory was refused.
     #[error(transparent)]
     NoMemory(#[from(alloc)] AllocError),
 }

@@ -1,4 +1,5 @@
 use crate::{BadLimit, HeaderError, Headers, Limits, Octets};
+use std::process::Abort;
 use std::test::Fail;
 
 #[test]
@@ -77,65 +78,76 @@ fn octets_are_the_bytes_given(rt: HostRuntime) -> Result<(), Fail> {
     Ok(())
 }
 
+/// What each limit is to be, in the order of `Limits::new`, and whether these are taken.
+type Row = (usize, usize, u64, usize, usize, u32, u64, bool);
+
+/// Each limit at the ends of its range, and one past each end.
+const ROWS: [Row; 21] = [
+    (64, 1, 0, 1, 2, 1, 1, true),
+    (63, 1, 0, 1, 2, 1, 1, false),
+    (65_535, 1, 0, 1, 2, 1, 1, true),
+    (65_536, 1, 0, 1, 2, 1, 1, false),
+    (64, 0, 0, 1, 2, 1, 1, false),
+    (64, 128, 0, 1, 2, 1, 1, true),
+    (64, 129, 0, 1, 2, 1, 1, false),
+    (64, 1, 1_099_511_627_776, 1, 2, 1, 1, true),
+    (64, 1, 1_099_511_627_777, 1, 2, 1, 1, false),
+    (64, 1, 0, 0, 2, 1, 1, false),
+    (64, 1, 0, 65_536, 2, 1, 1, true),
+    (64, 1, 0, 65_537, 2, 1, 1, false),
+    (64, 1, 0, 1, 1, 1, 1, false),
+    (64, 1, 0, 1, 1_024, 1, 1, true),
+    (64, 1, 0, 1, 1_025, 1, 1, false),
+    (64, 1, 0, 1, 2, 0, 1, false),
+    (64, 1, 0, 1, 2, 4_294_967_295, 1, true),
+    (64, 1, 0, 1, 2, 1, 0, false),
+    (64, 1, 0, 1, 2, 1, 281_474_976_710_656, true),
+    (64, 1, 0, 1, 2, 1, 281_474_976_710_657, false),
+    (0, 0, 0, 0, 0, 0, 0, false),
+];
+
+const USUAL: Row = (
+    16_384,
+    64,
+    1_048_576,
+    16_384,
+    16,
+    30_000,
+    1_099_511_627_776,
+    true,
+);
+
+fn limits_of(row: &Row) -> Result<Limits, BadLimit> {
+    let (head, headers, body, block, ring, idle, turns, _) = *row;
+    Limits::new(head, headers, body, block, ring, idle, turns)
+}
+
+fn are_limits(rt: &impl Abort, limits: &Limits, row: &Row) {
+    let (head, headers, body, block, ring, idle, turns, _) = *row;
+    assert_eq!(rt;
+        (limits.max_head, limits.max_headers),
+        (head, headers),
+        "{row:?}"
+    );
+    assert_eq!(rt; (limits.max_body, limits.block), (body, block), "{row:?}");
+    assert_eq!(rt; (limits.ring, limits.idle_turns), (ring, idle), "{row:?}");
+    assert_eq!(rt; limits.turns, turns, "{row:?}");
+}
+
 #[test]
 fn limits_keep_their_ranges(rt: HostRuntime) {
-    // Each limit at the ends of its range, and one past each end.
-    let rows: [(usize, usize, u64, usize, usize, u32, u64, bool); 22] = [
-        (64, 1, 0, 1, 2, 1, 1, true),
-        (63, 1, 0, 1, 2, 1, 1, false),
-        (65_535, 1, 0, 1, 2, 1, 1, true),
-        (65_536, 1, 0, 1, 2, 1, 1, false),
-        (64, 0, 0, 1, 2, 1, 1, false),
-        (64, 128, 0, 1, 2, 1, 1, true),
-        (64, 129, 0, 1, 2, 1, 1, false),
-        (64, 1, 1_099_511_627_776, 1, 2, 1, 1, true),
-        (64, 1, 1_099_511_627_777, 1, 2, 1, 1, false),
-        (64, 1, 0, 0, 2, 1, 1, false),
-        (64, 1, 0, 65_536, 2, 1, 1, true),
-        (64, 1, 0, 65_537, 2, 1, 1, false),
-        (64, 1, 0, 1, 1, 1, 1, false),
-        (64, 1, 0, 1, 1_024, 1, 1, true),
-        (64, 1, 0, 1, 1_025, 1, 1, false),
-        (64, 1, 0, 1, 2, 0, 1, false),
-        (64, 1, 0, 1, 2, 4_294_967_295, 1, true),
-        (64, 1, 0, 1, 2, 1, 0, false),
-        (64, 1, 0, 1, 2, 1, 281_474_976_710_656, true),
-        (64, 1, 0, 1, 2, 1, 281_474_976_710_657, false),
-        (0, 0, 0, 0, 0, 0, 0, false),
-        (
-            16_384,
-            64,
-            1_048_576,
-            16_384,
-            16,
-            30_000,
-            1_099_511_627_776,
-            true,
-        ),
-    ];
-    for (row, (head, headers, body, block, ring, idle, turns, fits)) in rows.iter().enumerate() {
-        let made = Limits::new(*head, *headers, *body, *block, *ring, *idle, *turns);
-        assert_eq!(rt; made.is_ok(), *fits, "row {row}");
+    for row in &ROWS {
+        let made = limits_of(row);
+        assert_eq!(rt; made.is_ok(), row.7, "{row:?}");
         if let Ok(limits) = made {
-            assert_eq!(rt;
-                (limits.max_head, limits.max_headers),
-                (*head, *headers),
-                "row {row}"
-            );
-            assert_eq!(rt;
-                (limits.max_body, limits.block),
-                (*body, *block),
-                "row {row}"
-            );
-            assert_eq!(rt;
-                (limits.ring, limits.idle_turns),
-                (*ring, *idle),
-                "row {row}"
-            );
-            assert_eq!(rt; limits.turns, *turns, "row {row}");
+            are_limits(&rt, &limits, row);
         }
     }
-    let usual = Limits::new(16_384, 64, 1_048_576, 16_384, 16, 30_000, 1 << 40);
-    assert_eq!(rt; usual, Ok(Limits::usual()));
     assert_eq!(rt; Limits::new(64, 1, 0, 1, 1, 1, 1), Err(BadLimit));
+}
+
+#[test]
+fn usual_limits_are_in_their_ranges(rt: HostRuntime) {
+    assert_eq!(rt; limits_of(&USUAL), Ok(Limits::usual()));
+    are_limits(&rt, &Limits::usual(), &USUAL);
 }

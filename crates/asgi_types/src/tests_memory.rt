@@ -1,29 +1,30 @@
 //! Each call that allocates, where one allocation is refused: it answers so, its object is as before, and the call can
 //! be made again. `tests/memory` runs these with each allocation refused in turn; with ample memory none is refused.
-use crate::tests_scopes::{http_scope, lifespan_scope, ws_scope};
-use crate::tests_values::facts;
+//! The tests are small, so that the gate has few allocations to refuse.
+
+use crate::tests_scopes::{is_whole, whole_scope};
+use crate::tests_values::{are_facts, chars, facts, has_each_sort, octets};
 use crate::{
-    Chars, Framing, HeaderError, Headers, Names, Octets, Peer, Scope, State, StateError, StateValue,
+    Chars, Framing, HeaderError, Headers, Kind, Names, Peer, State, StateError, StateValue,
 };
 use std::alloc::{AllocError, Global};
+use std::process::Abort;
 use std::test::Fail;
 
 const NAMES: [&[u8]; 5] = [b"x-a", b"x-b", b"x-c", b"x-d", b"x-e"];
 
-/// What the first call gave, or the second where memory was refused to the first.
-fn either<T: Drop, E: Drop>(first: Result<T, E>, second: Result<T, E>) -> Result<T, E> {
-    match first {
+/// What the call gives, made once more where it was refused memory.
+fn again<T: Drop, F: Fn() -> Result<T, AllocError>>(call: F) -> Result<T, AllocError>
+    requires { F.IsAlwaysCallable call }
+{
+    match call() {
         Ok(value) => Ok(value),
-        Err(_) => second,
+        Err(_) => call(),
     }
 }
 
 fn text(alloc: Global, bytes: &str) -> Result<Chars, AllocError> {
-    let made = either(
-        String::from_str(alloc, bytes),
-        String::from_str(alloc, bytes),
-    )?;
-    Ok(Chars::new(made))
+    again(|| chars(alloc, bytes))
 }
 
 #[test]
@@ -41,7 +42,7 @@ fn memory_for_headers(rt: HostRuntime) -> Result<(), Fail> {
         }
         assert_eq!(rt; headers.len(), index.saturating_add(1));
     }
-    let copied = either(headers.copy(alloc), headers.copy(alloc))?;
+    let copied = again(|| headers.copy(alloc))?;
     for held in [&headers, &copied] {
         assert_eq!(rt; held.len(), 5);
         for (index, name) in NAMES.iter().enumerate() {
@@ -56,13 +57,18 @@ fn memory_for_headers(rt: HostRuntime) -> Result<(), Fail> {
 #[test]
 fn memory_for_texts(rt: HostRuntime) -> Result<(), Fail> {
     let alloc = rt.alloc();
-    let bytes = either(b"ab".to_vec(alloc), b"ab".to_vec(alloc))?;
-    let octets = Octets::new(bytes);
-    let copied = either(octets.copy(alloc), octets.copy(alloc))?;
+    let bytes = again(|| octets(alloc, b"ab"))?;
+    let copied = again(|| bytes.copy(alloc))?;
     assert_eq!(rt; copied.bytes(), b"ab".as_slice());
-    let chars = text(alloc, "ab")?;
-    let copied = either(chars.copy(alloc), chars.copy(alloc))?;
+    let held = text(alloc, "ab")?;
+    let copied = again(|| held.copy(alloc))?;
     assert_eq!(rt; copied.as_str(), "ab");
+    Ok(())
+}
+
+#[test]
+fn memory_for_names(rt: HostRuntime) -> Result<(), Fail> {
+    let alloc = rt.alloc();
     let mut names = Names::new(alloc);
     for index in 0..5usize {
         if names.push(text(alloc, "chat")?).is_err() {
@@ -71,52 +77,81 @@ fn memory_for_texts(rt: HostRuntime) -> Result<(), Fail> {
         }
         assert_eq!(rt; names.len(), index.saturating_add(1));
     }
-    let copied = either(names.copy(alloc), names.copy(alloc))?;
-    assert_eq!(rt; copied.len(), 5);
-    assert_eq!(rt; names.len(), 5);
+    let copied = again(|| names.copy(alloc))?;
+    for held in [&names, &copied] {
+        assert_eq!(rt; held.len(), 5);
+        for index in 0..5usize {
+            let name = held.at(index).ok_or("no name")?;
+            assert_eq!(rt; name.as_str(), "chat");
+        }
+    }
     Ok(())
+}
+
+/// A text, bytes, and from then on a number.
+fn value(alloc: Global, index: usize) -> Result<StateValue, AllocError> {
+    match index {
+        0 => Ok(StateValue::Text(chars(alloc, "t")?)),
+        1 => Ok(StateValue::Bytes(octets(alloc, b"b\xff")?)),
+        _ => Ok(StateValue::Number(7)),
+    }
 }
 
 #[test]
 fn memory_for_a_state(rt: HostRuntime) -> Result<(), Fail> {
     let alloc = rt.alloc();
     let mut state = State::new(alloc);
-    for name in ["a", "b", "c", "d", "e"] {
-        match state.set(name, StateValue::Number(7)) {
+    for (index, name) in ["text", "bytes", "number", "d", "e"].iter().enumerate() {
+        match state.set(name, again(|| value(alloc, index))?) {
             Ok(()) => {}
             Err(StateError::NoMemory(_)) => {
                 assert!(rt; state.get(name).is_none());
-                state.set(name, StateValue::Number(7))?;
+                state.set(name, value(alloc, index)?)?;
             }
             Err(_) => return Err(Fail::from("there is room")),
         }
-        assert!(rt; matches!(state.get(name), Some(StateValue::Number(7))));
     }
-    let copied = either(state.copy(alloc), state.copy(alloc))?;
+    let copied = again(|| state.copy(alloc))?;
     for held in [&state, &copied] {
-        for name in ["a", "b", "c", "d", "e"] {
+        has_each_sort(&rt, held);
+        for name in ["d", "e"] {
             assert!(rt; matches!(held.get(name), Some(StateValue::Number(7))));
         }
     }
     Ok(())
 }
 
+/// A scope with all that it can have, and its copy.
+fn has_memory(rt: &(impl Abort + AllocGlobal), kind: Kind) -> Result<(), Fail> {
+    let scope = again(|| whole_scope(rt.alloc(), kind))?;
+    let copied = again(|| scope.copy(rt.alloc()))?;
+    is_whole(rt, &scope, kind)?;
+    is_whole(rt, &copied, kind)
+}
+
 #[test]
-fn memory_for_scopes_and_facts(rt: HostRuntime) -> Result<(), Fail> {
+fn memory_for_an_http_scope(rt: HostRuntime) -> Result<(), Fail> {
+    has_memory(&rt, Kind::Http)
+}
+
+#[test]
+fn memory_for_a_websocket_scope(rt: HostRuntime) -> Result<(), Fail> {
+    has_memory(&rt, Kind::WebSocket)
+}
+
+#[test]
+fn memory_for_a_lifespan_scope(rt: HostRuntime) -> Result<(), Fail> {
+    has_memory(&rt, Kind::Lifespan)
+}
+
+#[test]
+fn memory_for_facts(rt: HostRuntime) -> Result<(), Fail> {
     let alloc = rt.alloc();
-    let http = Scope::Http(either(http_scope(alloc), http_scope(alloc))?);
-    let copied = either(http.copy(alloc), http.copy(alloc))?;
-    assert!(rt; matches!(copied, Scope::Http(_)));
-    let session = Scope::WebSocket(either(ws_scope(alloc), ws_scope(alloc))?);
-    let copied = either(session.copy(alloc), session.copy(alloc))?;
-    assert!(rt; matches!(copied, Scope::WebSocket(_)));
-    let lifespan = Scope::Lifespan(lifespan_scope(alloc));
-    let copied = either(lifespan.copy(alloc), lifespan.copy(alloc))?;
-    assert!(rt; matches!(copied, Scope::Lifespan(_)));
-    let framing = Framing::Length(3);
-    let known = either(facts(alloc, framing), facts(alloc, framing))?;
-    let copied = either(known.copy(alloc), known.copy(alloc))?;
-    assert_eq!(rt; copied.framing, framing);
+    let known = again(|| facts(alloc, Framing::Length(3)))?;
+    let copied = again(|| known.copy(alloc))?;
+    for held in [&known, &copied] {
+        are_facts(&rt, held, Framing::Length(3))?;
+    }
     Ok(())
 }
 
@@ -127,17 +162,16 @@ fn memory_for_peers_and_values(rt: HostRuntime) -> Result<(), Fail> {
         host: text(alloc, "::1")?,
         port: 8_080,
     };
-    let copied = either(peer.copy(alloc), peer.copy(alloc))?;
+    let copied = again(|| peer.copy(alloc))?;
     assert_eq!(rt; copied.host.as_str(), "::1");
     assert_eq!(rt; copied.port, 8_080);
     let named = StateValue::Text(text(alloc, "pool")?);
-    match either(named.copy(alloc), named.copy(alloc))? {
+    match again(|| named.copy(alloc))? {
         StateValue::Text(kept) => assert_eq!(rt; kept.as_str(), "pool"),
         _ => return Err(Fail::from("the value is a text")),
     }
-    let bytes = either(b"ab".to_vec(alloc), b"ab".to_vec(alloc))?;
-    let held = StateValue::Bytes(Octets::new(bytes));
-    match either(held.copy(alloc), held.copy(alloc))? {
+    let held = StateValue::Bytes(again(|| octets(alloc, b"ab"))?);
+    match again(|| held.copy(alloc))? {
         StateValue::Bytes(kept) => assert_eq!(rt; kept.bytes(), b"ab".as_slice()),
         _ => return Err(Fail::from("the value is bytes")),
     }

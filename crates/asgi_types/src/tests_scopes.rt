@@ -1,5 +1,6 @@
 //! The three kinds of scope, with what a connection adds to them, and copied.
 
+use crate::tests_values::{chars, octets};
 use crate::{
     Asgi, Chars, Extensions, Headers, HttpScope, HttpVersion, Kind, LifespanScope, Names, Octets,
     Peer, Scope, State, StateValue, WsScope,
@@ -7,14 +8,6 @@ use crate::{
 use std::alloc::{AllocError, Global};
 use std::process::Abort;
 use std::test::Fail;
-
-fn chars(alloc: Global, text: &str) -> Result<Chars, AllocError> {
-    Ok(Chars::new(String::from_str(alloc, text)?))
-}
-
-fn octets(alloc: Global, text: &str) -> Result<Octets, AllocError> {
-    Ok(Octets::new(text.as_bytes().to_vec(alloc)?))
-}
 
 fn peer(alloc: Global, host: &str, port: u16) -> Result<Peer, AllocError> {
     Ok(Peer {
@@ -29,15 +22,15 @@ fn headers(alloc: Global) -> Result<Headers, AllocError> {
     Ok(headers)
 }
 
-pub fn http_scope(alloc: Global) -> Result<HttpScope, AllocError> {
+fn http_scope(alloc: Global) -> Result<HttpScope, AllocError> {
     Ok(HttpScope {
         asgi: Asgi::of(Kind::Http),
         http_version: HttpVersion::V11,
         method: chars(alloc, "GET")?,
         scheme: chars(alloc, "http")?,
         path: chars(alloc, "/a b")?,
-        raw_path: octets(alloc, "/a%20b")?,
-        query_string: octets(alloc, "q=%20")?,
+        raw_path: octets(alloc, b"/a%20b")?,
+        query_string: octets(alloc, b"q=%20")?,
         root_path: chars(alloc, "/a")?,
         headers: headers(alloc)?,
         client: None,
@@ -50,7 +43,7 @@ pub fn http_scope(alloc: Global) -> Result<HttpScope, AllocError> {
     })
 }
 
-pub fn ws_scope(alloc: Global) -> Result<WsScope, AllocError> {
+fn ws_scope(alloc: Global) -> Result<WsScope, AllocError> {
     let mut subprotocols = Names::new(alloc);
     subprotocols.push(chars(alloc, "chat")?)?;
     Ok(WsScope {
@@ -58,8 +51,8 @@ pub fn ws_scope(alloc: Global) -> Result<WsScope, AllocError> {
         http_version: HttpVersion::V11,
         scheme: chars(alloc, "ws")?,
         path: chars(alloc, "/a b")?,
-        raw_path: octets(alloc, "/a%20b")?,
-        query_string: octets(alloc, "q=%20")?,
+        raw_path: octets(alloc, b"/a%20b")?,
+        query_string: octets(alloc, b"q=%20")?,
         root_path: chars(alloc, "/a")?,
         headers: headers(alloc)?,
         client: None,
@@ -73,24 +66,52 @@ pub fn ws_scope(alloc: Global) -> Result<WsScope, AllocError> {
     })
 }
 
-pub fn lifespan_scope(alloc: Global) -> LifespanScope {
+fn lifespan_scope(alloc: Global) -> LifespanScope {
     LifespanScope {
         asgi: Asgi::of(Kind::Lifespan),
         state: State::new(alloc),
     }
 }
 
-/// With a client, a server and a state.
-fn with_all(alloc: Global, scope: Scope) -> Result<Scope, Fail> {
+fn scope_of(alloc: Global, kind: Kind) -> Result<Scope, AllocError> {
+    match kind {
+        Kind::Http => Ok(Scope::Http(http_scope(alloc)?)),
+        Kind::WebSocket => Ok(Scope::WebSocket(ws_scope(alloc)?)),
+        Kind::Lifespan => Ok(Scope::Lifespan(lifespan_scope(alloc))),
+    }
+}
+
+/// Each sort of value in one kind of scope.
+fn value_in(alloc: Global, kind: Kind) -> Result<StateValue, AllocError> {
+    match kind {
+        Kind::Http => Ok(StateValue::Text(chars(alloc, "t")?)),
+        Kind::WebSocket => Ok(StateValue::Bytes(octets(alloc, b"b\xff")?)),
+        Kind::Lifespan => Ok(StateValue::Number(7)),
+    }
+}
+
+/// A scope of this kind with a client, a server and a state.
+pub fn whole_scope(alloc: Global, kind: Kind) -> Result<Scope, AllocError> {
+    let scope = scope_of(alloc, kind)?;
     let mut state = State::new(alloc);
-    state.set("n", StateValue::Number(7))?;
+    let value = value_in(alloc, kind)?;
+    state.set("held", value).map_err(|_| AllocError)?;
     let client = peer(alloc, "127.0.0.1", 4_000)?;
     let server = peer(alloc, "::1", 80)?;
     Ok(scope.with(Some(client), Some(server), state))
 }
 
-fn has_seven(rt: &impl Abort, state: &State) {
-    assert!(rt; matches!(state.get("n"), Some(StateValue::Number(7))));
+fn has_value(rt: &impl Abort, state: &State, kind: Kind) -> Result<(), Fail> {
+    let value = state.get("held").ok_or("no value")?;
+    match (kind, value) {
+        (Kind::Http, StateValue::Text(text)) => assert_eq!(rt; text.as_str(), "t"),
+        (Kind::WebSocket, StateValue::Bytes(held)) => {
+            assert_eq!(rt; held.bytes(), b"b\xff".as_slice());
+        }
+        (Kind::Lifespan, StateValue::Number(number)) => assert_eq!(rt; *number, 7),
+        _ => panic!(rt; "another sort of value"),
+    }
+    Ok(())
 }
 
 fn is_peer(rt: &impl Abort, peer: &Option<Peer>, host: &str, port: u16) -> Result<(), Fail> {
@@ -157,7 +178,7 @@ fn is_http(rt: &impl Abort, held: &HttpScope) -> Result<(), Fail> {
         &held.root_path,
     );
     has_field(rt, &held.headers)?;
-    has_seven(rt, &held.state);
+    has_value(rt, &held.state, Kind::Http)?;
     has_peers(rt, &held.client, &held.server)
 }
 
@@ -174,7 +195,7 @@ fn is_websocket(rt: &impl Abort, held: &WsScope) -> Result<(), Fail> {
     );
     has_field(rt, &held.headers)?;
     has_chat(rt, &held.subprotocols)?;
-    has_seven(rt, &held.state);
+    has_value(rt, &held.state, Kind::WebSocket)?;
     has_peers(rt, &held.client, &held.server)
 }
 
@@ -196,15 +217,14 @@ fn in_lifespan(rt: &impl Abort, scope: &Scope) -> Result<(), Fail> {
     match scope {
         Scope::Lifespan(held) => {
             assert_eq!(rt; held.asgi, Asgi::of(Kind::Lifespan));
-            has_seven(rt, &held.state);
-            Ok(())
+            has_value(rt, &held.state, Kind::Lifespan)
         }
         _ => panic!(rt; "another kind of scope"),
     }
 }
 
 /// The scope is the one of its kind above.
-fn is_whole(rt: &impl Abort, scope: &Scope, kind: Kind) -> Result<(), Fail> {
+pub fn is_whole(rt: &impl Abort, scope: &Scope, kind: Kind) -> Result<(), Fail> {
     match kind {
         Kind::Http => in_http(rt, scope),
         Kind::WebSocket => in_websocket(rt, scope),
@@ -212,35 +232,16 @@ fn is_whole(rt: &impl Abort, scope: &Scope, kind: Kind) -> Result<(), Fail> {
     }
 }
 
-fn is_copied(rt: &(impl Abort + AllocGlobal), scope: &Scope, kind: Kind) -> Result<(), Fail> {
+fn is_copied(rt: &(impl Abort + AllocGlobal), kind: Kind) -> Result<(), Fail> {
+    let scope = whole_scope(rt.alloc(), kind)?;
     let copied = scope.copy(rt.alloc())?;
     is_whole(rt, &copied, kind)
-}
-
-fn scope_of(alloc: Global, kind: Kind) -> Result<Scope, Fail> {
-    match kind {
-        Kind::Http => Ok(Scope::Http(http_scope(alloc)?)),
-        Kind::WebSocket => Ok(Scope::WebSocket(ws_scope(alloc)?)),
-        Kind::Lifespan => Ok(Scope::Lifespan(lifespan_scope(alloc))),
-    }
-}
-
-fn copies(rt: &(impl Abort + AllocGlobal), kind: Kind) -> Result<(), Fail> {
-    let bare = scope_of(rt.alloc(), kind)?;
-    let scope = with_all(rt.alloc(), bare)?;
-    is_copied(rt, &scope, kind)
-}
-
-fn keeps(rt: &(impl Abort + AllocGlobal), kind: Kind) -> Result<(), Fail> {
-    let bare = scope_of(rt.alloc(), kind)?;
-    let scope = with_all(rt.alloc(), bare)?;
-    is_whole(rt, &scope, kind)
 }
 
 #[test]
 fn a_scope_has_what_its_connection_knows(rt: HostRuntime) -> Result<(), Fail> {
     for kind in [Kind::Http, Kind::WebSocket, Kind::Lifespan] {
-        keeps(&rt, kind)?;
+        is_whole(&rt, &whole_scope(rt.alloc(), kind)?, kind)?;
     }
     Ok(())
 }
@@ -248,7 +249,7 @@ fn a_scope_has_what_its_connection_knows(rt: HostRuntime) -> Result<(), Fail> {
 #[test]
 fn a_scope_is_copied_with_all_its_fields(rt: HostRuntime) -> Result<(), Fail> {
     for kind in [Kind::Http, Kind::WebSocket, Kind::Lifespan] {
-        copies(&rt, kind)?;
+        is_copied(&rt, kind)?;
     }
     Ok(())
 }
@@ -256,13 +257,13 @@ fn a_scope_is_copied_with_all_its_fields(rt: HostRuntime) -> Result<(), Fail> {
 #[test]
 fn what_a_scope_had_before_is_replaced(rt: HostRuntime) -> Result<(), Fail> {
     let alloc = rt.alloc();
-    let first = with_all(alloc, Scope::Http(http_scope(alloc)?))?;
+    let first = whole_scope(alloc, Kind::Http)?;
     let again = first.with(None, Some(peer(alloc, "b", 1)?), State::new(alloc));
     let Scope::Http(held) = again else {
         panic!(rt; "another kind of scope");
     };
     assert!(rt; held.client.is_none());
     is_peer(&rt, &held.server, "b", 1)?;
-    assert!(rt; held.state.get("n").is_none());
+    assert!(rt; held.state.get("held").is_none());
     Ok(())
 }

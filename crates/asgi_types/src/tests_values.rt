@@ -8,11 +8,11 @@ use std::alloc::{AllocError, Global};
 use std::process::Abort;
 use std::test::Fail;
 
-fn chars(alloc: Global, text: &str) -> Result<Chars, AllocError> {
+pub fn chars(alloc: Global, text: &str) -> Result<Chars, AllocError> {
     Ok(Chars::new(String::from_str(alloc, text)?))
 }
 
-fn octets(alloc: Global, bytes: &[u8]) -> Result<Octets, AllocError> {
+pub fn octets(alloc: Global, bytes: &[u8]) -> Result<Octets, AllocError> {
     Ok(Octets::new(bytes.to_vec(alloc)?))
 }
 
@@ -155,7 +155,8 @@ fn a_state_has_at_most_64_names(rt: HostRuntime) -> Result<(), Fail> {
     has_64_names(&rt, &state)
 }
 
-fn has_each_sort(rt: &impl Abort, held: &State) {
+/// The text `t`, two bytes and the number 7, each under the name of its sort.
+pub fn has_each_sort(rt: &impl Abort, held: &State) {
     let Some(StateValue::Text(text)) = held.get("text") else {
         panic!(rt; "no text");
     };
@@ -218,7 +219,7 @@ pub fn facts(alloc: Global, framing: Framing) -> Result<Facts, AllocError> {
     })
 }
 
-fn are_facts(rt: &impl Abort, held: &Facts, framing: Framing) -> Result<(), Fail> {
+pub fn are_facts(rt: &impl Abort, held: &Facts, framing: Framing) -> Result<(), Fail> {
     assert_eq!(rt; held.version, HttpVersion::V10);
     assert_eq!(rt;
         (held.head_only, held.close, held.expect),

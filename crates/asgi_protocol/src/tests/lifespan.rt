@@ -40,13 +40,23 @@ fn what_is_heard_is_no_disconnect(rt: HostRuntime) -> Result<(), Fail> {
     says(&rt, &mut judge, &facts, "started", &[(Step::Started, PASS)])?;
     // No server gives this to a lifespan, but a judge takes any event.
     judge.heard(&incoming(rt.alloc(), Heard::HttpDisconnect));
+    let behind = [
+        (Step::Stopped, refused(2)),
+        (Step::Send, refused(2)),
+        (Step::Started, refused(2)),
+    ];
+    says(&rt, &mut judge, &facts, "disconnected", &behind)?;
+    let mut failed = Judge::new(Kind::Lifespan);
     says(
         &rt,
-        &mut judge,
+        &mut failed,
         &facts,
-        "disconnected",
-        &[(Step::Stopped, refused(2))],
-    )
+        "failed",
+        &[(Step::NotStarted, PASS)],
+    )?;
+    failed.heard(&incoming(rt.alloc(), Heard::HttpDisconnect));
+    let closed = [(Step::Stopped, refused(1))];
+    says(&rt, &mut failed, &facts, "failed and disconnected", &closed)
 }
 
 #[test]

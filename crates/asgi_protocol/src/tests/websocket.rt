@@ -117,6 +117,7 @@ fn a_handshake_is_rejected_or_denied(rt: HostRuntime) -> Result<(), Fail> {
         (Step::DenialStart(401, "content-length: 2"), PASS),
         (Step::Accept("", ""), refused(4)),
         (Step::Close(1_000, 0), refused(4)),
+        (Step::Close(1_005, 124), refused(4)),
         (Step::Send, refused(4)),
         (Step::Body(1), refused(3)),
         (Step::Denial(3), refused(10)),
