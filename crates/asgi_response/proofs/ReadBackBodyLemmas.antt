@@ -1,7 +1,7 @@
 -- The content of a response is read back by the grammar of chunks.
 use Rattle.std.proofs.Common.{◌≡◌, ℕ, suc, ◌+◌, ◌^◌, ◌<◌, Bool, true, false, List, [], ◌∷◌, ◌++◌, length, map, flat_map, refl, sym, ap, ◌∙◌, subst, append_assoc, add-zero, arith, All, None}
 use Rattle.std.proofs.lemmas.List.{append-nil}
-use Rattle.std.proofs.lemmas.List.Elements.{All-head, All-tail}
+use Rattle.std.proofs.lemmas.List.Elements.{All-head, All-tail, All-same}
 use Rattle.std.proofs.lemmas.Bool.Decides.{nat_tests}
 use Rattle.std.proofs.lemmas.Fmt.{digits_is_IsNumeral}
 use Rattle.std.specs.Prelude.{if◌then◌else◌, ◌==◌, codes}
@@ -16,8 +16,8 @@ use Rattle.asgi_types.specs.declared.outgoing.Outgoing.TheVariants.{ResponseStar
 use Rattle.asgi_response.specs.Content.{chunk, last_chunk, part_text, has_content}
 use Rattle.asgi_response.specs.Fields.{is_chunked, closes, head_text}
 use Rattle.asgi_response.specs.Response.{body_text, message_text}
-use Rattle.asgi_response.specs.ReadBack.{IsReadAs, fields_sent}
-use Rattle.asgi_response.specs.ReadBackBody.{Carries, IsSized, ResponseIsReadBack}
+use Rattle.asgi_response.specs.ReadBack.{IsReadAs, IsSendable, fields_sent}
+use Rattle.asgi_response.specs.ReadBackBody.{Carries, IsSized, ResponseIsReadBack, IsResponseReadBack}
 use Rattle.asgi_response.specs.Standing.{part}
 use Rattle.asgi_response.proofs.ReadBackLemmas.{head_is_read_back}
 use Rattle.asgi_response.proofs.StartLemmas.{final_status}
@@ -171,7 +171,11 @@ response_is_read_back facts events r clean sized has =
       body = body;
       head = subst (λ (t : List ℕ). IsReadAs t r.status (fields_sent chunked closing r.status r.headers) body)
           (sym (ap (message_text facts) r.in_order ∙ message_whole facts r.status r.headers r.parts (ResponseBody r.last false)))
-          (head_is_read_back chunked closing r.status r.headers body range.0 range.1 clean);
+          (head_is_read_back r.headers clean chunked closing r.status body range.0 range.1);
       carries = subst (λ (t : List ℕ). Carries chunked t (concat (r.parts ++ r.last ∷ [])))
           (sym (all_text facts r.status r.headers r.parts r.last has)) (carried chunked r.parts r.last sized);
     }
+
+pub response_with_is_read_back : (headers : List HeaderField) → All IsSendable headers → IsResponseReadBack headers
+response_with_is_read_back headers clean facts events r same sized has =
+    response_is_read_back facts events r (All-same IsSendable r.headers headers same clean) sized has

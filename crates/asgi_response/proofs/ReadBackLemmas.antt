@@ -13,7 +13,8 @@ use Rattle.std.specs.Char.{is_ascii_digit}
 use Rattle.httparse.specs.Ascii.{space, crlf_bytes}
 use Rattle.httparse.specs.Grammar.{AllPass, Field, IsField, ResponseHead, crlf, print_field, print_response, is_token_byte, is_value_byte, trim_ows}
 use Rattle.httparse.specs.Spans.{name_and_value}
-use Rattle.asgi_types.specs.Fields.{HeaderField}
+use Rattle.asgi_types.specs.Fields.{HeaderField, IsValidField}
+use Rattle.asgi_types.proofs.FieldLemmas.{valid-read}
 use Rattle.asgi_response.specs.StatusLine.{reason_phrase, status_line}
 use Rattle.asgi_response.specs.Fields.{is_shown, field_line, field_lines, head_text}
 use Rattle.asgi_response.specs.ReadBack.{IsSendable, fields_sent, as_read, HeadIsReadBack}
@@ -110,6 +111,13 @@ sendable : (f : HeaderField) → IsSendable f → IsField (field_sent f)
 unfolding field_sent
 sendable f h = record { name = h.name; raw = pass-cons is_value_byte space f.value refl h.value }
 
+-- a field of a `Headers` can be sent
+valid_is_sendable : (f : HeaderField) → IsValidField f → IsSendable f
+valid_is_sendable f h = let read = valid-read f h in record { name = read.0; value = read.1 }
+
+pub valid_are_sendable : (headers : List HeaderField) → All IsValidField headers → All IsSendable headers
+valid_are_sendable headers h = All-weaker IsValidField IsSendable valid_is_sendable headers h
+
 -- ---- the whole head
 
 server_line : (b : Bool) (f : HeaderField) → flat_map field_line (if b then f ∷ [] else []) ≡ (if b then field_line f else [])
@@ -175,7 +183,7 @@ head_printed chunked closing status headers rest =
 
 pub head_is_read_back : HeadIsReadBack
 unfolding head_sent
-head_is_read_back chunked closing status headers rest low high clean =
+head_is_read_back headers clean chunked closing status rest low high =
     let sent : List HeaderField = fields_sent chunked closing status headers in
     record {
       head = head_sent status sent;

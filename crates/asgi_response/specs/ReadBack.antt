@@ -6,7 +6,7 @@ use Rattle.httparse.specs.Spans.{name_and_value}
 use Rattle.asgi_types.specs.Fields.{HeaderField}
 use Rattle.asgi_response.specs.Fields.{is_shown, head_text}
 
--- a field that can be sent: `Headers` refuses any other
+-- a field that can be sent, as each field of a `Headers` can
 pub record IsSendable (f : HeaderField) : Type 0 where
   pub name : IsToken f.name
   pub value : AllPass is_value_byte f.value
@@ -29,8 +29,11 @@ pub record IsReadAs (bytes : List ℕ) (status : ℕ) (fields : List HeaderField
   pub code : status_code head ≡ status
   pub named : map name_and_value head.fields ≡ map as_read fields
 
--- no value of the application's can add a line to the head
-abbrev pub HeadIsReadBack : Type 0
-HeadIsReadBack = (chunked closing : Bool) (status : ℕ) (headers : List HeaderField) (rest : List ℕ)
-    → 200 ≤ status → status ≤ 599 → All IsSendable headers
+-- the head of a response with these fields is read back: no value can add a line to it
+abbrev pub IsHeadReadBack : List HeaderField → Type 0
+IsHeadReadBack headers = (chunked closing : Bool) (status : ℕ) (rest : List ℕ) → 200 ≤ status → status ≤ 599
     → IsReadAs (head_text chunked closing status headers ++ rest) status (fields_sent chunked closing status headers) rest
+
+-- so it is with all fields that can be sent
+abbrev pub HeadIsReadBack : Type 0
+HeadIsReadBack = (headers : List HeaderField) → All IsSendable headers → IsHeadReadBack headers

@@ -42,3 +42,10 @@ ResponseIsReadBack = (facts : Facts) (events : List Outgoing) (r : IsResponse (a
     → All IsSendable r.headers → All IsSized (r.parts ++ r.last ∷ [])
     → has_content facts.head_only r.status ≡ true
     → IsRead facts (message_text facts (accepted facts events)) r.status r.headers (concat (r.parts ++ r.last ∷ []))
+
+-- so it is with a response of just these fields
+abbrev pub IsResponseReadBack : List HeaderField → Type 0
+IsResponseReadBack headers = (facts : Facts) (events : List Outgoing) (r : IsResponse (accepted facts events))
+    → r.headers ≡ headers → All IsSized (r.parts ++ r.last ∷ [])
+    → has_content facts.head_only r.status ≡ true
+    → IsRead facts (message_text facts (accepted facts events)) r.status r.headers (concat (r.parts ++ r.last ∷ []))

@@ -1,7 +1,10 @@
 //! Laws of the text of a response.
+ghost use Rattle.std.specs.Prelude.{All};
 ghost use Rattle.asgi_response.specs.Laws.{TextOnlyGrows, PassedIsAccepted};
-ghost use Rattle.asgi_response.specs.ReadBack.{HeadIsReadBack};
-ghost use Rattle.asgi_response.specs.ReadBackBody.{ResponseIsReadBack};
+ghost use Rattle.asgi_response.specs.ReadBack.{HeadIsReadBack, IsHeadReadBack, IsSendable};
+ghost use Rattle.asgi_response.specs.ReadBackBody.{ResponseIsReadBack, IsResponseReadBack};
+
+use asgi_types::Headers;
 
 /// The text of a list of events is the beginning of the text of each longer list.
 pub fn text_only_grows()
@@ -22,3 +25,12 @@ pub fn head_is_read_back()
 pub fn response_is_read_back()
     ensures { ResponseIsReadBack }
 {}
+
+/// The same of the fields of any `Headers`, with nothing asked of them: that they can be sent is its own law.
+pub fn headers_are_read_back(headers: &Headers)
+    ensures sendable { All IsSendable headers.now }
+    ensures head { IsHeadReadBack headers.now }
+    ensures response { IsResponseReadBack headers.now }
+{
+    headers.fields_are_valid();
+}

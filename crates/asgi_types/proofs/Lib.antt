@@ -1,3 +1,4 @@
+pub mod FieldLemmas
 pub mod LengthLemmas
 pub mod PlaceLemmas
 pub mod ReasonLemmas

@@ -2,12 +2,15 @@
 use Rattle.std.proofs.Common.{◌≡◌, ℕ, ◌+◌, ◌-◌, ◌≤◌, List, [], ◌∷◌, ◌++◌, length, take, drop, refl, ap, ◌∙◌, arith, All, append_assoc, length-append}
 use Rattle.std.specs.Prelude.{map, slice_range}
 use Rattle.std.proofs.lemmas.List.{take-append-le, drop-append-le, length-drop, length-map, map-append, append-nil}
-use Rattle.std.proofs.lemmas.List.Elements.{All-head, All-tail}
+use Rattle.std.proofs.lemmas.List.Elements.{All-head, All-tail, All-same, All-push, All-weaker}
 use Rattle.std.proofs.Math.Seq.{take-append_seam, drop-append_seam}
 use Rattle.http_header.specs.Token.{lowercase}
+use Rattle.http_header.specs.FieldName.{IsFieldName}
+use Rattle.http_header.specs.FieldValue.{IsFieldValue}
 use Rattle.asgi_types.specs.declared.headers.Place.{Place}
-use Rattle.asgi_types.specs.Fields.{HeaderField, field_of}
-use Rattle.asgi_types.specs.Places.{IsPlaceIn, field_at, place_behind}
+use Rattle.asgi_types.specs.Fields.{HeaderField, IsValidField, field_of}
+use Rattle.asgi_types.specs.Places.{HoldsFields, IsPlaceIn, field_at, place_behind}
+use Rattle.asgi_types.proofs.FieldLemmas.{valid-field_of}
 
 -- a range stays where more bytes follow
 slice_range-append : (s t : List ℕ) (i j : ℕ) → i ≤ j → j ≤ length s → slice_range (s ++ t) i j ≡ slice_range s i j
@@ -62,3 +65,30 @@ fields-push old text new_text name value places new_places all view texts behind
     ∙ map-append (field_at (text ++ (lowercase name ++ value))) places (place ∷ [])
     ∙ ap (λ (fs : List HeaderField). fs ++ field_at (text ++ (lowercase name ++ value)) place ∷ []) (fields-append text (lowercase name ++ value) places all ∙ view)
     ∙ ap (λ (f : HeaderField). old ++ f ∷ []) (new_field text name value)
+
+-- ---- what a push keeps
+
+-- places stay inside where the text grows, and the new one is at its end
+inside-push : (n m : ℕ) (name value : List ℕ) (places : List Place) → m ≡ n + (length name + length value)
+    → All (IsPlaceIn n) places → All (IsPlaceIn m) (places ++ place_behind n name value ∷ [])
+inside-push n m name value places size all =
+    All-push (IsPlaceIn m) places (place_behind n name value)
+    (All-weaker (IsPlaceIn n) (IsPlaceIn m) (λ p at. record { name = at.name; value = at.value; inside = omega (arith, at.inside, size) }) places all)
+    (record { name = omega arith; value = omega arith; inside = omega (arith, size) })
+
+pub holds-push : (text new_text name value : List ℕ) (places new_places : List Place) → IsFieldName name → IsFieldValue value
+    → HoldsFields text places
+    → new_text ≡ text ++ (lowercase name ++ value) → new_places ≡ places ++ place_behind (length text) name value ∷ []
+    → HoldsFields new_text new_places
+holds-push text new_text name value places new_places named valued h texts behind =
+    let old : List HeaderField = map (field_at text) places in
+    record {
+      inside = All-same (IsPlaceIn (length new_text)) new_places (places ++ place_behind (length text) name value ∷ []) behind
+          (inside-push (length text) (length new_text) name value places (ap length texts ∙ size) h.inside);
+      valid = All-same IsValidField (map (field_at new_text) new_places) (old ++ field_of name value ∷ [])
+          (fields-push old text new_text name value places new_places h.inside refl texts behind)
+          (All-push IsValidField old (field_of name value) h.valid (valid-field_of name value named valued));
+    }
+  where
+    size : length (text ++ (lowercase name ++ value)) ≡ length text + (length name + length value)
+    size = simp (length-append, length-map)

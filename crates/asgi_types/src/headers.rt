@@ -1,11 +1,11 @@
 //! Header fields in their order.
-ghost use Rattle.std.specs.Prelude.{◌≡◌, ◌≤◌, [], ◌∷◌, ◌++◌, ℕ, List, IfOk, OnOk, OnErr, IfSome, IsNone, IsTrue, ◌↔◌, length, drop, slice_get, Some};
+ghost use Rattle.std.specs.Prelude.{◌≡◌, ◌≤◌, [], ◌∷◌, ◌++◌, ℕ, List, IfOk, OnOk, OnErr, IfSome, IsNone, IsTrue, ◌↔◌, length, drop, slice_get, Some, All};
 ghost use Rattle.std.specs.Result.{IsErrOf};
 ghost use Rattle.http_header.specs.FieldName.{IsFieldName};
 ghost use Rattle.http_header.specs.FieldValue.{IsFieldValue};
 ghost use Rattle.std.specs.Iterator.{YieldsFirstBy, item_count};
 ghost use Rattle.http_header.specs.Token.{lowercase};
-ghost use Rattle.asgi_types.specs.Fields.{HeaderField, field_of, shown};
+ghost use Rattle.asgi_types.specs.Fields.{HeaderField, IsValidField, field_of, shown};
 ghost use Rattle.asgi_types.specs.Places.{field_at, place_behind, IsPlaceIn};
 
 use http_header::is_token;
@@ -43,15 +43,15 @@ pub struct Headers {
 }
 
 impl Model for Headers {
-    ghost use Rattle.std.specs.Prelude.{List, map, length, All};
+    ghost use Rattle.std.specs.Prelude.{List, map};
     ghost use Rattle.asgi_types.specs.Fields.{HeaderField};
-    ghost use Rattle.asgi_types.specs.Places.{field_at, IsPlaceIn};
+    ghost use Rattle.asgi_types.specs.Places.{field_at, HoldsFields};
 
     ghost Value = { List HeaderField };
 
     ghost view = { λ h. map (field_at h.text.items) h.places.items };
 
-    ghost invariant = { λ h. All (IsPlaceIn (length h.text.items)) h.places.items };
+    ghost invariant = { λ h. HoldsFields h.text.items h.places.items };
 }
 
 impl Headers {
@@ -119,6 +119,13 @@ impl Headers {
             text: self.text.as_slice(),
             places: self.places.as_slice(),
         }
+    }
+
+    /// The law of every list: whoever made it, no byte of a field ends its line.
+    pub fn fields_are_valid(&self)
+        ensures { All IsValidField self.now }
+    {
+        let _ = &self.text;
     }
 
     /// The same fields once more, in memory of their own.
