@@ -20,4 +20,4 @@ pub use laws::{head_is_read_back, passed_is_accepted, response_is_read_back, tex
 pub use progress::Progress;
 pub use refusal::{Input, refusal_text};
 pub use text::ResponseText;
-pub use write::{Wrote, write_out};
+pub use write::{Wrote, is_passing, write_out};
