@@ -12,3 +12,4 @@ pub mod RoomLemmas
 pub mod ReadBackLemmas
 pub mod ReadBackBodyLemmas
 pub mod StartLemmas
+pub mod LawfulLemmas

@@ -1,5 +1,5 @@
 //! Laws of the text of a response.
-ghost use Rattle.asgi_response.specs.Laws.{TextOnlyGrows, PassedIsAccepted};
+ghost use Rattle.asgi_response.specs.Laws.{TextOnlyGrows, PassedIsAccepted, LawfulIsAccepted};
 ghost use Rattle.asgi_response.specs.ReadBack.{HeadIsReadBack};
 ghost use Rattle.asgi_response.specs.ReadBackBody.{ResponseIsReadBack};
 
@@ -11,6 +11,11 @@ pub fn text_only_grows()
 /// Events that a judge passes, one behind the other, are accepted whole.
 pub fn passed_is_accepted()
     ensures { PassedIsAccepted }
+{}
+
+/// A lawful list of events is accepted whole.
+pub fn lawful_is_accepted()
+    ensures { LawfulIsAccepted }
 {}
 
 /// A recipient reads the status and just the fields that were sent: no value can add a line.

@@ -16,7 +16,10 @@ mod text;
 mod write;
 
 pub use counts::{Counted, Counts};
-pub use laws::{head_is_read_back, passed_is_accepted, response_is_read_back, text_only_grows};
+pub use laws::{
+    head_is_read_back, lawful_is_accepted, passed_is_accepted, response_is_read_back,
+    text_only_grows,
+};
 pub use progress::Progress;
 pub use refusal::{Input, refusal_text};
 pub use text::ResponseText;
