@@ -13,3 +13,4 @@ pub mod ReadBackLemmas
 pub mod ReadBackBodyLemmas
 pub mod StartLemmas
 pub mod LawfulLemmas
+pub mod SizedLemmas

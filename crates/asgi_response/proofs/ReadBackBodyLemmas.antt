@@ -20,6 +20,7 @@ use Rattle.asgi_response.specs.ReadBack.{IsReadAs, fields_sent}
 use Rattle.asgi_response.specs.ReadBackBody.{Carries, IsSized, ResponseIsReadBack}
 use Rattle.asgi_response.specs.Standing.{part}
 use Rattle.asgi_response.proofs.ReadBackLemmas.{head_is_read_back}
+use Rattle.asgi_response.proofs.SizedLemmas.{content_is_sized}
 use Rattle.asgi_response.proofs.StartLemmas.{final_status}
 
 -- ---- the bodies of a response
@@ -174,4 +175,5 @@ response_is_read_back facts events r clean sized has =
           (head_is_read_back chunked closing r.status r.headers body range.0 range.1 clean);
       carries = subst (λ (t : List ℕ). Carries chunked t (concat (r.parts ++ r.last ∷ [])))
           (sym (all_text facts r.status r.headers r.parts r.last has)) (carried chunked r.parts r.last sized);
+      sized = content_is_sized facts events r has;
     }
