@@ -12,3 +12,5 @@ pub mod RoomLemmas
 pub mod ReadBackLemmas
 pub mod ReadBackBodyLemmas
 pub mod StartLemmas
+pub mod LawfulLemmas
+pub mod SizedLemmas

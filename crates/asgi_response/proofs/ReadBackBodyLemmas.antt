@@ -20,6 +20,7 @@ use Rattle.asgi_response.specs.ReadBack.{IsReadAs, IsSendable, fields_sent}
 use Rattle.asgi_response.specs.ReadBackBody.{Carries, IsSized, ResponseIsReadBack, IsResponseReadBack}
 use Rattle.asgi_response.specs.Standing.{part}
 use Rattle.asgi_response.proofs.ReadBackLemmas.{head_is_read_back}
+use Rattle.asgi_response.proofs.SizedLemmas.{content_is_sized}
 use Rattle.asgi_response.proofs.StartLemmas.{final_status}
 
 -- ---- the bodies of a response
@@ -174,6 +175,7 @@ response_is_read_back facts events r clean sized has =
           (head_is_read_back r.headers clean chunked closing r.status body range.0 range.1);
       carries = subst (λ (t : List ℕ). Carries chunked t (concat (r.parts ++ r.last ∷ [])))
           (sym (all_text facts r.status r.headers r.parts r.last has)) (carried chunked r.parts r.last sized);
+      sized = content_is_sized facts events r has;
     }
 
 pub response_with_is_read_back : (headers : List HeaderField) → All IsSendable headers → IsResponseReadBack headers

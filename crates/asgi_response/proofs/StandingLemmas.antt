@@ -20,8 +20,8 @@ use Rattle.asgi_response.specs.Fields.{is_chunked, closes, head_text}
 use Rattle.asgi_response.specs.Progress.{closes_behind}
 use Rattle.asgi_response.specs.Response.{body_text, message_text, continue_text, response_text}
 use Rattle.asgi_response.specs.Room.{LacksRoom, LacksMemory, is_start}
-use Rattle.asgi_response.specs.Standing.{part, with_sent, IsOpen, HasStart, HasParts, IsStage, HasAccepted, StandsFor, Grows}
-use Rattle.asgi_response.specs.Steps.{coding_of, coded_text, is_allowed, left_at_start, content_due, next_stage, may_start, content_at_start, after_part, part_added, after_event, added_by}
+use Rattle.asgi_response.specs.Standing.{coding_of, part, with_sent, IsOpen, HasStart, HasParts, IsStage, HasAccepted, StandsFor, Grows}
+use Rattle.asgi_response.specs.Steps.{coded_text, is_allowed, left_at_start, content_due, next_stage, may_start, content_at_start, after_part, part_added, after_event, starts, added_by}
 use Rattle.asgi_response.proofs.AcceptedLemmas.{passes_body, second_start, after_closed, first_start, first_body, other_scope, accepted-push, promised_behind}
 
 -- ---- an event that passes or not
@@ -280,11 +280,33 @@ pub grows_behind : (t : ResponseText) (facts : Facts) (events : List Outgoing) (
     → StandsFor t facts events → Grows (response_text facts events) (response_text facts (events ++ event ∷ [])) old new
 grows_behind t facts events event old new e at = record { added = added_by t event; text = text_behind t facts events event at; output = e }
 
+-- where a text starts, the start is lawful
+first_passes : (facts : Facts) (said : List Outgoing) (head : List ℕ) (status : ℕ) (headers : List HeaderField) (stage : Stage) → IsStage facts said head stage
+    → IsTrue (may_start stage status (is_faulty (content_length headers))) → IsTrue (passes facts said (ResponseStart status headers))
+first_passes facts said head status headers Waiting none h = first_start facts said status headers none ∙ h
+first_passes facts said head status headers (Started content) at h = cc
+first_passes facts said head status headers (Begun content) at h = cc
+first_passes facts said head status headers Complete at h = cc
+
+start_passes : (t : ResponseText) (facts : Facts) (said : List Outgoing) (event : Outgoing) → HasAccepted t facts said → IsTrue (starts t event)
+    → IsTrue (is_start event && passes facts said event)
+start_passes t facts said (ResponseStart status headers) at h = first_passes facts said t.head status headers t.stage at.stage h
+start_passes t facts said (ResponseBody a b) at h = cc
+start_passes t facts said (WsAccept a b) at h = cc
+start_passes t facts said (WsSend a) at h = cc
+start_passes t facts said (WsClose a b) at h = cc
+start_passes t facts said (DenialStart a b) at h = cc
+start_passes t facts said (DenialBody a b) at h = cc
+start_passes t facts said (StartupComplete a) at h = cc
+start_passes t facts said (StartupFailed a) at h = cc
+start_passes t facts said ShutdownComplete at h = cc
+start_passes t facts said (ShutdownFailed a) at h = cc
+
 -- an event is refused where its own head, or the output, has no room
 pub lacks_behind : (t : ResponseText) (facts : Facts) (events : List Outgoing) (event : Outgoing) (capacity len : ℕ)
-    → IsTrue (is_start event) ⊎ LacksRoom capacity len (added_by t event) → StandsFor t facts events
-    → LacksMemory capacity len event (response_text facts events) (response_text facts (events ++ event ∷ []))
-lacks_behind t facts events event capacity len (inl start) at = inl start
+    → IsTrue (starts t event) ⊎ LacksRoom capacity len (added_by t event) → StandsFor t facts events
+    → LacksMemory capacity len facts events event
+lacks_behind t facts events event capacity len (inl start) at = inl (start_passes t facts (accepted facts events) event at start)
 lacks_behind t facts events event capacity len (inr room) at =
     let longer : length (response_text facts (events ++ event ∷ [])) ≡ length (response_text facts events) + length (added_by t event) =
     ap (λ (x : List ℕ). length x) (text_behind t facts events event at) ∙ length-append (response_text facts events) (added_by t event) in

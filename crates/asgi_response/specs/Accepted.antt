@@ -1,5 +1,5 @@
 -- The events of a list that are lawful in their place: what a judge passes of them (ASGI, Response Start and
--- Response Body). A lawful list is accepted whole.
+-- Response Body). By `LawfulIsAccepted` a lawful list is accepted whole.
 use Rattle.std.specs.Prelude.{Bool, true, false, List, [], ◌∷◌, ◌++◌, if◌then◌else◌}
 use Rattle.std.specs.List.{fold}
 use Rattle.asgi_types.specs.declared.scope.Kind.TheVariants.{Http}

@@ -1,16 +1,16 @@
--- How a count of failures rises. It stops at the greatest `u64`, and then counts as risen by any amount.
-use Rattle.std.specs.Prelude.{◌≡◌, ℕ, ◌+◌, ◌-◌, ◌^◌, ◌<◌, ◌≤◌, ◌⊎◌, List, length, Result, Ok, Err}
+-- How a count of failures rises. It stops at the greatest `u64`.
+use Rattle.std.specs.Prelude.{◌≡◌, ℕ, ◌+◌, ◌-◌, ◌^◌, ◌<◌, ◌≤◌, ◌⊎◌, min, List, length, Result, Ok, Err}
 
 -- a call that failed, or that took nothing of some bytes
 abbrev pub IsFailure : {E : Type 0} → List ℕ → Result ℕ E → Type 0
 IsFailure bytes (Ok n) = (n ≡ 0) × (0 < length bytes)
 IsFailure bytes (Err e) = Unit {0}
 
--- the count rose by n or more
+-- over several calls: the count rose by n or more, and one that stopped counts as risen by any amount
 abbrev pub RoseBy : ℕ → ℕ → ℕ → Type 0
 RoseBy n old new = (old + n ≤ new) ⊎ (2 ^ 64 - 1 ≤ new)
 
--- the count rises at a failure, and stays at any other call
+-- the count rises by one at a failure, and stays at any other call
 pub record CountsFailures {E : Type 0} (old new : ℕ) (bytes : List ℕ) (result : Result ℕ E) : Type 0 where
-  pub rises : IsFailure bytes result → RoseBy 1 old new
+  pub rises : IsFailure bytes result → new ≡ min (old + 1) (2 ^ 64 - 1)
   pub stays : (IsFailure bytes result → ⊥) → new ≡ old

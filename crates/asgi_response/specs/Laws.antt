@@ -3,6 +3,7 @@ use Rattle.std.specs.Prelude.{◌≡◌, ℕ, Bool, List, [], ◌∷◌, ◌++�
 use Rattle.asgi_types.specs.declared.facts.Facts.{Facts}
 use Rattle.asgi_types.specs.declared.scope.Kind.TheVariants.{Http}
 use Rattle.asgi_types.specs.declared.outgoing.Outgoing.{Outgoing}
+use Rattle.asgi_protocol.specs.Lawful.{IsLawful}
 use Rattle.asgi_protocol.specs.declared.verdict.Verdict.TheVariants.{Pass}
 use Rattle.asgi_protocol.specs.Verdicts.{verdict_on}
 use Rattle.asgi_response.specs.Accepted.{accepted}
@@ -21,3 +22,7 @@ abbrev pub PassedIsAccepted : Type 0
 PassedIsAccepted = (facts : Facts) (events : List Outgoing) (heard : Bool) (event : Outgoing)
     → accepted facts events ≡ events → verdict_on Http facts events heard event ≡ Pass
     → accepted facts (events ++ event ∷ []) ≡ events ++ event ∷ []
+
+-- a lawful list is accepted whole
+abbrev pub LawfulIsAccepted : Type 0
+LawfulIsAccepted = (facts : Facts) (events : List Outgoing) → IsLawful Http facts events → accepted facts events ≡ events

@@ -1,12 +1,14 @@
 -- What a recipient reads of a whole response, by the grammars of `httparse` and `http1` (RFC 9112, sections 4 to 7).
-use Rattle.std.specs.Prelude.{◌≡◌, ℕ, ◌<◌, ◌^◌, Bool, true, false, List, [], ◌∷◌, ◌++◌, length, All}
+use Rattle.std.specs.Prelude.{◌≡◌, ℕ, ◌<◌, ◌^◌, Bool, true, false, List, [], ◌∷◌, ◌++◌, length, All, Some}
 use Rattle.std.specs.List.{concat}
 use Rattle.httparse.specs.Ascii.{crlf_bytes}
 use Rattle.http1.specs.ChunkedBody.{Chunks, AreChunks, print_chunks, content}
 use Rattle.asgi_types.specs.Fields.{HeaderField}
 use Rattle.asgi_types.specs.declared.facts.Facts.{Facts}
 use Rattle.asgi_types.specs.declared.outgoing.Outgoing.{Outgoing}
+use Rattle.asgi_protocol.specs.ContentLengths.{content_length}
 use Rattle.asgi_protocol.specs.Lawful.{IsResponse}
+use Rattle.asgi_protocol.specs.Rules.{given_length}
 use Rattle.asgi_response.specs.Accepted.{accepted}
 use Rattle.asgi_response.specs.Fields.{is_chunked, closes}
 use Rattle.asgi_response.specs.Content.{has_content}
@@ -29,11 +31,13 @@ Carries false bytes sent = bytes ≡ sent
 abbrev pub IsSized : List ℕ → Type 0
 IsSized body = length body < 2 ^ 64
 
--- the text of these events is read as the status, the fields, and just the bytes of the bodies
+-- the text of these events is read as the status, the fields, and just the bytes of the bodies, which are as many as
+-- content-length says
 pub record IsRead (facts : Facts) (text : List ℕ) (status : ℕ) (headers : List HeaderField) (sent : List ℕ) : Type 0 where
   pub body : List ℕ
   pub head : IsReadAs text status (fields_sent (is_chunked facts.version status headers) (closes facts.close headers) status headers) body
   pub carries : Carries (is_chunked facts.version status headers) body sent
+  pub sized : (n : ℕ) → given_length (content_length headers) ≡ Some n → length sent ≡ n
 
 -- The text of a complete response that has content, behind any `100 Continue`, is read back, where each field can be
 -- sent and each body is sized.

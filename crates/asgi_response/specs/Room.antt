@@ -1,7 +1,10 @@
 -- When a text may be refused for want of memory: only where the output had no room for it.
-use Rattle.std.specs.Prelude.{ℕ, ◌+◌, ◌<◌, ◌⊎◌, Bool, true, false, IsTrue, List, length}
+use Rattle.std.specs.Prelude.{ℕ, ◌+◌, ◌<◌, ◌⊎◌, ◌&&◌, Bool, true, false, IsTrue, List, [], ◌∷◌, ◌++◌, length}
+use Rattle.asgi_types.specs.declared.facts.Facts.{Facts}
 use Rattle.asgi_types.specs.declared.outgoing.Outgoing.{Outgoing}
 use Rattle.asgi_types.specs.declared.outgoing.Outgoing.TheVariants.{ResponseStart}
+use Rattle.asgi_response.specs.Accepted.{passes, accepted}
+use Rattle.asgi_response.specs.Response.{response_text}
 
 -- a vector of so many bytes and of this capacity has no room for the text
 abbrev pub LacksRoom : ℕ → ℕ → List ℕ → Type 0
@@ -12,6 +15,9 @@ abbrev pub is_start : Outgoing → Bool
 is_start (ResponseStart status headers) = true
 is_start _ = false
 
--- there was no memory for the head of a start, or the vector has no room for what makes the one text the other
-abbrev pub LacksMemory : ℕ → ℕ → Outgoing → List ℕ → List ℕ → Type 0
-LacksMemory capacity len event before after = IsTrue (is_start event) ⊎ (capacity + length before < len + length after)
+-- there was no memory for the head of a start that is lawful in its place, or the vector has no room for what the event
+-- adds to the text
+abbrev pub LacksMemory : ℕ → ℕ → Facts → List Outgoing → Outgoing → Type 0
+LacksMemory capacity len facts events event =
+    IsTrue (is_start event && passes facts (accepted facts events) event)
+    ⊎ (capacity + length (response_text facts events) < len + length (response_text facts (events ++ event ∷ [])))

@@ -1,5 +1,5 @@
 -- What a response text stands for: the facts of a request, and the list of events that it has taken.
-use Rattle.std.specs.Prelude.{◌≡◌, ℕ, ◌+◌, true, List, [], ◌∷◌, ◌++◌, map, Option, Some, None}
+use Rattle.std.specs.Prelude.{◌≡◌, ℕ, ◌+◌, Bool, true, List, [], ◌∷◌, ◌++◌, map, Option, Some, None, if◌then◌else◌}
 use Rattle.asgi_types.specs.Fields.{HeaderField}
 use Rattle.asgi_types.specs.declared.facts.Facts.{Facts}
 use Rattle.asgi_types.specs.declared.outgoing.Outgoing.{Outgoing}
@@ -7,6 +7,8 @@ use Rattle.asgi_types.specs.declared.outgoing.Outgoing.TheVariants.{ResponseStar
 use Rattle.asgi_protocol.specs.Lawful.{IsResponse}
 use Rattle.asgi_protocol.specs.Rules.{promised_length, body_bytes}
 use Rattle.asgi_response.specs.declared.text.ResponseText.{ResponseText}
+use Rattle.asgi_response.specs.declared.content.Coding.{Coding}
+use Rattle.asgi_response.specs.declared.content.Coding.TheVariants.{Nothing, Plain, Chunked}
 use Rattle.asgi_response.specs.declared.content.Content.{Content}
 use Rattle.asgi_response.specs.declared.text.Stage.{Stage}
 use Rattle.asgi_response.specs.declared.text.Stage.TheVariants.{Waiting, Started, Begun, Complete}
@@ -14,12 +16,15 @@ use Rattle.asgi_response.specs.Fields.{is_chunked, closes, head_text}
 use Rattle.asgi_response.specs.Content.{has_content}
 use Rattle.asgi_response.specs.Accepted.{accepted}
 use Rattle.asgi_response.specs.Progress.{closes_behind}
-use Rattle.asgi_response.specs.Steps.{coding_of}
 
 -- the bytes that were promised, from those that were sent and those that are left
 abbrev pub with_sent : ℕ → Option ℕ → Option ℕ
 with_sent sent None = None
 with_sent sent (Some left) = Some (sent + left)
+
+-- how the bodies are written, where the response has content or not, and in chunks or not
+abbrev pub coding_of : Bool → Bool → Coding
+coding_of content chunked = if content then (if chunked then Chunked else Plain) else Nothing
 
 abbrev pub part : List ℕ → Outgoing
 part body = ResponseBody body true

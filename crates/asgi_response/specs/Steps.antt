@@ -19,6 +19,7 @@ use Rattle.asgi_response.specs.declared.text.Stage.{Stage}
 use Rattle.asgi_response.specs.declared.text.Stage.TheVariants.{Waiting, Started, Begun, Complete}
 use Rattle.asgi_response.specs.Fields.{has_no_content, is_chunked, closes, head_text}
 use Rattle.asgi_response.specs.Content.{has_content, part_text}
+use Rattle.asgi_response.specs.Standing.{coding_of}
 
 -- ---- of the fields
 
@@ -54,10 +55,6 @@ seen_in (value ∷ []) = seen_number (length_of_text value)
 seen_in (value ∷ another ∷ values) = seen.Faulty
 
 -- ---- of the content
-
--- how the bodies are written
-abbrev pub coding_of : Bool → Bool → Coding
-coding_of content chunked = if content then (if chunked then Chunked else Plain) else Nothing
 
 -- the text of a body that is written so
 abbrev pub coded_text : Coding → List ℕ → Bool → List ℕ
@@ -138,12 +135,18 @@ progress_at (Started content) close = progress.Nothing
 progress_at (Begun content) close = progress.Begun
 progress_at Complete close = progress.Complete close
 
--- the text behind an event, and what it added to the output
+-- the text behind an event
 abbrev pub after_event : ResponseText → Outgoing → ResponseText
 after_event text (ResponseStart status headers) = after_start text status headers
 after_event text (ResponseBody body more_body) = after_part text (content_due text.stage) body more_body
 after_event text _ = text
 
+-- the event is a start that the text takes
+abbrev pub starts : ResponseText → Outgoing → Bool
+starts text (ResponseStart status headers) = may_start text.stage status (is_faulty (content_length headers))
+starts text _ = false
+
+-- what it added to the output
 abbrev pub added_by : ResponseText → Outgoing → List ℕ
 added_by text (ResponseBody body more_body) = part_added text.head (content_due text.stage) body more_body
 added_by text _ = []

@@ -1,5 +1,5 @@
 //! Texts appended together or not at all.
-ghost use Rattle.std.specs.Prelude.{◌≡◌, ◌++◌, ◌≤◌, ◌<◌, OnOk, OnErr, flat_map, drop, false, length};
+ghost use Rattle.std.specs.Prelude.{◌≡◌, ◌++◌, ◌^◌, ◌≤◌, ◌<◌, OnOk, OnErr, IfOk, flat_map, drop, false, length};
 ghost use Rattle.std.specs.Vec.{vec_len, vec_capacity};
 ghost use Rattle.asgi_response.specs.Room.{LacksRoom};
 ghost use Rattle.std.specs.Fmt.{digits, digit_glyph};
@@ -12,26 +12,24 @@ pub fn append_all(out: &mut Vec<u8>, texts: &[&[u8]]) -> Result<(), AllocError>
     ensures err { OnErr result (out.new.items ≡ out.old.items) }
     ensures full { OnErr result (LacksRoom (vec_capacity out.old) (vec_len out.old) (flat_map (λ text. text.now) texts.now)) }
 {
-    let start = out.len();
-    out.reserve(total_len(texts))?;
+    out.reserve(total_len(texts)?)?;
     for text in texts {
-        if let Err(e) = out.extend_from_slice(*text) {
-            out.truncate(start);
-            return Err(e);
-        }
+        // The room is there, so this never fails: only its type says that it may.
+        out.extend_from_slice(*text)?;
     }
     Ok(())
 }
 
-/// How many bytes the texts have together.
-fn total_len(texts: &[&[u8]]) -> usize
-    ensures { result ≤ length (flat_map (λ text. text.now) texts.now) }
+/// How many bytes the texts have together. It fails where a `usize` can't say it: no memory holds so many.
+fn total_len(texts: &[&[u8]]) -> Result<usize, AllocError>
+    ensures ok { IfOk result (λ n. n ≡ length (flat_map (λ text. text.now) texts.now)) }
+    ensures err { OnErr result (2 ^ 64 ≤ length (flat_map (λ text. text.now) texts.now)) }
 {
     let mut total = 0usize;
     for text in texts {
-        total = total.saturating_add(text.len());
+        total = total.checked_add(text.len()).ok_or(AllocError)?;
     }
-    total
+    Ok(total)
 }
 
 /// Puts the number in lowercase hexadecimal, without leading zeros, at the end of the buffer, and says where it begins.

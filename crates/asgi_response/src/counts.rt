@@ -28,6 +28,7 @@ pub trait Counts {
 /// Any writer, with a count of its failures.
 #[derive(Drop)]
 pub struct Counted<W> {
+    /// Each call is handed on to it.
     pub writer: W,
     failures: u64,
 }

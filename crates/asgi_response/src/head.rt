@@ -20,8 +20,8 @@ const CHUNKED_LINE: &[u8] = b"transfer-encoding: chunked\r\n";
 
 const CLOSE_LINE: &[u8] = b"connection: close\r\n";
 
-/// The most bytes that a head has beside the application's fields.
-const REST: usize = 128;
+/// The most bytes that a head has beside the application's fields: at 431, in chunks, before the connection closes.
+const REST: usize = 95;
 
 /// The head of a response, in memory of its own.
 pub fn head_text(

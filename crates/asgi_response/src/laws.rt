@@ -1,10 +1,16 @@
 //! Laws of the text of a response.
+<<<<<<< HEAD
 ghost use Rattle.std.specs.Prelude.{All};
 ghost use Rattle.asgi_response.specs.Laws.{TextOnlyGrows, PassedIsAccepted};
 ghost use Rattle.asgi_response.specs.ReadBack.{HeadIsReadBack, IsHeadReadBack, IsSendable};
 ghost use Rattle.asgi_response.specs.ReadBackBody.{ResponseIsReadBack, IsResponseReadBack};
 
 use asgi_types::Headers;
+=======
+ghost use Rattle.asgi_response.specs.Laws.{TextOnlyGrows, PassedIsAccepted, LawfulIsAccepted};
+ghost use Rattle.asgi_response.specs.ReadBack.{HeadIsReadBack};
+ghost use Rattle.asgi_response.specs.ReadBackBody.{ResponseIsReadBack};
+>>>>>>> s1
 
 /// The text of a list of events is the beginning of the text of each longer list.
 pub fn text_only_grows()
@@ -14,6 +20,11 @@ pub fn text_only_grows()
 /// Events that a judge passes, one behind the other, are accepted whole.
 pub fn passed_is_accepted()
     ensures { PassedIsAccepted }
+{}
+
+/// A lawful list of events is accepted whole.
+pub fn lawful_is_accepted()
+    ensures { LawfulIsAccepted }
 {}
 
 /// A recipient reads the status and just the fields that were sent: no value can add a line.

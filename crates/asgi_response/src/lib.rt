@@ -17,10 +17,10 @@ mod write;
 
 pub use counts::{Counted, Counts};
 pub use laws::{
-    head_is_read_back, headers_are_read_back, passed_is_accepted, response_is_read_back,
-    text_only_grows,
+    head_is_read_back, headers_are_read_back, lawful_is_accepted, passed_is_accepted,
+    response_is_read_back, text_only_grows,
 };
 pub use progress::Progress;
 pub use refusal::{Input, refusal_text};
 pub use text::ResponseText;
-pub use write::{Wrote, write_out};
+pub use write::{Wrote, is_passing, write_out};

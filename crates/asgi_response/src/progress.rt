@@ -5,7 +5,7 @@
 pub enum Progress {
     /// No body was taken: nothing of the response is written.
     Nothing,
-    /// The head and a body are written, and another body follows.
+    /// The head and a body are written, and another body may follow.
     Begun,
     /// The last body is written.
     Complete {

@@ -1,5 +1,9 @@
 //! What a server answers in place of an application's response.
 ghost use Rattle.std.specs.Prelude.{◌≡◌, ◌++◌, ◌==◌, ◌||◌, IsTrue, OnOk, OnErr};
+ghost use Rattle.std.specs.Vec.{vec_len, vec_capacity};
+ghost use Rattle.asgi_response.specs.Exchange as spec;
+ghost use Rattle.asgi_response.specs.Refusals.{is_refusal};
+ghost use Rattle.asgi_response.specs.Room.{LacksRoom};
 
 use crate::append::append_all;
 use crate::head::{CRLF, SPACE, VERSION, reason_phrase};
@@ -39,11 +43,6 @@ const REFUSED_501: &[u8] =
     b"HTTP/1.1 501 Not Implemented\r\ncontent-length: 0\r\nconnection: close\r\n\r\n";
 
 const CLOSING_FIELDS: &[u8] = b"content-length: 0\r\nconnection: close\r\n";
-
-ghost use Rattle.asgi_response.specs.Exchange as spec;
-ghost use Rattle.std.specs.Vec.{vec_len, vec_capacity};
-ghost use Rattle.asgi_response.specs.Refusals.{is_refusal};
-ghost use Rattle.asgi_response.specs.Room.{LacksRoom};
 
 /// The text of a refusal: of 400, 403, 413, 426, 431, 500 or 501.
 pub fn refusal_text(status: u16) -> &'static [u8]

@@ -4,7 +4,15 @@ ghost use Rattle.std.specs.Vec.{vec_len, vec_capacity};
 ghost use Rattle.httparse.specs.Ascii.{crlf_bytes};
 ghost use Rattle.asgi_types.specs.declared.facts.Facts.{Facts};
 ghost use Rattle.asgi_types.specs.declared.outgoing.Outgoing.{Outgoing};
-ghost use Rattle.asgi_response.specs.Room.{LacksRoom, LacksMemory, is_start};
+ghost use Rattle.asgi_protocol.specs.ContentLengths.{content_length};
+ghost use Rattle.asgi_protocol.specs.Rules.{is_faulty};
+ghost use Rattle.asgi_response.specs.Content as contents;
+ghost use Rattle.asgi_response.specs.Exchange as exchange;
+ghost use Rattle.asgi_response.specs.Fields as fields;
+ghost use Rattle.asgi_response.specs.Room.{LacksRoom, LacksMemory};
+ghost use Rattle.asgi_response.specs.Standing as standing;
+ghost use Rattle.asgi_response.specs.Steps as steps;
+ghost use Rattle.asgi_response.specs.Steps.{seen_absent, seen_faulty, seen_given};
 
 use crate::append::{append_all, hexadecimal};
 use crate::content::{Coding, Content};
@@ -77,7 +85,7 @@ impl ResponseText {
             → Grows (response_text facts events) (response_text facts (events ++ event.now ∷ [])) out.old.items out.new.items) }
         ensures err { OnErr result ((self.new ≡ self.old) × (out.new.items ≡ out.old.items)) }
         ensures full { OnErr result ((facts : Facts) (events : List Outgoing) → StandsFor self.old facts events
-            → LacksMemory (vec_capacity out.old) (vec_len out.old) event.now (response_text facts events) (response_text facts (events ++ event.now ∷ []))) }
+            → LacksMemory (vec_capacity out.old) (vec_len out.old) facts events event.now) }
     {
         self.step(event, out)
     }
@@ -119,14 +127,12 @@ impl ResponseText {
 }
 
 impl ResponseText {
-    ghost use Rattle.asgi_response.specs.Steps as steps;
-
     /// Takes the event, and appends what it adds.
     fn step(&mut self, event: &Outgoing, out: &mut Vec<u8>) -> Result<(), AllocError>
         ensures ok { OnOk result (self.new ≡ steps.after_event self.old event.now) }
         ensures text { OnOk result (out.new.items ≡ out.old.items ++ steps.added_by self.old event.now) }
         ensures err { OnErr result ((self.new ≡ self.old) × (out.new.items ≡ out.old.items)) }
-        ensures full { OnErr result (IsTrue (is_start event.now) ⊎ LacksRoom (vec_capacity out.old) (vec_len out.old) (steps.added_by self.old event.now)) }
+        ensures full { OnErr result (IsTrue (steps.starts self.old event.now) ⊎ LacksRoom (vec_capacity out.old) (vec_len out.old) (steps.added_by self.old event.now)) }
     {
         if let Outgoing::ResponseStart { status, headers } = event {
             return self.take_start(*status, headers);
@@ -141,6 +147,7 @@ impl ResponseText {
     fn take_start(&mut self, status: u16, headers: &Headers) -> Result<(), AllocError>
         ensures ok { OnOk result (self.new ≡ steps.after_start self.old status headers.now) }
         ensures err { OnErr result (self.new ≡ self.old) }
+        ensures full { OnErr result (IsTrue (steps.may_start self.old.stage status (is_faulty (content_length headers.now)))) }
     {
         let length = Length::of(headers);
         if !may_start(self.stage, status, length) {
@@ -181,8 +188,6 @@ impl ResponseText {
 }
 
 impl Stage {
-    ghost use Rattle.asgi_response.specs.Steps as steps;
-
     /// Whether a body was taken.
     fn is_begun(self) -> bool
         ensures { result ≡ steps.is_begun self }
@@ -215,12 +220,6 @@ impl Stage {
     }
 }
 
-ghost use Rattle.asgi_response.specs.Steps as steps;
-ghost use Rattle.asgi_response.specs.Steps.{seen_absent, seen_faulty, seen_given};
-ghost use Rattle.asgi_response.specs.Fields as fields;
-ghost use Rattle.asgi_response.specs.Content as contents;
-ghost use Rattle.asgi_response.specs.Exchange as exchange;
-
 /// Whether a start is lawful here.
 fn may_start(stage: Stage, status: u16, length: Length) -> bool
     ensures { result ≡ steps.may_start stage status (seen_faulty length) }
@@ -237,7 +236,7 @@ fn is_chunked(version: HttpVersion, status: u16, length: Length) -> bool
 
 /// What the bodies behind a start may be.
 fn content_at_start(head_only: bool, status: u16, chunked: bool, length: Length) -> Content
-    ensures coding { result.coding ≡ steps.coding_of (contents.has_content head_only status) chunked }
+    ensures coding { result.coding ≡ standing.coding_of (contents.has_content head_only status) chunked }
     ensures left { result.left ≡ steps.left_at_start head_only status (seen_given length) }
 {
     if head_only || has_no_content(status) {
@@ -254,7 +253,7 @@ fn content_at_start(head_only: bool, status: u16, chunked: bool, length: Length)
 
 /// How the bodies of a response that has content are written.
 fn coding_of(chunked: bool) -> Coding
-    ensures { result ≡ steps.coding_of true chunked }
+    ensures { result ≡ standing.coding_of true chunked }
 {
     if chunked {
         return Coding::Chunked;

@@ -1,5 +1,6 @@
 //! Writing a text out.
-ghost use Rattle.std.specs.Prelude.{◌≡◌, ◌<◌, ◌≤◌, length, take};
+ghost use Rattle.std.specs.Prelude.{◌≡◌, ◌<◌, ◌≤◌, ◌⊎◌, ◌↔◌, IsTrue, length, take};
+ghost use Rattle.std.specs.IoError.{error_kind};
 ghost use Rattle.std.specs.Io.KnownBytes.{Appends};
 ghost use Rattle.asgi_response.specs.Counting.{RoseBy};
 ghost use Rattle.asgi_response.specs.Writing.{WritesOut};
@@ -13,6 +14,7 @@ const RETRIES: u32 = 1_000;
 /// How the writing of a text ended.
 #[derive(Clone, Copy, Debug, PartialEq, Eq)]
 pub enum Wrote {
+    /// All of the text went out.
     Done,
     /// This many bytes of the text went out.
     Failed(usize),
@@ -56,7 +58,9 @@ fn write_retrying<W: Counts>(writer: &mut W, bytes: &[u8]) -> usize
     writer.write_some(bytes).unwrap_or(0)
 }
 
-/// Whether the fault passes: an interruption, or a call that would block.
-fn is_passing(e: &io::Error) -> bool {
+/// Whether the fault passes, so that the call may be tried again: an interruption, or a call that would block.
+pub fn is_passing(e: &io::Error) -> bool
+    ensures { IsTrue result ↔ ((error_kind e.now ≡ ErrorKind.Interrupted) ⊎ (error_kind e.now ≡ ErrorKind.WouldBlock)) }
+{
     e.kind() == ErrorKind::Interrupted || e.kind() == ErrorKind::WouldBlock
 }

@@ -33,6 +33,31 @@ impl Write for Choppy {
     }
 }
 
+/// Would block so many times in front of each byte that it takes.
+#[derive(Drop)]
+struct Slow {
+    held: Vec<u8>,
+    blocks: u32,
+    waited: u32,
+}
+
+impl Write for Slow {
+    fn write(&mut self, buf: &[u8]) -> io::Result<usize> {
+        if self.waited < self.blocks {
+            self.waited += 1;
+            return Err(ErrorKind::WouldBlock.into());
+        }
+        self.waited = 0;
+        let count = buf.len().min(1);
+        self.held.extend_from_slice(&buf[..count])?;
+        Ok(count)
+    }
+
+    fn flush(&mut self) -> io::Result<()> {
+        Ok(())
+    }
+}
+
 type Row = (
     &'static str,
     u32,
@@ -151,6 +176,25 @@ fn writes_are_tried_again(rt: HostRuntime) -> Result<(), Fail> {
         assert_eq!(rt; write_out(&mut writer, b"abc"), wrote, "{name}");
         assert_eq!(rt; writer.writer.held.as_slice(), held.as_bytes(), "{name}");
         assert_eq!(rt; writer.failures(), failures, "{name}");
+    }
+    Ok(())
+}
+
+#[test]
+fn each_write_is_tried_1000_times_again(rt: HostRuntime) -> Result<(), Fail> {
+    let cases: [(u32, Wrote, &'static [u8], u64); 2] = [
+        (1_000, Wrote::Done, b"abc", 3_000),
+        (1_001, Wrote::Failed(0), b"", 1_001),
+    ];
+    for (blocks, wrote, held, failures) in cases {
+        let mut writer = Counted::new(Slow {
+            held: Vec::new(rt.alloc()),
+            blocks,
+            waited: 0,
+        });
+        assert_eq!(rt; write_out(&mut writer, b"abc"), wrote, "{blocks}");
+        assert_eq!(rt; writer.writer.held.as_slice(), held, "{blocks}");
+        assert_eq!(rt; writer.failures(), failures, "{blocks}");
     }
     Ok(())
 }

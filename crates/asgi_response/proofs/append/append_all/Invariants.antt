@@ -6,5 +6,5 @@ abbrev pub invariant-loop-text : goal.invariant-loop-text
 invariant-loop-text l = record {
   items : l.out.items ≡ l.fn.out.items ++ flat_map (λ (t : Bor (List ℕ)). t.now) (take l.text-index l.texts);
   len : vec_len l.out ≡ vec_len l.fn.out + length (flat_map (λ (t : Bor (List ℕ)). t.now) (take l.text-index l.texts));
-  capacity : vec_capacity l.fn.out ≤ vec_capacity l.out;
+  room : vec_len l.fn.out + length (flat_map (λ (t : Bor (List ℕ)). t.now) l.texts) ≤ vec_capacity l.out;
 }
