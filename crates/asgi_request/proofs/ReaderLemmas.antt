@@ -18,7 +18,8 @@ use Rattle.asgi_request.specs.declared.place.Turn.{Turn}
 use Rattle.asgi_request.specs.Fronts.{Front, found, too_long, unfinished, front_text}
 use Rattle.asgi_request.specs.BodyLength.{body_length}
 use Rattle.asgi_request.specs.Places.{front, bad, silent, gives, after_framing, after_head, after_counted, after_chunk, after_size, after_chunk_end, after_trailers, after_too_long, JudgesText, Judges, Takes, shown, Reaches}
-use Rattle.asgi_request.specs.Reading.{Reading, StandsFor, Stepped, IsRefused, IsResult, Answers, RefusesAgain, rank}
+use Rattle.asgi_request.specs.Reading.{Reading, StandsFor, IsRefused}
+use Rattle.asgi_request.specs.Searches.{Stepped, IsResult, Answers, RefusesAgain, rank}
 use Rattle.asgi_request.proofs.UniqueLemmas.{Reads-append, Reads-push, shown-append}
 
 pub held_grown : (bytes a new : List ℕ) (start : ℕ) → start ≤ length bytes → new ≡ bytes ++ a → drop start new ≡ drop start bytes ++ a

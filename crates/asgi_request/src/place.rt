@@ -11,7 +11,7 @@ pub enum Place {
     Counted(u64),
     /// The line before a chunk, behind chunks of so many bytes altogether.
     SizeLine(u64),
-    /// So many bytes of a chunk; `sum` counts the whole chunk.
+    /// So many bytes of a chunk; `sum` is the data of all chunks, this one whole.
     Chunk { left: u64, sum: u64 },
     /// CR LF behind the data of a chunk.
     ChunkEnd(u64),

@@ -2,7 +2,8 @@
 ghost use Rattle.std.specs.Prelude.{◌≡◌, ◌≢◌, ◌++◌, ◌∷◌, [], ℕ, List, OnOk, OnErr, IfOk, IsOk, Option};
 ghost use Rattle.asgi_request.specs.declared.next.Next.{Next};
 ghost use Rattle.asgi_request.specs.declared.place.Place.TheVariants.{Start};
-ghost use Rattle.asgi_request.specs.Reading.{StandsFor, EndsWhole, AllGiven, WholeGiven, IsRefused, Keeps, GoesOn, Answers, RefusesAgain, IsResult, Steps};
+ghost use Rattle.asgi_request.specs.Reading.{StandsFor, EndsWhole, AllGiven, WholeGiven, IsRefused, Keeps, GoesOn};
+ghost use Rattle.asgi_request.specs.Searches.{Answers, RefusesAgain, IsResult, Steps};
 
 use crate::judge::{after_too_long, judge};
 use crate::next::Next;
@@ -26,7 +27,8 @@ pub struct RequestReader {
 
 impl Model for RequestReader {
     ghost use Rattle.std.specs.Prelude.{◌≤◌, length, drop};
-    ghost use Rattle.asgi_request.specs.Reading.{Reading, Resumes};
+    ghost use Rattle.asgi_request.specs.Reading.{Reading};
+    ghost use Rattle.asgi_request.specs.Searches.{Resumes};
 
     ghost Value = { Reading };
 
@@ -54,6 +56,7 @@ impl RequestReader {
     /// Takes the next piece.
     pub fn feed(&mut self, piece: &[u8]) -> Result<(), AllocError>
         ensures fed { OnOk result ((bytes : List ℕ) (given : List Next) → StandsFor self.old bytes given → StandsFor self.new (bytes ++ piece.now) given) }
+        ensures refused { (status : ℕ) → IsRefused self.old status → IsRefused self.new status }
         ensures limits { self.new.limits ≡ self.old.limits }
         ensures err { OnErr result (self.new ≡ self.old) }
     {

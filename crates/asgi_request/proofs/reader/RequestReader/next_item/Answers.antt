@@ -2,7 +2,8 @@ use Rattle.std.proofs.Common.{◌∙◌, refl, ap, sym, subst, Option, Some, Non
 use Rattle.asgi_request.specs.declared.next.Next.{Next}
 use Rattle.asgi_request.specs.declared.next.Next.TheVariants as next
 use Rattle.asgi_request.specs.Refusals.{status_of}
-use Rattle.asgi_request.specs.Reading.{Reading, Stepped, Steps}
+use Rattle.asgi_request.specs.Reading.{Reading}
+use Rattle.asgi_request.specs.Searches.{Stepped, Steps}
 use Rattle.asgi_request.proofs.ReaderLemmas.{stepped_stands, silent_stands, silent_rank, stepped_result, same_refusal}
 use Rattle.asgi_request.proofs.reader.RequestReader.next_item.Goals as goal
 

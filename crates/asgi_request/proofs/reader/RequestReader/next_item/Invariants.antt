@@ -1,5 +1,6 @@
 use Rattle.std.proofs.Common.{◌≡◌}
-use Rattle.asgi_request.specs.Reading.{Keeps, rank}
+use Rattle.asgi_request.specs.Reading.{Keeps}
+use Rattle.asgi_request.specs.Searches.{rank}
 use Rattle.asgi_request.proofs.reader.RequestReader.next_item.Given as goal
 
 abbrev pub invariant-loop-turn : goal.invariant-loop-turn
