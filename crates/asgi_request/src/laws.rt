@@ -1,5 +1,5 @@
 //! Laws of the definitions.
-ghost use Rattle.std.specs.Prelude.{◌≡◌, ◌++◌, ◌∷◌, [], ℕ, List};
+ghost use Rattle.std.specs.Prelude.{◌≡◌, ◌++◌, ◌∷◌, [], ℕ, List, length};
 ghost use Rattle.asgi_types.specs.declared.limits.Limits.{Limits};
 ghost use Rattle.asgi_request.specs.declared.next.Next.{Next};
 ghost use Rattle.asgi_request.specs.Reading.{Reading, StandsFor, IsWaiting, IsRefused, AllGiven};
@@ -38,6 +38,14 @@ pub fn first_results_come_first()
     ensures { (limits : Limits) (bytes : List ℕ) (first results : List Next) (rest : List ℕ)
         → HasFirst limits bytes first → GivesResults limits bytes results rest
         → (further : List Next) × (results ≡ first ++ further) }
+{}
+
+/// First results of the same bytes, as many, are the same, and stay where more bytes follow.
+pub fn first_results_are_one_list()
+    ensures one { (limits : Limits) (bytes : List ℕ) (first other : List Next)
+        → HasFirst limits bytes first → HasFirst limits bytes other → length first ≡ length other → first ≡ other }
+    ensures stays { (limits : Limits) (bytes more : List ℕ) (first : List Next)
+        → HasFirst limits bytes first → HasFirst limits (bytes ++ more) first }
 {}
 
 /// The first result of bytes is one, it opens a request or refuses it, and it stays where more bytes follow.
