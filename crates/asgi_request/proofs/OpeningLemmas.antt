@@ -1,15 +1,14 @@
 -- The first results of bytes: as many are the same, the first opens a request or refuses it, and they stay where more
 -- bytes follow.
-use Rattle.std.proofs.Common.{◌≡◌, ℕ, ◌≤◌, inl, inr, length, take, drop, List, [], ◌∷◌, ◌++◌, refl, sym, ap, ◌∙◌, subst, append_assoc, arith, flat_map}
+use Rattle.std.proofs.Common.{◌≡◌, ℕ, inl, inr, length, List, [], ◌∷◌, ◌++◌, refl, sym, ap, ◌∙◌, subst, append_assoc, arith, flat_map}
 use Rattle.std.specs.Prelude.{◌⊎◌}
-use Rattle.std.proofs.lemmas.List.{length-append, append_cancel_left}
 use Rattle.asgi_types.specs.declared.limits.Limits.{Limits}
 use Rattle.asgi_request.specs.declared.next.Next.{Next}
-use Rattle.asgi_request.specs.declared.next.Next.TheVariants.{Need, Head, Event, Whole, Bad}
+use Rattle.asgi_request.specs.declared.next.Next.TheVariants.{Head, Bad}
 use Rattle.asgi_request.specs.Refusals.{status_of}
 use Rattle.asgi_request.specs.Head.{record_of}
 use Rattle.asgi_request.specs.Scopes.{scope_of, facts_of}
-use Rattle.asgi_request.specs.ChunkedBody.{BodyState, partial, complete, faulty}
+use Rattle.asgi_request.specs.ChunkedBody.{BodyState, partial, faulty}
 use Rattle.asgi_request.specs.Results.{ReadsRequest, BeginsRequest, AreRequests, GivesResults, HasFirst, Opens}
 use Rattle.asgi_request.proofs.ResultsLemmas.{prefix_of}
 

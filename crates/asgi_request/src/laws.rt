@@ -14,10 +14,16 @@ pub fn results_of_a_front_come_first()
         → (further : List Next) × (others ≡ results ++ further) }
 {}
 
-/// Bytes have one list of results.
+/// Bytes have at most one list of results.
 pub fn results_are_one_list()
     ensures { (limits : Limits) (bytes : List ℕ) (results others : List Next) (rest other_rest : List ℕ)
         → GivesResults limits bytes results rest → GivesResults limits bytes others other_rest → results ≡ others }
+{}
+
+/// No bytes are without results: it can't be that each list fails to be theirs.
+pub fn results_are_there()
+    ensures { (limits : Limits) (bytes : List ℕ)
+        → ¬ ((results : List Next) (rest : List ℕ) → ¬ (GivesResults limits bytes results rest)) }
 {}
 
 /// What a reader gave comes first among the results of the bytes that it was fed.
@@ -76,7 +82,7 @@ pub fn refused_reader_gave_all()
         → StandsFor reader bytes given → IsRefused reader status → AllGiven reader bytes given }
 {}
 
-/// The private places give the results that the bytes have by the definition, and no others.
+/// The places of a reader give the results that the bytes have by the definition, and no others.
 pub fn places_give_the_results()
     ensures to_results { (limits : Limits) (bytes : List ℕ) (results : List Next)
         → ResultsOf limits bytes results → (rest : List ℕ) × GivesResults limits bytes results rest }
