@@ -23,6 +23,17 @@ pub enum Place {
     Stopped(Refusal),
 }
 
+/// What one turn of a reader came to.
+#[derive(Drop)]
+pub enum Outcome {
+    /// The next text is not whole.
+    Waits,
+    /// It gave no result.
+    Silent,
+    /// It gave this result.
+    Gives(Next),
+}
+
 /// What a text gives, if anything, and what is due behind it.
 #[derive(Drop)]
 pub struct Turn {

@@ -3,11 +3,12 @@ ghost use Rattle.std.specs.Prelude.{◌≡◌, ◌≢◌, ◌++◌, ◌∷◌, [
 ghost use Rattle.asgi_request.specs.declared.next.Next.{Next};
 ghost use Rattle.asgi_request.specs.declared.place.Place.TheVariants.{Start};
 ghost use Rattle.asgi_request.specs.Reading.{StandsFor, EndsWhole, AllGiven, WholeGiven, IsRefused, Keeps, GoesOn};
+ghost use Rattle.asgi_request.specs.Searches as spec;
 ghost use Rattle.asgi_request.specs.Searches.{Answers, RefusesAgain, IsResult, Steps};
 
 use crate::judge::{after_too_long, judge};
 use crate::next::Next;
-use crate::place::Place;
+use crate::place::{Outcome, Place};
 use crate::search::{Arrival, NEW_SEARCH, Search, arrive};
 use asgi_types::Limits;
 use std::alloc::{AllocError, Global};
@@ -104,18 +105,17 @@ impl RequestReader {
             return Ok(Some(Next::Bad(refusal.status())));
         }
         loop {
-            let Some(turn) = self.step()? else {
-                return Ok(None);
-            };
-            if let Some(item) = turn {
-                return Ok(Some(item));
+            match self.step()? {
+                Outcome::Waits => return Ok(None),
+                Outcome::Gives(item) => return Ok(Some(item)),
+                Outcome::Silent => {}
             }
         }
     }
 
-    /// One turn: what the next text gives, or `None` where it is not whole.
-    fn step(&mut self) -> Result<Option<Option<Next>>, AllocError>
-        ensures steps { IfOk result (λ turn. Steps self.old self.new turn) }
+    /// One turn: what the next text gives.
+    fn step(&mut self) -> Result<Outcome, AllocError>
+        ensures steps { IfOk result (λ outcome. Steps self.old self.new outcome) }
         ensures err { OnErr result (self.new ≡ self.old) }
     {
         let (arrival, search) = arrive(
@@ -126,12 +126,12 @@ impl RequestReader {
         );
         self.search = search;
         match arrival {
-            Arrival::Partial => Ok(None),
+            Arrival::Partial => Ok(Outcome::Waits),
             Arrival::TooLong => {
                 let turn = after_too_long(self.place);
                 self.place = turn.place;
                 self.search = NEW_SEARCH;
-                Ok(Some(turn.item))
+                Ok(outcome_of(turn.item))
             }
             Arrival::Text(n) => {
                 let text = &self.bytes[self.start..self.start + n];
@@ -139,7 +139,7 @@ impl RequestReader {
                 self.start += n;
                 self.place = turn.place;
                 self.search = NEW_SEARCH;
-                Ok(Some(turn.item))
+                Ok(outcome_of(turn.item))
             }
         }
     }
@@ -151,5 +151,15 @@ impl RequestReader {
     {
         let start = self.start;
         &self.bytes[start..]
+    }
+}
+
+/// What a turn came to that has this result, or none.
+fn outcome_of(item: Option<Next>) -> Outcome
+    ensures { result ≡ spec.outcome_of item }
+{
+    match item {
+        None => Outcome::Silent,
+        Some(item) => Outcome::Gives(item),
     }
 }
