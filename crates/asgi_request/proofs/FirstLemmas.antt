@@ -1,7 +1,7 @@
 -- What was given are the first results of a front of the bytes.
 use Rattle.std.proofs.Common.{◌≡◌, ℕ, zero, suc, ◌<◌, ◌≤◌, inl, inr, length, take, Bool, true, false, List, [], ◌∷◌, ◌++◌, refl, sym, ap, ◌∙◌, subst, append_assoc, arith, Option, Some, None}
 use Rattle.std.specs.Prelude.{◌⊎◌, nat_le, min, if◌then◌else◌}
-use Rattle.std.proofs.lemmas.List.{append-nil, length-take-le, length-append, take_all}
+use Rattle.std.proofs.lemmas.List.{append-nil, length-take-le, take_all}
 use Rattle.asgi_types.specs.declared.incoming.Incoming.TheVariants.{HttpRequest}
 use Rattle.asgi_types.specs.declared.limits.Limits.{Limits}
 use Rattle.asgi_request.specs.declared.next.Next.{Next}
@@ -12,11 +12,12 @@ use Rattle.asgi_request.specs.declared.place.Turn.{Turn}
 use Rattle.asgi_request.specs.declared.refusal.Refusal.{Refusal}
 use Rattle.asgi_request.specs.declared.refusal.Refusal.TheVariants.{BadRequest, HeaderFieldsTooLarge}
 use Rattle.asgi_request.specs.Fronts.{Front, found, too_long, unfinished, front_at, first, front_text, head_len, line_len, trailer_len}
-use Rattle.asgi_request.specs.Places.{front, size_line_limit, gives, after_too_long, Judges, Takes, Reads, shown, Reaches}
+use Rattle.asgi_request.specs.ChunkedBody.{size_line_limit}
+use Rattle.asgi_request.specs.Places.{front, gives, after_too_long, Judges, Takes, Reads, Reaches}
 use Rattle.asgi_request.specs.Results.{GivesResults, HasFirst}
 use Rattle.asgi_request.proofs.FrontLemmas.{IsSearch, head_search, line_search, trailer_search, front-append}
 use Rattle.asgi_request.proofs.ForwardLemmas.{yes_le, le_yes, le_no}
-use Rattle.asgi_request.proofs.BackwardLemmas.{Goes, Ends, takes_found, then_ends, one, waiting}
+use Rattle.asgi_request.proofs.BackwardLemmas.{Ends, takes_found, then_ends, one, waiting}
 use Rattle.asgi_request.proofs.StandardLemmas.{all_results}
 
 -- ---- a text that was found is found in itself

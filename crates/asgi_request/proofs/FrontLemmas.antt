@@ -7,7 +7,8 @@ use Rattle.asgi_types.specs.declared.limits.Limits.{Limits}
 use Rattle.asgi_request.specs.declared.place.Place.{Place}
 use Rattle.asgi_request.specs.declared.place.Place.TheVariants.{Start, Counted, SizeLine, Chunk, ChunkEnd, Trailers, BodyEnd, Stopped}
 use Rattle.asgi_request.specs.Fronts.{Front, found, too_long, unfinished, front_at, first, head_len, line_len, trailer_len}
-use Rattle.asgi_request.specs.Places.{front, size_line_limit}
+use Rattle.asgi_request.specs.ChunkedBody.{size_line_limit}
+use Rattle.asgi_request.specs.Places.{front}
 use Rattle.asgi_request.proofs.Growth.{head_len-append, head_len-local, head_len-within, line_len-append, line_len-local, line_len-within, trailer_len-append, trailer_len-local, trailer_len-within}
 
 -- a length that more bytes behind don't change

@@ -49,6 +49,10 @@ head_len-append (b ∷ s) t n e = head_step (is_line_break b) (head_len s) (line
     head_step true h s h' s' n x y e = let m = more-some h n e in more-at h' m.0 n (x m.0 m.1) m.2
     head_step false h s h' s' n x y e = let m = more-some s n e in more-at s' m.0 n (y m.0 m.1) m.2
 
+pub head_len-one : (s : List ℕ) (n : ℕ) → head_len s ≡ Some n → 1 ≤ n
+head_len-one [] n e = cc
+head_len-one (b ∷ s) n e = let m = more-some (if is_line_break b then head_len s else lines_len s) n e in omega (arith, m.2)
+
 -- ---- the bytes up to a found end decide it
 
 positive : (k : ℕ) → nat_lt 0 (suc k) ≡ true
@@ -152,7 +156,7 @@ line_one : (t : Bool) (got : Option ℕ) (n : ℕ) → (if t then Some 1 else mo
 line_one true got n e = let s : 1 ≡ n = cc in omega arith
 line_one false got n e = let m = more-some got n e in omega (arith, m.2)
 
-line_len-one : (t : List ℕ) (n : ℕ) → line_len t ≡ Some n → 1 ≤ n
+pub line_len-one : (t : List ℕ) (n : ℕ) → line_len t ≡ Some n → 1 ≤ n
 line_len-one [] n e = cc
 line_len-one (b ∷ t) n e = line_one (b == 10) (line_len t) n e
 
@@ -181,6 +185,9 @@ less-some (Some m) n e = (m, refl, cc)
 
 less-at : (got : Option ℕ) (m n : ℕ) → got ≡ Some m → m - 1 ≡ n → option_map (λ k. k - 1) got ≡ Some n
 less-at got m n e s = ap (option_map (λ k. k - 1)) e ∙ ap Some s
+
+pub trailer_len-one : (s : List ℕ) (n : ℕ) → trailer_len s ≡ Some n → 1 ≤ n
+trailer_len-one s n e = let m = less-some (lines_len (10 ∷ s)) n e in omega (arith, m.2, lines_len-two (10 ∷ s) m.0 m.1)
 
 pub trailer_len-append : (s t : List ℕ) (n : ℕ) → trailer_len s ≡ Some n → trailer_len (s ++ t) ≡ Some n
 trailer_len-append s t n e =

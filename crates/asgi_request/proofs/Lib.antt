@@ -22,3 +22,4 @@ pub mod HeldLemmas
 pub mod FirstLemmas
 pub mod RefusalLemmas
 pub mod OpeningLemmas
+pub mod ThereLemmas

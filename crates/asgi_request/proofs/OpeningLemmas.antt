@@ -1,14 +1,14 @@
--- The first result of bytes: there is one at most, it opens a request or refuses it, and it stays where more bytes follow.
-use Rattle.std.proofs.Common.{◌≡◌, ℕ, ◌≤◌, inl, inr, length, take, drop, List, [], ◌∷◌, ◌++◌, refl, sym, ap, ◌∙◌, subst, append_assoc, arith, flat_map}
+-- The first results of bytes: as many are the same, the first opens a request or refuses it, and they stay where more
+-- bytes follow.
+use Rattle.std.proofs.Common.{◌≡◌, ℕ, inl, inr, length, List, [], ◌∷◌, ◌++◌, refl, sym, ap, ◌∙◌, subst, append_assoc, arith, flat_map}
 use Rattle.std.specs.Prelude.{◌⊎◌}
-use Rattle.std.proofs.lemmas.List.{length-append, append_cancel_left}
 use Rattle.asgi_types.specs.declared.limits.Limits.{Limits}
 use Rattle.asgi_request.specs.declared.next.Next.{Next}
-use Rattle.asgi_request.specs.declared.next.Next.TheVariants.{Need, Head, Event, Whole, Bad}
+use Rattle.asgi_request.specs.declared.next.Next.TheVariants.{Head, Bad}
 use Rattle.asgi_request.specs.Refusals.{status_of}
 use Rattle.asgi_request.specs.Head.{record_of}
 use Rattle.asgi_request.specs.Scopes.{scope_of, facts_of}
-use Rattle.asgi_request.specs.ChunkedBody.{BodyState, partial, complete, faulty}
+use Rattle.asgi_request.specs.ChunkedBody.{BodyState, partial, faulty}
 use Rattle.asgi_request.specs.Results.{ReadsRequest, BeginsRequest, AreRequests, GivesResults, HasFirst, Opens}
 use Rattle.asgi_request.proofs.ResultsLemmas.{prefix_of}
 
@@ -97,6 +97,34 @@ one_first limits bytes a b x y g h = by (fronts g.front h.front g.behind h.behin
     by (inr z) =
         sym (one_of limits h.front z.0 b a (y ++ h.further) (x ++ g.further) h.rest g.rest h.gives
         (subst (λ (l : List ℕ). GivesResults limits l (a ∷ (x ++ g.further)) g.rest) z.1 g.gives))
+
+-- ---- as many of them are the same
+
+same_fronts : (a b x y : List Next) → length a ≡ length b → a ++ x ≡ b ++ y → a ≡ b
+same_fronts [] [] x y n e = refl
+same_fronts [] (m ∷ b) x y n e = absurd (omega (arith, n))
+same_fronts (k ∷ a) [] x y n e = absurd (omega (arith, n))
+same_fronts (k ∷ a) (m ∷ b) x y n e =
+    let head : k ≡ m = cc in
+    let tail = same_fronts a b x y (omega (arith, n)) cc in
+    cc
+
+as_many_of : (limits : Limits) (front more : List ℕ) (a b x y : List Next) (rest other : List ℕ) → length a ≡ length b
+    → GivesResults limits front (a ++ x) rest → GivesResults limits (front ++ more) (b ++ y) other → a ≡ b
+as_many_of limits front more a b x y rest other n g h =
+    let on = prefix_of limits limits.block_in_range.0 front more (a ++ x) (b ++ y) rest other g h in
+    same_fronts a b (x ++ on.0) y n (sym (append_assoc a x on.0) ∙ sym on.1)
+
+pub as_many : (limits : Limits) (bytes : List ℕ) (a b : List Next) → HasFirst limits bytes a → HasFirst limits bytes b → length a ≡ length b → a ≡ b
+as_many limits bytes a b g h n = by (fronts g.front h.front g.behind h.behind (sym g.splits ∙ h.splits))
+  where
+    by : ((more : List ℕ) × (h.front ≡ g.front ++ more)) ⊎ ((more : List ℕ) × (g.front ≡ h.front ++ more)) → a ≡ b
+    by (inl z) =
+        as_many_of limits g.front z.0 a b g.further h.further g.rest h.rest n g.gives
+        (subst (λ (l : List ℕ). GivesResults limits l (b ++ h.further) h.rest) z.1 h.gives)
+    by (inr z) =
+        sym (as_many_of limits h.front z.0 b a h.further g.further h.rest g.rest (sym n) h.gives
+        (subst (λ (l : List ℕ). GivesResults limits l (a ++ g.further) g.rest) z.1 g.gives))
 
 -- ---- it stays
 

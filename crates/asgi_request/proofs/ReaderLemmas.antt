@@ -18,7 +18,9 @@ use Rattle.asgi_request.specs.declared.place.Turn.{Turn}
 use Rattle.asgi_request.specs.Fronts.{Front, found, too_long, unfinished, front_text}
 use Rattle.asgi_request.specs.BodyLength.{body_length}
 use Rattle.asgi_request.specs.Places.{front, bad, silent, gives, after_framing, after_head, after_counted, after_chunk, after_size, after_chunk_end, after_trailers, after_too_long, JudgesText, Judges, Takes, shown, Reaches}
-use Rattle.asgi_request.specs.Reading.{Reading, StandsFor, Stepped, IsRefused, IsResult, Answers, RefusesAgain, rank}
+use Rattle.asgi_request.specs.Reading.{Reading, StandsFor, IsRefused}
+use Rattle.asgi_request.specs.declared.place.Outcome.{Outcome}
+use Rattle.asgi_request.specs.Searches.{outcome_of, Steps, Stepped, IsResult, Answers, RefusesAgain, rank}
 use Rattle.asgi_request.proofs.UniqueLemmas.{Reads-append, Reads-push, shown-append}
 
 pub held_grown : (bytes a new : List ℕ) (start : ℕ) → start ≤ length bytes → new ≡ bytes ++ a → drop start new ≡ drop start bytes ++ a
@@ -66,6 +68,13 @@ stepped_stands old new item step bytes given stands =
       reads = Reads-push old.limits Start bytes stands.steps old.place old.held item new.place new.held stands.reads step.takes;
       shows = shown-append stands.steps (item ∷ []) ∙ ap (λ (l : List Next). l ++ shown (item ∷ [])) stands.shows;
     }
+
+pub stepped_steps : (old new : Reading) (item : Option Next) (outcome : Outcome) → outcome ≡ outcome_of item → Stepped old new item → Steps old new outcome
+stepped_steps old new item outcome e step = let P : Outcome → Type 0 = λ o. Steps old new o in subst P (sym e) (by item step)
+  where
+    by : (i : Option Next) → Stepped old new i → Steps old new (outcome_of i)
+    by None x = x
+    by (Some next) x = x
 
 pub silent_stands : (old new : Reading) → Stepped old new None → (bytes : List ℕ) (given : List Next)
     → StandsFor old bytes given → Reaches new.limits bytes given new.place new.held

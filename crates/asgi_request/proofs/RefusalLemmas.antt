@@ -17,7 +17,7 @@ use Rattle.asgi_request.specs.declared.refusal.Refusal.TheVariants.{BadRequest, 
 use Rattle.asgi_request.specs.Refusals.{status_of}
 use Rattle.asgi_request.specs.Fronts.{Front, found, too_long, unfinished}
 use Rattle.asgi_request.specs.BodyLength.{body_length}
-use Rattle.asgi_request.specs.Places.{front, bad, silent, gives, body_place, after_framing, after_head, after_counted, after_size, after_chunk, after_chunk_end, after_trailers, after_too_long, JudgesText, Judges, Takes, Reads, shown, Reaches}
+use Rattle.asgi_request.specs.Places.{front, bad, silent, gives, after_framing, after_head, after_counted, after_size, after_chunk, after_chunk_end, after_trailers, after_too_long, JudgesText, Judges, Takes, Reads, shown, Reaches}
 use Rattle.asgi_request.proofs.UniqueLemmas.{shown-append}
 
 -- the place is a refusal's only where the refusal is given

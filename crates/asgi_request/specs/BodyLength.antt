@@ -15,6 +15,7 @@ use Rattle.asgi_types.specs.Tokens.{same_ignoring_case}
 use Rattle.asgi_request.specs.FieldValues.{count_named, has_field, value_named}
 use Rattle.asgi_request.specs.Target.{is_target}
 
+-- HTTP/1.1, and not HTTP/1.0
 abbrev pub is_v11 : HttpVersion → Bool
 is_v11 V10 = false
 is_v11 V11 = true
@@ -33,17 +34,21 @@ is_chunked fields =
 abbrev pub content_length : List HeaderField → Option ℕ
 content_length fields = length_of_text (value_named fields (codes "content-length"))
 
+-- no number is there
 abbrev pub is_missing : Option ℕ → Bool
 is_missing None = true
 is_missing (Some n) = false
 
+-- a number is there, and is greater than the most that is taken
 abbrev pub exceeds : Option ℕ → ℕ → Bool
 exceeds None most = false
 exceeds (Some n) most = nat_lt most n
 
+-- a Content-Length field is there
 abbrev pub has_length : List HeaderField → Bool
 has_length fields = has_field fields (codes "content-length")
 
+-- a Transfer-Encoding field is there
 abbrev pub has_coding : List HeaderField → Bool
 has_coding fields = has_field fields (codes "transfer-encoding")
 

@@ -29,6 +29,7 @@ pub record Chunk : Type 0 where
   pub line : ChunkLine
   pub data_bytes : List ℕ
 
+-- the bytes of a chunk
 abbrev pub print_chunk : Chunk → List ℕ
 print_chunk c = print_chunk_line c.line ++ (c.data_bytes ++ crlf_bytes)
 
@@ -60,6 +61,7 @@ pub record LastChunk : Type 0 where
   pub fields : List Field
   pub end : LineEnd
 
+-- the bytes of both
 abbrev pub print_last : LastChunk → List ℕ
 print_last l = print_chunk_line l.line ++ print_section l.fields l.end
 
@@ -68,6 +70,7 @@ pub record IsTrailerSection (max_headers : ℕ) (text : List ℕ) (fields : List
   pub reads : ReadsSection text fields end []
   pub few : length fields ≤ max_headers
 
+-- a last chunk whose lines and trailer section are within their limits
 pub record IsLastChunk (limits : Limits) (l : LastChunk) : Type 0 where
   pub line : IsSizeLine l.line
   pub zero_size : chunk_size l.line ≡ 0
@@ -172,6 +175,7 @@ tail_state (last l behind) = complete behind
 
 -- ---- a chunked body
 
+-- the data of a whole chunk
 abbrev pub chunk_piece : Chunk → Piece
 chunk_piece c = record { size = chunk_size c.line; data_bytes = c.data_bytes }
 

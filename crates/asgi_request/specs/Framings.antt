@@ -17,5 +17,6 @@ framing_answer (Ok framing.Chunked) = Chunked
 framing_answer (Ok framing.Upgrade) = Length 0
 framing_answer (Err refusal) = Bad (status_of refusal)
 
+-- how the body of the head is delimited, or the status of its refusal
 abbrev pub framing_of : HeadRecord → Limits → HeadFraming
 framing_of head limits = framing_answer (body_length head limits)

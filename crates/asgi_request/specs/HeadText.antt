@@ -2,7 +2,6 @@
 use Rattle.std.specs.Prelude.{◌≡◌, ℕ, Bool, false, ◌||◌, List, ◌∷◌, ◌++◌, ◌==◌, IsTrue, All}
 use Rattle.httparse.specs.Ascii.{line_feed, carriage_return}
 use Rattle.httparse.specs.Grammar.{LineEnd, print_end}
-use Rattle.asgi_request.specs.Texts.{IsFirst}
 
 -- CR or LF
 abbrev pub is_line_break : ℕ → Bool
@@ -18,7 +17,3 @@ pub record EndsAsHead (text : List ℕ) : Type 0 where
   pub only_breaks : All (λ b. IsTrue (is_line_break b)) blank
   pub no_break : is_line_break first ≡ false
   pub text_is : text ≡ blank ++ first ∷ lines ++ line_feed ∷ print_end last
-
--- The bytes begin with this head text, and rest follows.
-abbrev pub IsHeadText : List ℕ → List ℕ → List ℕ → Type 0
-IsHeadText bytes text rest = IsFirst EndsAsHead bytes text rest

@@ -11,6 +11,7 @@ pub mod Fronts
 pub mod Parts
 pub mod Places
 pub mod Reading
+pub mod Searches
 pub mod Texts
 pub mod ChunkedBody
 pub mod RequestEvents

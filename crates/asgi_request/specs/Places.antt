@@ -1,5 +1,5 @@
--- The private places of the reader: what is due next, and what the bytes give there. No promise is stated by these words;
--- the laws tie them to `GivesResults`.
+-- What is due next in a reader, and what the bytes give there. `StandsFor` is stated by these words; the laws
+-- `places_give_the_results` and `given_results_are_the_first` say what they mean in the words of `Results.antt`.
 use Rattle.std.specs.Prelude.{◌≡◌, ℕ, ◌+◌, ◌-◌, ◌≤◌, List, [], ◌∷◌, ◌++◌, length, min, if◌then◌else◌, nat_lt, ◌==◌, Bool, true, false, bytes_eq, Option, Some, None, Result, Ok, Err}
 use Rattle.asgi_types.specs.declared.limits.Limits.{Limits}
 use Rattle.asgi_types.specs.declared.facts.Framing.{Framing}
@@ -12,6 +12,7 @@ use Rattle.asgi_request.specs.declared.next.Next.{Next}
 use Rattle.asgi_request.specs.declared.next.Next.TheVariants.{Head, Event, Whole, Bad}
 use Rattle.asgi_request.specs.declared.place.Turn.{Turn}
 use Rattle.asgi_request.specs.Fronts.{Front, found, too_long, unfinished, front_at, first, front_text, head_len, line_len, trailer_len}
+use Rattle.asgi_request.specs.ChunkedBody.{size_line_limit}
 use Rattle.asgi_request.specs.Head.{ParsesHead}
 use Rattle.asgi_request.specs.BodyLength.{body_length}
 use Rattle.asgi_request.specs.Refusals.{status_of}
@@ -20,10 +21,6 @@ use Rattle.asgi_request.specs.declared.refusal.Refusal.{Refusal}
 use Rattle.asgi_request.specs.declared.refusal.Refusal.TheVariants.{BadRequest, ContentTooLarge, HeaderFieldsTooLarge}
 use Rattle.httparse.specs.Ascii.{crlf_bytes}
 use Rattle.asgi_request.specs.Parts.{ParsesSize, ParsesTrailers}
-
--- the most bytes of a size line
-abbrev pub size_line_limit : ℕ
-size_line_limit = 256
 
 -- the text that the bytes begin with, at this place
 abbrev pub front : Limits → Place → List ℕ → Front
@@ -40,9 +37,11 @@ front limits (Stopped refusal) bytes = unfinished
 abbrev pub bad : Refusal → Turn
 bad refusal = record { item = Some (Bad (status_of refusal)); place = Stopped refusal }
 
+-- no result
 abbrev pub silent : Place → Turn
 silent place = record { item = None; place = place }
 
+-- a result
 abbrev pub gives : Next → Place → Turn
 gives item place = record { item = Some item; place = place }
 
@@ -52,10 +51,12 @@ body_place (Length n) = Counted n
 body_place Chunked = SizeLine 0
 body_place Upgrade = BodyEnd
 
+-- a head is given, or refused
 abbrev pub after_framing : HeadRecord → Result Framing Refusal → Turn
 after_framing r (Ok framing) = gives (Head (scope_of r) (facts_of r framing)) (body_place framing)
 after_framing r (Err refusal) = bad refusal
 
+-- a head text is a head, or a bad request
 abbrev pub after_head : Limits → Option HeadRecord → Turn
 after_head limits None = bad BadRequest
 after_head limits (Some r) = after_framing r (body_length r limits)
@@ -65,19 +66,23 @@ abbrev pub after_counted : ℕ → List ℕ → Turn
 after_counted n block =
     if nat_lt (length block) n then gives (Event (HttpRequest block true)) (Counted (n - length block)) else gives (Event (HttpRequest block false)) BodyEnd
 
+-- a size of 0 ends the chunks
 abbrev pub after_size : ℕ → ℕ → Option ℕ → Turn
 after_size max_body sum None = bad BadRequest
 after_size max_body sum (Some n) =
     if nat_lt max_body (sum + n) then bad ContentTooLarge else
     (if n == 0 then silent Trailers else silent (Chunk n (sum + n)))
 
+-- CR LF stands behind the last block of a chunk
 abbrev pub after_chunk : ℕ → ℕ → List ℕ → Turn
 after_chunk left sum block =
     if nat_lt (length block) left then gives (Event (HttpRequest block true)) (Chunk (left - length block) sum) else gives (Event (HttpRequest block true)) (ChunkEnd sum)
 
+-- behind a chunk stands a size line
 abbrev pub after_chunk_end : ℕ → List ℕ → Turn
 after_chunk_end sum pair = if bytes_eq pair crlf_bytes then silent (SizeLine sum) else bad BadRequest
 
+-- an empty event ends a chunked body
 abbrev pub after_trailers : Bool → Turn
 after_trailers true = gives (Event (HttpRequest [] false)) BodyEnd
 after_trailers false = bad BadRequest

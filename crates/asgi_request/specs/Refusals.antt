@@ -3,6 +3,7 @@ use Rattle.std.specs.Prelude.{ℕ}
 use Rattle.asgi_request.specs.declared.refusal.Refusal.{Refusal}
 use Rattle.asgi_request.specs.declared.refusal.Refusal.TheVariants.{BadRequest, ContentTooLarge, HeaderFieldsTooLarge, NotImplemented}
 
+-- the status
 abbrev pub status_of : Refusal → ℕ
 status_of BadRequest = 400
 status_of ContentTooLarge = 413

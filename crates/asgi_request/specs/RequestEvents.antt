@@ -48,6 +48,7 @@ length_events block n bytes =
     ++ last_event (drop (blocks_before_last block n * block) (take n bytes)) ∷ []
     else map more_event (full_blocks block bytes)
 
+-- the body is whole once n bytes are there
 abbrev pub length_state : ℕ → List ℕ → BodyState
 length_state n bytes = if nat_le n (length bytes) then complete (drop n bytes) else partial
 

@@ -45,6 +45,7 @@ has_body Upgrade = false
 abbrev pub expects : HeadRecord → Framing → Bool
 expects head framing = is_v11 head.version && has_body framing && has_token head.headers (codes "expect") (codes "100-continue")
 
+-- the facts, by the head and its framing
 abbrev pub facts_of : HeadRecord → Framing → Facts
 facts_of head framing = record {
   version = head.version;

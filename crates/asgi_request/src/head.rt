@@ -15,11 +15,13 @@ use std::alloc::{AllocError, Global};
 /// The parts of a request's head.
 #[derive(Drop)]
 pub struct HeadRecord {
+    /// HTTP/1.0 or HTTP/1.1.
     pub version: HttpVersion,
     /// In upper case.
     pub method: Chars,
     /// As received.
     pub target: Octets,
+    /// In the order received, with names in lower case.
     pub headers: Headers,
 }
 

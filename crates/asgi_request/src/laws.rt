@@ -1,5 +1,5 @@
 //! Laws of the definitions.
-ghost use Rattle.std.specs.Prelude.{◌≡◌, ◌++◌, ◌∷◌, [], ℕ, List};
+ghost use Rattle.std.specs.Prelude.{◌≡◌, ◌++◌, ◌∷◌, [], ℕ, List, length};
 ghost use Rattle.asgi_types.specs.declared.limits.Limits.{Limits};
 ghost use Rattle.asgi_request.specs.declared.next.Next.{Next};
 ghost use Rattle.asgi_request.specs.Reading.{Reading, StandsFor, IsWaiting, IsRefused, AllGiven};
@@ -14,10 +14,16 @@ pub fn results_of_a_front_come_first()
         → (further : List Next) × (others ≡ results ++ further) }
 {}
 
-/// Bytes have one list of results.
+/// Bytes have at most one list of results.
 pub fn results_are_one_list()
     ensures { (limits : Limits) (bytes : List ℕ) (results others : List Next) (rest other_rest : List ℕ)
         → GivesResults limits bytes results rest → GivesResults limits bytes others other_rest → results ≡ others }
+{}
+
+/// No bytes are without results: it can't be that each list fails to be theirs.
+pub fn results_are_there()
+    ensures { (limits : Limits) (bytes : List ℕ)
+        → ¬ ((results : List Next) (rest : List ℕ) → ¬ (GivesResults limits bytes results rest)) }
 {}
 
 /// What a reader gave comes first among the results of the bytes that it was fed.
@@ -38,6 +44,14 @@ pub fn first_results_come_first()
     ensures { (limits : Limits) (bytes : List ℕ) (first results : List Next) (rest : List ℕ)
         → HasFirst limits bytes first → GivesResults limits bytes results rest
         → (further : List Next) × (results ≡ first ++ further) }
+{}
+
+/// First results of the same bytes, as many, are the same, and stay where more bytes follow.
+pub fn first_results_are_one_list()
+    ensures one { (limits : Limits) (bytes : List ℕ) (first other : List Next)
+        → HasFirst limits bytes first → HasFirst limits bytes other → length first ≡ length other → first ≡ other }
+    ensures stays { (limits : Limits) (bytes more : List ℕ) (first : List Next)
+        → HasFirst limits bytes first → HasFirst limits (bytes ++ more) first }
 {}
 
 /// The first result of bytes is one, it opens a request or refuses it, and it stays where more bytes follow.
@@ -68,7 +82,7 @@ pub fn refused_reader_gave_all()
         → StandsFor reader bytes given → IsRefused reader status → AllGiven reader bytes given }
 {}
 
-/// The private places give the results that the bytes have by the definition, and no others.
+/// The places of a reader give the results that the bytes have by the definition, and no others.
 pub fn places_give_the_results()
     ensures to_results { (limits : Limits) (bytes : List ℕ) (results : List Next)
         → ResultsOf limits bytes results → (rest : List ℕ) × GivesResults limits bytes results rest }

@@ -20,6 +20,7 @@ pub use framing::{HeadFraming, framing_of};
 pub use head::HeadRecord;
 pub use next::Next;
 pub use reader::RequestReader;
+pub use scope::has_body;
 
 #[cfg(test)]
 mod tests;

@@ -11,7 +11,7 @@ pub enum Place {
     Counted(u64),
     /// The line before a chunk, behind chunks of so many bytes altogether.
     SizeLine(u64),
-    /// So many bytes of a chunk; `sum` counts the whole chunk.
+    /// So many bytes of a chunk; `sum` is the data of all chunks, this one whole.
     Chunk { left: u64, sum: u64 },
     /// CR LF behind the data of a chunk.
     ChunkEnd(u64),
@@ -21,6 +21,17 @@ pub enum Place {
     BodyEnd,
     /// Nothing ever: the bytes are refused.
     Stopped(Refusal),
+}
+
+/// What one turn of a reader came to.
+#[derive(Drop)]
+pub enum Outcome {
+    /// The next text is not whole.
+    Waits,
+    /// It gave no result.
+    Silent,
+    /// It gave this result.
+    Gives(Next),
 }
 
 /// What a text gives, if anything, and what is due behind it.

@@ -2,11 +2,13 @@
 ghost use Rattle.std.specs.Prelude.{◌≡◌, ◌≢◌, ◌++◌, ◌∷◌, [], ℕ, List, OnOk, OnErr, IfOk, IsOk, Option};
 ghost use Rattle.asgi_request.specs.declared.next.Next.{Next};
 ghost use Rattle.asgi_request.specs.declared.place.Place.TheVariants.{Start};
-ghost use Rattle.asgi_request.specs.Reading.{StandsFor, EndsWhole, AllGiven, WholeGiven, IsRefused, Keeps, GoesOn, Answers, RefusesAgain, IsResult, Steps};
+ghost use Rattle.asgi_request.specs.Reading.{StandsFor, EndsWhole, AllGiven, WholeGiven, IsRefused, Keeps, GoesOn};
+ghost use Rattle.asgi_request.specs.Searches as spec;
+ghost use Rattle.asgi_request.specs.Searches.{Answers, RefusesAgain, IsResult, Steps};
 
 use crate::judge::{after_too_long, judge};
 use crate::next::Next;
-use crate::place::Place;
+use crate::place::{Outcome, Place};
 use crate::search::{Arrival, NEW_SEARCH, Search, arrive};
 use asgi_types::Limits;
 use std::alloc::{AllocError, Global};
@@ -26,7 +28,8 @@ pub struct RequestReader {
 
 impl Model for RequestReader {
     ghost use Rattle.std.specs.Prelude.{◌≤◌, length, drop};
-    ghost use Rattle.asgi_request.specs.Reading.{Reading, Resumes};
+    ghost use Rattle.asgi_request.specs.Reading.{Reading};
+    ghost use Rattle.asgi_request.specs.Searches.{Resumes};
 
     ghost Value = { Reading };
 
@@ -54,6 +57,7 @@ impl RequestReader {
     /// Takes the next piece.
     pub fn feed(&mut self, piece: &[u8]) -> Result<(), AllocError>
         ensures fed { OnOk result ((bytes : List ℕ) (given : List Next) → StandsFor self.old bytes given → StandsFor self.new (bytes ++ piece.now) given) }
+        ensures refused { (status : ℕ) → IsRefused self.old status → IsRefused self.new status }
         ensures limits { self.new.limits ≡ self.old.limits }
         ensures err { OnErr result (self.new ≡ self.old) }
     {
@@ -101,18 +105,17 @@ impl RequestReader {
             return Ok(Some(Next::Bad(refusal.status())));
         }
         loop {
-            let Some(turn) = self.step()? else {
-                return Ok(None);
-            };
-            if let Some(item) = turn {
-                return Ok(Some(item));
+            match self.step()? {
+                Outcome::Waits => return Ok(None),
+                Outcome::Gives(item) => return Ok(Some(item)),
+                Outcome::Silent => {}
             }
         }
     }
 
-    /// One turn: what the next text gives, or `None` where it is not whole.
-    fn step(&mut self) -> Result<Option<Option<Next>>, AllocError>
-        ensures steps { IfOk result (λ turn. Steps self.old self.new turn) }
+    /// One turn: what the next text gives.
+    fn step(&mut self) -> Result<Outcome, AllocError>
+        ensures steps { IfOk result (λ outcome. Steps self.old self.new outcome) }
         ensures err { OnErr result (self.new ≡ self.old) }
     {
         let (arrival, search) = arrive(
@@ -123,12 +126,12 @@ impl RequestReader {
         );
         self.search = search;
         match arrival {
-            Arrival::Partial => Ok(None),
+            Arrival::Partial => Ok(Outcome::Waits),
             Arrival::TooLong => {
                 let turn = after_too_long(self.place);
                 self.place = turn.place;
                 self.search = NEW_SEARCH;
-                Ok(Some(turn.item))
+                Ok(outcome_of(turn.item))
             }
             Arrival::Text(n) => {
                 let text = &self.bytes[self.start..self.start + n];
@@ -136,7 +139,7 @@ impl RequestReader {
                 self.start += n;
                 self.place = turn.place;
                 self.search = NEW_SEARCH;
-                Ok(Some(turn.item))
+                Ok(outcome_of(turn.item))
             }
         }
     }
@@ -148,5 +151,15 @@ impl RequestReader {
     {
         let start = self.start;
         &self.bytes[start..]
+    }
+}
+
+/// What a turn came to that has this result, or none.
+fn outcome_of(item: Option<Next>) -> Outcome
+    ensures { result ≡ spec.outcome_of item }
+{
+    match item {
+        None => Outcome::Silent,
+        Some(item) => Outcome::Gives(item),
     }
 }

@@ -82,7 +82,8 @@ fn expects(head: &HeadRecord, framing: Framing) -> bool
         && head.headers.has_token(EXPECT, CONTINUE)
 }
 
-fn has_body(framing: Framing) -> bool
+/// Whether the framing announces a body.
+pub fn has_body(framing: Framing) -> bool
     ensures { result ≡ spec.has_body framing }
 {
     match framing {

@@ -3,7 +3,7 @@ ghost use Rattle.std.specs.Prelude.{◌≡◌, ◌+◌, ◌<◌, ◌≤◌, leng
 ghost use Rattle.asgi_request.specs.Fronts as spec;
 ghost use Rattle.asgi_request.specs.Fronts.{empty_line_len, lines_len, head_len, line_len, trailer_len, front_at};
 ghost use Rattle.asgi_request.specs.Places.{front};
-ghost use Rattle.asgi_request.specs.Reading.{Resumes, Continues, ResumesTrailer, GoesFrom, IsClosed, head_part, front_of, IsWithin};
+ghost use Rattle.asgi_request.specs.Searches.{Resumes, Continues, ResumesTrailer, GoesFrom, IsClosed, head_part, front_of, IsWithin};
 
 use crate::place::Place;
 use asgi_types::Limits;
@@ -19,7 +19,8 @@ const SIZE_LINE_LIMIT: usize = 256;
 #[derive(Clone, Copy, Debug, PartialEq, Eq)]
 pub struct Search {
     pub at: usize,
-    /// Of a head: whether a byte that is neither CR nor LF stands before `at`.
+    /// Of a head: whether a byte that is neither CR nor LF stands before `at`. Of a trailer section: whether its
+    /// front is known to be no empty line.
     pub begun: bool,
 }
 

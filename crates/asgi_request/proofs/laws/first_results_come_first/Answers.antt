@@ -1,5 +1,4 @@
 use Rattle.std.proofs.Common.{◌++◌, ◌∙◌, List, ℕ, subst, append_assoc}
-use Rattle.asgi_request.specs.declared.next.Next.{Next}
 use Rattle.asgi_request.specs.Results.{GivesResults}
 use Rattle.asgi_request.proofs.ResultsLemmas.{prefix_of}
 use Rattle.asgi_request.proofs.laws.first_results_come_first.Goals as goal

@@ -1,5 +1,5 @@
 use Rattle.asgi_request.specs.Fronts.{lines_len}
-use Rattle.asgi_request.specs.Reading.{GoesFrom}
+use Rattle.asgi_request.specs.Searches.{GoesFrom}
 use Rattle.asgi_request.proofs.search.find_lines.Given as goal
 
 abbrev pub invariant-loop-i : goal.invariant-loop-i

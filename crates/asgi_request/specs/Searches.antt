@@ -1,0 +1,106 @@
+-- What the private functions of the reader tell each other: how far a search has come, one turn, and the turns up to a
+-- result. No promise is stated by these words.
+use Rattle.std.specs.Prelude.{◌≡◌, ℕ, ◌≤◌, List, ◌++◌, length, take, drop, Bool, true, false, Option, Some, None}
+use Rattle.asgi_request.specs.declared.place.Place.{Place}
+use Rattle.asgi_request.specs.declared.place.Place.TheVariants.{Start, Counted, SizeLine, Chunk, ChunkEnd, Trailers, BodyEnd, Stopped}
+use Rattle.asgi_request.specs.declared.place.Outcome.{Outcome}
+use Rattle.asgi_request.specs.declared.place.Outcome.TheVariants.{Waits, Silent, Gives}
+use Rattle.asgi_request.specs.declared.next.Next.{Next}
+use Rattle.asgi_request.specs.declared.next.Next.TheVariants.{Need, Head, Event, Whole, Bad}
+use Rattle.asgi_request.specs.declared.search.Search.{Search}
+use Rattle.asgi_request.specs.declared.search.Arrival.{Arrival}
+use Rattle.asgi_request.specs.declared.search.Arrival.TheVariants.{Text, TooLong, Partial}
+use Rattle.asgi_request.specs.Fronts.{Front, found, too_long, unfinished, more, empty_line_len, head_len, lines_len, line_len, trailer_len}
+use Rattle.asgi_request.specs.Places.{Takes}
+use Rattle.asgi_request.specs.Reading.{Reading, IsWaiting, IsRefused, Keeps, GoesOn}
+
+-- the bytes before `at` hold no end of the text, whatever follows
+pub record Continues (whole part : List ℕ → Option ℕ) (at : ℕ) (held : List ℕ) : Type 0 where
+  pub inside : at ≤ length held
+  pub same : (rest : List ℕ) → whole (held ++ rest) ≡ more at (part (drop at held ++ rest))
+
+-- no end of a text stands between these places, whatever follows
+abbrev pub GoesFrom : (List ℕ → Option ℕ) → (List ℕ → Option ℕ) → ℕ → ℕ → List ℕ → Type 0
+GoesFrom whole part from at held = (rest : List ℕ) → more from (whole (drop from held ++ rest)) ≡ more at (part (drop at held ++ rest))
+
+-- more bytes behind make no empty line at the front that isn't there
+abbrev pub IsClosed : List ℕ → Type 0
+IsClosed bytes = (rest : List ℕ) → empty_line_len (bytes ++ rest) ≡ empty_line_len bytes
+
+-- the search of a head goes on before its first byte or behind it
+abbrev pub head_part : Bool → List ℕ → Option ℕ
+head_part true bytes = lines_len bytes
+head_part false bytes = head_len bytes
+
+-- the search of a trailer section goes on where its front is known to be no empty line, else it starts anew
+abbrev pub ResumesTrailer : Bool → ℕ → List ℕ → Type 0
+ResumesTrailer true at held = Continues trailer_len lines_len at held
+ResumesTrailer false at held = Unit {0}
+
+-- a search goes on that way at this place
+abbrev pub Resumes : Place → Search → List ℕ → Type 0
+Resumes Start s held = Continues head_len (head_part s.begun) s.at held
+Resumes (Counted n) s held = Unit {0}
+Resumes (SizeLine sum) s held = Continues line_len line_len s.at held
+Resumes (Chunk left sum) s held = Unit {0}
+Resumes (ChunkEnd sum) s held = Unit {0}
+Resumes Trailers s held = ResumesTrailer s.begun s.at held
+Resumes BodyEnd s held = Unit {0}
+Resumes (Stopped refusal) s held = Unit {0}
+
+-- the front that a search found
+abbrev pub front_of : List ℕ → Arrival → Front
+front_of bytes (Text n) = found (take n bytes)
+front_of bytes TooLong = too_long
+front_of bytes Partial = unfinished
+
+-- a text that was found lies in the bytes
+abbrev pub IsWithin : List ℕ → Arrival → Type 0
+IsWithin bytes (Text n) = n ≤ length bytes
+IsWithin bytes TooLong = Unit {0}
+IsWithin bytes Partial = Unit {0}
+
+-- one turn, with its result if it has one
+pub record Stepped (old new : Reading) (item : Option Next) : Type 0 where
+  pub limits : new.limits ≡ old.limits
+  pub takes : Takes old.limits old.place old.held (record { item = item; place = new.place }) new.held
+
+-- what a turn came to, by its result
+abbrev pub outcome_of : Option Next → Outcome
+outcome_of None = Silent
+outcome_of (Some item) = Gives item
+
+-- one turn, or none where the reader waits
+abbrev pub Steps : Reading → Reading → Outcome → Type 0
+Steps old new Waits = (new ≡ old) × IsWaiting new
+Steps old new Silent = Stepped old new None
+Steps old new (Gives item) = Stepped old new (Some item)
+
+-- no further result of the bytes is there, or this is the next
+abbrev pub Answers : Reading → Reading → Option Next → Type 0
+Answers old new None = IsWaiting new × Keeps old new
+Answers old new (Some item) = GoesOn old new item
+
+-- after a refusal the answer is that refusal
+abbrev pub RefusesAgain : Reading → Reading → Option Next → Type 0
+RefusesAgain old new answer = (status : ℕ) → IsRefused old status → (answer ≡ Some (Bad status)) × (new ≡ old)
+
+-- what a result says of the reader: `Need` is none, and behind a refusal the reader is refused
+abbrev pub IsResult : Reading → Option Next → Type 0
+IsResult new None = Unit {0}
+IsResult new (Some Need) = ⊥
+IsResult new (Some (Head scope facts)) = Unit {0}
+IsResult new (Some (Event event)) = Unit {0}
+IsResult new (Some Whole) = Unit {0}
+IsResult new (Some (Bad status)) = IsRefused new status
+
+-- how many silent turns can follow
+abbrev pub rank : Place → ℕ
+rank Start = 0
+rank (Counted n) = 0
+rank (SizeLine sum) = 1
+rank (Chunk left sum) = 0
+rank (ChunkEnd sum) = 2
+rank Trailers = 0
+rank BodyEnd = 0
+rank (Stopped refusal) = 0
