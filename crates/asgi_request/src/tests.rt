@@ -169,19 +169,10 @@ fn add_flag(holds: bool, word: &str, words: &mut String) -> Result<(), AllocErro
 
 fn add_framing(framing: Framing, words: &mut String) -> Result<(), AllocError> {
     match framing {
-        Framing::Length(n) => add_length(n, words),
+        Framing::Length(n) => write!(words, " {n}"),
         Framing::Chunked => words.push_str(" chunked"),
         Framing::Upgrade => words.push_str(" upgrade"),
     }
-}
-
-/// The last two digits of the number, without a zero in front.
-fn add_length(n: u64, words: &mut String) -> Result<(), AllocError> {
-    words.push(' ')?;
-    if n >= 10 {
-        words.push((b'0' + (n / 10 % 10) as u8) as char)?;
-    }
-    words.push((b'0' + (n % 10) as u8) as char)
 }
 
 fn add_event(event: &Incoming, words: &mut String) -> Result<(), AllocError> {

@@ -62,7 +62,23 @@ fn nothing_is_expected_in_http_10(rt: HostRuntime) -> Result<(), Fail> {
 
 #[test]
 fn the_usual_block_is_larger(rt: HostRuntime) -> Result<(), Fail> {
-    let inputs: [&[u8]; 1] = [b"POST / HTTP/1.1\r\nHost: a\r\nContent-Length: 9\r\n\r\nabcdefghi"];
-    let wanted = "head POST 9; last(abcdefghi) whole;";
-    gives(&rt, rt.alloc(), Limits::usual(), &inputs, wanted)
+    // The whole length is one block, and nothing is given of a part of it.
+    let rows: [(&[u8], &str); 3] = [
+        (
+            b"POST / HTTP/1.1\r\nHost: a\r\nContent-Length: 9\r\n\r\nabcdefghi",
+            "head POST 9; last(abcdefghi) whole;",
+        ),
+        (
+            b"POST / HTTP/1.1\r\nHost: a\r\nContent-Length: 10\r\n\r\nabcd",
+            "head POST 10;",
+        ),
+        (
+            b"POST / HTTP/1.1\r\nHost: a\r\nContent-Length: 5\r\n\r\nabcdeGET / HTTP/1.1\r\nHost: a\r\n\r\n",
+            "head POST 5; last(abcde) whole;head GET 0; last() whole;",
+        ),
+    ];
+    for (bytes, wanted) in rows {
+        gives(&rt, rt.alloc(), Limits::usual(), &[bytes], wanted)?;
+    }
+    Ok(())
 }

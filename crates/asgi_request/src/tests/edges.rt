@@ -126,9 +126,26 @@ fn a_trailer_section_keeps_to_its_count_of_fields(rt: HostRuntime) -> Result<(),
 
 #[test]
 fn no_body_may_be_served(rt: HostRuntime) -> Result<(), Fail> {
-    let one: [&[u8]; 1] = [b"POST / HTTP/1.1\r\nHost: a\r\nContent-Length: 1\r\n\r\na"];
-    gives(&rt, rt.alloc(), limits(16_384, 2, 0, 4), &one, " bad 413")?;
-    let none: [&[u8]; 1] = [b"POST / HTTP/1.1\r\nHost: a\r\nContent-Length: 0\r\n\r\n"];
-    let wanted = "head POST 0; last() whole;";
-    gives(&rt, rt.alloc(), limits(16_384, 2, 0, 4), &none, wanted)
+    let rows: [(&[u8], &str); 4] = [
+        (
+            b"POST / HTTP/1.1\r\nHost: a\r\nContent-Length: 1\r\n\r\na",
+            " bad 413",
+        ),
+        (
+            b"POST / HTTP/1.1\r\nHost: a\r\nContent-Length: 0\r\n\r\n",
+            "head POST 0; last() whole;",
+        ),
+        (
+            b"POST / HTTP/1.1\r\nHost: a\r\nTransfer-Encoding: chunked\r\n\r\n0\r\n\r\n",
+            "head POST chunked; last() whole;",
+        ),
+        (
+            b"POST / HTTP/1.1\r\nHost: a\r\nTransfer-Encoding: chunked\r\n\r\n1\r\n",
+            "head POST chunked; bad 413",
+        ),
+    ];
+    for (bytes, wanted) in rows {
+        gives(&rt, rt.alloc(), limits(16_384, 2, 0, 4), &[bytes], wanted)?;
+    }
+    Ok(())
 }

@@ -56,8 +56,9 @@ fn a_length_beside_a_coding_is_bad(rt: HostRuntime) -> Result<(), Fail> {
 
 #[test]
 fn a_length_that_is_no_number_is_bad(rt: HostRuntime) -> Result<(), Fail> {
-    let inputs: [&[u8]; 8] = [
+    let inputs: [&[u8]; 9] = [
         b"POST / HTTP/1.1\r\nHost: a\r\nContent-Length: 3\r\nContent-Length: 3\r\n\r\nabc",
+        b"POST / HTTP/1.1\r\nHost: a\r\nContent-Length: 3\r\nContent-Length: 4\r\n\r\nabcd",
         b"POST / HTTP/1.1\r\nHost: a\r\nContent-Length: +3\r\n\r\nabc",
         b"POST / HTTP/1.1\r\nHost: a\r\nContent-Length: -3\r\n\r\nabc",
         b"POST / HTTP/1.1\r\nHost: a\r\nContent-Length: 3 3\r\n\r\nabc",
@@ -84,8 +85,10 @@ fn a_length_has_up_to_19_digits(rt: HostRuntime) -> Result<(), Fail> {
 
 #[test]
 fn one_coding_is_known(rt: HostRuntime) -> Result<(), Fail> {
-    let inputs: [&[u8]; 3] = [
+    let inputs: [&[u8]; 5] = [
         b"POST / HTTP/1.1\r\nHost: a\r\nTransfer-Encoding: gzip, chunked\r\n\r\n0\r\n\r\n",
+        b"POST / HTTP/1.1\r\nHost: a\r\nTransfer-Encoding: chunked, identity\r\n\r\n0\r\n\r\n",
+        b"POST / HTTP/1.1\r\nHost: a\r\nTransfer-Encoding: xchunked\r\n\r\n0\r\n\r\n",
         b"POST / HTTP/1.1\r\nHost: a\r\nTransfer-Encoding: chunked\r\nTransfer-Encoding: chunked\r\n\r\n",
         b"POST / HTTP/1.1\r\nHost: a\r\nTransfer-Encoding: identity\r\n\r\n",
     ];
@@ -105,10 +108,12 @@ fn a_coding_in_http_10_is_bad(rt: HostRuntime) -> Result<(), Fail> {
 
 #[test]
 fn what_is_no_head_is_bad(rt: HostRuntime) -> Result<(), Fail> {
-    // A folded line, a space before the colon, a bare CR, a NUL, another version.
-    let inputs: [&[u8]; 5] = [
+    // A folded line, a space before the colon, both where they would hide a coding, a bare CR, a NUL, another version.
+    let inputs: [&[u8]; 7] = [
         b"GET / HTTP/1.1\r\nHost: a\r\nX: b\r\n c\r\n\r\n",
         b"GET / HTTP/1.1\r\nHost : a\r\n\r\n",
+        b"POST / HTTP/1.1\r\nHost: a\r\nTransfer-Encoding:\r\n chunked\r\n\r\n0\r\n\r\n",
+        b"POST / HTTP/1.1\r\nHost: a\r\nTransfer-Encoding : chunked\r\n\r\n0\r\n\r\n",
         b"GET / HTTP/1.1\r\nHost: a\rb\r\n\r\n",
         b"GET / HTTP/1.1\r\nHost: a\0\r\n\r\n",
         b"GET / HTTP/2.0\r\nHost: a\r\n\r\n",
@@ -118,14 +123,22 @@ fn what_is_no_head_is_bad(rt: HostRuntime) -> Result<(), Fail> {
 
 #[test]
 fn facts_are_those_of_the_head(rt: HostRuntime) -> Result<(), Fail> {
-    let only: [&[u8]; 1] = [
-        b"\r\n\r\nhead / HTTP/1.1\r\nHost: a\r\nConnection: x, Close\r\n\r\n\r\nGE",
+    let rows: [(&[u8], &str); 3] = [
+        (
+            b"\r\n\r\nhead / HTTP/1.1\r\nHost: a\r\nConnection: x, Close\r\n\r\n\r\nGE",
+            "head HEAD 0 head_only close; last() whole;",
+        ),
+        (
+            b"GET / HTTP/1.1\nHost: a\nExpect: 100-continue\n\n\r\nGET * HTTP/1.1\n\n",
+            "head GET 0; last() whole; bad 400",
+        ),
+        (
+            b"POST / HTTP/1.1\r\nHost: a\r\nExpect: 100-continue\r\nTransfer-Encoding: chunked\r\n\r\n0\r\n\r\n",
+            "head POST chunked expect; last() whole;",
+        ),
     ];
-    let wanted = "head HEAD 0 head_only close; last() whole;";
-    gives(&rt, rt.alloc(), Limits::usual(), &only, wanted)?;
-    let two: [&[u8]; 1] = [
-        b"GET / HTTP/1.1\nHost: a\nExpect: 100-continue\n\n\r\nGET * HTTP/1.1\n\n",
-    ];
-    let wanted = "head GET 0; last() whole; bad 400";
-    gives(&rt, rt.alloc(), Limits::usual(), &two, wanted)
+    for (bytes, wanted) in rows {
+        gives(&rt, rt.alloc(), Limits::usual(), &[bytes], wanted)?;
+    }
+    Ok(())
 }

@@ -30,88 +30,121 @@ fn facts_of(next: &Next) -> Option<&Facts> {
 }
 
 /// A head with this target.
-fn head_for(alloc: Global, target: &[u8]) -> Result<Vec<u8>, AllocError> {
+fn head_for(alloc: Global, target: &str) -> Result<Vec<u8>, AllocError> {
     let mut bytes = Vec::from_slice(alloc, b"OPTIONS ")?;
-    bytes.extend_from_slice(target)?;
+    bytes.extend_from_slice(target.as_bytes())?;
     bytes.extend_from_slice(b" HTTP/1.1\r\nHost: a\r\n\r\n")?;
     Ok(bytes)
 }
 
-fn scope_for(alloc: Global, target: &[u8]) -> Result<Next, AllocError> {
-    let bytes = head_for(alloc, target)?;
-    first(alloc, &bytes)
-}
+/// A target, and the path, the raw path and the query that it has.
+type Row = (&'static str, &'static str, &'static str, &'static str);
 
-/// A target has this path, this raw path and this query.
-fn shows(
-    rt: &impl Abort,
-    alloc: Global,
-    target: &[u8],
-    path: &[u8],
-    raw_path: &[u8],
-    query: &[u8],
-) -> Result<(), Fail> {
-    let next = scope_for(alloc, target)?;
-    assert!(rt; has_parts(&next, path, raw_path, query));
+/// Each target has these parts, in pieces of 1, 2, 7 and 1,000 bytes, of which the last is the whole, and cut in two at
+/// each place.
+fn show(rt: &impl Abort, alloc: Global, rows: &[Row]) -> Result<(), Fail> {
+    for row in rows {
+        let bytes = head_for(alloc, row.0)?;
+        shows_in_pieces(rt, alloc, &bytes, row)?;
+        shows_in_two(rt, alloc, &bytes, row)?;
+    }
     Ok(())
 }
 
-fn has_parts(next: &Next, path: &[u8], raw_path: &[u8], query: &[u8]) -> bool {
+fn shows_in_pieces(rt: &impl Abort, alloc: Global, bytes: &[u8], row: &Row) -> Result<(), Fail> {
+    for size in [1, 2, 7, 1_000] {
+        let next = behind_pieces(new_reader(alloc, Limits::usual()), bytes, size)?;
+        assert!(rt; has_parts(&next, row), "{} in pieces of {size}", row.0);
+    }
+    Ok(())
+}
+
+fn shows_in_two(rt: &impl Abort, alloc: Global, bytes: &[u8], row: &Row) -> Result<(), Fail> {
+    for cut in 0..bytes.len() {
+        let next = behind_cut(new_reader(alloc, Limits::usual()), bytes, cut)?;
+        assert!(rt; has_parts(&next, row), "{} cut at {cut}", row.0);
+    }
+    Ok(())
+}
+
+/// What is given behind the last of the pieces of so many bytes, where one result is taken behind each of them.
+fn behind_pieces(mut reader: RequestReader, bytes: &[u8], size: usize) -> Result<Next, AllocError> {
+    let mut rest = bytes;
+    let mut next = Next::Need;
+    for _ in 0..bytes.len() {
+        if rest.is_empty() {
+            return Ok(next);
+        }
+        let (piece, behind) = rest.split_at(size.min(rest.len()));
+        next = after(&mut reader, piece)?;
+        rest = behind;
+    }
+    Ok(next)
+}
+
+/// What is given behind the second part, where one result is taken behind each of them.
+fn behind_cut(mut reader: RequestReader, bytes: &[u8], cut: usize) -> Result<Next, AllocError> {
+    let (front, behind) = bytes.split_at(cut.min(bytes.len()));
+    let _first = after(&mut reader, front)?;
+    after(&mut reader, behind)
+}
+
+/// The next result behind this piece.
+fn after(reader: &mut RequestReader, piece: &[u8]) -> Result<Next, AllocError> {
+    put(reader, piece)?;
+    take(reader)
+}
+
+fn has_parts(next: &Next, row: &Row) -> bool {
     let Some(scope) = scope_of(next) else {
         return false;
     };
-    scope.path.as_str().as_bytes() == path
-        && scope.raw_path.bytes() == raw_path
-        && scope.query_string.bytes() == query
+    scope.path.as_str() == row.1
+        && scope.raw_path.bytes() == row.2.as_bytes()
+        && scope.query_string.bytes() == row.3.as_bytes()
 }
 
 #[test]
 fn a_target_has_a_path_and_a_query(rt: HostRuntime) -> Result<(), Fail> {
-    let alloc = rt.alloc();
-    shows(&rt, alloc, b"/", b"/", b"/", b"")?;
-    shows(&rt, alloc, b"/?", b"/", b"/", b"")?;
-    shows(&rt, alloc, b"/a#b", b"/a#b", b"/a#b", b"")?;
-    shows(&rt, alloc, b"//a/b", b"//a/b", b"//a/b", b"")?;
-    shows(&rt, alloc, b"*", b"*", b"*", b"")
+    let rows: [Row; 5] = [
+        ("/", "/", "/", ""),
+        ("/?", "/", "/", ""),
+        ("/a#b", "/a#b", "/a#b", ""),
+        ("//a/b", "//a/b", "//a/b", ""),
+        ("*", "*", "*", ""),
+    ];
+    show(&rt, rt.alloc(), &rows)
 }
 
 #[test]
 fn a_target_may_name_an_authority(rt: HostRuntime) -> Result<(), Fail> {
-    let alloc = rt.alloc();
-    shows(&rt, alloc, b"http://a/x?y", b"/x", b"/x", b"y")?;
-    shows(&rt, alloc, b"http://a", b"/", b"/", b"")?;
-    shows(&rt, alloc, b"HTTPS://a:1?y?z", b"/", b"/", b"y?z")?;
-    shows(&rt, alloc, b"http://a?", b"/", b"/", b"")
+    let rows: [Row; 4] = [
+        ("http://a/x?y", "/x", "/x", "y"),
+        ("http://a", "/", "/", ""),
+        ("HTTPS://a:1?y?z", "/", "/", "y?z"),
+        ("http://a?", "/", "/", ""),
+    ];
+    show(&rt, rt.alloc(), &rows)
 }
 
 #[test]
 fn a_path_is_percent_decoded(rt: HostRuntime) -> Result<(), Fail> {
-    let alloc = rt.alloc();
-    shows(
-        &rt,
-        alloc,
-        b"/a/%ff?q=%20",
-        b"/a/\xef\xbf\xbd",
-        b"/a/%ff",
-        b"q=%20",
-    )?;
-    shows(&rt, alloc, b"/a%2Fb%2fc", b"/a/b/c", b"/a%2Fb%2fc", b"")?;
-    shows(
-        &rt,
-        alloc,
-        b"/%c3%a9%c3",
-        b"/\xc3\xa9\xef\xbf\xbd",
-        b"/%c3%a9%c3",
-        b"",
-    )
+    let rows: [Row; 3] = [
+        ("/a/%ff?q=%20", "/a/\u{fffd}", "/a/%ff", "q=%20"),
+        ("/a%2Fb%2fc", "/a/b/c", "/a%2Fb%2fc", ""),
+        ("/%c3%a9%c3", "/\u{e9}\u{fffd}", "/%c3%a9%c3", ""),
+    ];
+    show(&rt, rt.alloc(), &rows)
 }
 
 #[test]
 fn a_percent_sign_without_two_digits_stays(rt: HostRuntime) -> Result<(), Fail> {
-    let alloc = rt.alloc();
-    shows(&rt, alloc, b"/%", b"/%", b"/%", b"")?;
-    shows(&rt, alloc, b"/%4", b"/%4", b"/%4", b"")?;
-    shows(&rt, alloc, b"/%zz%41", b"/%zzA", b"/%zz%41", b"")
+    let rows: [Row; 3] = [
+        ("/%", "/%", "/%", ""),
+        ("/%4", "/%4", "/%4", ""),
+        ("/%zz%41", "/%zzA", "/%zz%41", ""),
+    ];
+    show(&rt, rt.alloc(), &rows)
 }
 
 const FIELDS: &[u8] = b"get /x HTTP/1.0\r\nX-A: \t q  q \r\nhost:a\r\nX-A:\r\n\r\n";
@@ -120,22 +153,30 @@ const FIELDS: &[u8] = b"get /x HTTP/1.0\r\nX-A: \t q  q \r\nhost:a\r\nX-A:\r\n\r
 fn a_scope_has_the_fields_of_its_head(rt: HostRuntime) -> Result<(), Fail> {
     let next = first(rt.alloc(), FIELDS)?;
     assert!(rt; scope_of(&next).is_some_and(is_scope_of_fields));
-    assert!(rt; facts_of(&next).is_some_and(closes_alone));
+    assert!(rt; facts_of(&next).is_some_and(are_facts_of_fields));
     Ok(())
 }
 
 fn is_scope_of_fields(scope: &HttpScope) -> bool {
-    scope.method.as_str() == "GET"
+    scope.http_version == HttpVersion::V10
+        && scope.method.as_str() == "GET"
         && scope.scheme.as_str() == "http"
         && scope.root_path.as_str() == ""
         && scope.asgi.spec_version() == "2.4"
         && scope.client.is_none()
         && scope.server.is_none()
+        && scope.state.get("").is_none()
         && !scope.extensions.websocket_http_response
+        && !scope.extensions.http_response_trailers
 }
 
-fn closes_alone(facts: &Facts) -> bool {
-    facts.close && !facts.expect && !facts.head_only
+fn are_facts_of_fields(facts: &Facts) -> bool {
+    facts.version == HttpVersion::V10
+        && facts.close
+        && !facts.expect
+        && !facts.head_only
+        && facts.key == [0; 24]
+        && facts.subprotocols.len() == 0
 }
 
 #[test]
@@ -181,10 +222,11 @@ fn waits(reader: &mut RequestReader) -> Result<bool, AllocError> {
     Ok(matches!(&next, Next::Need))
 }
 
-/// A record with this method and this field.
-fn record(alloc: Global, method: &str, name: &[u8], value: &[u8]) -> Result<HeadRecord, Fail> {
+/// A record with this method, a Host field and this field.
+fn record(alloc: Global, method: &str, name: &str, value: &str) -> Result<HeadRecord, Fail> {
     let mut headers = Headers::new(alloc);
-    headers.push(name, value)?;
+    headers.push(b"host", b"a")?;
+    headers.push(name.as_bytes(), value.as_bytes())?;
     Ok(HeadRecord {
         version: HttpVersion::V11,
         method: Chars::new(String::from_str(alloc, method)?),
@@ -193,21 +235,30 @@ fn record(alloc: Global, method: &str, name: &[u8], value: &[u8]) -> Result<Head
     })
 }
 
-fn framing(alloc: Global, method: &str, name: &[u8], value: &[u8]) -> Result<HeadFraming, Fail> {
-    let head = record(alloc, method, name, value)?;
-    Ok(framing_of(&head, &Limits::usual()))
-}
-
 #[test]
 fn a_record_has_a_framing(rt: HostRuntime) -> Result<(), Fail> {
-    let alloc = rt.alloc();
-    let served = framing(alloc, "GET", b"host", b"a")?;
-    assert_eq!(rt; served, HeadFraming::Length(0));
-    let hostless = framing(alloc, "GET", b"x", b"a")?;
-    assert_eq!(rt; hostless, HeadFraming::Bad(400));
-    let tunnel = framing(alloc, "CONNECT", b"host", b"a")?;
-    assert_eq!(rt; tunnel, HeadFraming::Bad(501));
-    let chunked = framing(alloc, "POST", b"transfer-encoding", b"chunked")?;
-    assert_eq!(rt; chunked, HeadFraming::Bad(400));
+    let rows: [(&str, &str, &str, HeadFraming); 8] = [
+        ("GET", "x", "a", HeadFraming::Length(0)),
+        ("POST", "content-length", "3", HeadFraming::Length(3)),
+        ("POST", "transfer-encoding", "chunked", HeadFraming::Chunked),
+        (
+            "POST",
+            "content-length",
+            "1048576",
+            HeadFraming::Length(1_048_576),
+        ),
+        ("POST", "content-length", "1048577", HeadFraming::Bad(413)),
+        ("GET", "host", "b", HeadFraming::Bad(400)),
+        ("POST", "transfer-encoding", "gzip", HeadFraming::Bad(501)),
+        ("CONNECT", "x", "a", HeadFraming::Bad(501)),
+    ];
+    for (method, name, value, wanted) in rows {
+        let head = record(rt.alloc(), method, name, value)?;
+        assert_eq!(rt;
+            framing_of(&head, &Limits::usual()),
+            wanted,
+            "{method} {name}: {value}"
+        );
+    }
     Ok(())
 }
