@@ -12,16 +12,38 @@ use Rattle.asgi_pipes.specs.Queues.{KeepsOrder}
 use Rattle.asgi_pipes.specs.Laws.{HeardIsOfferedInOrder, ClosedScopeHearsItsDisconnect, DisconnectIsHeardAgain, OnlyEqualDisconnectsFollow}
 use Rattle.asgi_pipes.proofs.DisconnectLemmas.{first_until, or_else_first_none, or_else_second_none, decide, none_heard}
 
+pub own_is : (kind : Kind) (said : List Outgoing) → disconnect_in (own_disconnect kind said) ≡ Some (own_disconnect kind said)
+own_is Http said = refl
+own_is WebSocket said = refl
+own_is Lifespan said = refl
+
 abbrev InOrder : List Incoming → List Incoming → Type 0
 InOrder offered heard =
     (events : List Incoming) × (unheard : List Incoming) × (times : ℕ) × (disconnect : Incoming)
     × (offered ≡ events ++ unheard) × (heard ≡ events ++ replicate times disconnect)
+    × (disconnect_in disconnect ≡ Some disconnect)
 
 in_order_until : (kind : Kind) (said : List Outgoing) (ring count : ℕ) (offered pulled heard : List Incoming)
     → KeepsOrder ring offered pulled count → HearsUntil kind said pulled heard → InOrder offered heard
 in_order_until kind said ring count offered pulled heard order h = elim h.cause [
-  | inl none ↦ (h.events, order.0, h.times, h.disconnect, order.1 ∙ ap (λ (l : List Incoming). l ++ order.0) none.1, h.in_order)
-  | inr (pos, inl own) ↦ (h.events, order.0, h.times, h.disconnect, order.1 ∙ ap (λ (l : List Incoming). l ++ order.0) own.2, h.in_order)
+  | inl none ↦ (
+    h.events,
+    order.0,
+    0,
+    HttpDisconnect,
+    order.1 ∙ ap (λ (l : List Incoming). l ++ order.0) none.1,
+    none_heard h.events heard h.times h.disconnect h.in_order none.0 ∙ sym (append-nil h.events),
+    refl,
+  )
+  | inr (pos, inl own) ↦ (
+    h.events,
+    order.0,
+    h.times,
+    h.disconnect,
+    order.1 ∙ ap (λ (l : List Incoming). l ++ order.0) own.2,
+    h.in_order,
+    rw own.1 (own_is kind said),
+  )
   | inr (pos, inr came) ↦ (
     h.events,
     h.disconnect ∷ order.0,
@@ -29,6 +51,7 @@ in_order_until kind said ring count offered pulled heard order h = elim h.cause 
     h.disconnect,
     order.1 ∙ ap (λ (l : List Incoming). l ++ order.0) came.2 ∙ append_assoc h.events (h.disconnect ∷ []) order.0,
     h.in_order,
+    came.1,
   )
 ]
 
@@ -36,17 +59,12 @@ pub in_order : HeardIsOfferedInOrder
 in_order Http said ring count offered pulled heard order h = in_order_until Http said ring count offered pulled heard order h
 in_order WebSocket said ring count offered pulled heard order h = in_order_until WebSocket said ring count offered pulled heard order h
 in_order Lifespan said ring count offered pulled heard order h =
-    (pulled, order.0, 0, HttpDisconnect, order.1, h ∙ sym (append-nil pulled))
+    (pulled, order.0, 0, HttpDisconnect, order.1, h ∙ sym (append-nil pulled), refl)
 
 pub closed_hears : ClosedScopeHearsItsDisconnect
 closed_hears Http said heard other closed = rw closed refl
 closed_hears WebSocket said heard other closed = rw closed refl
 closed_hears Lifespan said heard other closed = absurd (other refl)
-
-pub own_is : (kind : Kind) (said : List Outgoing) → disconnect_in (own_disconnect kind said) ≡ Some (own_disconnect kind said)
-own_is Http said = refl
-own_is WebSocket said = refl
-own_is Lifespan said = refl
 
 again_until : (kind : Kind) (said : List Outgoing) (pulled heard : List Incoming) (d : Incoming)
     → HearsUntil kind said pulled heard → first_disconnect heard ≡ Some d

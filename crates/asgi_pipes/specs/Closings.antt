@@ -1,4 +1,4 @@
--- The events that close a scope, each with the disconnect that is heard behind it.
+-- The events that close a scope, each with the disconnect that is heard behind it: a word of private functions alone.
 use Rattle.std.specs.Prelude.{Bool, false, [], Option, Some, None}
 use Rattle.asgi_types.specs.declared.incoming.Incoming.{Incoming}
 use Rattle.asgi_types.specs.declared.incoming.Incoming.TheVariants.{HttpDisconnect, WsDisconnect}

@@ -59,7 +59,7 @@ answer_at_once Lifespan said heard = None
 answer_at_once Http said heard = if is_closed Http said then Some (own_disconnect Http said) else first_disconnect heard
 answer_at_once WebSocket said heard = if is_closed WebSocket said then Some (own_disconnect WebSocket said) else first_disconnect heard
 
--- the event of a disconnect
+-- the event of a disconnect (a word of private functions alone)
 abbrev pub event_of : Disconnect → Incoming
 event_of disconnect.Http = HttpDisconnect
 event_of (disconnect.WebSocket code reason) = WsDisconnect code reason
@@ -87,7 +87,7 @@ Hears Http said pulled heard = HearsUntil Http said pulled heard
 Hears WebSocket said pulled heard = HearsUntil WebSocket said pulled heard
 Hears Lifespan said pulled heard = heard ≡ pulled
 
--- what is heard again behind an event that came through the queue
+-- what is heard again behind an event that came through the queue (a word of private functions alone)
 abbrev pub repeated_in : Kind → Incoming → Option Incoming
 repeated_in Lifespan event = None
 repeated_in _ event = disconnect_in event

@@ -19,6 +19,7 @@ HeardIsOfferedInOrder = (kind : Kind) (said : List Outgoing) (ring count : ℕ) 
     → KeepsOrder ring offered pulled count → Hears kind said pulled heard
     → (events : List Incoming) × (unheard : List Incoming) × (times : ℕ) × (disconnect : Incoming)
     × (offered ≡ events ++ unheard) × (heard ≡ events ++ replicate times disconnect)
+    × (disconnect_in disconnect ≡ Some disconnect)
 
 -- behind the own closing event nothing but its disconnect is heard
 abbrev pub ClosedScopeHearsItsDisconnect : Type 0

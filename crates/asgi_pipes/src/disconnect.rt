@@ -14,6 +14,7 @@ pub enum Disconnect {
 }
 
 impl Disconnect {
+    /// The event that an application hears.
     pub fn event(self) -> Incoming
         ensures { result ≡ event_of self }
     {

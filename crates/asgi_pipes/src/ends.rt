@@ -3,6 +3,7 @@
 ghost use Rattle.std.specs.Prelude.{◌≡◌, ℕ, ◌+◌, ◌≤◌, ◌⊎◌, Bool, true, false, not, List, [], ◌∷◌, ◌++◌, Option, Some, None, is_none, IsTrue, IsFalse, IfSome, IfNone, IsOk, OnOk, IfErr};
 ghost use mathlib.Core.List.{IsPrefix};
 ghost use Rattle.futures.specs.Poll.{IfReady, OnPending};
+ghost use Rattle.futures.specs.Task as task;
 ghost use Rattle.futures.specs.Task.{IsArmed, Keeps};
 ghost use Rattle.asgi_types.specs.declared.scope.Kind.{Kind};
 ghost use Rattle.asgi_types.specs.declared.facts.Facts.{Facts};
@@ -105,33 +106,42 @@ pub trait AppEnd: Drop {
     // A call of this end put an item into a queue or took one out since `moved` was asked.
     ghost has_moved: { Self → Bool };
 
+    // The source that fires where an event came, and the one where a place got free. An end that
+    // only asks for another poll may name any.
+    ghost arrivals: { Self → ℕ };
+
+    ghost vacancies: { Self → ℕ };
+
     /// The next event. Behind the application's own closing event that is its disconnect, and
     /// behind a heard disconnect an equal one; else the front of the queue. Where the queue is
-    /// empty the poll is pending, and has registered with a source or asked for another poll.
+    /// empty the poll is pending, and has registered with the source of arrivals or asked for
+    /// another poll.
     fn poll_receive(&mut self, cx: &mut Context<'_>) -> Poll<Incoming>
         ensures ready { IfReady result (λ event. heard self.new ≡ heard self.old ++ event ∷ []) }
         ensures at_once { (event : Incoming) → answer_at_once (kind self.old) (said self.old) (heard self.old) ≡ Some event
             → (result ≡ Poll.Ready event) × (pulled self.new ≡ pulled self.old) × (seen self.new ≡ seen self.old) × (has_moved self.new ≡ has_moved self.old) }
         ensures front { answer_at_once (kind self.old) (said self.old) (heard self.old) ≡ None
             → IfReady result (λ event. (pulled self.new ≡ pulled self.old ++ event ∷ []) × IsPrefix (seen self.old) (event ∷ seen self.new) × (has_moved self.new ≡ true)) }
-        ensures pending { OnPending result ((heard self.new ≡ heard self.old) × (pulled self.new ≡ pulled self.old) × (seen self.old ≡ []) × (seen self.new ≡ []) × (has_moved self.new ≡ has_moved self.old) × IsArmed cx.new) }
+        ensures pending { OnPending result ((heard self.new ≡ heard self.old) × (pulled self.new ≡ pulled self.old) × (seen self.old ≡ []) × (seen self.new ≡ []) × (has_moved self.new ≡ has_moved self.old) × IsArmed cx.new × task.Hears cx.new (arrivals self.old)) }
         ensures same { (said self.new ≡ said self.old) × (ended self.new ≡ ended self.old) × (room self.new ≡ room self.old) }
         ensures scope { (kind self.new ≡ kind self.old) × (facts self.new ≡ facts self.old) }
         ensures tag { (tag self.new ≡ tag self.old) × (ring self.new ≡ ring self.old) }
+        ensures sources { (arrivals self.new ≡ arrivals self.old) × (vacancies self.new ≡ vacancies self.old) }
         ensures kept { Keeps cx.old cx.new };
 
     /// Says an event, before `finish`. The judge looks first; `Full` comes only for an event that
-    /// would pass, which is then not said, and has registered with a source or asked for another
-    /// poll.
+    /// would pass, which is then not said, and has registered with the source of vacancies or
+    /// asked for another poll.
     fn poll_send(&mut self, cx: &mut Context<'_>, event: Outgoing) -> Sent
         requires { ended self.old ≡ None }
         ensures verdict { Answers (verdict_on (kind self.old) (facts self.old) (said self.old) (has_disconnect (heard self.old)) event) event (said self.old) (said self.new) result }
         ensures done { IfDone result ((has_moved self.new ≡ true) × (room self.old ≤ room self.new + 1)) }
-        ensures full { IfFull result ((room self.old ≡ 0) × (room self.new ≡ 0) × (has_moved self.new ≡ has_moved self.old) × IsArmed cx.new) }
+        ensures full { IfFull result ((room self.old ≡ 0) × (room self.new ≡ 0) × (has_moved self.new ≡ has_moved self.old) × IsArmed cx.new × task.Hears cx.new (vacancies self.old)) }
         ensures turned_away { IfTurnedAway result (self.new ≡ self.old) }
         ensures same { (heard self.new ≡ heard self.old) × (pulled self.new ≡ pulled self.old) × (seen self.new ≡ seen self.old) × (ended self.new ≡ ended self.old) }
         ensures scope { (kind self.new ≡ kind self.old) × (facts self.new ≡ facts self.old) }
         ensures tag { (tag self.new ≡ tag self.old) × (ring self.new ≡ ring self.old) }
+        ensures sources { (arrivals self.new ≡ arrivals self.old) × (vacancies self.new ≡ vacancies self.old) }
         ensures kept { Keeps cx.old cx.new };
 
     /// Puts the end behind all that was said, in the reserved place. The answer is true the first
@@ -142,7 +152,8 @@ pub trait AppEnd: Drop {
         ensures no { IsFalse result → self.new ≡ self.old }
         ensures same { (heard self.new ≡ heard self.old) × (pulled self.new ≡ pulled self.old) × (seen self.new ≡ seen self.old) × (said self.new ≡ said self.old) }
         ensures scope { (kind self.new ≡ kind self.old) × (facts self.new ≡ facts self.old) }
-        ensures tag { (tag self.new ≡ tag self.old) × (ring self.new ≡ ring self.old) };
+        ensures tag { (tag self.new ≡ tag self.old) × (ring self.new ≡ ring self.old) }
+        ensures sources { (arrivals self.new ≡ arrivals self.old) × (vacancies self.new ≡ vacancies self.old) };
 
     /// A call of this end put an item into a queue or took one out since this was last asked.
     fn moved(&mut self) -> bool
@@ -151,7 +162,8 @@ pub trait AppEnd: Drop {
         ensures lists { (heard self.new ≡ heard self.old) × (pulled self.new ≡ pulled self.old) × (seen self.new ≡ seen self.old) }
         ensures same { (said self.new ≡ said self.old) × (ended self.new ≡ ended self.old) × (room self.new ≡ room self.old) }
         ensures scope { (kind self.new ≡ kind self.old) × (facts self.new ≡ facts self.old) }
-        ensures tag { (tag self.new ≡ tag self.old) × (ring self.new ≡ ring self.old) };
+        ensures tag { (tag self.new ≡ tag self.old) × (ring self.new ≡ ring self.old) }
+        ensures sources { (arrivals self.new ≡ arrivals self.old) × (vacancies self.new ≡ vacancies self.old) };
 
     // What was said is lawful.
     ghost lawful: { (end : Self) → ∥ IsLawful (kind end) (facts end) (said end) ∥₁ };

@@ -15,7 +15,9 @@ pub enum EndKind {
 /// What a connection takes: the events that the application said, and then its end.
 #[derive(Debug, Drop)]
 pub enum OutItem {
+    /// An event that the judge let pass.
     Event(Outgoing),
+    /// How the task ended, behind all its events.
     Ended(EndKind),
 }
 

@@ -21,8 +21,10 @@ pub struct Met {
 
 /// Makes pairs of ends, and brings them together again.
 pub trait Pipes {
+    /// The end of the connection.
     type Conn: ConnEnd;
 
+    /// The end of the application.
     type App: AppEnd;
 
     // They are the ends of one pair.

@@ -74,6 +74,11 @@ impl AppEnd for PlainApp {
 
     ghost has_moved = { λ s. s.moved };
 
+    // It has no sources: where it must wait, it asks for another poll.
+    ghost arrivals = { λ _. 0 };
+
+    ghost vacancies = { λ _. 0 };
+
     fn poll_receive(&mut self, cx: &mut Context<'_>) -> Poll<Incoming> {
         if let Some(disconnect) = self.disconnect {
             let event = disconnect.event();
