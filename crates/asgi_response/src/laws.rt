@@ -1,16 +1,10 @@
 //! Laws of the text of a response.
-<<<<<<< HEAD
 ghost use Rattle.std.specs.Prelude.{All};
-ghost use Rattle.asgi_response.specs.Laws.{TextOnlyGrows, PassedIsAccepted};
+ghost use Rattle.asgi_response.specs.Laws.{TextOnlyGrows, PassedIsAccepted, LawfulIsAccepted};
 ghost use Rattle.asgi_response.specs.ReadBack.{HeadIsReadBack, IsHeadReadBack, IsSendable};
 ghost use Rattle.asgi_response.specs.ReadBackBody.{ResponseIsReadBack, IsResponseReadBack};
 
 use asgi_types::Headers;
-=======
-ghost use Rattle.asgi_response.specs.Laws.{TextOnlyGrows, PassedIsAccepted, LawfulIsAccepted};
-ghost use Rattle.asgi_response.specs.ReadBack.{HeadIsReadBack};
-ghost use Rattle.asgi_response.specs.ReadBackBody.{ResponseIsReadBack};
->>>>>>> s1
 
 /// The text of a list of events is the beginning of the text of each longer list.
 pub fn text_only_grows()
