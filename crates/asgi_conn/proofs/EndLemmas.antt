@@ -11,7 +11,7 @@ use Rattle.asgi_conn.specs.declared.report.Outcome.{Outcome}
 use Rattle.asgi_conn.specs.declared.report.Outcome.TheVariants.{Finished, InputBroke}
 use Rattle.asgi_conn.specs.Conversation.{Answer, refusal, exchange, answer_to, IsDue, NothingIsDue, answer_text, outcome_of, exchanges_of, IsSilent, Agrees}
 use Rattle.asgi_conn.specs.Endings.{StopsAs}
-use Rattle.asgi_conn.specs.Ends.{SendsAnswer}
+use Rattle.asgi_conn.specs.Sending.{SendsAnswer}
 
 -- what was written at this end agrees with the bytes read
 abbrev pub EndsWell : Limits → List ℕ → Option (List ℕ) → Option (List ℕ) → End → Type 0

@@ -19,11 +19,11 @@ use Rattle.asgi_response.specs.Counting.{RoseBy}
 use Rattle.asgi_response.specs.Refusals.{is_refusal}
 use Rattle.asgi_conn.specs.declared.reading.Ending.{Ending}
 use Rattle.asgi_conn.specs.declared.reading.Ending.TheVariants as ending
-use Rattle.asgi_conn.specs.Conversation.{NothingIsDue, IsBlank, IsPrompt}
+use Rattle.asgi_conn.specs.Conversation.{NothingIsDue, IsBlank}
 use Rattle.asgi_conn.specs.Endings.{StopsAs, HasText, Stops}
-use Rattle.asgi_conn.specs.Turns.{piece_size, CountsTurns}
+use Rattle.asgi_conn.specs.Turns.{piece_size, CountsTurns, IsPrompt}
 use Rattle.asgi_conn.proofs.BytesLemmas.{Consumes-nothing, Consumes-then, Consumes-kept}
-use Rattle.asgi_conn.proofs.TurnLemmas.{TurnsSoFar, RoseBy-less, RoseBy-paused, no_turns, turn_read, turn_paused, counted_last, counted_end, prompt_waiting, prompt_piece}
+use Rattle.asgi_conn.proofs.TurnLemmas.{TurnsSoFar, RoseBy-less, RoseBy-paused, no_turns, turn_read, turn_paused, counted, counted_last, counted_end, prompt_waiting, prompt_piece}
 
 -- ---- what a reader gave first
 
@@ -160,6 +160,20 @@ ends_input limits known left new requests buffer n e ended old now turn idle tot
       subst Q (sym is) (subst P x.same (stops x.read x.stands due)),
       prompt_waiting limits x.read x.waits,
       subst T (sym sum) (counted_end x.read old now turn x.turns),
+    )
+
+-- behind a pause, at a limit
+pub ends_idle : (limits : Limits) (known left new : Option (List ℕ)) (requests : Reading) (e : Ending) (old now next turn idle total : ℕ)
+    → ReadsSoFar limits known left requests old now turn idle → Keeps left new → next ≡ min (now + 1) (2 ^ 64 - 1) → total ≡ turn + 1 → e ≡ ending.Idle
+    → HasRead limits known new e old next total
+ends_idle limits known left new requests e old now next turn idle total x keeps counts sum is =
+    let Q : Ending → Type 0 = λ f. StopsAs f limits x.read in
+    let T : ℕ → Type 0 = λ t. CountsTurns x.read old next t in (
+      x.read,
+      Consumes-kept known left new x.read x.consumed keeps,
+      subst Q (sym is) x.waits,
+      prompt_waiting limits x.read x.waits,
+      subst T (sym sum) (counted x.read old next (turn + 1) (turn_paused x.read old now next turn counts x.turns)),
     )
 
 -- behind a piece

@@ -4,12 +4,12 @@ use Rattle.std.proofs.lemmas.Bool.{cases_lt}
 use Rattle.std.proofs.lemmas.List.{length-append, append-nil}
 use Rattle.asgi_types.specs.declared.limits.Limits.{Limits}
 use Rattle.asgi_response.specs.Counting.{RoseBy}
-use Rattle.asgi_conn.specs.Turns.{piece_size, CountsTurns}
-use Rattle.asgi_conn.specs.Conversation.{NothingIsDue, IsPrompt}
+use Rattle.asgi_conn.specs.Conversation.{NothingIsDue}
+use Rattle.asgi_conn.specs.Turns.{piece_size, CountsTurns, IsPrompt}
 
--- so many whole turns were taken, and each read a byte or paused
+-- so many whole turns were taken, and each read a byte or paused, and not both
 pub record TurnsSoFar (read : List ℕ) (old new turns : ℕ) : Type 0 where
-  pub pieces : length read ≤ piece_size * turns
+  pub pieces : length read ≤ piece_size * (turns - (new - old))
   pub moved : RoseBy (turns - length read) old new
   pub pauses : new ≤ old + turns
 
@@ -34,7 +34,7 @@ no_turns old = record { pieces = omega arith; moved = inl (omega arith); pauses 
 pub turn_read : (read piece : List ℕ) (old new turns : ℕ) → 0 < length piece → length piece ≤ piece_size
     → TurnsSoFar read old new turns → TurnsSoFar (read ++ piece) old new (turns + 1)
 turn_read read piece old new turns some fits t = record {
-  pieces = omega (arith, length-append read piece, t.pieces, fits);
+  pieces = omega (arith, length-append read piece, t.pieces, t.pauses, fits);
   moved = RoseBy-less old new (turns - length read) (turns + 1 - length (read ++ piece)) (omega (arith, length-append read piece, some)) t.moved;
   pauses = omega (arith, t.pauses);
 }
@@ -42,7 +42,7 @@ turn_read read piece old new turns some fits t = record {
 pub turn_paused : (read : List ℕ) (old new newer turns : ℕ) → newer ≡ min (new + 1) (2 ^ 64 - 1)
     → TurnsSoFar read old new turns → TurnsSoFar read old newer (turns + 1)
 turn_paused read old new newer turns e t = record {
-  pieces = omega (arith, t.pieces);
+  pieces = omega (arith, t.pieces, e);
   moved = RoseBy-paused old new newer (turns - length read) (turns + 1 - length read) (omega arith) e t.moved;
   pauses = omega (arith, t.pauses, e);
 }
@@ -59,7 +59,7 @@ counted read old new turns t = record {
 pub counted_last : (read piece : List ℕ) (old new turns : ℕ) → length piece ≤ piece_size
     → TurnsSoFar read old new turns → CountsTurns (read ++ piece) old new (turns + 1)
 counted_last read piece old new turns fits t = record {
-  pieces = omega (arith, length-append read piece, t.pieces, fits);
+  pieces = omega (arith, length-append read piece, t.pieces, t.pauses, fits);
   moved = RoseBy-less old new (turns - length read) (turns + 1 - (length (read ++ piece) + 1)) (omega (arith, length-append read piece)) t.moved;
   pauses = omega (arith, t.pauses);
 }

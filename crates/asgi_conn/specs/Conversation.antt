@@ -1,6 +1,6 @@
 -- The conversation of one request: what the bytes read, the bytes written and the report say of each other
 -- (RFC 9112, sections 2.1 and 9). No sentence of it names a read or a write: only whole lists of bytes.
-use Rattle.std.specs.Prelude.{◌≡◌, ℕ, ◌<◌, ◌≤◌, ◌⊎◌, List, [], ◌∷◌, ◌++◌, length, take, All, IsTrue, if◌then◌else◌}
+use Rattle.std.specs.Prelude.{◌≡◌, ℕ, ◌<◌, ◌⊎◌, List, [], ◌∷◌, length, take, All, IsTrue, if◌then◌else◌}
 use Rattle.asgi_types.specs.declared.facts.Facts.{Facts}
 use Rattle.asgi_types.specs.declared.limits.Limits.{Limits}
 use Rattle.asgi_request.specs.declared.next.Next.{Next}
@@ -14,7 +14,6 @@ use Rattle.asgi_conn.specs.declared.report.Outcome.{Outcome}
 use Rattle.asgi_conn.specs.declared.report.Outcome.TheVariants.{Finished, Refused, InputBroke, WriteFailed, Idle, NoMemory}
 use Rattle.asgi_conn.specs.declared.report.Report.{Report}
 use Rattle.asgi_conn.specs.Hello.{hello_events}
-use Rattle.asgi_conn.specs.Turns.{piece_size}
 
 -- ---- what is due to the bytes read
 
@@ -105,18 +104,9 @@ Agrees (WriteFailed n) limits read written exchanges = IsCutOff n limits read wr
 Agrees Idle limits read written exchanges = IsSilent limits read written exchanges
 Agrees NoMemory limits read written exchanges = IsGivenUp limits read written exchanges
 
--- All that was read but at most one piece is bytes to which nothing is due: an answer never waits for more input.
-pub record IsPrompt (limits : Limits) (read : List ℕ) : Type 0 where
-  pub before : List ℕ
-  pub piece : List ℕ
-  pub splits : read ≡ before ++ piece
-  pub one_piece : length piece ≤ piece_size
-  pub waits : NothingIsDue limits before
-
 -- The conversation.
 pub record Conversation (limits : Limits) (read written : List ℕ) (report : Report) : Type 0 where
   pub agrees : Agrees report.outcome limits read written report.exchanges
-  pub prompt : IsPrompt limits read
   pub no_faults : report.faults ≡ 0
 
 -- ---- for its laws

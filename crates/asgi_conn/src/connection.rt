@@ -7,8 +7,8 @@ ghost use Rattle.asgi_response.specs.Counting.{RoseBy};
 ghost use Rattle.asgi_response.specs.Refusals.{is_refusal};
 ghost use Rattle.asgi_conn.specs.Conversation.{refusal, answer_to, Agrees, Conversation};
 ghost use Rattle.asgi_conn.specs.Endings.{HasText, StopsAs};
-ghost use Rattle.asgi_conn.specs.Ends.{Puts, SendsAnswer, TellsFailure};
-ghost use Rattle.asgi_conn.specs.Turns.{CountsTurns};
+ghost use Rattle.asgi_conn.specs.Sending.{Puts, SendsAnswer, TellsFailure};
+ghost use Rattle.asgi_conn.specs.Turns.{CountsTurns, IsPrompt};
 
 use crate::exchange::exchange_text;
 use crate::hello::Hello;
@@ -46,6 +46,7 @@ pub fn serve_connection<H: AllocGlobal, R: Read, W: Counts, P: Pause>(
         × Consumes (R.remaining reader.old) (R.remaining reader.new) read
         × Appends (W.written writer.old) (W.written writer.new) written
         × Conversation limits.now read written result
+        × IsPrompt limits.now read
         × CountsTurns read (P.count pause.old) (P.count pause.new) result.turns }
 
     // An input that is only empty lines is finished where it ended, and nowhere else.

@@ -3,9 +3,9 @@ ghost use Rattle.std.specs.Prelude.{◌≡◌, ◌≢◌, ◌≤◌, ◌⊎◌, 
 ghost use Rattle.std.specs.Io.KnownBytes.{Consumes, IsAtEnd};
 ghost use Rattle.asgi_request.specs.Reading.{StandsFor};
 ghost use Rattle.asgi_response.specs.Counting.{RoseBy};
-ghost use Rattle.asgi_conn.specs.Conversation.{NothingIsDue, IsBlank, IsPrompt};
+ghost use Rattle.asgi_conn.specs.Conversation.{NothingIsDue, IsBlank};
 ghost use Rattle.asgi_conn.specs.Endings.{HasText, StopsAs, Stops};
-ghost use Rattle.asgi_conn.specs.Turns.{CountsTurns};
+ghost use Rattle.asgi_conn.specs.Turns.{CountsTurns, IsPrompt};
 
 use crate::pause::Pause;
 use asgi_request::{Next, RequestReader};

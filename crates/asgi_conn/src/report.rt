@@ -48,5 +48,6 @@ pub struct Report {
     pub turns: u64,
     /// How many turns in a row were idle at the end.
     pub idle: u32,
+    /// Why the connection ended.
     pub outcome: Outcome,
 }

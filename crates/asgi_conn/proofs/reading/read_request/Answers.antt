@@ -1,6 +1,6 @@
 use Rattle.std.proofs.Common.{◌+◌, take, ap, arith}
 use Rattle.std.proofs.lemmas.List.{length-take}
-use Rattle.asgi_conn.proofs.ReadingLemmas.{so_far_none, so_far_piece, so_far_pause, so_far_as, ends_input, ends_piece}
+use Rattle.asgi_conn.proofs.ReadingLemmas.{so_far_none, so_far_piece, so_far_pause, so_far_as, ends_input, ends_idle, ends_piece}
 use Rattle.asgi_conn.proofs.reading.read_request.Goals.{in-Ok+in_default, in-Err+else-not-is_passing+else-idle-limits}
 use Rattle.asgi_conn.proofs.reading.read_request.Goals as goal
 
@@ -26,6 +26,12 @@ returns-in-Some-clause-has_text g c =
     (ends_piece c.args.limits.now _ _ _ t.requests c.take_piece.new.requests (take c.in-Ok.n c.read.new.buf) c.stop-in-Some.result.ending c.in-Some.ending _ _ t.turn t.idle
     c.stop-in-Some.result.turns t.invariant c.in-Ok.ensures.bytes.0 (omega (arith, length-take c.in-Ok.n c.read.new.buf)) c.stop-in-Some.ensures.turns c.stop-in-Some.ensures.ending
     c.in-Some.ensures.takes).1
+
+pub returns-then-idle-limits-clause-reads : goal.returns-then-idle-limits-clause-reads
+returns-then-idle-limits-clause-reads g c =
+    let t = c.loop-turn in
+    ends_idle c.args.limits.now _ _ _ t.requests c.stop-then-idle-limits.result.ending _ _ _ t.turn t.idle c.stop-then-idle-limits.result.turns
+    t.invariant c.in-Err.ensures.bytes c.pause.ensures c.stop-then-idle-limits.ensures.turns c.stop-then-idle-limits.ensures.ending
 
 pub loop-turn-preserved : goal.loop-turn-preserved
 loop-turn-preserved g c = elim c.match-read.branch [
