@@ -2,7 +2,6 @@
 ghost use Rattle.std.specs.Prelude.{◌≡◌, ◌≢◌, ◌≤◌, ◌⊎◌, ℕ, List, IsTrue};
 ghost use Rattle.std.specs.Io.KnownBytes.{Appends, Consumes, IsAtEnd};
 ghost use Rattle.asgi_types.specs.declared.limits.Limits.{Limits};
-ghost use Rattle.asgi_request.specs.Scopes as scopes;
 ghost use Rattle.asgi_response.specs.Counting.{RoseBy};
 ghost use Rattle.asgi_response.specs.Refusals.{is_refusal};
 ghost use Rattle.asgi_conn.specs.Conversation.{refusal, answer_to, Agrees, Conversation};
@@ -15,8 +14,9 @@ use crate::hello::Hello;
 use crate::pause::Pause;
 use crate::reading::{Ending, read_request};
 use crate::report::{Outcome, Report};
+use asgi_request::has_body;
 use asgi_response::{Counts, Wrote, refusal_text, write_out};
-use asgi_types::{Facts, Framing, Limits};
+use asgi_types::{Facts, Limits};
 use std::alloc::Global;
 use std::io::Read;
 
@@ -122,17 +122,6 @@ fn reply<W: Counts>(alloc: Global, app: &Hello, facts: &Facts, writer: &mut W) -
         outcome: Outcome::Finished,
     };
     put(&text, writer, served)
-}
-
-/// Whether the request announces a body.
-fn has_body(framing: Framing) -> bool
-    ensures { result ≡ scopes.has_body framing }
-{
-    match framing {
-        Framing::Length(n) => n > 0,
-        Framing::Chunked => true,
-        Framing::Upgrade => false,
-    }
 }
 
 /// Writes the text of a refusal.

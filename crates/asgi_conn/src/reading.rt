@@ -9,9 +9,10 @@ ghost use Rattle.asgi_conn.specs.Turns.{CountsTurns, IsPrompt};
 
 use crate::pause::Pause;
 use asgi_request::{Next, RequestReader};
+use asgi_response::is_passing;
 use asgi_types::{Facts, Limits};
 use std::alloc::Global;
-use std::io::{self, ErrorKind, Read};
+use std::io::Read;
 
 /// The most bytes that one turn reads.
 const PIECE: usize = 4_096;
@@ -126,11 +127,6 @@ fn is_blank(bytes: &[u8]) -> bool
     ensures { IsTrue result ↔ IsBlank bytes.now }
 {
     bytes.iter().all(|b| *b == b'\r' || *b == b'\n')
-}
-
-/// Whether the fault passes: an interruption, or a call that would block.
-fn is_passing(e: &io::Error) -> bool {
-    e.kind() == ErrorKind::Interrupted || e.kind() == ErrorKind::WouldBlock
 }
 
 fn stop(ending: Ending, turns: u64, idle: u32) -> Reading

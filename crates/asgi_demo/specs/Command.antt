@@ -5,6 +5,8 @@ use Rattle.asgi_conn.specs.declared.report.Outcome.{Outcome}
 use Rattle.asgi_conn.specs.declared.report.Outcome.TheVariants.{Finished, Refused, InputBroke, WriteFailed, Idle, NoMemory}
 use Rattle.asgi_conn.specs.declared.report.Report.{Report}
 use Rattle.asgi_conn.specs.Conversation.{Conversation}
+use Rattle.asgi_conn.specs.Turns.{IsPrompt}
+use Rattle.asgi_response.specs.Counting.{RoseBy}
 use Rattle.asgi_types.specs.declared.limits.Limits.{Limits}
 use Rattle.asgi_types.specs.Ranges.{AreLimits}
 
@@ -21,8 +23,9 @@ exit_status (WriteFailed n) = 5
 exit_status Idle = 5
 exit_status NoMemory = 5
 
--- one connection was served with the usual limits, and the status is that of its outcome
-pub record ServesOnce (input_old input_new output_old output_new : Option (List ℕ)) (status : ℕ) : Type 0 where
+-- One connection was served with the usual limits, and the status is that of its outcome. A write is said to have failed
+-- only where the output's count of failures rose.
+pub record ServesOnce (input_old input_new output_old output_new : Option (List ℕ)) (failed_old failed_new status : ℕ) : Type 0 where
   pub limits : Limits
   pub usual : AreLimits limits 16384 64 1048576 16384 16 30000 1099511627776
   pub read : List ℕ
@@ -31,4 +34,6 @@ pub record ServesOnce (input_old input_new output_old output_new : Option (List 
   pub consumes : Consumes input_old input_new read
   pub appends : Appends output_old output_new written
   pub conversation : Conversation limits read written report
+  pub prompt : IsPrompt limits read
+  pub write_failed : (n : ℕ) → report.outcome ≡ WriteFailed n → RoseBy 1 failed_old failed_new
   pub status_is : status ≡ exit_status report.outcome

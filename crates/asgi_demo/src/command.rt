@@ -15,11 +15,11 @@ const DEVICE_FAULT: &[u8] = b"device fault\n";
 
 /// A pause that only counts.
 #[derive(Drop)]
-struct NoPause {
+struct CountingPause {
     count: u64,
 }
 
-impl Pause for NoPause {
+impl Pause for CountingPause {
     ghost count = { λ p. p.count };
 
     fn pause(&mut self) {
@@ -43,14 +43,15 @@ pub fn command<H: AllocGlobal, R: Read, W: Counts, E: Write>(
     errors: &mut E,
 ) -> u8
     ensures serves { IsOnceHello (map string_bytes words.now) →
-        ServesOnce (R.remaining input.old) (R.remaining input.new) (W.written output.old) (W.written output.new) result }
+        ServesOnce (R.remaining input.old) (R.remaining input.new) (W.written output.old) (W.written output.new)
+        (W.failed output.old) (W.failed output.new) result }
     ensures usage { (¬ (IsOnceHello (map string_bytes words.now))) →
         (result ≡ 2) × Keeps (R.remaining input.old) (R.remaining input.new) × Keeps (W.written output.old) (W.written output.new) }
 {
     if !is_once_hello(words) {
         return usage(errors);
     }
-    let mut pause = NoPause { count: 0 };
+    let mut pause = CountingPause { count: 0 };
     let report = serve_connection(rt, &Limits::usual(), &Hello, input, output, &mut pause);
     let status = exit_status(report.outcome);
     if status != 0 {

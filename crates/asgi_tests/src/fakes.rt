@@ -9,11 +9,11 @@ use std::io::{self, ErrorKind, Read, Write};
 
 /// A pause that only counts.
 #[derive(Drop)]
-pub struct Counter {
+pub struct CountingPause {
     pub count: u64,
 }
 
-impl Pause for Counter {
+impl Pause for CountingPause {
     ghost count = { λ p. p.count };
 
     fn pause(&mut self) {
@@ -106,8 +106,10 @@ pub struct Sink {
     pub most: usize,
     /// The call that fails, counted from 1, if any.
     pub fails_at: u64,
-    /// How many calls answer this fault first.
+    /// How many calls answer this fault before the next that takes.
     pub faults: u64,
+    /// How many do so again behind each call that takes.
+    pub again: u64,
     pub fault: ErrorKind,
     pub calls: u64,
 }
@@ -122,6 +124,7 @@ impl Write for Sink {
         if self.calls == self.fails_at {
             return Err(io::Error::from(ErrorKind::BrokenPipe));
         }
+        self.faults = self.again;
         let n = self.most.min(buf.len());
         self.taken.extend_from_slice(&buf[..n])?;
         Ok(n)
@@ -139,7 +142,7 @@ pub fn serve<H: AllocGlobal, R: Read>(
     reader: &mut R,
 ) -> Result<(Report, Vec<u8>, u64), AllocError> {
     let mut writer = Counted::new(Vec::with_capacity(rt.alloc(), 256)?);
-    let mut pause = Counter { count: 0 };
+    let mut pause = CountingPause { count: 0 };
     let report = serve_connection(rt, limits, &Hello, reader, &mut writer, &mut pause);
     Ok((report, writer.writer, pause.count))
 }

@@ -6,6 +6,8 @@ mod cut;
 #[cfg(test)]
 mod fakes;
 #[cfg(test)]
+mod memory;
+#[cfg(test)]
 mod rows;
 #[cfg(test)]
 mod texts;

@@ -8,16 +8,17 @@ use std::test::Fail;
 
 #[test]
 fn turns_are_counted(rt: HostRuntime) -> Result<(), Fail> {
-    // The input, the bytes of a read, whether each read would block first, and the turns and pauses.
-    let rows: [(&[u8], usize, bool, u64, u64); 6] = [
-        (GET, 4_096, false, 1, 0),
-        (GET, 1, false, 27, 0),
-        (GET, 1, true, 54, 27),
-        (b"", 1, false, 1, 0),
-        (b"GE", 1, false, 3, 0),
-        (b"\r\n", 2, true, 4, 2),
+    // The input, the bytes of a read, whether each read would block first, and the turns, the pauses and
+    // the idle turns at the end: a turn that finds the end of the input is not idle, nor does it end the row.
+    let rows: [(&[u8], usize, bool, u64, u64, u32); 6] = [
+        (GET, 4_096, false, 1, 0, 0),
+        (GET, 1, false, 27, 0, 0),
+        (GET, 1, true, 54, 27, 0),
+        (b"", 1, false, 1, 0, 0),
+        (b"GE", 1, false, 3, 0, 0),
+        (b"\r\n", 2, true, 4, 2, 1),
     ];
-    for (row, (input, size, blocks, turns, pauses)) in rows.iter().enumerate() {
+    for (row, (input, size, blocks, turns, pauses, idle)) in rows.iter().enumerate() {
         let mut reader = Pieces::new(input, *size, *size);
         if *blocks {
             reader.before = Some(ErrorKind::WouldBlock);
@@ -25,6 +26,7 @@ fn turns_are_counted(rt: HostRuntime) -> Result<(), Fail> {
         let (report, _, paused) = serve(&rt, &Limits::usual(), &mut reader)?;
         assert_eq!(rt; report.turns, *turns, "row {row}");
         assert_eq!(rt; paused, *pauses, "row {row}");
+        assert_eq!(rt; report.idle, *idle, "row {row}");
     }
     Ok(())
 }

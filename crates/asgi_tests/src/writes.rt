@@ -1,5 +1,5 @@
 //! Writers that take little, fail, or would block.
-use crate::fakes::{Counter, Sink};
+use crate::fakes::{CountingPause, Sink};
 use crate::texts::{GET, HELLO};
 use asgi_conn::{Hello, Outcome, Report, serve_connection};
 use asgi_response::{Counted, Counts};
@@ -13,14 +13,16 @@ fn sink<H: AllocGlobal>(rt: &H, most: usize) -> Result<Counted<Sink>, Fail> {
         most,
         fails_at: 0,
         faults: 0,
+        again: 0,
         fault: ErrorKind::WouldBlock,
         calls: 0,
     }))
 }
 
-fn serve<H: AllocGlobal>(rt: &H, writer: &mut Counted<Sink>) -> Report {
+/// Serves one request, whose answer goes to the writer.
+fn serve_get<H: AllocGlobal>(rt: &H, writer: &mut Counted<Sink>) -> Report {
     let mut reader = GET;
-    let mut pause = Counter { count: 0 };
+    let mut pause = CountingPause { count: 0 };
     serve_connection(
         rt,
         &Limits::usual(),
@@ -37,7 +39,7 @@ fn a_failed_write_says_how_far_it_came(rt: HostRuntime) -> Result<(), Fail> {
     for failing in 1..=30usize {
         let mut writer = sink(&rt, 3)?;
         writer.writer.fails_at = failing as u64;
-        let report = serve(&rt, &mut writer);
+        let report = serve_get(&rt, &mut writer);
         let out = 3 * (failing - 1);
         assert_eq!(rt;
             Some(writer.writer.taken.as_slice()),
@@ -50,7 +52,7 @@ fn a_failed_write_says_how_far_it_came(rt: HostRuntime) -> Result<(), Fail> {
     }
     let mut writer = sink(&rt, 3)?;
     writer.writer.fails_at = 31;
-    let report = serve(&rt, &mut writer);
+    let report = serve_get(&rt, &mut writer);
     assert_eq!(rt; writer.writer.taken.as_slice(), HELLO);
     assert_eq!(rt; report.outcome, Outcome::Finished);
     assert_eq!(rt; writer.failures(), 0);
@@ -61,7 +63,7 @@ fn a_failed_write_says_how_far_it_came(rt: HostRuntime) -> Result<(), Fail> {
 fn nine_bytes_and_then_a_fault(rt: HostRuntime) -> Result<(), Fail> {
     let mut writer = sink(&rt, 9)?;
     writer.writer.fails_at = 2;
-    let report = serve(&rt, &mut writer);
+    let report = serve_get(&rt, &mut writer);
     assert_eq!(rt; writer.writer.taken.as_slice(), b"HTTP/1.1 ".as_slice());
     assert_eq!(rt; report.outcome, Outcome::WriteFailed(9));
     Ok(())
@@ -70,7 +72,7 @@ fn nine_bytes_and_then_a_fault(rt: HostRuntime) -> Result<(), Fail> {
 #[test]
 fn a_writer_that_takes_nothing_has_failed(rt: HostRuntime) -> Result<(), Fail> {
     let mut writer = sink(&rt, 0)?;
-    let report = serve(&rt, &mut writer);
+    let report = serve_get(&rt, &mut writer);
     assert_eq!(rt; writer.writer.taken.len(), 0);
     assert_eq!(rt; report.outcome, Outcome::WriteFailed(0));
     assert_eq!(rt; writer.writer.calls, 1);
@@ -83,17 +85,35 @@ fn a_thousand_retries_and_no_more(rt: HostRuntime) -> Result<(), Fail> {
         let mut writer = sink(&rt, 100)?;
         writer.writer.fault = fault;
         writer.writer.faults = 1_000;
-        let report = serve(&rt, &mut writer);
+        let report = serve_get(&rt, &mut writer);
         assert_eq!(rt; writer.writer.taken.as_slice(), HELLO);
         assert_eq!(rt; report.outcome, Outcome::Finished);
 
         let mut writer = sink(&rt, 100)?;
         writer.writer.fault = fault;
         writer.writer.faults = 1_001;
-        let report = serve(&rt, &mut writer);
+        let report = serve_get(&rt, &mut writer);
         assert_eq!(rt; writer.writer.taken.len(), 0);
         assert_eq!(rt; report.outcome, Outcome::WriteFailed(0));
     }
+    Ok(())
+}
+
+#[test]
+fn each_byte_that_goes_out_ends_a_row_of_retries(rt: HostRuntime) -> Result<(), Fail> {
+    let mut writer = sink(&rt, 9)?;
+    writer.writer.faults = 1_000;
+    writer.writer.again = 1_000;
+    let report = serve_get(&rt, &mut writer);
+    assert_eq!(rt; writer.writer.taken.as_slice(), HELLO);
+    assert_eq!(rt; report.outcome, Outcome::Finished);
+
+    let mut writer = sink(&rt, 9)?;
+    writer.writer.faults = 1_000;
+    writer.writer.again = 1_001;
+    let report = serve_get(&rt, &mut writer);
+    assert_eq!(rt; writer.writer.taken.as_slice(), b"HTTP/1.1 ".as_slice());
+    assert_eq!(rt; report.outcome, Outcome::WriteFailed(9));
     Ok(())
 }
 
