@@ -4,6 +4,6 @@
 demo:
 	@cd crates/asgi_demo && printf 'GET / HTTP/1.1\r\nHost: a\r\n\r\n' | rt run -- once hello
 
-# The gate: proofs, must-fail edits, tests, the stored run, and the tests from outside.
+# The gate: proofs, wrong bodies, tests, the stored run, refused allocations, and the tests from outside (docs/GATE.md).
 test:
 	@tests/run

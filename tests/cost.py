@@ -1,0 +1,58 @@
+#!/usr/bin/env python3
+"""cost.py NAME [SECONDS]: what each function of a crate costs to check, its tests included, in processor seconds.
+
+The crate is checked from nothing, at one job, over its libraries in out/. A line a function that took SECONDS (8 where none
+are given) or more, slowest first; then the sum. The first function in order has the start of the check in its figure,
+and a figure may have some of what is shared with the function behind it. It is no part of the gate.
+"""
+
+import os
+import re
+import subprocess
+import sys
+
+from toolchain import ONE_JOB, crates_in, load_rt
+
+TOP = os.path.dirname(os.path.dirname(os.path.realpath(__file__)))
+
+
+def processor_seconds(process):
+    """Returns the processor seconds that a process has taken."""
+    with open(f"/proc/{process}/stat", encoding="utf-8") as it:
+        fields = it.read().rpartition(")")[2].split()
+    return sum(int(it) for it in fields[11:15]) / os.sysconf("SC_CLK_TCK")
+
+
+def measured(words, folder):
+    """Yields each function as its check ends, with what it took. Returns nothing of the verdict."""
+    last = 0.0
+    how = {"cwd": folder, "stdin": subprocess.DEVNULL, "stdout": subprocess.PIPE, "stderr": subprocess.STDOUT}
+    with subprocess.Popen(words, errors="replace", **how) as ran:
+        for line in ran.stdout:
+            found = re.match(r"checked (.*), \d+ of \d+", line)
+            if found:
+                now = processor_seconds(ran.pid)
+                yield found[1], now - last
+                last = now
+            elif ": error" in line or line.startswith("logic="):
+                print(line, end="")
+
+
+def main(words):
+    name, least = words[0], float(words[1]) if len(words) > 1 else 8.0
+    rt = load_rt()
+    crate = next(it for it in crates_in(rt, TOP) if it.name == name)
+    for below in crate.below():
+        if below.build_rlib(ONE_JOB, anew=False):
+            return 1
+    given = crate.words(ONE_JOB, tests=True, keeps=False)
+    found = sorted(measured([rt.rtlib.RATTLE, "check", *given, "--progress"], crate.folder), key=lambda it: -it[1])
+    for function, seconds in found:
+        if seconds >= least:
+            print(f"{seconds:7.1f} {function}")
+    print(f"{sum(it[1] for it in found):7.1f} in all, {len(found)} functions")
+    return 0
+
+
+if __name__ == "__main__":
+    sys.exit(main(sys.argv[1:]))

@@ -1,0 +1,91 @@
+#!/usr/bin/env python3
+"""gate.py: the whole gate, part by part. `make test` runs it.
+
+Each part's output is shown as it comes. At the end stand the minutes of each part and what each number of the sum is;
+the last line is 'N passed, M failed', and the status is 0 only with none failed.
+"""
+
+import os
+import re
+import subprocess
+import sys
+import time
+
+TOP = os.path.dirname(os.path.dirname(os.path.realpath(__file__)))
+PROGRAM = "crates/asgi_demo/out/asgi_demo"
+# What each part runs, and what its sum counts.
+PARTS = [
+    ("sources read", ["python3", "tests/sources.py"]),
+    ("self-tests of the gate's scripts", ["python3", "tests/sources.py", "--self-test"]),
+    ("self-tests of the gate's scripts", ["python3", "tests/must_fail.py", "--self-test"]),
+    ("edits that can be applied", ["python3", "tests/must_fail.py", "--read"]),
+    ("rt ci", ["rt", "ci"]),
+    ("runs with an allocation refused", ["python3", "tests/memory.py"]),
+    ("tests from outside", ["python3", "tests/program.py", PROGRAM]),
+    ("further edits refused", ["python3", "tests/must_fail.py"]),
+]
+SUM = re.compile(r"(\d+) passed, (\d+) failed")
+
+
+def run(words):
+    """Runs a part and shows what it prints. Returns its status and its lines."""
+    lines = []
+    how = {"cwd": TOP, "stdin": subprocess.DEVNULL, "stdout": subprocess.PIPE, "stderr": subprocess.STDOUT}
+    with subprocess.Popen(words, errors="replace", **how) as ran:
+        for line in ran.stdout:
+            print(line, end="", flush=True)
+            lines.append(line.rstrip("\n"))
+    return ran.returncode, lines
+
+
+def counts_of_ci(lines, failed):
+    """Returns what the numbers of `rt ci` are. Its own sum has each crate's proofs and tests as one."""
+    crates = sum(bool(re.fullmatch(r"rt: \w+ proved", it)) for it in lines)
+    suites = sum(bool(re.fullmatch(r"rt: \w+: its tests proved", it)) for it in lines)
+    edits = sum(bool(re.match(r"rt: must-fail \S+: refused, as it must be", it)) for it in lines)
+    tests = sum(bool(re.fullmatch(r"test \S+ \.\.\. ok", it)) for it in lines)
+    runs = sum(" ran" in it and it.endswith("wrote what its file stdout has") for it in lines)
+    faults = sum(bool(re.fullmatch(r"test \S+ \.\.\. FAILED", it)) for it in lines)
+    return {
+        "crates proved": (crates, 0),
+        "crates' tests proved": (suites, 0),
+        "edits refused": (edits, 0),
+        "tests": (tests, faults),
+        "stored runs": (runs, 0),
+        "what rt ci says has failed": (0, failed),
+    }
+
+
+def counts_of(what, status, lines):
+    """Returns what a part's numbers are, each with how many passed and failed. One without a sum has failed."""
+    found = [it for it in map(SUM.fullmatch, lines) if it]
+    if not found:
+        return {what: (0, 1)}
+    passed, failed = int(found[-1][1]), int(found[-1][2])
+    failed = failed or int(status != 0 or not passed)
+    return counts_of_ci(lines, failed) if what == "rt ci" else {what: (passed, failed)}
+
+
+def main():
+    counts, times, began = {}, [], time.time()
+    for what, words in PARTS:
+        started = time.time()
+        print(f"== {' '.join(words)}", flush=True)
+        status, lines = run(words)
+        times.append((" ".join(words), time.time() - started))
+        for name, (passed, failed) in counts_of(what, status, lines).items():
+            before = counts.get(name, (0, 0))
+            counts[name] = (before[0] + passed, before[1] + failed)
+    print("== sum")
+    for name, seconds in times:
+        print(f"{seconds / 60:6.1f} minutes: {name}")
+    print(f"{(time.time() - began) / 60:6.1f} minutes in all, {len(os.sched_getaffinity(0))} processors")
+    for name, (passed, failed) in counts.items():
+        print(f"{passed:6} {name}{f', {failed} FAILED' if failed else ''}")
+    passed, failed = (sum(it[at] for it in counts.values()) for at in (0, 1))
+    print(f"{passed} passed, {failed} failed")
+    return 1 if failed or not passed else 0
+
+
+if __name__ == "__main__":
+    sys.exit(main())

@@ -1,0 +1,161 @@
+#!/usr/bin/env python3
+"""sources.py [--self-test]: what no clause can see, held by the text of the sources.
+
+- Want of memory is said only where a growth was refused: no crate builds an `AllocError` itself, but for the two places
+  that docs/DECISIONS.md names, where no memory could hold so much.
+- Nothing is kept from being let go: no `forget`, `leak` or `ManuallyDrop`.
+- A call that has no answer for want of memory takes none: it contains no `with_capacity`, `reserve` or `shrink`.
+- No answer of a call is thrown away, but for what is written on standard error.
+- docs/DECISIONS.md names only tests, edits and files that are there.
+
+Of the sources, tests are left out. With --self-test it reads small texts of its own, each with one such fault and one without.
+The last line is 'N passed, M failed', where a file, or a text of the self-test, is one.
+"""
+
+import glob
+import os
+import re
+import sys
+
+TOP = os.path.dirname(os.path.dirname(os.path.realpath(__file__)))
+# Where an `AllocError` is built with no growth refused: a number of bytes or places that no `usize` says.
+BUILDS = {"crates/asgi_pipes/src/plain.rt": 1, "crates/asgi_response/src/append.rt": 1}
+# Where an answer is thrown away: what can't be written on standard error can be told nowhere.
+THROWS = {"crates/asgi_demo/src/command.rt": 3}
+# A value of the type: not where it is brought in, nor the end of a type's arguments, nor the field that an error keeps.
+BUILT = re.compile(r"(?<!\] )\bAllocError\b(?!>)")
+GROWS = re.compile(r"\b(with_capacity|reserve|reserve_exact|shrink_to|shrink_to_fit)\s*\(")
+CLAUSE = re.compile(r"\b(ensures|requires|ghost|measure)\b")
+
+
+def code_of(text):
+    """Returns the text without comments, with its strings empty, and without the tests at its end."""
+    text = re.sub(r'b?"(?:[^"\\]|\\.)*"', '""', re.sub(r"//[^\n]*", "", text))
+    return re.split(r"#\[cfg\(test\)\]", text)[0]
+
+
+def end_of(code, at):
+    """Returns the place behind the brace that closes the one at this place."""
+    depth = 0
+    for place in range(at, len(code)):
+        depth += (code[place] == "{") - (code[place] == "}")
+        if not depth:
+            return place + 1
+    return len(code)
+
+
+def functions_in(code):
+    """Yields each function's name, what its signature answers, and its body."""
+    for found in re.finditer(r"\bfn (\w+)", code):
+        at, answer = found.end(), None
+        while at < len(code):
+            brace = re.compile(r"[{;]").search(code, at)
+            if not brace:
+                break
+            head = code[at : brace.start()]
+            answer = head if answer is None else answer
+            if brace[0] == ";":
+                break
+            end = end_of(code, brace.start())
+            if not CLAUSE.search(head):
+                yield found[1], answer, code[brace.start() : end]
+                break
+            at = end
+
+
+def faults_of(path, text):
+    """Returns what is wrong with the text of a source."""
+    code, faults = code_of(text), []
+    built = BUILT.findall(re.sub(r"\buse [^;]*;", "", code))
+    if len(built) != BUILDS.get(path, 0):
+        faults.append(f"it builds an AllocError {len(built)} times: that is for a growth that was refused")
+    faults += [f"it has {it}" for it in re.findall(r"\b(?:mem::forget|forget|leak|ManuallyDrop)\b", code)]
+    for name, answer, body in functions_in(code):
+        if "Result<" not in answer:
+            faults += [f"{name} has no answer for want of memory, and calls {it}" for it in GROWS.findall(body)]
+    thrown = re.findall(r"\blet _ = [^;(]*\(|\.ok\(\);", code)
+    if len(thrown) != THROWS.get(path, 0):
+        faults.append(f"it throws {len(thrown)} answers away")
+    return faults
+
+
+GOOD = """
+use std::alloc::{AllocError, Global};
+/// `AllocError` where memory is refused.
+pub fn grow(held: &mut Vec<u8>) -> Result<(), AllocError>
+    ensures ok { OnOk result (held.new.items ≡ held.old.items) }
+{
+    held.reserve(1)?;
+    Ok(())
+}
+fn count(held: &Vec<u8>) -> usize {
+    held.len()
+}
+"""
+# Each fault: what the text of GOOD has, what stands in its place, and a word of what must be said.
+BAD = [
+    ("held.reserve(1)?;", "return Err(AllocError);", "builds an AllocError"),
+    ("held.reserve(1)?;", "held.reserve(1).map_err(|_| AllocError)?;", "builds an AllocError"),
+    ("held.len()", "mem::forget(held)", "forget"),
+    ("held.len()", "held.leak().len()", "leak"),
+    ("held.len()", "held.reserve(9).is_ok() as usize", "count has no answer"),
+    ("held.len()", "held.shrink_to_fit()", "count has no answer"),
+    ("held.reserve(1)?;", "let _ = held.reserve(1);", "throws"),
+    ("held.reserve(1)?;", "held.reserve(1).ok();", "throws"),
+]
+
+
+def self_test():
+    """Returns what is wrong with what is said of the texts, and how many there are."""
+    failed = [f"self-test: of a good text is said: {it}" for it in faults_of("good.rt", GOOD)]
+    for old, new, word in BAD:
+        said = faults_of("bad.rt", GOOD.replace(old, new))
+        if len(said) != 1 or word not in said[0]:
+            failed.append(f"self-test: of '{new}' is said: {said}")
+    if unknown_names("Shown by: test `grow`, edit `shrinks`.", {"grow"}) != ["shrinks"]:
+        failed.append("self-test: a name that is not there is passed over")
+    return failed, 2 + len(BAD)
+
+
+def names_there():
+    """Returns the names of all functions and edits of the repository."""
+    edits = glob.glob(f"{TOP}/crates/*/must-fail/*.edit") + glob.glob(f"{TOP}/tests/edits/*/*.edit")
+    names = {os.path.basename(it)[: -len(".edit")] for it in edits}
+    for path in glob.glob(f"{TOP}/crates/*/src/**/*.rt", recursive=True):
+        with open(path, encoding="utf-8") as it:
+            names |= {*re.findall(r"\bfn (\w+)", it.read())}
+    return names
+
+
+def unknown_names(text, names):
+    """Returns what a text names behind 'Shown by:' that is neither a function, nor an edit, nor a file."""
+    shown = [name for line in re.findall(r"Shown by: (.*)", text) for name in re.findall(r"`([^`]+)`", line)]
+    return [it for it in shown if it not in names and not os.path.exists(f"{TOP}/{it}")]
+
+
+def is_source(path):
+    return not path.startswith("crates/asgi_tests/") and not re.search(r"/tests(_\w+)?(\.rt$|/)", path)
+
+
+def main(words):
+    if words == ["--self-test"]:
+        failed, count = self_test()
+    else:
+        files = sorted(glob.glob("crates/*/src/**/*.rt", recursive=True, root_dir=TOP))
+        files, failed = [it for it in files if is_source(it)], []
+        for path in files:
+            with open(f"{TOP}/{path}", encoding="utf-8") as it:
+                said = faults_of(path, it.read())
+            failed += [f"{path}: {'; '.join(said)}"] * bool(said)
+        with open(f"{TOP}/docs/DECISIONS.md", encoding="utf-8") as it:
+            unknown = unknown_names(it.read(), names_there())
+        failed += [f"docs/DECISIONS.md names what is not there: {', '.join(unknown)}"] * bool(unknown)
+        count = len(files) + 1
+    for it in failed:
+        print(f"FAILED: {it}")
+    print(f"{count - len(failed)} passed, {len(failed)} failed")
+    return 1 if failed or not count else 0
+
+
+if __name__ == "__main__":
+    sys.exit(main(sys.argv[1:]))
