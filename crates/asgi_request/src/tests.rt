@@ -35,7 +35,7 @@ fn gives_in_pieces(
     wanted: &str,
 ) -> Result<(), Fail> {
     for size in [1, 2, 7, 1_000] {
-        let words = in_pieces(new_reader(alloc, limits), String::new(alloc), bytes, size)?;
+        let words = in_pieces(alloc, limits, bytes, size)?;
         assert_eq!(rt; words.as_str(), wanted);
     }
     Ok(())
@@ -49,7 +49,7 @@ fn gives_in_two(
     wanted: &str,
 ) -> Result<(), Fail> {
     for cut in 0..bytes.len() {
-        let words = in_two(new_reader(alloc, limits), String::new(alloc), bytes, cut)?;
+        let words = in_two(alloc, limits, bytes, cut)?;
         assert_eq!(rt; words.as_str(), wanted);
     }
     Ok(())
@@ -57,40 +57,45 @@ fn gives_in_two(
 
 /// What the reader gives of the bytes, fed in pieces of so many.
 fn in_pieces(
-    mut reader: RequestReader,
-    mut words: String,
+    alloc: Global,
+    limits: Limits,
     bytes: &[u8],
     size: usize,
 ) -> Result<String, AllocError> {
-    feed_pieces(&mut reader, bytes, size, &mut words)?;
-    Ok(words)
+    let mut reader = new_reader(alloc, limits);
+    feed_pieces(&mut reader, bytes, size, String::new(alloc))
 }
 
 fn feed_pieces(
     reader: &mut RequestReader,
     bytes: &[u8],
     size: usize,
-    words: &mut String,
-) -> Result<(), AllocError> {
+    mut words: String,
+) -> Result<String, AllocError> {
     let mut rest = bytes;
     for _ in 0..bytes.len() {
         let (piece, behind) = rest.split_at(size.min(rest.len()));
-        feed(reader, piece, words)?;
+        feed(reader, piece, &mut words)?;
         rest = behind;
     }
-    Ok(())
+    Ok(words)
 }
 
 /// What the reader gives of the bytes, fed up to the cut and then from it on.
-fn in_two(
-    mut reader: RequestReader,
-    mut words: String,
-    bytes: &[u8],
-    cut: usize,
-) -> Result<String, AllocError> {
+fn in_two(alloc: Global, limits: Limits, bytes: &[u8], cut: usize) -> Result<String, AllocError> {
+    let mut reader = new_reader(alloc, limits);
     let (front, behind) = bytes.split_at(cut.min(bytes.len()));
-    feed(&mut reader, front, &mut words)?;
-    feed(&mut reader, behind, &mut words)?;
+    feed_two(&mut reader, front, behind, String::new(alloc))
+}
+
+fn feed_two(
+    reader: &mut RequestReader,
+    front: &[u8],
+    behind: &[u8],
+    mut words: String,
+) -> Result<String, AllocError> {
+    feed(reader, front, &mut words)?;
+    feed(reader, behind, &mut words)?;
     Ok(words)
 }
 
@@ -111,9 +116,23 @@ fn drain(reader: &mut RequestReader, words: &mut String) -> Result<(), AllocErro
 
 /// Adds the words of the next result, and says whether nothing follows before more is fed.
 fn add_next(reader: &mut RequestReader, words: &mut String) -> Result<bool, AllocError> {
-    let next = take(reader)?;
-    add_words(&next, words)?;
-    Ok(is_last(&next))
+    of_given(take(reader), |next| show(next, words))?
+}
+
+fn show(next: &Next, words: &mut String) -> Result<bool, AllocError> {
+    add_words(next, words)?;
+    Ok(is_last(next))
+}
+
+/// What is said of the result that a call gave. It stands for a result of any type, so its proof sees no field of one.
+pub fn of_given<T: Drop, S, F: FnOnce(&T) -> S>(
+    given: Result<T, AllocError>,
+    says: F,
+) -> Result<S, AllocError>
+    requires { F.IsAlwaysCallable says }
+{
+    let result = given?;
+    Ok(says(&result))
 }
 
 // What a test proves needs none of the clauses of these calls.

@@ -1,16 +1,35 @@
 //! The fields of a scope, what is held behind a request, and the framing of a record.
-use super::{held, new_reader, put, take};
-use crate::{HeadFraming, HeadRecord, Next, RequestReader, framing_of};
-use asgi_types::{Chars, Facts, Headers, HttpScope, HttpVersion, Limits, Octets, Scope};
+use super::{held, new_reader, of_given, put, take};
+use crate::{HeadFraming, HeadRecord, Next, RequestReader, framing_of, has_body};
+use asgi_types::{
+    Chars, Facts, Framing, HeaderError, Headers, HttpScope, HttpVersion, Limits, Octets, Scope,
+};
 use std::alloc::{AllocError, Global};
 use std::process::Abort;
 use std::test::Fail;
 
-/// What is given first of the bytes.
-fn first(alloc: Global, bytes: &[u8]) -> Result<Next, AllocError> {
+/// Whether what is given first of the bytes passes the test.
+fn is_first<F: FnOnce(&Next) -> bool>(
+    alloc: Global,
+    bytes: &[u8],
+    test: F,
+) -> Result<bool, AllocError>
+    requires { F.IsAlwaysCallable test }
+{
     let mut reader = new_reader(alloc, Limits::usual());
-    put(&mut reader, bytes)?;
-    take(&mut reader)
+    is_next(&mut reader, bytes, test)
+}
+
+/// Whether what is given behind this piece passes the test.
+fn is_next<F: FnOnce(&Next) -> bool>(
+    reader: &mut RequestReader,
+    piece: &[u8],
+    test: F,
+) -> Result<bool, AllocError>
+    requires { F.IsAlwaysCallable test }
+{
+    put(reader, piece)?;
+    of_given(take(reader), test)
 }
 
 /// The scope of a request's head.
@@ -53,46 +72,66 @@ fn show(rt: &impl Abort, alloc: Global, rows: &[Row]) -> Result<(), Fail> {
 
 fn shows_in_pieces(rt: &impl Abort, alloc: Global, bytes: &[u8], row: &Row) -> Result<(), Fail> {
     for size in [1, 2, 7, 1_000] {
-        let next = behind_pieces(new_reader(alloc, Limits::usual()), bytes, size)?;
-        assert!(rt; has_parts(&next, row), "{} in pieces of {size}", row.0);
+        let shown = in_pieces(alloc, bytes, size, row)?;
+        assert!(rt; shown, "{} in pieces of {size}", row.0);
     }
     Ok(())
 }
 
 fn shows_in_two(rt: &impl Abort, alloc: Global, bytes: &[u8], row: &Row) -> Result<(), Fail> {
     for cut in 0..bytes.len() {
-        let next = behind_cut(new_reader(alloc, Limits::usual()), bytes, cut)?;
-        assert!(rt; has_parts(&next, row), "{} cut at {cut}", row.0);
+        let shown = in_two(alloc, bytes, cut, row)?;
+        assert!(rt; shown, "{} cut at {cut}", row.0);
     }
     Ok(())
 }
 
-/// What is given behind the last of the pieces of so many bytes, where one result is taken behind each of them.
-fn behind_pieces(mut reader: RequestReader, bytes: &[u8], size: usize) -> Result<Next, AllocError> {
+/// Whether a reader gives these parts behind the last of the pieces of so many bytes, where one result is taken behind
+/// each of them.
+fn in_pieces(alloc: Global, bytes: &[u8], size: usize, row: &Row) -> Result<bool, AllocError> {
+    let mut reader = new_reader(alloc, Limits::usual());
+    behind_pieces(&mut reader, bytes, size, row)
+}
+
+fn behind_pieces(
+    reader: &mut RequestReader,
+    bytes: &[u8],
+    size: usize,
+    row: &Row,
+) -> Result<bool, AllocError> {
     let mut rest = bytes;
-    let mut next = Next::Need;
+    let mut shown = false;
     for _ in 0..bytes.len() {
         if rest.is_empty() {
-            return Ok(next);
+            return Ok(shown);
         }
         let (piece, behind) = rest.split_at(size.min(rest.len()));
-        next = after(&mut reader, piece)?;
+        shown = is_behind(reader, piece, row)?;
         rest = behind;
     }
-    Ok(next)
+    Ok(shown)
 }
 
-/// What is given behind the second part, where one result is taken behind each of them.
-fn behind_cut(mut reader: RequestReader, bytes: &[u8], cut: usize) -> Result<Next, AllocError> {
+/// Whether a reader gives these parts behind the second part of the bytes, where one result is taken behind each.
+fn in_two(alloc: Global, bytes: &[u8], cut: usize, row: &Row) -> Result<bool, AllocError> {
+    let mut reader = new_reader(alloc, Limits::usual());
     let (front, behind) = bytes.split_at(cut.min(bytes.len()));
-    let _first = after(&mut reader, front)?;
-    after(&mut reader, behind)
+    behind_cut(&mut reader, front, behind, row)
 }
 
-/// The next result behind this piece.
-fn after(reader: &mut RequestReader, piece: &[u8]) -> Result<Next, AllocError> {
-    put(reader, piece)?;
-    take(reader)
+fn behind_cut(
+    reader: &mut RequestReader,
+    front: &[u8],
+    behind: &[u8],
+    row: &Row,
+) -> Result<bool, AllocError> {
+    let _shown = is_behind(reader, front, row)?;
+    is_behind(reader, behind, row)
+}
+
+/// Whether the next result behind this piece has these parts.
+fn is_behind(reader: &mut RequestReader, piece: &[u8], row: &Row) -> Result<bool, AllocError> {
+    is_next(reader, piece, |next| has_parts(next, row))
 }
 
 fn has_parts(next: &Next, row: &Row) -> bool {
@@ -151,10 +190,17 @@ const FIELDS: &[u8] = b"get /x HTTP/1.0\r\nX-A: \t q  q \r\nhost:a\r\nX-A:\r\n\r
 
 #[test]
 fn a_scope_has_the_fields_of_its_head(rt: HostRuntime) -> Result<(), Fail> {
-    let next = first(rt.alloc(), FIELDS)?;
-    assert!(rt; scope_of(&next).is_some_and(is_scope_of_fields));
-    assert!(rt; facts_of(&next).is_some_and(are_facts_of_fields));
+    assert!(rt; is_first(rt.alloc(), FIELDS, has_scope_of_fields)?);
+    assert!(rt; is_first(rt.alloc(), FIELDS, has_facts_of_fields)?);
     Ok(())
+}
+
+fn has_scope_of_fields(next: &Next) -> bool {
+    scope_of(next).is_some_and(is_scope_of_fields)
+}
+
+fn has_facts_of_fields(next: &Next) -> bool {
+    facts_of(next).is_some_and(are_facts_of_fields)
 }
 
 fn is_scope_of_fields(scope: &HttpScope) -> bool {
@@ -181,12 +227,15 @@ fn are_facts_of_fields(facts: &Facts) -> bool {
 
 #[test]
 fn header_names_are_in_lower_case(rt: HostRuntime) -> Result<(), Fail> {
-    let next = first(rt.alloc(), FIELDS)?;
-    assert!(rt; scope_of(&next).is_some_and(has_fields));
+    assert!(rt; is_first(rt.alloc(), FIELDS, has_fields)?);
     Ok(())
 }
 
-fn has_fields(scope: &HttpScope) -> bool {
+fn has_fields(next: &Next) -> bool {
+    scope_of(next).is_some_and(are_fields)
+}
+
+fn are_fields(scope: &HttpScope) -> bool {
     scope.headers.len() == 3
         && has_field(&scope.headers, 0, b"x-a", b"q  q")
         && has_field(&scope.headers, 1, b"host", b"a")
@@ -200,39 +249,75 @@ fn has_field(headers: &Headers, index: usize, name: &[u8], value: &[u8]) -> bool
     kept_name == name && kept_value == value
 }
 
+/// A piece, whether each result that is taken behind it is want of more bytes, and what is held then.
+type Step = (&'static [u8], &'static [bool], &'static [u8]);
+
 #[test]
 fn what_stands_behind_a_whole_request_is_held(rt: HostRuntime) -> Result<(), Fail> {
-    let mut reader = new_reader(rt.alloc(), Limits::usual());
-    put(&mut reader, b"\r\n")?;
-    assert_eq!(rt; held(&reader), b"\r\n".as_slice());
-    put(&mut reader, b"GET / HTTP/1.1\r\nHost: a\r\n\r\n\r\nGE")?;
-    assert!(rt; !waits(&mut reader)?);
-    assert!(rt; !waits(&mut reader)?);
-    assert!(rt; !waits(&mut reader)?);
-    assert_eq!(rt; held(&reader), b"\r\nGE".as_slice());
-    put(&mut reader, b"T")?;
-    assert!(rt; waits(&mut reader)?);
-    assert_eq!(rt; held(&reader), b"\r\nGET".as_slice());
+    let steps: [Step; 3] = [
+        (b"\r\n", &[], b"\r\n"),
+        (
+            b"GET / HTTP/1.1\r\nHost: a\r\n\r\n\r\nGE",
+            &[false, false, false],
+            b"\r\nGE",
+        ),
+        (b"T", &[true], b"\r\nGET"),
+    ];
+    take_steps(&rt, &mut new_reader(rt.alloc(), Limits::usual()), &steps)
+}
+
+fn take_steps(rt: &impl Abort, reader: &mut RequestReader, steps: &[Step]) -> Result<(), Fail> {
+    for (i, step) in steps.iter().enumerate() {
+        let taken = takes_step(reader, step)?;
+        assert!(rt; taken, "step {i}");
+    }
     Ok(())
+}
+
+fn takes_step(reader: &mut RequestReader, step: &Step) -> Result<bool, AllocError> {
+    put(reader, step.0)?;
+    for wanted in step.1 {
+        if waits(reader)? != *wanted {
+            return Ok(false);
+        }
+    }
+    Ok(holds(reader, step.2))
+}
+
+fn holds(reader: &RequestReader, behind: &[u8]) -> bool {
+    held(reader) == behind
 }
 
 /// Whether the reader needs more bytes; it gives its next result away.
 fn waits(reader: &mut RequestReader) -> Result<bool, AllocError> {
-    let next = take(reader)?;
-    Ok(matches!(&next, Next::Need))
+    of_given(take(reader), is_need)
 }
 
-/// A record with this method, a Host field and this field.
-fn record(alloc: Global, method: &str, name: &str, value: &str) -> Result<HeadRecord, Fail> {
+fn is_need(next: &Next) -> bool {
+    matches!(next, Next::Need)
+}
+
+/// The framing of a record with this method, a Host field and this field.
+fn framing_with(alloc: Global, method: &str, name: &str, value: &str) -> Result<HeadFraming, Fail> {
+    let target = Octets::new(Vec::from_slice(alloc, b"/")?);
+    let method = Chars::new(String::from_str(alloc, method)?);
+    let headers = fields_with(alloc, name.as_bytes(), value.as_bytes())?;
+    let version = HttpVersion::V11;
+    let head = HeadRecord {
+        version,
+        method,
+        target,
+        headers,
+    };
+    Ok(framing_of(&head, &Limits::usual()))
+}
+
+/// A Host field and this field.
+fn fields_with(alloc: Global, name: &[u8], value: &[u8]) -> Result<Headers, HeaderError> {
     let mut headers = Headers::new(alloc);
     headers.push(b"host", b"a")?;
-    headers.push(name.as_bytes(), value.as_bytes())?;
-    Ok(HeadRecord {
-        version: HttpVersion::V11,
-        method: Chars::new(String::from_str(alloc, method)?),
-        target: Octets::new(Vec::from_slice(alloc, b"/")?),
-        headers,
-    })
+    headers.push(name, value)?;
+    Ok(headers)
 }
 
 #[test]
@@ -253,12 +338,22 @@ fn a_record_has_a_framing(rt: HostRuntime) -> Result<(), Fail> {
         ("CONNECT", "x", "a", HeadFraming::Bad(501)),
     ];
     for (method, name, value, wanted) in rows {
-        let head = record(rt.alloc(), method, name, value)?;
-        assert_eq!(rt;
-            framing_of(&head, &Limits::usual()),
-            wanted,
-            "{method} {name}: {value}"
-        );
+        let found = framing_with(rt.alloc(), method, name, value)?;
+        assert_eq!(rt; found, wanted, "{method} {name}: {value}");
+    }
+    Ok(())
+}
+
+#[test]
+fn a_framing_may_announce_a_body(rt: HostRuntime) -> Result<(), Fail> {
+    let rows = [
+        (Framing::Length(0), false),
+        (Framing::Length(1), true),
+        (Framing::Chunked, true),
+        (Framing::Upgrade, false),
+    ];
+    for (framing, wanted) in rows {
+        assert_eq!(rt; has_body(framing), wanted, "{framing:?}");
     }
     Ok(())
 }
