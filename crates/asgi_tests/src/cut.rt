@@ -24,8 +24,11 @@ fn check<H: Abort + AllocGlobal>(
     place: usize,
 ) -> Result<(), Fail> {
     let (report, written, _) = serve(rt, &Limits::usual(), &mut reader)?;
-    assert_eq!(rt; written.as_slice(), wanted, "cut at {place}");
-    assert_eq!(rt; report.outcome, outcome, "cut at {place}");
+    assert_eq!(rt;
+        (written.as_slice(), report.outcome),
+        (wanted, outcome),
+        "cut at {place}"
+    );
     Ok(())
 }
 
@@ -61,15 +64,19 @@ fn a_read_that_fails_gets_no_answer(rt: HostRuntime) -> Result<(), Fail> {
         let mut reader = Pieces::new(GET, 1, 1);
         reader.fails_at = failing;
         let (report, written, _) = serve(&rt, &Limits::usual(), &mut reader)?;
-        assert_eq!(rt; written.len(), 0, "read {failing}");
-        assert_eq!(rt; report.outcome, Outcome::InputBroke, "read {failing}");
-        assert_eq!(rt; report.exchanges, 0, "read {failing}");
-        assert_eq!(rt; report.turns, failing, "read {failing}");
+        let ended = (report.outcome, report.exchanges, report.turns);
+        assert_eq!(rt;
+            (written.len(), ended),
+            (0, (Outcome::InputBroke, 0, failing)),
+            "read {failing}"
+        );
     }
     let mut reader = Pieces::new(GET, 1, 1);
     reader.fails_at = 28;
     let (report, written, _) = serve(&rt, &Limits::usual(), &mut reader)?;
-    assert_eq!(rt; written.as_slice(), HELLO);
-    assert_eq!(rt; report.outcome, Outcome::Finished);
+    assert_eq!(rt;
+        (written.as_slice(), report.outcome),
+        (HELLO, Outcome::Finished)
+    );
     Ok(())
 }
