@@ -42,7 +42,8 @@ fn idles<H: Abort + AllocGlobal, R: Read>(
     reader: &mut R,
 ) -> Result<(u64, u32, u64), Fail> {
     let (report, written, paused) = serve(rt, limits, reader)?;
-    assert_eq!(rt; (report.outcome, written.len()), (Outcome::Idle, 0));
+    assert_eq!(rt; report.outcome, Outcome::Idle);
+    assert_eq!(rt; written.len(), 0);
     Ok((report.turns, report.idle, paused))
 }
 
@@ -63,11 +64,9 @@ fn a_turn_at_the_limit_still_answers(rt: HostRuntime) -> Result<(), Fail> {
     let mut reader = Pieces::new(GET, 1, 1);
     reader.before = Some(ErrorKind::WouldBlock);
     let (report, written, paused) = serve(&rt, &limits, &mut reader)?;
+    assert_eq!(rt; report.outcome, Outcome::Finished);
     assert_eq!(rt; (report.turns, report.idle, paused), (54, 0, 27));
-    assert_eq!(rt;
-        (written.as_slice(), report.outcome),
-        (HELLO, Outcome::Finished)
-    );
+    assert_eq!(rt; written.as_slice(), HELLO);
     Ok(())
 }
 
@@ -75,10 +74,9 @@ fn a_turn_at_the_limit_still_answers(rt: HostRuntime) -> Result<(), Fail> {
 fn an_answer_waits_for_no_more_input(rt: HostRuntime) -> Result<(), Fail> {
     let mut reader = Pieces::new(b"GET / HTTP/1.1\r\nHost: a\r\n\r\nmore", 27, 27);
     let (report, written, _) = serve(&rt, &Limits::usual(), &mut reader)?;
-    assert_eq!(rt;
-        (written.as_slice(), report.outcome),
-        (HELLO, Outcome::Finished)
-    );
-    assert_eq!(rt; (reader.bytes, reader.reads), (b"more".as_slice(), 1));
+    assert_eq!(rt; report.outcome, Outcome::Finished);
+    assert_eq!(rt; written.as_slice(), HELLO);
+    assert_eq!(rt; reader.bytes, b"more".as_slice());
+    assert_eq!(rt; reader.reads, 1);
     Ok(())
 }
