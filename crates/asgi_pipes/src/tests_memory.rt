@@ -10,21 +10,27 @@ fn made(alloc: Global) -> Result<(PlainConn, PlainApp), AllocError> {
     Plain.make(alloc, Kind::WebSocket, facts(alloc), 2)
 }
 
+/// Offers to a pair of two places until one comes back, and ends both ends.
+fn fill(conn: &mut PlainConn, app: &mut PlainApp) -> [bool; 7] {
+    [
+        conn.offer(Incoming::WsConnect).is_ok(),
+        conn.offer(Incoming::WsConnect).is_ok(),
+        conn.offer(Incoming::WsConnect).is_err(),
+        conn.offer_disconnect(Incoming::HttpDisconnect),
+        app.finish(EndKind::Returned),
+        app.moved(),
+        conn.take().is_none(),
+    ]
+}
+
 #[test]
 fn memory_for_a_pair(rt: HostRuntime) -> Result<(), Fail> {
     let alloc = rt.alloc();
-    let pair = match made(alloc) {
+    let (mut conn, mut app) = match made(alloc) {
         Ok(pair) => pair,
         Err(_) => made(alloc)?,
     };
-    let (mut conn, mut app) = pair;
-    assert!(rt; conn.offer(Incoming::WsConnect).is_ok());
-    assert!(rt; conn.offer(Incoming::WsConnect).is_ok());
-    assert!(rt; conn.offer(Incoming::WsConnect).is_err());
-    assert!(rt; conn.offer_disconnect(Incoming::HttpDisconnect));
-    assert!(rt; app.finish(EndKind::Returned));
-    assert!(rt; app.moved());
-    assert!(rt; conn.take().is_none());
+    assert_eq!(rt; fill(&mut conn, &mut app), [true; 7]);
     Ok(())
 }
 

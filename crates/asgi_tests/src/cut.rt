@@ -24,8 +24,11 @@ fn check<H: Abort + AllocGlobal>(
     place: usize,
 ) -> Result<(), Fail> {
     let (report, written, _) = serve(rt, &Limits::usual(), &mut reader)?;
-    assert_eq!(rt; written.as_slice(), wanted, "cut at {place}");
-    assert_eq!(rt; report.outcome, outcome, "cut at {place}");
+    assert_eq!(rt;
+        (written.as_slice(), report.outcome),
+        (wanted, outcome),
+        "cut at {place}"
+    );
     Ok(())
 }
 

@@ -21,10 +21,12 @@ fn check<H: Abort + AllocGlobal>(
     for (row, input) in inputs.iter().enumerate() {
         let mut reader = Pieces::new(input, 4_096, 4_096);
         let (report, written, _) = serve(rt, limits, &mut reader)?;
-        assert_eq!(rt; written.as_slice(), wanted, "input {row}");
-        assert_eq!(rt; report.outcome, outcome, "input {row}");
-        assert_eq!(rt; report.exchanges, exchanges, "input {row}");
-        assert_eq!(rt; report.faults, 0, "input {row}");
+        let ended = (report.outcome, report.exchanges, report.faults);
+        assert_eq!(rt;
+            (written.as_slice(), ended),
+            (wanted, (outcome, exchanges, 0)),
+            "input {row}"
+        );
     }
     Ok(())
 }

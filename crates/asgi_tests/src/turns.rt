@@ -3,7 +3,8 @@ use crate::fakes::{Never, Pieces, serve};
 use crate::texts::{GET, HELLO};
 use asgi_conn::Outcome;
 use asgi_types::Limits;
-use std::io::ErrorKind;
+use std::io::{ErrorKind, Read};
+use std::process::Abort;
 use std::test::Fail;
 
 #[test]
@@ -24,32 +25,36 @@ fn turns_are_counted(rt: HostRuntime) -> Result<(), Fail> {
             reader.before = Some(ErrorKind::WouldBlock);
         }
         let (report, _, paused) = serve(&rt, &Limits::usual(), &mut reader)?;
-        assert_eq!(rt; report.turns, *turns, "row {row}");
-        assert_eq!(rt; paused, *pauses, "row {row}");
-        assert_eq!(rt; report.idle, *idle, "row {row}");
+        assert_eq!(rt;
+            (report.turns, paused, report.idle),
+            (*turns, *pauses, *idle),
+            "row {row}"
+        );
     }
     Ok(())
 }
 
+/// Serves a connection that reaches a limit, so that nothing is written, and gives its turns, its idle turns at the end
+/// and its pauses.
+fn idles<H: Abort + AllocGlobal, R: Read>(
+    rt: &H,
+    limits: &Limits,
+    reader: &mut R,
+) -> Result<(u64, u32, u64), Fail> {
+    let (report, written, paused) = serve(rt, limits, reader)?;
+    assert_eq!(rt; report.outcome, Outcome::Idle);
+    assert_eq!(rt; written.len(), 0);
+    Ok((report.turns, report.idle, paused))
+}
+
 #[test]
 fn idle_comes_at_a_limit(rt: HostRuntime) -> Result<(), Fail> {
-    let limits = Limits::new(64, 64, 0, 1, 2, 3, 100)?;
-    let (report, written, paused) = serve(&rt, &limits, &mut Never)?;
-    assert_eq!(rt; report.outcome, Outcome::Idle);
-    assert_eq!(rt; (report.turns, report.idle, paused), (3, 3, 3));
-    assert_eq!(rt; written.len(), 0);
-
-    let limits = Limits::new(64, 64, 0, 1, 2, 30, 5)?;
-    let (report, written, paused) = serve(&rt, &limits, &mut Never)?;
-    assert_eq!(rt; report.outcome, Outcome::Idle);
-    assert_eq!(rt; (report.turns, report.idle, paused), (5, 5, 5));
-    assert_eq!(rt; written.len(), 0);
-
-    let mut reader = Pieces::new(GET, 1, 1);
-    let (report, written, paused) = serve(&rt, &limits, &mut reader)?;
-    assert_eq!(rt; report.outcome, Outcome::Idle);
-    assert_eq!(rt; (report.turns, report.idle, paused), (5, 0, 0));
-    assert_eq!(rt; written.len(), 0);
+    let three_idle = Limits::new(64, 64, 0, 1, 2, 3, 100)?;
+    let five_turns = Limits::new(64, 64, 0, 1, 2, 30, 5)?;
+    let mut pieces = Pieces::new(GET, 1, 1);
+    assert_eq!(rt; idles(&rt, &three_idle, &mut Never)?, (3, 3, 3));
+    assert_eq!(rt; idles(&rt, &five_turns, &mut Never)?, (5, 5, 5));
+    assert_eq!(rt; idles(&rt, &five_turns, &mut pieces)?, (5, 0, 0));
     Ok(())
 }
 

@@ -7,6 +7,9 @@ use asgi_types::{Limits, Outgoing};
 use std::io::ErrorKind;
 use std::test::Fail;
 
+/// What a writer of nine bytes takes first.
+const NINE_BYTES: &[u8] = b"HTTP/1.1 ";
+
 fn sink<H: AllocGlobal>(rt: &H, most: usize) -> Result<Counted<Sink>, Fail> {
     Ok(Counted::new(Sink {
         taken: Vec::with_capacity(rt.alloc(), 256)?,
@@ -64,8 +67,11 @@ fn nine_bytes_and_then_a_fault(rt: HostRuntime) -> Result<(), Fail> {
     let mut writer = sink(&rt, 9)?;
     writer.writer.fails_at = 2;
     let report = serve_get(&rt, &mut writer);
-    assert_eq!(rt; writer.writer.taken.as_slice(), b"HTTP/1.1 ".as_slice());
-    assert_eq!(rt; report.outcome, Outcome::WriteFailed(9));
+    let taken = writer.writer.taken.as_slice();
+    assert_eq!(rt;
+        (taken, report.outcome),
+        (NINE_BYTES, Outcome::WriteFailed(9))
+    );
     Ok(())
 }
 
@@ -73,66 +79,96 @@ fn nine_bytes_and_then_a_fault(rt: HostRuntime) -> Result<(), Fail> {
 fn a_writer_that_takes_nothing_has_failed(rt: HostRuntime) -> Result<(), Fail> {
     let mut writer = sink(&rt, 0)?;
     let report = serve_get(&rt, &mut writer);
-    assert_eq!(rt; writer.writer.taken.len(), 0);
-    assert_eq!(rt; report.outcome, Outcome::WriteFailed(0));
-    assert_eq!(rt; writer.writer.calls, 1);
+    let found = (
+        writer.writer.taken.len(),
+        writer.writer.calls,
+        report.outcome,
+    );
+    assert_eq!(rt; found, (0, 1, Outcome::WriteFailed(0)));
     Ok(())
 }
 
 #[test]
 fn a_thousand_retries_and_no_more(rt: HostRuntime) -> Result<(), Fail> {
-    for fault in [ErrorKind::WouldBlock, ErrorKind::Interrupted] {
+    let rows: [(ErrorKind, u64, &[u8], Outcome); 4] = [
+        (ErrorKind::WouldBlock, 1_000, HELLO, Outcome::Finished),
+        (ErrorKind::WouldBlock, 1_001, b"", Outcome::WriteFailed(0)),
+        (ErrorKind::Interrupted, 1_000, HELLO, Outcome::Finished),
+        (ErrorKind::Interrupted, 1_001, b"", Outcome::WriteFailed(0)),
+    ];
+    for (row, (fault, faults, taken, outcome)) in rows.iter().enumerate() {
         let mut writer = sink(&rt, 100)?;
-        writer.writer.fault = fault;
-        writer.writer.faults = 1_000;
+        writer.writer.fault = *fault;
+        writer.writer.faults = *faults;
         let report = serve_get(&rt, &mut writer);
-        assert_eq!(rt; writer.writer.taken.as_slice(), HELLO);
-        assert_eq!(rt; report.outcome, Outcome::Finished);
-
-        let mut writer = sink(&rt, 100)?;
-        writer.writer.fault = fault;
-        writer.writer.faults = 1_001;
-        let report = serve_get(&rt, &mut writer);
-        assert_eq!(rt; writer.writer.taken.len(), 0);
-        assert_eq!(rt; report.outcome, Outcome::WriteFailed(0));
+        assert_eq!(rt;
+            (writer.writer.taken.as_slice(), report.outcome),
+            (*taken, *outcome),
+            "row {row}"
+        );
     }
     Ok(())
 }
 
 #[test]
 fn each_byte_that_goes_out_ends_a_row_of_retries(rt: HostRuntime) -> Result<(), Fail> {
-    let mut writer = sink(&rt, 9)?;
-    writer.writer.faults = 1_000;
-    writer.writer.again = 1_000;
-    let report = serve_get(&rt, &mut writer);
-    assert_eq!(rt; writer.writer.taken.as_slice(), HELLO);
-    assert_eq!(rt; report.outcome, Outcome::Finished);
-
-    let mut writer = sink(&rt, 9)?;
-    writer.writer.faults = 1_000;
-    writer.writer.again = 1_001;
-    let report = serve_get(&rt, &mut writer);
-    assert_eq!(rt; writer.writer.taken.as_slice(), b"HTTP/1.1 ".as_slice());
-    assert_eq!(rt; report.outcome, Outcome::WriteFailed(9));
+    let rows: [(u64, &[u8], Outcome); 2] = [
+        (1_000, HELLO, Outcome::Finished),
+        (1_001, NINE_BYTES, Outcome::WriteFailed(9)),
+    ];
+    for (again, taken, outcome) in rows {
+        let mut writer = sink(&rt, 9)?;
+        writer.writer.faults = 1_000;
+        writer.writer.again = again;
+        let report = serve_get(&rt, &mut writer);
+        assert_eq!(rt;
+            (writer.writer.taken.as_slice(), report.outcome),
+            (taken, outcome),
+            "{again} again"
+        );
+    }
     Ok(())
+}
+
+/// The start of a greeting: its status, the count of its fields, and the first of them.
+fn start(event: &Outgoing) -> Option<(u16, usize, &[u8], &[u8])> {
+    let Outgoing::ResponseStart { status, headers } = event else {
+        return None;
+    };
+    let (name, value) = headers.at(0)?;
+    Some((*status, headers.len(), name, value))
+}
+
+/// A part of a body, and whether more follows.
+fn part(event: &Outgoing) -> Option<(&[u8], bool)> {
+    let Outgoing::ResponseBody { body, more_body } = event else {
+        return None;
+    };
+    Some((body.bytes(), *more_body))
+}
+
+/// They are the two events of the greeting.
+fn is_greeting(said: &[Outgoing]) -> bool {
+    let [first, second] = said else {
+        return false;
+    };
+    start(first) == Some((200, 1, b"content-type", b"text/plain"))
+        && part(second) == Some((b"hello\n", false))
 }
 
 #[test]
 fn hello_says_its_two_events(rt: HostRuntime) -> Result<(), Fail> {
     let said = Hello.said(rt.alloc())?;
-    assert_eq!(rt; said.len(), 2);
-    let Outgoing::ResponseStart { status, headers } = &said[0] else {
-        return Err(Fail::from("no start"));
+    assert!(rt; is_greeting(&said));
+    Ok(())
+}
+
+#[test]
+fn memory_for_the_events_of_hello(rt: HostRuntime) -> Result<(), Fail> {
+    let said = match Hello.said(rt.alloc()) {
+        Ok(said) => said,
+        Err(_) => Hello.said(rt.alloc())?,
     };
-    assert_eq!(rt; *status, 200);
-    assert_eq!(rt; headers.len(), 1);
-    let (name, value) = headers.at(0).ok_or("no field")?;
-    assert_eq!(rt; name, b"content-type".as_slice());
-    assert_eq!(rt; value, b"text/plain".as_slice());
-    let Outgoing::ResponseBody { body, more_body } = &said[1] else {
-        return Err(Fail::from("no body"));
-    };
-    assert_eq!(rt; body.bytes(), b"hello\n".as_slice());
-    assert_eq!(rt; *more_body, false);
+    assert!(rt; is_greeting(&said));
     Ok(())
 }

@@ -19,14 +19,15 @@ fn words(alloc: Global, texts: &[&str]) -> Result<Vec<String>, Fail> {
 
 #[test]
 fn once_hello_answers(rt: HostRuntime) -> Result<(), Fail> {
+    let words = words(rt.alloc(), &["once", "hello"])?;
     let mut input = REQUEST;
     let mut output = Counted::new(Vec::new(rt.alloc()));
     let mut errors = Vec::new(rt.alloc());
-    let words = words(rt.alloc(), &["once", "hello"])?;
     let status = command(&rt, &words, &mut input, &mut output, &mut errors);
-    assert_eq!(rt; status, 0);
-    assert_eq!(rt; output.writer.as_slice(), ANSWER);
-    assert_eq!(rt; errors.len(), 0);
+    assert_eq!(rt;
+        (status, output.writer.as_slice(), errors.len()),
+        (0, ANSWER, 0)
+    );
     Ok(())
 }
 
@@ -43,15 +44,17 @@ fn any_other_words_give_the_usage(rt: HostRuntime) -> Result<(), Fail> {
         &["serve", "8000", "1", "hello"],
     ];
     for (row, texts) in wrong.iter().enumerate() {
+        let words = words(rt.alloc(), texts)?;
         let mut input = REQUEST;
         let mut output = Counted::new(Vec::new(rt.alloc()));
         let mut errors = Vec::new(rt.alloc());
-        let words = words(rt.alloc(), texts)?;
         let status = command(&rt, &words, &mut input, &mut output, &mut errors);
-        assert_eq!(rt; status, 2, "row {row}");
-        assert_eq!(rt; input.len(), REQUEST.len(), "row {row}");
-        assert_eq!(rt; output.writer.len(), 0, "row {row}");
-        assert_eq!(rt; errors.as_slice(), USAGE, "row {row}");
+        let kept = (input.len(), output.writer.len());
+        assert_eq!(rt;
+            (status, kept, errors.as_slice()),
+            (2, (REQUEST.len(), 0), USAGE),
+            "row {row}"
+        );
     }
     Ok(())
 }
