@@ -1,7 +1,7 @@
 //! Each call that allocates, where one allocation is refused: it answers so, its object is as before, and the call can
 //! be made again. `tests/memory` runs these with each allocation refused in turn; with ample memory none is refused.
 
-use crate::tests_scopes::{is_peer, is_whole, whole_scope};
+use crate::tests_scopes::{is_copied, is_peer, whole_scope};
 use crate::tests_values::{
     are_facts, chars, facts, has_each_sort, is_bytes, is_name, is_number, is_text, octets,
     value_of_sort,
@@ -101,13 +101,6 @@ fn new_scope(alloc: Global, kind: Kind) -> Result<Scope, AllocError> {
     match whole_scope(alloc, kind) {
         Ok(made) => Ok(made),
         Err(_) => whole_scope(alloc, kind),
-    }
-}
-
-fn copy_of_scope(alloc: Global, held: &Scope) -> Result<Scope, AllocError> {
-    match held.copy(alloc) {
-        Ok(copied) => Ok(copied),
-        Err(_) => held.copy(alloc),
     }
 }
 
@@ -234,14 +227,9 @@ fn memory_for_a_state(rt: HostRuntime) -> Result<(), Fail> {
     Ok(())
 }
 
-fn is_whole_copied(alloc: Global, scope: &Scope, kind: Kind) -> Result<bool, AllocError> {
-    Ok(is_whole(scope, kind) && is_whole(&copy_of_scope(alloc, scope)?, kind))
-}
-
 /// A scope with all that it can have, and its copy.
 fn is_a_scope(alloc: Global, kind: Kind) -> Result<bool, AllocError> {
-    let scope = new_scope(alloc, kind)?;
-    is_whole_copied(alloc, &scope, kind)
+    is_copied(alloc, new_scope(alloc, kind)?, kind)
 }
 
 #[test]

@@ -198,7 +198,7 @@ fn is_lifespan(held: &LifespanScope) -> bool {
 }
 
 /// The scope is the one of its kind above.
-pub fn is_whole(scope: &Scope, kind: Kind) -> bool {
+fn is_whole(scope: &Scope, kind: Kind) -> bool {
     match scope {
         Scope::Http(held) => kind == Kind::Http && is_http(held),
         Scope::WebSocket(held) => kind == Kind::WebSocket && is_websocket(held),
@@ -206,27 +206,41 @@ pub fn is_whole(scope: &Scope, kind: Kind) -> bool {
     }
 }
 
-fn is_whole_copied(alloc: Global, scope: &Scope, kind: Kind) -> Result<bool, AllocError> {
-    Ok(is_whole(&scope.copy(alloc)?, kind))
+fn is_whole_itself(scope: Scope, kind: Kind) -> bool {
+    is_whole(&scope, kind)
+}
+
+fn copy_of_scope(alloc: Global, held: &Scope) -> Result<Scope, AllocError> {
+    match held.copy(alloc) {
+        Ok(copied) => Ok(copied),
+        Err(_) => held.copy(alloc),
+    }
+}
+
+/// The scope is whole, and so is its copy, which is made once more where it was refused memory.
+pub fn is_copied(alloc: Global, scope: Scope, kind: Kind) -> Result<bool, AllocError> {
+    has_whole_copy(alloc, &scope, kind)
+}
+
+fn has_whole_copy(alloc: Global, scope: &Scope, kind: Kind) -> Result<bool, AllocError> {
+    let is_so = is_whole_itself(copy_of_scope(alloc, scope)?, kind);
+    Ok(is_so && is_whole(scope, kind))
 }
 
 #[test]
 fn a_scope_has_what_its_connection_knows(rt: HostRuntime) -> Result<(), Fail> {
     for kind in [Kind::Http, Kind::WebSocket, Kind::Lifespan] {
-        assert!(rt; is_whole(&whole_scope(rt.alloc(), kind)?, kind), "{kind:?}");
+        let is_so = is_whole_itself(whole_scope(rt.alloc(), kind)?, kind);
+        assert!(rt; is_so, "{kind:?}");
     }
     Ok(())
-}
-
-fn is_copied(alloc: Global, kind: Kind) -> Result<bool, AllocError> {
-    let scope = whole_scope(alloc, kind)?;
-    is_whole_copied(alloc, &scope, kind)
 }
 
 #[test]
 fn a_scope_is_copied_with_all_its_fields(rt: HostRuntime) -> Result<(), Fail> {
     for kind in [Kind::Http, Kind::WebSocket, Kind::Lifespan] {
-        assert!(rt; is_copied(rt.alloc(), kind)?, "{kind:?}");
+        let is_so = is_copied(rt.alloc(), whole_scope(rt.alloc(), kind)?, kind)?;
+        assert!(rt; is_so, "{kind:?}");
     }
     Ok(())
 }
@@ -243,6 +257,10 @@ fn is_replaced(scope: &Scope) -> bool {
     }
 }
 
+fn is_replaced_itself(scope: Scope) -> bool {
+    is_replaced(&scope)
+}
+
 fn scope_again(alloc: Global) -> Result<Scope, AllocError> {
     let server = peer(alloc, "b", 1)?;
     let state = State::new(alloc);
@@ -251,6 +269,7 @@ fn scope_again(alloc: Global) -> Result<Scope, AllocError> {
 
 #[test]
 fn what_a_scope_had_before_is_replaced(rt: HostRuntime) -> Result<(), Fail> {
-    assert!(rt; is_replaced(&scope_again(rt.alloc())?));
+    let is_so = is_replaced_itself(scope_again(rt.alloc())?);
+    assert!(rt; is_so);
     Ok(())
 }
