@@ -1,79 +1,131 @@
-use crate::{BadLimit, HeaderError, Headers, Limits, Octets};
+//! Fields, bytes and limits, on examples: what is taken, what is refused, and what is kept.
+
+use crate::tests_values::octets;
+use crate::{BadLimit, HeaderError, Headers, Limits};
+use std::alloc::{AllocError, Global};
 use std::process::Abort;
 use std::test::Fail;
 
-#[test]
-fn a_field_is_kept_or_refused(rt: HostRuntime) -> Result<(), Fail> {
-    let long = [b'a'; 65_535];
-    let longer = [b'a'; 65_536];
-    let rows: [(&[u8], &[u8], Result<(), HeaderError>); 18] = [
-        (b"X-A", b"q", Ok(())),
-        (b"!#$%&'*+-.^_`|~09azAZ", b"q", Ok(())),
-        (b"X-A", b"", Ok(())),
-        (b"X-A", b" \t ~\x80\xff", Ok(())),
-        (&long, b"q", Ok(())),
-        (&longer, b"q", Err(HeaderError::BadName)),
-        (b"", b"q", Err(HeaderError::BadName)),
-        (b"A b", b"x", Err(HeaderError::BadName)),
-        (b"a:", b"x", Err(HeaderError::BadName)),
-        (b"a\x7f", b"x", Err(HeaderError::BadName)),
-        (b"a\xe9", b"x", Err(HeaderError::BadName)),
-        (b"(a)", b"x", Err(HeaderError::BadName)),
-        (b"X-A", b"q\r", Err(HeaderError::BadValue)),
-        (b"X-A", b"\nq", Err(HeaderError::BadValue)),
-        (b"X-A", b"\0", Err(HeaderError::BadValue)),
-        (b"X-A", b"\x1f", Err(HeaderError::BadValue)),
-        (b"X-A", b"\x7f", Err(HeaderError::BadValue)),
-        (b"A b", b"\0", Err(HeaderError::BadName)),
-    ];
-    for (row, (name, value, wanted)) in rows.iter().enumerate() {
-        let mut headers = Headers::new(rt.alloc());
-        assert_eq!(rt; headers.push(name, value), *wanted, "row {row}");
-        let kept = if wanted.is_ok() { 1 } else { 0 };
-        assert_eq!(rt; headers.len(), kept, "row {row}");
-        assert_eq!(rt; headers.is_empty(), kept == 0, "row {row}");
+/// A name, a value, and what a push of the two answers.
+type Push = (&'static [u8], &'static [u8], Result<(), HeaderError>);
+
+const PUSHES: [Push; 16] = [
+    (b"X-A", b"q", Ok(())),
+    (b"!#$%&'*+-.^_`|~09azAZ", b"q", Ok(())),
+    (b"X-A", b"", Ok(())),
+    (b"X-A", b" \t ~\x80\xff", Ok(())),
+    (b"", b"q", Err(HeaderError::BadName)),
+    (b"A b", b"x", Err(HeaderError::BadName)),
+    (b"a:", b"x", Err(HeaderError::BadName)),
+    (b"a\x7f", b"x", Err(HeaderError::BadName)),
+    (b"a\xe9", b"x", Err(HeaderError::BadName)),
+    (b"(a)", b"x", Err(HeaderError::BadName)),
+    (b"X-A", b"q\r", Err(HeaderError::BadValue)),
+    (b"X-A", b"\nq", Err(HeaderError::BadValue)),
+    (b"X-A", b"\0", Err(HeaderError::BadValue)),
+    (b"X-A", b"\x1f", Err(HeaderError::BadValue)),
+    (b"X-A", b"\x7f", Err(HeaderError::BadValue)),
+    (b"A b", b"\0", Err(HeaderError::BadName)),
+];
+
+/// The push of the field to no fields answers so, and the list then has it exactly if it was kept.
+fn answers(alloc: Global, name: &[u8], value: &[u8], wanted: Result<(), HeaderError>) -> bool {
+    let mut headers = Headers::new(alloc);
+    if headers.push(name, value) != wanted {
+        return false;
     }
+    let kept = if wanted.is_ok() { 1 } else { 0 };
+    headers.len() == kept && headers.is_empty() == wanted.is_err()
+}
+
+#[test]
+fn a_field_is_kept_or_refused(rt: HostRuntime) {
+    for (row, (name, value, wanted)) in PUSHES.iter().enumerate() {
+        assert!(rt; answers(rt.alloc(), name, value, *wanted), "row {row}");
+    }
+}
+
+fn answers_name_of(
+    alloc: Global,
+    size: usize,
+    wanted: Result<(), HeaderError>,
+) -> Result<bool, AllocError> {
+    let name = vec![in alloc; b'a'; size]?;
+    Ok(answers(alloc, name.as_slice(), b"q", wanted))
+}
+
+#[test]
+fn a_name_has_at_most_65535_bytes(rt: HostRuntime) -> Result<(), Fail> {
+    for (size, wanted) in [(65_535, Ok(())), (65_536, Err(HeaderError::BadName))] {
+        assert!(rt; answers_name_of(rt.alloc(), size, wanted)?, "{size} bytes");
+    }
+    Ok(())
+}
+
+/// What is kept of three fields, in their order.
+const KEPT: [(&[u8], &[u8]); 3] = [(b"x-a", b"q"), (b"host", b""), (b"x-a", b"Q")];
+
+fn is_kept(index: usize, name: &[u8], value: &[u8]) -> bool {
+    match KEPT.get(index) {
+        Some((kept_name, kept_value)) => name == *kept_name && value == *kept_value,
+        None => false,
+    }
+}
+
+fn is_kept_at(held: &Headers, index: usize) -> bool {
+    match held.at(index) {
+        Some((name, value)) => is_kept(index, name, value),
+        None => false,
+    }
+}
+
+/// The fields are those, by their index and as they are gone over.
+fn are_kept(rt: &impl Abort, held: &Headers) {
+    for index in 0..3usize {
+        assert!(rt; is_kept_at(held, index), "field {index}");
+    }
+    let mut count = 0usize;
+    for (name, value) in held.iter() {
+        assert!(rt; is_kept(count, name, value), "field {count}");
+        count = count.saturating_add(1);
+    }
+    assert!(rt; count == 3 && held.len() == 3);
+    assert!(rt; held.at(3).is_none() && held.at(usize::MAX).is_none());
+}
+
+fn is_copied(rt: &(impl Abort + AllocGlobal), held: &Headers) -> Result<(), Fail> {
+    are_kept(rt, &held.copy(rt.alloc())?);
     Ok(())
 }
 
 #[test]
 fn fields_keep_their_order(rt: HostRuntime) -> Result<(), Fail> {
     let mut headers = Headers::new(rt.alloc());
-    headers.push(b"X-A", b"q")?;
-    headers.push(b"Host", b"")?;
-    assert_eq!(rt; headers.push(b"A b", b"x"), Err(HeaderError::BadName));
-    headers.push(b"x-a", b"Q")?;
-    let copied = headers.copy(rt.alloc())?;
-    let wanted: [(&[u8], &[u8]); 3] = [(b"x-a", b"q"), (b"host", b""), (b"x-a", b"Q")];
-    for headers in [&headers, &copied] {
-        assert_eq!(rt; headers.len(), 3);
-        for (index, (name, value)) in wanted.iter().enumerate() {
-            let (kept_name, kept_value) = headers.at(index).ok_or("no field")?;
-            assert_eq!(rt; kept_name, *name, "field {index}");
-            assert_eq!(rt; kept_value, *value, "field {index}");
-        }
-        assert!(rt; headers.at(3).is_none());
-        assert!(rt; headers.at(usize::MAX).is_none());
-        let mut index = 0usize;
-        for (name, _) in headers.iter() {
-            let (wanted_name, _) = wanted.get(index).copied().ok_or("too many fields")?;
-            assert_eq!(rt; name, wanted_name, "field {index}");
-            index = index.saturating_add(1);
-        }
-        assert_eq!(rt; index, 3);
+    let pushes: [Push; 4] = [
+        (b"X-A", b"q", Ok(())),
+        (b"Host", b"", Ok(())),
+        (b"A b", b"x", Err(HeaderError::BadName)),
+        (b"x-a", b"Q", Ok(())),
+    ];
+    for (row, (name, value, wanted)) in pushes.iter().enumerate() {
+        assert!(rt; headers.push(name, value) == *wanted, "row {row}");
     }
-    Ok(())
+    are_kept(&rt, &headers);
+    is_copied(&rt, &headers)
+}
+
+fn are_bytes(alloc: Global, bytes: &[u8]) -> Result<bool, AllocError> {
+    let held = octets(alloc, bytes)?;
+    let copied = held.copy(alloc)?;
+    let are_equal = held.bytes() == bytes && copied.bytes() == bytes;
+    Ok(are_equal && held.into_vec().as_slice() == bytes)
 }
 
 #[test]
 fn octets_are_the_bytes_given(rt: HostRuntime) -> Result<(), Fail> {
-    let samples: [&[u8]; 3] = [b"", b"\0\xff", b"hello\n"];
-    for sample in samples {
-        let octets = Octets::new(sample.to_vec(rt.alloc())?);
-        assert_eq!(rt; octets.bytes(), sample);
-        let copied = octets.copy(rt.alloc())?;
-        assert_eq!(rt; copied.bytes(), sample);
-        assert_eq!(rt; octets.into_vec().as_slice(), sample);
+    let samples: [&[u8]; 5] = [b"", b"\0\xff", b"hello\n", b"chat", b"/a/\xef\xbf\xbd"];
+    for (row, sample) in samples.iter().enumerate() {
+        assert!(rt; are_bytes(rt.alloc(), sample)?, "row {row}");
     }
     Ok(())
 }
@@ -82,7 +134,7 @@ fn octets_are_the_bytes_given(rt: HostRuntime) -> Result<(), Fail> {
 type Row = (usize, usize, u64, usize, usize, u32, u64, bool);
 
 /// Each limit at the ends of its range, and one past each end.
-const ROWS: [Row; 21] = [
+const ROWS: [Row; 22] = [
     (64, 1, 0, 1, 2, 1, 1, true),
     (63, 1, 0, 1, 2, 1, 1, false),
     (65_535, 1, 0, 1, 2, 1, 1, true),
@@ -104,6 +156,7 @@ const ROWS: [Row; 21] = [
     (64, 1, 0, 1, 2, 1, 281_474_976_710_656, true),
     (64, 1, 0, 1, 2, 1, 281_474_976_710_657, false),
     (0, 0, 0, 0, 0, 0, 0, false),
+    USUAL,
 ];
 
 const USUAL: Row = (
@@ -122,32 +175,36 @@ fn limits_of(row: &Row) -> Result<Limits, BadLimit> {
     Limits::new(head, headers, body, block, ring, idle, turns)
 }
 
-fn are_limits(rt: &impl Abort, limits: &Limits, row: &Row) {
-    let (head, headers, body, block, ring, idle, turns, _) = *row;
-    assert_eq!(rt;
-        (limits.max_head, limits.max_headers),
-        (head, headers),
-        "{row:?}"
-    );
-    assert_eq!(rt; (limits.max_body, limits.block), (body, block), "{row:?}");
-    assert_eq!(rt; (limits.ring, limits.idle_turns), (ring, idle), "{row:?}");
-    assert_eq!(rt; limits.turns, turns, "{row:?}");
+fn are_sizes(limits: &Limits, row: &Row) -> bool {
+    limits.max_head == row.0
+        && limits.max_headers == row.1
+        && limits.max_body == row.2
+        && limits.block == row.3
+}
+
+fn are_limits(limits: &Limits, row: &Row) -> bool {
+    are_sizes(limits, row)
+        && limits.ring == row.4
+        && limits.idle_turns == row.5
+        && limits.turns == row.6
+}
+
+/// The limits of the row are taken as they are, or refused, as it says.
+fn are_judged(row: &Row) -> bool {
+    match limits_of(row) {
+        Ok(limits) => row.7 && are_limits(&limits, row),
+        Err(BadLimit) => !row.7,
+    }
 }
 
 #[test]
 fn limits_keep_their_ranges(rt: HostRuntime) {
-    for row in &ROWS {
-        let made = limits_of(row);
-        assert_eq!(rt; made.is_ok(), row.7, "{row:?}");
-        if let Ok(limits) = made {
-            are_limits(&rt, &limits, row);
-        }
+    for (index, row) in ROWS.iter().enumerate() {
+        assert!(rt; are_judged(row), "row {index}");
     }
-    assert_eq!(rt; Limits::new(64, 1, 0, 1, 1, 1, 1), Err(BadLimit));
 }
 
 #[test]
 fn usual_limits_are_in_their_ranges(rt: HostRuntime) {
-    assert_eq!(rt; limits_of(&USUAL), Ok(Limits::usual()));
-    are_limits(&rt, &Limits::usual(), &USUAL);
+    assert!(rt; are_limits(&Limits::usual(), &USUAL));
 }

@@ -1,179 +1,290 @@
 //! Each call that allocates, where one allocation is refused: it answers so, its object is as before, and the call can
 //! be made again. `tests/memory` runs these with each allocation refused in turn; with ample memory none is refused.
-//! The tests are small, so that the gate has few allocations to refuse.
 
-use crate::tests_scopes::{is_whole, whole_scope};
-use crate::tests_values::{are_facts, chars, facts, has_each_sort, octets};
-use crate::{
-    Chars, Framing, HeaderError, Headers, Kind, Names, Peer, State, StateError, StateValue,
+use crate::tests_scopes::{is_copied, is_peer, whole_scope};
+use crate::tests_values::{
+    are_facts, chars, facts, has_each_sort, is_bytes, is_name, is_number, is_text, octets,
+    value_of_sort,
 };
+use crate::{Chars, Facts, Framing, Headers, Kind, Names, Octets, Peer, Scope, State, StateValue};
 use std::alloc::{AllocError, Global};
 use std::process::Abort;
 use std::test::Fail;
 
+// Each of these makes the call once more where it was refused memory.
+
+fn new_text(alloc: Global, text: &str) -> Result<Chars, AllocError> {
+    match chars(alloc, text) {
+        Ok(made) => Ok(made),
+        Err(_) => chars(alloc, text),
+    }
+}
+
+fn copy_of_text(alloc: Global, held: &Chars) -> Result<Chars, AllocError> {
+    match held.copy(alloc) {
+        Ok(copied) => Ok(copied),
+        Err(_) => held.copy(alloc),
+    }
+}
+
+fn new_octets(alloc: Global, bytes: &[u8]) -> Result<Octets, AllocError> {
+    match octets(alloc, bytes) {
+        Ok(made) => Ok(made),
+        Err(_) => octets(alloc, bytes),
+    }
+}
+
+fn copy_of_octets(alloc: Global, held: &Octets) -> Result<Octets, AllocError> {
+    match held.copy(alloc) {
+        Ok(copied) => Ok(copied),
+        Err(_) => held.copy(alloc),
+    }
+}
+
+fn copy_of_headers(alloc: Global, held: &Headers) -> Result<Headers, AllocError> {
+    match held.copy(alloc) {
+        Ok(copied) => Ok(copied),
+        Err(_) => held.copy(alloc),
+    }
+}
+
+fn copy_of_names(alloc: Global, held: &Names) -> Result<Names, AllocError> {
+    match held.copy(alloc) {
+        Ok(copied) => Ok(copied),
+        Err(_) => held.copy(alloc),
+    }
+}
+
+fn new_value(alloc: Global, sort: &str) -> Result<StateValue, AllocError> {
+    match value_of_sort(alloc, sort) {
+        Ok(made) => Ok(made),
+        Err(_) => value_of_sort(alloc, sort),
+    }
+}
+
+fn copy_of_value(alloc: Global, held: &StateValue) -> Result<StateValue, AllocError> {
+    match held.copy(alloc) {
+        Ok(copied) => Ok(copied),
+        Err(_) => held.copy(alloc),
+    }
+}
+
+fn copy_of_state(alloc: Global, held: &State) -> Result<State, AllocError> {
+    match held.copy(alloc) {
+        Ok(copied) => Ok(copied),
+        Err(_) => held.copy(alloc),
+    }
+}
+
+fn copy_of_peer(alloc: Global, held: &Peer) -> Result<Peer, AllocError> {
+    match held.copy(alloc) {
+        Ok(copied) => Ok(copied),
+        Err(_) => held.copy(alloc),
+    }
+}
+
+fn new_facts(alloc: Global) -> Result<Facts, AllocError> {
+    match facts(alloc, Framing::Length(3)) {
+        Ok(made) => Ok(made),
+        Err(_) => facts(alloc, Framing::Length(3)),
+    }
+}
+
+fn copy_of_facts(alloc: Global, held: &Facts) -> Result<Facts, AllocError> {
+    match held.copy(alloc) {
+        Ok(copied) => Ok(copied),
+        Err(_) => held.copy(alloc),
+    }
+}
+
+fn new_scope(alloc: Global, kind: Kind) -> Result<Scope, AllocError> {
+    match whole_scope(alloc, kind) {
+        Ok(made) => Ok(made),
+        Err(_) => whole_scope(alloc, kind),
+    }
+}
+
 const NAMES: [&[u8]; 5] = [b"x-a", b"x-b", b"x-c", b"x-d", b"x-e"];
 
-/// What the call gives, made once more where it was refused memory.
-fn again<T: Drop, F: Fn() -> Result<T, AllocError>>(call: F) -> Result<T, AllocError>
-    requires { F.IsAlwaysCallable call }
-{
-    match call() {
-        Ok(value) => Ok(value),
-        Err(_) => call(),
+const VALUE: &[u8] = &[b'v'; 100];
+
+/// The field is added, at the second attempt where the first was refused and left the list as it was.
+fn is_field_added(headers: &mut Headers, name: &[u8]) -> bool {
+    let before = headers.len();
+    if headers.push(name, VALUE).is_ok() {
+        return true;
+    }
+    headers.len() == before && headers.push(name, VALUE).is_ok()
+}
+
+fn is_field(held: &Headers, index: usize, name: &[u8]) -> bool {
+    match held.at(index) {
+        Some((kept, value)) => kept == name && value == VALUE,
+        None => false,
     }
 }
 
-fn text(alloc: Global, bytes: &str) -> Result<Chars, AllocError> {
-    again(|| chars(alloc, bytes))
-}
-
-#[test]
-fn memory_for_headers(rt: HostRuntime) -> Result<(), Fail> {
-    let alloc = rt.alloc();
-    let mut headers = Headers::new(alloc);
+fn has_fields(rt: &impl Abort, held: &Headers) {
     for (index, name) in NAMES.iter().enumerate() {
-        match headers.push(name, &[b'v'; 100]) {
-            Ok(()) => {}
-            Err(HeaderError::NoMemory(_)) => {
-                assert_eq!(rt; headers.len(), index);
-                headers.push(name, &[b'v'; 100])?;
-            }
-            Err(_) => return Err(Fail::from("the field is one")),
-        }
-        assert_eq!(rt; headers.len(), index.saturating_add(1));
+        assert!(rt; is_field(held, index, name), "field {index}");
     }
-    let copied = again(|| headers.copy(alloc))?;
-    for held in [&headers, &copied] {
-        assert_eq!(rt; held.len(), 5);
-        for (index, name) in NAMES.iter().enumerate() {
-            let (kept, value) = held.at(index).ok_or("no field")?;
-            assert_eq!(rt; kept, *name);
-            assert_eq!(rt; value, [b'v'; 100].as_slice());
-        }
-    }
+    assert!(rt; held.len() == 5);
+}
+
+fn has_fields_copied(rt: &(impl Abort + AllocGlobal), held: &Headers) -> Result<(), Fail> {
+    has_fields(rt, held);
+    has_fields(rt, &copy_of_headers(rt.alloc(), held)?);
     Ok(())
 }
 
 #[test]
+fn memory_for_headers(rt: HostRuntime) -> Result<(), Fail> {
+    let mut headers = Headers::new(rt.alloc());
+    for (index, name) in NAMES.iter().enumerate() {
+        assert!(rt; is_field_added(&mut headers, name), "field {index}");
+    }
+    has_fields_copied(&rt, &headers)
+}
+
+fn are_octets(alloc: Global) -> Result<bool, AllocError> {
+    let held = new_octets(alloc, b"ab")?;
+    Ok(copy_of_octets(alloc, &held)?.bytes() == b"ab".as_slice())
+}
+
+fn is_a_text(alloc: Global) -> Result<bool, AllocError> {
+    let held = new_text(alloc, "ab")?;
+    Ok(copy_of_text(alloc, &held)?.as_str() == "ab")
+}
+
+#[test]
 fn memory_for_texts(rt: HostRuntime) -> Result<(), Fail> {
-    let alloc = rt.alloc();
-    let bytes = again(|| octets(alloc, b"ab"))?;
-    let copied = again(|| bytes.copy(alloc))?;
-    assert_eq!(rt; copied.bytes(), b"ab".as_slice());
-    let held = text(alloc, "ab")?;
-    let copied = again(|| held.copy(alloc))?;
-    assert_eq!(rt; copied.as_str(), "ab");
+    assert!(rt; are_octets(rt.alloc())?);
+    assert!(rt; is_a_text(rt.alloc())?);
+    Ok(())
+}
+
+/// The name is added, at the second attempt where the first was refused and left the list as it was.
+fn is_name_added(alloc: Global, names: &mut Names) -> Result<bool, AllocError> {
+    let before = names.len();
+    if names.push(new_text(alloc, "chat")?).is_ok() {
+        return Ok(true);
+    }
+    let is_as_before = names.len() == before;
+    names.push(new_text(alloc, "chat")?)?;
+    Ok(is_as_before)
+}
+
+fn has_names(rt: &impl Abort, held: &Names) {
+    for index in 0..5usize {
+        assert!(rt; is_name(held, index, "chat"), "name {index}");
+    }
+    assert!(rt; held.len() == 5);
+}
+
+fn has_names_copied(rt: &(impl Abort + AllocGlobal), held: &Names) -> Result<(), Fail> {
+    has_names(rt, held);
+    has_names(rt, &copy_of_names(rt.alloc(), held)?);
     Ok(())
 }
 
 #[test]
 fn memory_for_names(rt: HostRuntime) -> Result<(), Fail> {
-    let alloc = rt.alloc();
-    let mut names = Names::new(alloc);
+    let mut names = Names::new(rt.alloc());
     for index in 0..5usize {
-        if names.push(text(alloc, "chat")?).is_err() {
-            assert_eq!(rt; names.len(), index);
-            names.push(text(alloc, "chat")?)?;
-        }
-        assert_eq!(rt; names.len(), index.saturating_add(1));
+        assert!(rt; is_name_added(rt.alloc(), &mut names)?, "name {index}");
     }
-    let copied = again(|| names.copy(alloc))?;
-    for held in [&names, &copied] {
-        assert_eq!(rt; held.len(), 5);
-        for index in 0..5usize {
-            let name = held.at(index).ok_or("no name")?;
-            assert_eq!(rt; name.as_str(), "chat");
-        }
-    }
-    Ok(())
+    has_names_copied(&rt, &names)
 }
 
-/// A text, bytes, and from then on a number.
-fn value(alloc: Global, index: usize) -> Result<StateValue, AllocError> {
-    match index {
-        0 => Ok(StateValue::Text(chars(alloc, "t")?)),
-        1 => Ok(StateValue::Bytes(octets(alloc, b"b\xff")?)),
-        _ => Ok(StateValue::Number(7)),
+fn is_set(alloc: Global, state: &mut State, sort: &str) -> Result<bool, AllocError> {
+    let value = new_value(alloc, sort)?;
+    Ok(state.set(sort, value).is_ok())
+}
+
+/// The value is set, at the second attempt where the first was refused and left no value under the name.
+fn is_set_again(alloc: Global, state: &mut State, sort: &str) -> Result<bool, AllocError> {
+    if is_set(alloc, state, sort)? {
+        return Ok(true);
     }
+    Ok(state.get(sort).is_none() && is_set(alloc, state, sort)?)
+}
+
+fn has_values(held: &State) -> bool {
+    has_each_sort(held) && is_number(held.get("d"), 7) && is_number(held.get("e"), 7)
+}
+
+fn has_values_copied(alloc: Global, held: &State) -> Result<bool, AllocError> {
+    Ok(has_values(held) && has_values(&copy_of_state(alloc, held)?))
 }
 
 #[test]
 fn memory_for_a_state(rt: HostRuntime) -> Result<(), Fail> {
-    let alloc = rt.alloc();
-    let mut state = State::new(alloc);
-    for (index, name) in ["text", "bytes", "number", "d", "e"].iter().enumerate() {
-        match state.set(name, again(|| value(alloc, index))?) {
-            Ok(()) => {}
-            Err(StateError::NoMemory(_)) => {
-                assert!(rt; state.get(name).is_none());
-                state.set(name, value(alloc, index)?)?;
-            }
-            Err(_) => return Err(Fail::from("there is room")),
-        }
+    let mut state = State::new(rt.alloc());
+    for sort in ["text", "bytes", "number", "d", "e"] {
+        assert!(rt; is_set_again(rt.alloc(), &mut state, sort)?, "{sort}");
     }
-    let copied = again(|| state.copy(alloc))?;
-    for held in [&state, &copied] {
-        has_each_sort(&rt, held);
-        for name in ["d", "e"] {
-            assert!(rt; matches!(held.get(name), Some(StateValue::Number(7))));
-        }
-    }
+    assert!(rt; has_values_copied(rt.alloc(), &state)?);
     Ok(())
 }
 
 /// A scope with all that it can have, and its copy.
-fn has_memory(rt: &(impl Abort + AllocGlobal), kind: Kind) -> Result<(), Fail> {
-    let scope = again(|| whole_scope(rt.alloc(), kind))?;
-    let copied = again(|| scope.copy(rt.alloc()))?;
-    is_whole(rt, &scope, kind)?;
-    is_whole(rt, &copied, kind)
+fn is_a_scope(alloc: Global, kind: Kind) -> Result<bool, AllocError> {
+    is_copied(alloc, new_scope(alloc, kind)?, kind)
 }
 
 #[test]
 fn memory_for_an_http_scope(rt: HostRuntime) -> Result<(), Fail> {
-    has_memory(&rt, Kind::Http)
-}
-
-#[test]
-fn memory_for_a_websocket_scope(rt: HostRuntime) -> Result<(), Fail> {
-    has_memory(&rt, Kind::WebSocket)
-}
-
-#[test]
-fn memory_for_a_lifespan_scope(rt: HostRuntime) -> Result<(), Fail> {
-    has_memory(&rt, Kind::Lifespan)
-}
-
-#[test]
-fn memory_for_facts(rt: HostRuntime) -> Result<(), Fail> {
-    let alloc = rt.alloc();
-    let known = again(|| facts(alloc, Framing::Length(3)))?;
-    let copied = again(|| known.copy(alloc))?;
-    for held in [&known, &copied] {
-        are_facts(&rt, held, Framing::Length(3))?;
-    }
+    assert!(rt; is_a_scope(rt.alloc(), Kind::Http)?);
     Ok(())
 }
 
 #[test]
-fn memory_for_peers_and_values(rt: HostRuntime) -> Result<(), Fail> {
-    let alloc = rt.alloc();
+fn memory_for_a_websocket_scope(rt: HostRuntime) -> Result<(), Fail> {
+    assert!(rt; is_a_scope(rt.alloc(), Kind::WebSocket)?);
+    Ok(())
+}
+
+#[test]
+fn memory_for_a_lifespan_scope(rt: HostRuntime) -> Result<(), Fail> {
+    assert!(rt; is_a_scope(rt.alloc(), Kind::Lifespan)?);
+    Ok(())
+}
+
+fn are_facts_copied(alloc: Global, held: &Facts) -> Result<bool, AllocError> {
+    let copied = copy_of_facts(alloc, held)?;
+    Ok(are_facts(held, Framing::Length(3)) && are_facts(&copied, Framing::Length(3)))
+}
+
+#[test]
+fn memory_for_facts(rt: HostRuntime) -> Result<(), Fail> {
+    let held = new_facts(rt.alloc())?;
+    assert!(rt; are_facts_copied(rt.alloc(), &held)?);
+    Ok(())
+}
+
+fn is_a_peer(alloc: Global) -> Result<bool, AllocError> {
     let peer = Peer {
-        host: text(alloc, "::1")?,
+        host: new_text(alloc, "::1")?,
         port: 8_080,
     };
-    let copied = again(|| peer.copy(alloc))?;
-    assert_eq!(rt; copied.host.as_str(), "::1");
-    assert_eq!(rt; copied.port, 8_080);
-    let named = StateValue::Text(text(alloc, "pool")?);
-    match again(|| named.copy(alloc))? {
-        StateValue::Text(kept) => assert_eq!(rt; kept.as_str(), "pool"),
-        _ => return Err(Fail::from("the value is a text")),
-    }
-    let held = StateValue::Bytes(again(|| octets(alloc, b"ab"))?);
-    match again(|| held.copy(alloc))? {
-        StateValue::Bytes(kept) => assert_eq!(rt; kept.bytes(), b"ab".as_slice()),
-        _ => return Err(Fail::from("the value is bytes")),
+    Ok(is_peer(&copy_of_peer(alloc, &peer)?, "::1", 8_080))
+}
+
+fn is_a_value(alloc: Global, sort: &str) -> Result<bool, AllocError> {
+    let value = new_value(alloc, sort)?;
+    let copied = copy_of_value(alloc, &value)?;
+    Ok(match sort {
+        "text" => is_text(Some(&copied), "t"),
+        "bytes" => is_bytes(Some(&copied), b"b\xff"),
+        _ => is_number(Some(&copied), 7),
+    })
+}
+
+#[test]
+fn memory_for_peers_and_values(rt: HostRuntime) -> Result<(), Fail> {
+    assert!(rt; is_a_peer(rt.alloc())?);
+    for sort in ["text", "bytes", "number"] {
+        assert!(rt; is_a_value(rt.alloc(), sort)?, "{sort}");
     }
     Ok(())
 }

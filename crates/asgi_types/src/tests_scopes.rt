@@ -1,9 +1,9 @@
 //! The three kinds of scope, with what a connection adds to them, and copied.
 
-use crate::tests_values::{chars, octets};
+use crate::tests_values::{chars, is_bytes, is_name, is_number, is_text, octets, value_of_sort};
 use crate::{
     Asgi, Chars, Extensions, Headers, HttpScope, HttpVersion, Kind, LifespanScope, Names, Octets,
-    Peer, Scope, State, StateValue, WsScope,
+    Peer, Scope, State, WsScope,
 };
 use std::alloc::{AllocError, Global};
 use std::process::Abort;
@@ -81,167 +81,157 @@ fn scope_of(alloc: Global, kind: Kind) -> Result<Scope, AllocError> {
     }
 }
 
-/// Each sort of value in one kind of scope.
-fn value_in(alloc: Global, kind: Kind) -> Result<StateValue, AllocError> {
-    match kind {
-        Kind::Http => Ok(StateValue::Text(chars(alloc, "t")?)),
-        Kind::WebSocket => Ok(StateValue::Bytes(octets(alloc, b"b\xff")?)),
-        Kind::Lifespan => Ok(StateValue::Number(7)),
+/// A state with one value, of another sort in each kind of scope.
+fn state_of(alloc: Global, kind: Kind) -> Result<State, AllocError> {
+    let sort = match kind {
+        Kind::Http => "text",
+        Kind::WebSocket => "bytes",
+        Kind::Lifespan => "number",
+    };
+    let value = value_of_sort(alloc, sort)?;
+    let mut state = State::new(alloc);
+    match state.set("held", value) {
+        Ok(()) => Ok(state),
+        Err(_) => Err(AllocError),
     }
 }
 
 /// A scope of this kind with a client, a server and a state.
 pub fn whole_scope(alloc: Global, kind: Kind) -> Result<Scope, AllocError> {
-    let scope = scope_of(alloc, kind)?;
-    let mut state = State::new(alloc);
-    let value = value_in(alloc, kind)?;
-    state.set("held", value).map_err(|_| AllocError)?;
     let client = peer(alloc, "127.0.0.1", 4_000)?;
     let server = peer(alloc, "::1", 80)?;
-    Ok(scope.with(Some(client), Some(server), state))
+    let state = state_of(alloc, kind)?;
+    Ok(scope_of(alloc, kind)?.with(Some(client), Some(server), state))
 }
 
-fn has_value(rt: &impl Abort, state: &State, kind: Kind) -> Result<(), Fail> {
-    let value = state.get("held").ok_or("no value")?;
-    match (kind, value) {
-        (Kind::Http, StateValue::Text(text)) => assert_eq!(rt; text.as_str(), "t"),
-        (Kind::WebSocket, StateValue::Bytes(held)) => {
-            assert_eq!(rt; held.bytes(), b"b\xff".as_slice());
-        }
-        (Kind::Lifespan, StateValue::Number(number)) => assert_eq!(rt; *number, 7),
-        _ => panic!(rt; "another sort of value"),
+fn has_value(state: &State, kind: Kind) -> bool {
+    let value = state.get("held");
+    match kind {
+        Kind::Http => is_text(value, "t"),
+        Kind::WebSocket => is_bytes(value, b"b\xff"),
+        Kind::Lifespan => is_number(value, 7),
     }
-    Ok(())
 }
 
-fn is_peer(rt: &impl Abort, peer: &Option<Peer>, host: &str, port: u16) -> Result<(), Fail> {
-    let peer = peer.as_ref().ok_or("no peer")?;
-    assert_eq!(rt; peer.host.as_str(), host);
-    assert_eq!(rt; peer.port, port);
-    Ok(())
+pub fn is_peer(peer: &Peer, host: &str, port: u16) -> bool {
+    peer.host.as_str() == host && peer.port == port
 }
 
-fn has_target(
-    rt: &impl Abort,
-    path: &Chars,
-    raw_path: &Octets,
-    query_string: &Octets,
-    root_path: &Chars,
-) {
-    assert_eq!(rt; path.as_str(), "/a b");
-    assert_eq!(rt; raw_path.bytes(), b"/a%20b".as_slice());
-    assert_eq!(rt; query_string.bytes(), b"q=%20".as_slice());
-    assert_eq!(rt; root_path.as_str(), "/a");
+fn is_side(peer: &Option<Peer>, host: &str, port: u16) -> bool {
+    match peer {
+        Some(peer) => is_peer(peer, host, port),
+        None => false,
+    }
 }
 
-fn has_chat(rt: &impl Abort, names: &Names) -> Result<(), Fail> {
-    assert_eq!(rt; names.len(), 1);
-    let name = names.at(0).ok_or("no name")?;
-    assert_eq!(rt; name.as_str(), "chat");
-    Ok(())
+fn has_target(path: &Chars, raw_path: &Octets, query_string: &Octets, root_path: &Chars) -> bool {
+    path.as_str() == "/a b"
+        && raw_path.bytes() == b"/a%20b".as_slice()
+        && query_string.bytes() == b"q=%20".as_slice()
+        && root_path.as_str() == "/a"
 }
 
-fn has_field(rt: &impl Abort, headers: &Headers) -> Result<(), Fail> {
-    assert_eq!(rt; headers.len(), 1);
-    let (name, value) = headers.at(0).ok_or("no field")?;
-    assert_eq!(rt; name, b"x-a".as_slice());
-    assert_eq!(rt; value, b"q".as_slice());
-    Ok(())
+fn has_chat(names: &Names) -> bool {
+    names.len() == 1 && is_name(names, 0, "chat")
 }
 
-fn has_request_line(rt: &impl Abort, method: &Chars, scheme: &Chars, version: HttpVersion) {
-    assert_eq!(rt; method.as_str(), "GET");
-    assert_eq!(rt; scheme.as_str(), "http");
-    assert_eq!(rt; version, HttpVersion::V11);
+fn is_field(name: &[u8], value: &[u8]) -> bool {
+    name == b"x-a".as_slice() && value == b"q".as_slice()
+}
+
+fn has_field(headers: &Headers) -> bool {
+    match headers.at(0) {
+        Some((name, value)) => is_field(name, value) && headers.len() == 1,
+        None => false,
+    }
 }
 
 /// The extensions of a scope of this kind.
-fn has_kind(rt: &impl Abort, asgi: Asgi, extensions: Extensions, kind: Kind) {
-    assert_eq!(rt; asgi, Asgi::of(kind));
-    assert_eq!(rt; extensions.websocket_http_response, kind == Kind::WebSocket);
-    assert!(rt; !extensions.http_response_trailers);
+fn has_kind(asgi: Asgi, extensions: Extensions, kind: Kind) -> bool {
+    asgi == Asgi::of(kind)
+        && extensions.websocket_http_response == (kind == Kind::WebSocket)
+        && !extensions.http_response_trailers
 }
 
-fn has_peers(rt: &impl Abort, client: &Option<Peer>, server: &Option<Peer>) -> Result<(), Fail> {
-    is_peer(rt, client, "127.0.0.1", 4_000)?;
-    is_peer(rt, server, "::1", 80)
+fn has_peers(client: &Option<Peer>, server: &Option<Peer>) -> bool {
+    is_side(client, "127.0.0.1", 4_000) && is_side(server, "::1", 80)
 }
 
-fn is_http(rt: &impl Abort, held: &HttpScope) -> Result<(), Fail> {
-    has_kind(rt, held.asgi, held.extensions, Kind::Http);
-    has_request_line(rt, &held.method, &held.scheme, held.http_version);
-    has_target(
-        rt,
-        &held.path,
-        &held.raw_path,
-        &held.query_string,
-        &held.root_path,
-    );
-    has_field(rt, &held.headers)?;
-    has_value(rt, &held.state, Kind::Http)?;
-    has_peers(rt, &held.client, &held.server)
+fn is_asked(scheme: &Chars, wanted: &str, version: HttpVersion) -> bool {
+    scheme.as_str() == wanted && version == HttpVersion::V11
 }
 
-fn is_websocket(rt: &impl Abort, held: &WsScope) -> Result<(), Fail> {
-    has_kind(rt, held.asgi, held.extensions, Kind::WebSocket);
-    assert_eq!(rt; held.scheme.as_str(), "ws");
-    assert_eq!(rt; held.http_version, HttpVersion::V11);
-    has_target(
-        rt,
-        &held.path,
-        &held.raw_path,
-        &held.query_string,
-        &held.root_path,
-    );
-    has_field(rt, &held.headers)?;
-    has_chat(rt, &held.subprotocols)?;
-    has_value(rt, &held.state, Kind::WebSocket)?;
-    has_peers(rt, &held.client, &held.server)
+/// What the request of the scope says.
+fn is_http_request(held: &HttpScope) -> bool {
+    let has_line = held.method.as_str() == "GET"
+        && is_asked(&held.scheme, "http", held.http_version);
+    let path = &held.path;
+    has_line
+        && has_target(path, &held.raw_path, &held.query_string, &held.root_path)
+        && has_field(&held.headers)
 }
 
-fn in_http(rt: &impl Abort, scope: &Scope) -> Result<(), Fail> {
-    match scope {
-        Scope::Http(held) => is_http(rt, held),
-        _ => panic!(rt; "another kind of scope"),
-    }
+fn is_http(held: &HttpScope) -> bool {
+    has_kind(held.asgi, held.extensions, Kind::Http)
+        && is_http_request(held)
+        && has_value(&held.state, Kind::Http)
+        && has_peers(&held.client, &held.server)
 }
 
-fn in_websocket(rt: &impl Abort, scope: &Scope) -> Result<(), Fail> {
-    match scope {
-        Scope::WebSocket(held) => is_websocket(rt, held),
-        _ => panic!(rt; "another kind of scope"),
-    }
+fn is_ws_request(held: &WsScope) -> bool {
+    let path = &held.path;
+    is_asked(&held.scheme, "ws", held.http_version)
+        && has_target(path, &held.raw_path, &held.query_string, &held.root_path)
+        && has_field(&held.headers)
+        && has_chat(&held.subprotocols)
 }
 
-fn in_lifespan(rt: &impl Abort, scope: &Scope) -> Result<(), Fail> {
-    match scope {
-        Scope::Lifespan(held) => {
-            assert_eq!(rt; held.asgi, Asgi::of(Kind::Lifespan));
-            has_value(rt, &held.state, Kind::Lifespan)
-        }
-        _ => panic!(rt; "another kind of scope"),
-    }
+fn is_websocket(held: &WsScope) -> bool {
+    has_kind(held.asgi, held.extensions, Kind::WebSocket)
+        && is_ws_request(held)
+        && has_value(&held.state, Kind::WebSocket)
+        && has_peers(&held.client, &held.server)
+}
+
+fn is_lifespan(held: &LifespanScope) -> bool {
+    held.asgi == Asgi::of(Kind::Lifespan) && has_value(&held.state, Kind::Lifespan)
 }
 
 /// The scope is the one of its kind above.
-pub fn is_whole(rt: &impl Abort, scope: &Scope, kind: Kind) -> Result<(), Fail> {
-    match kind {
-        Kind::Http => in_http(rt, scope),
-        Kind::WebSocket => in_websocket(rt, scope),
-        Kind::Lifespan => in_lifespan(rt, scope),
+fn is_whole(scope: &Scope, kind: Kind) -> bool {
+    match scope {
+        Scope::Http(held) => kind == Kind::Http && is_http(held),
+        Scope::WebSocket(held) => kind == Kind::WebSocket && is_websocket(held),
+        Scope::Lifespan(held) => kind == Kind::Lifespan && is_lifespan(held),
     }
 }
 
-fn is_copied(rt: &(impl Abort + AllocGlobal), kind: Kind) -> Result<(), Fail> {
-    let scope = whole_scope(rt.alloc(), kind)?;
-    let copied = scope.copy(rt.alloc())?;
-    is_whole(rt, &copied, kind)
+fn is_whole_itself(scope: Scope, kind: Kind) -> bool {
+    is_whole(&scope, kind)
+}
+
+fn copy_of_scope(alloc: Global, held: &Scope) -> Result<Scope, AllocError> {
+    match held.copy(alloc) {
+        Ok(copied) => Ok(copied),
+        Err(_) => held.copy(alloc),
+    }
+}
+
+/// The scope is whole, and so is its copy, which is made once more where it was refused memory.
+pub fn is_copied(alloc: Global, scope: Scope, kind: Kind) -> Result<bool, AllocError> {
+    has_whole_copy(alloc, &scope, kind)
+}
+
+fn has_whole_copy(alloc: Global, scope: &Scope, kind: Kind) -> Result<bool, AllocError> {
+    let is_so = is_whole_itself(copy_of_scope(alloc, scope)?, kind);
+    Ok(is_so && is_whole(scope, kind))
 }
 
 #[test]
 fn a_scope_has_what_its_connection_knows(rt: HostRuntime) -> Result<(), Fail> {
     for kind in [Kind::Http, Kind::WebSocket, Kind::Lifespan] {
-        is_whole(&rt, &whole_scope(rt.alloc(), kind)?, kind)?;
+        let is_so = is_whole_itself(whole_scope(rt.alloc(), kind)?, kind);
+        assert!(rt; is_so, "{kind:?}");
     }
     Ok(())
 }
@@ -249,21 +239,37 @@ fn a_scope_has_what_its_connection_knows(rt: HostRuntime) -> Result<(), Fail> {
 #[test]
 fn a_scope_is_copied_with_all_its_fields(rt: HostRuntime) -> Result<(), Fail> {
     for kind in [Kind::Http, Kind::WebSocket, Kind::Lifespan] {
-        is_copied(&rt, kind)?;
+        let is_so = is_copied(rt.alloc(), whole_scope(rt.alloc(), kind)?, kind)?;
+        assert!(rt; is_so, "{kind:?}");
     }
     Ok(())
 }
 
+/// An HTTP scope with no client, another server and no names.
+fn is_replaced(scope: &Scope) -> bool {
+    match scope {
+        Scope::Http(held) => {
+            held.client.is_none()
+                && is_side(&held.server, "b", 1)
+                && held.state.get("held").is_none()
+        }
+        _ => false,
+    }
+}
+
+fn is_replaced_itself(scope: Scope) -> bool {
+    is_replaced(&scope)
+}
+
+fn scope_again(alloc: Global) -> Result<Scope, AllocError> {
+    let server = peer(alloc, "b", 1)?;
+    let state = State::new(alloc);
+    Ok(whole_scope(alloc, Kind::Http)?.with(None, Some(server), state))
+}
+
 #[test]
 fn what_a_scope_had_before_is_replaced(rt: HostRuntime) -> Result<(), Fail> {
-    let alloc = rt.alloc();
-    let first = whole_scope(alloc, Kind::Http)?;
-    let again = first.with(None, Some(peer(alloc, "b", 1)?), State::new(alloc));
-    let Scope::Http(held) = again else {
-        panic!(rt; "another kind of scope");
-    };
-    assert!(rt; held.client.is_none());
-    is_peer(&rt, &held.server, "b", 1)?;
-    assert!(rt; held.state.get("held").is_none());
+    let is_so = is_replaced_itself(scope_again(rt.alloc())?);
+    assert!(rt; is_so);
     Ok(())
 }

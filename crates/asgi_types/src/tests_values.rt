@@ -16,47 +16,52 @@ pub fn octets(alloc: Global, bytes: &[u8]) -> Result<Octets, AllocError> {
     Ok(Octets::new(bytes.to_vec(alloc)?))
 }
 
+fn is_a_text(alloc: Global, text: &str) -> Result<bool, AllocError> {
+    let held = chars(alloc, text)?;
+    let copied = held.copy(alloc)?;
+    Ok(held.as_str() == text && copied.as_str() == text)
+}
+
 #[test]
-fn copies_of_small_values_are_equal(rt: HostRuntime) -> Result<(), Fail> {
-    let alloc = rt.alloc();
+fn texts_are_the_bytes_given(rt: HostRuntime) -> Result<(), Fail> {
     for text in ["", "chat", "/a/\u{fffd}"] {
-        let bytes = octets(alloc, text.as_bytes())?;
-        assert_eq!(rt;
-            bytes.copy(alloc)?.bytes(),
-            text.as_bytes(),
-            "octets {text}"
-        );
-        assert_eq!(rt;
-            bytes.into_vec().as_slice(),
-            text.as_bytes(),
-            "octets {text}"
-        );
-        let held = chars(alloc, text)?;
-        assert_eq!(rt; held.copy(alloc)?.as_str(), text, "chars {text}");
-        assert_eq!(rt; held.as_str(), text, "the source of {text}");
+        assert!(rt; is_a_text(rt.alloc(), text)?, "{text}");
     }
     Ok(())
 }
 
-fn are_names(rt: &impl Abort, held: &Names) -> Result<(), Fail> {
-    assert_eq!(rt; held.len(), 3);
-    for (index, name) in [(0, "chat"), (1, "soap"), (2, "chat")] {
-        let found = held.at(index).ok_or("missing")?;
-        assert_eq!(rt; found.as_str(), name, "name {index}");
+pub fn is_name(held: &Names, index: usize, name: &str) -> bool {
+    match held.at(index) {
+        Some(found) => found.as_str() == name,
+        None => false,
     }
-    assert!(rt; held.at(3).is_none());
+}
+
+fn are_names(rt: &impl Abort, held: &Names) {
+    for (index, name) in [(0, "chat"), (1, "soap"), (2, "chat")] {
+        assert!(rt; is_name(held, index, name), "name {index}");
+    }
+    assert!(rt; held.len() == 3 && held.at(3).is_none());
+}
+
+fn are_copied(rt: &(impl Abort + AllocGlobal), held: &Names) -> Result<(), Fail> {
+    are_names(rt, &held.copy(rt.alloc())?);
     Ok(())
+}
+
+fn push(alloc: Global, names: &mut Names, name: &str) -> Result<(), AllocError> {
+    names.push(chars(alloc, name)?)
 }
 
 #[test]
 fn names_keep_their_order(rt: HostRuntime) -> Result<(), Fail> {
     let mut names = Names::new(rt.alloc());
-    assert_eq!(rt; names.len(), 0);
+    assert!(rt; names.len() == 0);
     for name in ["chat", "soap", "chat"] {
-        names.push(chars(rt.alloc(), name)?)?;
+        push(rt.alloc(), &mut names, name)?;
     }
-    are_names(&rt, &names.copy(rt.alloc())?)?;
-    are_names(&rt, &names)
+    are_names(&rt, &names);
+    are_copied(&rt, &names)
 }
 
 #[test]
@@ -68,33 +73,51 @@ fn asgi_has_the_versions_of_its_formats(rt: HostRuntime) {
     ];
     for (kind, spec_version) in cases {
         let asgi = Asgi::of(kind);
-        assert_eq!(rt; asgi.version(), "3.0", "{kind:?}");
-        assert_eq!(rt; asgi.spec_version(), spec_version, "{kind:?}");
+        let is_so = asgi.version() == "3.0" && asgi.spec_version() == spec_version;
+        assert!(rt; is_so, "{kind:?}");
     }
+}
+
+fn text_of(alloc: Global, letter: char, count: usize) -> Result<String, AllocError> {
+    let mut text = String::new(alloc);
+    for _ in 0..count {
+        text.push(letter)?;
+    }
+    Ok(text)
+}
+
+/// The text is a reason exactly if it fits, and the reason has its bytes.
+fn is_judged(text: &str, fits: bool) -> bool {
+    match Reason::new(text) {
+        Some(reason) => {
+            let again = reason;
+            fits && again.bytes() == text.as_bytes()
+        }
+        None => !fits,
+    }
+}
+
+fn is_reason_of(alloc: Global, letter: char, count: usize, fits: bool) -> Result<bool, AllocError> {
+    let text = text_of(alloc, letter, count)?;
+    Ok(is_judged(text.as_str(), fits))
 }
 
 #[test]
 fn reasons_have_at_most_123_bytes(rt: HostRuntime) -> Result<(), Fail> {
-    let alloc = rt.alloc();
-    for (size, fits) in [(0, true), (1, true), (122, true), (123, true), (124, false)] {
-        let mut text = String::new(alloc);
-        for _ in 0..size {
-            text.push('r')?;
-        }
-        let reason = Reason::new(text.as_str());
-        assert_eq!(rt; reason.is_some(), fits, "{size} bytes");
-        if let Some(reason) = reason {
-            let again = reason;
-            assert_eq!(rt; again.bytes(), text.as_bytes(), "{size} bytes");
-        }
+    // The bytes are counted, not the characters: the euro sign has three.
+    let rows = [
+        ('r', 0, true),
+        ('r', 1, true),
+        ('r', 122, true),
+        ('r', 123, true),
+        ('r', 124, false),
+        ('\u{20ac}', 41, true),
+        ('\u{20ac}', 42, false),
+    ];
+    for (letter, count, fits) in rows {
+        let is_so = is_reason_of(rt.alloc(), letter, count, fits)?;
+        assert!(rt; is_so, "{count} times {letter}");
     }
-    // The bytes are counted, not the characters: each of these has three.
-    let mut wide = String::new(alloc);
-    for _ in 0..42 {
-        wide.push('\u{20ac}')?;
-    }
-    assert_eq!(rt; wide.len(), 126);
-    assert!(rt; Reason::new(wide.as_str()).is_none());
     Ok(())
 }
 
@@ -115,71 +138,115 @@ fn number_in(state: &State, name: &str) -> Option<u64> {
     }
 }
 
-/// The numbers 0 to 63, with 300 in place of 3.
+fn number_at(alloc: Global, state: &State, letters: usize) -> Result<Option<u64>, AllocError> {
+    let name = name_of(alloc, letters)?;
+    Ok(number_in(state, name.as_str()))
+}
+
+/// What a `set` of the number under the name of so many letters answers.
+fn set(alloc: Global, state: &mut State, letters: usize, number: u64) -> Result<(), StateError> {
+    let name = name_of(alloc, letters)?;
+    state.set(name.as_str(), StateValue::Number(number))
+}
+
+/// The numbers 0 to 63, with 300 in place of 3, and none under a name more.
 fn has_64_names(rt: &(impl Abort + AllocGlobal), held: &State) -> Result<(), Fail> {
-    for letters in 0..64 {
-        let name = name_of(rt.alloc(), letters)?;
-        let number = if letters == 3 { 300 } else { letters as u64 };
-        assert_eq!(rt;
-            number_in(held, name.as_str()),
-            Some(number),
-            "name {letters}"
-        );
+    for letters in 0..65 {
+        let number = match letters {
+            3 => Some(300),
+            64 => None,
+            _ => Some(letters as u64),
+        };
+        let found = number_at(rt.alloc(), held, letters)?;
+        assert!(rt; found == number, "name {letters}");
     }
     Ok(())
 }
 
 fn fill(rt: &(impl Abort + AllocGlobal), state: &mut State) -> Result<(), Fail> {
     for letters in 0..64 {
-        let name = name_of(rt.alloc(), letters)?;
-        assert_eq!(rt; number_in(state, name.as_str()), None, "before {letters}");
-        state.set(name.as_str(), StateValue::Number(letters as u64))?;
+        let found = number_at(rt.alloc(), state, letters)?;
+        assert!(rt; found.is_none(), "before {letters}");
+        set(rt.alloc(), state, letters, letters as u64)?;
     }
     Ok(())
+}
+
+fn has_64_names_copied(rt: &(impl Abort + AllocGlobal), held: &State) -> Result<(), Fail> {
+    has_64_names(rt, held)?;
+    has_64_names(rt, &held.copy(rt.alloc())?)
+}
+
+/// A name more is refused, and a held one is replaced.
+fn is_full(alloc: Global, state: &mut State) -> bool {
+    set(alloc, state, 64, 64) == Err(StateError::StateFull) && set(alloc, state, 3, 300) == Ok(())
 }
 
 #[test]
 fn a_state_has_at_most_64_names(rt: HostRuntime) -> Result<(), Fail> {
     let mut state = State::new(rt.alloc());
     fill(&rt, &mut state)?;
-    let another = name_of(rt.alloc(), 64)?;
-    let refused = state.set(another.as_str(), StateValue::Number(64));
-    assert_eq!(rt; refused, Err(StateError::StateFull));
-    assert_eq!(rt; number_in(&state, another.as_str()), None);
-    assert_eq!(rt;
-        state.set("naaa", StateValue::Number(300)),
-        Ok(()),
-        "a held name"
-    );
-    has_64_names(&rt, &state.copy(rt.alloc())?)?;
-    has_64_names(&rt, &state)
+    assert!(rt; is_full(rt.alloc(), &mut state));
+    has_64_names_copied(&rt, &state)
+}
+
+pub fn is_text(value: Option<&StateValue>, text: &str) -> bool {
+    match value {
+        Some(StateValue::Text(held)) => held.as_str() == text,
+        _ => false,
+    }
+}
+
+pub fn is_bytes(value: Option<&StateValue>, bytes: &[u8]) -> bool {
+    match value {
+        Some(StateValue::Bytes(held)) => held.bytes() == bytes,
+        _ => false,
+    }
+}
+
+pub fn is_number(value: Option<&StateValue>, number: u64) -> bool {
+    match value {
+        Some(StateValue::Number(held)) => *held == number,
+        _ => false,
+    }
 }
 
 /// The text `t`, two bytes and the number 7, each under the name of its sort.
-pub fn has_each_sort(rt: &impl Abort, held: &State) {
-    let Some(StateValue::Text(text)) = held.get("text") else {
-        panic!(rt; "no text");
-    };
-    assert_eq!(rt; text.as_str(), "t");
-    let Some(StateValue::Bytes(bytes)) = held.get("bytes") else {
-        panic!(rt; "no bytes");
-    };
-    assert_eq!(rt; bytes.bytes(), b"b\xff".as_slice());
-    assert_eq!(rt; number_in(held, "number"), Some(7));
-    assert!(rt; held.get("Text").is_none(), "names differ in case");
-    assert!(rt; held.get("").is_none());
+pub fn has_each_sort(held: &State) -> bool {
+    is_text(held.get("text"), "t")
+        && is_bytes(held.get("bytes"), b"b\xff")
+        && is_number(held.get("number"), 7)
+}
+
+/// One value of each sort.
+pub fn value_of_sort(alloc: Global, sort: &str) -> Result<StateValue, AllocError> {
+    match sort {
+        "text" => Ok(StateValue::Text(chars(alloc, "t")?)),
+        "bytes" => Ok(StateValue::Bytes(octets(alloc, b"b\xff")?)),
+        _ => Ok(StateValue::Number(7)),
+    }
+}
+
+fn set_sort(alloc: Global, state: &mut State, sort: &str) -> Result<(), StateError> {
+    let value = value_of_sort(alloc, sort)?;
+    state.set(sort, value)
+}
+
+fn are_sorts(rt: &(impl Abort + AllocGlobal), held: &State) -> Result<(), Fail> {
+    assert!(rt; has_each_sort(held));
+    // Names differ in case.
+    assert!(rt; held.get("Text").is_none() && held.get("").is_none());
+    assert!(rt; has_each_sort(&held.copy(rt.alloc())?));
+    Ok(())
 }
 
 #[test]
 fn a_state_holds_each_sort_of_value(rt: HostRuntime) -> Result<(), Fail> {
-    let alloc = rt.alloc();
-    let mut state = State::new(alloc);
-    state.set("text", StateValue::Text(chars(alloc, "t")?))?;
-    state.set("bytes", StateValue::Bytes(octets(alloc, b"b\xff")?))?;
-    state.set("number", StateValue::Number(7))?;
-    has_each_sort(&rt, &state.copy(alloc)?);
-    has_each_sort(&rt, &state);
-    Ok(())
+    let mut state = State::new(rt.alloc());
+    for sort in ["text", "bytes", "number"] {
+        set_sort(rt.alloc(), &mut state, sort)?;
+    }
+    are_sorts(&rt, &state)
 }
 
 #[test]
@@ -200,8 +267,8 @@ fn lengths_are_1_to_19_digits(rt: HostRuntime) {
         (b"5 ", None),
         (b"5a", None),
     ];
-    for (text, length) in cases {
-        assert_eq!(rt; parse_length(text), length, "{text:?}");
+    for (row, (text, length)) in cases.iter().enumerate() {
+        assert!(rt; parse_length(text) == *length, "row {row}");
     }
 }
 
@@ -219,32 +286,42 @@ pub fn facts(alloc: Global, framing: Framing) -> Result<Facts, AllocError> {
     })
 }
 
-pub fn are_facts(rt: &impl Abort, held: &Facts, framing: Framing) -> Result<(), Fail> {
-    assert_eq!(rt; held.version, HttpVersion::V10);
-    assert_eq!(rt;
-        (held.head_only, held.close, held.expect),
-        (true, true, false)
-    );
-    assert_eq!(rt; held.framing, framing);
-    assert_eq!(rt; held.key.as_slice(), b"dGhlIHNhbXBsZSBub25jZQ==".as_slice());
-    assert_eq!(rt; held.subprotocols.len(), 1);
-    let name = held.subprotocols.at(0).ok_or("no name")?;
-    assert_eq!(rt; name.as_str(), "chat");
-    Ok(())
+fn are_flags(held: &Facts) -> bool {
+    held.version == HttpVersion::V10 && held.head_only && held.close && !held.expect
+}
+
+pub fn are_facts(held: &Facts, framing: Framing) -> bool {
+    are_flags(held)
+        && held.framing == framing
+        && held.key.as_slice() == b"dGhlIHNhbXBsZSBub25jZQ==".as_slice()
+        && held.subprotocols.len() == 1
+        && is_name(&held.subprotocols, 0, "chat")
+}
+
+fn is_a_fact(alloc: Global, framing: Framing) -> Result<bool, AllocError> {
+    let held = facts(alloc, framing)?;
+    let copied = held.copy(alloc)?;
+    Ok(are_facts(&held, framing) && are_facts(&copied, framing))
 }
 
 #[test]
 fn a_copy_of_facts_is_equal(rt: HostRuntime) -> Result<(), Fail> {
     for framing in [Framing::Length(3), Framing::Chunked, Framing::Upgrade] {
-        let facts = facts(rt.alloc(), framing)?;
-        are_facts(&rt, &facts.copy(rt.alloc())?, framing)?;
-        are_facts(&rt, &facts, framing)?;
+        assert!(rt; is_a_fact(rt.alloc(), framing)?, "{framing:?}");
     }
     Ok(())
 }
 
+/// The field of a connection is judged so, beside another that lists the token.
+fn lists_close(alloc: Global, value: &[u8]) -> bool {
+    let mut headers = Headers::new(alloc);
+    let _kept = headers.push(b"X-Other", b"close");
+    let _refused = headers.push(b"Connection", value);
+    headers.has_token(b"connection", b"close")
+}
+
 #[test]
-fn a_field_lists_its_tokens(rt: HostRuntime) -> Result<(), Fail> {
+fn a_field_lists_its_tokens(rt: HostRuntime) {
     let rows: [(&[u8], bool); 11] = [
         (b"close", true),
         (b"CLOSE", true),
@@ -259,14 +336,6 @@ fn a_field_lists_its_tokens(rt: HostRuntime) -> Result<(), Fail> {
         (b"\x0cclose", false),
     ];
     for (row, (value, listed)) in rows.iter().enumerate() {
-        let mut headers = Headers::new(rt.alloc());
-        headers.push(b"X-Other", b"close")?;
-        let _refused = headers.push(b"Connection", value);
-        assert_eq!(rt;
-            headers.has_token(b"connection", b"close"),
-            *listed,
-            "row {row}"
-        );
+        assert!(rt; lists_close(rt.alloc(), value) == *listed, "row {row}");
     }
-    Ok(())
 }
