@@ -97,8 +97,8 @@ const ROWS: [Row; 16] = [
 
 #[test]
 fn the_end_answers_where_no_body_was_taken(rt: HostRuntime) -> Result<(), Fail> {
-    for (name, said, input, text) in ROWS {
-        let out = written(rt.alloc(), GET, said, Some(input))?;
+    for (name, said, input, text) in &ROWS {
+        let out = written(rt.alloc(), GET, *said, Some(*input))?;
         assert_eq!(rt; out.as_slice(), text.as_bytes(), "{name}");
     }
     Ok(())
