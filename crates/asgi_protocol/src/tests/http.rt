@@ -1,6 +1,6 @@
 //! HTTP: responses.
 
-use super::{Heard, IGNORED, PASS, Step, facts, incoming, judges, refused, says};
+use super::{Heard, IGNORED, PASS, Part, Step, facts, judges, judges_hearing, refused, says};
 use crate::Judge;
 use asgi_types::Kind;
 use std::test::Fail;
@@ -184,33 +184,30 @@ fn the_first_reason_counts(rt: HostRuntime) -> Result<(), Fail> {
 
 #[test]
 fn after_a_disconnect_nothing_passes(rt: HostRuntime) -> Result<(), Fail> {
-    let facts = facts(rt.alloc(), false)?;
-    let mut judge = Judge::new(Kind::Http);
-    judge.heard(&incoming(rt.alloc(), Heard::Request));
-    says(
-        &rt,
-        &mut judge,
-        &facts,
-        "before",
-        &[(Step::Start(200, ""), PASS)],
-    )?;
-    judge.heard(&incoming(rt.alloc(), Heard::HttpDisconnect));
-    judge.heard(&incoming(rt.alloc(), Heard::Request));
-    let behind = [
-        (Step::LastBody(1), refused(2)),
-        (Step::Send, refused(2)),
-        (Step::Start(600, "content-length: x"), refused(2)),
+    let begun: [Part; 2] = [
+        ("before", &[Heard::Request], &[(Step::Start(200, ""), PASS)]),
+        (
+            "behind",
+            &[Heard::HttpDisconnect, Heard::Request],
+            &[
+                (Step::LastBody(1), refused(2)),
+                (Step::Send, refused(2)),
+                (Step::Start(600, "content-length: x"), refused(2)),
+            ],
+        ),
     ];
-    says(&rt, &mut judge, &facts, "behind", &behind)?;
-    let mut whole = Judge::new(Kind::Http);
-    let response = [(Step::Start(200, ""), PASS), (Step::LastBody(1), PASS)];
-    says(&rt, &mut whole, &facts, "whole", &response)?;
-    whole.heard(&incoming(rt.alloc(), Heard::HttpDisconnect));
-    says(
-        &rt,
-        &mut whole,
-        &facts,
-        "whole",
-        &[(Step::LastBody(1), IGNORED)],
-    )
+    judges_hearing(&rt, Kind::Http, &begun)?;
+    let whole: [Part; 2] = [
+        (
+            "whole",
+            &[],
+            &[(Step::Start(200, ""), PASS), (Step::LastBody(1), PASS)],
+        ),
+        (
+            "whole and disconnected",
+            &[Heard::HttpDisconnect],
+            &[(Step::LastBody(1), IGNORED)],
+        ),
+    ];
+    judges_hearing(&rt, Kind::Http, &whole)
 }
