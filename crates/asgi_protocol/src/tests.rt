@@ -215,7 +215,7 @@ fn judges(
 }
 
 /// What is heard, and what is said behind it.
-type Part<'a> = (&'a str, &'a [Heard], &'a [(Step, Verdict)]);
+type Part = (&'static str, &'static [Heard], &'static [(Step, Verdict)]);
 
 fn hears(
     rt: &(impl Abort + AllocGlobal),

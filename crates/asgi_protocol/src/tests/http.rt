@@ -1,7 +1,7 @@
 //! HTTP: responses.
 
 use super::{Heard, IGNORED, PASS, Part, Step, facts, judges, judges_hearing, refused, says};
-use crate::Judge;
+use crate::{Judge, Verdict};
 use asgi_types::Kind;
 use std::test::Fail;
 
@@ -182,32 +182,34 @@ fn the_first_reason_counts(rt: HostRuntime) -> Result<(), Fail> {
     judges(&rt, Kind::Http, "two reasons", &cases)
 }
 
+const BEGUN: [Part; 2] = [
+    ("before", &[Heard::Request], &[(Step::Start(200, ""), PASS)]),
+    (
+        "behind",
+        &[Heard::HttpDisconnect, Heard::Request],
+        &[
+            (Step::LastBody(1), Verdict::Refused(2)),
+            (Step::Send, Verdict::Refused(2)),
+            (Step::Start(600, "content-length: x"), Verdict::Refused(2)),
+        ],
+    ),
+];
+
+const WHOLE: [Part; 2] = [
+    (
+        "whole",
+        &[],
+        &[(Step::Start(200, ""), PASS), (Step::LastBody(1), PASS)],
+    ),
+    (
+        "whole and disconnected",
+        &[Heard::HttpDisconnect],
+        &[(Step::LastBody(1), IGNORED)],
+    ),
+];
+
 #[test]
 fn after_a_disconnect_nothing_passes(rt: HostRuntime) -> Result<(), Fail> {
-    let begun: [Part; 2] = [
-        ("before", &[Heard::Request], &[(Step::Start(200, ""), PASS)]),
-        (
-            "behind",
-            &[Heard::HttpDisconnect, Heard::Request],
-            &[
-                (Step::LastBody(1), refused(2)),
-                (Step::Send, refused(2)),
-                (Step::Start(600, "content-length: x"), refused(2)),
-            ],
-        ),
-    ];
-    judges_hearing(&rt, Kind::Http, &begun)?;
-    let whole: [Part; 2] = [
-        (
-            "whole",
-            &[],
-            &[(Step::Start(200, ""), PASS), (Step::LastBody(1), PASS)],
-        ),
-        (
-            "whole and disconnected",
-            &[Heard::HttpDisconnect],
-            &[(Step::LastBody(1), IGNORED)],
-        ),
-    ];
-    judges_hearing(&rt, Kind::Http, &whole)
+    judges_hearing(&rt, Kind::Http, &BEGUN)?;
+    judges_hearing(&rt, Kind::Http, &WHOLE)
 }

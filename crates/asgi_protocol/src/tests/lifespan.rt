@@ -32,31 +32,33 @@ fn a_start_is_answered_and_then_a_stop(rt: HostRuntime) -> Result<(), Fail> {
     judges(&rt, Kind::Lifespan, "not stopped", &not_stopped)
 }
 
+const STARTED: [Part; 2] = [
+    ("started", &[Heard::Startup], &[(Step::Started, PASS)]),
+    (
+        "disconnected",
+        &[Heard::HttpDisconnect],
+        &[
+            (Step::Stopped, Verdict::Refused(2)),
+            (Step::Send, Verdict::Refused(2)),
+            (Step::Started, Verdict::Refused(2)),
+        ],
+    ),
+];
+
+const FAILED: [Part; 2] = [
+    ("failed", &[], &[(Step::NotStarted, PASS)]),
+    (
+        "failed and disconnected",
+        &[Heard::HttpDisconnect],
+        &[(Step::Stopped, Verdict::Refused(1))],
+    ),
+];
+
 #[test]
 fn what_is_heard_is_no_disconnect(rt: HostRuntime) -> Result<(), Fail> {
     // No server gives a disconnect to a lifespan, but a judge takes any event.
-    let started: [Part; 2] = [
-        ("started", &[Heard::Startup], &[(Step::Started, PASS)]),
-        (
-            "disconnected",
-            &[Heard::HttpDisconnect],
-            &[
-                (Step::Stopped, refused(2)),
-                (Step::Send, refused(2)),
-                (Step::Started, refused(2)),
-            ],
-        ),
-    ];
-    judges_hearing(&rt, Kind::Lifespan, &started)?;
-    let failed: [Part; 2] = [
-        ("failed", &[], &[(Step::NotStarted, PASS)]),
-        (
-            "failed and disconnected",
-            &[Heard::HttpDisconnect],
-            &[(Step::Stopped, refused(1))],
-        ),
-    ];
-    judges_hearing(&rt, Kind::Lifespan, &failed)
+    judges_hearing(&rt, Kind::Lifespan, &STARTED)?;
+    judges_hearing(&rt, Kind::Lifespan, &FAILED)
 }
 
 #[test]
