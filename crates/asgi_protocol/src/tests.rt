@@ -213,3 +213,27 @@ fn judges(
     let facts = facts(rt.alloc(), false)?;
     says(rt, &mut Judge::new(kind), &facts, row, steps)
 }
+
+/// What is heard, and what is said behind it.
+type Part = (&'static str, &'static [Heard], &'static [(Step, Verdict)]);
+
+fn hears(
+    rt: &(impl Abort + AllocGlobal),
+    judge: &mut Judge,
+    facts: &Facts,
+    parts: &[Part],
+) -> Result<(), Fail> {
+    for (row, heard, steps) in parts {
+        for event in *heard {
+            judge.heard(&incoming(rt.alloc(), *event));
+        }
+        says(rt, judge, facts, row, *steps)?;
+    }
+    Ok(())
+}
+
+/// The same as `judges`, where events are heard too.
+fn judges_hearing(rt: &(impl Abort + AllocGlobal), kind: Kind, parts: &[Part]) -> Result<(), Fail> {
+    let facts = facts(rt.alloc(), false)?;
+    hears(rt, &mut Judge::new(kind), &facts, parts)
+}

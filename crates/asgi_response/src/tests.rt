@@ -125,42 +125,47 @@ fn body_of(alloc: Global, text: &str) -> Result<Octets, AllocError> {
     Ok(Octets::new(Vec::from_slice(alloc, text.as_bytes())?))
 }
 
+/// The text of such a request, with no event taken.
+fn fresh(alloc: Global, ask: Ask) -> ResponseText {
+    ResponseText::new(alloc, &ask.facts(alloc))
+}
+
+/// Takes an event, which is gone then.
+fn take(text: &mut ResponseText, event: Outgoing, out: &mut Vec<u8>) -> Result<(), AllocError> {
+    text.take(&event, out)
+}
+
+fn take_all(
+    text: &mut ResponseText,
+    alloc: Global,
+    said: &[Say],
+    out: &mut Vec<u8>,
+) -> Result<(), Fail> {
+    for say in said {
+        take(text, say.event(alloc)?, out)?;
+    }
+    Ok(())
+}
+
+fn write_all(
+    text: &mut ResponseText,
+    alloc: Global,
+    said: &[Say],
+    end: Option<Input>,
+    out: &mut Vec<u8>,
+) -> Result<(), Fail> {
+    text.begin(out)?;
+    take_all(text, alloc, said, out)?;
+    if let Some(input) = end {
+        text.end(input, out)?;
+    }
+    Ok(())
+}
+
 /// All that is written for the events: what comes in front, each event's text, and what the end adds.
 fn written(alloc: Global, ask: Ask, said: &[Say], end: Option<Input>) -> Result<Vec<u8>, Fail> {
     let mut out = Vec::new(alloc);
-    let mut text = ResponseText::new(alloc, &ask.facts(alloc));
-    text.begin(&mut out)?;
-    for say in said {
-        let event = say.event(alloc)?;
-        text.take(&event, &mut out)?;
-    }
-    if let Some(input) = end {
-        text.end(input, &mut out)?;
-    }
-    Ok(out)
-}
-
-/// The text that took these events.
-fn taken(alloc: Global, ask: Ask, said: &[Say]) -> Result<ResponseText, Fail> {
-    let mut out = Vec::new(alloc);
-    let mut text = ResponseText::new(alloc, &ask.facts(alloc));
-    for say in said {
-        let event = say.event(alloc)?;
-        text.take(&event, &mut out)?;
-    }
-    Ok(text)
-}
-
-/// The text of a start with no fields and of one last body.
-fn chunked(alloc: Global, body: Vec<u8>) -> Result<Vec<u8>, Fail> {
-    let mut out = Vec::new(alloc);
-    let mut text = ResponseText::new(alloc, &GET.facts(alloc));
-    let start = Say::Start(200, &[]).event(alloc)?;
-    text.take(&start, &mut out)?;
-    let last = Outgoing::ResponseBody {
-        body: Octets::new(body),
-        more_body: false,
-    };
-    text.take(&last, &mut out)?;
+    let done = write_all(&mut fresh(alloc, ask), alloc, said, end, &mut out);
+    done?;
     Ok(out)
 }

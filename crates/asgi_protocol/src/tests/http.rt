@@ -1,7 +1,7 @@
 //! HTTP: responses.
 
-use super::{Heard, IGNORED, PASS, Step, facts, incoming, judges, refused, says};
-use crate::Judge;
+use super::{Heard, IGNORED, PASS, Part, Step, facts, judges, judges_hearing, refused, says};
+use crate::{Judge, Verdict};
 use asgi_types::Kind;
 use std::test::Fail;
 
@@ -182,35 +182,34 @@ fn the_first_reason_counts(rt: HostRuntime) -> Result<(), Fail> {
     judges(&rt, Kind::Http, "two reasons", &cases)
 }
 
+const BEGUN: [Part; 2] = [
+    ("before", &[Heard::Request], &[(Step::Start(200, ""), PASS)]),
+    (
+        "behind",
+        &[Heard::HttpDisconnect, Heard::Request],
+        &[
+            (Step::LastBody(1), Verdict::Refused(2)),
+            (Step::Send, Verdict::Refused(2)),
+            (Step::Start(600, "content-length: x"), Verdict::Refused(2)),
+        ],
+    ),
+];
+
+const WHOLE: [Part; 2] = [
+    (
+        "whole",
+        &[],
+        &[(Step::Start(200, ""), PASS), (Step::LastBody(1), PASS)],
+    ),
+    (
+        "whole and disconnected",
+        &[Heard::HttpDisconnect],
+        &[(Step::LastBody(1), IGNORED)],
+    ),
+];
+
 #[test]
 fn after_a_disconnect_nothing_passes(rt: HostRuntime) -> Result<(), Fail> {
-    let facts = facts(rt.alloc(), false)?;
-    let mut judge = Judge::new(Kind::Http);
-    judge.heard(&incoming(rt.alloc(), Heard::Request));
-    says(
-        &rt,
-        &mut judge,
-        &facts,
-        "before",
-        &[(Step::Start(200, ""), PASS)],
-    )?;
-    judge.heard(&incoming(rt.alloc(), Heard::HttpDisconnect));
-    judge.heard(&incoming(rt.alloc(), Heard::Request));
-    let behind = [
-        (Step::LastBody(1), refused(2)),
-        (Step::Send, refused(2)),
-        (Step::Start(600, "content-length: x"), refused(2)),
-    ];
-    says(&rt, &mut judge, &facts, "behind", &behind)?;
-    let mut whole = Judge::new(Kind::Http);
-    let response = [(Step::Start(200, ""), PASS), (Step::LastBody(1), PASS)];
-    says(&rt, &mut whole, &facts, "whole", &response)?;
-    whole.heard(&incoming(rt.alloc(), Heard::HttpDisconnect));
-    says(
-        &rt,
-        &mut whole,
-        &facts,
-        "whole",
-        &[(Step::LastBody(1), IGNORED)],
-    )
+    judges_hearing(&rt, Kind::Http, &BEGUN)?;
+    judges_hearing(&rt, Kind::Http, &WHOLE)
 }

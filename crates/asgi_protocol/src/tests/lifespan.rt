@@ -1,7 +1,7 @@
 //! Lifespan: start and stop.
 
-use super::{Heard, PASS, Step, facts, incoming, judges, refused, says};
-use crate::{Judge, Refusal, Verdict};
+use super::{Heard, PASS, Part, Step, judges, judges_hearing, refused};
+use crate::{Refusal, Verdict};
 use asgi_types::Kind;
 use std::test::Fail;
 
@@ -32,31 +32,33 @@ fn a_start_is_answered_and_then_a_stop(rt: HostRuntime) -> Result<(), Fail> {
     judges(&rt, Kind::Lifespan, "not stopped", &not_stopped)
 }
 
+const STARTED: [Part; 2] = [
+    ("started", &[Heard::Startup], &[(Step::Started, PASS)]),
+    (
+        "disconnected",
+        &[Heard::HttpDisconnect],
+        &[
+            (Step::Stopped, Verdict::Refused(2)),
+            (Step::Send, Verdict::Refused(2)),
+            (Step::Started, Verdict::Refused(2)),
+        ],
+    ),
+];
+
+const FAILED: [Part; 2] = [
+    ("failed", &[], &[(Step::NotStarted, PASS)]),
+    (
+        "failed and disconnected",
+        &[Heard::HttpDisconnect],
+        &[(Step::Stopped, Verdict::Refused(1))],
+    ),
+];
+
 #[test]
 fn what_is_heard_is_no_disconnect(rt: HostRuntime) -> Result<(), Fail> {
-    let facts = facts(rt.alloc(), false)?;
-    let mut judge = Judge::new(Kind::Lifespan);
-    judge.heard(&incoming(rt.alloc(), Heard::Startup));
-    says(&rt, &mut judge, &facts, "started", &[(Step::Started, PASS)])?;
-    // No server gives this to a lifespan, but a judge takes any event.
-    judge.heard(&incoming(rt.alloc(), Heard::HttpDisconnect));
-    let behind = [
-        (Step::Stopped, refused(2)),
-        (Step::Send, refused(2)),
-        (Step::Started, refused(2)),
-    ];
-    says(&rt, &mut judge, &facts, "disconnected", &behind)?;
-    let mut failed = Judge::new(Kind::Lifespan);
-    says(
-        &rt,
-        &mut failed,
-        &facts,
-        "failed",
-        &[(Step::NotStarted, PASS)],
-    )?;
-    failed.heard(&incoming(rt.alloc(), Heard::HttpDisconnect));
-    let closed = [(Step::Stopped, refused(1))];
-    says(&rt, &mut failed, &facts, "failed and disconnected", &closed)
+    // No server gives a disconnect to a lifespan, but a judge takes any event.
+    judges_hearing(&rt, Kind::Lifespan, &STARTED)?;
+    judges_hearing(&rt, Kind::Lifespan, &FAILED)
 }
 
 #[test]

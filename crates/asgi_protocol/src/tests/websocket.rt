@@ -1,7 +1,7 @@
 //! WebSocket: sessions, rejections and denials.
 
-use super::{Heard, PASS, Step, facts, incoming, judges, refused, says};
-use crate::Judge;
+use super::{Heard, PASS, Part, Step, judges, judges_hearing, refused};
+use crate::Verdict;
 use asgi_types::Kind;
 use std::test::Fail;
 
@@ -151,40 +151,41 @@ fn the_first_reason_counts(rt: HostRuntime) -> Result<(), Fail> {
     judges(&rt, Kind::WebSocket, "two reasons", &cases)
 }
 
+const DISCONNECTED: [Part; 3] = [
+    (
+        "before",
+        &[Heard::Connect],
+        &[
+            (Step::DenialStart(199, ""), Verdict::Refused(5)),
+            (Step::Accept("", ""), PASS),
+        ],
+    ),
+    ("received", &[Heard::Receive], &[(Step::Send, PASS)]),
+    (
+        "behind",
+        &[Heard::WsDisconnect],
+        &[
+            (Step::Send, Verdict::Refused(2)),
+            (Step::Body(1), Verdict::Refused(2)),
+        ],
+    ),
+];
+
 #[test]
 fn after_a_disconnect_nothing_passes(rt: HostRuntime) -> Result<(), Fail> {
-    let facts = facts(rt.alloc(), false)?;
-    let mut judge = Judge::new(Kind::WebSocket);
-    judge.heard(&incoming(rt.alloc(), Heard::Connect));
-    let before = [
-        (Step::DenialStart(199, ""), refused(5)),
-        (Step::Accept("", ""), PASS),
-    ];
-    says(&rt, &mut judge, &facts, "before", &before)?;
-    judge.heard(&incoming(rt.alloc(), Heard::Receive));
-    says(&rt, &mut judge, &facts, "received", &[(Step::Send, PASS)])?;
-    judge.heard(&incoming(rt.alloc(), Heard::WsDisconnect));
-    let behind = [(Step::Send, refused(2)), (Step::Body(1), refused(2))];
-    says(&rt, &mut judge, &facts, "behind", &behind)
+    judges_hearing(&rt, Kind::WebSocket, &DISCONNECTED)
 }
+
+const REJECTED: [Part; 2] = [
+    ("rejected", &[], &[(Step::Close(1_000, 0), PASS)]),
+    (
+        "behind",
+        &[Heard::WsDisconnect],
+        &[(Step::Send, Verdict::Refused(1))],
+    ),
+];
 
 #[test]
 fn a_closed_session_stays_closed_where_a_disconnect_is_heard(rt: HostRuntime) -> Result<(), Fail> {
-    let facts = facts(rt.alloc(), false)?;
-    let mut judge = Judge::new(Kind::WebSocket);
-    says(
-        &rt,
-        &mut judge,
-        &facts,
-        "rejected",
-        &[(Step::Close(1_000, 0), PASS)],
-    )?;
-    judge.heard(&incoming(rt.alloc(), Heard::WsDisconnect));
-    says(
-        &rt,
-        &mut judge,
-        &facts,
-        "behind",
-        &[(Step::Send, refused(1))],
-    )
+    judges_hearing(&rt, Kind::WebSocket, &REJECTED)
 }

@@ -1,7 +1,7 @@
 //! Each call that allocates, where one allocation is refused: it answers so, its objects are as before, and the call
 //! can be made again. `tests/memory` runs these with each allocation refused in turn.
 
-use super::{Ask, EXPECTING, GET, OLD, Say};
+use super::{Ask, EXPECTING, GET, OLD, Say, fresh};
 use crate::{Input, ResponseText, refusal_text};
 use asgi_types::{HeaderError, Outgoing};
 use std::alloc::Global;
@@ -54,27 +54,81 @@ fn take(text: &mut ResponseText, event: &Outgoing, out: &mut Vec<u8>) -> Result<
     Ok(())
 }
 
+/// The same, and the event is gone then.
+fn take_whole(text: &mut ResponseText, event: Outgoing, out: &mut Vec<u8>) -> Result<(), Fail> {
+    take(text, &event, out)
+}
+
+/// Appends what comes in front, again where memory was refused.
+fn begin(text: &ResponseText, out: &mut Vec<u8>) -> Result<(), Fail> {
+    if text.begin(out).is_err() {
+        if !out.is_empty() {
+            return Err(Fail::from("a refused beginning changed something"));
+        }
+        text.begin(out)?;
+    }
+    Ok(())
+}
+
+/// Appends what the end of the task adds, again where memory was refused.
+fn end(text: &ResponseText, input: Input, out: &mut Vec<u8>) -> Result<(), Fail> {
+    if text.end(input, out).is_err() {
+        if !out.is_empty() {
+            return Err(Fail::from("a refused end changed something"));
+        }
+        text.end(input, out)?;
+    }
+    Ok(())
+}
+
+fn respond(
+    text: &mut ResponseText,
+    alloc: Global,
+    said: &[Say],
+    out: &mut Vec<u8>,
+) -> Result<(), Fail> {
+    begin(text, out)?;
+    for say in said {
+        take_whole(text, event(alloc, *say)?, out)?;
+    }
+    Ok(())
+}
+
+fn response(alloc: Global, ask: Ask, said: &[Say]) -> Result<Vec<u8>, Fail> {
+    let mut out = Vec::new(alloc);
+    let done = respond(&mut fresh(alloc, ask), alloc, said, &mut out);
+    done?;
+    Ok(out)
+}
+
 #[test]
 fn memory_for_a_response(rt: HostRuntime) -> Result<(), Fail> {
-    let alloc = rt.alloc();
-    for (name, ask, said, expected) in ROWS {
-        let mut out = Vec::new(alloc);
-        let mut text = ResponseText::new(alloc, &ask.facts(alloc));
-        if text.begin(&mut out).is_err() {
-            assert!(rt; out.is_empty(), "{name}");
-            text.begin(&mut out)?;
-        }
-        for say in said {
-            take(&mut text, &event(alloc, *say)?, &mut out)?;
-        }
+    for (name, ask, said, expected) in &ROWS {
+        let out = response(rt.alloc(), *ask, *said)?;
         assert_eq!(rt; out.as_slice(), expected.as_bytes(), "{name}");
     }
     Ok(())
 }
 
+fn end_started(
+    text: &mut ResponseText,
+    alloc: Global,
+    input: Input,
+    out: &mut Vec<u8>,
+) -> Result<(), Fail> {
+    take_whole(text, event(alloc, Say::Start(200, &[]))?, out)?;
+    end(text, input, out)
+}
+
+fn answer(alloc: Global, input: Input) -> Result<Vec<u8>, Fail> {
+    let mut out = Vec::new(alloc);
+    let done = end_started(&mut fresh(alloc, GET), alloc, input, &mut out);
+    done?;
+    Ok(out)
+}
+
 #[test]
 fn memory_for_an_end(rt: HostRuntime) -> Result<(), Fail> {
-    let alloc = rt.alloc();
     let cases: [(Input, &'static [u8]); 4] = [
         (Input::Whole, refusal_text(500)),
         (Input::Faulty(413), refusal_text(413)),
@@ -82,13 +136,7 @@ fn memory_for_an_end(rt: HostRuntime) -> Result<(), Fail> {
         (Input::Broken, b""),
     ];
     for (input, expected) in cases {
-        let mut out = Vec::new(alloc);
-        let mut text = ResponseText::new(alloc, &GET.facts(alloc));
-        take(&mut text, &event(alloc, Say::Start(200, &[]))?, &mut out)?;
-        if text.end(input, &mut out).is_err() {
-            assert!(rt; out.is_empty(), "{input:?}");
-            text.end(input, &mut out)?;
-        }
+        let out = answer(rt.alloc(), input)?;
         assert_eq!(rt; out.as_slice(), expected, "{input:?}");
     }
     Ok(())

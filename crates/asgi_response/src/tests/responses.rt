@@ -1,6 +1,10 @@
 //! The text of a response, for lawful lists and for others.
 
-use super::{Ask, CLOSING, EXPECTING, GET, HEAD, OLD, Say, written};
+use super::{Ask, CLOSING, EXPECTING, GET, HEAD, OLD, Say, fresh, take, take_all, written};
+use crate::ResponseText;
+use asgi_types::{Octets, Outgoing};
+use std::alloc::{AllocError, Global};
+use std::process::Abort;
 use std::test::Fail;
 
 type Row = (&'static str, Ask, &'static [Say], &'static str);
@@ -157,13 +161,17 @@ const LAWFUL: [Row; 20] = [
     ),
 ];
 
-#[test]
-fn lawful_lists_have_the_text_of_the_standard(rt: HostRuntime) -> Result<(), Fail> {
-    for (name, ask, said, text) in LAWFUL {
-        let out = written(rt.alloc(), ask, said, None)?;
+fn are_written(rt: &(impl Abort + AllocGlobal), rows: &[Row]) -> Result<(), Fail> {
+    for (name, ask, said, text) in rows {
+        let out = written(rt.alloc(), *ask, *said, None)?;
         assert_eq!(rt; out.as_slice(), text.as_bytes(), "{name}");
     }
     Ok(())
+}
+
+#[test]
+fn lawful_lists_have_the_text_of_the_standard(rt: HostRuntime) -> Result<(), Fail> {
+    are_written(&rt, &LAWFUL)
 }
 
 const ONE_CHUNK: &str = "HTTP/1.1 200 OK\r\ntransfer-encoding: chunked\r\n\r\n1\r\nx\r\n0\r\n\r\n";
@@ -270,11 +278,49 @@ const UNLAWFUL: [Row; 12] = [
 
 #[test]
 fn unlawful_events_have_no_text(rt: HostRuntime) -> Result<(), Fail> {
-    for (name, ask, said, text) in UNLAWFUL {
-        let out = written(rt.alloc(), ask, said, None)?;
-        assert_eq!(rt; out.as_slice(), text.as_bytes(), "{name}");
+    are_written(&rt, &UNLAWFUL)
+}
+
+const CHUNKED_HEAD: &[u8] = b"HTTP/1.1 200 OK\r\ntransfer-encoding: chunked\r\n\r\n";
+
+fn letters(alloc: Global, size: usize) -> Result<Vec<u8>, AllocError> {
+    let mut body = Vec::new(alloc);
+    body.resize(size, b'z')?;
+    Ok(body)
+}
+
+/// The text of one chunk, whose size has these digits.
+fn chunk_text(alloc: Global, digits: &str, body: &[u8]) -> Result<Vec<u8>, AllocError> {
+    let mut text = Vec::from_slice(alloc, CHUNKED_HEAD)?;
+    for part in [digits.as_bytes(), b"\r\n", body, b"\r\n0\r\n\r\n"] {
+        text.extend_from_slice(part)?;
     }
-    Ok(())
+    Ok(text)
+}
+
+fn take_chunk(
+    text: &mut ResponseText,
+    alloc: Global,
+    size: usize,
+    out: &mut Vec<u8>,
+) -> Result<(), Fail> {
+    take_all(text, alloc, &[START], out)?;
+    let body = Octets::new(letters(alloc, size)?);
+    let last = Outgoing::ResponseBody {
+        body,
+        more_body: false,
+    };
+    Ok(take(text, last, out)?)
+}
+
+/// Whether a body of this size is written as one chunk, whose size has these digits.
+fn is_chunk(alloc: Global, size: usize, digits: &str) -> Result<bool, Fail> {
+    let body = letters(alloc, size)?;
+    let text = chunk_text(alloc, digits, body.as_slice())?;
+    let mut out = Vec::new(alloc);
+    let done = take_chunk(&mut fresh(alloc, GET), alloc, size, &mut out);
+    done?;
+    Ok(out.as_slice() == text.as_slice())
 }
 
 /// A size is in lowercase hexadecimal, without leading zeros.
@@ -289,17 +335,8 @@ fn chunk_sizes_are_hexadecimal(rt: HostRuntime) -> Result<(), Fail> {
         (43_981, "abcd"),
     ];
     for (size, digits) in cases {
-        let mut body = Vec::new(rt.alloc());
-        body.resize(size, b'z')?;
-        let mut text = Vec::from_slice(rt.alloc(), CHUNKED_HEAD)?;
-        text.extend_from_slice(digits.as_bytes())?;
-        text.extend_from_slice(b"\r\n")?;
-        text.extend_from_slice(body.as_slice())?;
-        text.extend_from_slice(b"\r\n0\r\n\r\n")?;
-        let out = super::chunked(rt.alloc(), body)?;
-        assert_eq!(rt; out.as_slice(), text.as_slice(), "{size}");
+        let is_so = is_chunk(rt.alloc(), size, digits)?;
+        assert!(rt; is_so, "{size}");
     }
     Ok(())
 }
-
-const CHUNKED_HEAD: &[u8] = b"HTTP/1.1 200 OK\r\ntransfer-encoding: chunked\r\n\r\n";

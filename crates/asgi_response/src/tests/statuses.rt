@@ -2,6 +2,7 @@
 
 use super::{GET, Say, written};
 use crate::refusal_text;
+use std::alloc::Global;
 use std::test::Fail;
 
 const PHRASES: [(u16, &str); 34] = [
@@ -41,13 +42,19 @@ const PHRASES: [(u16, &str); 34] = [
     (599, ""),
 ];
 
+/// Whether a response of the status begins with the status and this phrase.
+fn has_phrase(alloc: Global, status: u16, phrase: &str) -> Result<bool, Fail> {
+    let line = format!(in alloc; "HTTP/1.1 {status} {phrase}\r\n")?;
+    let said = [Say::Start(status, &[]), Say::Last("")];
+    let out = written(alloc, GET, &said, None)?;
+    Ok(out.starts_with(line.as_bytes()))
+}
+
 #[test]
 fn statuses_have_their_phrases(rt: HostRuntime) -> Result<(), Fail> {
-    for (status, phrase) in PHRASES {
-        let said = [Say::Start(status, &[]), Say::Last("")];
-        let out = written(rt.alloc(), GET, &said, None)?;
-        let line = format!(in rt.alloc(); "HTTP/1.1 {status} {phrase}\r\n")?;
-        assert!(rt; out.starts_with(line.as_bytes()), "{status}");
+    for (status, phrase) in &PHRASES {
+        let has_it = has_phrase(rt.alloc(), *status, phrase)?;
+        assert!(rt; has_it, "{status}");
     }
     Ok(())
 }
