@@ -16,11 +16,25 @@ from toolchain import ONE_JOB, crates_in, load_rt
 TOP = os.path.dirname(os.path.dirname(os.path.realpath(__file__)))
 
 
+def fields_of(process):
+    """Returns what the system says of a process behind its name, or None once it has ended."""
+    try:
+        with open(f"/proc/{process}/stat", encoding="utf-8", errors="replace") as it:
+            return it.read().rpartition(")")[2].split()
+    except OSError:
+        return None
+
+
 def processor_seconds(process):
-    """Returns the processor seconds that a process has taken."""
-    with open(f"/proc/{process}/stat", encoding="utf-8") as it:
-        fields = it.read().rpartition(")")[2].split()
-    return sum(int(it) for it in fields[11:15]) / os.sysconf("SC_CLK_TCK")
+    """Returns the processor seconds that a process and those below it have taken."""
+    fields = {it: fields_of(it) for it in os.listdir("/proc") if it.isdigit()}
+    taken, left = 0, [str(process)]
+    while left:
+        at = left.pop()
+        if fields.get(at):
+            taken += sum(int(it) for it in fields[at][11:15])
+        left += [it for it, has in fields.items() if has and has[1] == at]
+    return taken / os.sysconf("SC_CLK_TCK")
 
 
 def measured(words, folder):
