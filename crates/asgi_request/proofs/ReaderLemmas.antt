@@ -26,6 +26,11 @@ use Rattle.asgi_request.proofs.UniqueLemmas.{Reads-append, Reads-push, shown-app
 pub held_grown : (bytes a new : List ℕ) (start : ℕ) → start ≤ length bytes → new ≡ bytes ++ a → drop start new ≡ drop start bytes ++ a
 held_grown bytes a new start h e = ap (drop start) e ∙ drop-append-le start bytes a h
 
+-- also where the bytes before it had moved
+pub held_fed : (bytes made a new : List ℕ) (start from : ℕ) → from ≤ length made → new ≡ made ++ a → drop from made ≡ drop start bytes
+    → drop from new ≡ drop start bytes ++ a
+held_fed bytes made a new start from h e same = held_grown made a new from h e ∙ ap (λ (l : List ℕ). l ++ a) same
+
 Reaches-append : (limits : Limits) (bytes : List ℕ) (items : List Next) (place : Place) (rest a : List ℕ)
     → Reaches limits bytes items place rest → Reaches limits (bytes ++ a) items place (rest ++ a)
 Reaches-append limits bytes items place rest a r =

@@ -12,11 +12,12 @@ use Rattle.asgi_request.specs.Refusals.{status_of}
 use Rattle.asgi_request.specs.Fronts.{unfinished}
 use Rattle.asgi_request.specs.Places.{front, Reaches}
 
--- what a reader is: its limits, what is due next, and the bytes behind the last text
+-- what a reader is: its limits, what is due next, the bytes behind the last text, and for how many it has places
 pub record Reading : Type 0 where
   pub limits : Limits
   pub place : Place
   pub held : List ℕ
+  pub capacity : ℕ
 
 -- the reader was fed these bytes and gave these results
 abbrev pub StandsFor : Reading → List ℕ → List Next → Type 0

@@ -63,6 +63,7 @@ IsWithin bytes Partial = Unit {0}
 -- one turn, with its result if it has one
 pub record Stepped (old new : Reading) (item : Option Next) : Type 0 where
   pub limits : new.limits ≡ old.limits
+  pub capacity : new.capacity ≡ old.capacity
   pub takes : Takes old.limits old.place old.held (record { item = item; place = new.place }) new.held
 
 -- what a turn came to, by its result

@@ -1,5 +1,7 @@
 //! Requests out of bytes that come in any pieces.
-ghost use Rattle.std.specs.Prelude.{◌≡◌, ◌≢◌, ◌++◌, ◌∷◌, [], ℕ, List, OnOk, OnErr, IfOk, IsOk, Option};
+ghost use Rattle.std.specs.Prelude.{◌≡◌, ◌≢◌, ◌+◌, ◌<◌, ◌≤◌, ◌++◌, ◌∷◌, [], ℕ, List, length, drop, OnOk, OnErr, IfOk, IsOk, Option};
+ghost use Rattle.std.specs.Vec.{vec_len, vec_capacity};
+ghost use Rattle.asgi_types.specs.Room.{LacksRoom};
 ghost use Rattle.asgi_request.specs.declared.next.Next.{Next};
 ghost use Rattle.asgi_request.specs.declared.place.Place.TheVariants.{Start};
 ghost use Rattle.asgi_request.specs.Reading.{StandsFor, EndsWhole, AllGiven, WholeGiven, IsRefused, Keeps, GoesOn};
@@ -28,12 +30,13 @@ pub struct RequestReader {
 
 impl Model for RequestReader {
     ghost use Rattle.std.specs.Prelude.{◌≤◌, length, drop};
+    ghost use Rattle.std.specs.Vec.{vec_capacity};
     ghost use Rattle.asgi_request.specs.Reading.{Reading};
     ghost use Rattle.asgi_request.specs.Searches.{Resumes};
 
     ghost Value = { Reading };
 
-    ghost view = { λ r. record { limits = r.limits; place = r.place; held = drop r.start r.bytes.items } };
+    ghost view = { λ r. record { limits = r.limits; place = r.place; held = drop r.start r.bytes.items; capacity = vec_capacity r.bytes } };
 
     ghost invariant = { λ r. (r.start ≤ length r.bytes.items) × Resumes r.place r.search (drop r.start r.bytes.items) };
 }
@@ -43,6 +46,7 @@ impl RequestReader {
     pub fn new(alloc: Global, limits: Limits) -> Self
         ensures limits { result.limits ≡ limits }
         ensures empty { StandsFor result [] [] }
+        ensures capacity { result.capacity ≡ 0 }
     {
         RequestReader {
             alloc,
@@ -59,9 +63,13 @@ impl RequestReader {
         ensures fed { OnOk result ((bytes : List ℕ) (given : List Next) → StandsFor self.old bytes given → StandsFor self.new (bytes ++ piece.now) given) }
         ensures refused { (status : ℕ) → IsRefused self.old status → IsRefused self.new status }
         ensures limits { self.new.limits ≡ self.old.limits }
+        ensures capacity { self.old.capacity ≤ self.new.capacity }
         ensures err { OnErr result (self.new ≡ self.old) }
+        ensures full { OnErr result (LacksRoom self.old.capacity (length self.old.held) piece.now) }
     {
         self.compact();
+        make_room(&mut self.bytes, &mut self.start, piece.len())?;
+        // The room is there, so this never fails: only its type says that it may.
         self.bytes.extend_from_slice(piece)?;
         Ok(())
     }
@@ -71,7 +79,7 @@ impl RequestReader {
         ensures { self.new ≡ self.old }
     {
         if self.start > self.bytes.len() - self.start {
-            let _read = self.bytes.drain(..self.start);
+            drop_front(&mut self.bytes, self.start);
             self.start = 0;
         }
     }
@@ -84,6 +92,7 @@ impl RequestReader {
         ensures again { IfOk result (λ next. (status : ℕ) → IsRefused self.old status → (next ≡ Next.Bad status) × (self.new ≡ self.old)) }
         ensures sure { (status : ℕ) → IsRefused self.old status → IsOk result }
         ensures limits { self.new.limits ≡ self.old.limits }
+        ensures capacity { self.new.capacity ≡ self.old.capacity }
         ensures err { OnErr result (Keeps self.old self.new) }
     {
         match self.next_item()? {
@@ -99,6 +108,7 @@ impl RequestReader {
         ensures sure { (status : ℕ) → IsRefused self.old status → IsOk result }
         ensures is_result { IfOk result (λ answer. IsResult self.new answer) }
         ensures limits { self.new.limits ≡ self.old.limits }
+        ensures capacity { self.new.capacity ≡ self.old.capacity }
         ensures err { OnErr result (Keeps self.old self.new) }
     {
         if let Place::Stopped(refusal) = self.place {
@@ -152,6 +162,33 @@ impl RequestReader {
         let start = self.start;
         &self.bytes[start..]
     }
+}
+
+/// Makes room for so many more bytes: where memory is refused, in the places of those before `start`, which were read.
+fn make_room(bytes: &mut Vec<u8>, start: &mut usize, more: usize) -> Result<(), AllocError>
+    requires { start.old ≤ length bytes.old.items }
+    ensures held { drop start.new bytes.new.items ≡ drop start.old bytes.old.items }
+    ensures inside { start.new ≤ length bytes.new.items }
+    ensures ok { OnOk result (vec_len bytes.new + more ≤ vec_capacity bytes.new) }
+    ensures capacity { vec_capacity bytes.old ≤ vec_capacity bytes.new }
+    ensures err { OnErr result (vec_capacity bytes.new ≡ vec_capacity bytes.old) }
+    ensures full { OnErr result (vec_capacity bytes.old < length (drop start.old bytes.old.items) + more) }
+{
+    if bytes.reserve(more).is_ok() {
+        return Ok(());
+    }
+    drop_front(bytes, *start);
+    *start = 0;
+    bytes.reserve(more)
+}
+
+/// Drops the first bytes. The places stay.
+fn drop_front(bytes: &mut Vec<u8>, count: usize)
+    requires { count ≤ length bytes.old.items }
+    ensures items { bytes.new.items ≡ drop count bytes.old.items }
+    ensures capacity { vec_capacity bytes.new ≡ vec_capacity bytes.old }
+{
+    let _front = bytes.drain(..count);
 }
 
 /// What a turn came to that has this result, or none.

@@ -2,7 +2,7 @@
 use Rattle.std.proofs.Common.{◌≡◌, ℕ, zero, suc, ◌+◌, ◌≤◌, ◌<◌, inl, inr, List, [], ◌∷◌, length, take, get_or, flat_map, subst, Bor, arith, length-append, Option, Some, None, Result, Ok, Err, OnErr}
 use Rattle.std.proofs.lemmas.Bool.{cases_lt}
 use Rattle.std.specs.Prelude.{SomeIff, is_ok, is_some}
-use Rattle.asgi_response.specs.Room.{LacksRoom}
+use Rattle.asgi_types.specs.Room.{LacksRoom}
 
 size-cons : (t : Bor (List ℕ)) (texts : List (Bor (List ℕ))) → length (flat_map (λ (x : Bor (List ℕ)). x.now) (t ∷ texts)) ≡ length t.now + length (flat_map (λ (x : Bor (List ℕ)). x.now) texts)
 size-cons t texts = length-append t.now (flat_map (λ (x : Bor (List ℕ)). x.now) texts)

@@ -19,7 +19,8 @@ use Rattle.asgi_response.specs.Content.{part_text, has_content}
 use Rattle.asgi_response.specs.Fields.{is_chunked, closes, head_text}
 use Rattle.asgi_response.specs.Progress.{closes_behind}
 use Rattle.asgi_response.specs.Response.{body_text, message_text, continue_text, response_text}
-use Rattle.asgi_response.specs.Room.{LacksRoom, LacksMemory, is_start}
+use Rattle.asgi_types.specs.Room.{LacksRoom}
+use Rattle.asgi_response.specs.Room.{LacksMemory, is_start}
 use Rattle.asgi_response.specs.Standing.{coding_of, part, with_sent, IsOpen, HasStart, HasParts, IsStage, HasAccepted, StandsFor, Grows}
 use Rattle.asgi_response.specs.Steps.{coded_text, is_allowed, left_at_start, content_due, next_stage, may_start, content_at_start, after_part, part_added, after_event, starts, added_by}
 use Rattle.asgi_response.proofs.AcceptedLemmas.{passes_body, second_start, after_closed, first_start, first_body, other_scope, accepted-push, promised_behind}

@@ -1,14 +1,10 @@
--- When a text may be refused for want of memory: only where the output had no room for it.
+-- When an event may be refused for want of memory: only where the output had no room for what it adds.
 use Rattle.std.specs.Prelude.{ℕ, ◌+◌, ◌<◌, ◌⊎◌, ◌&&◌, Bool, true, false, IsTrue, List, [], ◌∷◌, ◌++◌, length}
 use Rattle.asgi_types.specs.declared.facts.Facts.{Facts}
 use Rattle.asgi_types.specs.declared.outgoing.Outgoing.{Outgoing}
 use Rattle.asgi_types.specs.declared.outgoing.Outgoing.TheVariants.{ResponseStart}
 use Rattle.asgi_response.specs.Accepted.{passes, accepted}
 use Rattle.asgi_response.specs.Response.{response_text}
-
--- a vector of so many bytes and of this capacity has no room for the text
-abbrev pub LacksRoom : ℕ → ℕ → List ℕ → Type 0
-LacksRoom capacity len text = capacity < len + length text
 
 -- the head of a start is kept in memory of its own
 abbrev pub is_start : Outgoing → Bool

@@ -1,7 +1,7 @@
 //! Texts appended together or not at all.
 ghost use Rattle.std.specs.Prelude.{◌≡◌, ◌++◌, ◌^◌, ◌≤◌, ◌<◌, OnOk, OnErr, IfOk, flat_map, drop, false, length};
 ghost use Rattle.std.specs.Vec.{vec_len, vec_capacity};
-ghost use Rattle.asgi_response.specs.Room.{LacksRoom};
+ghost use Rattle.asgi_types.specs.Room.{LacksRoom};
 ghost use Rattle.std.specs.Fmt.{digits, digit_glyph};
 
 use std::alloc::AllocError;
@@ -10,6 +10,7 @@ use std::alloc::AllocError;
 pub fn append_all(out: &mut Vec<u8>, texts: &[&[u8]]) -> Result<(), AllocError>
     ensures ok { OnOk result (out.new.items ≡ out.old.items ++ flat_map (λ text. text.now) texts.now) }
     ensures err { OnErr result (out.new.items ≡ out.old.items) }
+    ensures capacity { vec_capacity out.old ≤ vec_capacity out.new }
     ensures full { OnErr result (LacksRoom (vec_capacity out.old) (vec_len out.old) (flat_map (λ text. text.now) texts.now)) }
 {
     out.reserve(total_len(texts)?)?;

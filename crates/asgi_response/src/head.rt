@@ -1,8 +1,11 @@
 //! The head of a response.
-ghost use Rattle.std.specs.Prelude.{◌≡◌, ◌++◌, [], OnOk, IfOk, if◌then◌else◌};
+ghost use Rattle.std.specs.Prelude.{◌≡◌, ◌++◌, ◌≤◌, [], length, min, OnOk, OnErr, IfOk, if◌then◌else◌};
+ghost use Rattle.std.specs.Vec.{vec_len, vec_capacity};
+ghost use Rattle.asgi_types.specs.Room.{LacksRoom};
 ghost use Rattle.asgi_response.specs.StatusLine as line;
 ghost use Rattle.asgi_response.specs.Fields as spec;
 
+use crate::append::append_all;
 use crate::fields::is_shown;
 use asgi_types::{Headers, Octets};
 use itoa::Buffer;
@@ -20,9 +23,6 @@ const CHUNKED_LINE: &[u8] = b"transfer-encoding: chunked\r\n";
 
 const CLOSE_LINE: &[u8] = b"connection: close\r\n";
 
-/// The most bytes that a head has beside the application's fields: at 431, in chunks, before the connection closes.
-const REST: usize = 95;
-
 /// The head of a response, in memory of its own.
 pub fn head_text(
     alloc: Global,
@@ -33,23 +33,81 @@ pub fn head_text(
 ) -> Result<Octets, AllocError>
     ensures { IfOk result (λ head. head ≡ spec.head_text chunked closing status headers.now) }
 {
-    let mut out = Vec::with_capacity(alloc, most_bytes(headers))?;
-    write_head(&mut out, chunked, closing, status, headers)?;
+    let mut out = Vec::new(alloc);
+    append_head(&mut out, chunked, closing, status, headers)?;
     Ok(Octets::new(out))
 }
 
-/// The most bytes that a head with these fields has.
-fn most_bytes(headers: &Headers) -> usize {
-    let mut size = REST;
+/// Appends the head of a response, in one reservation.
+fn append_head(
+    out: &mut Vec<u8>,
+    chunked: bool,
+    closing: bool,
+    status: u16,
+    headers: &Headers,
+) -> Result<(), AllocError>
+    ensures ok { OnOk result (out.new.items ≡ out.old.items ++ spec.head_text chunked closing status headers.now) }
+    ensures full { OnErr result (LacksRoom (vec_capacity out.old) (vec_len out.old) (spec.head_text chunked closing status headers.now)) }
+{
+    out.reserve(head_len(chunked, closing, status, headers))?;
+    write_head(out, chunked, closing, status, headers)
+}
+
+/// How many bytes the head of a response has, or the greatest `usize` where it has more.
+fn head_len(chunked: bool, closing: bool, status: u16, headers: &Headers) -> usize
+    ensures { result ≡ min (length (spec.head_text chunked closing status headers.now)) usize.MAX }
+{
+    status_line_len(status)
+        .saturating_add(fields_len(status, headers))
+        .saturating_add(len_if(chunked, CHUNKED_LINE))
+        .saturating_add(len_if(closing, CLOSE_LINE))
+        .saturating_add(CRLF.len())
+}
+
+/// How many bytes the line of a status has.
+fn status_line_len(status: u16) -> usize
+    ensures { result ≡ min (length (line.status_line status)) usize.MAX }
+{
+    let mut buffer = Buffer::new();
+    VERSION
+        .len()
+        .saturating_add(buffer.format(status).len())
+        .saturating_add(SPACE.len())
+        .saturating_add(reason_phrase(status).len())
+        .saturating_add(CRLF.len())
+}
+
+/// How many bytes the lines of the application's fields have, or the greatest `usize` where they have more.
+fn fields_len(status: u16, headers: &Headers) -> usize
+    ensures { result ≡ min (length (spec.field_lines status headers.now)) usize.MAX }
+{
+    let mut size = 0usize;
     for (name, value) in headers.iter() {
-        size = size.saturating_add(name.len());
-        size = size.saturating_add(value.len());
-        size = size.saturating_add(4);
+        if is_shown(status, name) {
+            size = size.saturating_add(field_len(name, value));
+        }
     }
     size
 }
 
-/// Appends the head of a response.
+/// How many bytes the line of a field has, or the greatest `usize` where it has more.
+fn field_len(name: &[u8], value: &[u8]) -> usize
+    ensures { result ≡ min (length (spec.field_line (record { name = name.now; value = value.now }))) usize.MAX }
+{
+    name.len()
+        .saturating_add(COLON.len())
+        .saturating_add(value.len())
+        .saturating_add(CRLF.len())
+}
+
+/// How many bytes the text has where it is wanted.
+fn len_if(wanted: bool, text: &[u8]) -> usize
+    ensures { result ≡ length (if wanted then text.now else []) }
+{
+    if wanted { text.len() } else { 0 }
+}
+
+/// Appends the head of a response, part by part.
 fn write_head(
     out: &mut Vec<u8>,
     chunked: bool,
@@ -57,7 +115,8 @@ fn write_head(
     status: u16,
     headers: &Headers,
 ) -> Result<(), AllocError>
-    ensures { OnOk result (out.new.items ≡ out.old.items ++ spec.head_text chunked closing status headers.now) }
+    ensures ok { OnOk result (out.new.items ≡ out.old.items ++ spec.head_text chunked closing status headers.now) }
+    ensures full { OnErr result (LacksRoom (vec_capacity out.old) (vec_len out.old) (spec.head_text chunked closing status headers.now)) }
 {
     write_status_line(out, status)?;
     write_fields(out, status, headers)?;
@@ -69,15 +128,14 @@ fn write_head(
 
 /// Appends the line of a status.
 fn write_status_line(out: &mut Vec<u8>, status: u16) -> Result<(), AllocError>
-    ensures { OnOk result (out.new.items ≡ out.old.items ++ line.status_line status) }
+    ensures ok { OnOk result (out.new.items ≡ out.old.items ++ line.status_line status) }
+    ensures capacity { vec_capacity out.old ≤ vec_capacity out.new }
+    ensures full { OnErr result (LacksRoom (vec_capacity out.old) (vec_len out.old) (line.status_line status)) }
 {
     let mut buffer = Buffer::new();
-    out.extend_from_slice(VERSION)?;
-    out.extend_from_slice(buffer.format(status).as_bytes())?;
-    out.extend_from_slice(SPACE)?;
-    out.extend_from_slice(reason_phrase(status).as_bytes())?;
-    out.extend_from_slice(CRLF)?;
-    Ok(())
+    let code = buffer.format(status).as_bytes();
+    let reason = reason_phrase(status).as_bytes();
+    append_all(out, &[VERSION, code, SPACE, reason, CRLF])
 }
 
 /// The reason phrase of a status.
@@ -123,7 +181,9 @@ pub fn reason_phrase(status: u16) -> &'static str
 
 /// Appends the lines of the application's fields.
 fn write_fields(out: &mut Vec<u8>, status: u16, headers: &Headers) -> Result<(), AllocError>
-    ensures { OnOk result (out.new.items ≡ out.old.items ++ spec.field_lines status headers.now) }
+    ensures ok { OnOk result (out.new.items ≡ out.old.items ++ spec.field_lines status headers.now) }
+    ensures capacity { vec_capacity out.old ≤ vec_capacity out.new }
+    ensures full { OnErr result (LacksRoom (vec_capacity out.old) (vec_len out.old) (spec.field_lines status headers.now)) }
 {
     for (name, value) in headers.iter() {
         if is_shown(status, name) {
@@ -134,18 +194,19 @@ fn write_fields(out: &mut Vec<u8>, status: u16, headers: &Headers) -> Result<(),
 }
 
 /// Appends the line of a field.
-fn write_field(out: &mut Vec<u8>, name: &[u8], value: &[u8]) -> Result<(), AllocError>
-    ensures { OnOk result (out.new.items ≡ out.old.items ++ spec.field_line (record { name = name.now; value = value.now })) }
+fn write_field<'a>(out: &mut Vec<u8>, name: &'a [u8], value: &'a [u8]) -> Result<(), AllocError>
+    ensures ok { OnOk result (out.new.items ≡ out.old.items ++ spec.field_line (record { name = name.now; value = value.now })) }
+    ensures capacity { vec_capacity out.old ≤ vec_capacity out.new }
+    ensures full { OnErr result (LacksRoom (vec_capacity out.old) (vec_len out.old) (spec.field_line (record { name = name.now; value = value.now }))) }
 {
-    out.extend_from_slice(name)?;
-    out.extend_from_slice(COLON)?;
-    out.extend_from_slice(value)?;
-    out.extend_from_slice(CRLF)
+    append_all(out, &[name, COLON, value, CRLF])
 }
 
 /// Appends the text where it is wanted.
 fn write_if(out: &mut Vec<u8>, wanted: bool, text: &[u8]) -> Result<(), AllocError>
-    ensures { OnOk result (out.new.items ≡ out.old.items ++ (if wanted then text.now else [])) }
+    ensures ok { OnOk result (out.new.items ≡ out.old.items ++ (if wanted then text.now else [])) }
+    ensures capacity { vec_capacity out.old ≤ vec_capacity out.new }
+    ensures full { OnErr result (LacksRoom (vec_capacity out.old) (vec_len out.old) (if wanted then text.now else [])) }
 {
     if wanted {
         out.extend_from_slice(text)

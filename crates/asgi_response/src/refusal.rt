@@ -3,7 +3,7 @@ ghost use Rattle.std.specs.Prelude.{◌≡◌, ◌++◌, ◌==◌, ◌||◌, IsT
 ghost use Rattle.std.specs.Vec.{vec_len, vec_capacity};
 ghost use Rattle.asgi_response.specs.Exchange as spec;
 ghost use Rattle.asgi_response.specs.Refusals.{is_refusal};
-ghost use Rattle.asgi_response.specs.Room.{LacksRoom};
+ghost use Rattle.asgi_types.specs.Room.{LacksRoom};
 
 use crate::append::append_all;
 use crate::head::{CRLF, SPACE, VERSION, reason_phrase};

@@ -4,6 +4,7 @@ pub mod Lengths
 pub mod Places
 pub mod Ranges
 pub mod Reasons
+pub mod Room
 pub mod Scopes
 pub mod StatePlaces
 pub mod States

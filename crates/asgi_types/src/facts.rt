@@ -1,5 +1,5 @@
 //! What a server keeps of a request for its answer.
-ghost use Rattle.std.specs.Prelude.{◌≡◌, IfOk};
+ghost use Rattle.std.specs.Prelude.{◌≡◌, [], IfOk, IsOk};
 
 use crate::{HttpVersion, Names};
 use std::alloc::{AllocError, Global};
@@ -35,9 +35,10 @@ pub struct Facts {
 }
 
 impl Facts {
-    /// The same facts once more, in memory of their own.
+    /// The same facts once more, in memory of their own. To copy no subprotocols takes no memory.
     pub fn copy(&self, alloc: Global) -> Result<Self, AllocError>
-        ensures { IfOk result (λ copied. copied ≡ self.now) }
+        ensures same { IfOk result (λ copied. copied ≡ self.now) }
+        ensures empty { self.now.subprotocols ≡ [] → IsOk result }
     {
         let subprotocols = self.subprotocols.copy(alloc)?;
         Ok(Facts {

@@ -1,5 +1,5 @@
 //! Header fields in their order.
-ghost use Rattle.std.specs.Prelude.{◌≡◌, ◌≤◌, [], ◌∷◌, ◌++◌, ℕ, List, IfOk, OnOk, OnErr, IfSome, IsNone, IsTrue, ◌↔◌, length, drop, slice_get, Some, All};
+ghost use Rattle.std.specs.Prelude.{◌≡◌, ◌≤◌, [], ◌∷◌, ◌++◌, ℕ, List, IfOk, IsOk, OnOk, OnErr, IfSome, IsNone, IsTrue, ◌↔◌, length, drop, slice_get, Some, All};
 ghost use Rattle.std.specs.Result.{IsErrOf};
 ghost use Rattle.http_header.specs.FieldName.{IsFieldName};
 ghost use Rattle.http_header.specs.FieldValue.{IsFieldValue};
@@ -128,10 +128,14 @@ impl Headers {
         let _ = &self.text;
     }
 
-    /// The same fields once more, in memory of their own.
+    /// The same fields once more, in memory of their own. To copy no fields takes no memory.
     pub fn copy(&self, alloc: Global) -> Result<Self, AllocError>
-        ensures { IfOk result (λ copied. copied ≡ self.now) }
+        ensures same { IfOk result (λ copied. copied ≡ self.now) }
+        ensures empty { self.now ≡ [] → IsOk result }
     {
+        if self.is_empty() {
+            return Ok(Headers::new(alloc));
+        }
         let text = Vec::from_slice(alloc, self.text.as_slice())?;
         let places = Vec::from_slice(alloc, self.places.as_slice())?;
         Ok(Headers { text, places })

@@ -1,5 +1,5 @@
 //! A list of texts.
-ghost use Rattle.std.specs.Prelude.{◌≡◌, ◌≤◌, ◌↔◌, [], ◌∷◌, ◌++◌, ℕ, List, IfOk, OnOk, OnErr, IfSome, IsNone, length, slice_get, Some};
+ghost use Rattle.std.specs.Prelude.{◌≡◌, ◌≤◌, ◌↔◌, [], ◌∷◌, ◌++◌, ℕ, List, IfOk, IsOk, OnOk, OnErr, IfSome, IsNone, length, slice_get, Some};
 
 use crate::Chars;
 use std::alloc::{AllocError, Global};
@@ -51,9 +51,10 @@ impl Names {
         self.names.get(index)
     }
 
-    /// The same names once more, in memory of their own.
+    /// The same names once more, in memory of their own. To copy no names takes no memory.
     pub fn copy(&self, alloc: Global) -> Result<Self, AllocError>
-        ensures { IfOk result (λ copied. copied ≡ self.now) }
+        ensures same { IfOk result (λ copied. copied ≡ self.now) }
+        ensures empty { self.now ≡ [] → IsOk result }
     {
         let mut names = Vec::new(alloc);
         for name in &self.names {

@@ -1,5 +1,6 @@
 //! What an application is called with: the connection scopes.
-ghost use Rattle.std.specs.Prelude.{◌≡◌, ◌≤◌, ◌↔◌, ℕ, List, IfOk, codes};
+ghost use Rattle.std.specs.Prelude.{◌≡◌, ◌≤◌, ◌↔◌, ℕ, List, [], IfOk, IsOk, codes};
+ghost use Rattle.asgi_types.specs.declared.scope.LifespanScope.{LifespanScope};
 ghost use Rattle.asgi_types.specs.Scopes.{spec_version_of, scope_with};
 
 use crate::{Chars, Headers, HttpVersion, Names, Octets, State};
@@ -183,9 +184,10 @@ impl Scope {
         }
     }
 
-    /// The same scope once more, in memory of its own.
+    /// The same scope once more, in memory of its own. To copy a lifespan scope with an empty state takes no memory.
     pub fn copy(&self, alloc: Global) -> Result<Self, AllocError>
-        ensures { IfOk result (λ copied. copied ≡ self.now) }
+        ensures same { IfOk result (λ copied. copied ≡ self.now) }
+        ensures lifespan { (scope : LifespanScope) → self.now ≡ Scope.Lifespan scope → scope.state ≡ [] → IsOk result }
     {
         match self {
             Scope::Http(scope) => Ok(Scope::Http(scope.copy(alloc)?)),
@@ -254,7 +256,8 @@ impl WsScope {
 
 impl LifespanScope {
     fn copy(&self, alloc: Global) -> Result<Self, AllocError>
-        ensures { IfOk result (λ copied. copied ≡ self.now) }
+        ensures same { IfOk result (λ copied. copied ≡ self.now) }
+        ensures empty { self.now.state ≡ [] → IsOk result }
     {
         let state = self.state.copy(alloc)?;
         Ok(LifespanScope {
@@ -265,7 +268,8 @@ impl LifespanScope {
 }
 
 fn copy_peer(peer: &Option<Peer>, alloc: Global) -> Result<Option<Peer>, AllocError>
-    ensures { IfOk result (λ copied. copied ≡ peer.now) }
+    ensures same { IfOk result (λ copied. copied ≡ peer.now) }
+    ensures absent { peer.now ≡ None → IsOk result }
 {
     match peer {
         Some(peer) => Ok(Some(peer.copy(alloc)?)),

@@ -99,9 +99,10 @@ impl State {
         Ok(())
     }
 
-    /// The same state once more, in memory of its own.
+    /// The same state once more, in memory of its own. To copy no names takes no memory.
     pub fn copy(&self, alloc: Global) -> Result<Self, AllocError>
-        ensures { IfOk result (λ copied. copied ≡ self.now) }
+        ensures same { IfOk result (λ copied. copied ≡ self.now) }
+        ensures empty { self.now ≡ [] → IsOk result }
     {
         let mut entries = Vec::new(alloc);
         for (name, value) in &self.entries {

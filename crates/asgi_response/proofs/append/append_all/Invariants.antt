@@ -7,4 +7,5 @@ invariant-loop-text l = record {
   items : l.out.items ≡ l.fn.out.items ++ flat_map (λ (t : Bor (List ℕ)). t.now) (take l.text-index l.texts);
   len : vec_len l.out ≡ vec_len l.fn.out + length (flat_map (λ (t : Bor (List ℕ)). t.now) (take l.text-index l.texts));
   room : vec_len l.fn.out + length (flat_map (λ (t : Bor (List ℕ)). t.now) l.texts) ≤ vec_capacity l.out;
+  capacity : vec_capacity l.fn.out ≤ vec_capacity l.out;
 }

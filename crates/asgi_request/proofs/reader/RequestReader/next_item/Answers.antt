@@ -27,6 +27,7 @@ returns-in-Gives c =
       sure = λ status e. absurd (c.in_default.not-Stopped e.0 (ap (λ (r : Reading). r.place) c.self.view_is ∙ e.1));
       is_result = stepped_result c.loop-item.self c.step.new.self (Some c.in-Gives.item) stepped;
       limits = stepped.limits ∙ c.loop-item.invariant.limits;
+      capacity = stepped.capacity ∙ c.loop-item.invariant.capacity;
       err = tt;
     }
 
@@ -43,4 +44,5 @@ loop-item-preserved c =
     record {
       keeps = λ bytes given stands. silent_stands c.loop-item.self c.step.new.self stepped bytes given (c.loop-item.invariant.keeps bytes given stands);
       limits = stepped.limits ∙ c.loop-item.invariant.limits;
+      capacity = stepped.capacity ∙ c.loop-item.invariant.capacity;
     }

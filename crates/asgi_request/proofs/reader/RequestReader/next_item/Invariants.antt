@@ -7,6 +7,7 @@ abbrev pub invariant-loop-item : goal.invariant-loop-item
 invariant-loop-item l = record {
   keeps : Keeps l.fn.self l.self;
   limits : l.self.limits ≡ l.fn.self.limits;
+  capacity : l.self.capacity ≡ l.fn.self.capacity;
 }
 
 abbrev pub decreases-loop-item : goal.decreases-loop-item
