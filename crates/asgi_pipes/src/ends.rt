@@ -30,6 +30,9 @@ pub trait ConnEnd: Drop {
     // The places of each direction, without the reserved one.
     ghost ring: { Self → ℕ };
 
+    // The places that memory is held for: in the queue of what the end puts, and in that of what it takes.
+    ghost capacity: { Self → ℕ × ℕ };
+
     // What was offered, the disconnect last of all.
     ghost offered: { Self → List Incoming };
 
@@ -51,7 +54,8 @@ pub trait ConnEnd: Drop {
         ensures ok { OnOk result ((offered self.new ≡ offered self.old ++ event ∷ []) × (is_broken self.old ≡ false) × (room self.old ≤ room self.new + 1)) }
         ensures err { IfErr result (λ back. (back ≡ event) × (offered self.new ≡ offered self.old) × ((is_broken self.old ≡ true) ⊎ ((room self.old ≡ 0) × (room self.new ≡ 0)))) }
         ensures same { (is_broken self.new ≡ is_broken self.old) × (got self.new ≡ got self.old) × (seen self.new ≡ seen self.old) }
-        ensures tag { (tag self.new ≡ tag self.old) × (ring self.new ≡ ring self.old) };
+        ensures tag { (tag self.new ≡ tag self.old) × (ring self.new ≡ ring self.old) }
+        ensures capacity { capacity self.new ≡ capacity self.old };
 
     /// Offers the one disconnect, behind all events, in the reserved place. The answer is true
     /// the first time; after that nothing changes.
@@ -61,14 +65,16 @@ pub trait ConnEnd: Drop {
         ensures no { IsFalse result → self.new ≡ self.old }
         ensures broken { is_broken self.new ≡ true }
         ensures same { (got self.new ≡ got self.old) × (seen self.new ≡ seen self.old) }
-        ensures tag { (tag self.new ≡ tag self.old) × (ring self.new ≡ ring self.old) };
+        ensures tag { (tag self.new ≡ tag self.old) × (ring self.new ≡ ring self.old) }
+        ensures capacity { capacity self.new ≡ capacity self.old };
 
     /// Takes the oldest item.
     fn take(&mut self) -> Option<OutItem>
         ensures some { IfSome result (λ item. (got self.new ≡ got self.old ++ item ∷ []) × IsPrefix (seen self.old) (item ∷ seen self.new)) }
         ensures none { IfNone result ((got self.new ≡ got self.old) × (seen self.old ≡ []) × (seen self.new ≡ [])) }
         ensures same { (offered self.new ≡ offered self.old) × (is_broken self.new ≡ is_broken self.old) × (room self.new ≡ room self.old) }
-        ensures tag { (tag self.new ≡ tag self.old) × (ring self.new ≡ ring self.old) };
+        ensures tag { (tag self.new ≡ tag self.old) × (ring self.new ≡ ring self.old) }
+        ensures capacity { capacity self.new ≡ capacity self.old };
 }
 
 /// The end of the application. The polls take no memory of their own, and no call waits.
@@ -80,6 +86,9 @@ pub trait AppEnd: Drop {
 
     // The places of each direction, without the reserved one.
     ghost ring: { Self → ℕ };
+
+    // The places that memory is held for: in the queue of what the end puts, and in that of what it takes.
+    ghost capacity: { Self → ℕ × ℕ };
 
     // The kind of scope, and what is known of its request.
     ghost kind: { Self → Kind };
@@ -126,6 +135,7 @@ pub trait AppEnd: Drop {
         ensures same { (said self.new ≡ said self.old) × (ended self.new ≡ ended self.old) × (room self.new ≡ room self.old) }
         ensures scope { (kind self.new ≡ kind self.old) × (facts self.new ≡ facts self.old) }
         ensures tag { (tag self.new ≡ tag self.old) × (ring self.new ≡ ring self.old) }
+        ensures capacity { capacity self.new ≡ capacity self.old }
         ensures sources { (arrivals self.new ≡ arrivals self.old) × (vacancies self.new ≡ vacancies self.old) }
         ensures kept { Keeps cx.old cx.new };
 
@@ -141,6 +151,7 @@ pub trait AppEnd: Drop {
         ensures same { (heard self.new ≡ heard self.old) × (pulled self.new ≡ pulled self.old) × (seen self.new ≡ seen self.old) × (ended self.new ≡ ended self.old) }
         ensures scope { (kind self.new ≡ kind self.old) × (facts self.new ≡ facts self.old) }
         ensures tag { (tag self.new ≡ tag self.old) × (ring self.new ≡ ring self.old) }
+        ensures capacity { capacity self.new ≡ capacity self.old }
         ensures sources { (arrivals self.new ≡ arrivals self.old) × (vacancies self.new ≡ vacancies self.old) }
         ensures kept { Keeps cx.old cx.new };
 
@@ -153,6 +164,7 @@ pub trait AppEnd: Drop {
         ensures same { (heard self.new ≡ heard self.old) × (pulled self.new ≡ pulled self.old) × (seen self.new ≡ seen self.old) × (said self.new ≡ said self.old) }
         ensures scope { (kind self.new ≡ kind self.old) × (facts self.new ≡ facts self.old) }
         ensures tag { (tag self.new ≡ tag self.old) × (ring self.new ≡ ring self.old) }
+        ensures capacity { capacity self.new ≡ capacity self.old }
         ensures sources { (arrivals self.new ≡ arrivals self.old) × (vacancies self.new ≡ vacancies self.old) };
 
     /// A call of this end put an item into a queue or took one out since this was last asked.
@@ -163,6 +175,7 @@ pub trait AppEnd: Drop {
         ensures same { (said self.new ≡ said self.old) × (ended self.new ≡ ended self.old) × (room self.new ≡ room self.old) }
         ensures scope { (kind self.new ≡ kind self.old) × (facts self.new ≡ facts self.old) }
         ensures tag { (tag self.new ≡ tag self.old) × (ring self.new ≡ ring self.old) }
+        ensures capacity { capacity self.new ≡ capacity self.old }
         ensures sources { (arrivals self.new ≡ arrivals self.old) × (vacancies self.new ≡ vacancies self.old) };
 
     // What was said is lawful.

@@ -23,7 +23,7 @@ pub struct Inbox<T> {
 impl<T: Drop> Inbox<T> {
     /// An empty one. All its places are reserved here, and no later call takes memory.
     pub fn with_places(alloc: Global, places: usize) -> Result<Inbox<T>, AllocError>
-        ensures { IfOk result (λ made. (made.queue.items ≡ []) × (made.taken.items ≡ []) × (made.arrived ≡ 0) × (made.places ≡ places)) }
+        ensures { IfOk result (λ made. (made.queue.items ≡ []) × (made.taken.items ≡ []) × (made.arrived ≡ 0) × (made.places ≡ places) × (deque_capacity made.queue ≡ places)) }
     {
         let queue = VecDeque::with_capacity(alloc, places)?;
         Ok(Inbox {
@@ -39,6 +39,7 @@ impl<T: Drop> Inbox<T> {
         ensures some { IfSome result (λ item. (self.new.taken.items ≡ self.old.taken.items ++ item ∷ []) × (self.old.queue.items ≡ item ∷ self.new.queue.items)) }
         ensures none { IfNone result ((self.old.queue.items ≡ []) × (self.new.queue.items ≡ []) × (self.new.taken.items ≡ self.old.taken.items)) }
         ensures same { (self.new.arrived ≡ self.old.arrived) × (self.new.places ≡ self.old.places) }
+        ensures capacity { deque_capacity self.new.queue ≡ deque_capacity self.old.queue }
     {
         let item = self.queue.pop_front()?;
         self.taken = History::with(&self.taken, &item);
@@ -58,6 +59,7 @@ impl<T: Drop> Inbox<T> {
         ensures queue { self.new.queue.items ≡ self.old.queue.items ++ item ∷ [] }
         ensures arrived { self.new.arrived ≡ self.old.arrived + 1 }
         ensures same { (self.new.taken.items ≡ self.old.taken.items) × (self.new.places ≡ self.old.places) }
+        ensures capacity { deque_capacity self.new.queue ≡ deque_capacity self.old.queue }
     {
         self.queue.push_back_reserved(item);
         self.arrived += 1;
@@ -67,6 +69,7 @@ impl<T: Drop> Inbox<T> {
     pub fn count(&mut self) -> usize
         ensures count { (result ≡ length self.old.queue.items) × (self.new.arrived ≡ length self.old.queue.items) }
         ensures same { (self.new.queue.items ≡ self.old.queue.items) × (self.new.taken.items ≡ self.old.taken.items) × (self.new.places ≡ self.old.places) }
+        ensures capacity { deque_capacity self.new.queue ≡ deque_capacity self.old.queue }
     {
         self.arrived = self.queue.len();
         self.arrived

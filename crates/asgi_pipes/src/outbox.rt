@@ -24,7 +24,7 @@ impl<T: Drop> Outbox<T> {
 
     /// An empty one. All its places are reserved here, and no later call takes memory.
     pub fn with_places(alloc: Global, places: usize) -> Result<Outbox<T>, AllocError>
-        ensures { IfOk result (λ made. (made.queue.items ≡ []) × (made.passed.items ≡ []) × (made.away ≡ 0) × (made.places ≡ places)) }
+        ensures { IfOk result (λ made. (made.queue.items ≡ []) × (made.passed.items ≡ []) × (made.away ≡ 0) × (made.places ≡ places) × (deque_capacity made.queue ≡ places)) }
     {
         let queue = VecDeque::with_capacity(alloc, places)?;
         Ok(Outbox {
@@ -48,6 +48,7 @@ impl<T: Drop> Outbox<T> {
         ensures put { put_by self.new ≡ put_by self.old ++ item ∷ [] }
         ensures free { free_in self.old ≡ free_in self.new + 1 }
         ensures same { (self.new.passed.items ≡ self.old.passed.items) × (self.new.away ≡ self.old.away) × (self.new.places ≡ self.old.places) }
+        ensures capacity { deque_capacity self.new.queue ≡ deque_capacity self.old.queue }
     {
         self.queue.push_back_reserved(item);
     }
@@ -64,6 +65,7 @@ impl<T: Drop> Outbox<T> {
         ensures some { IfSome result (λ item. (self.new.passed.items ≡ self.old.passed.items ++ item ∷ []) × (self.old.queue.items ≡ item ∷ self.new.queue.items) × (self.new.away ≡ self.old.away + 1)) }
         ensures none { IfNone result ((self.old.queue.items ≡ []) × (self.new.queue.items ≡ []) × (self.new.passed.items ≡ self.old.passed.items) × (self.new.away ≡ self.old.away)) }
         ensures places { self.new.places ≡ self.old.places }
+        ensures capacity { deque_capacity self.new.queue ≡ deque_capacity self.old.queue }
     {
         let item = self.queue.pop_front()?;
         self.passed = History::with(&self.passed, &item);
@@ -76,6 +78,7 @@ impl<T: Drop> Outbox<T> {
         requires { length self.old.queue.items + away ≤ self.old.places }
         ensures away { self.new.away ≡ away }
         ensures same { (self.new.queue.items ≡ self.old.queue.items) × (self.new.passed.items ≡ self.old.passed.items) × (self.new.places ≡ self.old.places) }
+        ensures capacity { deque_capacity self.new.queue ≡ deque_capacity self.old.queue }
     {
         self.away = away;
     }

@@ -1,5 +1,5 @@
 //! Pairs of ends.
-ghost use Rattle.std.specs.Prelude.{◌≡◌, false, [], None, IfSome, IsSome, IfOk};
+ghost use Rattle.std.specs.Prelude.{◌≡◌, ◌+◌, false, [], None, IfSome, IsSome, IfOk};
 ghost use Rattle.asgi_types.specs.declared.scope.Kind.{Kind};
 ghost use Rattle.asgi_protocol.specs.Lawful.{IsLawful};
 ghost use Rattle.asgi_pipes.specs.Disconnects.{Hears};
@@ -42,6 +42,7 @@ pub trait Pipes {
         ensures inward { IfOk result (λ ends. (Self.Conn.offered ends.0 ≡ []) × (Self.Conn.is_broken ends.0 ≡ false) × (Self.App.heard ends.1 ≡ []) × (Self.App.pulled ends.1 ≡ []) × (Self.App.seen ends.1 ≡ [])) }
         ensures outward { IfOk result (λ ends. (Self.App.said ends.1 ≡ []) × (Self.App.ended ends.1 ≡ None) × (Self.Conn.got ends.0 ≡ []) × (Self.Conn.seen ends.0 ≡ [])) }
         ensures places { IfOk result (λ ends. (Self.Conn.ring ends.0 ≡ ring) × (Self.Conn.room ends.0 ≡ ring) × (Self.App.ring ends.1 ≡ ring) × (Self.App.room ends.1 ≡ ring)) }
+        ensures capacity { IfOk result (λ ends. (Self.Conn.capacity ends.0 ≡ (ring + 1, ring + 1)) × (Self.App.capacity ends.1 ≡ (ring + 1, ring + 1))) }
         ensures scope { IfOk result (λ ends. (Self.App.kind ends.1 ≡ kind) × (Self.App.facts ends.1 ≡ facts) × (Self.App.has_moved ends.1 ≡ false)) }
         ensures pair { IfOk result (λ ends. is_pair ends.0 ends.1) };
 

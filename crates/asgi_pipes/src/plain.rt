@@ -1,9 +1,11 @@
 //! Ends for one thread: what one end puts stays there until it is carried to the other.
 ghost use Rattle.std.specs.Prelude.{◌≡◌, ◌+◌, ◌-◌, ◌≤◌, ◌<◌, [], ◌++◌, length};
+ghost use Rattle.std.specs.VecDeque.{deque_capacity};
 ghost use Rattle.asgi_pipes.specs.Boxes.{put_by, free_in, AreJoined};
 ghost use Rattle.asgi_pipes.specs.Items.{items_of};
 ghost use Rattle.asgi_pipes.specs.PlainPairs.{IsPlainPair};
 
+use crate::ends::{AppEnd, ConnEnd};
 use crate::history::History;
 use crate::inbox::Inbox;
 use crate::outbox::Outbox;
@@ -24,12 +26,33 @@ impl Plain {
     pub fn carry(conn: &mut PlainConn, app: &mut PlainApp)
         requires { IsPlainPair conn.old app.old }
         ensures pair { IsPlainPair conn.new app.new }
-        ensures inward { app.new.inn.taken.items ++ app.new.inn.queue.items ≡ put_by conn.new.out }
-        ensures outward { conn.new.inn.taken.items ++ conn.new.inn.queue.items ≡ items_of app.new.said.items app.new.ended }
-        ensures told { (free_in conn.new.out + length app.new.inn.queue.items ≡ conn.new.out.places) × (free_in app.new.out + length conn.new.inn.queue.items ≡ app.new.out.places) }
-        ensures conn { (put_by conn.new.out ≡ put_by conn.old.out) × (conn.new.inn.taken.items ≡ conn.old.inn.taken.items) × (conn.new.broken ≡ conn.old.broken) × (conn.new.out.places ≡ conn.old.out.places) }
-        ensures app { (app.new.heard.items ≡ app.old.heard.items) × (app.new.inn.taken.items ≡ app.old.inn.taken.items) × (app.new.said.items ≡ app.old.said.items) × (app.new.ended ≡ app.old.ended) × (app.new.moved ≡ app.old.moved) × (app.new.out.places ≡ app.old.out.places) }
-        ensures scope { (app.new.kind ≡ app.old.kind) × (app.new.facts ≡ app.old.facts) }
+        // All that was put is at the other end: what it has taken, and what it sees to wait.
+        ensures inward { ⟦<PlainConn as ConnEnd>⟧.offered conn.new ≡ ⟦<PlainApp as AppEnd>⟧.pulled app.new ++ ⟦<PlainApp as AppEnd>⟧.seen app.new }
+        ensures outward { items_of (⟦<PlainApp as AppEnd>⟧.said app.new) (⟦<PlainApp as AppEnd>⟧.ended app.new)
+            ≡ ⟦<PlainConn as ConnEnd>⟧.got conn.new ++ ⟦<PlainConn as ConnEnd>⟧.seen conn.new }
+
+        // Each end knows its free places.
+        ensures conn_room { ⟦<PlainConn as ConnEnd>⟧.room conn.new ≡ ⟦<PlainConn as ConnEnd>⟧.ring conn.new - length (⟦<PlainApp as AppEnd>⟧.seen app.new) }
+        ensures app_room { ⟦<PlainApp as AppEnd>⟧.room app.new ≡ ⟦<PlainApp as AppEnd>⟧.ring app.new - length (⟦<PlainConn as ConnEnd>⟧.seen conn.new) }
+        ensures told { (free_in conn.new.out + length app.new.inn.queue.items ≡ conn.new.out.places)
+            × (free_in app.new.out + length conn.new.inn.queue.items ≡ app.new.out.places) }
+
+        // Nothing else changes.
+        ensures conn { let End = ⟦<PlainConn as ConnEnd>⟧ in (End.offered conn.new ≡ End.offered conn.old)
+            × (End.got conn.new ≡ End.got conn.old)
+            × (End.is_broken conn.new ≡ End.is_broken conn.old) }
+        ensures app { let End = ⟦<PlainApp as AppEnd>⟧ in (End.heard app.new ≡ End.heard app.old)
+            × (End.pulled app.new ≡ End.pulled app.old)
+            × (End.said app.new ≡ End.said app.old)
+            × (End.ended app.new ≡ End.ended app.old)
+            × (End.has_moved app.new ≡ End.has_moved app.old) }
+        ensures scope { let End = ⟦<PlainApp as AppEnd>⟧ in (End.kind app.new ≡ End.kind app.old)
+            × (End.facts app.new ≡ End.facts app.old) }
+        ensures places { (conn.new.out.places ≡ conn.old.out.places) × (app.new.out.places ≡ app.old.out.places) }
+        ensures conn_capacity { let End = ⟦<PlainConn as ConnEnd>⟧ in (End.ring conn.new ≡ End.ring conn.old)
+            × (End.capacity conn.new ≡ End.capacity conn.old) }
+        ensures app_capacity { let End = ⟦<PlainApp as AppEnd>⟧ in (End.ring app.new ≡ End.ring app.old)
+            × (End.capacity app.new ≡ End.capacity app.old) }
     {
         pass_all(&mut conn.out, &mut app.inn);
         pass_all(&mut app.out, &mut conn.inn);
@@ -45,6 +68,7 @@ fn pass_all<T: Drop>(from: &mut Outbox<T>, to: &mut Inbox<T>)
     ensures to { (to.new.taken.items ≡ to.old.taken.items) × (to.new.places ≡ to.old.places) }
     ensures told { free_in from.new + length to.new.queue.items ≡ from.new.places }
     ensures free { free_in from.old ≤ free_in from.new }
+    ensures capacity { (deque_capacity from.new.queue ≡ deque_capacity from.old.queue) × (deque_capacity to.new.queue ≡ deque_capacity to.old.queue) }
 {
     for _passed in 0..from.len() {
         if let Some(item) = from.pass() {

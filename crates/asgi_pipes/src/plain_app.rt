@@ -47,6 +47,7 @@ pub struct PlainApp {
 
 impl AppEnd for PlainApp {
     ghost use Rattle.std.specs.Prelude.{◌-◌};
+    ghost use Rattle.std.specs.VecDeque.{deque_capacity};
     ghost use Rattle.asgi_pipes.specs.Boxes.{free_in, carriage_from, carriage_to};
     ghost use Rattle.asgi_pipes.specs.Pairs.{Carried, carried};
 
@@ -55,6 +56,8 @@ impl AppEnd for PlainApp {
     ghost tag = { λ s. carried (carriage_to s.inn) (carriage_from s.out) };
 
     ghost ring = { λ s. s.out.places - 1 };
+
+    ghost capacity = { λ s. (deque_capacity s.out.queue, deque_capacity s.inn.queue) };
 
     ghost kind = { λ s. s.kind };
 

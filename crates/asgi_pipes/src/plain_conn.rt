@@ -20,6 +20,7 @@ pub struct PlainConn {
 
 impl ConnEnd for PlainConn {
     ghost use Rattle.std.specs.Prelude.{◌-◌};
+    ghost use Rattle.std.specs.VecDeque.{deque_capacity};
     ghost use Rattle.asgi_pipes.specs.Boxes.{put_by, free_in, carriage_from, carriage_to};
     ghost use Rattle.asgi_pipes.specs.Pairs.{Carried, carried};
 
@@ -28,6 +29,8 @@ impl ConnEnd for PlainConn {
     ghost tag = { λ s. carried (carriage_from s.out) (carriage_to s.inn) };
 
     ghost ring = { λ s. s.out.places - 1 };
+
+    ghost capacity = { λ s. (deque_capacity s.out.queue, deque_capacity s.inn.queue) };
 
     ghost offered = { λ s. put_by s.out };
 
