@@ -2,7 +2,7 @@
 use Rattle.std.proofs.Common.{◌≡◌, ℕ, ◌+◌, ◌-◌, List, [], ◌++◌, length, take, drop, subst, refl, sym, ap, ◌∙◌, append_assoc, add-zero, Option, Some, None}
 use Rattle.std.proofs.lemmas.List.{append-nil, take_rest}
 use Rattle.std.proofs.Math.Seq.{take-add}
-use Rattle.std.specs.Io.KnownBytes.{Keeps, Appends}
+use Rattle.std.specs.Io.KnownBytes.{Keeps, Appends, Consumes}
 
 pub Appends-nothing : (old new : Option (List ℕ)) → Keeps old new → Appends old new []
 Appends-nothing None new k = tt
@@ -43,3 +43,19 @@ pub Appends-none : (old mid new : Option (List ℕ)) (text : List ℕ) (at n : �
     → Appends mid new (take n (take (length text - at) (drop at text))) → Appends old new (take at text)
 Appends-none old mid new text at n none a b =
     subst (λ (k : ℕ). Appends old new (take k text)) (ap (λ (k : ℕ). at + k) none ∙ add-zero at) (Appends-more old mid new text at n a b)
+pub Consumes-nothing : (old new : Option (List ℕ)) → Keeps old new → Consumes old new []
+Consumes-nothing None new k = tt
+Consumes-nothing (Some xs) None k = k
+Consumes-nothing (Some xs) (Some ys) k = sym k
+
+pub Consumes-then : (old mid new : Option (List ℕ)) (front bs : List ℕ) → Consumes old mid front → Consumes mid new bs → Consumes old new (front ++ bs)
+Consumes-then None mid new front bs a b = tt
+Consumes-then (Some xs) None new front bs a b = absurd a
+Consumes-then (Some xs) (Some ys) None front bs a b = b
+Consumes-then (Some xs) (Some ys) (Some zs) front bs a b = a ∙ ap (λ (l : List ℕ). front ++ l) b ∙ sym (append_assoc front bs zs)
+
+pub Consumes-kept : (old mid new : Option (List ℕ)) (front : List ℕ) → Consumes old mid front → Keeps mid new → Consumes old new front
+Consumes-kept None mid new front a k = tt
+Consumes-kept (Some xs) None new front a k = absurd a
+Consumes-kept (Some xs) (Some ys) None front a k = k
+Consumes-kept (Some xs) (Some ys) (Some zs) front a k = a ∙ ap (λ (l : List ℕ). front ++ l) (sym k)

@@ -14,16 +14,16 @@ use Rattle.asgi_io.specs.declared.write.Wrote.TheVariants as wrote
 use Rattle.asgi_io.specs.Answers.{answer_of, passes}
 use Rattle.asgi_io.specs.Writing.{retries, Part, IsPart, part_answers, IsFatal, TriesWrites, TriesPart}
 
-moved_some : (room n : ℕ) → 0 < n → answer_of room (Ok n) ≡ Moved n
+pub moved_some : (room n : ℕ) → 0 < n → answer_of room (Ok n) ≡ Moved n
 moved_some room n some = grind (arith, nat_tests, some)
 
-moved_none : (room : ℕ) → 0 < room → answer_of room (Ok 0) ≡ Nothing
+pub moved_none : (room : ℕ) → 0 < room → answer_of room (Ok 0) ≡ Nothing
 moved_none room some = grind (arith, nat_tests, some)
 
-paused : (room : ℕ) (e : Error) → passes (error_kind e) ≡ true → answer_of room (Err e) ≡ Paused
+pub paused : (room : ℕ) (e : Error) → passes (error_kind e) ≡ true → answer_of room (Err e) ≡ Paused
 paused room e is = rw is refl
 
-failed : (room : ℕ) (e : Error) → passes (error_kind e) ≡ false → answer_of room (Err e) ≡ Failed
+pub failed : (room : ℕ) (e : Error) → passes (error_kind e) ≡ false → answer_of room (Err e) ≡ Failed
 failed room e is = rw is refl
 
 -- one more answer behind pauses in a row
