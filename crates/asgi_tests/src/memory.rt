@@ -3,13 +3,14 @@
 use crate::fakes::{Pieces, serve};
 use crate::texts::{GET, HELLO};
 use asgi_conn::{Outcome, Report};
+use asgi_io::CountedReader;
 use asgi_types::Limits;
 use std::alloc::AllocError;
 use std::test::Fail;
 
 /// Serves a request that comes in two pieces.
 fn serve_in_two<H: AllocGlobal>(rt: &H) -> Result<(Report, Vec<u8>, u64), AllocError> {
-    let mut reader = Pieces::new(GET, 9, 18);
+    let mut reader = CountedReader::new(Pieces::new(GET, 9, 18));
     serve(rt, &Limits::usual(), &mut reader)
 }
 

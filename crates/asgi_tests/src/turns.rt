@@ -2,6 +2,7 @@
 use crate::fakes::{Never, Pieces, serve};
 use crate::texts::{GET, HELLO};
 use asgi_conn::Outcome;
+use asgi_io::CountedReader;
 use asgi_types::Limits;
 use std::io::ErrorKind;
 use std::test::Fail;
@@ -19,9 +20,9 @@ fn turns_are_counted(rt: HostRuntime) -> Result<(), Fail> {
         (b"\r\n", 2, true, 4, 2, 1),
     ];
     for (row, (input, size, blocks, turns, pauses, idle)) in rows.iter().enumerate() {
-        let mut reader = Pieces::new(input, *size, *size);
+        let mut reader = CountedReader::new(Pieces::new(input, *size, *size));
         if *blocks {
-            reader.before = Some(ErrorKind::WouldBlock);
+            reader.reader.before = Some(ErrorKind::WouldBlock);
         }
         let (report, _, paused) = serve(&rt, &Limits::usual(), &mut reader)?;
         assert_eq!(rt; report.turns, *turns, "row {row}");
@@ -34,18 +35,18 @@ fn turns_are_counted(rt: HostRuntime) -> Result<(), Fail> {
 #[test]
 fn idle_comes_at_a_limit(rt: HostRuntime) -> Result<(), Fail> {
     let limits = Limits::new(64, 64, 0, 1, 2, 3, 100)?;
-    let (report, written, paused) = serve(&rt, &limits, &mut Never)?;
+    let (report, written, paused) = serve(&rt, &limits, &mut CountedReader::new(Never))?;
     assert_eq!(rt; report.outcome, Outcome::Idle);
     assert_eq!(rt; (report.turns, report.idle, paused), (3, 3, 3));
     assert_eq!(rt; written.len(), 0);
 
     let limits = Limits::new(64, 64, 0, 1, 2, 30, 5)?;
-    let (report, written, paused) = serve(&rt, &limits, &mut Never)?;
+    let (report, written, paused) = serve(&rt, &limits, &mut CountedReader::new(Never))?;
     assert_eq!(rt; report.outcome, Outcome::Idle);
     assert_eq!(rt; (report.turns, report.idle, paused), (5, 5, 5));
     assert_eq!(rt; written.len(), 0);
 
-    let mut reader = Pieces::new(GET, 1, 1);
+    let mut reader = CountedReader::new(Pieces::new(GET, 1, 1));
     let (report, written, paused) = serve(&rt, &limits, &mut reader)?;
     assert_eq!(rt; report.outcome, Outcome::Idle);
     assert_eq!(rt; (report.turns, report.idle, paused), (5, 0, 0));
@@ -56,8 +57,8 @@ fn idle_comes_at_a_limit(rt: HostRuntime) -> Result<(), Fail> {
 #[test]
 fn a_turn_at_the_limit_still_answers(rt: HostRuntime) -> Result<(), Fail> {
     let limits = Limits::new(64, 64, 0, 1, 2, 2, 54)?;
-    let mut reader = Pieces::new(GET, 1, 1);
-    reader.before = Some(ErrorKind::WouldBlock);
+    let mut reader = CountedReader::new(Pieces::new(GET, 1, 1));
+    reader.reader.before = Some(ErrorKind::WouldBlock);
     let (report, written, paused) = serve(&rt, &limits, &mut reader)?;
     assert_eq!(rt; report.outcome, Outcome::Finished);
     assert_eq!(rt; (report.turns, report.idle, paused), (54, 0, 27));
@@ -67,11 +68,15 @@ fn a_turn_at_the_limit_still_answers(rt: HostRuntime) -> Result<(), Fail> {
 
 #[test]
 fn an_answer_waits_for_no_more_input(rt: HostRuntime) -> Result<(), Fail> {
-    let mut reader = Pieces::new(b"GET / HTTP/1.1\r\nHost: a\r\n\r\nmore", 27, 27);
+    let mut reader = CountedReader::new(Pieces::new(
+        b"GET / HTTP/1.1\r\nHost: a\r\n\r\nmore",
+        27,
+        27,
+    ));
     let (report, written, _) = serve(&rt, &Limits::usual(), &mut reader)?;
     assert_eq!(rt; report.outcome, Outcome::Finished);
     assert_eq!(rt; written.as_slice(), HELLO);
-    assert_eq!(rt; reader.bytes, b"more".as_slice());
-    assert_eq!(rt; reader.reads, 1);
+    assert_eq!(rt; reader.reader.bytes, b"more".as_slice());
+    assert_eq!(rt; reader.reader.reads, 1);
     Ok(())
 }

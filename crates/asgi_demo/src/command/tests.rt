@@ -1,7 +1,7 @@
 use super::*;
-use asgi_response::Counted;
+use asgi_io::{Counted, CountedReader};
 use std::alloc::Global;
-use std::io::{self, ErrorKind};
+use std::io::{self, ErrorKind, Read};
 use std::test::Fail;
 
 const REQUEST: &[u8] = b"GET / HTTP/1.1\r\nHost: a\r\n\r\n";
@@ -19,7 +19,7 @@ fn words(alloc: Global, texts: &[&str]) -> Result<Vec<String>, Fail> {
 
 #[test]
 fn once_hello_answers(rt: HostRuntime) -> Result<(), Fail> {
-    let mut input = REQUEST;
+    let mut input = CountedReader::new(REQUEST);
     let mut output = Counted::new(Vec::new(rt.alloc()));
     let mut errors = Vec::new(rt.alloc());
     let words = words(rt.alloc(), &["once", "hello"])?;
@@ -43,13 +43,13 @@ fn any_other_words_give_the_usage(rt: HostRuntime) -> Result<(), Fail> {
         &["serve", "8000", "1", "hello"],
     ];
     for (row, texts) in wrong.iter().enumerate() {
-        let mut input = REQUEST;
+        let mut input = CountedReader::new(REQUEST);
         let mut output = Counted::new(Vec::new(rt.alloc()));
         let mut errors = Vec::new(rt.alloc());
         let words = words(rt.alloc(), texts)?;
         let status = command(&rt, &words, &mut input, &mut output, &mut errors);
         assert_eq!(rt; status, 2, "row {row}");
-        assert_eq!(rt; input.len(), REQUEST.len(), "row {row}");
+        assert_eq!(rt; input.reader.len(), REQUEST.len(), "row {row}");
         assert_eq!(rt; output.writer.len(), 0, "row {row}");
         assert_eq!(rt; errors.as_slice(), USAGE, "row {row}");
     }
@@ -82,7 +82,7 @@ impl Write for Stuck {
 fn a_connection_that_stops_is_said_so(rt: HostRuntime) -> Result<(), Fail> {
     let words = words(rt.alloc(), &["once", "hello"])?;
     let mut errors = Vec::new(rt.alloc());
-    let mut input = REQUEST;
+    let mut input = CountedReader::new(REQUEST);
     let mut output = Counted::new(Stuck {
         kind: ErrorKind::BrokenPipe,
     });
@@ -91,18 +91,18 @@ fn a_connection_that_stops_is_said_so(rt: HostRuntime) -> Result<(), Fail> {
     assert_eq!(rt; errors.as_slice(), b"stopped: write-failed 0\n".as_slice());
 
     let mut errors = Vec::new(rt.alloc());
-    let mut input = Stuck {
+    let mut input = CountedReader::new(Stuck {
         kind: ErrorKind::WouldBlock,
-    };
+    });
     let mut output = Counted::new(Vec::new(rt.alloc()));
     let status = command(&rt, &words, &mut input, &mut output, &mut errors);
     assert_eq!(rt; status, 5);
     assert_eq!(rt; errors.as_slice(), b"stopped: idle\n".as_slice());
 
     let mut errors = Vec::new(rt.alloc());
-    let mut input = Stuck {
+    let mut input = CountedReader::new(Stuck {
         kind: ErrorKind::ConnectionReset,
-    };
+    });
     let status = command(&rt, &words, &mut input, &mut output, &mut errors);
     assert_eq!(rt; status, 0);
     assert_eq!(rt; errors.len(), 0);
