@@ -60,8 +60,9 @@ fn cuts_change_nothing(rt: HostRuntime) -> Result<(), Fail> {
 #[test]
 fn a_read_that_fails_gets_no_answer(rt: HostRuntime) -> Result<(), Fail> {
     for failing in 1..=27 {
-        let mut reader = CountedReader::new(Pieces::new(GET, 1, 1));
-        reader.reader.fails_at = failing;
+        let mut pieces = Pieces::new(GET, 1, 1);
+        pieces.fails_at = failing;
+        let mut reader = CountedReader::new(pieces);
         let (report, written, _) = serve(&rt, &Limits::usual(), &mut reader)?;
         assert_eq!(rt; written.len(), 0, "read {failing}");
         assert_eq!(rt; report.outcome, Outcome::InputBroke, "read {failing}");
@@ -69,8 +70,9 @@ fn a_read_that_fails_gets_no_answer(rt: HostRuntime) -> Result<(), Fail> {
         assert_eq!(rt; report.turns, failing, "read {failing}");
         assert_eq!(rt; reader.faults(), 1, "read {failing}");
     }
-    let mut reader = CountedReader::new(Pieces::new(GET, 1, 1));
-    reader.reader.fails_at = 28;
+    let mut pieces = Pieces::new(GET, 1, 1);
+    pieces.fails_at = 28;
+    let mut reader = CountedReader::new(pieces);
     let (report, written, _) = serve(&rt, &Limits::usual(), &mut reader)?;
     assert_eq!(rt; written.as_slice(), HELLO);
     assert_eq!(rt; report.outcome, Outcome::Finished);

@@ -20,10 +20,11 @@ fn turns_are_counted(rt: HostRuntime) -> Result<(), Fail> {
         (b"\r\n", 2, true, 4, 2, 1),
     ];
     for (row, (input, size, blocks, turns, pauses, idle)) in rows.iter().enumerate() {
-        let mut reader = CountedReader::new(Pieces::new(input, *size, *size));
+        let mut pieces = Pieces::new(input, *size, *size);
         if *blocks {
-            reader.reader.before = Some(ErrorKind::WouldBlock);
+            pieces.before = Some(ErrorKind::WouldBlock);
         }
+        let mut reader = CountedReader::new(pieces);
         let (report, _, paused) = serve(&rt, &Limits::usual(), &mut reader)?;
         assert_eq!(rt; report.turns, *turns, "row {row}");
         assert_eq!(rt; paused, *pauses, "row {row}");
@@ -57,8 +58,9 @@ fn idle_comes_at_a_limit(rt: HostRuntime) -> Result<(), Fail> {
 #[test]
 fn a_turn_at_the_limit_still_answers(rt: HostRuntime) -> Result<(), Fail> {
     let limits = Limits::new(64, 64, 0, 1, 2, 2, 54)?;
-    let mut reader = CountedReader::new(Pieces::new(GET, 1, 1));
-    reader.reader.before = Some(ErrorKind::WouldBlock);
+    let mut pieces = Pieces::new(GET, 1, 1);
+    pieces.before = Some(ErrorKind::WouldBlock);
+    let mut reader = CountedReader::new(pieces);
     let (report, written, paused) = serve(&rt, &limits, &mut reader)?;
     assert_eq!(rt; report.outcome, Outcome::Finished);
     assert_eq!(rt; (report.turns, report.idle, paused), (54, 0, 27));
