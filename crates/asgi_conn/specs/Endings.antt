@@ -1,7 +1,11 @@
 -- How reading stops, in the words of the bytes read. No promise is stated by these words.
-use Rattle.std.specs.Prelude.{ℕ, List, [], ◌∷◌, IsTrue, Option, Some, None}
+use Rattle.std.specs.Prelude.{◌≡◌, ◌≢◌, ◌⊎◌, ℕ, List, [], ◌∷◌, IsTrue, Option, Some, None}
 use Rattle.asgi_types.specs.declared.limits.Limits.{Limits}
 use Rattle.asgi_types.specs.declared.scope.Scope.{Scope}
+use Rattle.asgi_io.specs.declared.answer.Answer.{Answer}
+use Rattle.asgi_io.specs.declared.answer.Answer.TheVariants as answer
+use Rattle.asgi_io.specs.declared.turns.Turn.TheVariants as turn
+use Rattle.asgi_io.specs.Answers.{turn_of}
 use Rattle.asgi_request.specs.declared.next.Next.TheVariants as next
 use Rattle.asgi_request.specs.Reading.{Reading, StandsFor}
 use Rattle.asgi_request.specs.Results.{HasFirst}
@@ -32,3 +36,22 @@ HasText NoMemory = Unit {0}
 abbrev pub Stops : Option Ending → Limits → List ℕ → Reading → Type 0
 Stops None limits read requests = StandsFor requests read [] × NothingIsDue limits read
 Stops (Some ending) limits read requests = StopsAs ending limits read × HasText ending
+
+-- why reading stopped, by the last read
+abbrev pub StopsAt : Ending → Limits → List ℕ → Answer → ℕ → ℕ → Type 0
+StopsAt (Head facts) limits read last turns idle = turn_of last ≡ turn.Moved
+StopsAt (Refused status) limits read last turns idle = turn_of last ≡ turn.Moved
+StopsAt Blank limits read last turns idle = last ≡ answer.Nothing
+StopsAt InputBroke limits read last turns idle = (last ≡ answer.Failed) ⊎ ((last ≡ answer.Nothing) × ¬ (IsBlank read))
+StopsAt Idle limits read last turns idle = (turn_of last ≢ turn.Last) × ((turns ≡ limits.turns) ⊎ (idle ≡ limits.idle_turns))
+StopsAt NoMemory limits read last turns idle = turn_of last ≡ turn.Moved
+
+-- what a piece can end reading with: a result, or want of memory
+abbrev pub IsOfPiece : Option Ending → Type 0
+IsOfPiece None = Unit {0}
+IsOfPiece (Some (Head facts)) = Unit {0}
+IsOfPiece (Some (Refused status)) = Unit {0}
+IsOfPiece (Some Blank) = ⊥
+IsOfPiece (Some InputBroke) = ⊥
+IsOfPiece (Some Idle) = ⊥
+IsOfPiece (Some NoMemory) = Unit {0}

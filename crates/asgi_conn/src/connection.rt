@@ -1,24 +1,23 @@
 //! One connection from its first byte to its last.
-ghost use Rattle.std.specs.Prelude.{◌≡◌, ◌≢◌, ◌≤◌, ◌⊎◌, ℕ, List, IsTrue};
-ghost use Rattle.std.specs.Io.KnownBytes.{Appends, Consumes, IsAtEnd};
+ghost use Rattle.std.specs.Prelude.{◌≡◌, ◌≢◌, ◌+◌, ℕ, List, IsTrue};
 ghost use Rattle.asgi_types.specs.declared.limits.Limits.{Limits};
-ghost use Rattle.asgi_response.specs.Counting.{RoseBy};
+ghost use Rattle.asgi_io.specs.declared.answer.Answer.{Answer};
+ghost use Rattle.asgi_io.specs.Counting.{RoseExactly};
 ghost use Rattle.asgi_response.specs.Refusals.{is_refusal};
-ghost use Rattle.asgi_conn.specs.Conversation.{refusal, answer_to, Agrees, Conversation};
-ghost use Rattle.asgi_conn.specs.Endings.{HasText, StopsAs};
-ghost use Rattle.asgi_conn.specs.Sending.{Puts, SendsAnswer, TellsFailure};
-ghost use Rattle.asgi_conn.specs.Turns.{CountsTurns, IsPrompt};
+ghost use Rattle.asgi_conn.specs.Conversation.{refusal, answer_to};
+ghost use Rattle.asgi_conn.specs.Endings.{HasText, StopsAs, StopsAt};
+ghost use Rattle.asgi_conn.specs.Sending.{Output, EndsWell, Puts, SendsAnswer, TellsFailure};
+ghost use Rattle.asgi_conn.specs.Serving.{IsCause, Outside, Serves};
 
 use crate::exchange::exchange_text;
-use crate::hello::Hello;
-use crate::pause::Pause;
+use crate::hello::Greets;
 use crate::reading::{Ending, read_request};
 use crate::report::{Outcome, Report};
+use asgi_io::{Counts, Pause, Reads, Wrote, write_out};
 use asgi_request::has_body;
-use asgi_response::{Counts, Wrote, refusal_text, write_out};
+use asgi_response::refusal_text;
 use asgi_types::{Facts, Limits};
 use std::alloc::Global;
-use std::io::Read;
 
 /// The status of a request that announces a body.
 const NOT_IMPLEMENTED: u16 = 501;
@@ -34,32 +33,33 @@ struct End {
 ///
 /// The answer is written as soon as the head is whole. A head that is none, too long, or not served
 /// gets the text of a refusal. The connection ends after its answer; the caller closes it.
-pub fn serve_connection<H: AllocGlobal, R: Read, W: Counts, P: Pause>(
+pub fn serve_connection<H: AllocGlobal, A: Greets, R: Reads, W: Counts, P: Pause>(
     rt: &H,
     limits: &Limits,
-    app: &Hello,
+    app: &mut A,
     reader: &mut R,
     writer: &mut W,
     pause: &mut P,
 ) -> Report
-    ensures conversation { (read : List ℕ) × (written : List ℕ)
-        × Consumes (R.remaining reader.old) (R.remaining reader.new) read
-        × Appends (W.written writer.old) (W.written writer.new) written
-        × Conversation limits.now read written result
-        × IsPrompt limits.now read
-        × CountsTurns read (P.count pause.old) (P.count pause.new) result.turns }
-
-    // An input that is only empty lines is finished where it ended, and nowhere else.
-    ensures at_end { result.outcome ≡ Outcome.Finished → result.exchanges ≡ 0 → IsAtEnd (R.remaining reader.new) }
-
-    // WriteFailed is said only of a writer that failed.
-    ensures write_failed { (n : ℕ) → result.outcome ≡ Outcome.WriteFailed n → RoseBy 1 (W.failed writer.old) (W.failed writer.new) }
-
-    // The turns and the idle turns in a row keep their limits, and Idle comes at one of them.
-    ensures turns_limit { result.turns ≤ limits.now.turns }
-    ensures idle_limit { result.idle ≤ limits.now.idle_turns }
-    ensures idle_paused { RoseBy result.idle (P.count pause.old) (P.count pause.new) }
-    ensures idle_cause { result.outcome ≡ Outcome.Idle → (result.idle ≡ limits.now.idle_turns) ⊎ (result.turns ≡ limits.now.turns) }
+    ensures { let before : Outside = record {
+      left = R.remaining reader.old;
+      written = W.written writer.old;
+      reads = R.answers reader.old;
+      writes = W.answers writer.old;
+      failed = W.failed writer.old;
+      pauses = P.count pause.old;
+      asked = A.asked app.old;
+    } in
+        let after : Outside = record {
+          left = R.remaining reader.new;
+          written = W.written writer.new;
+          reads = R.answers reader.new;
+          writes = W.answers writer.new;
+          failed = W.failed writer.new;
+          pauses = P.count pause.new;
+          asked = A.asked app.new;
+        } in
+        Serves limits.now before after result }
 {
     let alloc = rt.alloc();
     let reading = read_request(alloc, limits, reader, pause);
@@ -74,13 +74,14 @@ pub fn serve_connection<H: AllocGlobal, R: Read, W: Counts, P: Pause>(
 }
 
 /// Ends the connection once reading has stopped.
-fn finish<W: Counts>(alloc: Global, app: &Hello, ending: &Ending, writer: &mut W) -> End
+fn finish<A: Greets, W: Counts>(alloc: Global, app: &mut A, ending: &Ending, writer: &mut W) -> End
     requires { HasText ending.now }
     ensures agrees { (limits : Limits) (read : List ℕ) → StopsAs ending.now limits read →
-        (written : List ℕ) × Appends (W.written writer.old) (W.written writer.new) written
-        × Agrees result.outcome limits read written result.exchanges }
-    ensures at_end { result.outcome ≡ Outcome.Finished → result.exchanges ≡ 0 → ending.now ≡ Ending.Blank }
-    ensures idle { result.outcome ≡ Outcome.Idle → ending.now ≡ Ending.Idle }
+        EndsWell limits read record { written = W.written writer.old; writes = W.answers writer.old }
+        record { written = W.written writer.new; writes = W.answers writer.new } result }
+    ensures cause { (limits : Limits) (read : List ℕ) (last : Answer) (turns idle : ℕ) → StopsAt ending.now limits read last turns idle →
+        IsCause result.outcome result.exchanges turns idle limits read last }
+    ensures asked { RoseExactly result.exchanges (A.asked app.old) (A.asked app.new) }
     ensures write_failed { TellsFailure (W.failed writer.old) (W.failed writer.new) result }
 {
     match ending {
@@ -104,8 +105,10 @@ fn silent(outcome: Outcome) -> End
 }
 
 /// Answers a request as the application says, or refuses one that announces a body.
-fn reply<W: Counts>(alloc: Global, app: &Hello, facts: &Facts, writer: &mut W) -> End
-    ensures answers { SendsAnswer (answer_to facts.now) (W.written writer.old) (W.written writer.new) result }
+fn reply<A: Greets, W: Counts>(alloc: Global, app: &mut A, facts: &Facts, writer: &mut W) -> End
+    ensures answers { SendsAnswer (answer_to facts.now) record { written = W.written writer.old; writes = W.answers writer.old }
+        record { written = W.written writer.new; writes = W.answers writer.new } result }
+    ensures asked { RoseExactly result.exchanges (A.asked app.old) (A.asked app.new) }
     ensures write_failed { TellsFailure (W.failed writer.old) (W.failed writer.new) result }
 {
     if has_body(facts.framing) {
@@ -127,7 +130,9 @@ fn reply<W: Counts>(alloc: Global, app: &Hello, facts: &Facts, writer: &mut W) -
 /// Writes the text of a refusal.
 fn refuse<W: Counts>(status: u16, writer: &mut W) -> End
     requires { IsTrue (is_refusal status) }
-    ensures answers { SendsAnswer (refusal status) (W.written writer.old) (W.written writer.new) result }
+    ensures answers { SendsAnswer (refusal status) record { written = W.written writer.old; writes = W.answers writer.old }
+        record { written = W.written writer.new; writes = W.answers writer.new } result }
+    ensures exchanges { result.exchanges ≡ 0 }
     ensures write_failed { TellsFailure (W.failed writer.old) (W.failed writer.new) result }
 {
     let refused = End {
@@ -139,7 +144,9 @@ fn refuse<W: Counts>(status: u16, writer: &mut W) -> End
 
 /// Writes a text, and says how the connection ends: as given where all of it is out.
 fn put<W: Counts>(text: &[u8], writer: &mut W, whole: End) -> End
-    ensures puts { Puts text.now whole (W.written writer.old) (W.written writer.new) result }
+    ensures puts { Puts text.now whole record { written = W.written writer.old; writes = W.answers writer.old }
+        record { written = W.written writer.new; writes = W.answers writer.new } result }
+    ensures exchanges { result.exchanges ≡ whole.exchanges }
     ensures write_failed { ((n : ℕ) → whole.outcome ≢ Outcome.WriteFailed n) → TellsFailure (W.failed writer.old) (W.failed writer.new) result }
 {
     match write_out(writer, text) {

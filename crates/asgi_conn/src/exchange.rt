@@ -1,21 +1,27 @@
 //! The text of an exchange with the application.
-ghost use Rattle.std.specs.Prelude.{◌≡◌, [], IfOk, OnOk};
+ghost use Rattle.std.specs.Prelude.{◌≡◌, ◌+◌, [], IfOk, OnOk};
 ghost use Rattle.asgi_types.specs.declared.facts.Facts.{Facts};
 ghost use Rattle.asgi_response.specs.Exchange as spec;
 ghost use Rattle.asgi_response.specs.Response.{response_text};
 ghost use Rattle.asgi_response.specs.Standing.{StandsFor};
+ghost use Rattle.asgi_io.specs.Counting.{counted};
 ghost use Rattle.asgi_conn.specs.Hello.{hello_events};
 
-use crate::hello::Hello;
+use crate::hello::Greets;
 use asgi_response::{Input, ResponseText};
 use asgi_types::{Facts, Outgoing};
 use std::alloc::{AllocError, Global};
 
 /// The text of the application's whole answer to a request.
-pub fn exchange_text(alloc: Global, app: &Hello, facts: &Facts) -> Result<Vec<u8>, AllocError>
-    ensures { IfOk result (λ text. text.items ≡ spec.exchange_text facts.now hello_events Input.Whole) }
+pub fn exchange_text<A: Greets>(
+    alloc: Global,
+    app: &mut A,
+    facts: &Facts,
+) -> Result<Vec<u8>, AllocError>
+    ensures text { IfOk result (λ text. text.items ≡ spec.exchange_text facts.now hello_events Input.Whole) }
+    ensures asked { A.asked app.new ≡ counted (A.asked app.old + 1) }
 {
-    let said = app.said(alloc)?;
+    let said = app.greet(alloc)?;
     let mut text = ResponseText::new(alloc, facts);
     let mut out = Vec::new(alloc);
     text.begin(&mut out)?;

@@ -1,5 +1,6 @@
 //! The application that greets.
-ghost use Rattle.std.specs.Prelude.{◌≡◌, IfOk};
+ghost use Rattle.std.specs.Prelude.{◌≡◌, ◌+◌, ℕ, IfOk};
+ghost use Rattle.asgi_io.specs.Counting.{counted};
 ghost use Rattle.asgi_conn.specs.Hello.{hello_events};
 
 use asgi_types::{HeaderError, Headers, Octets, Outgoing};
@@ -8,6 +9,21 @@ use std::alloc::{AllocError, Global};
 const CONTENT_TYPE: &[u8] = b"content-type";
 
 const TEXT_PLAIN: &[u8] = b"text/plain";
+
+/// Answers each request with a greeting, and counts how often it was asked. The count stays at 2^64 - 1.
+pub trait Greets {
+    // How often `greet` was called.
+    ghost asked: { Self → ℕ };
+
+    /// The events of a greeting.
+    fn greet(&mut self, alloc: Global) -> Result<Vec<Outgoing>, AllocError>
+        ensures said { IfOk result (λ said. said.items ≡ hello_events) }
+        ensures asked { asked self.new ≡ counted (asked self.old + 1) };
+
+    /// How often `greet` was called.
+    fn times_asked(&self) -> u64
+        ensures { result ≡ asked self.now };
+}
 
 /// An application that answers each request with a greeting.
 #[derive(Clone, Copy, Debug)]
@@ -36,5 +52,34 @@ impl Hello {
             more_body: false,
         })?;
         Ok(said)
+    }
+}
+
+/// `Hello`, with a count of how often it was asked.
+#[derive(Clone, Copy, Debug)]
+pub struct CountedHello {
+    hello: Hello,
+    asked: u64,
+}
+
+impl CountedHello {
+    /// It was not asked yet.
+    pub fn new(hello: Hello) -> Self
+        ensures { result.asked ≡ 0 }
+    {
+        CountedHello { hello, asked: 0 }
+    }
+}
+
+impl Greets for CountedHello {
+    ghost asked = { λ app. app.asked };
+
+    fn greet(&mut self, alloc: Global) -> Result<Vec<Outgoing>, AllocError> {
+        self.asked = self.asked.saturating_add(1);
+        self.hello.said(alloc)
+    }
+
+    fn times_asked(&self) -> u64 {
+        self.asked
     }
 }

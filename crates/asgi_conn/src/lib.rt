@@ -5,11 +5,10 @@ mod connection;
 mod exchange;
 mod hello;
 pub mod laws;
-mod pause;
 mod reading;
 mod report;
 
+pub use asgi_io::{CountingPause, Pause};
 pub use connection::serve_connection;
-pub use hello::Hello;
-pub use pause::Pause;
+pub use hello::{CountedHello, Greets, Hello};
 pub use report::{Outcome, Report};

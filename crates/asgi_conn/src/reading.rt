@@ -1,18 +1,14 @@
 //! Reading until it is known what the bytes begin with.
-ghost use Rattle.std.specs.Prelude.{◌≡◌, ◌≢◌, ◌≤◌, ◌⊎◌, ◌↔◌, [], ◌++◌, ℕ, List, Option, IsTrue};
-ghost use Rattle.std.specs.Io.KnownBytes.{Consumes, IsAtEnd};
+ghost use Rattle.std.specs.Prelude.{◌≡◌, ◌≢◌, ◌⊎◌, ◌↔◌, [], ◌++◌, ℕ, List, Option, IsTrue};
 ghost use Rattle.asgi_request.specs.Reading.{StandsFor};
-ghost use Rattle.asgi_response.specs.Counting.{RoseBy};
 ghost use Rattle.asgi_conn.specs.Conversation.{NothingIsDue, IsBlank};
-ghost use Rattle.asgi_conn.specs.Endings.{HasText, StopsAs, Stops};
-ghost use Rattle.asgi_conn.specs.Turns.{CountsTurns, IsPrompt};
+ghost use Rattle.asgi_conn.specs.Endings.{HasText, StopsAs, StopsAt, Stops, IsOfPiece};
+ghost use Rattle.asgi_conn.specs.Reads.{IsRead};
 
-use crate::pause::Pause;
+use asgi_io::{Pause, Reads, Turns, answer_to, is_passing};
 use asgi_request::{Next, RequestReader};
-use asgi_response::is_passing;
 use asgi_types::{Facts, Limits};
 use std::alloc::Global;
-use std::io::Read;
 
 /// The most bytes that one turn reads.
 const PIECE: usize = 4_096;
@@ -44,47 +40,40 @@ pub struct Reading {
 }
 
 /// Reads until a head or a refusal is there, the input is at its end, or a limit is reached.
-pub fn read_request<R: Read, P: Pause>(
+pub fn read_request<R: Reads, P: Pause>(
     alloc: Global,
     limits: &Limits,
     reader: &mut R,
     pause: &mut P,
 ) -> Reading
-    ensures reads { (read : List ℕ) × Consumes (R.remaining reader.old) (R.remaining reader.new) read
-        × StopsAs result.ending limits.now read × IsPrompt limits.now read
-        × CountsTurns read (P.count pause.old) (P.count pause.new) result.turns }
+    ensures reads { (x : IsRead limits.now (R.remaining reader.old) (R.remaining reader.new) (R.answers reader.old) (R.answers reader.new)
+        (P.count pause.old) (P.count pause.new) result.turns result.idle)
+        × StopsAs result.ending limits.now x.read × StopsAt result.ending limits.now x.read x.prompt.last result.turns result.idle }
     ensures has_text { HasText result.ending }
-    ensures at_end { result.ending ≡ Ending.Blank → IsAtEnd (R.remaining reader.new) }
-    ensures turns_limit { result.turns ≤ limits.now.turns }
-    ensures idle_limit { result.idle ≤ limits.now.idle_turns }
-    ensures idle_paused { RoseBy result.idle (P.count pause.old) (P.count pause.new) }
-    ensures idle_cause { result.ending ≡ Ending.Idle → (result.idle ≡ limits.now.idle_turns) ⊎ (result.turns ≡ limits.now.turns) }
 {
     let mut piece = [0; PIECE];
     let mut requests = RequestReader::new(alloc, *limits);
-    let mut idle = 0;
-    for turn in 0..limits.turns {
-        match reader.read(&mut piece) {
-            Ok(0) => return stop(end_of_input(&requests), turn + 1, idle),
+    let mut turns = Turns::new(limits.turns, limits.idle_turns);
+    while !turns.is_over() {
+        let read = reader.read_some(&mut piece);
+        turns.take(answer_to(&read, PIECE).turn(), pause);
+        match read {
             Ok(n) => {
-                idle = 0;
+                if n == 0 {
+                    return stop(end_of_input(&requests), &turns);
+                }
                 if let Some(ending) = take_piece(&mut requests, &piece[..n]) {
-                    return stop(ending, turn + 1, idle);
+                    return stop(ending, &turns);
                 }
             }
             Err(e) => {
                 if !is_passing(&e) {
-                    return stop(Ending::InputBroke, turn + 1, idle);
-                }
-                idle += 1;
-                pause.pause();
-                if idle >= limits.idle_turns {
-                    return stop(Ending::Idle, turn + 1, idle);
+                    return stop(Ending::InputBroke, &turns);
                 }
             }
         }
     }
-    stop(Ending::Idle, limits.turns, idle)
+    stop(Ending::Idle, &turns)
 }
 
 /// Takes a piece of the input, and answers why reading stops behind it, or `None` where more is needed.
@@ -92,8 +81,7 @@ fn take_piece(requests: &mut RequestReader, piece: &[u8]) -> Option<Ending>
     requires { (bytes : List ℕ) × StandsFor requests.now bytes [] }
     ensures limits { requests.new.limits ≡ requests.old.limits }
     ensures takes { (bytes : List ℕ) → StandsFor requests.old bytes [] → Stops result requests.old.limits (bytes ++ piece.now) requests.new }
-    ensures not_blank { result ≢ Option.Some Ending.Blank }
-    ensures not_idle { result ≢ Option.Some Ending.Idle }
+    ensures moved { IsOfPiece result }
 {
     let Ok(()) = requests.feed(piece) else {
         return Some(Ending::NoMemory);
@@ -114,7 +102,7 @@ fn take_piece(requests: &mut RequestReader, piece: &[u8]) -> Option<Ending>
 fn end_of_input(requests: &RequestReader) -> Ending
     ensures stops { (bytes : List ℕ) → StandsFor requests.now bytes [] → NothingIsDue requests.now.limits bytes → StopsAs result requests.now.limits bytes }
     ensures has_text { HasText result }
-    ensures is_end { (result ≡ Ending.Blank) ⊎ (result ≡ Ending.InputBroke) }
+    ensures blank { (bytes : List ℕ) → StandsFor requests.now bytes [] → (result ≡ Ending.Blank) ⊎ ((result ≡ Ending.InputBroke) × ¬ (IsBlank bytes)) }
 {
     if is_blank(requests.held()) {
         return Ending::Blank;
@@ -129,14 +117,14 @@ fn is_blank(bytes: &[u8]) -> bool
     bytes.iter().all(|b| *b == b'\r' || *b == b'\n')
 }
 
-fn stop(ending: Ending, turns: u64, idle: u32) -> Reading
+fn stop(ending: Ending, turns: &Turns) -> Reading
     ensures ending { result.ending ≡ ending }
-    ensures turns { result.turns ≡ turns }
-    ensures idle { result.idle ≡ idle }
+    ensures turns { result.turns ≡ turns.now.turns }
+    ensures idle { result.idle ≡ turns.now.idle }
 {
     Reading {
         ending,
-        turns,
-        idle,
+        turns: turns.turns,
+        idle: turns.idle,
     }
 }

@@ -1,12 +1,10 @@
 -- What the program does with its words.
-use Rattle.std.specs.Prelude.{◌≡◌, ℕ, List, [], ◌∷◌, map, codes, Option}
-use Rattle.std.specs.Io.KnownBytes.{Consumes, Appends}
+use Rattle.std.specs.Prelude.{◌≡◌, ℕ, List, [], ◌∷◌, codes, Option}
+use Rattle.asgi_io.specs.declared.answer.Answer.{Answer}
 use Rattle.asgi_conn.specs.declared.report.Outcome.{Outcome}
 use Rattle.asgi_conn.specs.declared.report.Outcome.TheVariants.{Finished, Refused, InputBroke, WriteFailed, Idle, NoMemory}
 use Rattle.asgi_conn.specs.declared.report.Report.{Report}
-use Rattle.asgi_conn.specs.Conversation.{Conversation}
-use Rattle.asgi_conn.specs.Turns.{IsPrompt}
-use Rattle.asgi_response.specs.Counting.{RoseBy}
+use Rattle.asgi_conn.specs.Serving.{Outside, Serves}
 use Rattle.asgi_types.specs.declared.limits.Limits.{Limits}
 use Rattle.asgi_types.specs.Ranges.{AreLimits}
 
@@ -23,17 +21,25 @@ exit_status (WriteFailed n) = 5
 exit_status Idle = 5
 exit_status NoMemory = 5
 
--- One connection was served with the usual limits, and the status is that of its outcome. A write is said to have failed
--- only where the output's count of failures rose.
-pub record ServesOnce (input_old input_new output_old output_new : Option (List ℕ)) (failed_old failed_new status : ℕ) : Type 0 where
+-- what is known of the input and the output at one time, as in `Outside`
+pub record Streams : Type 0 where
+  pub left : Option (List ℕ)
+  pub reads : List Answer
+  pub written : Option (List ℕ)
+  pub writes : List Answer
+  pub failed : ℕ
+
+-- with a pause and an application of the program's own
+abbrev pub outside_of : Streams → ℕ → ℕ → Outside
+outside_of s pauses asked =
+    record { left = s.left; written = s.written; reads = s.reads; writes = s.writes; failed = s.failed; pauses = pauses; asked = asked }
+
+-- One connection was served with the usual limits, as `serve_connection` promises, and the status is that of its outcome.
+pub record ServesOnce (old new : Streams) (status : ℕ) : Type 0 where
   pub limits : Limits
   pub usual : AreLimits limits 16384 64 1048576 16384 16 30000 1099511627776
-  pub read : List ℕ
-  pub written : List ℕ
   pub report : Report
-  pub consumes : Consumes input_old input_new read
-  pub appends : Appends output_old output_new written
-  pub conversation : Conversation limits read written report
-  pub prompt : IsPrompt limits read
-  pub write_failed : (n : ℕ) → report.outcome ≡ WriteFailed n → RoseBy 1 failed_old failed_new
+  pub pauses : ℕ
+  pub asked : ℕ
+  pub serves : Serves limits (outside_of old 0 0) (outside_of new pauses asked) report
   pub status_is : status ≡ exit_status report.outcome

@@ -1,58 +1,54 @@
 //! The command line.
 ghost use Rattle.std.specs.Prelude.{◌≡◌, ◌↔◌, IsTrue, map, string_bytes};
-ghost use Rattle.std.specs.Io.KnownBytes.{Keeps};
 ghost use Rattle.asgi_demo.specs.Command as spec;
-ghost use Rattle.asgi_demo.specs.Command.{IsOnceHello, ServesOnce};
+ghost use Rattle.asgi_demo.specs.Command.{IsOnceHello, ServesOnce, Streams};
 
-use asgi_conn::{Hello, Outcome, Pause, serve_connection};
-use asgi_response::Counts;
+use asgi_conn::{CountedHello, CountingPause, Hello, Outcome, serve_connection};
+use asgi_io::{Counts, Reads};
 use asgi_types::Limits;
-use std::io::{Read, Write};
+use std::io::Write;
 
 const USAGE: &[u8] = b"usage: asgi_demo once APP | asgi_demo serve PORT COUNT APP\n";
 
 const DEVICE_FAULT: &[u8] = b"device fault\n";
 
-/// A pause that only counts.
-#[derive(Drop)]
-struct CountingPause {
-    count: u64,
-}
-
-impl Pause for CountingPause {
-    ghost count = { λ p. p.count };
-
-    fn pause(&mut self) {
-        self.count = self.count.saturating_add(1);
-    }
-
-    fn paused(&self) -> u64 {
-        self.count
-    }
-}
-
 /// Runs the program on the words behind its name, and gives the exit status.
 ///
 /// `once hello` serves the input to the output. Any other words give the usage text on `errors`,
 /// and nothing else is done.
-pub fn command<H: AllocGlobal, R: Read, W: Counts, E: Write>(
+pub fn command<H: AllocGlobal, R: Reads, W: Counts, E: Write>(
     rt: &H,
     words: &[String],
     input: &mut R,
     output: &mut W,
     errors: &mut E,
 ) -> u8
-    ensures serves { IsOnceHello (map string_bytes words.now) →
-        ServesOnce (R.remaining input.old) (R.remaining input.new) (W.written output.old) (W.written output.new)
-        (W.failed output.old) (W.failed output.new) result }
+    ensures serves { IsOnceHello (map string_bytes words.now) → (
+        let before : Streams = record {
+          left = R.remaining input.old;
+          reads = R.answers input.old;
+          written = W.written output.old;
+          writes = W.answers output.old;
+          failed = W.failed output.old;
+        } in
+        let after : Streams = record {
+          left = R.remaining input.new;
+          reads = R.answers input.new;
+          written = W.written output.new;
+          writes = W.answers output.new;
+          failed = W.failed output.new;
+        } in
+        ServesOnce before after result) }
     ensures usage { (¬ (IsOnceHello (map string_bytes words.now))) →
-        (result ≡ 2) × Keeps (R.remaining input.old) (R.remaining input.new) × Keeps (W.written output.old) (W.written output.new) }
+        (result ≡ 2) × (input.new ≡ input.old) × (output.new ≡ output.old) }
 {
     if !is_once_hello(words) {
         return usage(errors);
     }
-    let mut pause = CountingPause { count: 0 };
-    let report = serve_connection(rt, &Limits::usual(), &Hello, input, output, &mut pause);
+    let limits = Limits::usual();
+    let mut app = CountedHello::new(Hello);
+    let mut pause = CountingPause::new();
+    let report = serve_connection(rt, &limits, &mut app, input, output, &mut pause);
     let status = exit_status(report.outcome);
     if status != 0 {
         let _ = writeln!(errors, "stopped: {}", report.outcome);

@@ -1,5 +1,3 @@
-pub mod BytesLemmas
-pub mod CountLemmas
 pub mod DigitLemmas
 pub mod FieldLemmas
 pub mod HeadLemmas

@@ -7,8 +7,6 @@ pub mod Exchange
 pub mod Progress
 pub mod Standing
 pub mod Laws
-pub mod Counting
-pub mod Writing
 pub mod Refusals
 pub mod Steps
 pub mod Room

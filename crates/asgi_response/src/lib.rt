@@ -1,10 +1,9 @@
-//! The bytes of a response: the text of what an application says, and its writing.
+//! The bytes of a response: the text of what an application says.
 //! A text keeps a few numbers; its contract speaks of the whole list of events.
 #![tactic(auto)]
 
 mod append;
 mod content;
-mod counts;
 mod fields;
 mod head;
 mod laws;
@@ -13,9 +12,8 @@ mod refusal;
 #[cfg(test)]
 mod tests;
 mod text;
-mod write;
 
-pub use counts::{Counted, Counts};
+pub use asgi_io::{Counted, Counts, Wrote, is_passing, write_out};
 pub use laws::{
     head_is_read_back, headers_are_read_back, lawful_is_accepted, passed_is_accepted,
     response_is_read_back, text_only_grows,
@@ -23,4 +21,3 @@ pub use laws::{
 pub use progress::Progress;
 pub use refusal::{Input, refusal_text};
 pub use text::ResponseText;
-pub use write::{Wrote, is_passing, write_out};

@@ -5,7 +5,6 @@ mod memory;
 mod progress;
 mod responses;
 mod statuses;
-mod writing;
 
 use crate::{Input, ResponseText};
 use asgi_types::{Facts, Framing, HeaderError, Headers, HttpVersion, Names, Octets, Outgoing};

@@ -2,6 +2,7 @@
 use crate::fakes::{Pieces, serve};
 use crate::texts::{BAD_REQUEST, GET, HELLO, HELLO_AND_CLOSE, NOT_IMPLEMENTED};
 use asgi_conn::Outcome;
+use asgi_io::{CountedReader, Reads};
 use asgi_types::Limits;
 use std::io::ErrorKind;
 use std::process::Abort;
@@ -18,11 +19,12 @@ const LENGTH: &[u8] = b"POST / HTTP/1.1\r\nHost: a\r\nContent-Length: 3\r\n\r\na
 /// Serves the input cut so, and compares with the answer to the whole.
 fn check<H: Abort + AllocGlobal>(
     rt: &H,
-    mut reader: Pieces,
+    reader: Pieces,
     wanted: &[u8],
     outcome: Outcome,
     place: usize,
 ) -> Result<(), Fail> {
+    let mut reader = CountedReader::new(reader);
     let (report, written, _) = serve(rt, &Limits::usual(), &mut reader)?;
     assert_eq!(rt;
         (written.as_slice(), report.outcome),
@@ -61,16 +63,19 @@ fn cuts_change_nothing(rt: HostRuntime) -> Result<(), Fail> {
 #[test]
 fn a_read_that_fails_gets_no_answer(rt: HostRuntime) -> Result<(), Fail> {
     for failing in 1..=27 {
-        let mut reader = Pieces::new(GET, 1, 1);
-        reader.fails_at = failing;
+        let mut pieces = Pieces::new(GET, 1, 1);
+        pieces.fails_at = failing;
+        let mut reader = CountedReader::new(pieces);
         let (report, written, _) = serve(&rt, &Limits::usual(), &mut reader)?;
         assert_eq!(rt; written.len(), 0, "read {failing}");
         assert_eq!(rt; report.outcome, Outcome::InputBroke, "read {failing}");
         assert_eq!(rt; report.exchanges, 0, "read {failing}");
         assert_eq!(rt; report.turns, failing, "read {failing}");
+        assert_eq!(rt; reader.faults(), 1, "read {failing}");
     }
-    let mut reader = Pieces::new(GET, 1, 1);
-    reader.fails_at = 28;
+    let mut pieces = Pieces::new(GET, 1, 1);
+    pieces.fails_at = 28;
+    let mut reader = CountedReader::new(pieces);
     let (report, written, _) = serve(&rt, &Limits::usual(), &mut reader)?;
     assert_eq!(rt; written.as_slice(), HELLO);
     assert_eq!(rt; report.outcome, Outcome::Finished);

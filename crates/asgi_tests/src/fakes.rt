@@ -1,29 +1,11 @@
 //! Readers, writers and a pause whose every step a test sets.
 ghost use Rattle.std.specs.Prelude.{◌≤◌, length};
 
-use asgi_conn::{Hello, Pause, Report, serve_connection};
-use asgi_response::Counted;
+use asgi_conn::{CountedHello, Hello, Report, serve_connection};
+use asgi_io::{Counted, CountedReader, CountingPause, Pause};
 use asgi_types::Limits;
 use std::alloc::AllocError;
 use std::io::{self, ErrorKind, Read, Write};
-
-/// A pause that only counts.
-#[derive(Drop)]
-pub struct CountingPause {
-    pub count: u64,
-}
-
-impl Pause for CountingPause {
-    ghost count = { λ p. p.count };
-
-    fn pause(&mut self) {
-        self.count = self.count.saturating_add(1);
-    }
-
-    fn paused(&self) -> u64 {
-        self.count
-    }
-}
 
 /// A reader that gives its bytes in pieces.
 #[derive(Drop)]
@@ -139,10 +121,11 @@ impl Write for Sink {
 pub fn serve<H: AllocGlobal, R: Read>(
     rt: &H,
     limits: &Limits,
-    reader: &mut R,
+    reader: &mut CountedReader<R>,
 ) -> Result<(Report, Vec<u8>, u64), AllocError> {
     let mut writer = Counted::new(Vec::with_capacity(rt.alloc(), 256)?);
-    let mut pause = CountingPause { count: 0 };
-    let report = serve_connection(rt, limits, &Hello, reader, &mut writer, &mut pause);
-    Ok((report, writer.writer, pause.count))
+    let mut app = CountedHello::new(Hello);
+    let mut pause = CountingPause::new();
+    let report = serve_connection(rt, limits, &mut app, reader, &mut writer, &mut pause);
+    Ok((report, writer.writer, pause.paused()))
 }

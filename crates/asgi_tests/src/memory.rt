@@ -3,6 +3,7 @@
 use crate::fakes::{Pieces, serve};
 use crate::texts::{BAD_REQUEST, GET, HELLO, HELLO_HEAD, NOT_IMPLEMENTED};
 use asgi_conn::Outcome;
+use asgi_io::CountedReader;
 use asgi_types::Limits;
 use std::process::Abort;
 use std::test::Fail;
@@ -25,7 +26,7 @@ fn is_served<H: Abort + AllocGlobal>(
     outcome: Outcome,
     exchanges: u64,
 ) -> bool {
-    let mut reader = Pieces::new(input, 9, 4_096);
+    let mut reader = CountedReader::new(Pieces::new(input, 9, 4_096));
     let Ok((report, written, _)) = serve(rt, &Limits::usual(), &mut reader) else {
         return false;
     };

@@ -5,6 +5,7 @@ use crate::texts::{
     OLD_HELLO_HEAD, TOO_LARGE, TOO_LARGE_CONTENT,
 };
 use asgi_conn::Outcome;
+use asgi_io::CountedReader;
 use asgi_types::Limits;
 use std::process::Abort;
 use std::test::Fail;
@@ -19,7 +20,7 @@ fn check<H: Abort + AllocGlobal>(
     exchanges: u64,
 ) -> Result<(), Fail> {
     for (row, input) in inputs.iter().enumerate() {
-        let mut reader = Pieces::new(input, 4_096, 4_096);
+        let mut reader = CountedReader::new(Pieces::new(input, 4_096, 4_096));
         let (report, written, _) = serve(rt, limits, &mut reader)?;
         let ended = (report.outcome, report.exchanges, report.faults);
         assert_eq!(rt;

@@ -2,6 +2,7 @@
 use crate::fakes::{Never, Pieces, serve};
 use crate::texts::{GET, HELLO};
 use asgi_conn::Outcome;
+use asgi_io::CountedReader;
 use asgi_types::Limits;
 use std::io::{ErrorKind, Read};
 use std::process::Abort;
@@ -20,10 +21,11 @@ fn turns_are_counted(rt: HostRuntime) -> Result<(), Fail> {
         (b"\r\n", 2, true, 4, 2, 1),
     ];
     for (row, (input, size, blocks, turns, pauses, idle)) in rows.iter().enumerate() {
-        let mut reader = Pieces::new(input, *size, *size);
+        let mut pieces = Pieces::new(input, *size, *size);
         if *blocks {
-            reader.before = Some(ErrorKind::WouldBlock);
+            pieces.before = Some(ErrorKind::WouldBlock);
         }
+        let mut reader = CountedReader::new(pieces);
         let (report, _, paused) = serve(&rt, &Limits::usual(), &mut reader)?;
         assert_eq!(rt;
             (report.turns, paused, report.idle),
@@ -39,7 +41,7 @@ fn turns_are_counted(rt: HostRuntime) -> Result<(), Fail> {
 fn idles<H: Abort + AllocGlobal, R: Read>(
     rt: &H,
     limits: &Limits,
-    reader: &mut R,
+    reader: &mut CountedReader<R>,
 ) -> Result<(u64, u32, u64), Fail> {
     let (report, written, paused) = serve(rt, limits, reader)?;
     assert_eq!(rt; report.outcome, Outcome::Idle);
@@ -51,9 +53,10 @@ fn idles<H: Abort + AllocGlobal, R: Read>(
 fn idle_comes_at_a_limit(rt: HostRuntime) -> Result<(), Fail> {
     let three_idle = Limits::new(64, 64, 0, 1, 2, 3, 100)?;
     let five_turns = Limits::new(64, 64, 0, 1, 2, 30, 5)?;
-    let mut pieces = Pieces::new(GET, 1, 1);
-    assert_eq!(rt; idles(&rt, &three_idle, &mut Never)?, (3, 3, 3));
-    assert_eq!(rt; idles(&rt, &five_turns, &mut Never)?, (5, 5, 5));
+    let mut pieces = CountedReader::new(Pieces::new(GET, 1, 1));
+    let mut never = CountedReader::new(Never);
+    assert_eq!(rt; idles(&rt, &three_idle, &mut never)?, (3, 3, 3));
+    assert_eq!(rt; idles(&rt, &five_turns, &mut never)?, (5, 5, 5));
     assert_eq!(rt; idles(&rt, &five_turns, &mut pieces)?, (5, 0, 0));
     Ok(())
 }
@@ -61,8 +64,9 @@ fn idle_comes_at_a_limit(rt: HostRuntime) -> Result<(), Fail> {
 #[test]
 fn a_turn_at_the_limit_still_answers(rt: HostRuntime) -> Result<(), Fail> {
     let limits = Limits::new(64, 64, 0, 1, 2, 2, 54)?;
-    let mut reader = Pieces::new(GET, 1, 1);
-    reader.before = Some(ErrorKind::WouldBlock);
+    let mut pieces = Pieces::new(GET, 1, 1);
+    pieces.before = Some(ErrorKind::WouldBlock);
+    let mut reader = CountedReader::new(pieces);
     let (report, written, paused) = serve(&rt, &limits, &mut reader)?;
     assert_eq!(rt; report.outcome, Outcome::Finished);
     assert_eq!(rt; (report.turns, report.idle, paused), (54, 0, 27));
@@ -72,11 +76,15 @@ fn a_turn_at_the_limit_still_answers(rt: HostRuntime) -> Result<(), Fail> {
 
 #[test]
 fn an_answer_waits_for_no_more_input(rt: HostRuntime) -> Result<(), Fail> {
-    let mut reader = Pieces::new(b"GET / HTTP/1.1\r\nHost: a\r\n\r\nmore", 27, 27);
+    let mut reader = CountedReader::new(Pieces::new(
+        b"GET / HTTP/1.1\r\nHost: a\r\n\r\nmore",
+        27,
+        27,
+    ));
     let (report, written, _) = serve(&rt, &Limits::usual(), &mut reader)?;
     assert_eq!(rt; report.outcome, Outcome::Finished);
     assert_eq!(rt; written.as_slice(), HELLO);
-    assert_eq!(rt; reader.bytes, b"more".as_slice());
-    assert_eq!(rt; reader.reads, 1);
+    assert_eq!(rt; reader.reader.bytes, b"more".as_slice());
+    assert_eq!(rt; reader.reader.reads, 1);
     Ok(())
 }

@@ -1,8 +1,8 @@
 //! Writers that take little, fail, or would block.
-use crate::fakes::{CountingPause, Sink};
+use crate::fakes::Sink;
 use crate::texts::{GET, HELLO};
-use asgi_conn::{Hello, Outcome, Report, serve_connection};
-use asgi_response::{Counted, Counts};
+use asgi_conn::{CountedHello, Hello, Outcome, Report, serve_connection};
+use asgi_io::{Counted, CountedReader, CountingPause, Counts};
 use asgi_types::{Limits, Outgoing};
 use std::io::ErrorKind;
 use std::test::Fail;
@@ -24,12 +24,13 @@ fn sink<H: AllocGlobal>(rt: &H, most: usize) -> Result<Counted<Sink>, Fail> {
 
 /// Serves one request, whose answer goes to the writer.
 fn serve_get<H: AllocGlobal>(rt: &H, writer: &mut Counted<Sink>) -> Report {
-    let mut reader = GET;
-    let mut pause = CountingPause { count: 0 };
+    let mut app = CountedHello::new(Hello);
+    let mut reader = CountedReader::new(GET);
+    let mut pause = CountingPause::new();
     serve_connection(
         rt,
         &Limits::usual(),
-        &Hello,
+        &mut app,
         &mut reader,
         writer,
         &mut pause,

@@ -1,7 +1,7 @@
 use super::*;
-use asgi_response::Counted;
+use asgi_io::{Counted, CountedReader};
 use std::alloc::Global;
-use std::io::{self, ErrorKind};
+use std::io::{self, ErrorKind, Read};
 use std::test::Fail;
 
 const REQUEST: &[u8] = b"GET / HTTP/1.1\r\nHost: a\r\n\r\n";
@@ -20,7 +20,7 @@ fn words(alloc: Global, texts: &[&str]) -> Result<Vec<String>, Fail> {
 #[test]
 fn once_hello_answers(rt: HostRuntime) -> Result<(), Fail> {
     let words = words(rt.alloc(), &["once", "hello"])?;
-    let mut input = REQUEST;
+    let mut input = CountedReader::new(REQUEST);
     let mut output = Counted::new(Vec::new(rt.alloc()));
     let mut errors = Vec::new(rt.alloc());
     let status = command(&rt, &words, &mut input, &mut output, &mut errors);
@@ -45,11 +45,11 @@ fn any_other_words_give_the_usage(rt: HostRuntime) -> Result<(), Fail> {
     ];
     for (row, texts) in wrong.iter().enumerate() {
         let words = words(rt.alloc(), texts)?;
-        let mut input = REQUEST;
+        let mut input = CountedReader::new(REQUEST);
         let mut output = Counted::new(Vec::new(rt.alloc()));
         let mut errors = Vec::new(rt.alloc());
         let status = command(&rt, &words, &mut input, &mut output, &mut errors);
-        let kept = (input.len(), output.writer.len());
+        let kept = (input.reader.len(), output.writer.len());
         assert_eq!(rt;
             (status, kept, errors.as_slice()),
             (2, (REQUEST.len(), 0), USAGE),
@@ -85,7 +85,7 @@ impl Write for Stuck {
 fn a_connection_that_stops_is_said_so(rt: HostRuntime) -> Result<(), Fail> {
     let words = words(rt.alloc(), &["once", "hello"])?;
     let mut errors = Vec::new(rt.alloc());
-    let mut input = REQUEST;
+    let mut input = CountedReader::new(REQUEST);
     let mut output = Counted::new(Stuck {
         kind: ErrorKind::BrokenPipe,
     });
@@ -94,18 +94,18 @@ fn a_connection_that_stops_is_said_so(rt: HostRuntime) -> Result<(), Fail> {
     assert_eq!(rt; errors.as_slice(), b"stopped: write-failed 0\n".as_slice());
 
     let mut errors = Vec::new(rt.alloc());
-    let mut input = Stuck {
+    let mut input = CountedReader::new(Stuck {
         kind: ErrorKind::WouldBlock,
-    };
+    });
     let mut output = Counted::new(Vec::new(rt.alloc()));
     let status = command(&rt, &words, &mut input, &mut output, &mut errors);
     assert_eq!(rt; status, 5);
     assert_eq!(rt; errors.as_slice(), b"stopped: idle\n".as_slice());
 
     let mut errors = Vec::new(rt.alloc());
-    let mut input = Stuck {
+    let mut input = CountedReader::new(Stuck {
         kind: ErrorKind::ConnectionReset,
-    };
+    });
     let status = command(&rt, &words, &mut input, &mut output, &mut errors);
     assert_eq!(rt; status, 0);
     assert_eq!(rt; errors.len(), 0);

@@ -1,0 +1,4 @@
+pub mod BytesLemmas
+pub mod CountLemmas
+pub mod TurnLemmas
+pub mod WriteLemmas

@@ -1,0 +1,4 @@
+pub mod Counting
+pub mod Answers
+pub mod Turns
+pub mod Writing

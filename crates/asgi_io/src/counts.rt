@@ -1,0 +1,81 @@
+//! A writer that counts its failures.
+ghost use Rattle.std.specs.Prelude.{◌≡◌, ◌∷◌, ◌++◌, [], ℕ, List, Option, length};
+ghost use Rattle.std.specs.Io.{WritesAtMost};
+ghost use Rattle.std.specs.Io.KnownBytes.{WriteAppends};
+ghost use Rattle.asgi_io.specs.declared.answer.Answer.{Answer};
+ghost use Rattle.asgi_io.specs.Answers.{answer_of};
+ghost use Rattle.asgi_io.specs.Counting.{CountsFailures};
+
+use crate::answer::{Answer, answer_to};
+use crate::history::History;
+use std::io::{self, Write};
+
+/// A writer that counts its failures. The count stops at the greatest `u64`.
+pub trait Counts {
+    /// The bytes that the writer holds, where they are known.
+    ghost written: { Self → Option (List ℕ) };
+
+    /// How many calls failed.
+    ghost failed: { Self → ℕ };
+
+    /// How each call was answered, the oldest first.
+    ghost answers: { Self → List Answer };
+
+    /// Writes some of the bytes, and answers how many. A failure is an error, or that none of some bytes were taken.
+    fn write_some(&mut self, bytes: &[u8]) -> io::Result<usize>
+        ensures bound { WritesAtMost result bytes.now }
+        ensures bytes { WriteAppends (written self.old) (written self.new) result bytes.now }
+        ensures counts { CountsFailures (failed self.old) (failed self.new) bytes.now result }
+        ensures told { answers self.new ≡ answers self.old ++ answer_of (length bytes.now) result ∷ [] };
+
+    /// The count of failures.
+    fn failures(&self) -> u64
+        ensures { result ≡ failed self.now };
+}
+
+/// Any writer, with a count of its failures.
+#[derive(Drop)]
+pub struct Counted<W> {
+    /// Each call is handed on to it.
+    pub writer: W,
+    failures: u64,
+    answers: History<Answer>,
+}
+
+impl<W: Write> Counted<W> {
+    /// No failure is counted yet.
+    pub fn new(writer: W) -> Self
+        ensures writer { result.writer ≡ writer }
+        ensures failures { result.failures ≡ 0 }
+        ensures answers { result.answers.items ≡ [] }
+    {
+        Counted {
+            writer,
+            failures: 0,
+            answers: History::new(),
+        }
+    }
+}
+
+impl<W: Write> Counts for Counted<W> {
+    ghost written = { λ s. W.contents s.writer };
+
+    ghost failed = { λ s. s.failures };
+
+    ghost answers = { λ s. s.answers.items };
+
+    fn write_some(&mut self, bytes: &[u8]) -> io::Result<usize> {
+        let wrote = self.writer.write(bytes);
+        let answer = answer_to(&wrote, bytes.len());
+        self.answers = History::with(&self.answers, &answer);
+        match answer {
+            Answer::Moved(_) => {}
+            _ => self.failures = self.failures.saturating_add(1),
+        }
+        wrote
+    }
+
+    fn failures(&self) -> u64 {
+        self.failures
+    }
+}

@@ -1,0 +1,21 @@
+//! The outside, counted: what is read, written and paused, answer by answer, and the turns of a loop.
+//! Contracts see each call that was made, and how it was answered.
+#![tactic(auto)]
+
+mod answer;
+mod counts;
+mod history;
+mod pause;
+mod reads;
+#[cfg(test)]
+mod tests;
+mod turns;
+mod write;
+
+pub use answer::{Answer, answer_to, is_passing};
+pub use counts::{Counted, Counts};
+pub use history::History;
+pub use pause::{CountingPause, Pause};
+pub use reads::{CountedReader, Reads};
+pub use turns::{Turn, Turns};
+pub use write::{Wrote, write_out};

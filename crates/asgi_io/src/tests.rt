@@ -1,0 +1,6 @@
+//! Tests on public calls.
+
+mod counting;
+mod reading;
+mod turning;
+mod writing;

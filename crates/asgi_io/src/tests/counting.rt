@@ -1,0 +1,43 @@
+//! Failures of a writer, counted.
+use crate::{Answer, Counted, Counts, answer_to};
+use std::io::{self, ErrorKind, Write};
+
+/// Answers each write so.
+#[derive(Drop)]
+struct Always {
+    kind: Option<ErrorKind>,
+    most: usize,
+}
+
+impl Write for Always {
+    fn write(&mut self, buf: &[u8]) -> io::Result<usize> {
+        match self.kind {
+            Some(kind) => Err(kind.into()),
+            None => Ok(self.most.min(buf.len())),
+        }
+    }
+
+    fn flush(&mut self) -> io::Result<()> {
+        Ok(())
+    }
+}
+
+#[test]
+fn each_failure_is_counted(rt: HostRuntime) {
+    let rows: [(&[u8], Option<ErrorKind>, usize, Answer, u64); 6] = [
+        (b"abc", None, 9, Answer::Moved(3), 0),
+        (b"abc", None, 2, Answer::Moved(2), 0),
+        (b"abc", None, 0, Answer::Nothing, 2),
+        (b"", None, 0, Answer::Moved(0), 0),
+        (b"abc", Some(ErrorKind::WouldBlock), 0, Answer::Paused, 2),
+        (b"abc", Some(ErrorKind::BrokenPipe), 0, Answer::Failed, 2),
+    ];
+    for (row, (bytes, kind, most, answer, failures)) in rows.into_iter().enumerate() {
+        let mut writer = Counted::new(Always { kind, most });
+        for _ in 0..2 {
+            let wrote = writer.write_some(bytes);
+            assert_eq!(rt; answer_to(&wrote, bytes.len()), answer, "row {row}");
+        }
+        assert_eq!(rt; writer.failures(), failures, "row {row}");
+    }
+}

@@ -1,0 +1,74 @@
+//! The turns of a loop.
+ghost use Rattle.std.specs.Prelude.{◌≡◌, ◌+◌, ◌<◌, ◌≤◌, ◌⊎◌, ◌↔◌, ◌∷◌, ◌++◌, [], ℕ, List, IsTrue};
+
+use crate::pause::Pause;
+
+/// What a turn did.
+#[derive(Clone, Copy, Debug, PartialEq, Eq)]
+pub enum Turn {
+    /// Something moved.
+    Moved,
+    /// Nothing moved.
+    Idle,
+    /// Nothing will move any more.
+    Last,
+}
+
+/// How many turns a loop took, how many of the last ones in a row were idle, and their limits.
+#[derive(Clone, Copy, Debug, PartialEq, Eq)]
+pub struct Turns {
+    pub turns: u64,
+    pub idle: u32,
+    pub turn_limit: u64,
+    pub idle_limit: u32,
+    pub ghost in_turns: { turns ≤ turn_limit },
+    pub ghost in_idle: { idle ≤ idle_limit },
+}
+
+impl Turns {
+    ghost use Rattle.asgi_io.specs.declared.turns.Turn.{Turn};
+    ghost use Rattle.asgi_io.specs.Turns.{CountsTurns};
+
+    /// No turn was taken yet.
+    pub fn new(turn_limit: u64, idle_limit: u32) -> Self
+        ensures none { (pauses : ℕ) → CountsTurns turn_limit idle_limit [] pauses pauses result.turns result.idle }
+        ensures turn_limit { result.turn_limit ≡ turn_limit }
+        ensures idle_limit { result.idle_limit ≡ idle_limit }
+    {
+        Turns {
+            turns: 0,
+            idle: 0,
+            turn_limit,
+            idle_limit,
+        }
+    }
+
+    /// Whether a limit is reached.
+    pub fn is_over(&self) -> bool
+        ensures { IsTrue result ↔ ((self.now.turns ≡ self.now.turn_limit) ⊎ (self.now.idle ≡ self.now.idle_limit)) }
+    {
+        self.turns == self.turn_limit || self.idle == self.idle_limit
+    }
+
+    /// Counts a turn, and makes a pause where it was idle.
+    pub fn take<P: Pause>(&mut self, turn: Turn, pause: &mut P)
+        requires turns { self.old.turns < self.old.turn_limit }
+        requires idle { self.old.idle < self.old.idle_limit }
+        ensures counts { (turned : List Turn) (pauses : ℕ)
+            → CountsTurns self.old.turn_limit self.old.idle_limit turned pauses (P.count pause.old) self.old.turns self.old.idle
+            → CountsTurns self.old.turn_limit self.old.idle_limit (turned ++ turn ∷ []) pauses (P.count pause.new) self.new.turns self.new.idle }
+        ensures one { self.new.turns ≡ self.old.turns + 1 }
+        ensures turn_limit { self.new.turn_limit ≡ self.old.turn_limit }
+        ensures idle_limit { self.new.idle_limit ≡ self.old.idle_limit }
+    {
+        self.turns += 1;
+        match turn {
+            Turn::Moved => self.idle = 0,
+            Turn::Idle => {
+                self.idle += 1;
+                pause.pause();
+            }
+            Turn::Last => {}
+        }
+    }
+}
