@@ -1,7 +1,6 @@
 pub mod BytesLemmas
 pub mod CountLemmas
 pub mod DigitLemmas
-pub mod FieldLemmas
 pub mod HeadLemmas
 pub mod RefusalLemmas
 pub mod AcceptedLemmas
