@@ -42,6 +42,11 @@ is_faulty Faulty = true
 is_faulty (Given n) = false
 is_faulty Absent = false
 
+abbrev pub is_absent : ContentLength → Bool
+is_absent Faulty = false
+is_absent (Given n) = false
+is_absent Absent = true
+
 -- a start whose content-length is faulty, or an accept with a field of the handshake
 abbrev pub has_bad_header : Outgoing → Bool
 has_bad_header (ResponseStart status headers) = is_faulty (content_length headers)
@@ -67,9 +72,16 @@ given_length (Given n) = Some n
 given_length Faulty = None
 given_length Absent = None
 
--- the length that the fields give; 204 and 304 have no content (RFC 9110, sections 15.3.5, 15.4.5)
+-- a response of the status has no content (RFC 9110, sections 15.3.5 and 15.4.5)
+abbrev pub has_no_content : ℕ → Bool
+has_no_content status = status == 204 || status == 304
+
+-- the length that a start of the status promises, by what its content-length says
+abbrev pub promised_at : ℕ → ContentLength → Option ℕ
+promised_at status length = if has_no_content status then None else given_length length
+
 abbrev pub length_given_in : ℕ → List HeaderField → Option ℕ
-length_given_in status headers = if status == 204 || status == 304 then None else given_length (content_length headers)
+length_given_in status headers = promised_at status (content_length headers)
 
 abbrev pub length_given_by : Outgoing → Option ℕ
 length_given_by (ResponseStart status headers) = length_given_in status headers

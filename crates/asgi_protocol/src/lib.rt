@@ -8,7 +8,9 @@ pub mod laws;
 mod rules;
 mod verdict;
 
+pub use content_length::ContentLength;
 pub use judge::Judge;
+pub use rules::has_no_content;
 pub use verdict::{Refusal, Verdict};
 
 #[cfg(test)]

@@ -1,10 +1,10 @@
 //! What an event must meet at its place, its order aside.
 ghost use Rattle.std.specs.Prelude.{◌≡◌, ◌∷◌, [], IfSome, codes};
 ghost use Rattle.std.specs.List.{list_any};
-ghost use Rattle.asgi_protocol.specs.Rules.{is_status as is_status_code, is_close_code as is_code, is_offered as is_one_of, is_handshake_name as is_name, has_bad_status as bad_status, has_bad_header as bad_header, has_bad_code as bad_code, has_bad_reason as bad_reason, has_bad_subprotocol as bad_subprotocol, promised_length as promised_length_of, length_given_in, is_faulty};
-ghost use Rattle.asgi_protocol.specs.ContentLengths.{content_length as content_length_of};
+ghost use Rattle.asgi_protocol.specs.Rules.{is_status as is_status_code, is_close_code as is_code, is_offered as is_one_of, is_handshake_name as is_name, has_bad_status as bad_status, has_bad_header as bad_header, has_bad_code as bad_code, has_bad_reason as bad_reason, has_bad_subprotocol as bad_subprotocol, promised_length as promised_length_of, length_given_in, is_faulty, has_no_content as is_bare};
+ghost use Rattle.asgi_protocol.specs.ContentLengths.{content_length};
 
-use crate::content_length::{CONTENT_LENGTH, ContentLength, content_length};
+use crate::content_length::{CONTENT_LENGTH, ContentLength};
 use asgi_types::{Chars, Facts, Headers, Names, Outgoing};
 
 const PROTOCOL: &[u8] = b"sec-websocket-protocol";
@@ -90,13 +90,14 @@ pub(crate) fn promised_length(facts: &Facts, start: &Outgoing) -> Option<u64>
 fn given_length(status: u16, headers: &Headers) -> Option<u64>
     ensures { result ≡ length_given_in status headers.now }
 {
-    if status == 204 || status == 304 {
-        return None;
-    }
-    match content_length(headers) {
-        ContentLength::Given(length) => Some(length),
-        ContentLength::Absent | ContentLength::Faulty => None,
-    }
+    ContentLength::of(headers).promised_at(status)
+}
+
+/// Whether a response of the status has no content.
+pub fn has_no_content(status: u16) -> bool
+    ensures { result ≡ is_bare status }
+{
+    status == 204 || status == 304
 }
 
 fn is_status(status: u16) -> bool
@@ -114,12 +115,9 @@ fn is_close_code(code: u16) -> bool
 }
 
 fn has_faulty_length(headers: &Headers) -> bool
-    ensures { result ≡ is_faulty (content_length_of headers.now) }
+    ensures { result ≡ is_faulty (content_length headers.now) }
 {
-    match content_length(headers) {
-        ContentLength::Faulty => true,
-        ContentLength::Absent | ContentLength::Given(_) => false,
-    }
+    ContentLength::of(headers).is_faulty()
 }
 
 fn has_handshake_field(headers: &Headers) -> bool

@@ -13,7 +13,7 @@ use Rattle.asgi_request.specs.declared.place.Place.TheVariants.{Start, Counted, 
 use Rattle.asgi_request.specs.declared.place.Turn.{Turn}
 use Rattle.asgi_request.specs.declared.refusal.Refusal.{Refusal}
 use Rattle.asgi_request.specs.declared.refusal.Refusal.TheVariants.{BadRequest, ContentTooLarge}
-use Rattle.asgi_request.specs.BodyLength.{body_length}
+use Rattle.asgi_request.specs.BodyLength.{framing_or_refusal}
 use Rattle.asgi_request.specs.Fronts.{Front, found, too_long, unfinished}
 use Rattle.asgi_request.specs.Reading.{Reading, StandsFor, EndsWhole, WholeGiven}
 use Rattle.asgi_request.proofs.StandardLemmas.{whole_requests}
@@ -32,7 +32,7 @@ framing_whole r (Err why) e = absurd cc
 
 head_whole : (limits : Limits) (r : Option HeadRecord) → WholeStart (after_head limits r)
 head_whole limits None e = absurd cc
-head_whole limits (Some r) e = framing_whole r (body_length r limits) e
+head_whole limits (Some r) e = framing_whole r (framing_or_refusal r limits) e
 
 event_whole : (b : Bool) (x : List ℕ) (p q : Place) (m n : Bool) → WholeStart (if b then gives (Event (HttpRequest x m)) p else gives (Event (HttpRequest x n)) q)
 event_whole true x p q m n e = absurd cc
@@ -88,7 +88,7 @@ framing_loud r (Err why) e = cc
 
 head_loud : (limits : Limits) (r : Option HeadRecord) → (after_head limits r).item ≡ None → ⊥
 head_loud limits None e = cc
-head_loud limits (Some r) e = framing_loud r (body_length r limits) e
+head_loud limits (Some r) e = framing_loud r (framing_or_refusal r limits) e
 
 start_loud : (limits : Limits) (f : Front) (turn : Turn) → Judges limits Start f turn → turn.item ≡ None → ⊥
 start_loud limits (found text) turn j e = head_loud limits j.0 (sym (ap (λ (t : Turn). t.item) j.2) ∙ e)

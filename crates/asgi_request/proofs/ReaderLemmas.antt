@@ -16,7 +16,7 @@ use Rattle.asgi_request.specs.declared.next.Next.{Next}
 use Rattle.asgi_request.specs.declared.next.Next.TheVariants.{Need, Head, Event, Whole, Bad}
 use Rattle.asgi_request.specs.declared.place.Turn.{Turn}
 use Rattle.asgi_request.specs.Fronts.{Front, found, too_long, unfinished, front_text}
-use Rattle.asgi_request.specs.BodyLength.{body_length}
+use Rattle.asgi_request.specs.BodyLength.{framing_or_refusal}
 use Rattle.asgi_request.specs.Places.{front, bad, silent, gives, after_framing, after_head, after_counted, after_chunk, after_size, after_chunk_end, after_trailers, after_too_long, JudgesText, Judges, Takes, shown, Reaches}
 use Rattle.asgi_request.specs.Reading.{Reading, StandsFor, IsRefused}
 use Rattle.asgi_request.specs.declared.place.Outcome.{Outcome}
@@ -102,7 +102,7 @@ framing_falls k r (Err refusal) e = absurd cc
 
 head_falls : (k : ℕ) (limits : Limits) (r : Option HeadRecord) → Falls k (after_head limits r)
 head_falls k limits None e = absurd cc
-head_falls k limits (Some r) e = framing_falls k r (body_length r limits) e
+head_falls k limits (Some r) e = framing_falls k r (framing_or_refusal r limits) e
 
 either_falls : (k : ℕ) (b : Bool) (x y : Next) (p q : Place) → Falls k (if b then gives x p else gives y q)
 either_falls k true x y p q e = absurd cc
@@ -179,7 +179,7 @@ framing_tells r (Err why) = bad_tells why
 
 head_tells : (limits : Limits) (r : Option HeadRecord) → Tells (after_head limits r).item (after_head limits r).place
 head_tells limits None = bad_tells BadRequest
-head_tells limits (Some r) = framing_tells r (body_length r limits)
+head_tells limits (Some r) = framing_tells r (framing_or_refusal r limits)
 
 counted_tells : (b : Bool) (x : List ℕ) (p q : Place) (m n : Bool)
     → let t = if b then gives (Event (HttpRequest x m)) p else gives (Event (HttpRequest x n)) q in Tells t.item t.place

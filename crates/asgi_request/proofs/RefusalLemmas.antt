@@ -16,7 +16,7 @@ use Rattle.asgi_request.specs.declared.refusal.Refusal.{Refusal}
 use Rattle.asgi_request.specs.declared.refusal.Refusal.TheVariants.{BadRequest, ContentTooLarge}
 use Rattle.asgi_request.specs.Refusals.{status_of}
 use Rattle.asgi_request.specs.Fronts.{Front, found, too_long, unfinished}
-use Rattle.asgi_request.specs.BodyLength.{body_length}
+use Rattle.asgi_request.specs.BodyLength.{framing_or_refusal}
 use Rattle.asgi_request.specs.Places.{front, bad, silent, gives, after_framing, after_head, after_counted, after_size, after_chunk, after_chunk_end, after_trailers, after_too_long, JudgesText, Judges, Takes, Reads, shown, Reaches}
 use Rattle.asgi_request.proofs.UniqueLemmas.{shown-append}
 
@@ -44,7 +44,7 @@ framing_stops r (Err why) = refl
 head_stops : (limits : Limits) (r : Option HeadRecord) → StopsTurn (after_head limits r)
 unfolding StopsTurn Stops
 head_stops limits None = refl
-head_stops limits (Some r) = framing_stops r (body_length r limits)
+head_stops limits (Some r) = framing_stops r (framing_or_refusal r limits)
 
 counted_stops : (n : ℕ) (text : List ℕ) → StopsTurn (after_counted n text)
 unfolding StopsTurn Stops

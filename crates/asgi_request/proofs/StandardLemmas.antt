@@ -17,7 +17,7 @@ use Rattle.asgi_request.specs.Refusals.{status_of}
 use Rattle.asgi_request.specs.Texts.{IsFirstWithin}
 use Rattle.asgi_request.specs.HeadText.{EndsAsHead}
 use Rattle.asgi_request.specs.Head.{IsHeadOf, ParsesHead, record_of}
-use Rattle.asgi_request.specs.BodyLength.{body_length}
+use Rattle.asgi_request.specs.BodyLength.{framing_or_refusal}
 use Rattle.asgi_request.specs.Scopes.{scope_of, facts_of}
 use Rattle.asgi_request.specs.ChunkedBody.{BodyState, partial, complete, faulty}
 use Rattle.asgi_request.specs.RequestEvents.{length_events, length_state, chunked_events, ReadsBody}
@@ -124,7 +124,7 @@ fits_body limits Upgrade = tt
 
 framing_good : (E : List ℕ → List Next → List ℕ → Type 0) (limits : Limits) (bytes text rest : List ℕ) (head : RequestHead)
     → IsFirstWithin EndsAsHead limits.max_head bytes text rest → IsHeadOf limits.max_headers text head
-    → (f : Result Framing Refusal) → body_length (record_of head) limits ≡ f → StartGood E limits bytes rest (after_framing (record_of head) f)
+    → (f : Result Framing Refusal) → framing_or_refusal (record_of head) limits ≡ f → StartGood E limits bytes rest (after_framing (record_of head) f)
 unfolding head_item
 framing_good E limits bytes text rest head x is (Ok framing) e = (
   fits_body limits framing,
@@ -147,7 +147,7 @@ head_good E limits bytes text rest x None parses = (
 )
 head_good E limits bytes text rest x (Some record_) parses =
     subst (λ (h : HeadRecord). StartGood E limits bytes rest (after_head limits (Some h))) (sym parses.2)
-    (framing_good E limits bytes text rest parses.0 x parses.1 (body_length (record_of parses.0) limits) refl)
+    (framing_good E limits bytes text rest parses.0 x parses.1 (framing_or_refusal (record_of parses.0) limits) refl)
 
 start_good : (E : List ℕ → List Next → List ℕ → Type 0) (limits : Limits) (bytes rest : List ℕ) (turn : Turn)
     → Takes limits Start bytes turn rest → StartGood E limits bytes rest turn

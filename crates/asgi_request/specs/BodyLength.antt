@@ -1,24 +1,19 @@
--- Message body length (RFC 9112, section 6.3), and the heads that are refused.
+-- Message body length (RFC 9112, section 6.3), and the heads that are refused before it is asked for.
 use Rattle.std.specs.Prelude.{ℕ, Bool, true, false, ◌&&◌, not, List, if◌then◌else◌, ◌==◌, nat_lt, codes, bytes_eq, Result, Ok, Err, Option, Some, None}
 use Rattle.std.specs.Option.{unwrap_or}
 use Rattle.asgi_types.specs.declared.facts.Framing.{Framing}
 use Rattle.asgi_types.specs.declared.facts.Framing.TheVariants.{Length, Chunked}
 use Rattle.asgi_types.specs.declared.limits.Limits.{Limits}
 use Rattle.asgi_types.specs.declared.outgoing.HttpVersion.{HttpVersion}
-use Rattle.asgi_types.specs.declared.outgoing.HttpVersion.TheVariants.{V10, V11}
 use Rattle.asgi_types.specs.Fields.{HeaderField}
 use Rattle.asgi_types.specs.Lengths.{length_of_text}
+use Rattle.asgi_types.specs.Versions.{is_v11}
 use Rattle.asgi_request.specs.declared.head.HeadRecord.{HeadRecord}
 use Rattle.asgi_request.specs.declared.refusal.Refusal.{Refusal}
 use Rattle.asgi_request.specs.declared.refusal.Refusal.TheVariants.{BadRequest, ContentTooLarge, NotImplemented}
 use Rattle.asgi_types.specs.Tokens.{same_ignoring_case}
 use Rattle.asgi_request.specs.FieldValues.{count_named, has_field, value_named}
 use Rattle.asgi_request.specs.Target.{is_target}
-
--- HTTP/1.1, and not HTTP/1.0
-abbrev pub is_v11 : HttpVersion → Bool
-is_v11 V10 = false
-is_v11 V11 = true
 
 -- HTTP/1.1 asks for one Host field (section 3.2)
 abbrev pub lacks_host : HeadRecord → Bool
@@ -52,9 +47,9 @@ has_length fields = has_field fields (codes "content-length")
 abbrev pub has_coding : List HeaderField → Bool
 has_coding fields = has_field fields (codes "transfer-encoding")
 
--- What the fields say of the body: the first case that holds.
-abbrev pub length_of_fields : HttpVersion → List HeaderField → ℕ → Result Framing Refusal
-length_of_fields version fields max_body =
+-- Message body length, by what the fields say (section 6.3): the first case that holds.
+abbrev pub body_length : HttpVersion → List HeaderField → ℕ → Result Framing Refusal
+body_length version fields max_body =
     -- rule 3: both fields may be an attempt at request smuggling
     if has_length fields && has_coding fields then Err BadRequest else (
     -- rule 5: two lengths, or one that is not valid
@@ -71,12 +66,12 @@ length_of_fields version fields max_body =
     -- rule 6, and rule 7 where neither field is there
     Ok (Length (unwrap_or (content_length fields) 0))))))))
 
--- The length of the body, or why the head is refused: the first case that holds.
-abbrev pub body_length : HeadRecord → Limits → Result Framing Refusal
-body_length head limits =
+-- How the body of a request is delimited, or why its head is refused: the first case that holds.
+abbrev pub framing_or_refusal : HeadRecord → Limits → Result Framing Refusal
+framing_or_refusal head limits =
     -- there are no tunnels (RFC 9110, section 9.3.6)
     if bytes_eq head.method (codes "CONNECT") then Err NotImplemented else (
     -- section 3.2
     if not (is_target head.method head.target) then Err BadRequest else (
     if lacks_host head then Err BadRequest else
-    length_of_fields head.version head.headers limits.max_body))
+    body_length head.version head.headers limits.max_body))

@@ -7,7 +7,7 @@ use Rattle.asgi_request.specs.declared.framing.HeadFraming.{HeadFraming}
 use Rattle.asgi_request.specs.declared.framing.HeadFraming.TheVariants.{Length, Chunked, Bad}
 use Rattle.asgi_request.specs.declared.head.HeadRecord.{HeadRecord}
 use Rattle.asgi_request.specs.declared.refusal.Refusal.{Refusal}
-use Rattle.asgi_request.specs.BodyLength.{body_length}
+use Rattle.asgi_request.specs.BodyLength.{framing_or_refusal}
 use Rattle.asgi_request.specs.Refusals.{status_of}
 
 -- the length, or the status of the refusal
@@ -19,4 +19,4 @@ framing_answer (Err refusal) = Bad (status_of refusal)
 
 -- how the body of the head is delimited, or the status of its refusal
 abbrev pub framing_of : HeadRecord → Limits → HeadFraming
-framing_of head limits = framing_answer (body_length head limits)
+framing_of head limits = framing_answer (framing_or_refusal head limits)

@@ -14,7 +14,7 @@ use Rattle.asgi_request.specs.declared.place.Turn.{Turn}
 use Rattle.asgi_request.specs.Fronts.{Front, found, too_long, unfinished, front_at, first, front_text, head_len, line_len, trailer_len}
 use Rattle.asgi_request.specs.ChunkedBody.{size_line_limit}
 use Rattle.asgi_request.specs.Head.{ParsesHead}
-use Rattle.asgi_request.specs.BodyLength.{body_length}
+use Rattle.asgi_request.specs.BodyLength.{framing_or_refusal}
 use Rattle.asgi_request.specs.Refusals.{status_of}
 use Rattle.asgi_request.specs.Scopes.{scope_of, facts_of}
 use Rattle.asgi_request.specs.declared.refusal.Refusal.{Refusal}
@@ -59,7 +59,7 @@ after_framing r (Err refusal) = bad refusal
 -- a head text is a head, or a bad request
 abbrev pub after_head : Limits → Option HeadRecord → Turn
 after_head limits None = bad BadRequest
-after_head limits (Some r) = after_framing r (body_length r limits)
+after_head limits (Some r) = after_framing r (framing_or_refusal r limits)
 
 -- a block is the last one where no bytes are left
 abbrev pub after_counted : ℕ → List ℕ → Turn

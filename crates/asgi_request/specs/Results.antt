@@ -13,7 +13,7 @@ use Rattle.asgi_request.specs.declared.refusal.Refusal.TheVariants.{BadRequest, 
 use Rattle.asgi_request.specs.Texts.{IsFirstWithin, IsTooLong, IsUnfinished}
 use Rattle.asgi_request.specs.HeadText.{EndsAsHead}
 use Rattle.asgi_request.specs.Head.{IsHeadOf, record_of}
-use Rattle.asgi_request.specs.BodyLength.{body_length}
+use Rattle.asgi_request.specs.BodyLength.{framing_or_refusal}
 use Rattle.asgi_request.specs.Scopes.{scope_of, facts_of}
 use Rattle.asgi_request.specs.Refusals.{status_of}
 use Rattle.asgi_request.specs.ChunkedBody.{BodyState, partial, complete, faulty}
@@ -26,7 +26,7 @@ pub record ReadsHead (limits : Limits) (bytes : List ℕ) (head : RequestHead) (
   pub text : List ℕ
   pub text_is : IsFirstWithin EndsAsHead limits.max_head bytes text behind
   pub head_is : IsHeadOf limits.max_headers text head
-  pub framing_is : body_length (record_of head) limits ≡ Ok framing
+  pub framing_is : framing_or_refusal (record_of head) limits ≡ Ok framing
 
 -- The head text is no head.
 pub record HoldsNoHead (limits : Limits) (bytes : List ℕ) : Type 0 where
@@ -42,7 +42,7 @@ pub record HoldsRefusedHead (limits : Limits) (bytes : List ℕ) (why : Refusal)
   pub head : RequestHead
   pub text_is : IsFirstWithin EndsAsHead limits.max_head bytes text behind
   pub head_is : IsHeadOf limits.max_headers text head
-  pub refused : body_length (record_of head) limits ≡ Err why
+  pub refused : framing_or_refusal (record_of head) limits ≡ Err why
 
 -- What the bytes begin with is refused: it is too long a head, or none, or one that is not served.
 abbrev pub RefusesHead : Limits → List ℕ → Refusal → Type 0

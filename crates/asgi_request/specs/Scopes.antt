@@ -9,7 +9,7 @@ use Rattle.asgi_types.specs.declared.scope.Kind.TheVariants as kind
 use Rattle.asgi_types.specs.declared.scope.Scope.{Scope}
 use Rattle.asgi_types.specs.declared.scope.Scope.TheVariants.{Http}
 use Rattle.asgi_request.specs.declared.head.HeadRecord.{HeadRecord}
-use Rattle.asgi_request.specs.BodyLength.{is_v11}
+use Rattle.asgi_types.specs.Versions.{is_v11}
 use Rattle.asgi_types.specs.Tokens.{has_token}
 use Rattle.asgi_request.specs.Target.{path_of, query_of}
 

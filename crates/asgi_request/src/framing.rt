@@ -31,11 +31,11 @@ pub enum HeadFraming {
     Bad(u16),
 }
 
-/// How the body of the request is delimited (RFC 9112, section 6.3). It takes no memory.
+/// How the body of the request is delimited, or with which status its head is refused. It takes no memory.
 pub fn framing_of(head: &HeadRecord, limits: &Limits) -> HeadFraming
     ensures { result ≡ framings.framing_of head.now limits.now }
 {
-    match body_length(head, limits) {
+    match framing_or_refusal(head, limits) {
         Ok(Framing::Length(n)) => HeadFraming::Length(n),
         Ok(Framing::Chunked) => HeadFraming::Chunked,
         Ok(Framing::Upgrade) => HeadFraming::Length(0),
@@ -44,8 +44,8 @@ pub fn framing_of(head: &HeadRecord, limits: &Limits) -> HeadFraming
 }
 
 /// The same, with the reason of a refusal: the first case that holds.
-pub fn body_length(head: &HeadRecord, limits: &Limits) -> Result<Framing, Refusal>
-    ensures { result ≡ spec.body_length head.now limits.now }
+pub fn framing_or_refusal(head: &HeadRecord, limits: &Limits) -> Result<Framing, Refusal>
+    ensures { result ≡ spec.framing_or_refusal head.now limits.now }
 {
     if head.method.as_str().as_bytes() == CONNECT {
         return Err(Refusal::NotImplemented);
@@ -56,7 +56,7 @@ pub fn body_length(head: &HeadRecord, limits: &Limits) -> Result<Framing, Refusa
     if lacks_host(head) {
         return Err(Refusal::BadRequest);
     }
-    length_of_fields(head.version, &head.headers, limits.max_body)
+    body_length(head.version, &head.headers, limits.max_body)
 }
 
 /// Whether HTTP/1.1 asks for a Host field that isn't there, or is there more than once.
@@ -66,13 +66,9 @@ fn lacks_host(head: &HeadRecord) -> bool
     head.version == HttpVersion::V11 && count_named(&head.headers, HOST) != 1
 }
 
-/// What the fields say of the body: the first case that holds.
-fn length_of_fields(
-    version: HttpVersion,
-    headers: &Headers,
-    max_body: u64,
-) -> Result<Framing, Refusal>
-    ensures { result ≡ spec.length_of_fields version headers.now max_body }
+/// Message body length, by what the fields say (RFC 9112, section 6.3): the first case that holds.
+fn body_length(version: HttpVersion, headers: &Headers, max_body: u64) -> Result<Framing, Refusal>
+    ensures { result ≡ spec.body_length version headers.now max_body }
 {
     let lengths = count_named(headers, CONTENT_LENGTH);
     let codings = count_named(headers, TRANSFER_ENCODING);

@@ -3,7 +3,7 @@ ghost use Rattle.std.specs.Prelude.{◌≡◌, ◌≢◌, ◌≤◌, ℕ, IfOk, 
 ghost use Rattle.asgi_request.specs.Places as spec;
 ghost use Rattle.asgi_request.specs.Places.{JudgesText, IsShortHead};
 
-use crate::framing::body_length;
+use crate::framing::framing_or_refusal;
 use crate::head::{HeadRecord, parse_head};
 use crate::next::Next;
 use crate::parts::{is_trailer, parse_size};
@@ -81,7 +81,7 @@ fn after_head(alloc: Global, limits: &Limits, found: Option<HeadRecord>) -> Resu
     let Some(head) = found else {
         return Ok(bad(Refusal::BadRequest));
     };
-    match body_length(&head, limits) {
+    match framing_or_refusal(&head, limits) {
         Err(refusal) => Ok(bad(refusal)),
         Ok(framing) => after_framing(alloc, head, framing),
     }

@@ -1,5 +1,4 @@
 pub mod DigitLemmas
-pub mod FieldLemmas
 pub mod HeadLemmas
 pub mod RefusalLemmas
 pub mod AcceptedLemmas

@@ -8,7 +8,9 @@ use Rattle.std.specs.Prelude.{if◌then◌else◌, ◌==◌, codes}
 use Rattle.std.specs.List.{concat, fold, AllByRecursion}
 use Rattle.std.specs.Fmt.{digits}
 use Rattle.httparse.specs.Ascii.{crlf_bytes}
-use Rattle.http1.specs.ChunkedBody.{SizeLine, Chunk, IsSizeLine, IsChunk, print_chunk, extension_len}
+use Rattle.http1.specs.ChunkedBody.{SizeLine, Chunk, Chunks, IsSizeLine, IsChunk, AreChunks, ReadsChunks, print_chunk, print_chunks, content, extension_len}
+use Rattle.http1.specs.ChunkedDecoder.{Run}
+use Rattle.http1.proofs.ChunksComplete.{run_chunks}
 use Rattle.asgi_types.specs.Fields.{HeaderField}
 use Rattle.asgi_types.specs.declared.facts.Facts.{Facts}
 use Rattle.asgi_types.specs.declared.outgoing.Outgoing.{Outgoing}
@@ -147,19 +149,35 @@ is_last_line : IsSizeLine last_line
 unfolding last_line
 is_last_line = record { has_digit = omega arith; hexadecimal = (omega arith, tt); fits = omega arith; blank = refl; text = refl }
 
+-- whatever chunks are read of the bytes, they carry the content of these and end where these end
+chunks_are_one : (bytes : List ℕ) (chunks : Chunks) → AreChunks 0 chunks → bytes ≡ print_chunks chunks ++ crlf_bytes
+    → (limit : ℕ) (other : Chunks) (behind : List ℕ) → ReadsChunks limit bytes other behind → (content other ≡ content chunks) × (behind ≡ crlf_bytes)
+chunks_are_one bytes chunks are text limit other behind found =
+    let ours : ReadsChunks limit bytes chunks crlf_bytes =
+    (record { full = are.full; last = are.last; ends = are.ends; within_limit = omega (arith, are.within_limit) }, text) in
+    let same = sym (run_chunks limit bytes other behind found) ∙ run_chunks limit bytes chunks crlf_bytes ours in
+    (ap (λ (r : Run). r.body) same, ap (λ (r : Run). r.rest) same)
+
 carried : (chunked : Bool) (parts : List (List ℕ)) (last : List ℕ) → All IsSized (parts ++ last ∷ []) → Carries chunked (bodies_text chunked parts last) (concat (parts ++ last ∷ []))
 unfolding last_line
-carried true parts last sized = record {
-  chunks = record { full = chunks_of (parts ++ last ∷ []); last = last_line };
-  well_formed = record {
-    full = are_chunks (parts ++ last ∷ []) sized;
-    last = is_last_line;
-    ends = refl;
-    within_limit = omega (arith, no_extensions (parts ++ last ∷ []) 0);
-  };
-  text = chunked_text parts last ∙ sym (append_assoc (flat_map print_chunk (chunks_of (parts ++ last ∷ []))) (codes "0" ++ crlf_bytes) crlf_bytes);
-  carried = carried_by (parts ++ last ∷ []);
-}
+carried true parts last sized =
+    let chunks : Chunks = record { full = chunks_of (parts ++ last ∷ []); last = last_line } in
+    let are : AreChunks 0 chunks = record {
+      full = are_chunks (parts ++ last ∷ []) sized;
+      last = is_last_line;
+      ends = refl;
+      within_limit = omega (arith, no_extensions (parts ++ last ∷ []) 0);
+    } in
+    let text : bodies_text true parts last ≡ print_chunks chunks ++ crlf_bytes =
+    chunked_text parts last ∙ sym (append_assoc (flat_map print_chunk (chunks_of (parts ++ last ∷ []))) (codes "0" ++ crlf_bytes) crlf_bytes) in
+    record {
+      chunks = chunks;
+      well_formed = are;
+      text = text;
+      carried = carried_by (parts ++ last ∷ []);
+      only = λ limit other behind found.
+          let one = chunks_are_one (bodies_text true parts last) chunks are text limit other behind found in (one.0 ∙ carried_by (parts ++ last ∷ []), one.1);
+    }
 carried false parts last sized = plain_text parts last
 
 pub response_is_read_back : ResponseIsReadBack

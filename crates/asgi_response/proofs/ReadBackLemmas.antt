@@ -11,8 +11,9 @@ use Rattle.std.specs.List.{filter, list_all}
 use Rattle.std.specs.Fmt.{decimal}
 use Rattle.std.specs.Char.{is_ascii_digit}
 use Rattle.httparse.specs.Ascii.{space, crlf_bytes}
-use Rattle.httparse.specs.Grammar.{AllPass, Field, IsField, ResponseHead, crlf, print_field, print_response, is_token_byte, is_value_byte, trim_ows}
+use Rattle.httparse.specs.Grammar.{AllPass, Field, IsField, ResponseHead, ReadsResponse, crlf, print_field, print_response, is_token_byte, is_value_byte, trim_ows}
 use Rattle.httparse.specs.Spans.{name_and_value}
+use Rattle.httparse.proofs.GrammarLemmas.{response_unique}
 use Rattle.asgi_types.specs.Fields.{HeaderField, IsValidField}
 use Rattle.asgi_types.proofs.FieldLemmas.{valid-read}
 use Rattle.asgi_response.specs.StatusLine.{reason_phrase, status_line}
@@ -185,17 +186,20 @@ pub head_is_read_back : HeadIsReadBack
 unfolding head_sent
 head_is_read_back headers clean chunked closing status rest low high =
     let sent : List HeaderField = fields_sent chunked closing status headers in
+    let text : List ℕ = head_text chunked closing status headers ++ rest in
+    let reads : ReadsResponse text (head_sent status sent) rest = (
+      record {
+        minor = omega arith;
+        digits = status_digits status low high;
+        reason = all_pass is_value_byte (reason_phrase status) (reason_passes status);
+        fields = All-map IsField field_sent sent (All-weaker IsSendable (λ f. IsField (field_sent f)) sendable sent (all_sendable chunked closing status headers clean));
+      },
+      head_printed chunked closing status headers rest,
+    ) in
     record {
       head = head_sent status sent;
-      reads = (
-        record {
-          minor = omega arith;
-          digits = status_digits status low high;
-          reason = all_pass is_value_byte (reason_phrase status) (reason_passes status);
-          fields = All-map IsField field_sent sent (All-weaker IsSendable (λ f. IsField (field_sent f)) sendable sent (all_sendable chunked closing status headers clean));
-        },
-        head_printed chunked closing status headers rest,
-      );
+      reads = reads;
       code = (decimal_is_IsNumeral status (omega (arith, high))).1;
       named = sent-named sent;
+      only = λ other behind found. response_unique text other (head_sent status sent) behind rest found reads;
     }

@@ -8,10 +8,9 @@ use Rattle.asgi_types.specs.declared.outgoing.Outgoing.{Outgoing}
 use Rattle.asgi_types.specs.declared.outgoing.Outgoing.TheVariants.{ResponseStart, ResponseBody}
 use Rattle.asgi_protocol.specs.ContentLengths.{content_length}
 use Rattle.asgi_protocol.specs.Lawful.{IsResponse}
-use Rattle.asgi_protocol.specs.Rules.{given_length, promised_length, body_bytes, is_above, is_below}
+use Rattle.asgi_protocol.specs.Rules.{given_length, has_no_content, promised_length, body_bytes, is_above, is_below}
 use Rattle.asgi_response.specs.Accepted.{accepted}
 use Rattle.asgi_response.specs.Content.{has_content}
-use Rattle.asgi_response.specs.Fields.{has_no_content}
 use Rattle.asgi_response.specs.Standing.{part}
 use Rattle.asgi_response.proofs.LawfulLemmas.{accepted_is_lawful}
 

@@ -67,9 +67,9 @@ started t facts said status headers at none = record {
       coding = ap (λ v. coding_of (has_content t.head_only status) (is_chunked v status headers)) at.version
           ∙ ap (λ (b : Bool). coding_of (has_content b status) (is_chunked facts.version status headers)) at.head_only;
       left = ap (λ (s : List Outgoing). promised_length facts (s ++ ResponseStart status headers ∷ [])) none
-          ∙ with_sent-zero (left_at_start facts.head_only status (given_length (content_length headers)))
-          ∙ sym (ap (λ (s : List Outgoing). with_sent (body_bytes (s ++ ResponseStart status headers ∷ [])) (left_at_start t.head_only status (given_length (content_length headers)))) none
-          ∙ ap (λ (b : Bool). with_sent 0 (left_at_start b status (given_length (content_length headers)))) at.head_only);
+          ∙ with_sent-zero (left_at_start facts.head_only status (content_length headers))
+          ∙ sym (ap (λ (s : List Outgoing). with_sent (body_bytes (s ++ ResponseStart status headers ∷ [])) (left_at_start t.head_only status (content_length headers))) none
+          ∙ ap (λ (b : Bool). with_sent 0 (left_at_start b status (content_length headers))) at.head_only);
     };
     text = ap (λ v. head_text (is_chunked v status headers) (closes t.close headers) status headers) at.version
         ∙ ap (λ (b : Bool). head_text (is_chunked facts.version status headers) (closes b headers) status headers) (closes_first t facts said at none);

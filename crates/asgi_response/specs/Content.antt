@@ -2,7 +2,7 @@
 use Rattle.std.specs.Prelude.{ℕ, Bool, false, ◌&&◌, not, List, [], ◌++◌, length, if◌then◌else◌, ◌==◌, codes}
 use Rattle.std.specs.Fmt.{digits}
 use Rattle.httparse.specs.Ascii.{crlf_bytes}
-use Rattle.asgi_response.specs.Fields.{has_no_content}
+use Rattle.asgi_protocol.specs.Rules.{has_no_content}
 
 -- chunk = chunk-size CRLF chunk-data CRLF, the size in hexadecimal (section 7.1)
 abbrev pub chunk : List ℕ → List ℕ

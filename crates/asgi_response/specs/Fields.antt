@@ -1,21 +1,18 @@
 -- The head of a response: its status line, its fields and the empty line (RFC 9112, sections 4 to 6 and 9.6).
-use Rattle.std.specs.Prelude.{ℕ, Bool, true, false, ◌&&◌, ◌||◌, not, List, [], ◌++◌, length, if◌then◌else◌, ◌==◌, codes, bytes_eq}
+use Rattle.std.specs.Prelude.{ℕ, Bool, ◌&&◌, ◌||◌, not, List, [], ◌++◌, if◌then◌else◌, ◌==◌, codes, bytes_eq}
 use Rattle.std.specs.List.{filter, flat_map}
 use Rattle.httparse.specs.Ascii.{crlf_bytes}
 use Rattle.asgi_types.specs.Fields.{HeaderField}
 use Rattle.asgi_types.specs.declared.outgoing.HttpVersion.{HttpVersion}
-use Rattle.asgi_types.specs.declared.outgoing.HttpVersion.TheVariants.{V10, V11}
-use Rattle.asgi_protocol.specs.ContentLengths.{values_of}
+use Rattle.asgi_types.specs.Versions.{is_v11}
+use Rattle.asgi_protocol.specs.ContentLengths.{content_length}
+use Rattle.asgi_protocol.specs.Rules.{has_no_content, is_absent}
 use Rattle.asgi_response.specs.StatusLine.{status_line}
 use Rattle.asgi_types.specs.Tokens.{has_token}
 
 -- field-line = field-name ":" OWS field-value OWS (section 5), and its CRLF
 abbrev pub field_line : HeaderField → List ℕ
 field_line f = f.name ++ codes ": " ++ f.value ++ crlf_bytes
-
--- such a status has no content (RFC 9110, sections 15.3.5 and 15.4.5)
-abbrev pub has_no_content : ℕ → Bool
-has_no_content status = status == 204 || status == 304
 
 -- A field of the name is the application's to say: the server alone says how the message is framed and whether it
 -- closes, and 204 has no content-length (RFC 9110, section 8.6).
@@ -28,13 +25,9 @@ is_shown status name =
 abbrev pub field_lines : ℕ → List HeaderField → List ℕ
 field_lines status headers = flat_map field_line (filter (λ f. is_shown status f.name) headers)
 
-abbrev pub is_v11 : HttpVersion → Bool
-is_v11 V11 = true
-is_v11 V10 = false
-
 -- there is no content-length field
 abbrev pub gives_no_length : List HeaderField → Bool
-gives_no_length headers = length (values_of headers (codes "content-length")) == 0
+gives_no_length headers = is_absent (content_length headers)
 
 -- The content is chunked where its length is not given (section 6.1), in an answer to HTTP/1.1 alone.
 abbrev pub is_chunked : HttpVersion → ℕ → List HeaderField → Bool

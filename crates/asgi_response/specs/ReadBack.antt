@@ -22,12 +22,14 @@ fields_sent chunked closing status headers =
 abbrev pub as_read : HeaderField → List ℕ × List ℕ
 as_read f = (f.name, trim_ows f.value)
 
--- the bytes begin with the head of a response of this status and of just these fields, and the rest follows
+-- The bytes begin with the head of a response of this status and of just these fields, and the rest follows. There is no
+-- other reading: whatever head is read of the bytes is this one, and ends where it ends.
 pub record IsReadAs (bytes : List ℕ) (status : ℕ) (fields : List HeaderField) (rest : List ℕ) : Type 0 where
   pub head : ResponseHead
   pub reads : ReadsResponse bytes head rest
   pub code : status_code head ≡ status
   pub named : map name_and_value head.fields ≡ map as_read fields
+  pub only : (other : ResponseHead) (behind : List ℕ) → ReadsResponse bytes other behind → (other ≡ head) × (behind ≡ rest)
 
 -- the head of a response with these fields is read back: no value can add a line to it
 abbrev pub IsHeadReadBack : List HeaderField → Type 0

@@ -2,7 +2,7 @@
 use Rattle.std.specs.Prelude.{◌≡◌, ℕ, ◌<◌, ◌^◌, Bool, true, false, List, [], ◌∷◌, ◌++◌, length, All, Some}
 use Rattle.std.specs.List.{concat}
 use Rattle.httparse.specs.Ascii.{crlf_bytes}
-use Rattle.http1.specs.ChunkedBody.{Chunks, AreChunks, print_chunks, content}
+use Rattle.http1.specs.ChunkedBody.{Chunks, AreChunks, ReadsChunks, print_chunks, content}
 use Rattle.asgi_types.specs.Fields.{HeaderField}
 use Rattle.asgi_types.specs.declared.facts.Facts.{Facts}
 use Rattle.asgi_types.specs.declared.outgoing.Outgoing.{Outgoing}
@@ -15,12 +15,14 @@ use Rattle.asgi_response.specs.Content.{has_content}
 use Rattle.asgi_response.specs.Response.{message_text}
 use Rattle.asgi_response.specs.ReadBack.{IsSendable, IsReadAs, fields_sent}
 
--- the bytes are chunks without extensions that carry just this content, and an empty trailer section
+-- The bytes are chunks without extensions that carry just this content, and an empty trailer section. There is no other
+-- reading: whatever chunks are read of the bytes, with extensions of any length, carry this and end there.
 pub record IsChunked (bytes sent : List ℕ) : Type 0 where
   pub chunks : Chunks
   pub well_formed : AreChunks 0 chunks
   pub text : bytes ≡ print_chunks chunks ++ crlf_bytes
   pub carried : content chunks ≡ sent
+  pub only : (limit : ℕ) (other : Chunks) (behind : List ℕ) → ReadsChunks limit bytes other behind → (content other ≡ sent) × (behind ≡ crlf_bytes)
 
 -- the bytes carry just this content: chunked, or as they are
 abbrev pub Carries : Bool → List ℕ → List ℕ → Type 0

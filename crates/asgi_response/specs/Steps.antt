@@ -5,54 +5,19 @@ use Rattle.asgi_types.specs.declared.outgoing.HttpVersion.{HttpVersion}
 use Rattle.asgi_types.specs.declared.outgoing.Outgoing.{Outgoing}
 use Rattle.asgi_types.specs.declared.outgoing.Outgoing.TheVariants.{ResponseStart, ResponseBody}
 use Rattle.asgi_protocol.specs.ContentLengths.{content_length}
-use Rattle.asgi_protocol.specs.Rules.{is_status, is_faulty, given_length}
-use Rattle.asgi_types.specs.Lengths.{length_of_text}
+use Rattle.asgi_protocol.specs.Rules.{is_status, is_faulty, promised_at}
+use Rattle.asgi_protocol.specs.declared.content_length.ContentLength.{ContentLength}
 use Rattle.asgi_response.specs.declared.content.Coding.{Coding}
 use Rattle.asgi_response.specs.declared.content.Coding.TheVariants.{Nothing, Plain, Chunked}
 use Rattle.asgi_response.specs.declared.content.Content.{Content}
-use Rattle.asgi_response.specs.declared.fields.Length.{Length}
-use Rattle.asgi_response.specs.declared.fields.Length.TheVariants as seen
 use Rattle.asgi_response.specs.declared.progress.Progress.{Progress}
 use Rattle.asgi_response.specs.declared.progress.Progress.TheVariants as progress
 use Rattle.asgi_response.specs.declared.text.ResponseText.{ResponseText}
 use Rattle.asgi_response.specs.declared.text.Stage.{Stage}
 use Rattle.asgi_response.specs.declared.text.Stage.TheVariants.{Waiting, Started, Begun, Complete}
-use Rattle.asgi_response.specs.Fields.{has_no_content, is_chunked, closes, head_text}
+use Rattle.asgi_response.specs.Fields.{is_chunked, closes, head_text}
 use Rattle.asgi_response.specs.Content.{has_content, part_text}
 use Rattle.asgi_response.specs.Standing.{coding_of}
-
--- ---- of the fields
-
-abbrev pub seen_absent : Length → Bool
-seen_absent seen.Absent = true
-seen_absent (seen.Given n) = false
-seen_absent seen.Faulty = false
-
-abbrev pub seen_faulty : Length → Bool
-seen_faulty seen.Absent = false
-seen_faulty (seen.Given n) = false
-seen_faulty seen.Faulty = true
-
-abbrev pub seen_given : Length → Option ℕ
-seen_given seen.Absent = None
-seen_given (seen.Given n) = Some n
-seen_given seen.Faulty = None
-
-abbrev pub seen_number : Option ℕ → Length
-seen_number None = seen.Faulty
-seen_number (Some n) = seen.Given n
-
--- the length with one more field of this value
-abbrev pub with_value : Length → List ℕ → Length
-with_value seen.Absent value = seen_number (length_of_text value)
-with_value (seen.Given n) value = seen.Faulty
-with_value seen.Faulty value = seen.Faulty
-
--- what the values of the fields say, all together
-abbrev pub seen_in : List (List ℕ) → Length
-seen_in [] = seen.Absent
-seen_in (value ∷ []) = seen_number (length_of_text value)
-seen_in (value ∷ another ∷ values) = seen.Faulty
 
 -- ---- of the content
 
@@ -73,8 +38,8 @@ left_behind None n = None
 left_behind (Some left) n = Some (left - n)
 
 -- the bytes that are left behind a start
-abbrev pub left_at_start : Bool → ℕ → Option ℕ → Option ℕ
-left_at_start head_only status given = if head_only then None else (if has_no_content status then None else given)
+abbrev pub left_at_start : Bool → ℕ → ContentLength → Option ℕ
+left_at_start head_only status length = if head_only then None else promised_at status length
 
 -- ---- of the text
 
@@ -106,7 +71,7 @@ may_start stage status faulty = is_waiting stage && is_status status && not faul
 abbrev pub content_at_start : HttpVersion → Bool → ℕ → List HeaderField → Content
 content_at_start version head_only status headers = record {
   coding = coding_of (has_content head_only status) (is_chunked version status headers);
-  left = left_at_start head_only status (given_length (content_length headers));
+  left = left_at_start head_only status (content_length headers);
 }
 
 abbrev pub after_start : ResponseText → ℕ → List HeaderField → ResponseText

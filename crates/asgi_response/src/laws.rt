@@ -21,12 +21,12 @@ pub fn lawful_is_accepted()
     ensures { LawfulIsAccepted }
 {}
 
-/// A recipient reads the status and just the fields that were sent: no value can add a line.
+/// A recipient reads the status and just the fields that were sent: no value can add a line, and no other head is read.
 pub fn head_is_read_back()
     ensures { HeadIsReadBack }
 {}
 
-/// A recipient of a complete response reads its status, its fields, and just the bytes of its bodies.
+/// A recipient of a complete response reads its status, its fields, and just the bytes of its bodies, in one way only.
 pub fn response_is_read_back()
     ensures { ResponseIsReadBack }
 {}

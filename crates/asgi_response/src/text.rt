@@ -5,22 +5,23 @@ ghost use Rattle.httparse.specs.Ascii.{crlf_bytes};
 ghost use Rattle.asgi_types.specs.declared.facts.Facts.{Facts};
 ghost use Rattle.asgi_types.specs.declared.outgoing.Outgoing.{Outgoing};
 ghost use Rattle.asgi_protocol.specs.ContentLengths.{content_length};
-ghost use Rattle.asgi_protocol.specs.Rules.{is_faulty};
+ghost use Rattle.asgi_protocol.specs.Rules.{is_absent, is_faulty, has_no_content as is_bare};
 ghost use Rattle.asgi_response.specs.Content as contents;
 ghost use Rattle.asgi_response.specs.Exchange as exchange;
 ghost use Rattle.asgi_response.specs.Fields as fields;
 ghost use Rattle.asgi_types.specs.Room.{LacksRoom};
+ghost use Rattle.asgi_types.specs.Versions.{is_v11};
 ghost use Rattle.asgi_response.specs.Room.{LacksMemory};
 ghost use Rattle.asgi_response.specs.Standing as standing;
 ghost use Rattle.asgi_response.specs.Steps as steps;
-ghost use Rattle.asgi_response.specs.Steps.{seen_absent, seen_faulty, seen_given};
 
 use crate::append::{append_all, hexadecimal};
 use crate::content::{Coding, Content};
-use crate::fields::{Length, closes, has_no_content};
+use crate::fields::closes;
 use crate::head::{CRLF, head_text};
 use crate::progress::Progress;
 use crate::refusal::{Input, append_refusal};
+use asgi_protocol::{ContentLength, has_no_content};
 use asgi_types::{Facts, Headers, HttpVersion, Octets, Outgoing};
 use std::alloc::{AllocError, Global};
 
@@ -150,7 +151,7 @@ impl ResponseText {
         ensures err { OnErr result (self.new ≡ self.old) }
         ensures full { OnErr result (IsTrue (steps.may_start self.old.stage status (is_faulty (content_length headers.now)))) }
     {
-        let length = Length::of(headers);
+        let length = ContentLength::of(headers);
         if !may_start(self.stage, status, length) {
             return Ok(());
         }
@@ -222,23 +223,23 @@ impl Stage {
 }
 
 /// Whether a start is lawful here.
-fn may_start(stage: Stage, status: u16, length: Length) -> bool
-    ensures { result ≡ steps.may_start stage status (seen_faulty length) }
+fn may_start(stage: Stage, status: u16, length: ContentLength) -> bool
+    ensures { result ≡ steps.may_start stage status (is_faulty length) }
 {
-    stage == Stage::Waiting && 200 <= status && status <= 599 && length != Length::Faulty
+    stage == Stage::Waiting && 200 <= status && status <= 599 && !length.is_faulty()
 }
 
 /// Whether the content is chunked.
-fn is_chunked(version: HttpVersion, status: u16, length: Length) -> bool
-    ensures { result ≡ (fields.is_v11 version && seen_absent length && not (fields.has_no_content status)) }
+fn is_chunked(version: HttpVersion, status: u16, length: ContentLength) -> bool
+    ensures { result ≡ (is_v11 version && is_absent length && not (is_bare status)) }
 {
-    version == HttpVersion::V11 && length == Length::Absent && !has_no_content(status)
+    version == HttpVersion::V11 && length.is_absent() && !has_no_content(status)
 }
 
 /// What the bodies behind a start may be.
-fn content_at_start(head_only: bool, status: u16, chunked: bool, length: Length) -> Content
+fn content_at_start(head_only: bool, status: u16, chunked: bool, length: ContentLength) -> Content
     ensures coding { result.coding ≡ standing.coding_of (contents.has_content head_only status) chunked }
-    ensures left { result.left ≡ steps.left_at_start head_only status (seen_given length) }
+    ensures left { result.left ≡ steps.left_at_start head_only status length }
 {
     if head_only || has_no_content(status) {
         return Content {
@@ -248,7 +249,7 @@ fn content_at_start(head_only: bool, status: u16, chunked: bool, length: Length)
     }
     Content {
         coding: coding_of(chunked),
-        left: length.given(),
+        left: length.promised_at(status),
     }
 }
 

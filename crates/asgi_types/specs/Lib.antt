@@ -9,3 +9,4 @@ pub mod Scopes
 pub mod StatePlaces
 pub mod States
 pub mod Tokens
+pub mod Versions

@@ -313,11 +313,11 @@ fn a_copy_of_facts_is_equal(rt: HostRuntime) -> Result<(), Fail> {
 }
 
 /// The field of a connection is judged so, beside another that lists the token.
-fn lists_close(alloc: Global, value: &[u8]) -> bool {
+fn lists(alloc: Global, value: &[u8], token: &[u8]) -> bool {
     let mut headers = Headers::new(alloc);
     let _kept = headers.push(b"X-Other", b"close");
     let _refused = headers.push(b"Connection", value);
-    headers.has_token(b"connection", b"close")
+    headers.has_token(b"connection", token)
 }
 
 #[test]
@@ -336,6 +336,14 @@ fn a_field_lists_its_tokens(rt: HostRuntime) {
         (b"\x0cclose", false),
     ];
     for (row, (value, listed)) in rows.iter().enumerate() {
-        assert!(rt; lists_close(rt.alloc(), value) == *listed, "row {row}");
+        assert!(rt; lists(rt.alloc(), value, b"close") == *listed, "row {row}");
+    }
+}
+
+#[test]
+fn no_field_lists_an_empty_token(rt: HostRuntime) {
+    let rows: [&[u8]; 6] = [b"", b" \t", b",", b"close, ,x", b",,close", b"close,"];
+    for (row, value) in rows.iter().enumerate() {
+        assert!(rt; !lists(rt.alloc(), value, b""), "row {row}");
     }
 }

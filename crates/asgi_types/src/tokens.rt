@@ -7,7 +7,7 @@ use crate::Headers;
 
 impl Headers {
     /// Whether a field of the name lists the token, in any case (RFC 9110, sections 5.1 and 5.6.1). The name is in lower
-    /// case, as fields keep theirs. It takes no memory.
+    /// case, as fields keep theirs. No field lists an empty token. It takes no memory.
     pub fn has_token(&self, name: &[u8], token: &[u8]) -> bool
         ensures { result ≡ spec.has_token self.now name.now token.now }
     {
@@ -32,11 +32,19 @@ fn lists_token(value: &[u8], token: &[u8]) -> bool
         .any(|part| is_token(part, token))
 }
 
-/// Whether the part is the token in any case, between spaces and tabs.
+/// Whether the part is the token in any case, between spaces and tabs. An empty part is none.
 fn is_token(part: &[u8], token: &[u8]) -> bool
-    ensures { result ≡ spec.same_ignoring_case (trim_ows part.now) token.now }
+    ensures { result ≡ spec.is_element part.now token.now }
 {
-    trim_end(trim_start(part)).eq_ignore_ascii_case(token)
+    let trimmed = trimmed(part);
+    !trimmed.is_empty() && trimmed.eq_ignore_ascii_case(token)
+}
+
+/// The part without the spaces and tabs at its ends.
+fn trimmed(part: &[u8]) -> &[u8]
+    ensures { result.now ≡ trim_ows part.now }
+{
+    trim_end(trim_start(part))
 }
 
 fn is_blank(b: u8) -> bool

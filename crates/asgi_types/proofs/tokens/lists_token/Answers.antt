@@ -1,12 +1,11 @@
 use Rattle.std.proofs.Common.{rules, tests, ◌==◌}
 use Rattle.std.proofs.lemmas.Iterator.Search.{any_from_yields_List}
 use Rattle.std.proofs.lemmas.Iterator.Splits.{YieldsList-from_slice_split}
-use Rattle.httparse.specs.Grammar.{trim_ows}
 use Rattle.asgi_types.specs.Tokens as spec
 use Rattle.asgi_types.proofs.tokens.lists_token.Goals as goal
 
 pub returns : goal.returns
 returns c =
-    any_from_yields_List (λ part. spec.same_ignoring_case (trim_ows part) c.args.token.now) _ _ _ c.any.ensures.ran
+    any_from_yields_List (λ part. spec.is_element part c.args.token.now) _ _ _ c.any.ensures.ran
     (YieldsList-from_slice_split _ (λ b. b == 44) c.args.value.now c.split.ensures.rest c.split.ensures.done c.split.ensures.closure (λ x b q k. search (rules, tests)))
     (λ x b q k. search (rules, tests))

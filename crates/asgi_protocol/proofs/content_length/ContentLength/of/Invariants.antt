@@ -2,7 +2,7 @@ use Rattle.std.proofs.Common.{◌≡◌, ◌++◌}
 use Rattle.std.specs.Prelude.{codes}
 use Rattle.std.specs.Option.{option_copied, option_to_list}
 use Rattle.asgi_protocol.specs.ContentLengths.{values_of}
-use Rattle.asgi_protocol.proofs.content_length.content_length.Given as goal
+use Rattle.asgi_protocol.proofs.content_length.ContentLength.of.Given as goal
 
 abbrev pub invariant-loop-name : goal.invariant-loop-name
 invariant-loop-name l =
