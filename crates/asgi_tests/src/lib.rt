@@ -4,6 +4,8 @@
 #[cfg(test)]
 mod cut;
 #[cfg(test)]
+mod edges;
+#[cfg(test)]
 mod fakes;
 #[cfg(test)]
 mod memory;

@@ -32,6 +32,8 @@ pub use state::{State, StateError, StateValue};
 #[cfg(test)]
 mod tests;
 #[cfg(test)]
+mod tests_edges;
+#[cfg(test)]
 mod tests_memory;
 #[cfg(test)]
 mod tests_scopes;

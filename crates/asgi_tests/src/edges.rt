@@ -1,0 +1,314 @@
+//! The greatest heads that a connection takes, and the largest responses. With ample memory each is served whole.
+use crate::fakes::{Pieces, serve};
+use crate::texts::{BAD_REQUEST, GET, HELLO, TOO_LARGE};
+use asgi_conn::{Outcome, Report};
+use asgi_response::ResponseText;
+use asgi_types::{
+    Facts, Framing, HeaderError, Headers, HttpVersion, Limits, Names, Octets, Outgoing,
+};
+use std::alloc::{AllocError, Global};
+use std::process::Abort;
+use std::test::Fail;
+
+/// A head of so many bytes, its last field filled up with letters.
+fn head_of(alloc: Global, length: usize) -> Result<Vec<u8>, AllocError> {
+    let mut head = Vec::from_slice(alloc, b"GET / HTTP/1.1\r\nHost: a\r\nX: ")?;
+    for _ in head.len()..length.saturating_sub(4) {
+        head.push(b'a')?;
+    }
+    head.extend_from_slice(b"\r\n\r\n")?;
+    Ok(head)
+}
+
+fn digit(number: usize) -> u8 {
+    b'0' + (number % 10) as u8
+}
+
+/// The last three digits of the number.
+fn digits(number: usize) -> [u8; 3] {
+    [digit(number / 100), digit(number / 10), digit(number)]
+}
+
+/// Adds the lines of so many fields `x-nnn: nnn`.
+fn add_lines(text: &mut Vec<u8>, count: usize) -> Result<(), AllocError> {
+    for number in 0..count {
+        let [a, b, c] = digits(number);
+        text.extend_from_slice(&[b'x', b'-', a, b, c, b':', b' ', a, b, c, b'\r', b'\n'])?;
+    }
+    Ok(())
+}
+
+/// A head with `Host` and so many other fields.
+fn head_with(alloc: Global, others: usize) -> Result<Vec<u8>, AllocError> {
+    let mut head = Vec::from_slice(alloc, b"GET / HTTP/1.1\r\nHost: a\r\n")?;
+    add_lines(&mut head, others)?;
+    head.extend_from_slice(b"\r\n")?;
+    Ok(head)
+}
+
+/// What is read at a time, what is written, how the connection ends, and how many reads there are.
+#[derive(Clone, Copy)]
+struct Served {
+    piece: usize,
+    wanted: &'static [u8],
+    outcome: Outcome,
+    exchanges: u64,
+    turns: u64,
+}
+
+const fn hello(piece: usize, turns: u64) -> Served {
+    Served {
+        piece,
+        wanted: HELLO,
+        outcome: Outcome::Finished,
+        exchanges: 1,
+        turns,
+    }
+}
+
+const fn refused(wanted: &'static [u8], status: u16, turns: u64) -> Served {
+    Served {
+        piece: 4_096,
+        wanted,
+        outcome: Outcome::Refused(status),
+        exchanges: 0,
+        turns,
+    }
+}
+
+fn is_report(report: &Report, served: Served) -> bool {
+    report.outcome == served.outcome
+        && report.exchanges == served.exchanges
+        && report.turns == served.turns
+        && report.faults == 0
+        && report.idle == 0
+}
+
+/// Whether the input is served so, under the greatest limits on heads.
+fn is_served<H: Abort + AllocGlobal>(rt: &H, input: &[u8], served: Served) -> Result<bool, Fail> {
+    let limits = Limits::new(65_535, 128, 0, 1, 2, 1, 100_000)?;
+    let mut reader = Pieces::new(input, served.piece, served.piece);
+    let (report, written, pauses) = serve(rt, &limits, &mut reader)?;
+    let is_so = is_report(&report, served) && reader.reads == served.turns;
+    Ok(is_so && written.as_slice() == served.wanted && pauses == 0)
+}
+
+#[test]
+fn a_head_of_65535_bytes_is_served(rt: HostRuntime) -> Result<(), Fail> {
+    // Sixteen pieces of 4,096 are 65,536 bytes.
+    let rows = [
+        (65_534, hello(4_096, 16)),
+        (65_535, hello(4_096, 16)),
+        (65_535, hello(1, 65_535)),
+        (65_536, refused(TOO_LARGE, 431, 16)),
+        (70_000, refused(TOO_LARGE, 431, 16)),
+    ];
+    for (length, served) in rows {
+        let head = head_of(rt.alloc(), length)?;
+        assert!(rt; is_served(&rt, &head, served)?, "{length} bytes");
+    }
+    Ok(())
+}
+
+#[test]
+fn a_head_of_128_fields_is_served(rt: HostRuntime) -> Result<(), Fail> {
+    // 127 lines of 12 bytes, with 27 bytes around them, come in one piece.
+    let rows = [
+        (126, hello(4_096, 1)),
+        (127, hello(4_096, 1)),
+        (128, refused(BAD_REQUEST, 400, 1)),
+    ];
+    for (others, served) in rows {
+        let head = head_with(rt.alloc(), others)?;
+        assert!(rt; is_served(&rt, &head, served)?, "{others} other fields");
+    }
+    Ok(())
+}
+
+/// A request and 1 MiB behind it.
+fn long_input(alloc: Global) -> Result<Vec<u8>, AllocError> {
+    let mut input = Vec::from_slice(alloc, GET)?;
+    for _ in 0..1_048_576 {
+        input.push(b'a')?;
+    }
+    Ok(input)
+}
+
+#[test]
+fn an_answer_waits_for_nothing_of_1_mib(rt: HostRuntime) -> Result<(), Fail> {
+    let input = long_input(rt.alloc())?;
+    assert!(rt; is_served(&rt, &input, hello(1_048_576, 1))?);
+    Ok(())
+}
+
+fn facts(alloc: Global, version: HttpVersion) -> Facts {
+    Facts {
+        version,
+        head_only: false,
+        close: version == HttpVersion::V10,
+        expect: false,
+        framing: Framing::Length(0),
+        key: [0; 24],
+        subprotocols: Names::new(alloc),
+    }
+}
+
+/// So many fields `X-NNN: NNN`.
+fn fields(alloc: Global, count: usize) -> Result<Headers, HeaderError> {
+    let mut headers = Headers::new(alloc);
+    for number in 0..count {
+        let [a, b, c] = digits(number);
+        headers.push(&[b'X', b'-', a, b, c], &[a, b, c])?;
+    }
+    Ok(headers)
+}
+
+fn start(alloc: Global, count: usize) -> Result<Outgoing, HeaderError> {
+    let headers = fields(alloc, count)?;
+    Ok(Outgoing::ResponseStart {
+        status: 200,
+        headers,
+    })
+}
+
+/// Adds so many bytes, in rows of 251.
+fn add_bytes(text: &mut Vec<u8>, count: usize) -> Result<(), AllocError> {
+    for at in 0..count {
+        text.push((at % 251) as u8)?;
+    }
+    Ok(())
+}
+
+fn last_body(alloc: Global, count: usize) -> Result<Outgoing, AllocError> {
+    let mut body = Vec::with_capacity(alloc, count)?;
+    add_bytes(&mut body, count)?;
+    Ok(Outgoing::ResponseBody {
+        body: Octets::new(body),
+        more_body: false,
+    })
+}
+
+/// Takes an event, which is gone then.
+fn take(text: &mut ResponseText, event: Outgoing, out: &mut Vec<u8>) -> Result<(), AllocError> {
+    text.take(&event, out)
+}
+
+fn take_both(
+    text: &mut ResponseText,
+    alloc: Global,
+    count: usize,
+    size: usize,
+    out: &mut Vec<u8>,
+) -> Result<(), Fail> {
+    take(text, start(alloc, count)?, out)?;
+    take(text, last_body(alloc, size)?, out)?;
+    Ok(())
+}
+
+/// What is written of a start with so many fields and a body of so many bytes.
+fn written(
+    alloc: Global,
+    version: HttpVersion,
+    count: usize,
+    size: usize,
+) -> Result<Vec<u8>, Fail> {
+    let mut out = Vec::new(alloc);
+    let mut text = ResponseText::new(alloc, &facts(alloc, version));
+    take_both(&mut text, alloc, count, size, &mut out)?;
+    Ok(out)
+}
+
+/// Its text: the fields in their order, then what stands in front of the body, the body, and what stands behind it.
+fn wanted(
+    alloc: Global,
+    count: usize,
+    size: usize,
+    front: &[u8],
+    end: &[u8],
+) -> Result<Vec<u8>, AllocError> {
+    let mut text = Vec::from_slice(alloc, b"HTTP/1.1 200 OK\r\n")?;
+    add_lines(&mut text, count)?;
+    text.extend_from_slice(front)?;
+    add_bytes(&mut text, size)?;
+    text.extend_from_slice(end)?;
+    Ok(text)
+}
+
+/// How many fields the start has, how many bytes the body, and what stands around the body.
+type Response = (usize, usize, &'static [u8], &'static [u8]);
+
+/// The body is one chunk, whose size stands before it in hexadecimal.
+const CHUNKED: [Response; 7] = [
+    (
+        0,
+        2,
+        b"transfer-encoding: chunked\r\n\r\n2\r\n",
+        b"\r\n0\r\n\r\n",
+    ),
+    (
+        20,
+        2,
+        b"transfer-encoding: chunked\r\n\r\n2\r\n",
+        b"\r\n0\r\n\r\n",
+    ),
+    (
+        128,
+        2,
+        b"transfer-encoding: chunked\r\n\r\n2\r\n",
+        b"\r\n0\r\n\r\n",
+    ),
+    (
+        200,
+        2,
+        b"transfer-encoding: chunked\r\n\r\n2\r\n",
+        b"\r\n0\r\n\r\n",
+    ),
+    (
+        1,
+        65_536,
+        b"transfer-encoding: chunked\r\n\r\n10000\r\n",
+        b"\r\n0\r\n\r\n",
+    ),
+    (
+        1,
+        70_000,
+        b"transfer-encoding: chunked\r\n\r\n11170\r\n",
+        b"\r\n0\r\n\r\n",
+    ),
+    (
+        128,
+        1_048_576,
+        b"transfer-encoding: chunked\r\n\r\n100000\r\n",
+        b"\r\n0\r\n\r\n",
+    ),
+];
+
+/// In HTTP/1.0 the body stands as it is, and ends with the connection.
+const PLAIN: [Response; 3] = [
+    (128, 2, b"connection: close\r\n\r\n", b""),
+    (1, 65_536, b"connection: close\r\n\r\n", b""),
+    (1, 70_000, b"connection: close\r\n\r\n", b""),
+];
+
+fn is_written(alloc: Global, version: HttpVersion, row: &Response) -> Result<bool, Fail> {
+    let out = written(alloc, version, row.0, row.1)?;
+    let text = wanted(alloc, row.0, row.1, row.2, row.3)?;
+    Ok(out.as_slice() == text.as_slice())
+}
+
+#[test]
+fn a_response_has_128_fields_and_many_bytes(rt: HostRuntime) -> Result<(), Fail> {
+    for (index, row) in CHUNKED.iter().enumerate() {
+        assert!(rt;
+            is_written(rt.alloc(), HttpVersion::V11, row)?,
+            "row {index}"
+        );
+    }
+    for (index, row) in PLAIN.iter().enumerate() {
+        assert!(rt;
+            is_written(rt.alloc(), HttpVersion::V10, row)?,
+            "row {index} of HTTP/1.0"
+        );
+    }
+    Ok(())
+}
