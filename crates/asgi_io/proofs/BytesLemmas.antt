@@ -43,6 +43,7 @@ pub Appends-none : (old mid new : Option (List ℕ)) (text : List ℕ) (at n : �
     → Appends mid new (take n (take (length text - at) (drop at text))) → Appends old new (take at text)
 Appends-none old mid new text at n none a b =
     subst (λ (k : ℕ). Appends old new (take k text)) (ap (λ (k : ℕ). at + k) none ∙ add-zero at) (Appends-more old mid new text at n a b)
+
 pub Consumes-nothing : (old new : Option (List ℕ)) → Keeps old new → Consumes old new []
 Consumes-nothing None new k = tt
 Consumes-nothing (Some xs) None k = k

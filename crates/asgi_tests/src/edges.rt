@@ -2,6 +2,7 @@
 use crate::fakes::{Pieces, serve};
 use crate::texts::{BAD_REQUEST, GET, HELLO, TOO_LARGE};
 use asgi_conn::{Outcome, Report};
+use asgi_io::CountedReader;
 use asgi_response::ResponseText;
 use asgi_types::{
     Facts, Framing, HeaderError, Headers, HttpVersion, Limits, Names, Octets, Outgoing,
@@ -87,9 +88,9 @@ fn is_report(report: &Report, served: Served) -> bool {
 /// Whether the input is served so, under the greatest limits on heads.
 fn is_served<H: Abort + AllocGlobal>(rt: &H, input: &[u8], served: Served) -> Result<bool, Fail> {
     let limits = Limits::new(65_535, 128, 0, 1, 2, 1, 100_000)?;
-    let mut reader = Pieces::new(input, served.piece, served.piece);
+    let mut reader = CountedReader::new(Pieces::new(input, served.piece, served.piece));
     let (report, written, pauses) = serve(rt, &limits, &mut reader)?;
-    let is_so = is_report(&report, served) && reader.reads == served.turns;
+    let is_so = is_report(&report, served) && reader.reader.reads == served.turns;
     Ok(is_so && written.as_slice() == served.wanted && pauses == 0)
 }
 
