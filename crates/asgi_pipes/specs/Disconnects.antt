@@ -7,14 +7,13 @@ use Rattle.asgi_types.specs.declared.incoming.Incoming.TheVariants.{HttpDisconne
 use Rattle.asgi_types.specs.declared.outgoing.Outgoing.{Outgoing}
 use Rattle.asgi_types.specs.declared.outgoing.Outgoing.TheVariants.{WsAccept, WsClose}
 use Rattle.asgi_protocol.specs.Shapes.{is_closed}
+use Rattle.asgi_protocol.specs.Verdicts.{is_disconnect}
 use Rattle.asgi_pipes.specs.declared.disconnect.Disconnect.{Disconnect}
 use Rattle.asgi_pipes.specs.declared.disconnect.Disconnect.TheVariants as disconnect
 
 -- the event, where it is a disconnect
 abbrev pub disconnect_in : Incoming → Option Incoming
-disconnect_in HttpDisconnect = Some HttpDisconnect
-disconnect_in (WsDisconnect code reason) = Some (WsDisconnect code reason)
-disconnect_in _ = None
+disconnect_in event = if is_disconnect event then Some event else None
 
 abbrev pub or_else : Option Incoming → Option Incoming → Option Incoming
 or_else (Some event) other = Some event

@@ -8,7 +8,7 @@ use Rattle.asgi_types.specs.declared.facts.Facts.{Facts}
 use Rattle.asgi_types.specs.declared.outgoing.Outgoing.{Outgoing}
 use Rattle.asgi_types.specs.declared.outgoing.Outgoing.TheVariants.{ResponseStart, ResponseBody, WsAccept, WsSend, WsClose, DenialStart, DenialBody, StartupComplete, StartupFailed, ShutdownComplete, ShutdownFailed}
 use Rattle.asgi_protocol.specs.ContentLengths.{content_length}
-use Rattle.asgi_protocol.specs.Rules.{is_status, is_faulty, given_length, promised_length, body_bytes}
+use Rattle.asgi_protocol.specs.Rules.{is_status, is_faulty, promised_length, body_bytes}
 use Rattle.asgi_response.specs.declared.content.Coding.{Coding}
 use Rattle.asgi_response.specs.declared.content.Content.{Content}
 use Rattle.asgi_response.specs.declared.text.ResponseText.{ResponseText}

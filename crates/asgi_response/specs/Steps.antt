@@ -1,5 +1,5 @@
 -- What the private functions of a response text tell each other. No promise is stated by these words.
-use Rattle.std.specs.Prelude.{ℕ, ◌-◌, Bool, true, false, ◌&&◌, not, List, [], ◌∷◌, ◌++◌, length, Option, Some, None, if◌then◌else◌, nat_le, ◌==◌}
+use Rattle.std.specs.Prelude.{ℕ, ◌-◌, Bool, true, false, ◌&&◌, not, List, [], ◌++◌, length, Option, Some, None, if◌then◌else◌, nat_le, ◌==◌}
 use Rattle.asgi_types.specs.Fields.{HeaderField}
 use Rattle.asgi_types.specs.declared.outgoing.HttpVersion.{HttpVersion}
 use Rattle.asgi_types.specs.declared.outgoing.Outgoing.{Outgoing}
