@@ -3,6 +3,7 @@ ghost use Rattle.std.specs.Prelude.{◌≡◌, false, None};
 ghost use Rattle.futures.specs.Task.{Keeps};
 ghost use Rattle.asgi_pipes.specs.PlainPairs.{IsPlainPair};
 
+mod full_rings;
 mod http;
 mod lifespan;
 mod websocket;

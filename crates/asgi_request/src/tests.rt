@@ -9,6 +9,7 @@ mod bodies;
 mod chunks;
 mod edges;
 mod heads;
+mod limits_edges;
 mod scopes;
 
 /// Feeds each input in pieces of 1, 2, 7 and 1000 bytes, of which the last is the whole, and cut in two at each place:

@@ -66,7 +66,7 @@ fn two_hundred_fields_are_kept(rt: HostRuntime) -> Result<(), Fail> {
     has_200_fields_copied(&rt, &headers)
 }
 
-/// So many bytes, of which no two rows of 251 begin alike.
+/// So many bytes, in rows of 251.
 fn bytes_of(alloc: Global, count: usize) -> Result<Vec<u8>, AllocError> {
     let mut bytes = Vec::with_capacity(alloc, count)?;
     for at in 0..count {
@@ -161,7 +161,7 @@ fn a_state_has_a_value_under_the_empty_name(rt: HostRuntime) -> Result<(), Fail>
     Ok(())
 }
 
-fn yields_nothing(held: &Headers) -> bool {
+fn gives_no_field(held: &Headers) -> bool {
     let mut count = 0usize;
     for _field in held.iter() {
         count = count.saturating_add(1);
@@ -169,8 +169,8 @@ fn yields_nothing(held: &Headers) -> bool {
     count == 0
 }
 
-fn has_no_fields(held: &Headers) -> bool {
-    held.is_empty() && held.len() == 0 && held.at(0).is_none() && yields_nothing(held)
+fn holds_no_field(held: &Headers) -> bool {
+    held.is_empty() && held.len() == 0 && held.at(0).is_none() && gives_no_field(held)
 }
 
 fn has_no_names(held: &Names) -> bool {
@@ -184,7 +184,7 @@ fn has_no_values(held: &State) -> bool {
 fn is_empty_headers_copied(alloc: Global) -> Result<bool, AllocError> {
     let held = Headers::new(alloc);
     let copied = held.copy(alloc)?;
-    Ok(has_no_fields(&held) && has_no_fields(&copied))
+    Ok(holds_no_field(&held) && holds_no_field(&copied))
 }
 
 fn is_empty_names_copied(alloc: Global) -> Result<bool, AllocError> {
@@ -241,11 +241,11 @@ fn facts_with_no_subprotocols_are_copied(rt: HostRuntime) -> Result<(), Fail> {
     Ok(())
 }
 
-fn no_text(alloc: Global) -> Chars {
+fn blank_text(alloc: Global) -> Chars {
     Chars::new(String::new(alloc))
 }
 
-fn no_bytes(alloc: Global) -> Octets {
+fn empty_bytes(alloc: Global) -> Octets {
     Octets::new(Vec::new(alloc))
 }
 
@@ -261,12 +261,12 @@ fn bare_http(alloc: Global) -> HttpScope {
     HttpScope {
         asgi: Asgi::of(Kind::Http),
         http_version: HttpVersion::V10,
-        method: no_text(alloc),
-        scheme: no_text(alloc),
-        path: no_text(alloc),
-        raw_path: no_bytes(alloc),
-        query_string: no_bytes(alloc),
-        root_path: no_text(alloc),
+        method: blank_text(alloc),
+        scheme: blank_text(alloc),
+        path: blank_text(alloc),
+        raw_path: empty_bytes(alloc),
+        query_string: empty_bytes(alloc),
+        root_path: blank_text(alloc),
         headers: Headers::new(alloc),
         client: None,
         server: None,
@@ -279,11 +279,11 @@ fn bare_ws(alloc: Global) -> WsScope {
     WsScope {
         asgi: Asgi::of(Kind::WebSocket),
         http_version: HttpVersion::V10,
-        scheme: no_text(alloc),
-        path: no_text(alloc),
-        raw_path: no_bytes(alloc),
-        query_string: no_bytes(alloc),
-        root_path: no_text(alloc),
+        scheme: blank_text(alloc),
+        path: blank_text(alloc),
+        raw_path: empty_bytes(alloc),
+        query_string: empty_bytes(alloc),
+        root_path: blank_text(alloc),
         headers: Headers::new(alloc),
         client: None,
         server: None,
@@ -333,7 +333,7 @@ fn is_bare_http(held: &HttpScope) -> bool {
         && is_text_empty(&held.method)
         && are_texts_empty(&held.scheme, &held.path, &held.root_path)
         && are_bytes_empty(&held.raw_path, &held.query_string)
-        && has_no_fields(&held.headers)
+        && holds_no_field(&held.headers)
         && are_unknown(&held.client, &held.server)
         && has_no_values(&held.state)
         && held.extensions == no_extensions()
@@ -343,7 +343,7 @@ fn is_bare_ws(held: &WsScope) -> bool {
     is_of(held.asgi, held.http_version, Kind::WebSocket)
         && are_texts_empty(&held.scheme, &held.path, &held.root_path)
         && are_bytes_empty(&held.raw_path, &held.query_string)
-        && has_no_fields(&held.headers)
+        && holds_no_field(&held.headers)
         && are_unknown(&held.client, &held.server)
         && has_no_names(&held.subprotocols)
         && has_no_values(&held.state)
