@@ -1,5 +1,5 @@
 //! `make`, where one allocation is refused: it answers so, and can be called again. No other call of an end takes memory.
-//! `tests/memory` runs these with each allocation refused in turn; with ample memory none is refused.
+//! `tests/memory.py` runs these with each allocation refused in turn; with ample memory none is refused.
 use crate::tests::{Answer, Step, facts, run_table};
 use crate::{AppEnd, ConnEnd, EndKind, Pipes, Plain, PlainApp, PlainConn};
 use asgi_types::{Incoming, Kind};

@@ -1,5 +1,5 @@
 //! Each call that allocates, where one allocation is refused: it answers so, the reader is as before, and the call can
-//! be made again. `tests/memory` runs these with each allocation refused in turn; with ample memory none is refused.
+//! be made again. `tests/memory.py` runs these with each allocation refused in turn; with ample memory none is refused.
 use crate::tests::{held, limits, new_reader, of_given, put, take};
 use crate::{Next, RequestReader};
 use asgi_types::{HttpScope, Incoming, Scope};

@@ -1,4 +1,4 @@
-//! Memory refused to a connection. `tests/memory` runs this with each allocation refused in turn; with ample memory
+//! Memory refused to a connection. `tests/memory.py` runs this with each allocation refused in turn; with ample memory
 //! none is refused.
 use crate::fakes::{Pieces, serve};
 use crate::texts::{BAD_REQUEST, GET, HELLO, HELLO_HEAD, NOT_IMPLEMENTED};

@@ -1,5 +1,5 @@
 //! Each call that allocates, where one allocation is refused: it answers so, its object is as before, and the call can
-//! be made again. `tests/memory` runs these with each allocation refused in turn; with ample memory none is refused.
+//! be made again. `tests/memory.py` runs these with each allocation refused in turn; with ample memory none is refused.
 
 use crate::tests_scopes::{is_copied, is_peer, whole_scope};
 use crate::tests_values::{

@@ -1,5 +1,5 @@
 //! Each call that allocates, where one allocation is refused: it answers so, its objects are as before, and the call
-//! can be made again. `tests/memory` runs these with each allocation refused in turn.
+//! can be made again. `tests/memory.py` runs these with each allocation refused in turn.
 
 use super::{Ask, EXPECTING, GET, OLD, Say, fresh};
 use crate::{Input, ResponseText, refusal_text};
