@@ -41,7 +41,7 @@ def run(words):
 def counts_of_ci(lines, failed):
     """Returns what the numbers of `rt ci` are. Its own sum has each crate's proofs and tests as one."""
     crates = sum(bool(re.fullmatch(r"rt: \w+ proved", it)) for it in lines)
-    suites = sum(bool(re.fullmatch(r"rt: \w+: its tests proved", it)) for it in lines)
+    suites = sum(bool(re.fullmatch(r"rt: \w+: its tests are proved", it)) for it in lines)
     edits = sum(bool(re.match(r"rt: must-fail \S+: refused, as it must be", it)) for it in lines)
     tests = sum(bool(re.fullmatch(r"test \S+ \.\.\. ok", it)) for it in lines)
     runs = sum(" ran" in it and it.endswith("wrote what its file stdout has") for it in lines)
