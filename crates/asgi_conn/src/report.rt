@@ -1,7 +1,10 @@
 //! How a connection ended.
-ghost use Rattle.std.specs.Prelude.{Some};
+ghost use Rattle.std.specs.Prelude.{◌≡◌, ◌≤◌, ◌++◌, Some, length};
+ghost use Rattle.std.specs.Fmt.{decimal};
 ghost use Rattle.asgi_conn.specs.OutcomeWords.{outcome_words};
 
+use arrayvec::ArrayString;
+use itoa::Buffer;
 use std::fmt;
 
 /// Why a connection ended: the first cause met.
@@ -21,19 +24,50 @@ pub enum Outcome {
     NoMemory,
 }
 
-/// The words of an outcome, as a program prints them: `write-failed 9`.
+impl Outcome {
+    /// The words of the outcome, as a program prints them: `write-failed 9`. It takes no memory.
+    pub fn words(self) -> ArrayString<40>
+        ensures words { result.bytes ≡ outcome_words self }
+        ensures short { length result.bytes ≤ 33 }
+    {
+        match self {
+            Outcome::Finished => word("finished"),
+            Outcome::Refused(status) => numbered("refused ", status as u64),
+            Outcome::InputBroke => word("input-broke"),
+            Outcome::WriteFailed(n) => numbered("write-failed ", n as u64),
+            Outcome::Idle => word("idle"),
+            Outcome::NoMemory => word("no-memory"),
+        }
+    }
+}
+
+/// The text of a word.
+fn word(text: &str) -> ArrayString<40>
+    requires { length text.now ≤ 13 }
+    ensures { result.bytes ≡ text.now }
+{
+    let mut words = ArrayString::new();
+    words.push_str(text);
+    words
+}
+
+/// A word and a number behind it, in decimal.
+fn numbered(text: &str, number: u64) -> ArrayString<40>
+    requires { length text.now ≤ 13 }
+    ensures words { result.bytes ≡ text.now ++ decimal number }
+    ensures short { length result.bytes ≤ 33 }
+{
+    let mut digits = Buffer::new();
+    let mut words = word(text);
+    words.push_str(digits.format(number));
+    words
+}
+
 impl fmt::Display for Outcome {
     ghost output = { λ outcome. Some (outcome_words outcome) };
 
     fn fmt<W: fmt::Write>(&self, f: &mut fmt::Formatter<W>) -> fmt::Result {
-        match self {
-            Outcome::Finished => f.write_str("finished"),
-            Outcome::Refused(status) => write!(f, "refused {status}"),
-            Outcome::InputBroke => f.write_str("input-broke"),
-            Outcome::WriteFailed(n) => write!(f, "write-failed {n}"),
-            Outcome::Idle => f.write_str("idle"),
-            Outcome::NoMemory => f.write_str("no-memory"),
-        }
+        f.write_str(self.words().as_str())
     }
 }
 

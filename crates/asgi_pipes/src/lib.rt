@@ -4,7 +4,6 @@
 
 mod disconnect;
 mod ends;
-mod history;
 mod inbox;
 mod items;
 pub mod laws;

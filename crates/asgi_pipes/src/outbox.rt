@@ -2,7 +2,7 @@
 ghost use Rattle.std.specs.Prelude.{◌≡◌, ◌<◌, ◌≤◌, ◌+◌, [], ◌∷◌, ◌++◌, length, IfOk, IfSome, IfNone};
 ghost use Rattle.std.specs.VecDeque.{deque_capacity};
 
-use crate::history::History;
+use asgi_io::History;
 use std::alloc::{AllocError, Global};
 use std::collections::VecDeque;
 

@@ -6,7 +6,7 @@ ghost use Rattle.asgi_pipes.specs.Items.{items_of};
 ghost use Rattle.asgi_pipes.specs.PlainPairs.{IsPlainPair};
 
 use crate::ends::{AppEnd, ConnEnd};
-use crate::history::History;
+use asgi_io::History;
 use crate::inbox::Inbox;
 use crate::outbox::Outbox;
 use crate::pipes::{Met, Pipes};

@@ -12,7 +12,7 @@ ghost use Rattle.asgi_pipes.specs.Items.{items_of};
 
 use crate::disconnect::{Disconnect, is_accept};
 use crate::ends::AppEnd;
-use crate::history::History;
+use asgi_io::History;
 use crate::inbox::Inbox;
 use crate::items::{EndKind, OutItem, Sent};
 use crate::outbox::Outbox;

@@ -9,6 +9,8 @@ const REQUEST: &[u8] = b"GET / HTTP/1.1\r\nHost: a\r\n\r\n";
 const ANSWER: &[u8] =
     b"HTTP/1.1 200 OK\r\ncontent-type: text/plain\r\ntransfer-encoding: chunked\r\n\r\n6\r\nhello\n\r\n0\r\n\r\n";
 
+const USAGE_TEXT: &[u8] = b"usage: asgi_demo once APP | asgi_demo serve PORT COUNT APP\n";
+
 fn words(alloc: Global, texts: &[&str]) -> Result<Vec<String>, Fail> {
     let mut words = Vec::new(alloc);
     for text in texts {
@@ -22,10 +24,10 @@ fn once_hello_answers(rt: HostRuntime) -> Result<(), Fail> {
     let words = words(rt.alloc(), &["once", "hello"])?;
     let mut input = CountedReader::new(REQUEST);
     let mut output = Counted::new(Vec::new(rt.alloc()));
-    let mut errors = Vec::new(rt.alloc());
+    let mut errors = Counted::new(Vec::new(rt.alloc()));
     let status = command(&rt, &words, &mut input, &mut output, &mut errors);
     assert_eq!(rt;
-        (status, output.writer.as_slice(), errors.len()),
+        (status, output.writer.as_slice(), errors.writer.len()),
         (0, ANSWER, 0)
     );
     Ok(())
@@ -47,12 +49,12 @@ fn any_other_words_give_the_usage(rt: HostRuntime) -> Result<(), Fail> {
         let words = words(rt.alloc(), texts)?;
         let mut input = CountedReader::new(REQUEST);
         let mut output = Counted::new(Vec::new(rt.alloc()));
-        let mut errors = Vec::new(rt.alloc());
+        let mut errors = Counted::new(Vec::new(rt.alloc()));
         let status = command(&rt, &words, &mut input, &mut output, &mut errors);
         let kept = (input.reader.len(), output.writer.len());
         assert_eq!(rt;
-            (status, kept, errors.as_slice()),
-            (2, (REQUEST.len(), 0), USAGE),
+            (status, kept, errors.writer.as_slice()),
+            (2, (REQUEST.len(), 0), USAGE_TEXT),
             "row {row}"
         );
     }
@@ -84,37 +86,72 @@ impl Write for Stuck {
 #[test]
 fn a_connection_that_stops_is_said_so(rt: HostRuntime) -> Result<(), Fail> {
     let words = words(rt.alloc(), &["once", "hello"])?;
-    let mut errors = Vec::new(rt.alloc());
+    let mut errors = Counted::new(Vec::new(rt.alloc()));
     let mut input = CountedReader::new(REQUEST);
     let mut output = Counted::new(Stuck {
         kind: ErrorKind::BrokenPipe,
     });
     let status = command(&rt, &words, &mut input, &mut output, &mut errors);
     assert_eq!(rt; status, 5);
-    assert_eq!(rt; errors.as_slice(), b"stopped: write-failed 0\n".as_slice());
+    assert_eq!(rt;
+        errors.writer.as_slice(),
+        b"stopped: write-failed 0\n".as_slice()
+    );
 
-    let mut errors = Vec::new(rt.alloc());
+    let mut errors = Counted::new(Vec::new(rt.alloc()));
     let mut input = CountedReader::new(Stuck {
         kind: ErrorKind::WouldBlock,
     });
     let mut output = Counted::new(Vec::new(rt.alloc()));
     let status = command(&rt, &words, &mut input, &mut output, &mut errors);
     assert_eq!(rt; status, 5);
-    assert_eq!(rt; errors.as_slice(), b"stopped: idle\n".as_slice());
+    assert_eq!(rt; errors.writer.as_slice(), b"stopped: idle\n".as_slice());
 
-    let mut errors = Vec::new(rt.alloc());
+    let mut errors = Counted::new(Vec::new(rt.alloc()));
     let mut input = CountedReader::new(Stuck {
         kind: ErrorKind::ConnectionReset,
     });
     let status = command(&rt, &words, &mut input, &mut output, &mut errors);
     assert_eq!(rt; status, 0);
-    assert_eq!(rt; errors.len(), 0);
+    assert_eq!(rt; errors.writer.len(), 0);
     Ok(())
 }
 
 #[test]
-fn a_fault_of_the_system_is_said_so(rt: HostRuntime) {
-    let mut errors = Vec::new(rt.alloc());
-    assert_eq!(rt; device_fault(&mut errors), 5);
-    assert_eq!(rt; errors.as_slice(), b"device fault\n".as_slice());
+fn words_that_cannot_be_had_are_told(rt: HostRuntime) {
+    let rows: [(ErrorKind, u8, &[u8]); 4] = [
+        (ErrorKind::OutOfMemory, 5, b"device fault\n"),
+        (ErrorKind::InvalidData, 2, USAGE_TEXT),
+        (ErrorKind::InvalidInput, 2, USAGE_TEXT),
+        (ErrorKind::Other, 2, USAGE_TEXT),
+    ];
+    for (row, (kind, status, text)) in rows.iter().enumerate() {
+        let mut errors = Counted::new(Vec::new(rt.alloc()));
+        let gave = without_words(&io::Error::from(*kind), &mut errors);
+        assert_eq!(rt;
+            (gave, errors.writer.as_slice()),
+            (*status, *text),
+            "row {row}"
+        );
+    }
+}
+
+#[test]
+fn a_text_that_cannot_be_told_changes_no_status(rt: HostRuntime) -> Result<(), Fail> {
+    let mut errors = Counted::new(Stuck {
+        kind: ErrorKind::BrokenPipe,
+    });
+    let mut input = CountedReader::new(REQUEST);
+    let mut output = Counted::new(Stuck {
+        kind: ErrorKind::BrokenPipe,
+    });
+    let none = words(rt.alloc(), &[])?;
+    let once = words(rt.alloc(), &["once", "hello"])?;
+    let statuses = [
+        command(&rt, &none, &mut input, &mut output, &mut errors),
+        command(&rt, &once, &mut input, &mut output, &mut errors),
+        without_words(&io::Error::from(ErrorKind::OutOfMemory), &mut errors),
+    ];
+    assert_eq!(rt; (statuses, errors.failures()), ([2, 5, 5], 3));
+    Ok(())
 }

@@ -1,0 +1,25 @@
+-- What is told of an outcome, by its status.
+use Rattle.std.proofs.Common.{◌≡◌, ℕ, List, subst, refl}
+use Rattle.asgi_conn.specs.declared.report.Outcome.{Outcome}
+use Rattle.asgi_conn.specs.declared.report.Outcome.TheVariants.{Finished, Refused, InputBroke, WriteFailed, Idle, NoMemory}
+use Rattle.asgi_demo.specs.Command.{exit_status}
+use Rattle.asgi_demo.specs.Telling.{Writer, Tells, TellsOf, of_outcome, stopped}
+
+-- another status than 0: the connection stopped, and so it was told
+pub stopped_is_told : (o : Outcome) (text : List ℕ) (old new : Writer) → ¬ (exit_status o ≡ 0) → text ≡ stopped o → Tells text old new
+    → TellsOf (of_outcome o) old new
+stopped_is_told Finished text old new fails is told = absurd (fails refl)
+stopped_is_told (Refused status) text old new fails is told = absurd (fails refl)
+stopped_is_told InputBroke text old new fails is told = absurd (fails refl)
+stopped_is_told (WriteFailed n) text old new fails is told = subst (λ t. Tells t old new) is told
+stopped_is_told Idle text old new fails is told = subst (λ t. Tells t old new) is told
+stopped_is_told NoMemory text old new fails is told = subst (λ t. Tells t old new) is told
+
+-- status 0: nothing is told
+pub nothing_is_told : (o : Outcome) (old : Writer) → exit_status o ≡ 0 → TellsOf (of_outcome o) old old
+nothing_is_told Finished old well = refl
+nothing_is_told (Refused status) old well = refl
+nothing_is_told InputBroke old well = refl
+nothing_is_told (WriteFailed n) old well = cc
+nothing_is_told Idle old well = cc
+nothing_is_told NoMemory old well = cc

@@ -1,0 +1,47 @@
+-- What is told on standard error: which text for which case, and how much of it goes out.
+use Rattle.std.specs.Prelude.{◌≡◌, ℕ, List, ◌++◌, codes, Option, Some, None}
+use Rattle.asgi_io.specs.declared.answer.Answer.{Answer}
+use Rattle.asgi_io.specs.declared.write.Wrote.{Wrote}
+use Rattle.asgi_io.specs.Writing.{WritesOut, TriesWrites, out_of}
+use Rattle.asgi_conn.specs.declared.report.Outcome.{Outcome}
+use Rattle.asgi_conn.specs.declared.report.Outcome.TheVariants.{Finished, Refused, InputBroke, WriteFailed, Idle, NoMemory}
+use Rattle.asgi_conn.specs.OutcomeWords.{outcome_words}
+
+-- the texts, each a line
+abbrev pub usage : List ℕ
+usage = codes "usage: asgi_demo once APP | asgi_demo serve PORT COUNT APP\n"
+
+abbrev pub device_fault : List ℕ
+device_fault = codes "device fault\n"
+
+abbrev pub stopped : Outcome → List ℕ
+stopped outcome = codes "stopped: " ++ outcome_words outcome ++ codes "\n"
+
+-- what is told of an outcome: nothing where the connection was served to its end
+abbrev pub of_outcome : Outcome → Option (List ℕ)
+of_outcome Finished = None
+of_outcome (Refused status) = None
+of_outcome InputBroke = None
+of_outcome (WriteFailed n) = Some (stopped (WriteFailed n))
+of_outcome Idle = Some (stopped Idle)
+of_outcome NoMemory = Some (stopped NoMemory)
+
+-- what is known of a writer at one time: the bytes that it holds, how each write was answered, and how many failed
+pub record Writer : Type 0 where
+  pub written : Option (List ℕ)
+  pub writes : List Answer
+  pub failed : ℕ
+
+abbrev pub writer : Option (List ℕ) → List Answer → ℕ → Writer
+writer written writes failed = record { written = written; writes = writes; failed = failed }
+
+-- A text was written, all of it or as much as the writer took.
+pub record Tells (text : List ℕ) (old new : Writer) : Type 0 where
+  pub wrote : Wrote
+  pub writes : WritesOut old.written new.written old.failed new.failed text wrote
+  pub tries : TriesWrites old.writes new.writes (out_of text wrote) wrote
+
+-- a text was written, or nothing was and the writer is as it was
+abbrev pub TellsOf : Option (List ℕ) → Writer → Writer → Type 0
+TellsOf None old new = new ≡ old
+TellsOf (Some text) old new = Tells text old new
