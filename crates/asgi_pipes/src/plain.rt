@@ -6,12 +6,12 @@ ghost use Rattle.asgi_pipes.specs.Items.{items_of};
 ghost use Rattle.asgi_pipes.specs.PlainPairs.{IsPlainPair};
 
 use crate::ends::{AppEnd, ConnEnd};
-use asgi_io::History;
 use crate::inbox::Inbox;
 use crate::outbox::Outbox;
 use crate::pipes::{Met, Pipes};
 use crate::plain_app::PlainApp;
 use crate::plain_conn::PlainConn;
+use asgi_io::History;
 use asgi_protocol::Judge;
 use asgi_types::{Facts, Kind};
 use std::alloc::{AllocError, Global};

@@ -12,10 +12,10 @@ ghost use Rattle.asgi_pipes.specs.Items.{items_of};
 
 use crate::disconnect::{Disconnect, is_accept};
 use crate::ends::AppEnd;
-use asgi_io::History;
 use crate::inbox::Inbox;
 use crate::items::{EndKind, OutItem, Sent};
 use crate::outbox::Outbox;
+use asgi_io::History;
 use asgi_protocol::{Judge, Verdict};
 use asgi_types::{Facts, Incoming, Kind, Outgoing};
 use futures::task::{Context, Poll};

@@ -1,7 +1,7 @@
 use super::*;
 use asgi_io::{Counted, CountedReader};
 use std::alloc::Global;
-use std::io::{self, ErrorKind, Read};
+use std::io::{Read, Write};
 use std::test::Fail;
 
 const REQUEST: &[u8] = b"GET / HTTP/1.1\r\nHost: a\r\n\r\n";
