@@ -3,7 +3,7 @@ use Rattle.std.proofs.Common.{◌≡◌, ℕ, List, [], length, take, subst, sym
 use Rattle.std.proofs.lemmas.List.{length-take}
 use Rattle.asgi_types.specs.declared.facts.Facts.{Facts}
 use Rattle.asgi_types.specs.declared.limits.Limits.{Limits}
-use Rattle.asgi_io.specs.declared.answer.Answer.{Answer as Reply}
+use Rattle.asgi_io.specs.declared.answer.Answer.{Answer}
 use Rattle.asgi_io.specs.declared.turns.Turn.TheVariants as turn
 use Rattle.asgi_io.specs.declared.write.Wrote.TheVariants as wrote
 use Rattle.asgi_io.specs.Answers.{turn_of}
@@ -15,37 +15,37 @@ use Rattle.asgi_conn.specs.declared.connection.End.{End}
 use Rattle.asgi_conn.specs.declared.reading.Ending.TheVariants as ending
 use Rattle.asgi_conn.specs.declared.report.Outcome.{Outcome}
 use Rattle.asgi_conn.specs.declared.report.Outcome.TheVariants.{Finished, InputBroke, Idle, NoMemory}
-use Rattle.asgi_conn.specs.Conversation.{Answer, refusal, exchange, answer_to, IsDue, NothingIsDue, answer_text, outcome_of, exchanges_of, IsSilent, Agrees}
+use Rattle.asgi_conn.specs.Conversation.{Due, refusal, exchange, due_to, IsDue, NothingIsDue, due_text, outcome_of, exchanges_of, IsSilent, Agrees}
 use Rattle.asgi_conn.specs.Endings.{StopsAs}
 use Rattle.asgi_conn.specs.Sending.{Output, SendsAnswer, EndsWell}
 use Rattle.asgi_conn.specs.Serving.{wrote_of, IsCause}
 
-answered : (limits : Limits) (read : List ℕ) (answer : Answer) → IsDue limits read answer
-    → Agrees (outcome_of answer) limits read (answer_text answer) (exchanges_of answer)
+answered : (limits : Limits) (read : List ℕ) (answer : Due) → IsDue limits read answer
+    → Agrees (outcome_of answer) limits read (due_text answer) (exchanges_of answer)
 answered limits read (refusal status) due =
     record { answer = refusal status; due = due; text = refl; outcome_is = refl; counts = refl }
 answered limits read (exchange facts) due =
     inl (record { answer = exchange facts; due = due; text = refl; outcome_is = refl; counts = refl })
 
 -- a whole answer is written to its end
-done : (answer : Answer) → wrote.Done ≡ wrote_of (outcome_of answer)
+done : (answer : Due) → wrote.Done ≡ wrote_of (outcome_of answer)
 done (refusal status) = refl
 done (exchange facts) = refl
 
 -- nothing was written
-pub no_writes : (old new : List Reply) → new ≡ old → TriesWrites old new 0 wrote.Done
-no_writes old new same = subst (λ (l : List Reply). TriesWrites old l 0 wrote.Done) (sym same) (tries_all old old 0 (no_parts old))
+pub no_writes : (old new : List Answer) → new ≡ old → TriesWrites old new 0 wrote.Done
+no_writes old new same = subst (λ (l : List Answer). TriesWrites old l 0 wrote.Done) (sym same) (tries_all old old 0 (no_parts old))
 
 -- an answer that is due was sent
-sent : (limits : Limits) (read : List ℕ) (answer : Answer) (old new : Output) (e : End) → IsDue limits read answer
+sent : (limits : Limits) (read : List ℕ) (answer : Due) (old new : Output) (e : End) → IsDue limits read answer
     → SendsAnswer answer old new e → EndsWell limits read old new e
 sent limits read answer old new e due (inl (inl (is, appends, tries))) =
     subst (λ (d : End). EndsWell limits read old new d) (sym is)
-    (answer_text answer, appends, subst (λ w. TriesWrites old.writes new.writes (length (answer_text answer)) w) (done answer) tries, answered limits read answer due)
+    (due_text answer, appends, subst (λ w. TriesWrites old.writes new.writes (length (due_text answer)) w) (done answer) tries, answered limits read answer due)
 sent limits read answer old new e due (inl (inr (n, below, is, appends, tries))) =
-    let size : n ≡ length (take n (answer_text answer)) = omega (arith, length-take n (answer_text answer), below) in
+    let size : n ≡ length (take n (due_text answer)) = omega (arith, length-take n (due_text answer), below) in
     subst (λ (d : End). EndsWell limits read old new d) (sym is) (
-      take n (answer_text answer),
+      take n (due_text answer),
       appends,
       subst (λ k. TriesWrites old.writes new.writes k (wrote.Failed n)) size tries,
       record { answer = answer; due = due; within = below; text = refl; counts = refl },
@@ -56,9 +56,9 @@ sent limits read answer old new e due (inr (is, keeps, same)) =
 
 -- a head was answered
 pub replied : (limits : Limits) (read : List ℕ) (facts : Facts) (old new : Output) (e : End) → StopsAs (ending.Head facts) limits read
-    → SendsAnswer (answer_to facts) old new e → EndsWell limits read old new e
+    → SendsAnswer (due_to facts) old new e → EndsWell limits read old new e
 replied limits read facts old new e stops sends =
-    sent limits read (answer_to facts) old new e (record { first = next.Head stops.0 facts; is_first = stops.1; answers = refl }) sends
+    sent limits read (due_to facts) old new e (record { first = next.Head stops.0 facts; is_first = stops.1; answers = refl }) sends
 
 -- a refusal was sent
 pub refused : (limits : Limits) (read : List ℕ) (status : ℕ) (old new : Output) (e : End) → StopsAs (ending.Refused status) limits read
@@ -101,12 +101,12 @@ ended_short limits read o e is none = silent_as limits read o NoMemory e is none
 -- ---- why it ended
 
 -- an answer is sent behind a read that gave bytes
-pub cause_sent : (answer : Answer) (old new : Output) (e : End) (turns idle : ℕ) (limits : Limits) (read : List ℕ) (last : Reply)
+pub cause_sent : (answer : Due) (old new : Output) (e : End) (turns idle : ℕ) (limits : Limits) (read : List ℕ) (last : Answer)
     → SendsAnswer answer old new e → turn_of last ≡ turn.Moved → IsCause e.outcome e.exchanges turns idle limits read last
 cause_sent answer old new e turns idle limits read last (inl (inl (is, appends, tries))) moved =
     subst (λ (d : End). IsCause d.outcome d.exchanges turns idle limits read last) (sym is) (at answer)
   where
-    at : (a : Answer) → IsCause (outcome_of a) (exchanges_of a) turns idle limits read last
+    at : (a : Due) → IsCause (outcome_of a) (exchanges_of a) turns idle limits read last
     at (refusal status) = moved
     at (exchange facts) = λ none. absurd (omega (arith, none))
 cause_sent answer old new e turns idle limits read last (inl (inr (n, below, is, appends, tries))) moved =

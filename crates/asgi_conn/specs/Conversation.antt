@@ -18,27 +18,27 @@ use Rattle.asgi_conn.specs.Hello.{hello_events}
 -- ---- what is due to the bytes read
 
 -- what answers a request: the text of a refusal with this status, or the exchange with the application
-pub data Answer : Type 0 where
-  refusal : ℕ → Answer
-  exchange : Facts → Answer
+pub data Due : Type 0 where
+  refusal : ℕ → Due
+  exchange : Facts → Due
 
 -- the answer to a head: a request that announces a body is not served yet (RFC 9110, section 15.6.2)
-abbrev pub answer_to : Facts → Answer
-answer_to facts = if has_body facts.framing then refusal 501 else exchange facts
+abbrev pub due_to : Facts → Due
+due_to facts = if has_body facts.framing then refusal 501 else exchange facts
 
 -- the answer to the first result of the bytes: only a head or a refusal is one
-abbrev pub Answers : Next → Answer → Type 0
-Answers (Head scope facts) answer = answer ≡ answer_to facts
-Answers (Bad status) answer = answer ≡ refusal status
-Answers (Event event) answer = ⊥
-Answers Whole answer = ⊥
-Answers Need answer = ⊥
+abbrev pub IsDueTo : Next → Due → Type 0
+IsDueTo (Head scope facts) answer = answer ≡ due_to facts
+IsDueTo (Bad status) answer = answer ≡ refusal status
+IsDueTo (Event event) answer = ⊥
+IsDueTo Whole answer = ⊥
+IsDueTo Need answer = ⊥
 
 -- this answer is due: to the first result of the bytes
-pub record IsDue (limits : Limits) (read : List ℕ) (answer : Answer) : Type 0 where
+pub record IsDue (limits : Limits) (read : List ℕ) (answer : Due) : Type 0 where
   pub first : Next
   pub is_first : HasFirst limits read (first ∷ [])
-  pub answers : Answers first answer
+  pub answers : IsDueTo first answer
 
 -- no answer is due: the bytes have no result
 abbrev pub NothingIsDue : Limits → List ℕ → Type 0
@@ -47,17 +47,17 @@ NothingIsDue limits read = (rest : List ℕ) × GivesResults limits read [] rest
 -- ---- what an answer is
 
 -- its text: what is written
-abbrev pub answer_text : Answer → List ℕ
-answer_text (refusal status) = refusal_text status
-answer_text (exchange facts) = exchange_text facts hello_events input.Whole
+abbrev pub due_text : Due → List ℕ
+due_text (refusal status) = refusal_text status
+due_text (exchange facts) = exchange_text facts hello_events input.Whole
 
 -- the outcome once its text is out
-abbrev pub outcome_of : Answer → Outcome
+abbrev pub outcome_of : Due → Outcome
 outcome_of (refusal status) = Refused status
 outcome_of (exchange facts) = Finished
 
 -- how many exchanges it makes
-abbrev pub exchanges_of : Answer → ℕ
+abbrev pub exchanges_of : Due → ℕ
 exchanges_of (refusal status) = 0
 exchanges_of (exchange facts) = 1
 
@@ -65,18 +65,18 @@ exchanges_of (exchange facts) = 1
 
 -- The answer that is due is written, whole.
 pub record IsAnswered (outcome : Outcome) (limits : Limits) (read written : List ℕ) (exchanges : ℕ) : Type 0 where
-  pub answer : Answer
+  pub answer : Due
   pub due : IsDue limits read answer
-  pub text : written ≡ answer_text answer
+  pub text : written ≡ due_text answer
   pub outcome_is : outcome ≡ outcome_of answer
   pub counts : exchanges ≡ exchanges_of answer
 
 -- The first n bytes of the answer that is due are written, and not all of it.
 pub record IsCutOff (n : ℕ) (limits : Limits) (read written : List ℕ) (exchanges : ℕ) : Type 0 where
-  pub answer : Answer
+  pub answer : Due
   pub due : IsDue limits read answer
-  pub within : n < length (answer_text answer)
-  pub text : written ≡ take n (answer_text answer)
+  pub within : n < length (due_text answer)
+  pub text : written ≡ take n (due_text answer)
   pub counts : exchanges ≡ exchanges_of answer
 
 -- Nothing is due, and nothing is written.
@@ -88,7 +88,7 @@ pub record IsSilent (limits : Limits) (read written : List ℕ) (exchanges : ℕ
 -- Nothing is written, whether the head was served or not.
 pub record IsGivenUp (limits : Limits) (read written : List ℕ) (exchanges : ℕ) : Type 0 where
   pub text : written ≡ []
-  pub counts : (exchanges ≡ 0) ⊎ ((answer : Answer) × IsDue limits read answer × (exchanges ≡ exchanges_of answer))
+  pub counts : (exchanges ≡ 0) ⊎ ((answer : Due) × IsDue limits read answer × (exchanges ≡ exchanges_of answer))
 
 -- only CR and LF
 abbrev pub IsBlank : List ℕ → Type 0

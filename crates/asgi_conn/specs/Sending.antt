@@ -8,7 +8,7 @@ use Rattle.asgi_io.specs.Writing.{TriesWrites}
 use Rattle.asgi_conn.specs.declared.connection.End.{End}
 use Rattle.asgi_conn.specs.declared.report.Outcome.TheVariants.{WriteFailed, NoMemory}
 use Rattle.asgi_types.specs.declared.limits.Limits.{Limits}
-use Rattle.asgi_conn.specs.Conversation.{Answer as Due, answer_text, outcome_of, exchanges_of, Agrees}
+use Rattle.asgi_conn.specs.Conversation.{Due, due_text, outcome_of, exchanges_of, Agrees}
 use Rattle.asgi_conn.specs.Serving.{wrote_of}
 
 -- what a writer holds, and how its writes were answered
@@ -37,7 +37,7 @@ end_of due = record { exchanges = exchanges_of due; outcome = outcome_of due }
 -- the answer was written, or memory was refused
 abbrev pub SendsAnswer : Due → Output → Output → End → Type 0
 SendsAnswer due old new e =
-    Puts (answer_text due) (end_of due) old new e
+    Puts (due_text due) (end_of due) old new e
     ⊎ ((e ≡ record { exchanges = exchanges_of due; outcome = NoMemory }) × Keeps old.written new.written × (new.writes ≡ old.writes))
 
 -- what was written at this end agrees with the bytes read

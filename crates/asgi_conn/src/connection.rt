@@ -4,7 +4,7 @@ ghost use Rattle.asgi_types.specs.declared.limits.Limits.{Limits};
 ghost use Rattle.asgi_io.specs.declared.answer.Answer.{Answer};
 ghost use Rattle.asgi_io.specs.Counting.{RoseExactly};
 ghost use Rattle.asgi_response.specs.Refusals.{is_refusal};
-ghost use Rattle.asgi_conn.specs.Conversation.{refusal, answer_to};
+ghost use Rattle.asgi_conn.specs.Conversation.{refusal, due_to};
 ghost use Rattle.asgi_conn.specs.Endings.{HasText, StopsAs, StopsAt};
 ghost use Rattle.asgi_conn.specs.Sending.{Output, EndsWell, Puts, SendsAnswer, TellsFailure};
 ghost use Rattle.asgi_conn.specs.Serving.{IsCause, Outside, Serves};
@@ -106,7 +106,7 @@ fn silent(outcome: Outcome) -> End
 
 /// Answers a request as the application says, or refuses one that announces a body.
 fn reply<A: Greets, W: Counts>(alloc: Global, app: &mut A, facts: &Facts, writer: &mut W) -> End
-    ensures answers { SendsAnswer (answer_to facts.now) record { written = W.written writer.old; writes = W.answers writer.old }
+    ensures answers { SendsAnswer (due_to facts.now) record { written = W.written writer.old; writes = W.answers writer.old }
         record { written = W.written writer.new; writes = W.answers writer.new } result }
     ensures asked { RoseExactly result.exchanges (A.asked app.old) (A.asked app.new) }
     ensures write_failed { TellsFailure (W.failed writer.old) (W.failed writer.new) result }

@@ -1,11 +1,11 @@
-//! Reading until it is known what the bytes begin with.
+//! RequestRead until it is known what the bytes begin with.
 ghost use Rattle.std.specs.Prelude.{◌≡◌, ◌≢◌, ◌⊎◌, ◌↔◌, [], ◌++◌, ℕ, List, Option, IsTrue};
 ghost use Rattle.asgi_request.specs.Reading.{StandsFor};
 ghost use Rattle.asgi_conn.specs.Conversation.{NothingIsDue, IsBlank};
 ghost use Rattle.asgi_conn.specs.Endings.{HasText, StopsAs, StopsAt, Stops, IsOfPiece};
 ghost use Rattle.asgi_conn.specs.Reads.{IsRead};
 
-use asgi_io::{Pause, Reads, Turns, answer_to, is_passing};
+use asgi_io::{Pause, Reads, Turns, answer_of, is_passing};
 use asgi_request::{Next, RequestReader};
 use asgi_types::{Facts, Limits};
 use std::alloc::Global;
@@ -32,7 +32,7 @@ pub enum Ending {
 
 /// What was read, and how.
 #[derive(Debug, Drop)]
-pub struct Reading {
+pub struct RequestRead {
     pub ending: Ending,
     pub turns: u64,
     /// The idle turns in a row at the end.
@@ -45,7 +45,7 @@ pub fn read_request<R: Reads, P: Pause>(
     limits: &Limits,
     reader: &mut R,
     pause: &mut P,
-) -> Reading
+) -> RequestRead
     ensures reads { (x : IsRead limits.now (R.remaining reader.old) (R.remaining reader.new) (R.answers reader.old) (R.answers reader.new)
         (P.count pause.old) (P.count pause.new) result.turns result.idle)
         × StopsAs result.ending limits.now x.read × StopsAt result.ending limits.now x.read x.prompt.last result.turns result.idle }
@@ -56,7 +56,7 @@ pub fn read_request<R: Reads, P: Pause>(
     let mut turns = Turns::new(limits.turns, limits.idle_turns);
     while !turns.is_over() {
         let read = reader.read_some(&mut piece);
-        turns.take(answer_to(&read, PIECE).turn(), pause);
+        turns.take(answer_of(&read, PIECE).turn(), pause);
         match read {
             Ok(n) => {
                 if n == 0 {
@@ -117,12 +117,12 @@ fn is_blank(bytes: &[u8]) -> bool
     bytes.iter().all(|b| *b == b'\r' || *b == b'\n')
 }
 
-fn stop(ending: Ending, turns: &Turns) -> Reading
+fn stop(ending: Ending, turns: &Turns) -> RequestRead
     ensures ending { result.ending ≡ ending }
     ensures turns { result.turns ≡ turns.now.turns }
     ensures idle { result.idle ≡ turns.now.idle }
 {
-    Reading {
+    RequestRead {
         ending,
         turns: turns.turns,
         idle: turns.idle,

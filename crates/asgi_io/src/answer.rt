@@ -34,7 +34,7 @@ impl Answer {
 }
 
 /// The answer to a call with so many bytes to move.
-pub fn answer_to(answered: &io::Result<usize>, room: usize) -> Answer
+pub fn answer_of(answered: &io::Result<usize>, room: usize) -> Answer
     ensures { result ≡ answer_of room answered.now }
 {
     match answered {

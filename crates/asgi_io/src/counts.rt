@@ -6,7 +6,7 @@ ghost use Rattle.asgi_io.specs.declared.answer.Answer.{Answer};
 ghost use Rattle.asgi_io.specs.Answers.{answer_of};
 ghost use Rattle.asgi_io.specs.Counting.{CountsFailures};
 
-use crate::answer::{Answer, answer_to};
+use crate::answer::{Answer, answer_of};
 use crate::history::History;
 use std::io::{self, Write};
 
@@ -66,7 +66,7 @@ impl<W: Write> Counts for Counted<W> {
 
     fn write_some(&mut self, bytes: &[u8]) -> io::Result<usize> {
         let wrote = self.writer.write(bytes);
-        let answer = answer_to(&wrote, bytes.len());
+        let answer = answer_of(&wrote, bytes.len());
         self.answers = History::with(&self.answers, &answer);
         match answer {
             Answer::Moved(_) => {}

@@ -12,7 +12,7 @@ mod tests;
 mod turns;
 mod write;
 
-pub use answer::{Answer, answer_to, is_passing};
+pub use answer::{Answer, answer_of, is_passing};
 pub use counts::{Counted, Counts};
 pub use history::History;
 pub use pause::{CountingPause, Pause};

@@ -6,7 +6,7 @@ ghost use Rattle.asgi_io.specs.declared.answer.Answer.{Answer};
 ghost use Rattle.asgi_io.specs.Answers.{answer_of, failed_in};
 ghost use Rattle.asgi_io.specs.Counting.{counted};
 
-use crate::answer::{Answer, answer_to};
+use crate::answer::{Answer, answer_of};
 use crate::history::History;
 use std::io::{self, Read};
 
@@ -60,7 +60,7 @@ impl<R: Read> Reads for CountedReader<R> {
 
     fn read_some(&mut self, buf: &mut [u8]) -> io::Result<usize> {
         let read = self.reader.read(buf);
-        let answer = answer_to(&read, buf.len());
+        let answer = answer_of(&read, buf.len());
         self.answers = History::with(&self.answers, &answer);
         if answer == Answer::Failed {
             self.faults = self.faults.saturating_add(1);

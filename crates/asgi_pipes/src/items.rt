@@ -30,6 +30,6 @@ pub enum Sent {
     Ignored,
     /// It would pass, but no place is free.
     Full(Outgoing),
-    /// It is refused, by the number of a `Refusal`.
+    /// It is refused, by the number of a `Violation`.
     Refused(u8, Outgoing),
 }

@@ -131,7 +131,7 @@ fn run(
     ensures { Keeps cx.old cx.new }
 {
     for (index, row) in rows.iter().enumerate() {
-        let answer = answer_to(alloc, cx, pair, row.0)?;
+        let answer = answer_at(alloc, cx, pair, row.0)?;
         if carries {
             pair.carry();
         }
@@ -142,7 +142,7 @@ fn run(
     Ok(None)
 }
 
-fn answer_to(
+fn answer_at(
     alloc: Global,
     cx: &mut Context<'_>,
     pair: &mut Pair,

@@ -6,7 +6,7 @@ use Rattle.asgi_types.specs.declared.scope.Kind.TheVariants.{Http, WebSocket, Li
 use Rattle.asgi_types.specs.declared.facts.Facts.{Facts}
 use Rattle.asgi_types.specs.declared.outgoing.Outgoing.{Outgoing}
 use Rattle.asgi_types.specs.declared.outgoing.Outgoing.TheVariants.{ResponseStart, ResponseBody, WsAccept, WsSend, WsClose, DenialStart, DenialBody, StartupComplete, StartupFailed, ShutdownComplete, ShutdownFailed}
-use Rattle.asgi_protocol.specs.declared.verdict.Refusal.TheVariants as why
+use Rattle.asgi_protocol.specs.declared.verdict.Violation.TheVariants as why
 use Rattle.asgi_protocol.specs.declared.verdict.Verdict.{Verdict}
 use Rattle.asgi_protocol.specs.declared.verdict.Verdict.TheVariants.{Pass, Refused}
 use Rattle.asgi_protocol.specs.Lawful.{IsLawful, IsWord, BeginsWord}

@@ -4,7 +4,7 @@ use Rattle.asgi_types.specs.declared.scope.Kind.{Kind}
 use Rattle.asgi_types.specs.declared.scope.Kind.TheVariants.{Http}
 use Rattle.asgi_types.specs.declared.facts.Facts.{Facts}
 use Rattle.asgi_types.specs.declared.outgoing.Outgoing.{Outgoing}
-use Rattle.asgi_protocol.specs.declared.verdict.Refusal.{Refusal}
+use Rattle.asgi_protocol.specs.declared.verdict.Violation.{Violation}
 use Rattle.asgi_protocol.specs.declared.verdict.Verdict.{Verdict}
 use Rattle.asgi_protocol.specs.declared.verdict.Verdict.TheVariants.{Pass, Ignored, Refused}
 use Rattle.asgi_protocol.specs.Lawful.{IsLawful, IsClosed, BeginsWord}
@@ -28,7 +28,7 @@ LawfulWhereEachPasses = (kind : Kind) (facts : Facts) (events : List Outgoing) �
 
 -- every verdict is one of the table, and `Ignored` comes in HTTP alone
 abbrev pub IsOfTable : Kind → Verdict → Type 0
-IsOfTable kind verdict = (verdict ≡ Pass) ⊎ ((verdict ≡ Ignored) × (kind ≡ Http)) ⊎ ((why : Refusal) × (verdict ≡ Refused (number_of why)))
+IsOfTable kind verdict = (verdict ≡ Pass) ⊎ ((verdict ≡ Ignored) × (kind ≡ Http)) ⊎ ((why : Violation) × (verdict ≡ Refused (number_of why)))
 
 abbrev pub VerdictsAreOfTable : Type 0
 VerdictsAreOfTable =

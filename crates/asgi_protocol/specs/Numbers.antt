@@ -1,9 +1,9 @@
 -- The number of each refusal, which is its place in the table.
 use Rattle.std.specs.Prelude.{ℕ}
-use Rattle.asgi_protocol.specs.declared.verdict.Refusal.{Refusal}
-use Rattle.asgi_protocol.specs.declared.verdict.Refusal.TheVariants.{Closed, Disconnected, WrongScope, OutOfOrder, BadStatus, BadHeader, BadCode, BadReason, BadSubprotocol, TooMuchBody, TooLittleBody}
+use Rattle.asgi_protocol.specs.declared.verdict.Violation.{Violation}
+use Rattle.asgi_protocol.specs.declared.verdict.Violation.TheVariants.{Closed, Disconnected, WrongScope, OutOfOrder, BadStatus, BadHeader, BadCode, BadReason, BadSubprotocol, TooMuchBody, TooLittleBody}
 
-abbrev pub number_of : Refusal → ℕ
+abbrev pub number_of : Violation → ℕ
 number_of Closed = 1
 number_of Disconnected = 2
 number_of WrongScope = 3

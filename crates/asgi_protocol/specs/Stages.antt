@@ -1,4 +1,4 @@
--- What a judge keeps, and which lists of events it stands for.
+-- Words of private functions, which state no promise: what a judge keeps, and which lists of events it stands for.
 use Rattle.std.specs.Prelude.{◌≡◌, ◌+◌, ◌-◌, Bool, false, List, [], ◌∷◌, ◌++◌, None}
 use Rattle.std.specs.Option.{option_map}
 use Rattle.asgi_types.specs.declared.scope.Kind.{Kind}

@@ -6,8 +6,8 @@ use Rattle.asgi_types.specs.declared.facts.Facts.{Facts}
 use Rattle.asgi_types.specs.declared.incoming.Incoming.{Incoming}
 use Rattle.asgi_types.specs.declared.incoming.Incoming.TheVariants.{HttpDisconnect, WsDisconnect}
 use Rattle.asgi_types.specs.declared.outgoing.Outgoing.{Outgoing}
-use Rattle.asgi_protocol.specs.declared.verdict.Refusal.{Refusal}
-use Rattle.asgi_protocol.specs.declared.verdict.Refusal.TheVariants as why
+use Rattle.asgi_protocol.specs.declared.verdict.Violation.{Violation}
+use Rattle.asgi_protocol.specs.declared.verdict.Violation.TheVariants as why
 use Rattle.asgi_protocol.specs.declared.verdict.Verdict.{Verdict}
 use Rattle.asgi_protocol.specs.declared.verdict.Verdict.TheVariants.{Pass, Ignored, Refused}
 use Rattle.asgi_protocol.specs.Numbers.{number_of}
@@ -44,7 +44,7 @@ lines_on kind facts said heard event = record {
   too_little_body = has_too_little_body facts said event;
 }
 
-abbrev pub refused : Refusal → Verdict
+abbrev pub refused : Violation → Verdict
 refused reason = Refused (number_of reason)
 
 -- behind a whole response a server ignores what is sent (ASGI, Response Body)

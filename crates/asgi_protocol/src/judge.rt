@@ -13,7 +13,7 @@ use crate::rules::{
     has_bad_code, has_bad_header, has_bad_reason, has_bad_status, has_bad_subprotocol,
     promised_length,
 };
-use crate::{Refusal, Verdict};
+use crate::{Verdict, Violation};
 use asgi_types::{Facts, Incoming, Kind, Octets, Outgoing};
 
 /// How far the conversation is.
@@ -98,34 +98,34 @@ impl Judge {
             return on_closed(self.kind);
         }
         if self.disconnected {
-            return Verdict::from(Refusal::Disconnected);
+            return Verdict::from(Violation::Disconnected);
         }
         if !is_of(self.kind, event) {
-            return Verdict::from(Refusal::WrongScope);
+            return Verdict::from(Violation::WrongScope);
         }
         if !self.stage.has_place(event) {
-            return Verdict::from(Refusal::OutOfOrder);
+            return Verdict::from(Violation::OutOfOrder);
         }
         if has_bad_status(event) {
-            return Verdict::from(Refusal::BadStatus);
+            return Verdict::from(Violation::BadStatus);
         }
         if has_bad_header(event) {
-            return Verdict::from(Refusal::BadHeader);
+            return Verdict::from(Violation::BadHeader);
         }
         if has_bad_code(event) {
-            return Verdict::from(Refusal::BadCode);
+            return Verdict::from(Violation::BadCode);
         }
         if has_bad_reason(event) {
-            return Verdict::from(Refusal::BadReason);
+            return Verdict::from(Violation::BadReason);
         }
         if has_bad_subprotocol(facts, event) {
-            return Verdict::from(Refusal::BadSubprotocol);
+            return Verdict::from(Violation::BadSubprotocol);
         }
         if self.stage.takes_too_much(event) {
-            return Verdict::from(Refusal::TooMuchBody);
+            return Verdict::from(Violation::TooMuchBody);
         }
         if self.stage.leaves_too_much(event) {
-            return Verdict::from(Refusal::TooLittleBody);
+            return Verdict::from(Violation::TooLittleBody);
         }
         Verdict::Pass
     }
@@ -243,7 +243,7 @@ fn on_closed(kind: Kind) -> Verdict
 {
     match kind {
         Kind::Http => Verdict::Ignored,
-        Kind::WebSocket | Kind::Lifespan => Verdict::from(Refusal::Closed),
+        Kind::WebSocket | Kind::Lifespan => Verdict::from(Violation::Closed),
     }
 }
 

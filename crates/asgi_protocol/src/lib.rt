@@ -11,7 +11,7 @@ mod verdict;
 pub use content_length::ContentLength;
 pub use judge::Judge;
 pub use rules::has_no_content;
-pub use verdict::{Refusal, Verdict};
+pub use verdict::{Verdict, Violation};
 
 #[cfg(test)]
 mod tests;

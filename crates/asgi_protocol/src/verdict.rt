@@ -12,13 +12,13 @@ pub enum Verdict {
     Pass,
     /// The response is complete, and the event has no effect.
     Ignored,
-    /// The event is refused, by the number of a `Refusal`.
+    /// The event is refused, by the number of a `Violation`.
     Refused(u8),
 }
 
 /// Why an event is refused, in the order in which the reasons are looked at.
 #[derive(Clone, Copy, Debug, PartialEq, Eq, Error)]
-pub enum Refusal {
+pub enum Violation {
     /// All was said, and the scope is none of HTTP.
     #[error("the conversation is closed")]
     Closed,
@@ -54,31 +54,31 @@ pub enum Refusal {
     TooLittleBody,
 }
 
-impl Refusal {
+impl Violation {
     /// The number of the reason: its place in the order above, from 1 to 11.
     pub fn number(self) -> u8
         ensures { result ≡ number_of self }
     {
         match self {
-            Refusal::Closed => 1,
-            Refusal::Disconnected => 2,
-            Refusal::WrongScope => 3,
-            Refusal::OutOfOrder => 4,
-            Refusal::BadStatus => 5,
-            Refusal::BadHeader => 6,
-            Refusal::BadCode => 7,
-            Refusal::BadReason => 8,
-            Refusal::BadSubprotocol => 9,
-            Refusal::TooMuchBody => 10,
-            Refusal::TooLittleBody => 11,
+            Violation::Closed => 1,
+            Violation::Disconnected => 2,
+            Violation::WrongScope => 3,
+            Violation::OutOfOrder => 4,
+            Violation::BadStatus => 5,
+            Violation::BadHeader => 6,
+            Violation::BadCode => 7,
+            Violation::BadReason => 8,
+            Violation::BadSubprotocol => 9,
+            Violation::TooMuchBody => 10,
+            Violation::TooLittleBody => 11,
         }
     }
 }
 
-impl From<Refusal> for Verdict {
+impl From<Violation> for Verdict {
     ghost from_gives = { λ why verdict. verdict ≡ Refused (number_of why) };
 
-    fn from(why: Refusal) -> Verdict {
+    fn from(why: Violation) -> Verdict {
         Verdict::Refused(why.number())
     }
 }

@@ -14,7 +14,7 @@ use Rattle.asgi_request.specs.declared.next.Next.{Next}
 use Rattle.asgi_request.specs.declared.next.Next.TheVariants.{Event, Bad}
 use Rattle.asgi_request.specs.declared.place.Place.{Place}
 use Rattle.asgi_request.specs.declared.place.Place.TheVariants.{Counted, SizeLine, Chunk, ChunkEnd, Trailers, BodyEnd, Stopped}
-use Rattle.asgi_request.specs.declared.place.Turn.{Turn}
+use Rattle.asgi_request.specs.declared.place.Judged.{Judged}
 use Rattle.asgi_request.specs.declared.refusal.Refusal.{Refusal}
 use Rattle.asgi_request.specs.declared.refusal.Refusal.TheVariants.{BadRequest, ContentTooLarge}
 use Rattle.asgi_request.specs.Refusals.{status_of}
@@ -33,7 +33,7 @@ use Rattle.asgi_request.proofs.ForwardLemmas.{lt_yes, lt_no, yes_lt, no_lt, yes_
 
 -- ---- turns
 
-pub takes_found : (limits : Limits) (place : Place) (bytes text rest : List ℕ) (turn : Turn) → front limits place bytes ≡ found text
+pub takes_found : (limits : Limits) (place : Place) (bytes text rest : List ℕ) (turn : Judged) → front limits place bytes ≡ found text
     → bytes ≡ text ++ rest → JudgesText limits place text turn → Takes limits place bytes turn rest
 takes_found limits place bytes text rest turn e s judged = record {
   splits = s ∙ ap (λ (f : Front). front_text f ++ rest) (sym e);
@@ -266,7 +266,7 @@ chunk_open limits h (suc fuel) left sum bytes f far = by (nat_le limits.block (l
 
 -- ---- a size line
 
-after_size_by : ℕ → ℕ → Bool → Bool → Turn
+after_size_by : ℕ → ℕ → Bool → Bool → Judged
 after_size_by sum n a b = if a then bad ContentTooLarge else (if b then silent Trailers else silent (Chunk n (sum + n)))
 
 not_zero : (n : ℕ) → 0 < n → (n == 0) ≡ false
@@ -275,7 +275,7 @@ not_zero n h = grind (arith, nat_tests)
 is_zero : (n : ℕ) → n ≡ 0 → (n == 0) ≡ true
 is_zero n h = grind (arith, nat_tests)
 
-line_takes : (limits : Limits) (sum : ℕ) (bytes behind : List ℕ) (line : ChunkLine) (turn : Turn) → IsSizeLine line
+line_takes : (limits : Limits) (sum : ℕ) (bytes behind : List ℕ) (line : ChunkLine) (turn : Judged) → IsSizeLine line
     → bytes ≡ print_chunk_line line ++ behind → turn ≡ after_size limits.max_body sum (Some (chunk_size line)) → Takes limits (SizeLine sum) bytes turn behind
 line_takes limits sum bytes behind line turn is split e =
     let text = print_chunk_line line in
@@ -321,7 +321,7 @@ eq_false a b n = at (bytes_eq a b) refl
     at true e = absurd (n ((bytes_eq-Decides a b).0 e))
     at false e = refl
 
-pair_turn : ℕ → Bool → Turn
+pair_turn : ℕ → Bool → Judged
 pair_turn sum x = if x then silent (SizeLine sum) else bad BadRequest
 
 pair_goes : (limits : Limits) (sum : ℕ) (rest : List ℕ) → Goes limits (ChunkEnd sum) (crlf_bytes ++ rest) [] (SizeLine sum) rest

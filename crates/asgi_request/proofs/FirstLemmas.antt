@@ -8,7 +8,7 @@ use Rattle.asgi_request.specs.declared.next.Next.{Next}
 use Rattle.asgi_request.specs.declared.next.Next.TheVariants.{Event, Whole}
 use Rattle.asgi_request.specs.declared.place.Place.{Place}
 use Rattle.asgi_request.specs.declared.place.Place.TheVariants.{Start, Counted, SizeLine, Chunk, ChunkEnd, Trailers, BodyEnd, Stopped}
-use Rattle.asgi_request.specs.declared.place.Turn.{Turn}
+use Rattle.asgi_request.specs.declared.place.Judged.{Judged}
 use Rattle.asgi_request.specs.declared.refusal.Refusal.{Refusal}
 use Rattle.asgi_request.specs.declared.refusal.Refusal.TheVariants.{BadRequest, HeaderFieldsTooLarge}
 use Rattle.asgi_request.specs.Fronts.{Front, found, too_long, unfinished, front_at, first, front_text, head_len, line_len, trailer_len}
@@ -113,7 +113,7 @@ cut_step : (limits : Limits) (place : Place) (bytes : List ℕ) (item : Option N
 unfolding IsStopped
 cut_step limits place bytes item steps mid middle end rest (found text) e t reads (inl x) = inl x
 cut_step limits place bytes item steps mid middle end rest (found text) e t reads (inr x) =
-    let turn : Turn = record { item = item; place = mid } in
+    let turn : Judged = record { item = item; place = mid } in
     let split : bytes ≡ text ++ middle = t.splits ∙ ap (λ (f : Front). front_text f ++ middle) e in
     let at : front limits place (text ++ middle) ≡ found text = subst (λ (l : List ℕ). front limits place l ≡ found text) split e in
     inr (record {
@@ -128,11 +128,11 @@ cut_step limits place bytes item steps mid middle end rest (found text) e t read
       );
     })
 cut_step limits place bytes item steps mid middle end rest too_long e t reads before =
-    let turn : Turn = record { item = item; place = mid } in
+    let turn : Judged = record { item = item; place = mid } in
     let j : turn ≡ after_too_long place = subst (λ (f : Front). Judges limits place f turn) e t.judged in
-    inl (stays_stopped limits mid middle steps end rest (subst (λ (u : Turn). IsStopped u.place) (sym j) (long_stops place)) reads)
+    inl (stays_stopped limits mid middle steps end rest (subst (λ (u : Judged). IsStopped u.place) (sym j) (long_stops place)) reads)
 cut_step limits place bytes item steps mid middle end rest unfinished e t reads before =
-    let turn : Turn = record { item = item; place = mid } in
+    let turn : Judged = record { item = item; place = mid } in
     absurd (subst (λ (f : Front). Judges limits place f turn) e t.judged)
 
 -- a run ends at a refusal, or stays as it is over the bytes that it passed alone

@@ -15,7 +15,7 @@ use Rattle.asgi_request.specs.declared.next.Next.{Next}
 use Rattle.asgi_request.specs.declared.next.Next.TheVariants.{Event, Whole, Bad}
 use Rattle.asgi_request.specs.declared.place.Place.{Place}
 use Rattle.asgi_request.specs.declared.place.Place.TheVariants.{Start, Counted, SizeLine, Chunk, ChunkEnd, Trailers, BodyEnd, Stopped}
-use Rattle.asgi_request.specs.declared.place.Turn.{Turn}
+use Rattle.asgi_request.specs.declared.place.Judged.{Judged}
 use Rattle.asgi_request.specs.declared.refusal.Refusal.{Refusal}
 use Rattle.asgi_request.specs.declared.refusal.Refusal.TheVariants.{BadRequest, ContentTooLarge}
 use Rattle.asgi_request.specs.Refusals.{status_of}
@@ -84,14 +84,14 @@ Fits limits BodyEnd = Unit {0}
 Fits limits (Stopped why) = Unit {0}
 
 -- what a turn has to keep
-abbrev pub Good : (List ℕ → List Next → List ℕ → Type 0) → Limits → Place → List ℕ → List ℕ → Turn → Type 0
+abbrev pub Good : (List ℕ → List Next → List ℕ → Type 0) → Limits → Place → List ℕ → List ℕ → Judged → Type 0
 Good E limits place bytes rest turn =
     Fits limits turn.place
     × ((results : List Next) (r : Option (List ℕ)) → From E limits turn.place rest results r → From E limits place bytes (shown (turn.item ∷ []) ++ results) r)
 
-good : (E : List ℕ → List Next → List ℕ → Type 0) (limits : Limits) (place : Place) (bytes rest : List ℕ) (turn t : Turn)
+good : (E : List ℕ → List Next → List ℕ → Type 0) (limits : Limits) (place : Place) (bytes rest : List ℕ) (turn t : Judged)
     → turn ≡ t → Good E limits place bytes rest t → Good E limits place bytes rest turn
-good E limits place bytes rest turn t e g = subst (λ (x : Turn). Good E limits place bytes rest x) (sym e) g
+good E limits place bytes rest turn t e g = subst (λ (x : Judged). Good E limits place bytes rest x) (sym e) g
 
 -- ---- numbers
 
@@ -185,7 +185,7 @@ counted_turn_last n text size =
     ap (λ (t : Bool). if t then gives (Event (HttpRequest text true)) (Counted (n - length text)) else gives (Event (HttpRequest text false)) BodyEnd)
     (lt_no (length text) n (omega (arith, size)))
 
-counted_good : (E : List ℕ → List Next → List ℕ → Type 0) (limits : Limits) → 0 < limits.block → (n : ℕ) (bytes text rest : List ℕ) (turn : Turn)
+counted_good : (E : List ℕ → List Next → List ℕ → Type 0) (limits : Limits) → 0 < limits.block → (n : ℕ) (bytes text rest : List ℕ) (turn : Judged)
     → text ≡ take (min n limits.block) bytes → min n limits.block ≤ length bytes → bytes ≡ text ++ rest → turn ≡ after_counted n text
     → Good E limits (Counted n) bytes rest turn
 counted_good E limits h n bytes text rest turn t inside split e = by (nat_lt limits.block n) refl
@@ -354,7 +354,7 @@ size_good E limits sum bytes rest line size s e h false false x y =
     subst (λ k. Good E limits (SizeLine sum) bytes rest (silent (Chunk k (sum + k)))) (sym e)
     (data_good E limits sum bytes rest line s (omega (arith, some, e)) h (omega (arith, fits, e)))
 
-line_good : (E : List ℕ → List Next → List ℕ → Type 0) (limits : Limits) (sum : ℕ) (bytes text rest : List ℕ) (turn : Turn) → sum ≤ limits.max_body
+line_good : (E : List ℕ → List Next → List ℕ → Type 0) (limits : Limits) (sum : ℕ) (bytes text rest : List ℕ) (turn : Judged) → sum ≤ limits.max_body
     → IsFirstWithin EndsAsLine size_line_limit bytes text rest → bytes ≡ text ++ rest → (n : Option ℕ) → ParsesSize text n
     → turn ≡ after_size limits.max_body sum n → Good E limits (SizeLine sum) bytes rest turn
 line_good E limits sum bytes text rest turn h x split None parses e =
@@ -402,7 +402,7 @@ chunk_turn_last left sum text size =
     ap (λ (t : Bool). if t then gives (Event (HttpRequest text true)) (Chunk (left - length text) sum) else gives (Event (HttpRequest text true)) (ChunkEnd sum))
     (lt_no (length text) left (omega (arith, size)))
 
-chunk_good : (E : List ℕ → List Next → List ℕ → Type 0) (limits : Limits) → 0 < limits.block → (left sum : ℕ) (bytes text rest : List ℕ) (turn : Turn)
+chunk_good : (E : List ℕ → List Next → List ℕ → Type 0) (limits : Limits) → 0 < limits.block → (left sum : ℕ) (bytes text rest : List ℕ) (turn : Judged)
     → 0 < left → sum ≤ limits.max_body
     → text ≡ take (min left limits.block) bytes → min left limits.block ≤ length bytes → bytes ≡ text ++ rest → turn ≡ after_chunk left sum text
     → Good E limits (Chunk left sum) bytes rest turn
@@ -464,7 +464,7 @@ eq_yes a b h = (bytes_eq-Decides a b).0 h
 eq_no : (a b : List ℕ) → bytes_eq a b ≡ false → a ≡ b → ⊥
 eq_no a b h e = not_from_Decides (bytes_eq a b) (bytes_eq-Decides a b) h e
 
-pair_good : (E : List ℕ → List Next → List ℕ → Type 0) (limits : Limits) (sum : ℕ) (bytes text rest : List ℕ) (turn : Turn) → sum ≤ limits.max_body
+pair_good : (E : List ℕ → List Next → List ℕ → Type 0) (limits : Limits) (sum : ℕ) (bytes text rest : List ℕ) (turn : Judged) → sum ≤ limits.max_body
     → text ≡ take 2 bytes → 2 ≤ length bytes → bytes ≡ text ++ rest → (x : Bool) → bytes_eq text crlf_bytes ≡ x
     → turn ≡ (if x then silent (SizeLine sum) else bad BadRequest) → Good E limits (ChunkEnd sum) bytes rest turn
 pair_good E limits sum bytes text rest turn h t inside split true x e =
@@ -501,7 +501,7 @@ bad_trailers_good E limits bytes rest x = (
   ),
 )
 
-section_good : (E : List ℕ → List Next → List ℕ → Type 0) (limits : Limits) (bytes text rest : List ℕ) (turn : Turn)
+section_good : (E : List ℕ → List Next → List ℕ → Type 0) (limits : Limits) (bytes text rest : List ℕ) (turn : Judged)
     → IsFirstWithin EndsAsSection limits.max_head bytes text rest → bytes ≡ text ++ rest → (ok : Bool) → ParsesTrailers limits.max_headers text ok
     → turn ≡ after_trailers ok → Good E limits Trailers bytes rest turn
 section_good E limits bytes text rest turn x split false parses e =
@@ -525,7 +525,7 @@ section_good E limits bytes text rest turn x split true parses e =
 
 -- ---- one turn
 
-text_good : (E : List ℕ → List Next → List ℕ → Type 0) (limits : Limits) → 0 < limits.block → (place : Place) (bytes text rest : List ℕ) (turn : Turn)
+text_good : (E : List ℕ → List Next → List ℕ → Type 0) (limits : Limits) → 0 < limits.block → (place : Place) (bytes text rest : List ℕ) (turn : Judged)
     → (place ≡ Start → ⊥) → Fits limits place → front limits place bytes ≡ found text → bytes ≡ text ++ rest → JudgesText limits place text turn
     → Good E limits place bytes rest turn
 text_good E limits h Start bytes text rest turn other fits f split j = absurd (other refl)
@@ -553,7 +553,7 @@ text_good E limits h BodyEnd bytes text rest turn other fits f split j =
     )
 text_good E limits h (Stopped why) bytes text rest turn other fits f split j = absurd j
 
-long_good : (E : List ℕ → List Next → List ℕ → Type 0) (limits : Limits) (place : Place) (bytes rest : List ℕ) (turn : Turn)
+long_good : (E : List ℕ → List Next → List ℕ → Type 0) (limits : Limits) (place : Place) (bytes rest : List ℕ) (turn : Judged)
     → (place ≡ Start → ⊥) → Fits limits place → front limits place bytes ≡ too_long → turn ≡ after_too_long place → Good E limits place bytes rest turn
 long_good E limits Start bytes rest turn other fits f j = absurd (other refl)
 long_good E limits (Counted n) bytes rest turn other fits f j = absurd (first_tells (min n limits.block) bytes too_long f)
@@ -569,7 +569,7 @@ long_good E limits BodyEnd bytes rest turn other fits f j = absurd cc
 long_good E limits (Stopped why) bytes rest turn other fits f j = absurd cc
 
 -- a turn at any place but before a head
-pub turn_good : (E : List ℕ → List Next → List ℕ → Type 0) (limits : Limits) → 0 < limits.block → (place : Place) (bytes rest : List ℕ) (turn : Turn)
+pub turn_good : (E : List ℕ → List Next → List ℕ → Type 0) (limits : Limits) → 0 < limits.block → (place : Place) (bytes rest : List ℕ) (turn : Judged)
     → (place ≡ Start → ⊥) → Fits limits place → Takes limits place bytes turn rest → Good E limits place bytes rest turn
 turn_good E limits h place bytes rest turn other fits takes = by (front limits place bytes) refl takes.splits takes.judged
   where

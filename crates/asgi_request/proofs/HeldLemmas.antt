@@ -10,7 +10,7 @@ use Rattle.asgi_request.specs.declared.next.Next.{Next}
 use Rattle.asgi_request.specs.declared.next.Next.TheVariants.{Event, Whole, Bad}
 use Rattle.asgi_request.specs.declared.place.Place.{Place}
 use Rattle.asgi_request.specs.declared.place.Place.TheVariants.{Start, Counted, SizeLine, Chunk, ChunkEnd, Trailers, BodyEnd, Stopped}
-use Rattle.asgi_request.specs.declared.place.Turn.{Turn}
+use Rattle.asgi_request.specs.declared.place.Judged.{Judged}
 use Rattle.asgi_request.specs.declared.refusal.Refusal.{Refusal}
 use Rattle.asgi_request.specs.declared.refusal.Refusal.TheVariants.{BadRequest, ContentTooLarge}
 use Rattle.asgi_request.specs.BodyLength.{framing_or_refusal}
@@ -20,11 +20,11 @@ use Rattle.asgi_request.proofs.StandardLemmas.{whole_requests}
 use Rattle.asgi_request.specs.Places.{front, bad, silent, gives, after_framing, after_head, after_counted, after_chunk, after_size, after_chunk_end, after_trailers, after_too_long, JudgesText, Judges, Reads, shown, Reaches}
 
 -- a request ends before a head
-abbrev WholeStart : Turn → Type 0
+abbrev WholeStart : Judged → Type 0
 WholeStart t = t.item ≡ Some Whole → t.place ≡ Start
 
-moved : (turn t : Turn) → turn ≡ t → WholeStart t → WholeStart turn
-moved turn t e f = let P : Turn → Type 0 = λ x. WholeStart x in subst P (sym e) f
+moved : (turn t : Judged) → turn ≡ t → WholeStart t → WholeStart turn
+moved turn t e f = let P : Judged → Type 0 = λ x. WholeStart x in subst P (sym e) f
 
 framing_whole : (r : HeadRecord) (f : Result Framing Refusal) → WholeStart (after_framing r f)
 framing_whole r (Ok framing) e = absurd cc
@@ -65,7 +65,7 @@ long_whole Trailers e = absurd cc
 long_whole BodyEnd e = absurd cc
 long_whole (Stopped why) e = absurd cc
 
-text_whole : (limits : Limits) (place : Place) (text : List ℕ) (turn : Turn) → JudgesText limits place text turn → WholeStart turn
+text_whole : (limits : Limits) (place : Place) (text : List ℕ) (turn : Judged) → JudgesText limits place text turn → WholeStart turn
 text_whole limits Start text turn j = moved turn (after_head limits j.0) j.2 (head_whole limits j.0)
 text_whole limits (Counted n) text turn j = moved turn (after_counted n text) j (event_whole (nat_lt (length text) n) text (Counted (n - length text)) BodyEnd true false)
 text_whole limits (SizeLine sum) text turn j = moved turn (after_size limits.max_body sum j.0) j.2 (sizes_whole limits.max_body sum j.0)
@@ -76,7 +76,7 @@ text_whole limits Trailers text turn j = moved turn (after_trailers j.0) j.2 (tr
 text_whole limits BodyEnd text turn j = moved turn (gives Whole Start) j (λ e. refl)
 text_whole limits (Stopped why) text turn j = absurd j
 
-turn_whole : (limits : Limits) (place : Place) (f : Front) (turn : Turn) → Judges limits place f turn → WholeStart turn
+turn_whole : (limits : Limits) (place : Place) (f : Front) (turn : Judged) → Judges limits place f turn → WholeStart turn
 turn_whole limits place (found text) turn j = text_whole limits place text turn j
 turn_whole limits place too_long turn j = moved turn (after_too_long place) j (long_whole place)
 turn_whole limits place unfinished turn j = absurd j
@@ -90,9 +90,9 @@ head_loud : (limits : Limits) (r : Option HeadRecord) → (after_head limits r).
 head_loud limits None e = cc
 head_loud limits (Some r) e = framing_loud r (framing_or_refusal r limits) e
 
-start_loud : (limits : Limits) (f : Front) (turn : Turn) → Judges limits Start f turn → turn.item ≡ None → ⊥
-start_loud limits (found text) turn j e = head_loud limits j.0 (sym (ap (λ (t : Turn). t.item) j.2) ∙ e)
-start_loud limits too_long turn j e = let x : Some (Bad 431) ≡ None = sym (ap (λ (t : Turn). t.item) j) ∙ e in cc
+start_loud : (limits : Limits) (f : Front) (turn : Judged) → Judges limits Start f turn → turn.item ≡ None → ⊥
+start_loud limits (found text) turn j e = head_loud limits j.0 (sym (ap (λ (t : Judged). t.item) j.2) ∙ e)
+start_loud limits too_long turn j e = let x : Some (Bad 431) ≡ None = sym (ap (λ (t : Judged). t.item) j) ∙ e in cc
 start_loud limits unfinished turn j e = j
 
 silent_start : (limits : Limits) (bytes : List ℕ) (items : List (Option Next)) (end : Place) (rest : List ℕ)

@@ -14,13 +14,13 @@ use Rattle.asgi_request.specs.declared.place.Place.{Place}
 use Rattle.asgi_request.specs.declared.place.Place.TheVariants.{Start, Counted, SizeLine, Chunk, ChunkEnd, Trailers, BodyEnd, Stopped}
 use Rattle.asgi_request.specs.declared.next.Next.{Next}
 use Rattle.asgi_request.specs.declared.next.Next.TheVariants.{Need, Head, Event, Whole, Bad}
-use Rattle.asgi_request.specs.declared.place.Turn.{Turn}
+use Rattle.asgi_request.specs.declared.place.Judged.{Judged}
 use Rattle.asgi_request.specs.Fronts.{Front, found, too_long, unfinished, front_text}
 use Rattle.asgi_request.specs.BodyLength.{framing_or_refusal}
 use Rattle.asgi_request.specs.Places.{front, bad, silent, gives, after_framing, after_head, after_counted, after_chunk, after_size, after_chunk_end, after_trailers, after_too_long, JudgesText, Judges, Takes, shown, Reaches}
 use Rattle.asgi_request.specs.Reading.{Reading, StandsFor, IsRefused}
-use Rattle.asgi_request.specs.declared.place.Outcome.{Outcome}
-use Rattle.asgi_request.specs.Searches.{outcome_of, Steps, Stepped, IsResult, Answers, RefusesAgain, rank}
+use Rattle.asgi_request.specs.declared.place.Advance.{Advance}
+use Rattle.asgi_request.specs.Searches.{advance_of, Steps, Stepped, IsResult, Answers, RefusesAgain, rank}
 use Rattle.asgi_request.proofs.UniqueLemmas.{Reads-append, Reads-push, shown-append}
 
 pub held_grown : (bytes a new : List ℕ) (start : ℕ) → start ≤ length bytes → new ≡ bytes ++ a → drop start new ≡ drop start bytes ++ a
@@ -44,14 +44,14 @@ feed_stands old seen piece grown same e bytes given stands =
     subst Q (sym e) (Reaches-append seen.limits bytes given seen.place seen.held piece (subst P (sym same) stands))
 
 -- a whole text was judged
-takes_text : (limits : Limits) (place : Place) (held rest : List ℕ) (n : ℕ) (turn : Turn) → front limits place held ≡ found (take n held)
+takes_text : (limits : Limits) (place : Place) (held rest : List ℕ) (n : ℕ) (turn : Judged) → front limits place held ≡ found (take n held)
     → JudgesText limits place (take n held) turn → drop n held ≡ rest → Takes limits place held turn rest
 takes_text limits place held rest n turn e judged r = record {
   splits = sym (take-append-drop n held) ∙ ap (λ (l : List ℕ). take n held ++ l) r ∙ ap (λ (f : Front). front_text f ++ rest) (sym e);
   judged = subst (λ (f : Front). Judges limits place f turn) (sym e) judged;
 }
 
-pub step_text : (old seen : Reading) (bytes : List ℕ) (start n : ℕ) (arrived text : List ℕ) (turn : Turn)
+pub step_text : (old seen : Reading) (bytes : List ℕ) (start n : ℕ) (arrived text : List ℕ) (turn : Judged)
     → seen ≡ old → seen.held ≡ drop start bytes → arrived ≡ seen.held → text ≡ take n seen.held
     → found (take n arrived) ≡ front seen.limits seen.place arrived → JudgesText seen.limits seen.place text turn
     → Takes old.limits old.place old.held turn (drop (start + n) bytes)
@@ -74,10 +74,10 @@ stepped_stands old new item step bytes given stands =
       shows = shown-append stands.steps (item ∷ []) ∙ ap (λ (l : List Next). l ++ shown (item ∷ [])) stands.shows;
     }
 
-pub stepped_steps : (old new : Reading) (item : Option Next) (outcome : Outcome) → outcome ≡ outcome_of item → Stepped old new item → Steps old new outcome
-stepped_steps old new item outcome e step = let P : Outcome → Type 0 = λ o. Steps old new o in subst P (sym e) (by item step)
+pub stepped_steps : (old new : Reading) (item : Option Next) (advance : Advance) → advance ≡ advance_of item → Stepped old new item → Steps old new advance
+stepped_steps old new item advance e step = let P : Advance → Type 0 = λ o. Steps old new o in subst P (sym e) (by item step)
   where
-    by : (i : Option Next) → Stepped old new i → Steps old new (outcome_of i)
+    by : (i : Option Next) → Stepped old new i → Steps old new (advance_of i)
     by None x = x
     by (Some next) x = x
 
@@ -90,11 +90,11 @@ silent_stands old new step bytes given stands =
 -- ---- few silent turns follow one another
 
 -- a silent turn goes to a place of lower rank
-abbrev pub Falls : ℕ → Turn → Type 0
+abbrev pub Falls : ℕ → Judged → Type 0
 Falls k t = t.item ≡ None → rank t.place < k
 
-moved : (k : ℕ) (turn t : Turn) → turn ≡ t → Falls k t → Falls k turn
-moved k turn t e f = let P : Turn → Type 0 = λ x. Falls k x in subst P (sym e) f
+moved : (k : ℕ) (turn t : Judged) → turn ≡ t → Falls k t → Falls k turn
+moved k turn t e f = let P : Judged → Type 0 = λ x. Falls k x in subst P (sym e) f
 
 framing_falls : (k : ℕ) (r : HeadRecord) (f : Result Framing Refusal) → Falls k (after_framing r f)
 framing_falls k r (Ok framing) e = absurd cc
@@ -135,7 +135,7 @@ long_falls k Trailers e = absurd cc
 long_falls k BodyEnd e = absurd cc
 long_falls k (Stopped refusal) e = absurd cc
 
-text_falls : (limits : Limits) (place : Place) (text : List ℕ) (turn : Turn) → JudgesText limits place text turn → Falls (rank place) turn
+text_falls : (limits : Limits) (place : Place) (text : List ℕ) (turn : Judged) → JudgesText limits place text turn → Falls (rank place) turn
 text_falls limits Start text turn j = moved 0 turn (after_head limits j.0) j.2 (head_falls 0 limits j.0)
 text_falls limits (Counted n) text turn j =
     moved 0 turn (after_counted n text) j (either_falls 0 (nat_lt (length text) n) (Event (HttpRequest text true)) (Event (HttpRequest text false)) (Counted (n - length text)) BodyEnd)
@@ -148,7 +148,7 @@ text_falls limits Trailers text turn j = moved 0 turn (after_trailers j.0) j.2 (
 text_falls limits BodyEnd text turn j = moved 0 turn (gives Whole Start) j (λ e. absurd cc)
 text_falls limits (Stopped refusal) text turn j = absurd j
 
-turn_falls : (limits : Limits) (place : Place) (f : Front) (turn : Turn) → Judges limits place f turn → Falls (rank place) turn
+turn_falls : (limits : Limits) (place : Place) (f : Front) (turn : Judged) → Judges limits place f turn → Falls (rank place) turn
 turn_falls limits place (found text) turn j = text_falls limits place text turn j
 turn_falls limits place too_long turn j = moved (rank place) turn (after_too_long place) j (long_falls (rank place) place)
 turn_falls limits place unfinished turn j = absurd j
@@ -167,8 +167,8 @@ Tells (Some (Event event)) place = Unit {0}
 Tells (Some Whole) place = Unit {0}
 Tells (Some (Bad status)) place = (why : Refusal) × (place ≡ Stopped why) × (status ≡ status_of why)
 
-told : (turn t : Turn) → turn ≡ t → Tells t.item t.place → Tells turn.item turn.place
-told turn t e f = let P : Turn → Type 0 = λ x. Tells x.item x.place in subst P (sym e) f
+told : (turn t : Judged) → turn ≡ t → Tells t.item t.place → Tells turn.item turn.place
+told turn t e f = let P : Judged → Type 0 = λ x. Tells x.item x.place in subst P (sym e) f
 
 bad_tells : (why : Refusal) → Tells (bad why).item (bad why).place
 bad_tells why = (why, refl, refl)
@@ -213,7 +213,7 @@ long_tells Trailers = bad_tells BadRequest
 long_tells BodyEnd = bad_tells BadRequest
 long_tells (Stopped refusal) = bad_tells BadRequest
 
-text_tells : (limits : Limits) (place : Place) (text : List ℕ) (turn : Turn) → JudgesText limits place text turn → Tells turn.item turn.place
+text_tells : (limits : Limits) (place : Place) (text : List ℕ) (turn : Judged) → JudgesText limits place text turn → Tells turn.item turn.place
 text_tells limits Start text turn j = told turn (after_head limits j.0) j.2 (head_tells limits j.0)
 text_tells limits (Counted n) text turn j = told turn (after_counted n text) j (counted_tells (nat_lt (length text) n) text (Counted (n - length text)) BodyEnd true false)
 text_tells limits (SizeLine sum) text turn j = told turn (after_size limits.max_body sum j.0) j.2 (sizes_tell limits.max_body sum j.0)
@@ -224,7 +224,7 @@ text_tells limits Trailers text turn j = told turn (after_trailers j.0) j.2 (tra
 text_tells limits BodyEnd text turn j = told turn (gives Whole Start) j tt
 text_tells limits (Stopped refusal) text turn j = absurd j
 
-turn_tells : (limits : Limits) (place : Place) (f : Front) (turn : Turn) → Judges limits place f turn → Tells turn.item turn.place
+turn_tells : (limits : Limits) (place : Place) (f : Front) (turn : Judged) → Judges limits place f turn → Tells turn.item turn.place
 turn_tells limits place (found text) turn j = text_tells limits place text turn j
 turn_tells limits place too_long turn j = told turn (after_too_long place) j (long_tells place)
 turn_tells limits place unfinished turn j = absurd j

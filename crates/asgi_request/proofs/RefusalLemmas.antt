@@ -11,7 +11,7 @@ use Rattle.asgi_request.specs.declared.next.Next.{Next}
 use Rattle.asgi_request.specs.declared.next.Next.TheVariants.{Event, Whole, Bad}
 use Rattle.asgi_request.specs.declared.place.Place.{Place}
 use Rattle.asgi_request.specs.declared.place.Place.TheVariants.{Start, Counted, SizeLine, Chunk, ChunkEnd, Trailers, BodyEnd, Stopped}
-use Rattle.asgi_request.specs.declared.place.Turn.{Turn}
+use Rattle.asgi_request.specs.declared.place.Judged.{Judged}
 use Rattle.asgi_request.specs.declared.refusal.Refusal.{Refusal}
 use Rattle.asgi_request.specs.declared.refusal.Refusal.TheVariants.{BadRequest, ContentTooLarge}
 use Rattle.asgi_request.specs.Refusals.{status_of}
@@ -31,7 +31,7 @@ Stops item Trailers = Unit {0}
 Stops item BodyEnd = Unit {0}
 Stops item (Stopped why) = item ≡ Some (Bad (status_of why))
 
-StopsTurn : Turn → Type 0
+StopsTurn : Judged → Type 0
 StopsTurn turn = Stops turn.item turn.place
 
 framing_stops : (r : HeadRecord) (f : Result Framing Refusal) → StopsTurn (after_framing r f)
@@ -100,10 +100,10 @@ end_stops : StopsTurn (gives Whole Start)
 unfolding StopsTurn Stops
 end_stops = tt
 
-same : (turn t : Turn) → turn ≡ t → StopsTurn t → StopsTurn turn
+same : (turn t : Judged) → turn ≡ t → StopsTurn t → StopsTurn turn
 same turn t e x = subst StopsTurn (sym e) x
 
-text_stops : (limits : Limits) (place : Place) (text : List ℕ) (turn : Turn) → JudgesText limits place text turn → StopsTurn turn
+text_stops : (limits : Limits) (place : Place) (text : List ℕ) (turn : Judged) → JudgesText limits place text turn → StopsTurn turn
 text_stops limits Start text turn j = same turn (after_head limits j.0) j.2 (head_stops limits j.0)
 text_stops limits (Counted n) text turn j = same turn (after_counted n text) j (counted_stops n text)
 text_stops limits (SizeLine sum) text turn j = same turn (after_size limits.max_body sum j.0) j.2 (size_stops limits.max_body sum j.0)
@@ -113,7 +113,7 @@ text_stops limits Trailers text turn j = same turn (after_trailers j.0) j.2 (tra
 text_stops limits BodyEnd text turn j = same turn (gives Whole Start) j end_stops
 text_stops limits (Stopped why) text turn j = absurd j
 
-turn_stops : (limits : Limits) (place : Place) (f : Front) (turn : Turn) → Judges limits place f turn → StopsTurn turn
+turn_stops : (limits : Limits) (place : Place) (f : Front) (turn : Judged) → Judges limits place f turn → StopsTurn turn
 turn_stops limits place (found text) turn j = text_stops limits place text turn j
 turn_stops limits place too_long turn j = same turn (after_too_long place) j (long_stops place)
 turn_stops limits place unfinished turn j = absurd j

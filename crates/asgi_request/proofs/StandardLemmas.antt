@@ -10,7 +10,7 @@ use Rattle.asgi_request.specs.declared.next.Next.{Next}
 use Rattle.asgi_request.specs.declared.next.Next.TheVariants.{Head, Event, Whole, Bad}
 use Rattle.asgi_request.specs.declared.place.Place.{Place}
 use Rattle.asgi_request.specs.declared.place.Place.TheVariants.{Start, Counted, SizeLine, Chunk, ChunkEnd, Trailers, BodyEnd, Stopped}
-use Rattle.asgi_request.specs.declared.place.Turn.{Turn}
+use Rattle.asgi_request.specs.declared.place.Judged.{Judged}
 use Rattle.asgi_request.specs.declared.refusal.Refusal.{Refusal}
 use Rattle.asgi_request.specs.declared.refusal.Refusal.TheVariants.{BadRequest, HeaderFieldsTooLarge}
 use Rattle.asgi_request.specs.Refusals.{status_of}
@@ -112,7 +112,7 @@ refusal_gives : (E : List ℕ → List Next → List ℕ → Type 0) (limits : L
 refusal_gives E limits bytes rest why results r x from = inr (from.1, inr (inl (why, x, ap (λ (l : List Next). Bad (status_of why) ∷ l) from.0)))
 
 -- what a turn before a head has to keep
-abbrev StartGood : (List ℕ → List Next → List ℕ → Type 0) → Limits → List ℕ → List ℕ → Turn → Type 0
+abbrev StartGood : (List ℕ → List Next → List ℕ → Type 0) → Limits → List ℕ → List ℕ → Judged → Type 0
 StartGood E limits bytes rest turn =
     Fits limits turn.place
     × ((results : List Next) (r : Option (List ℕ)) → From E limits turn.place rest results r → StartGives E limits bytes (shown (turn.item ∷ []) ++ results) r)
@@ -149,17 +149,17 @@ head_good E limits bytes text rest x (Some record_) parses =
     subst (λ (h : HeadRecord). StartGood E limits bytes rest (after_head limits (Some h))) (sym parses.2)
     (framing_good E limits bytes text rest parses.0 x parses.1 (framing_or_refusal (record_of parses.0) limits) refl)
 
-start_good : (E : List ℕ → List Next → List ℕ → Type 0) (limits : Limits) (bytes rest : List ℕ) (turn : Turn)
+start_good : (E : List ℕ → List Next → List ℕ → Type 0) (limits : Limits) (bytes rest : List ℕ) (turn : Judged)
     → Takes limits Start bytes turn rest → StartGood E limits bytes rest turn
 start_good E limits bytes rest turn takes = by (front limits Start bytes) refl takes.splits takes.judged
   where
     by : (f : Front) → front limits Start bytes ≡ f → bytes ≡ front_text f ++ rest → Judges limits Start f turn → StartGood E limits bytes rest turn
     by (found text) e split j =
         let t = tells EndsAsHead head_len head_search_for limits.max_head bytes (found text) e in
-        subst (λ (x : Turn). StartGood E limits bytes rest x) (sym j.2) (head_good E limits bytes text rest (t rest split) j.0 j.1)
+        subst (λ (x : Judged). StartGood E limits bytes rest x) (sym j.2) (head_good E limits bytes text rest (t rest split) j.0 j.1)
     by too_long e split j =
         let t = tells EndsAsHead head_len head_search_for limits.max_head bytes too_long e in
-        subst (λ (x : Turn). StartGood E limits bytes rest x) (sym j)
+        subst (λ (x : Judged). StartGood E limits bytes rest x) (sym j)
         (tt, λ results r from. refusal_gives E limits bytes rest HeaderFieldsTooLarge results r (inl (t, refl)) from)
     by unfinished e split j = absurd j
 

@@ -9,7 +9,7 @@ use Rattle.asgi_request.specs.declared.next.Next.{Next}
 use Rattle.asgi_request.specs.declared.next.Next.TheVariants.{Event, Whole, Bad}
 use Rattle.asgi_request.specs.declared.place.Place.{Place}
 use Rattle.asgi_request.specs.declared.place.Place.TheVariants.{Start, Counted, SizeLine, Chunk, ChunkEnd, Trailers, BodyEnd, Stopped}
-use Rattle.asgi_request.specs.declared.place.Turn.{Turn}
+use Rattle.asgi_request.specs.declared.place.Judged.{Judged}
 use Rattle.asgi_request.specs.declared.refusal.Refusal.{Refusal}
 use Rattle.asgi_request.specs.declared.refusal.Refusal.TheVariants.{BadRequest, HeaderFieldsTooLarge}
 use Rattle.asgi_request.specs.Refusals.{status_of}
@@ -120,29 +120,29 @@ no_chunk sum text =
 reads_some : (place mid : Place) (n : ℕ) → 1 ≤ n → weight mid < 4 * n + weight place
 reads_some place mid n h = omega (arith, h, at_most mid)
 
-falls : (limits : Limits) (place : Place) (text : List ℕ) (turn : Turn) → least limits place ≤ length text → JudgesText limits place text turn
+falls : (limits : Limits) (place : Place) (text : List ℕ) (turn : Judged) → least limits place ≤ length text → JudgesText limits place text turn
     → weight turn.place < 4 * length text + weight place
 unfolding weight least
 falls limits Start text turn h j = reads_some Start turn.place (length text) h
 falls limits (Counted zero) text turn h j =
-    let w : weight turn.place ≡ 2 = ap (λ (t : Turn). weight t.place) j ∙ no_counted text in omega (arith, w)
+    let w : weight turn.place ≡ 2 = ap (λ (t : Judged). weight t.place) j ∙ no_counted text in omega (arith, w)
 falls limits (Counted (suc n)) text turn h j =
     let low = limits.block_in_range.0 in reads_some (Counted (suc n)) turn.place (length text) (omega (arith, h, low))
 falls limits (SizeLine sum) text turn h j = reads_some (SizeLine sum) turn.place (length text) h
 falls limits (Chunk zero sum) text turn h j =
-    let w : weight turn.place ≡ 1 = ap (λ (t : Turn). weight t.place) j ∙ no_chunk sum text in omega (arith, w)
+    let w : weight turn.place ≡ 1 = ap (λ (t : Judged). weight t.place) j ∙ no_chunk sum text in omega (arith, w)
 falls limits (Chunk (suc left) sum) text turn h j =
     let low = limits.block_in_range.0 in reads_some (Chunk (suc left) sum) turn.place (length text) (omega (arith, h, low))
 falls limits (ChunkEnd sum) text turn h j = reads_some (ChunkEnd sum) turn.place (length text) (omega (arith, h))
 falls limits Trailers text turn h j = reads_some Trailers turn.place (length text) h
 falls limits BodyEnd text turn h j =
-    let w : weight turn.place ≡ 1 = ap (λ (t : Turn). weight t.place) j in omega (arith, w)
+    let w : weight turn.place ≡ 1 = ap (λ (t : Judged). weight t.place) j in omega (arith, w)
 falls limits (Stopped why) text turn h j = absurd j
 
 -- ---- each text is judged
 
 judged_there : (limits : Limits) (place : Place) (text : List ℕ) → ((why : Refusal) → place ≡ Stopped why → ⊥)
-    → ((turn : Turn) → JudgesText limits place text turn → ⊥) → ⊥
+    → ((turn : Judged) → JudgesText limits place text turn → ⊥) → ⊥
 judged_there limits Start text going deny =
     deny (after_head limits None)
     (None, (λ head is. deny (after_head limits (Some (record_of head))) (Some (record_of head), (head, is, refl), refl)), refl)
@@ -172,9 +172,9 @@ long_is (Stopped why) = (BadRequest, refl)
 long_ends : (limits : Limits) (place : Place) (bytes : List ℕ) (why : Refusal) → after_too_long place ≡ bad why → front limits place bytes ≡ too_long
     → Ends limits place bytes (Bad (status_of why) ∷ [])
 long_ends limits place bytes why is e =
-    refusal limits place bytes bytes why (subst (λ (t : Turn). Takes limits place bytes t bytes) is (takes_long limits place bytes e))
+    refusal limits place bytes bytes why (subst (λ (t : Judged). Takes limits place bytes t bytes) is (takes_long limits place bytes e))
 
-turn_ends : (limits : Limits) (place : Place) (bytes : List ℕ) (turn : Turn) (rest : List ℕ) (results : List Next)
+turn_ends : (limits : Limits) (place : Place) (bytes : List ℕ) (turn : Judged) (rest : List ℕ) (results : List Next)
     → Takes limits place bytes turn rest → Ends limits turn.place rest results → Ends limits place bytes (shown (turn.item ∷ []) ++ results)
 turn_ends limits place bytes turn rest results t ends =
     then_ends limits place bytes (shown (turn.item ∷ [])) turn.place rest results (one limits place bytes turn.item turn.place rest t) ends

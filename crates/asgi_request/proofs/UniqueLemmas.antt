@@ -9,7 +9,7 @@ use Rattle.asgi_request.specs.declared.head.HeadRecord.{HeadRecord}
 use Rattle.asgi_request.specs.declared.place.Place.{Place}
 use Rattle.asgi_request.specs.declared.place.Place.TheVariants.{Start, Counted, SizeLine, Chunk, ChunkEnd, Trailers, BodyEnd, Stopped}
 use Rattle.asgi_request.specs.declared.next.Next.{Next}
-use Rattle.asgi_request.specs.declared.place.Turn.{Turn}
+use Rattle.asgi_request.specs.declared.place.Judged.{Judged}
 use Rattle.asgi_request.specs.Fronts.{Front, found, too_long, unfinished, front_text}
 use Rattle.asgi_request.specs.Head.{ParsesHead, record_of}
 use Rattle.asgi_request.specs.Parts.{ParsesSize, ParsesTrailers}
@@ -36,7 +36,7 @@ same_trailers max_headers text true true x y = refl
 same_trailers max_headers text false true x y = absurd (x y.0 y.1 y.2)
 same_trailers max_headers text true false x y = absurd (y x.0 x.1 x.2)
 
-same_text : (limits : Limits) (place : Place) (text : List ℕ) (a b : Turn) → JudgesText limits place text a → JudgesText limits place text b → a ≡ b
+same_text : (limits : Limits) (place : Place) (text : List ℕ) (a b : Judged) → JudgesText limits place text a → JudgesText limits place text b → a ≡ b
 same_text limits Start text a b x y = x.2 ∙ ap (after_head limits) (same_head limits.max_headers text x.0 y.0 x.1 y.1) ∙ sym y.2
 same_text limits (Counted n) text a b x y = x ∙ sym y
 same_text limits (SizeLine sum) text a b x y = x.2 ∙ ap (after_size limits.max_body sum) (same_size text x.0 y.0 x.1 y.1) ∙ sym y.2
@@ -46,17 +46,17 @@ same_text limits Trailers text a b x y = x.2 ∙ ap after_trailers (same_trailer
 same_text limits BodyEnd text a b x y = x ∙ sym y
 same_text limits (Stopped refusal) text a b x y = absurd x
 
-same_turn : (limits : Limits) (place : Place) (f : Front) (a b : Turn) → Judges limits place f a → Judges limits place f b → a ≡ b
+same_turn : (limits : Limits) (place : Place) (f : Front) (a b : Judged) → Judges limits place f a → Judges limits place f b → a ≡ b
 same_turn limits place (found text) a b x y = same_text limits place text a b x y
 same_turn limits place too_long a b x y = x ∙ sym y
 same_turn limits place unfinished a b x y = absurd x
 
 -- what is judged is not unfinished
-pub judged_known : (limits : Limits) (place : Place) (bytes : List ℕ) (turn : Turn) (rest : List ℕ)
+pub judged_known : (limits : Limits) (place : Place) (bytes : List ℕ) (turn : Judged) (rest : List ℕ)
     → Takes limits place bytes turn rest → front limits place bytes ≡ unfinished → ⊥
 judged_known limits place bytes turn rest t e = subst (λ (f : Front). Judges limits place f turn) e t.judged
 
-pub Takes-append : (limits : Limits) (place : Place) (bytes : List ℕ) (turn : Turn) (rest more : List ℕ)
+pub Takes-append : (limits : Limits) (place : Place) (bytes : List ℕ) (turn : Judged) (rest more : List ℕ)
     → Takes limits place bytes turn rest → Takes limits place (bytes ++ more) turn (rest ++ more)
 Takes-append limits place bytes turn rest more t =
     let same = front-append limits place bytes more (judged_known limits place bytes turn rest t) in
@@ -93,7 +93,7 @@ same_front : (a b r q : List ℕ) → a ++ r ≡ a ++ q → r ≡ q
 same_front [] b r q e = e
 same_front (x ∷ a) b r q e = same_front a b r q cc
 
-same_rest : (limits : Limits) (place : Place) (bytes : List ℕ) (a b : Turn) (r q : List ℕ) → Takes limits place bytes a r → Takes limits place bytes b q → r ≡ q
+same_rest : (limits : Limits) (place : Place) (bytes : List ℕ) (a b : Judged) (r q : List ℕ) → Takes limits place bytes a r → Takes limits place bytes b q → r ≡ q
 same_rest limits place bytes a b r q x y = same_front (front_text (front limits place bytes)) [] r q (sym x.splits ∙ y.splits)
 
 -- where a run can't go on, it begins with each run over fewer bytes
@@ -109,13 +109,13 @@ run_begins limits place bytes more (item ∷ items) end rest [] last left r q w 
     let stuck = subst P (sym q.0) (subst R (sym q.1) w) in
     absurd (judged_known limits place (bytes ++ more) (record { item = item; place = r.0 }) (r.1 ++ more) grown stuck)
 run_begins limits place bytes more (item ∷ items) end rest (other ∷ others) last left r q w =
-    let a : Turn = record { item = item; place = r.0 } in
-    let b : Turn = record { item = other; place = q.0 } in
+    let a : Judged = record { item = item; place = r.0 } in
+    let b : Judged = record { item = other; place = q.0 } in
     let grown = Takes-append limits place bytes a r.1 more r.2 in
     let turns = same_turn limits place (front limits place (bytes ++ more)) a b grown.judged q.2.judged in
     let rests = same_rest limits place (bytes ++ more) a b (r.1 ++ more) q.1 grown q.2 in
-    let places : r.0 ≡ q.0 = ap (λ (t : Turn). t.place) turns in
-    let items_same : item ≡ other = ap (λ (t : Turn). t.item) turns in
+    let places : r.0 ≡ q.0 = ap (λ (t : Judged). t.place) turns in
+    let items_same : item ≡ other = ap (λ (t : Judged). t.item) turns in
     let P : Place → Type 0 = λ p. Reads limits p q.1 others last left in
     let R : List ℕ → Type 0 = λ l. Reads limits r.0 l others last left in
     let on = subst R (sym rests) (subst P (sym places) q.3) in

@@ -10,7 +10,7 @@ use Rattle.asgi_request.specs.declared.place.Place.{Place}
 use Rattle.asgi_request.specs.declared.place.Place.TheVariants.{Start, Counted, SizeLine, Chunk, ChunkEnd, Trailers, BodyEnd, Stopped}
 use Rattle.asgi_request.specs.declared.next.Next.{Next}
 use Rattle.asgi_request.specs.declared.next.Next.TheVariants.{Head, Event, Whole, Bad}
-use Rattle.asgi_request.specs.declared.place.Turn.{Turn}
+use Rattle.asgi_request.specs.declared.place.Judged.{Judged}
 use Rattle.asgi_request.specs.Fronts.{Front, found, too_long, unfinished, front_at, first, front_text, head_len, line_len, trailer_len}
 use Rattle.asgi_request.specs.ChunkedBody.{size_line_limit}
 use Rattle.asgi_request.specs.Head.{ParsesHead}
@@ -34,15 +34,15 @@ front limits BodyEnd bytes = found []
 front limits (Stopped refusal) bytes = unfinished
 
 -- nothing follows a refusal
-abbrev pub bad : Refusal → Turn
+abbrev pub bad : Refusal → Judged
 bad refusal = record { item = Some (Bad (status_of refusal)); place = Stopped refusal }
 
 -- no result
-abbrev pub silent : Place → Turn
+abbrev pub silent : Place → Judged
 silent place = record { item = None; place = place }
 
 -- a result
-abbrev pub gives : Next → Place → Turn
+abbrev pub gives : Next → Place → Judged
 gives item place = record { item = Some item; place = place }
 
 -- the place before the body
@@ -52,43 +52,43 @@ body_place Chunked = SizeLine 0
 body_place Upgrade = BodyEnd
 
 -- a head is given, or refused
-abbrev pub after_framing : HeadRecord → Result Framing Refusal → Turn
+abbrev pub after_framing : HeadRecord → Result Framing Refusal → Judged
 after_framing r (Ok framing) = gives (Head (scope_of r) (facts_of r framing)) (body_place framing)
 after_framing r (Err refusal) = bad refusal
 
 -- a head text is a head, or a bad request
-abbrev pub after_head : Limits → Option HeadRecord → Turn
+abbrev pub after_head : Limits → Option HeadRecord → Judged
 after_head limits None = bad BadRequest
 after_head limits (Some r) = after_framing r (framing_or_refusal r limits)
 
 -- a block is the last one where no bytes are left
-abbrev pub after_counted : ℕ → List ℕ → Turn
+abbrev pub after_counted : ℕ → List ℕ → Judged
 after_counted n block =
     if nat_lt (length block) n then gives (Event (HttpRequest block true)) (Counted (n - length block)) else gives (Event (HttpRequest block false)) BodyEnd
 
 -- a size of 0 ends the chunks
-abbrev pub after_size : ℕ → ℕ → Option ℕ → Turn
+abbrev pub after_size : ℕ → ℕ → Option ℕ → Judged
 after_size max_body sum None = bad BadRequest
 after_size max_body sum (Some n) =
     if nat_lt max_body (sum + n) then bad ContentTooLarge else
     (if n == 0 then silent Trailers else silent (Chunk n (sum + n)))
 
 -- CR LF stands behind the last block of a chunk
-abbrev pub after_chunk : ℕ → ℕ → List ℕ → Turn
+abbrev pub after_chunk : ℕ → ℕ → List ℕ → Judged
 after_chunk left sum block =
     if nat_lt (length block) left then gives (Event (HttpRequest block true)) (Chunk (left - length block) sum) else gives (Event (HttpRequest block true)) (ChunkEnd sum)
 
 -- behind a chunk stands a size line
-abbrev pub after_chunk_end : ℕ → List ℕ → Turn
+abbrev pub after_chunk_end : ℕ → List ℕ → Judged
 after_chunk_end sum pair = if bytes_eq pair crlf_bytes then silent (SizeLine sum) else bad BadRequest
 
 -- an empty event ends a chunked body
-abbrev pub after_trailers : Bool → Turn
+abbrev pub after_trailers : Bool → Judged
 after_trailers true = gives (Event (HttpRequest [] false)) BodyEnd
 after_trailers false = bad BadRequest
 
 -- what a whole text gives at this place
-abbrev pub JudgesText : Limits → Place → List ℕ → Turn → Type 0
+abbrev pub JudgesText : Limits → Place → List ℕ → Judged → Type 0
 JudgesText limits Start text turn = (r : Option HeadRecord) × ParsesHead limits.max_headers text r × (turn ≡ after_head limits r)
 JudgesText limits (Counted n) text turn = turn ≡ after_counted n text
 JudgesText limits (SizeLine sum) text turn = (n : Option ℕ) × ParsesSize text n × (turn ≡ after_size limits.max_body sum n)
@@ -99,7 +99,7 @@ JudgesText limits BodyEnd text turn = turn ≡ gives Whole Start
 JudgesText limits (Stopped refusal) text turn = ⊥
 
 -- a head that is too long has a status of its own
-abbrev pub after_too_long : Place → Turn
+abbrev pub after_too_long : Place → Judged
 after_too_long Start = bad HeaderFieldsTooLarge
 after_too_long (Counted n) = bad BadRequest
 after_too_long (SizeLine sum) = bad BadRequest
@@ -110,13 +110,13 @@ after_too_long BodyEnd = bad BadRequest
 after_too_long (Stopped refusal) = bad BadRequest
 
 -- nothing is judged before it is whole or its limit is reached
-abbrev pub Judges : Limits → Place → Front → Turn → Type 0
+abbrev pub Judges : Limits → Place → Front → Judged → Type 0
 Judges limits place (found text) turn = JudgesText limits place text turn
 Judges limits place too_long turn = turn ≡ after_too_long place
 Judges limits place unfinished turn = ⊥
 
 -- at this place the bytes give that turn, and rest stands behind its text
-pub record Takes (limits : Limits) (place : Place) (bytes : List ℕ) (turn : Turn) (rest : List ℕ) : Type 0 where
+pub record Takes (limits : Limits) (place : Place) (bytes : List ℕ) (turn : Judged) (rest : List ℕ) : Type 0 where
   pub splits : bytes ≡ front_text (front limits place bytes) ++ rest
   pub judged : Judges limits place (front limits place bytes) turn
 

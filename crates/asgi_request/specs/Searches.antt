@@ -3,8 +3,8 @@
 use Rattle.std.specs.Prelude.{◌≡◌, ℕ, ◌≤◌, List, ◌++◌, length, take, drop, Bool, true, false, Option, Some, None}
 use Rattle.asgi_request.specs.declared.place.Place.{Place}
 use Rattle.asgi_request.specs.declared.place.Place.TheVariants.{Start, Counted, SizeLine, Chunk, ChunkEnd, Trailers, BodyEnd, Stopped}
-use Rattle.asgi_request.specs.declared.place.Outcome.{Outcome}
-use Rattle.asgi_request.specs.declared.place.Outcome.TheVariants.{Waits, Silent, Gives}
+use Rattle.asgi_request.specs.declared.place.Advance.{Advance}
+use Rattle.asgi_request.specs.declared.place.Advance.TheVariants.{Waits, Silent, Gives}
 use Rattle.asgi_request.specs.declared.next.Next.{Next}
 use Rattle.asgi_request.specs.declared.next.Next.TheVariants.{Need, Head, Event, Whole, Bad}
 use Rattle.asgi_request.specs.declared.search.Search.{Search}
@@ -67,12 +67,12 @@ pub record Stepped (old new : Reading) (item : Option Next) : Type 0 where
   pub takes : Takes old.limits old.place old.held (record { item = item; place = new.place }) new.held
 
 -- what a turn came to, by its result
-abbrev pub outcome_of : Option Next → Outcome
-outcome_of None = Silent
-outcome_of (Some item) = Gives item
+abbrev pub advance_of : Option Next → Advance
+advance_of None = Silent
+advance_of (Some item) = Gives item
 
 -- one turn, or none where the reader waits
-abbrev pub Steps : Reading → Reading → Outcome → Type 0
+abbrev pub Steps : Reading → Reading → Advance → Type 0
 Steps old new Waits = (new ≡ old) × IsWaiting new
 Steps old new Silent = Stepped old new None
 Steps old new (Gives item) = Stepped old new (Some item)

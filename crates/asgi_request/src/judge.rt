@@ -7,7 +7,7 @@ use crate::framing::framing_or_refusal;
 use crate::head::{HeadRecord, parse_head};
 use crate::next::Next;
 use crate::parts::{is_trailer, parse_size};
-use crate::place::{Place, Turn};
+use crate::place::{Judged, Place};
 use crate::refusal::Refusal;
 use crate::scope::{facts_of, scope_of};
 use asgi_types::{Framing, Incoming, Limits, Octets};
@@ -16,7 +16,12 @@ use std::alloc::{AllocError, Global};
 const CRLF: &[u8] = b"\r\n";
 
 /// What a whole text gives at this place.
-pub fn judge(alloc: Global, limits: &Limits, place: Place, text: &[u8]) -> Result<Turn, AllocError>
+pub fn judge(
+    alloc: Global,
+    limits: &Limits,
+    place: Place,
+    text: &[u8],
+) -> Result<Judged, AllocError>
     requires going { (refusal : Refusal) → place ≢ Place.Stopped refusal }
     requires short { IsShortHead limits.now place text.now }
     ensures { IfOk result (λ turn. JudgesText limits.now place text.now turn) }
@@ -34,7 +39,7 @@ pub fn judge(alloc: Global, limits: &Limits, place: Place, text: &[u8]) -> Resul
 }
 
 /// What bytes without a text within its limit give.
-pub fn after_too_long(place: Place) -> Turn
+pub fn after_too_long(place: Place) -> Judged
     ensures { result ≡ spec.after_too_long place }
 {
     match place {
@@ -43,31 +48,31 @@ pub fn after_too_long(place: Place) -> Turn
     }
 }
 
-fn bad(refusal: Refusal) -> Turn
+fn bad(refusal: Refusal) -> Judged
     ensures { result ≡ spec.bad refusal }
 {
-    Turn {
+    Judged {
         item: Some(Next::Bad(refusal.status())),
         place: Place::Stopped(refusal),
     }
 }
 
-fn silent(place: Place) -> Turn
+fn silent(place: Place) -> Judged
     ensures { result ≡ spec.silent place }
 {
-    Turn { item: None, place }
+    Judged { item: None, place }
 }
 
-fn gives(item: Next, place: Place) -> Turn
+fn gives(item: Next, place: Place) -> Judged
     ensures { result ≡ spec.gives item place }
 {
-    Turn {
+    Judged {
         item: Some(item),
         place,
     }
 }
 
-fn judge_head(alloc: Global, limits: &Limits, text: &[u8]) -> Result<Turn, AllocError>
+fn judge_head(alloc: Global, limits: &Limits, text: &[u8]) -> Result<Judged, AllocError>
     requires { length text.now ≤ limits.now.max_head }
     ensures { IfOk result (λ turn. JudgesText limits.now Place.Start text.now turn) }
 {
@@ -75,7 +80,11 @@ fn judge_head(alloc: Global, limits: &Limits, text: &[u8]) -> Result<Turn, Alloc
     after_head(alloc, limits, found)
 }
 
-fn after_head(alloc: Global, limits: &Limits, found: Option<HeadRecord>) -> Result<Turn, AllocError>
+fn after_head(
+    alloc: Global,
+    limits: &Limits,
+    found: Option<HeadRecord>,
+) -> Result<Judged, AllocError>
     ensures { IfOk result (λ turn. turn ≡ spec.after_head limits.now found) }
 {
     let Some(head) = found else {
@@ -87,7 +96,7 @@ fn after_head(alloc: Global, limits: &Limits, found: Option<HeadRecord>) -> Resu
     }
 }
 
-fn after_framing(alloc: Global, head: HeadRecord, framing: Framing) -> Result<Turn, AllocError>
+fn after_framing(alloc: Global, head: HeadRecord, framing: Framing) -> Result<Judged, AllocError>
     ensures { IfOk result (λ turn. turn ≡ spec.after_framing head (Ok framing)) }
 {
     let facts = facts_of(alloc, &head, framing);
@@ -114,7 +123,7 @@ fn event(alloc: Global, block: &[u8], more_body: bool) -> Result<Next, AllocErro
     Ok(Next::Event(Incoming::HttpRequest { body, more_body }))
 }
 
-fn after_counted(alloc: Global, n: u64, block: &[u8]) -> Result<Turn, AllocError>
+fn after_counted(alloc: Global, n: u64, block: &[u8]) -> Result<Judged, AllocError>
     ensures { IfOk result (λ turn. turn ≡ spec.after_counted n block.now) }
 {
     let taken = block.len() as u64;
@@ -126,7 +135,7 @@ fn after_counted(alloc: Global, n: u64, block: &[u8]) -> Result<Turn, AllocError
     Ok(gives(item, Place::BodyEnd))
 }
 
-fn after_size(max_body: u64, sum: u64, found: Option<u64>) -> Turn
+fn after_size(max_body: u64, sum: u64, found: Option<u64>) -> Judged
     ensures { result ≡ spec.after_size max_body sum found }
 {
     let Some(n) = found else {
@@ -147,7 +156,7 @@ fn after_size(max_body: u64, sum: u64, found: Option<u64>) -> Turn
     })
 }
 
-fn after_chunk(alloc: Global, left: u64, sum: u64, block: &[u8]) -> Result<Turn, AllocError>
+fn after_chunk(alloc: Global, left: u64, sum: u64, block: &[u8]) -> Result<Judged, AllocError>
     ensures { IfOk result (λ turn. turn ≡ spec.after_chunk left sum block.now) }
 {
     let item = event(alloc, block, true)?;
@@ -164,7 +173,7 @@ fn after_chunk(alloc: Global, left: u64, sum: u64, block: &[u8]) -> Result<Turn,
     Ok(gives(item, Place::ChunkEnd(sum)))
 }
 
-fn after_chunk_end(sum: u64, pair: &[u8]) -> Turn
+fn after_chunk_end(sum: u64, pair: &[u8]) -> Judged
     ensures { result ≡ spec.after_chunk_end sum pair.now }
 {
     if pair == CRLF {
@@ -173,7 +182,7 @@ fn after_chunk_end(sum: u64, pair: &[u8]) -> Turn
     bad(Refusal::BadRequest)
 }
 
-fn after_trailers(alloc: Global, ok: bool) -> Turn
+fn after_trailers(alloc: Global, ok: bool) -> Judged
     ensures { result ≡ spec.after_trailers ok }
 {
     if !ok {

@@ -25,7 +25,7 @@ pub enum Place {
 
 /// What one turn of a reader came to.
 #[derive(Drop)]
-pub enum Outcome {
+pub enum Advance {
     /// The next text is not whole.
     Waits,
     /// It gave no result.
@@ -36,7 +36,7 @@ pub enum Outcome {
 
 /// What a text gives, if anything, and what is due behind it.
 #[derive(Drop)]
-pub struct Turn {
+pub struct Judged {
     pub item: Option<Next>,
     pub place: Place,
 }

@@ -10,7 +10,7 @@ ghost use Rattle.asgi_request.specs.Searches.{Answers, RefusesAgain, IsResult, S
 
 use crate::judge::{after_too_long, judge};
 use crate::next::Next;
-use crate::place::{Outcome, Place};
+use crate::place::{Advance, Place};
 use crate::search::{Arrival, NEW_SEARCH, Search, arrive};
 use asgi_types::Limits;
 use std::alloc::{AllocError, Global};
@@ -116,16 +116,16 @@ impl RequestReader {
         }
         loop {
             match self.step()? {
-                Outcome::Waits => return Ok(None),
-                Outcome::Gives(item) => return Ok(Some(item)),
-                Outcome::Silent => {}
+                Advance::Waits => return Ok(None),
+                Advance::Gives(item) => return Ok(Some(item)),
+                Advance::Silent => {}
             }
         }
     }
 
     /// One turn: what the next text gives.
-    fn step(&mut self) -> Result<Outcome, AllocError>
-        ensures steps { IfOk result (λ outcome. Steps self.old self.new outcome) }
+    fn step(&mut self) -> Result<Advance, AllocError>
+        ensures steps { IfOk result (λ advance. Steps self.old self.new advance) }
         ensures err { OnErr result (self.new ≡ self.old) }
     {
         let (arrival, search) = arrive(
@@ -136,12 +136,12 @@ impl RequestReader {
         );
         self.search = search;
         match arrival {
-            Arrival::Partial => Ok(Outcome::Waits),
+            Arrival::Partial => Ok(Advance::Waits),
             Arrival::TooLong => {
                 let turn = after_too_long(self.place);
                 self.place = turn.place;
                 self.search = NEW_SEARCH;
-                Ok(outcome_of(turn.item))
+                Ok(advance_of(turn.item))
             }
             Arrival::Text(n) => {
                 let text = &self.bytes[self.start..self.start + n];
@@ -149,7 +149,7 @@ impl RequestReader {
                 self.start += n;
                 self.place = turn.place;
                 self.search = NEW_SEARCH;
-                Ok(outcome_of(turn.item))
+                Ok(advance_of(turn.item))
             }
         }
     }
@@ -191,12 +191,12 @@ fn drop_front(bytes: &mut Vec<u8>, count: usize)
     let _front = bytes.drain(..count);
 }
 
-/// What a turn came to that has this result, or none.
-fn outcome_of(item: Option<Next>) -> Outcome
-    ensures { result ≡ spec.outcome_of item }
+/// What a turn came to that gave this result, or none.
+fn advance_of(item: Option<Next>) -> Advance
+    ensures { result ≡ spec.advance_of item }
 {
     match item {
-        None => Outcome::Silent,
-        Some(item) => Outcome::Gives(item),
+        None => Advance::Silent,
+        Some(item) => Advance::Gives(item),
     }
 }

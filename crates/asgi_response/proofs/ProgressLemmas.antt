@@ -1,4 +1,4 @@
--- The stage of a text tells how far the response is.
+-- The phase of a text tells how far the response is.
 use Rattle.std.proofs.Common.{◌≡◌, ℕ, Bool, true, false, List, [], ◌∷◌, ◌++◌, map, refl, sym, ap, ◌∙◌}
 use Rattle.std.specs.Prelude.{if◌then◌else◌}
 use Rattle.asgi_types.specs.Fields.{HeaderField}
@@ -10,12 +10,12 @@ use Rattle.asgi_protocol.specs.Shapes.{is_closed}
 use Rattle.asgi_response.specs.declared.progress.Progress.{Progress}
 use Rattle.asgi_response.specs.declared.progress.Progress.TheVariants as progress
 use Rattle.asgi_response.specs.declared.text.ResponseText.{ResponseText}
-use Rattle.asgi_response.specs.declared.text.Stage.{Stage}
-use Rattle.asgi_response.specs.declared.text.Stage.TheVariants.{Waiting, Started, Begun, Complete}
+use Rattle.asgi_response.specs.declared.text.Phase.{Phase}
+use Rattle.asgi_response.specs.declared.text.Phase.TheVariants.{Waiting, Started, Begun, Complete}
 use Rattle.asgi_response.specs.Accepted.{accepted}
 use Rattle.asgi_response.specs.Exchange.{has_begun}
 use Rattle.asgi_response.specs.Progress.{closes_behind, progress_in, progress_of}
-use Rattle.asgi_response.specs.Standing.{part, IsStage, StandsFor}
+use Rattle.asgi_response.specs.Standing.{part, IsPhase, StandsFor}
 use Rattle.asgi_response.specs.Steps.{progress_at}
 use Rattle.asgi_response.proofs.AcceptedLemmas.{is_row-open, is_row-closed}
 
@@ -40,16 +40,16 @@ start_and_parts facts status headers front last =
     let said : List Outgoing = ResponseStart status headers ∷ map part (front ++ last ∷ []) in
     begun_in (is_closed Http said) (has_begun said) (closes_behind facts said) (is_row-open (front ++ last ∷ [])) (has_body (ResponseStart status headers) front last)
 
-at_stage : (facts : Facts) (said : List Outgoing) (head : List ℕ) (close : Bool) (stage : Stage) → IsStage facts said head stage
-    → close ≡ closes_behind facts said → progress_at stage close ≡ progress_in facts said
-at_stage facts said head close Waiting none e = sym (ap (progress_in facts) none)
-at_stage facts said head close (Started content) h e = sym (ap (progress_in facts) h.is_open.events)
-at_stage facts said head close (Begun content) h e =
+at_phase : (facts : Facts) (said : List Outgoing) (head : List ℕ) (close : Bool) (phase : Phase) → IsPhase facts said head phase
+    → close ≡ closes_behind facts said → progress_at phase close ≡ progress_in facts said
+at_phase facts said head close Waiting none e = sym (ap (progress_in facts) none)
+at_phase facts said head close (Started content) h e = sym (ap (progress_in facts) h.is_open.events)
+at_phase facts said head close (Begun content) h e =
     sym (ap (progress_in facts) h.is_open.events ∙ start_and_parts facts h.status h.headers h.front h.last)
-at_stage facts said head close Complete r e =
+at_phase facts said head close Complete r e =
     ap (λ (b : Bool). let p : Progress = progress.Complete b in p) e
     ∙ sym (complete_in (is_closed Http said) (has_begun said) (closes_behind facts said)
     (ap (λ (s : List Outgoing). is_closed Http s) r.in_order ∙ is_row-closed r.parts r.last))
 
-pub progress_is : (t : ResponseText) (facts : Facts) (events : List Outgoing) → StandsFor t facts events → progress_at t.stage t.close ≡ progress_of facts events
-progress_is t facts events at = at_stage facts (accepted facts events) t.head t.close t.stage at.stage at.close
+pub progress_is : (t : ResponseText) (facts : Facts) (events : List Outgoing) → StandsFor t facts events → progress_at t.phase t.close ≡ progress_of facts events
+progress_is t facts events at = at_phase facts (accepted facts events) t.head t.close t.phase at.phase at.close

@@ -12,8 +12,8 @@ use Rattle.asgi_protocol.specs.Rules.{is_status, is_faulty, promised_length, bod
 use Rattle.asgi_response.specs.declared.content.Coding.{Coding}
 use Rattle.asgi_response.specs.declared.content.Content.{Content}
 use Rattle.asgi_response.specs.declared.text.ResponseText.{ResponseText}
-use Rattle.asgi_response.specs.declared.text.Stage.{Stage}
-use Rattle.asgi_response.specs.declared.text.Stage.TheVariants.{Waiting, Started, Begun, Complete}
+use Rattle.asgi_response.specs.declared.text.Phase.{Phase}
+use Rattle.asgi_response.specs.declared.text.Phase.TheVariants.{Waiting, Started, Begun, Complete}
 use Rattle.asgi_response.specs.Accepted.{passes, with_event, accepted}
 use Rattle.asgi_response.specs.Content.{part_text, has_content}
 use Rattle.asgi_response.specs.Fields.{is_chunked, closes, head_text}
@@ -21,8 +21,8 @@ use Rattle.asgi_response.specs.Progress.{closes_behind}
 use Rattle.asgi_response.specs.Response.{body_text, message_text, continue_text, response_text}
 use Rattle.asgi_types.specs.Room.{LacksRoom}
 use Rattle.asgi_response.specs.Room.{LacksMemory, is_start}
-use Rattle.asgi_response.specs.Standing.{coding_of, part, with_sent, IsOpen, HasStart, HasParts, IsStage, HasAccepted, StandsFor, Grows}
-use Rattle.asgi_response.specs.Steps.{coded_text, is_allowed, left_at_start, content_due, next_stage, may_start, content_at_start, after_part, part_added, after_event, starts, added_by}
+use Rattle.asgi_response.specs.Standing.{coding_of, part, with_sent, IsOpen, HasStart, HasParts, IsPhase, HasAccepted, StandsFor, Grows}
+use Rattle.asgi_response.specs.Steps.{coded_text, is_allowed, left_at_start, content_due, next_phase, may_start, content_at_start, after_part, part_added, after_event, starts, added_by}
 use Rattle.asgi_response.proofs.AcceptedLemmas.{passes_body, second_start, after_closed, first_start, first_body, other_scope, accepted-push, promised_behind}
 
 -- ---- an event that passes or not
@@ -52,14 +52,14 @@ closes_first : (t : ResponseText) (facts : Facts) (said : List Outgoing) → Has
 closes_first t facts said at none = at.close ∙ ap (closes_behind facts) none
 
 started : (t : ResponseText) (facts : Facts) (said : List Outgoing) (status : ℕ) (headers : List HeaderField) → HasAccepted t facts said → said ≡ []
-    → HasAccepted (record t { stage = Started (content_at_start t.version t.head_only status headers); head = head_text (is_chunked t.version status headers) (closes t.close headers) status headers; close = closes t.close headers })
+    → HasAccepted (record t { phase = Started (content_at_start t.version t.head_only status headers); head = head_text (is_chunked t.version status headers) (closes t.close headers) status headers; close = closes t.close headers })
     facts (said ++ ResponseStart status headers ∷ [])
 started t facts said status headers at none = record {
   version = at.version;
   head_only = at.head_only;
   close = ap (λ (b : Bool). closes b headers) (closes_first t facts said at none) ∙ sym (ap (λ (s : List Outgoing). closes_behind facts (s ++ ResponseStart status headers ∷ [])) none);
   expect = at.expect;
-  stage = record {
+  phase = record {
     status = status;
     headers = headers;
     is_open = record {
@@ -77,9 +77,9 @@ started t facts said status headers at none = record {
 }
 
 start_step : (t : ResponseText) (facts : Facts) (said : List Outgoing) (status : ℕ) (headers : List HeaderField) → HasAccepted t facts said
-    → (stage : Stage) → IsStage facts said t.head stage
-    → HasAccepted (if may_start stage status (is_faulty (content_length headers))
-    then record t { stage = Started (content_at_start t.version t.head_only status headers); head = head_text (is_chunked t.version status headers) (closes t.close headers) status headers; close = closes t.close headers } else t)
+    → (phase : Phase) → IsPhase facts said t.head phase
+    → HasAccepted (if may_start phase status (is_faulty (content_length headers))
+    then record t { phase = Started (content_at_start t.version t.head_only status headers); head = head_text (is_chunked t.version status headers) (closes t.close headers) status headers; close = closes t.close headers } else t)
     facts (with_event facts said (ResponseStart status headers))
 start_step t facts said status headers at Waiting none =
     choose (λ u s. HasAccepted u facts s) (is_status status && not (is_faulty (content_length headers))) (passes facts said (ResponseStart status headers)) t _ said _
@@ -100,7 +100,7 @@ events_behind said status headers parts body e =
 
 next_is : (facts : Facts) (said : List Outgoing) (status : ℕ) (headers : List HeaderField) (parts : List (List ℕ)) (content : Content) (body : List ℕ) (more : Bool)
     → IsOpen facts said status headers parts content → is_allowed content.left (length body) more ≡ true
-    → IsStage facts (said ++ ResponseBody body more ∷ []) [] (next_stage content (length body) more)
+    → IsPhase facts (said ++ ResponseBody body more ∷ []) [] (next_phase content (length body) more)
 next_is facts said status headers parts content body true o fits = record {
   status = status;
   headers = headers;
@@ -131,14 +131,14 @@ open_step : (t : ResponseText) (facts : Facts) (said : List Outgoing) (status : 
     → HasAccepted (after_part t (Some content) body more) facts (with_event facts said (ResponseBody body more))
 open_step t facts said status headers parts content body more at o =
     choose (λ u s. HasAccepted u facts s) (is_allowed content.left (length body) more) (passes facts said (ResponseBody body more)) t
-    (record t { stage = next_stage content (length body) more; head = [] }) said (said ++ ResponseBody body more ∷ [])
+    (record t { phase = next_phase content (length body) more; head = [] }) said (said ++ ResponseBody body more ∷ [])
     (passes_body facts said status headers parts content.left body more o.events o.left)
-    (λ fits. record { version = at.version; head_only = at.head_only; close = at.close ∙ closes_on facts said status headers parts body more o.events; expect = at.expect; stage = next_is facts said status headers parts content body more o fits })
+    (λ fits. record { version = at.version; head_only = at.head_only; close = at.close ∙ closes_on facts said status headers parts body more o.events; expect = at.expect; phase = next_is facts said status headers parts content body more o fits })
     at
 
 body_step : (t : ResponseText) (facts : Facts) (said : List Outgoing) (body : List ℕ) (more : Bool) → HasAccepted t facts said
-    → (stage : Stage) → IsStage facts said t.head stage
-    → HasAccepted (after_part t (content_due stage) body more) facts (with_event facts said (ResponseBody body more))
+    → (phase : Phase) → IsPhase facts said t.head phase
+    → HasAccepted (after_part t (content_due phase) body more) facts (with_event facts said (ResponseBody body more))
 body_step t facts said body more at Waiting none = keeps t facts said (ResponseBody body more) at (first_body facts said body more none)
 body_step t facts said body more at (Started content) h = open_step t facts said h.status h.headers [] content body more at h.is_open
 body_step t facts said body more at (Begun content) h = open_step t facts said h.status h.headers (h.front ++ h.last ∷ []) content body more at h.is_open
@@ -148,8 +148,8 @@ body_step t facts said body more at Complete r = keeps t facts said (ResponseBod
 
 event_step : (t : ResponseText) (facts : Facts) (said : List Outgoing) (event : Outgoing) → HasAccepted t facts said
     → HasAccepted (after_event t event) facts (with_event facts said event)
-event_step t facts said (ResponseStart status headers) at = start_step t facts said status headers at t.stage at.stage
-event_step t facts said (ResponseBody body more) at = body_step t facts said body more at t.stage at.stage
+event_step t facts said (ResponseStart status headers) at = start_step t facts said status headers at t.phase at.phase
+event_step t facts said (ResponseBody body more) at = body_step t facts said body more at t.phase at.phase
 event_step t facts said (WsAccept a b) at = keeps t facts said (WsAccept a b) at (other_scope facts said (WsAccept a b) refl)
 event_step t facts said (WsSend a) at = keeps t facts said (WsSend a) at (other_scope facts said (WsSend a) refl)
 event_step t facts said (WsClose a b) at = keeps t facts said (WsClose a b) at (other_scope facts said (WsClose a b) refl)
@@ -228,8 +228,8 @@ later_part facts said content head body more h =
     ∙ ap (λ (x : List ℕ). message_text facts said ++ x) (body_coded facts h.status h.headers content.coding body more h.is_open.coding)
     ∙ ap (λ (x : List ℕ). message_text facts said ++ (x ++ coded_text content.coding body more)) (sym h.written)
 
-body_adds : (facts : Facts) (said : List Outgoing) (head body : List ℕ) (more : Bool) (stage : Stage) → IsStage facts said head stage
-    → message_text facts (with_event facts said (ResponseBody body more)) ≡ message_text facts said ++ part_added head (content_due stage) body more
+body_adds : (facts : Facts) (said : List Outgoing) (head body : List ℕ) (more : Bool) (phase : Phase) → IsPhase facts said head phase
+    → message_text facts (with_event facts said (ResponseBody body more)) ≡ message_text facts said ++ part_added head (content_due phase) body more
 body_adds facts said head body more Waiting none = nothing_added facts said (ResponseBody body more) (first_body facts said body more none)
 body_adds facts said head body more (Started content) h =
     choose_text (is_allowed content.left (length body) more) (passes facts said (ResponseBody body more)) said (said ++ ResponseBody body more ∷ []) facts (head ++ coded_text content.coding body more)
@@ -246,7 +246,7 @@ start_alone facts said status headers true none =
     ap (λ (s : List Outgoing). message_text facts (s ++ ResponseStart status headers ∷ [])) none ∙ sym (ap (λ (s : List Outgoing). message_text facts s ++ []) none)
 start_alone facts said status headers false none = sym (append-nil (message_text facts said))
 
-start_adds : (facts : Facts) (said : List Outgoing) (head : List ℕ) (status : ℕ) (headers : List HeaderField) (stage : Stage) → IsStage facts said head stage
+start_adds : (facts : Facts) (said : List Outgoing) (head : List ℕ) (status : ℕ) (headers : List HeaderField) (phase : Phase) → IsPhase facts said head phase
     → message_text facts (with_event facts said (ResponseStart status headers)) ≡ message_text facts said ++ []
 start_adds facts said head status headers Waiting none = start_alone facts said status headers (passes facts said (ResponseStart status headers)) none
 start_adds facts said head status headers (Started content) h =
@@ -257,8 +257,8 @@ start_adds facts said head status headers Complete r = nothing_added facts said 
 
 event_adds : (t : ResponseText) (facts : Facts) (said : List Outgoing) (event : Outgoing) → HasAccepted t facts said
     → message_text facts (with_event facts said event) ≡ message_text facts said ++ added_by t event
-event_adds t facts said (ResponseStart status headers) at = start_adds facts said t.head status headers t.stage at.stage
-event_adds t facts said (ResponseBody body more) at = body_adds facts said t.head body more t.stage at.stage
+event_adds t facts said (ResponseStart status headers) at = start_adds facts said t.head status headers t.phase at.phase
+event_adds t facts said (ResponseBody body more) at = body_adds facts said t.head body more t.phase at.phase
 event_adds t facts said (WsAccept a b) at = nothing_added facts said (WsAccept a b) (other_scope facts said (WsAccept a b) refl)
 event_adds t facts said (WsSend a) at = nothing_added facts said (WsSend a) (other_scope facts said (WsSend a) refl)
 event_adds t facts said (WsClose a b) at = nothing_added facts said (WsClose a b) (other_scope facts said (WsClose a b) refl)
@@ -282,8 +282,8 @@ pub grows_behind : (t : ResponseText) (facts : Facts) (events : List Outgoing) (
 grows_behind t facts events event old new e at = record { added = added_by t event; text = text_behind t facts events event at; output = e }
 
 -- where a text starts, the start is lawful
-first_passes : (facts : Facts) (said : List Outgoing) (head : List ℕ) (status : ℕ) (headers : List HeaderField) (stage : Stage) → IsStage facts said head stage
-    → IsTrue (may_start stage status (is_faulty (content_length headers))) → IsTrue (passes facts said (ResponseStart status headers))
+first_passes : (facts : Facts) (said : List Outgoing) (head : List ℕ) (status : ℕ) (headers : List HeaderField) (phase : Phase) → IsPhase facts said head phase
+    → IsTrue (may_start phase status (is_faulty (content_length headers))) → IsTrue (passes facts said (ResponseStart status headers))
 first_passes facts said head status headers Waiting none h = first_start facts said status headers none ∙ h
 first_passes facts said head status headers (Started content) at h = cc
 first_passes facts said head status headers (Begun content) at h = cc
@@ -291,7 +291,7 @@ first_passes facts said head status headers Complete at h = cc
 
 start_passes : (t : ResponseText) (facts : Facts) (said : List Outgoing) (event : Outgoing) → HasAccepted t facts said → IsTrue (starts t event)
     → IsTrue (is_start event && passes facts said event)
-start_passes t facts said (ResponseStart status headers) at h = first_passes facts said t.head status headers t.stage at.stage h
+start_passes t facts said (ResponseStart status headers) at h = first_passes facts said t.head status headers t.phase at.phase h
 start_passes t facts said (ResponseBody a b) at h = cc
 start_passes t facts said (WsAccept a b) at h = cc
 start_passes t facts said (WsSend a) at h = cc

@@ -30,14 +30,14 @@ has_begun _ = false
 
 -- the answer in place of a response that never began: to a whole request, to one whose body is faulty, to one that
 -- was broken off
-abbrev pub answer_to : Input → List ℕ
-answer_to Whole = refusal_text 500
-answer_to (Faulty status) = refusal_text status
-answer_to Broken = []
+abbrev pub replacement_text : Input → List ℕ
+replacement_text Whole = refusal_text 500
+replacement_text (Faulty status) = refusal_text status
+replacement_text Broken = []
 
 -- what the end of the task adds; a response that has begun is left as it is
 abbrev pub end_text : Facts → List Outgoing → Input → List ℕ
-end_text facts events input = if has_begun (accepted facts events) then [] else answer_to input
+end_text facts events input = if has_begun (accepted facts events) then [] else replacement_text input
 
 abbrev pub exchange_text : Facts → List Outgoing → Input → List ℕ
 exchange_text facts events input = response_text facts events ++ end_text facts events input

@@ -10,8 +10,8 @@ use Rattle.asgi_response.specs.declared.text.ResponseText.{ResponseText}
 use Rattle.asgi_response.specs.declared.content.Coding.{Coding}
 use Rattle.asgi_response.specs.declared.content.Coding.TheVariants.{Nothing, Plain, Chunked}
 use Rattle.asgi_response.specs.declared.content.Content.{Content}
-use Rattle.asgi_response.specs.declared.text.Stage.{Stage}
-use Rattle.asgi_response.specs.declared.text.Stage.TheVariants.{Waiting, Started, Begun, Complete}
+use Rattle.asgi_response.specs.declared.text.Phase.{Phase}
+use Rattle.asgi_response.specs.declared.text.Phase.TheVariants.{Waiting, Started, Begun, Complete}
 use Rattle.asgi_response.specs.Fields.{is_chunked, closes, head_text}
 use Rattle.asgi_response.specs.Content.{has_content}
 use Rattle.asgi_response.specs.Accepted.{accepted}
@@ -51,12 +51,12 @@ pub record HasParts (facts : Facts) (said : List Outgoing) (content : Content) (
   pub is_open : IsOpen facts said status headers (front ++ last ∷ []) content
   pub written : head ≡ []
 
--- the stage of a response of which these events were accepted
-abbrev pub IsStage : Facts → List Outgoing → List ℕ → Stage → Type 0
-IsStage facts said head Waiting = said ≡ []
-IsStage facts said head (Started content) = HasStart facts said content head
-IsStage facts said head (Begun content) = HasParts facts said content head
-IsStage facts said head Complete = IsResponse said
+-- the phase of a response of which these events were accepted
+abbrev pub IsPhase : Facts → List Outgoing → List ℕ → Phase → Type 0
+IsPhase facts said head Waiting = said ≡ []
+IsPhase facts said head (Started content) = HasStart facts said content head
+IsPhase facts said head (Begun content) = HasParts facts said content head
+IsPhase facts said head Complete = IsResponse said
 
 -- the text has accepted these events
 pub record HasAccepted (text : ResponseText) (facts : Facts) (said : List Outgoing) : Type 0 where
@@ -64,7 +64,7 @@ pub record HasAccepted (text : ResponseText) (facts : Facts) (said : List Outgoi
   pub head_only : text.head_only ≡ facts.head_only
   pub close : text.close ≡ closes_behind facts said
   pub expect : text.expect ≡ facts.expect
-  pub stage : IsStage facts said text.head text.stage
+  pub phase : IsPhase facts said text.head text.phase
 
 -- the text has taken these events
 abbrev pub StandsFor : ResponseText → Facts → List Outgoing → Type 0

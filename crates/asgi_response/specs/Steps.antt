@@ -13,8 +13,8 @@ use Rattle.asgi_response.specs.declared.content.Content.{Content}
 use Rattle.asgi_response.specs.declared.progress.Progress.{Progress}
 use Rattle.asgi_response.specs.declared.progress.Progress.TheVariants as progress
 use Rattle.asgi_response.specs.declared.text.ResponseText.{ResponseText}
-use Rattle.asgi_response.specs.declared.text.Stage.{Stage}
-use Rattle.asgi_response.specs.declared.text.Stage.TheVariants.{Waiting, Started, Begun, Complete}
+use Rattle.asgi_response.specs.declared.text.Phase.{Phase}
+use Rattle.asgi_response.specs.declared.text.Phase.TheVariants.{Waiting, Started, Begun, Complete}
 use Rattle.asgi_response.specs.Fields.{is_chunked, closes, head_text}
 use Rattle.asgi_response.specs.Content.{has_content, part_text}
 use Rattle.asgi_response.specs.Standing.{coding_of}
@@ -43,30 +43,30 @@ left_at_start head_only status length = if head_only then None else promised_at 
 
 -- ---- of the text
 
-abbrev pub is_waiting : Stage → Bool
+abbrev pub is_waiting : Phase → Bool
 is_waiting Waiting = true
 is_waiting (Started content) = false
 is_waiting (Begun content) = false
 is_waiting Complete = false
 
-abbrev pub is_begun : Stage → Bool
+abbrev pub is_begun : Phase → Bool
 is_begun Waiting = false
 is_begun (Started content) = false
 is_begun (Begun content) = true
 is_begun Complete = true
 
 -- what may follow, where a body may
-abbrev pub content_due : Stage → Option Content
+abbrev pub content_due : Phase → Option Content
 content_due Waiting = None
 content_due (Started content) = Some content
 content_due (Begun content) = Some content
 content_due Complete = None
 
-abbrev pub next_stage : Content → ℕ → Bool → Stage
-next_stage content n more_body = if more_body then Begun (record content { left = left_behind content.left n }) else Complete
+abbrev pub next_phase : Content → ℕ → Bool → Phase
+next_phase content n more_body = if more_body then Begun (record content { left = left_behind content.left n }) else Complete
 
-abbrev pub may_start : Stage → ℕ → Bool → Bool
-may_start stage status faulty = is_waiting stage && is_status status && not faulty
+abbrev pub may_start : Phase → ℕ → Bool → Bool
+may_start phase status faulty = is_waiting phase && is_status status && not faulty
 
 abbrev pub content_at_start : HttpVersion → Bool → ℕ → List HeaderField → Content
 content_at_start version head_only status headers = record {
@@ -76,9 +76,9 @@ content_at_start version head_only status headers = record {
 
 abbrev pub after_start : ResponseText → ℕ → List HeaderField → ResponseText
 after_start text status headers =
-    if may_start text.stage status (is_faulty (content_length headers))
+    if may_start text.phase status (is_faulty (content_length headers))
     then record text {
-      stage = Started (content_at_start text.version text.head_only status headers);
+      phase = Started (content_at_start text.version text.head_only status headers);
       head = head_text (is_chunked text.version status headers) (closes text.close headers) status headers;
       close = closes text.close headers;
     } else text
@@ -87,14 +87,14 @@ abbrev pub after_part : ResponseText → Option Content → List ℕ → Bool �
 after_part text None body more_body = text
 after_part text (Some content) body more_body =
     if is_allowed content.left (length body) more_body
-    then record text { stage = next_stage content (length body) more_body; head = [] } else text
+    then record text { phase = next_phase content (length body) more_body; head = [] } else text
 
 abbrev pub part_added : List ℕ → Option Content → List ℕ → Bool → List ℕ
 part_added head None body more_body = []
 part_added head (Some content) body more_body =
     if is_allowed content.left (length body) more_body then head ++ coded_text content.coding body more_body else []
 
-abbrev pub progress_at : Stage → Bool → Progress
+abbrev pub progress_at : Phase → Bool → Progress
 progress_at Waiting close = progress.Nothing
 progress_at (Started content) close = progress.Nothing
 progress_at (Begun content) close = progress.Begun
@@ -103,15 +103,15 @@ progress_at Complete close = progress.Complete close
 -- the text behind an event
 abbrev pub after_event : ResponseText → Outgoing → ResponseText
 after_event text (ResponseStart status headers) = after_start text status headers
-after_event text (ResponseBody body more_body) = after_part text (content_due text.stage) body more_body
+after_event text (ResponseBody body more_body) = after_part text (content_due text.phase) body more_body
 after_event text _ = text
 
 -- the event is a start that the text takes
 abbrev pub starts : ResponseText → Outgoing → Bool
-starts text (ResponseStart status headers) = may_start text.stage status (is_faulty (content_length headers))
+starts text (ResponseStart status headers) = may_start text.phase status (is_faulty (content_length headers))
 starts text _ = false
 
 -- what it added to the output
 abbrev pub added_by : ResponseText → Outgoing → List ℕ
-added_by text (ResponseBody body more_body) = part_added text.head (content_due text.stage) body more_body
+added_by text (ResponseBody body more_body) = part_added text.head (content_due text.phase) body more_body
 added_by text _ = []

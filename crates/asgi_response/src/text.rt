@@ -31,7 +31,7 @@ const LAST_CHUNK: &[u8] = b"0\r\n\r\n";
 
 /// How far a response is.
 #[derive(Clone, Copy, Debug, PartialEq, Eq)]
-pub enum Stage {
+pub enum Phase {
     /// There is no start.
     Waiting,
     /// There is a start alone: its head is written with the first body.
@@ -51,7 +51,7 @@ pub struct ResponseText {
     // Whether the connection closes behind the response: for the request, or because the start says so.
     close: bool,
     expect: bool,
-    stage: Stage,
+    phase: Phase,
     // The head of a response that has started, until it is written.
     head: Octets,
 }
@@ -72,7 +72,7 @@ impl ResponseText {
             head_only: facts.head_only,
             close: facts.close,
             expect: facts.expect,
-            stage: Stage::Waiting,
+            phase: Phase::Waiting,
             head: Octets::new(Vec::new(alloc)),
         }
     }
@@ -114,7 +114,7 @@ impl ResponseText {
         ensures full { OnErr result ((facts : Facts) (events : List Outgoing) → StandsFor self.now facts events
             → LacksRoom (vec_capacity out.old) (vec_len out.old) (end_text facts events input)) }
     {
-        if self.stage.is_begun() {
+        if self.phase.is_begun() {
             return Ok(());
         }
         append_answer(input, out)
@@ -124,7 +124,7 @@ impl ResponseText {
     pub fn progress(&self) -> Progress
         ensures { (facts : Facts) (events : List Outgoing) → StandsFor self.now facts events → result ≡ progress_of facts events }
     {
-        self.stage.progress(self.close)
+        self.phase.progress(self.close)
     }
 }
 
@@ -149,10 +149,10 @@ impl ResponseText {
     fn take_start(&mut self, status: u16, headers: &Headers) -> Result<(), AllocError>
         ensures ok { OnOk result (self.new ≡ steps.after_start self.old status headers.now) }
         ensures err { OnErr result (self.new ≡ self.old) }
-        ensures full { OnErr result (IsTrue (steps.may_start self.old.stage status (is_faulty (content_length headers.now)))) }
+        ensures full { OnErr result (IsTrue (steps.may_start self.old.phase status (is_faulty (content_length headers.now)))) }
     {
         let length = ContentLength::of(headers);
-        if !may_start(self.stage, status, length) {
+        if !may_start(self.phase, status, length) {
             return Ok(());
         }
         let chunked = is_chunked(self.version, status, length);
@@ -160,7 +160,7 @@ impl ResponseText {
         let head = head_text(self.alloc, chunked, closing, status, headers)?;
         self.head = head;
         self.close = closing;
-        self.stage = Stage::Started(content_at_start(self.head_only, status, chunked, length));
+        self.phase = Phase::Started(content_at_start(self.head_only, status, chunked, length));
         Ok(())
     }
 
@@ -171,32 +171,32 @@ impl ResponseText {
         more_body: bool,
         out: &mut Vec<u8>,
     ) -> Result<(), AllocError>
-        ensures ok { OnOk result (self.new ≡ steps.after_part self.old (steps.content_due self.old.stage) body.now more_body) }
-        ensures text { OnOk result (out.new.items ≡ out.old.items ++ steps.part_added self.old.head (steps.content_due self.old.stage) body.now more_body) }
+        ensures ok { OnOk result (self.new ≡ steps.after_part self.old (steps.content_due self.old.phase) body.now more_body) }
+        ensures text { OnOk result (out.new.items ≡ out.old.items ++ steps.part_added self.old.head (steps.content_due self.old.phase) body.now more_body) }
         ensures err { OnErr result ((self.new ≡ self.old) × (out.new.items ≡ out.old.items)) }
-        ensures full { OnErr result (LacksRoom (vec_capacity out.old) (vec_len out.old) (steps.part_added self.old.head (steps.content_due self.old.stage) body.now more_body)) }
+        ensures full { OnErr result (LacksRoom (vec_capacity out.old) (vec_len out.old) (steps.part_added self.old.head (steps.content_due self.old.phase) body.now more_body)) }
     {
-        let Some(content) = self.stage.content_due() else {
+        let Some(content) = self.phase.content_due() else {
             return Ok(());
         };
         if !content.allows(body.len(), more_body) {
             return Ok(());
         }
         append_part(self.head.bytes(), content.coding, body, more_body, out)?;
-        self.stage = next_stage(content, body.len(), more_body);
+        self.phase = next_phase(content, body.len(), more_body);
         self.head = Octets::new(Vec::new(self.alloc));
         Ok(())
     }
 }
 
-impl Stage {
+impl Phase {
     /// Whether a body was taken.
     fn is_begun(self) -> bool
         ensures { result ≡ steps.is_begun self }
     {
         match self {
-            Stage::Waiting | Stage::Started(_) => false,
-            Stage::Begun(_) | Stage::Complete => true,
+            Phase::Waiting | Phase::Started(_) => false,
+            Phase::Begun(_) | Phase::Complete => true,
         }
     }
 
@@ -205,8 +205,8 @@ impl Stage {
         ensures { result ≡ steps.content_due self }
     {
         match self {
-            Stage::Waiting | Stage::Complete => None,
-            Stage::Started(content) | Stage::Begun(content) => Some(content),
+            Phase::Waiting | Phase::Complete => None,
+            Phase::Started(content) | Phase::Begun(content) => Some(content),
         }
     }
 
@@ -215,18 +215,18 @@ impl Stage {
         ensures { result ≡ steps.progress_at self closes }
     {
         match self {
-            Stage::Waiting | Stage::Started(_) => Progress::Nothing,
-            Stage::Begun(_) => Progress::Begun,
-            Stage::Complete => Progress::Complete { closes },
+            Phase::Waiting | Phase::Started(_) => Progress::Nothing,
+            Phase::Begun(_) => Progress::Begun,
+            Phase::Complete => Progress::Complete { closes },
         }
     }
 }
 
 /// Whether a start is lawful here.
-fn may_start(stage: Stage, status: u16, length: ContentLength) -> bool
-    ensures { result ≡ steps.may_start stage status (is_faulty length) }
+fn may_start(phase: Phase, status: u16, length: ContentLength) -> bool
+    ensures { result ≡ steps.may_start phase status (is_faulty length) }
 {
-    stage == Stage::Waiting && 200 <= status && status <= 599 && !length.is_faulty()
+    phase == Phase::Waiting && 200 <= status && status <= 599 && !length.is_faulty()
 }
 
 /// Whether the content is chunked.
@@ -263,13 +263,13 @@ fn coding_of(chunked: bool) -> Coding
     Coding::Plain
 }
 
-fn next_stage(content: Content, len: usize, more_body: bool) -> Stage
-    ensures { result ≡ steps.next_stage content len more_body }
+fn next_phase(content: Content, len: usize, more_body: bool) -> Phase
+    ensures { result ≡ steps.next_phase content len more_body }
 {
     if more_body {
-        return Stage::Begun(content.behind(len));
+        return Phase::Begun(content.behind(len));
     }
-    Stage::Complete
+    Phase::Complete
 }
 
 /// Appends the front and then the text of a body. On an error the vector is as before.
@@ -347,9 +347,9 @@ fn last_chunk(more_body: bool) -> &'static [u8]
 
 /// Appends the answer in place of a response that never began.
 fn append_answer(input: Input, out: &mut Vec<u8>) -> Result<(), AllocError>
-    ensures ok { OnOk result (out.new.items ≡ out.old.items ++ exchange.answer_to input) }
+    ensures ok { OnOk result (out.new.items ≡ out.old.items ++ exchange.replacement_text input) }
     ensures err { OnErr result (out.new.items ≡ out.old.items) }
-    ensures full { OnErr result (LacksRoom (vec_capacity out.old) (vec_len out.old) (exchange.answer_to input)) }
+    ensures full { OnErr result (LacksRoom (vec_capacity out.old) (vec_len out.old) (exchange.replacement_text input)) }
 {
     match input {
         Input::Whole => append_refusal(500, out),

@@ -1,5 +1,5 @@
 pub mod FieldLemmas
 pub mod LengthLemmas
-pub mod PlaceLemmas
+pub mod SpanLemmas
 pub mod ReasonLemmas
 pub mod StateLemmas

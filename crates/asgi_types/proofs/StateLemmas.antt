@@ -7,7 +7,7 @@ use Rattle.std.proofs.lemmas.Slice.Eq.{bytes_eq-Decides}
 use Rattle.asgi_types.specs.declared.state.StateValue.{StateValue}
 use Rattle.asgi_types.specs.States.{value_of, with_value, EachNameOnce}
 use Rattle.std.proofs.lemmas.Option.{slice_get_read}
-use Rattle.asgi_types.specs.StatePlaces.{IsValueAt, IsReplaced}
+use Rattle.asgi_types.specs.StateEntries.{IsValueAt, IsReplaced}
 
 abbrev Entries : Type 0
 Entries = List (List ℕ × StateValue)

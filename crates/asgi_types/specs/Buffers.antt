@@ -1,4 +1,4 @@
--- The text of a buffer gives the buffer back.
+-- Words of private functions, which state no promise: the text of a buffer gives the buffer back.
 use Rattle.std.specs.Prelude.{◌≡◌, ℕ, ◌-◌, ◌≤◌, List, ◌++◌, length, take, replicate}
 use Rattle.std.proofs.Common.{ap, ◌∙◌, sym, subst, length-take-le, take-append-drop}
 use Rattle.asgi_types.specs.declared.reason.Reason.TheInside.{Inside}

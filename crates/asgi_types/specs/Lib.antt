@@ -1,12 +1,12 @@
 pub mod Buffers
 pub mod Fields
 pub mod Lengths
-pub mod Places
+pub mod Spans
 pub mod Ranges
 pub mod Reasons
 pub mod Room
 pub mod Scopes
-pub mod StatePlaces
+pub mod StateEntries
 pub mod States
 pub mod Tokens
 pub mod Versions

@@ -6,7 +6,7 @@ ghost use Rattle.http_header.specs.FieldValue.{IsFieldValue};
 ghost use Rattle.std.specs.Iterator.{YieldsFirstBy, item_count};
 ghost use Rattle.http_header.specs.Token.{lowercase};
 ghost use Rattle.asgi_types.specs.Fields.{HeaderField, IsValidField, field_of, shown};
-ghost use Rattle.asgi_types.specs.Places.{field_at, place_behind, IsPlaceIn};
+ghost use Rattle.asgi_types.specs.Spans.{field_at, span_behind, IsSpanIn};
 
 use http_header::is_token;
 use std::alloc::{AllocError, Global};
@@ -29,7 +29,7 @@ pub enum HeaderError {
 
 /// Where a field stands in the text: its name in `start..middle`, its value in `middle..end`.
 #[derive(Clone, Copy, Debug)]
-pub struct Place {
+pub struct Span {
     start: usize,
     middle: usize,
     end: usize,
@@ -39,19 +39,19 @@ pub struct Place {
 #[derive(Debug, Drop)]
 pub struct Headers {
     text: Vec<u8>,
-    places: Vec<Place>,
+    spans: Vec<Span>,
 }
 
 impl Model for Headers {
     ghost use Rattle.std.specs.Prelude.{List, map};
     ghost use Rattle.asgi_types.specs.Fields.{HeaderField};
-    ghost use Rattle.asgi_types.specs.Places.{field_at, HoldsFields};
+    ghost use Rattle.asgi_types.specs.Spans.{field_at, HoldsFields};
 
     ghost Value = { List HeaderField };
 
-    ghost view = { λ h. map (field_at h.text.items) h.places.items };
+    ghost view = { λ h. map (field_at h.text.items) h.spans.items };
 
-    ghost invariant = { λ h. HoldsFields h.text.items h.places.items };
+    ghost invariant = { λ h. HoldsFields h.text.items h.spans.items };
 }
 
 impl Headers {
@@ -61,7 +61,7 @@ impl Headers {
     {
         Headers {
             text: Vec::new(alloc),
-            places: Vec::new(alloc),
+            spans: Vec::new(alloc),
         }
     }
 
@@ -82,7 +82,7 @@ impl Headers {
         if !is_field_value(value) {
             return Err(HeaderError::BadValue);
         }
-        if let Err(e) = append(&mut self.text, &mut self.places, name, value) {
+        if let Err(e) = append(&mut self.text, &mut self.spans, name, value) {
             return Err(HeaderError::NoMemory(e));
         }
         Ok(())
@@ -92,14 +92,14 @@ impl Headers {
     pub fn len(&self) -> usize
         ensures { result ≡ length self.now }
     {
-        self.places.len()
+        self.spans.len()
     }
 
     /// Whether no field was added.
     pub fn is_empty(&self) -> bool
         ensures { IsTrue result ↔ (self.now ≡ []) }
     {
-        self.places.is_empty()
+        self.spans.is_empty()
     }
 
     /// The name and the value of the field at the index.
@@ -107,8 +107,8 @@ impl Headers {
         ensures missing { IsNone result ↔ (length self.now ≤ index) }
         ensures found { IfSome result (λ field. slice_get self.now index ≡ Some (shown field)) }
     {
-        let place = self.places.get(index)?;
-        Some((place.name(&self.text), place.value(&self.text)))
+        let span = self.spans.get(index)?;
+        Some((span.name(&self.text), span.value(&self.text)))
     }
 
     /// The fields in their order, each as its name and its value.
@@ -117,7 +117,7 @@ impl Headers {
     {
         Fields {
             text: self.text.as_slice(),
-            places: self.places.as_slice(),
+            spans: self.spans.as_slice(),
         }
     }
 
@@ -137,39 +137,39 @@ impl Headers {
             return Ok(Headers::new(alloc));
         }
         let text = Vec::from_slice(alloc, self.text.as_slice())?;
-        let places = Vec::from_slice(alloc, self.places.as_slice())?;
-        Ok(Headers { text, places })
+        let spans = Vec::from_slice(alloc, self.spans.as_slice())?;
+        Ok(Headers { text, spans })
     }
 }
 
-impl Place {
+impl Span {
     fn name(self, text: &[u8]) -> &[u8]
-        requires { IsPlaceIn (length text.now) self }
+        requires { IsSpanIn (length text.now) self }
         ensures { result.now ≡ (field_at text.now self).name }
     {
         &text[self.start..self.middle]
     }
 
     fn value(self, text: &[u8]) -> &[u8]
-        requires { IsPlaceIn (length text.now) self }
+        requires { IsSpanIn (length text.now) self }
         ensures { result.now ≡ (field_at text.now self).value }
     {
         &text[self.middle..self.end]
     }
 }
 
-/// Appends the name in lower case and the value, and their place. On an error both are as before.
+/// Appends the name in lower case and the value, and their span. On an error both are as before.
 fn append(
     text: &mut Vec<u8>,
-    places: &mut Vec<Place>,
+    spans: &mut Vec<Span>,
     name: &[u8],
     value: &[u8],
 ) -> Result<(), AllocError>
     ensures text { OnOk result (text.new.items ≡ text.old.items ++ (lowercase name.now ++ value.now)) }
-    ensures places { OnOk result (places.new.items ≡ places.old.items ++ place_behind (length text.old.items) name.now value.now ∷ []) }
-    ensures err { OnErr result ((text.new.items ≡ text.old.items) × (places.new.items ≡ places.old.items)) }
+    ensures spans { OnOk result (spans.new.items ≡ spans.old.items ++ span_behind (length text.old.items) name.now value.now ∷ []) }
+    ensures err { OnErr result ((text.new.items ≡ text.old.items) × (spans.new.items ≡ spans.old.items)) }
 {
-    places.reserve(1)?;
+    spans.reserve(1)?;
     let start = text.len();
     text.extend_from_slice(name)?;
     text[start..].make_ascii_lowercase();
@@ -179,7 +179,7 @@ fn append(
         return Err(e);
     }
     let end = text.len();
-    places.push_reserved(Place { start, middle, end });
+    spans.push_reserved(Span { start, middle, end });
     Ok(())
 }
 
@@ -203,19 +203,19 @@ fn is_field_value(value: &[u8]) -> bool
 #[derive(Debug, Drop)]
 pub struct Fields<'a> {
     text: &'a [u8],
-    places: &'a [Place],
+    spans: &'a [Span],
 }
 
 impl<'a> Model for Fields<'a> {
     ghost use Rattle.std.specs.Prelude.{List, map, length, All};
     ghost use Rattle.asgi_types.specs.Fields.{HeaderField};
-    ghost use Rattle.asgi_types.specs.Places.{field_at, IsPlaceIn};
+    ghost use Rattle.asgi_types.specs.Spans.{field_at, IsSpanIn};
 
     ghost Value = { List HeaderField };
 
-    ghost view = { λ f. map (field_at f.text.now) f.places.now };
+    ghost view = { λ f. map (field_at f.text.now) f.spans.now };
 
-    ghost invariant = { λ f. All (IsPlaceIn (length f.text.now)) f.places.now };
+    ghost invariant = { λ f. All (IsSpanIn (length f.text.now)) f.spans.now };
 }
 
 impl<'a> Iterator for Fields<'a> {
@@ -226,8 +226,8 @@ impl<'a> Iterator for Fields<'a> {
     ghost remaining = { item_count (λ rest. rest) };
 
     fn next(&mut self) -> Option<(&'a [u8], &'a [u8])> {
-        let (first, rest) = self.places.split_first()?;
-        self.places = rest;
+        let (first, rest) = self.spans.split_first()?;
+        self.spans = rest;
         Some((first.name(self.text), first.value(self.text)))
     }
 }

@@ -3,7 +3,7 @@ ghost use Rattle.std.specs.Prelude.{◌≡◌, ◌≢◌, ◌<◌, ◌≤◌, �
 ghost use Rattle.std.specs.Option.{option_copied};
 ghost use Rattle.std.specs.Result.{IsErrOf};
 ghost use Rattle.asgi_types.specs.States.{value_of, with_value};
-ghost use Rattle.asgi_types.specs.StatePlaces.{IsValueAt, IsReplaced};
+ghost use Rattle.asgi_types.specs.StateEntries.{IsValueAt, IsReplaced};
 
 use crate::{Chars, Octets};
 use std::alloc::{AllocError, Global};

@@ -1,5 +1,5 @@
 //! Failures of a writer, counted.
-use crate::{Answer, Counted, Counts, answer_to};
+use crate::{Answer, Counted, Counts, answer_of};
 use std::io::{self, ErrorKind, Write};
 
 /// Answers each write so.
@@ -36,7 +36,7 @@ fn each_failure_is_counted(rt: HostRuntime) {
         let mut writer = Counted::new(Always { kind, most });
         for _ in 0..2 {
             let wrote = writer.write_some(bytes);
-            assert_eq!(rt; answer_to(&wrote, bytes.len()), answer, "row {row}");
+            assert_eq!(rt; answer_of(&wrote, bytes.len()), answer, "row {row}");
         }
         assert_eq!(rt; writer.failures(), failures, "row {row}");
     }

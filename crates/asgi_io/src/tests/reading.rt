@@ -1,7 +1,7 @@
 //! Reading from a reader that answers as a row says.
 ghost use Rattle.std.specs.Prelude.{◌≤◌, length};
 
-use crate::{Answer, CountedReader, Reads, Turn, answer_to, is_passing};
+use crate::{Answer, CountedReader, Reads, Turn, answer_of, is_passing};
 use std::io::{self, ErrorKind, Read};
 use std::test::Fail;
 
@@ -87,7 +87,7 @@ fn each_call_is_handed_on_and_counted(rt: HostRuntime) -> Result<(), Fail> {
         let mut buf = [0; 4];
         for answer in answers {
             let read = reader.read_some(&mut buf);
-            assert_eq!(rt; answer_to(&read, 4), *answer, "{name}");
+            assert_eq!(rt; answer_of(&read, 4), *answer, "{name}");
         }
         assert_eq!(rt; reader.faults(), faults, "{name}");
     }
@@ -99,7 +99,7 @@ fn bytes_come_as_they_are(rt: HostRuntime) {
     let mut reader = CountedReader::new(b"abc".as_slice());
     let mut buf = [0; 4];
     let read = reader.read_some(&mut buf);
-    assert_eq!(rt; answer_to(&read, 4), Answer::Moved(3));
+    assert_eq!(rt; answer_of(&read, 4), Answer::Moved(3));
     assert_eq!(rt; buf, [b'a', b'b', b'c', 0]);
     assert_eq!(rt; reader.reader.len(), 0);
 }
@@ -131,5 +131,5 @@ fn a_turn_is_that_of_its_call(rt: HostRuntime) {
     for (row, (answer, turn)) in rows.into_iter().enumerate() {
         assert_eq!(rt; answer.turn(), turn, "row {row}");
     }
-    assert_eq!(rt; answer_to(&Ok(0), 0), Answer::Moved(0));
+    assert_eq!(rt; answer_of(&Ok(0), 0), Answer::Moved(0));
 }

@@ -1,7 +1,7 @@
 //! Lifespan: start and stop.
 
 use super::{Heard, PASS, Part, Step, judges, judges_hearing, refused};
-use crate::{Refusal, Verdict};
+use crate::{Verdict, Violation};
 use asgi_types::Kind;
 use std::test::Fail;
 
@@ -64,17 +64,17 @@ fn what_is_heard_is_no_disconnect(rt: HostRuntime) -> Result<(), Fail> {
 #[test]
 fn refusals_are_numbered_from_1_to_11(rt: HostRuntime) {
     let cases = [
-        (Refusal::Closed, 1),
-        (Refusal::Disconnected, 2),
-        (Refusal::WrongScope, 3),
-        (Refusal::OutOfOrder, 4),
-        (Refusal::BadStatus, 5),
-        (Refusal::BadHeader, 6),
-        (Refusal::BadCode, 7),
-        (Refusal::BadReason, 8),
-        (Refusal::BadSubprotocol, 9),
-        (Refusal::TooMuchBody, 10),
-        (Refusal::TooLittleBody, 11),
+        (Violation::Closed, 1),
+        (Violation::Disconnected, 2),
+        (Violation::WrongScope, 3),
+        (Violation::OutOfOrder, 4),
+        (Violation::BadStatus, 5),
+        (Violation::BadHeader, 6),
+        (Violation::BadCode, 7),
+        (Violation::BadReason, 8),
+        (Violation::BadSubprotocol, 9),
+        (Violation::TooMuchBody, 10),
+        (Violation::TooLittleBody, 11),
     ];
     for (refusal, number) in cases {
         assert_eq!(rt; refusal.number(), number, "{refusal:?}");

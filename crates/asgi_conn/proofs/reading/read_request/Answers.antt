@@ -13,12 +13,12 @@ loop-piece-init g c =
 
 pub returns-then-n-eq0-clause-reads : goal.returns-then-n-eq0-clause-reads
 returns-then-n-eq0-clause-reads g c =
-    let one = read_end _ _ _ _ c.read_some-read.new.buf c.read_some-read.result c.answer_to.result c.turn.result _ _ _ _ _ _ _ _ c.in-Ok.n (record {
+    let one = read_end _ _ _ _ c.read_some-read.new.buf c.read_some-read.result c.answer_of.result c.turn.result _ _ _ _ _ _ _ _ c.in-Ok.n (record {
       bound = c.read_some-read.ensures.bound;
       bytes = c.read_some-read.ensures.bytes;
       told = c.read_some-read.ensures.told;
       size = omega (arith, c.read_some-read.auto.buf);
-      answered = c.answer_to.ensures;
+      answered = c.answer_of.ensures;
       turned = c.turn.ensures;
       counts = c.take.ensures.counts;
     }) c.in-Ok.is c.if-n-eq0.true in
@@ -29,12 +29,12 @@ returns-then-n-eq0-clause-reads g c =
 
 pub returns-in-Some-clause-reads : goal.returns-in-Some-clause-reads
 returns-in-Some-clause-reads g c =
-    let one = read_bytes _ _ _ _ c.read_some-read.new.buf c.read_some-read.result c.answer_to.result c.turn.result _ _ _ _ _ _ _ _ c.in-Ok.n (record {
+    let one = read_bytes _ _ _ _ c.read_some-read.new.buf c.read_some-read.result c.answer_of.result c.turn.result _ _ _ _ _ _ _ _ c.in-Ok.n (record {
       bound = c.read_some-read.ensures.bound;
       bytes = c.read_some-read.ensures.bytes;
       told = c.read_some-read.ensures.told;
       size = omega (arith, c.read_some-read.auto.buf);
-      answered = c.answer_to.ensures;
+      answered = c.answer_of.ensures;
       turned = c.turn.ensures;
       counts = c.take.ensures.counts;
     }) c.in-Ok.is (omega (arith, c.if-n-eq0.false)) in
@@ -49,12 +49,12 @@ returns-in-Some-clause-has_text g c =
 
 pub loop-piece-preserved-in_default : goal.loop-piece-preserved-in_default
 loop-piece-preserved-in_default g c =
-    let one = read_bytes _ _ _ _ c.read_some-read.new.buf c.read_some-read.result c.answer_to.result c.turn.result _ _ _ _ _ _ _ _ c.in-Ok.n (record {
+    let one = read_bytes _ _ _ _ c.read_some-read.new.buf c.read_some-read.result c.answer_of.result c.turn.result _ _ _ _ _ _ _ _ c.in-Ok.n (record {
       bound = c.read_some-read.ensures.bound;
       bytes = c.read_some-read.ensures.bytes;
       told = c.read_some-read.ensures.told;
       size = omega (arith, c.read_some-read.auto.buf);
-      answered = c.answer_to.ensures;
+      answered = c.answer_of.ensures;
       turned = c.turn.ensures;
       counts = c.take.ensures.counts;
     }) c.in-Ok.is (omega (arith, c.if-n-eq0.false)) in
@@ -64,12 +64,12 @@ loop-piece-preserved-in_default g c =
 
 pub returns-then-not-is_passing-clause-reads : goal.returns-then-not-is_passing-clause-reads
 returns-then-not-is_passing-clause-reads g c =
-    let one = read_failed _ _ _ _ c.read_some-read.new.buf c.read_some-read.result c.answer_to.result c.turn.result _ _ _ _ _ _ _ _ c.in-Err.e (record {
+    let one = read_failed _ _ _ _ c.read_some-read.new.buf c.read_some-read.result c.answer_of.result c.turn.result _ _ _ _ _ _ _ _ c.in-Err.e (record {
       bound = c.read_some-read.ensures.bound;
       bytes = c.read_some-read.ensures.bytes;
       told = c.read_some-read.ensures.told;
       size = omega (arith, c.read_some-read.auto.buf);
-      answered = c.answer_to.ensures;
+      answered = c.answer_of.ensures;
       turned = c.turn.ensures;
       counts = c.take.ensures.counts;
     }) c.in-Err.is (sym c.is_passing.ensures ∙ c.if-not-is_passing.true) in
@@ -80,12 +80,12 @@ returns-then-not-is_passing-clause-reads g c =
 
 pub loop-piece-preserved : goal.loop-piece-preserved
 loop-piece-preserved g c =
-    let one = read_paused _ _ _ _ c.read_some-read.new.buf c.read_some-read.result c.answer_to.result c.turn.result _ _ _ _ _ _ _ _ c.in-Err.e (record {
+    let one = read_paused _ _ _ _ c.read_some-read.new.buf c.read_some-read.result c.answer_of.result c.turn.result _ _ _ _ _ _ _ _ c.in-Err.e (record {
       bound = c.read_some-read.ensures.bound;
       bytes = c.read_some-read.ensures.bytes;
       told = c.read_some-read.ensures.told;
       size = omega (arith, c.read_some-read.auto.buf);
-      answered = c.answer_to.ensures;
+      answered = c.answer_of.ensures;
       turned = c.turn.ensures;
       counts = c.take.ensures.counts;
     }) c.in-Err.is (sym c.is_passing.ensures ∙ c.if-not-is_passing.false) in

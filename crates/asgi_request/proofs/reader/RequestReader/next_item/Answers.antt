@@ -2,7 +2,7 @@ use Rattle.std.proofs.Common.{◌∙◌, refl, ap, sym, subst, Some, None}
 use Rattle.asgi_request.specs.declared.next.Next.TheVariants as next
 use Rattle.asgi_request.specs.Refusals.{status_of}
 use Rattle.asgi_request.specs.Reading.{Reading}
-use Rattle.asgi_request.specs.declared.place.Outcome.{Outcome}
+use Rattle.asgi_request.specs.declared.place.Advance.{Advance}
 use Rattle.asgi_request.specs.Searches.{Stepped, Steps}
 use Rattle.asgi_request.proofs.ReaderLemmas.{stepped_stands, silent_stands, silent_rank, stepped_result, same_refusal}
 use Rattle.asgi_request.proofs.reader.RequestReader.next_item.Goals as goal
@@ -19,7 +19,7 @@ returns-in-Stopped-clause-again c status refused =
 
 pub returns-in-Gives : goal.returns-in-Gives
 returns-in-Gives c =
-    let P : Outcome → Type 0 = λ o. Steps c.loop-item.self c.step.new.self o in
+    let P : Advance → Type 0 = λ o. Steps c.loop-item.self c.step.new.self o in
     let stepped : Stepped c.loop-item.self c.step.new.self (Some c.in-Gives.item) = subst P c.in-Gives.is c.in_ok-step.ensures.steps in
     record {
       answers = λ _ bytes given stands. stepped_stands c.loop-item.self c.step.new.self (Some c.in-Gives.item) stepped bytes given (c.loop-item.invariant.keeps bytes given stands);
@@ -33,13 +33,13 @@ returns-in-Gives c =
 
 pub loop-item-smaller : goal.loop-item-smaller
 loop-item-smaller c =
-    let P : Outcome → Type 0 = λ o. Steps c.loop-item.self c.step.new.self o in
+    let P : Advance → Type 0 = λ o. Steps c.loop-item.self c.step.new.self o in
     let stepped : Stepped c.loop-item.self c.step.new.self None = subst P c.in-Silent.is c.in_ok-step.ensures.steps in
     silent_rank c.loop-item.self c.step.new.self stepped
 
 pub loop-item-preserved : goal.loop-item-preserved
 loop-item-preserved c =
-    let P : Outcome → Type 0 = λ o. Steps c.loop-item.self c.step.new.self o in
+    let P : Advance → Type 0 = λ o. Steps c.loop-item.self c.step.new.self o in
     let stepped : Stepped c.loop-item.self c.step.new.self None = subst P c.in-Silent.is c.in_ok-step.ensures.steps in
     record {
       keeps = λ bytes given stands. silent_stands c.loop-item.self c.step.new.self stepped bytes given (c.loop-item.invariant.keeps bytes given stands);

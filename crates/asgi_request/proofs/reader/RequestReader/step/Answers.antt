@@ -22,7 +22,7 @@ returns-in_ok-turn-in-Text-clause-steps c =
     let t = c.deref-in-Text.result.now in
     let rest = take_rest b start ∙ ap (drop start) c.deref.ensures.value in
     let short : start + n - start ≡ n = omega arith in
-    stepped_steps c.args.self.now _ c.in_ok-turn-in-Text.turn.item c.outcome_of-in-Text.result c.outcome_of-in-Text.ensures record {
+    stepped_steps c.args.self.now _ c.in_ok-turn-in-Text.turn.item c.advance_of-in-Text.result c.advance_of-in-Text.ensures record {
       limits = ap (λ (r : Reading). r.limits) c.self.view_is;
       capacity = ap (λ (r : Reading). r.capacity) c.self.view_is;
       takes = step_text c.args.self.now seen bytes start n (take (length b - start) (drop start b)) (take (start + n - start) (drop start t)) c.in_ok-turn-in-Text.turn

@@ -1,4 +1,4 @@
--- Where the private entries of a state have a name.
+-- Words of private functions, which state no promise: where the entries of a state have a name.
 use Rattle.std.specs.Prelude.{◌≡◌, ℕ, ◌<◌, List, length, take, slice_get, slice_set, Some, None}
 use Rattle.asgi_types.specs.declared.state.StateValue.{StateValue}
 use Rattle.asgi_types.specs.States.{value_of}

@@ -7,9 +7,9 @@ use Rattle.std.proofs.Math.Seq.{take-append_seam, drop-append_seam}
 use Rattle.http_header.specs.Token.{lowercase}
 use Rattle.http_header.specs.FieldName.{IsFieldName}
 use Rattle.http_header.specs.FieldValue.{IsFieldValue}
-use Rattle.asgi_types.specs.declared.headers.Place.{Place}
+use Rattle.asgi_types.specs.declared.headers.Span.{Span}
 use Rattle.asgi_types.specs.Fields.{HeaderField, IsValidField, field_of}
-use Rattle.asgi_types.specs.Places.{HoldsFields, IsPlaceIn, field_at, place_behind}
+use Rattle.asgi_types.specs.Spans.{HoldsFields, IsSpanIn, field_at, span_behind}
 use Rattle.asgi_types.proofs.FieldLemmas.{valid-field_of}
 
 -- a range stays where more bytes follow
@@ -27,19 +27,19 @@ slice_range-seam s a b n m at to =
     ∙ ap (λ k. take k (a ++ b)) size ∙ take-append_seam a b
 
 -- the fields of a text stay where more bytes follow
-pub fields-append : (text more : List ℕ) (places : List Place) → All (IsPlaceIn (length text)) places
-    → map (field_at (text ++ more)) places ≡ map (field_at text) places
+pub fields-append : (text more : List ℕ) (spans : List Span) → All (IsSpanIn (length text)) spans
+    → map (field_at (text ++ more)) spans ≡ map (field_at text) spans
 fields-append text more [] all = refl
-fields-append text more (p ∷ places) all =
-    let at = All-head (IsPlaceIn (length text)) p places all in
+fields-append text more (p ∷ spans) all =
+    let at = All-head (IsSpanIn (length text)) p spans all in
     let middle : p.middle ≤ length text = omega (arith, at.value, at.inside) in
     let name = slice_range-append text more p.start p.middle at.name middle in
     let value = slice_range-append text more p.middle p.end at.value at.inside in
-    let rest = fields-append text more places (All-tail (IsPlaceIn (length text)) p places all) in
+    let rest = fields-append text more spans (All-tail (IsSpanIn (length text)) p spans all) in
     cc (name, value, rest)
 
 -- the field that was appended
-new_field : (text name value : List ℕ) → field_at (text ++ (lowercase name ++ value)) (place_behind (length text) name value) ≡ field_of name value
+new_field : (text name value : List ℕ) → field_at (text ++ (lowercase name ++ value)) (span_behind (length text) name value) ≡ field_of name value
 new_field text name value =
     let size : length (lowercase name) ≡ length name = simp length-map in
     let first = slice_range-seam text (lowercase name) value (length text) (length text + length name) refl (omega (arith, size)) in
@@ -54,39 +54,39 @@ new_field text name value =
     regroup a b c = simp (append_assoc, append-nil)
 
 -- the fields of the text with a name and a value behind it
-pub fields-push : (old : List HeaderField) (text new_text name value : List ℕ) (places new_places : List Place)
-    → All (IsPlaceIn (length text)) places → map (field_at text) places ≡ old
-    → new_text ≡ text ++ (lowercase name ++ value) → new_places ≡ places ++ place_behind (length text) name value ∷ []
-    → map (field_at new_text) new_places ≡ old ++ field_of name value ∷ []
-fields-push old text new_text name value places new_places all view texts behind =
-    let place = place_behind (length text) name value in
-    ap (λ (t : List ℕ). map (field_at t) new_places) texts
+pub fields-push : (old : List HeaderField) (text new_text name value : List ℕ) (spans new_spans : List Span)
+    → All (IsSpanIn (length text)) spans → map (field_at text) spans ≡ old
+    → new_text ≡ text ++ (lowercase name ++ value) → new_spans ≡ spans ++ span_behind (length text) name value ∷ []
+    → map (field_at new_text) new_spans ≡ old ++ field_of name value ∷ []
+fields-push old text new_text name value spans new_spans all view texts behind =
+    let span = span_behind (length text) name value in
+    ap (λ (t : List ℕ). map (field_at t) new_spans) texts
     ∙ ap (map (field_at (text ++ (lowercase name ++ value)))) behind
-    ∙ map-append (field_at (text ++ (lowercase name ++ value))) places (place ∷ [])
-    ∙ ap (λ (fs : List HeaderField). fs ++ field_at (text ++ (lowercase name ++ value)) place ∷ []) (fields-append text (lowercase name ++ value) places all ∙ view)
+    ∙ map-append (field_at (text ++ (lowercase name ++ value))) spans (span ∷ [])
+    ∙ ap (λ (fs : List HeaderField). fs ++ field_at (text ++ (lowercase name ++ value)) span ∷ []) (fields-append text (lowercase name ++ value) spans all ∙ view)
     ∙ ap (λ (f : HeaderField). old ++ f ∷ []) (new_field text name value)
 
 -- ---- what a push keeps
 
--- places stay inside where the text grows, and the new one is at its end
-inside-push : (n m : ℕ) (name value : List ℕ) (places : List Place) → m ≡ n + (length name + length value)
-    → All (IsPlaceIn n) places → All (IsPlaceIn m) (places ++ place_behind n name value ∷ [])
-inside-push n m name value places size all =
-    All-push (IsPlaceIn m) places (place_behind n name value)
-    (All-weaker (IsPlaceIn n) (IsPlaceIn m) (λ p at. record { name = at.name; value = at.value; inside = omega (arith, at.inside, size) }) places all)
+-- spans stay inside where the text grows, and the new one is at its end
+inside-push : (n m : ℕ) (name value : List ℕ) (spans : List Span) → m ≡ n + (length name + length value)
+    → All (IsSpanIn n) spans → All (IsSpanIn m) (spans ++ span_behind n name value ∷ [])
+inside-push n m name value spans size all =
+    All-push (IsSpanIn m) spans (span_behind n name value)
+    (All-weaker (IsSpanIn n) (IsSpanIn m) (λ p at. record { name = at.name; value = at.value; inside = omega (arith, at.inside, size) }) spans all)
     (record { name = omega arith; value = omega arith; inside = omega (arith, size) })
 
-pub holds-push : (text new_text name value : List ℕ) (places new_places : List Place) → IsFieldName name → IsFieldValue value
-    → HoldsFields text places
-    → new_text ≡ text ++ (lowercase name ++ value) → new_places ≡ places ++ place_behind (length text) name value ∷ []
-    → HoldsFields new_text new_places
-holds-push text new_text name value places new_places named valued h texts behind =
-    let old : List HeaderField = map (field_at text) places in
+pub holds-push : (text new_text name value : List ℕ) (spans new_spans : List Span) → IsFieldName name → IsFieldValue value
+    → HoldsFields text spans
+    → new_text ≡ text ++ (lowercase name ++ value) → new_spans ≡ spans ++ span_behind (length text) name value ∷ []
+    → HoldsFields new_text new_spans
+holds-push text new_text name value spans new_spans named valued h texts behind =
+    let old : List HeaderField = map (field_at text) spans in
     record {
-      inside = All-same (IsPlaceIn (length new_text)) new_places (places ++ place_behind (length text) name value ∷ []) behind
-          (inside-push (length text) (length new_text) name value places (ap length texts ∙ size) h.inside);
-      valid = All-same IsValidField (map (field_at new_text) new_places) (old ++ field_of name value ∷ [])
-          (fields-push old text new_text name value places new_places h.inside refl texts behind)
+      inside = All-same (IsSpanIn (length new_text)) new_spans (spans ++ span_behind (length text) name value ∷ []) behind
+          (inside-push (length text) (length new_text) name value spans (ap length texts ∙ size) h.inside);
+      valid = All-same IsValidField (map (field_at new_text) new_spans) (old ++ field_of name value ∷ [])
+          (fields-push old text new_text name value spans new_spans h.inside refl texts behind)
           (All-push IsValidField old (field_of name value) h.valid (valid-field_of name value named valued));
     }
   where
