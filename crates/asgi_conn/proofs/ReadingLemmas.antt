@@ -21,7 +21,7 @@ use Rattle.asgi_request.specs.declared.next.Next.{Next}
 use Rattle.asgi_request.specs.declared.next.Next.TheVariants.{Need, Bad}
 use Rattle.asgi_request.specs.declared.refusal.Refusal.{Refusal}
 use Rattle.asgi_request.specs.declared.refusal.Refusal.TheVariants.{BadRequest, ContentTooLarge, HeaderFieldsTooLarge, NotImplemented}
-use Rattle.asgi_request.specs.Reading.{RequestRead, StandsFor, IsRefused, WholeGiven, GoesOn as GivesOn}
+use Rattle.asgi_request.specs.Reading.{Reading, StandsFor, IsRefused, WholeGiven, GoesOn as GivesOn}
 use Rattle.asgi_request.specs.Refusals.{status_of}
 use Rattle.asgi_request.specs.Results.{GivesResults, HasFirst}
 use Rattle.asgi_request.proofs.FirstLemmas.{first_of, none_gives}
@@ -41,13 +41,13 @@ no_last [] x e = cc
 no_last (y ∷ before) x e = cc
 
 -- a reader that gave nothing has not refused
-not_refused : (r : RequestRead) (bytes : List ℕ) → StandsFor r bytes [] → (status : ℕ) → IsRefused r status → ⊥
+not_refused : (r : Reading) (bytes : List ℕ) → StandsFor r bytes [] → (status : ℕ) → IsRefused r status → ⊥
 not_refused r bytes stands status refused =
     let last = refused_last r.limits bytes [] r.place r.held refused.0 stands refused.1 in
     no_last last.0 (Bad (status_of refused.0)) last.1
 
 -- its next result is the first of the bytes
-pub first_given : (fed new : RequestRead) (limits : Limits) (bytes : List ℕ) (next result : Next) → StandsFor fed bytes [] → new.limits ≡ limits
+pub first_given : (fed new : Reading) (limits : Limits) (bytes : List ℕ) (next result : Next) → StandsFor fed bytes [] → new.limits ≡ limits
     → ((next ≡ Need → ⊥) → ((status : ℕ) → IsRefused fed status → ⊥) → GivesOn fed new next) → next ≡ result → (result ≡ Need → ⊥)
     → HasFirst limits bytes (result ∷ [])
 first_given fed new limits bytes next result stands same given is some =
@@ -72,7 +72,7 @@ refusal_known why status e = subst (λ k. IsTrue (is_refusal k)) (sym e) (known 
 -- ---- the end of the input
 
 -- where nothing was given, all bytes are held
-pub held_is_all : (r : RequestRead) (bytes held : List ℕ) → WholeGiven r bytes [] held → bytes ≡ held
+pub held_is_all : (r : Reading) (bytes held : List ℕ) → WholeGiven r bytes [] held → bytes ≡ held
 held_is_all r bytes held x = whole_is_some r.limits bytes x.0 held x.1 x.2
 
 pub blank_end : (limits : Limits) (bytes held : List ℕ) → NothingIsDue limits bytes → bytes ≡ held → IsBlank held → StopsAs ending.Blank limits bytes
@@ -184,7 +184,7 @@ pub record LastSoFar (limits : Limits) (read : List ℕ) (answers : List Answer)
   pub goes_on : GoesOn prompt.last
 
 -- these bytes were read, and nothing is due to them
-pub record ReadsSoFar (limits : Limits) (known left : Option (List ℕ)) (before now : List Answer) (requests : RequestRead)
+pub record ReadsSoFar (limits : Limits) (known left : Option (List ℕ)) (before now : List Answer) (requests : Reading)
     (turn_limit idle_limit old new turns idle : ℕ) : Type 0 where
   pub read : List ℕ
   pub answers : List Answer
@@ -200,7 +200,7 @@ pub record ReadsSoFar (limits : Limits) (known left : Option (List ℕ)) (before
   pub counts : CountsTurns turn_limit idle_limit (map turn_of answers) old new turns idle
   pub last : (answers ≡ []) ⊎ LastSoFar limits read answers
 
-pub so_far_none : (limits : Limits) (known : Option (List ℕ)) (before : List Answer) (requests : RequestRead) (turn_limit idle_limit old turns idle : ℕ)
+pub so_far_none : (limits : Limits) (known : Option (List ℕ)) (before : List Answer) (requests : Reading) (turn_limit idle_limit old turns idle : ℕ)
     → requests.limits ≡ limits → StandsFor requests [] [] → turn_limit ≡ limits.turns → idle_limit ≡ limits.idle_turns
     → CountsTurns limits.turns limits.idle_turns [] old old turns idle
     → ReadsSoFar limits known known before before requests turn_limit idle_limit old old turns idle
@@ -248,7 +248,7 @@ turns_more turn_limit idle_limit answers a old new turns idle x =
     subst (λ (l : List Turn). CountsTurns turn_limit idle_limit l old new turns idle) (sym (map-append turn_of answers (a ∷ []))) x
 
 -- one more read behind which another may come
-pub so_far_more : (limits : Limits) (known left next : Option (List ℕ)) (before now after : List Answer) (requests later : RequestRead) (piece : List ℕ) (a : Answer)
+pub so_far_more : (limits : Limits) (known left next : Option (List ℕ)) (before now after : List Answer) (requests later : Reading) (piece : List ℕ) (a : Answer)
     (turn_limit idle_limit turn_limit_now idle_limit_now start old new turns idle turns_now idle_now : ℕ)
     → ReadsSoFar limits known left before now requests turn_limit idle_limit start old turns idle
     → OneRead left next now after piece a turn_limit idle_limit old new turns idle turns_now idle_now → GoesOn a → later.limits ≡ requests.limits
@@ -294,7 +294,7 @@ has_read_as limits known left before now old new e ended turns total idle row sa
     subst E (sym same) (subst T (sym sum) (subst I (sym is) x))
 
 -- at one more read
-pub ends_at : (limits : Limits) (known left next : Option (List ℕ)) (before now after : List Answer) (requests : RequestRead) (piece : List ℕ) (a : Answer) (e : Ending)
+pub ends_at : (limits : Limits) (known left next : Option (List ℕ)) (before now after : List Answer) (requests : Reading) (piece : List ℕ) (a : Answer) (e : Ending)
     (turn_limit idle_limit start old new turns idle turns_now idle_now : ℕ)
     → ReadsSoFar limits known left before now requests turn_limit idle_limit start old turns idle
     → OneRead left next now after piece a turn_limit idle_limit old new turns idle turns_now idle_now → (a ≡ answer.Nothing → IsAtEnd next)
@@ -320,7 +320,7 @@ ends_at limits known left next before now after requests piece a e turn_limit id
     )
 
 -- at a limit
-pub ends_idle : (limits : Limits) (known left : Option (List ℕ)) (before now : List Answer) (requests : RequestRead) (turn_limit idle_limit old new turns idle : ℕ)
+pub ends_idle : (limits : Limits) (known left : Option (List ℕ)) (before now : List Answer) (requests : Reading) (turn_limit idle_limit old new turns idle : ℕ)
     → ReadsSoFar limits known left before now requests turn_limit idle_limit old new turns idle
     → (turns ≡ turn_limit) ⊎ (idle ≡ idle_limit) → HasRead limits known left before now old new ending.Idle turns idle
 ends_idle limits known left before now requests turn_limit idle_limit old new turns idle x over = by x.last
@@ -371,13 +371,13 @@ ends_idle limits known left before now requests turn_limit idle_limit old new tu
 -- ---- the ways of a turn
 
 -- nothing is due to a piece: reading goes on
-pub on_piece : (limits : Limits) (requests later : RequestRead) (piece : List ℕ)
+pub on_piece : (limits : Limits) (requests later : Reading) (piece : List ℕ)
     → ((bytes : List ℕ) → StandsFor requests bytes [] → Stops None requests.limits (bytes ++ piece) later)
     → (bytes : List ℕ) → StandsFor requests bytes [] → NothingIsDue requests.limits bytes → StandsFor later (bytes ++ piece) [] × NothingIsDue requests.limits (bytes ++ piece)
 on_piece limits requests later piece takes bytes stands waits = takes bytes stands
 
 -- nothing came: it stands as it did
-pub on_nothing : (requests : RequestRead) (bytes : List ℕ) → StandsFor requests bytes [] → NothingIsDue requests.limits bytes
+pub on_nothing : (requests : Reading) (bytes : List ℕ) → StandsFor requests bytes [] → NothingIsDue requests.limits bytes
     → StandsFor requests (bytes ++ []) [] × NothingIsDue requests.limits (bytes ++ [])
 on_nothing requests bytes stands waits = (
   subst (λ (l : List ℕ). StandsFor requests l []) (sym (append-nil bytes)) stands,
@@ -385,7 +385,7 @@ on_nothing requests bytes stands waits = (
 )
 
 -- at the end of the input
-pub at_input_end : (requests : RequestRead) (e : Ending) (turns idle : ℕ)
+pub at_input_end : (requests : Reading) (e : Ending) (turns idle : ℕ)
     → ((bytes : List ℕ) → StandsFor requests bytes [] → NothingIsDue requests.limits bytes → StopsAs e requests.limits bytes)
     → ((bytes : List ℕ) → StandsFor requests bytes [] → (e ≡ ending.Blank) ⊎ ((e ≡ ending.InputBroke) × (IsBlank bytes → ⊥)))
     → (bytes : List ℕ) → StandsFor requests bytes [] → NothingIsDue requests.limits bytes
@@ -400,12 +400,12 @@ at_input_end requests e turns idle stops blank bytes stands waits = (
     by (inr (is, some)) = subst (λ (f : Ending). StopsAt f requests.limits bytes answer.Nothing turns idle) (sym is) (inr (refl, some))
 
 -- at a fault
-pub at_fault : (requests : RequestRead) (turns idle : ℕ) (bytes : List ℕ) → StandsFor requests bytes [] → NothingIsDue requests.limits bytes
+pub at_fault : (requests : Reading) (turns idle : ℕ) (bytes : List ℕ) → StandsFor requests bytes [] → NothingIsDue requests.limits bytes
     → StopsAs ending.InputBroke requests.limits (bytes ++ []) × StopsAt ending.InputBroke requests.limits (bytes ++ []) answer.Failed turns idle
 at_fault requests turns idle bytes stands waits = ((on_nothing requests bytes stands waits).1, inl refl)
 
 -- behind a piece
-pub at_piece : (requests later : RequestRead) (piece : List ℕ) (e : Ending) (n turns idle : ℕ) → IsOfPiece (Some e)
+pub at_piece : (requests later : Reading) (piece : List ℕ) (e : Ending) (n turns idle : ℕ) → IsOfPiece (Some e)
     → ((bytes : List ℕ) → StandsFor requests bytes [] → Stops (Some e) requests.limits (bytes ++ piece) later)
     → (bytes : List ℕ) → StandsFor requests bytes [] → NothingIsDue requests.limits bytes
     → StopsAs e requests.limits (bytes ++ piece) × StopsAt e requests.limits (bytes ++ piece) (answer.Moved n) turns idle

@@ -7,7 +7,7 @@ use Rattle.asgi_io.specs.declared.answer.Answer.TheVariants as answer
 use Rattle.asgi_io.specs.declared.turns.Turn.TheVariants as turn
 use Rattle.asgi_io.specs.Answers.{turn_of}
 use Rattle.asgi_request.specs.declared.next.Next.TheVariants as next
-use Rattle.asgi_request.specs.Reading.{RequestRead, StandsFor}
+use Rattle.asgi_request.specs.Reading.{Reading, StandsFor}
 use Rattle.asgi_request.specs.Results.{HasFirst}
 use Rattle.asgi_response.specs.Refusals.{is_refusal}
 use Rattle.asgi_conn.specs.declared.reading.Ending.{Ending}
@@ -33,7 +33,7 @@ HasText Idle = Unit {0}
 HasText NoMemory = Unit {0}
 
 -- what is known behind a piece: reading goes on while nothing is due, or stops
-abbrev pub Stops : Option Ending → Limits → List ℕ → RequestRead → Type 0
+abbrev pub Stops : Option Ending → Limits → List ℕ → Reading → Type 0
 Stops None limits read requests = StandsFor requests read [] × NothingIsDue limits read
 Stops (Some ending) limits read requests = StopsAs ending limits read × HasText ending
 

@@ -1,4 +1,4 @@
-//! RequestRead until it is known what the bytes begin with.
+//! Reading until it is known what the bytes begin with.
 ghost use Rattle.std.specs.Prelude.{◌≡◌, ◌≢◌, ◌⊎◌, ◌↔◌, [], ◌++◌, ℕ, List, Option, IsTrue};
 ghost use Rattle.asgi_request.specs.Reading.{StandsFor};
 ghost use Rattle.asgi_conn.specs.Conversation.{NothingIsDue, IsBlank};
