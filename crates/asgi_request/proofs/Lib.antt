@@ -6,6 +6,7 @@ pub mod Growth
 pub mod FrontLemmas
 pub mod UniqueLemmas
 pub mod SearchLemmas
+pub mod LineFeedLemmas
 pub mod PartLemmas
 pub mod ReaderLemmas
 pub mod HeadTextLemmas

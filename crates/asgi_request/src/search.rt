@@ -1,5 +1,7 @@
 //! Where a text ends, found by a search that goes on where it stopped.
 ghost use Rattle.std.specs.Prelude.{◌≡◌, ◌+◌, ◌<◌, ◌≤◌, length, drop, true, false, min, IfSome};
+ghost use Rattle.httparse.specs.Ascii.{line_feed};
+ghost use Rattle.memchr.specs.Find.{IsFirst, Passes, is_byte};
 ghost use Rattle.asgi_request.specs.Fronts as spec;
 ghost use Rattle.asgi_request.specs.Fronts.{empty_line_len, lines_len, head_len, line_len, trailer_len, front_at};
 ghost use Rattle.asgi_request.specs.Places.{front};
@@ -7,6 +9,7 @@ ghost use Rattle.asgi_request.specs.Searches.{Resumes, Continues, ResumesTrailer
 
 use crate::place::Place;
 use asgi_types::Limits;
+use memchr::memchr;
 
 const LF: u8 = b'\n';
 
@@ -122,6 +125,15 @@ fn is_open(bytes: &[u8]) -> bool
     }
 }
 
+/// Where the first line feed stands, from `from` on.
+fn find_line_feed(bytes: &[u8], from: usize) -> Option<usize>
+    requires { from ≤ length bytes.now }
+    ensures { IsFirst (Passes (is_byte line_feed) bytes.now) from (length bytes.now) result }
+{
+    let i = memchr(LF, &bytes[from..])?;
+    Some(from + i)
+}
+
 /// The end of the first empty line that follows a line feed at `from` or later, and how far the search has come.
 fn find_lines(bytes: &[u8], from: usize) -> (Option<usize>, usize)
     requires { from ≤ length bytes.now }
@@ -129,17 +141,17 @@ fn find_lines(bytes: &[u8], from: usize) -> (Option<usize>, usize)
     ensures inside { result.1 ≤ length bytes.now }
     ensures same { GoesFrom lines_len lines_len from result.1 bytes.now }
 {
-    for i in from..bytes.len() {
-        if bytes[i] == LF {
-            let rest = &bytes[i + 1..];
-            let n = empty_line_length(rest);
-            if n > 0 {
-                return (Some(i + 1 + n), i);
-            }
-            if is_open(rest) {
-                return (None, i);
-            }
+    let mut at = from;
+    while let Some(i) = find_line_feed(bytes, at) {
+        let rest = &bytes[i + 1..];
+        let n = empty_line_length(rest);
+        if n > 0 {
+            return (Some(i + 1 + n), i);
         }
+        if is_open(rest) {
+            return (None, i);
+        }
+        at = i + 1;
     }
     (None, bytes.len())
 }
@@ -194,24 +206,16 @@ fn find_line(bytes: &[u8], search: Search) -> (Option<usize>, Search)
     ensures found { result.0 ≡ line_len bytes.now }
     ensures resumes { Continues line_len line_len result.1.at bytes.now }
 {
-    for i in search.at..bytes.len() {
-        if bytes[i] == LF {
-            return (
-                Some(i + 1),
-                Search {
-                    at: i,
-                    begun: false,
-                },
-            );
-        }
+    match find_line_feed(bytes, search.at) {
+        Some(at) => (Some(at + 1), Search { at, begun: false }),
+        None => (
+            None,
+            Search {
+                at: bytes.len(),
+                begun: false,
+            },
+        ),
     }
-    (
-        None,
-        Search {
-            at: bytes.len(),
-            begun: false,
-        },
-    )
 }
 
 fn find_trailer(bytes: &[u8], search: Search) -> (Option<usize>, Search)

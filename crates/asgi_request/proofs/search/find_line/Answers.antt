@@ -1,19 +1,28 @@
-use Rattle.std.proofs.Common.{◌≡◌, true, sym, ◌∙◌, refl, arith, ℕ}
-use Rattle.std.specs.Prelude.{◌==◌}
-use Rattle.std.proofs.lemmas.Bool.Decides.{nat_tests}
+use Rattle.std.proofs.Common.{length, sym, ◌∙◌, refl, arith}
 use Rattle.asgi_request.specs.Fronts.{line_len}
-use Rattle.asgi_request.proofs.SearchLemmas.{whole_is, line_found, ended}
+use Rattle.asgi_request.proofs.SearchLemmas.{whole_is, line_found, ended, Continues-then}
+use Rattle.asgi_request.proofs.LineFeedLemmas.{line_to, line_to_end}
 use Rattle.asgi_request.proofs.search.find_line.Goals as goal
 
-is_ten : (b : ℕ) → b ≡ 10 → (b == 10) ≡ true
-is_ten b e = grind (arith, nat_tests)
-
-pub returns-then-bytes-i-eq-LF-clause-found : goal.returns-then-bytes-i-eq-LF-clause-found
-returns-then-bytes-i-eq-LF-clause-found c =
-    line_found c.args.bytes.now c.args.search.at c.loop-i.i (omega arith) (is_ten _ (omega arith)) c.loop-i.invariant
+pub returns-in-Some-clause-found : goal.returns-in-Some-clause-found
+returns-in-Some-clause-found c =
+    let first = c.in-Some.ensures in
+    line_found c.args.bytes.now c.args.search.at c.in-Some.at first.0.high first.1 (line_to c.args.bytes.now c.args.search.at c.in-Some.at first.0)
     ∙ sym (whole_is line_len line_len c.args.search.at c.args.bytes.now c.requires)
 
-pub returns-clause-found : goal.returns-clause-found
-returns-clause-found c =
-    ended line_len line_len c.args.bytes.now c.args.search.at c.loop-i.i (omega arith) refl c.loop-i.invariant
+pub returns-in-Some-clause-resumes : goal.returns-in-Some-clause-resumes
+returns-in-Some-clause-resumes c =
+    let first = c.in-Some.ensures in
+    Continues-then line_len line_len line_len c.args.search.at c.in-Some.at c.args.bytes.now c.requires (omega (arith, first.0.high))
+    (line_to c.args.bytes.now c.args.search.at c.in-Some.at first.0)
+
+pub returns-in-None-clause-found : goal.returns-in-None-clause-found
+returns-in-None-clause-found c =
+    ended line_len line_len c.args.bytes.now c.args.search.at (length c.args.bytes.now) (omega arith) refl
+    (line_to_end c.args.bytes.now c.args.search.at c.requires.inside c.in-None.ensures)
     ∙ sym (whole_is line_len line_len c.args.search.at c.args.bytes.now c.requires)
+
+pub returns-in-None-clause-resumes : goal.returns-in-None-clause-resumes
+returns-in-None-clause-resumes c =
+    Continues-then line_len line_len line_len c.args.search.at (length c.args.bytes.now) c.args.bytes.now c.requires (omega arith)
+    (line_to_end c.args.bytes.now c.args.search.at c.requires.inside c.in-None.ensures)

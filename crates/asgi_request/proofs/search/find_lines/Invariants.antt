@@ -1,6 +1,10 @@
+use Rattle.std.proofs.Common.{◌-◌, ◌≤◌, length}
 use Rattle.asgi_request.specs.Fronts.{lines_len}
 use Rattle.asgi_request.specs.Searches.{GoesFrom}
 use Rattle.asgi_request.proofs.search.find_lines.Given as goal
 
 abbrev pub invariant-loop-i : goal.invariant-loop-i
-invariant-loop-i l = GoesFrom lines_len lines_len l.from l.i l.bytes
+invariant-loop-i l = (l.at ≤ length l.bytes) × GoesFrom lines_len lines_len l.from l.at l.bytes
+
+abbrev pub decreases-loop-i : goal.decreases-loop-i
+decreases-loop-i l = length l.bytes - l.at
