@@ -1,5 +1,5 @@
 //! The end of the application, with queues of its own.
-ghost use Rattle.std.specs.Prelude.{◌≡◌, ◌<◌, Bool, ◌||◌, List, None};
+ghost use Rattle.std.specs.Prelude.{◌≡◌, ◌<◌, Bool, ◌||◌, List, [], ◌∷◌, ◌++◌, None};
 ghost use Rattle.std.proofs.Math.Logic.{∥∥₁_map};
 ghost use Rattle.asgi_types.specs.declared.scope.Kind.{Kind};
 ghost use Rattle.asgi_types.specs.declared.outgoing.Outgoing.{Outgoing};
@@ -100,24 +100,25 @@ impl AppEnd for PlainApp {
     }
 
     fn poll_send(&mut self, cx: &mut Context<'_>, event: Outgoing) -> Sent {
-        let verdict = verdict_of(&self.judge, &self.facts, &event);
+        let mut judge = self.judge;
+        let verdict = judge_event(&mut judge, &self.facts, &event);
         if let Verdict::Ignored = verdict {
             return Sent::Ignored;
         }
         if let Verdict::Refused(number) = verdict {
             return Sent::Refused(number, event);
         }
-        if self.out.free() < 2 {
-            let _: Poll<()> = cx.yield_now();
-            return Sent::Full(event);
+        if 2 <= self.out.free() {
+            self.judge = judge;
+            self.disconnect = Disconnect::behind(self.is_open, &event);
+            self.is_open = opens(self.is_open, &event);
+            self.said = History::with(&self.said, &event);
+            self.out.put(OutItem::Event(event));
+            self.moved = true;
+            return Sent::Done;
         }
-        let _passes = self.judge.judge(&self.facts, &event);
-        self.disconnect = Disconnect::behind(self.is_open, &event);
-        self.is_open = opens(self.is_open, &event);
-        self.said = History::with(&self.said, &event);
-        self.out.put(OutItem::Event(event));
-        self.moved = true;
-        Sent::Done
+        let _: Poll<()> = cx.yield_now();
+        Sent::Full(event)
     }
 
     fn finish(&mut self, end: EndKind) -> bool {
@@ -141,13 +142,17 @@ impl AppEnd for PlainApp {
     ghost hears = { λ s. s.hears_is };
 }
 
-/// What the judge says of the event.
-fn verdict_of(judge: &Judge, facts: &Facts, event: &Outgoing) -> Verdict
-    ensures { (kind : Kind) → (said : List Outgoing) → (disconnected : Bool)
-        → ∥ StandsFor judge.now kind facts.now said disconnected ∥₁
+/// The verdict on the event, which the judge counts as said where it passes.
+fn judge_event(judge: &mut Judge, facts: &Facts, event: &Outgoing) -> Verdict
+    ensures verdict { (kind : Kind) → (said : List Outgoing) → (disconnected : Bool)
+        → ∥ StandsFor judge.old kind facts.now said disconnected ∥₁
         → result ≡ verdict_on kind facts.now said disconnected event.now }
+    ensures passed { result ≡ Verdict.Pass
+        → (kind : Kind) → (said : List Outgoing) → (disconnected : Bool)
+        → ∥ StandsFor judge.old kind facts.now said disconnected ∥₁
+        → ∥ StandsFor judge.new kind facts.now (said ++ event.now ∷ []) disconnected ∥₁ }
 {
-    judge.look(facts, event)
+    judge.judge(facts, event)
 }
 
 /// The disconnect that is heard again behind the event.

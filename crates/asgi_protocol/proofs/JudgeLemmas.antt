@@ -1,9 +1,7 @@
 -- What a judge keeps gives the verdict on the whole list.
-use Rattle.std.proofs.Common.{◌≡◌, ℕ, ◌+◌, ◌<◌, Bool, true, false, ◌⊎◌, inl, inr, List, [], ◌∷◌, ◌++◌, length, refl, ap, sym, ◌∙◌, Option, Some, None, arith}
-use Rattle.std.specs.Prelude.{not, ◌&&◌, nat_lt}
-use Rattle.std.specs.Option.{option_map}
+use Rattle.std.proofs.Common.{◌≡◌, Bool, true, false, ◌⊎◌, inl, inr, List, [], ◌∷◌, ◌++◌, length, refl, ap, sym, ◌∙◌}
+use Rattle.std.specs.Prelude.{not, ◌&&◌}
 use Rattle.std.proofs.lemmas.List.{append-nil}
-use Rattle.std.proofs.lemmas.Bool.Decides.{Decides-ltb, same_from_decides}
 use Rattle.asgi_types.specs.declared.scope.Kind.{Kind}
 use Rattle.asgi_types.specs.declared.scope.Kind.TheVariants.{Http, WebSocket, Lifespan}
 use Rattle.asgi_types.specs.declared.facts.Facts.{Facts}
@@ -12,11 +10,13 @@ use Rattle.asgi_types.specs.declared.outgoing.Outgoing.TheVariants.{ResponseStar
 use Rattle.asgi_protocol.specs.declared.judge.Stage.{Stage}
 use Rattle.asgi_protocol.specs.declared.judge.Stage.TheVariants.{Fresh, Begun, Accepted, Started, Ended}
 use Rattle.asgi_protocol.specs.declared.judge.Judge.{Judge}
-use Rattle.asgi_protocol.specs.Rules.{promised_length, body_bytes, is_above, is_below, has_too_much_body, has_too_little_body}
+use Rattle.asgi_protocol.specs.BytesLeft.{with_sent}
+use Rattle.asgi_protocol.specs.Rules.{promised_length, body_bytes, has_too_much_body, has_too_little_body}
 use Rattle.asgi_protocol.specs.Shapes.{is_of, is_word, is_closed}
 use Rattle.asgi_protocol.specs.Stages.{StandsFor, CountsBytes, is_rest, begins_rest}
 use Rattle.asgi_protocol.specs.Steps.{lines_at, bytes_left, has_place, is_ended, takes_too_much, leaves_too_much}
 use Rattle.asgi_protocol.specs.Verdicts.{Lines, lines_on, first_line, verdict_on}
+use Rattle.asgi_protocol.proofs.CountLemmas.{above_agrees, below_agrees}
 use Rattle.asgi_protocol.proofs.WordLemmas.{word_from_beginning}
 
 pub two : (b : Bool) → (b ≡ true) ⊎ (b ≡ false)
@@ -78,37 +78,20 @@ place_agrees Lifespan _ _ of = absurd (cc)
 
 -- the bytes that are left are those that were promised and are still to come
 left_agrees : (facts : Facts) (stage : Stage) (said : List Outgoing) → is_ended stage ≡ false → CountsBytes facts stage said
-    → promised_length facts said ≡ option_map (λ n. body_bytes said + n) (bytes_left stage)
+    → promised_length facts said ≡ with_sent (body_bytes said) (bytes_left stage)
 left_agrees facts Fresh said h none = ap (promised_length facts) none
 left_agrees facts (Begun left) said h counts = counts.3
 left_agrees facts Accepted said h counts = counts.3
 left_agrees facts Started said h counts = counts.3
 left_agrees facts Ended said h counts = absurd (cc)
 
-shift : (sum a b : ℕ) → nat_lt a b ≡ nat_lt (sum + a) (sum + b)
-shift sum a b = same_from_decides (nat_lt a b) (nat_lt (sum + a) (sum + b)) (Decides-ltb a b) (back, forth)
-  where
-    back : nat_lt (sum + a) (sum + b) ≡ true → a < b
-    back h = let far = (Decides-ltb (sum + a) (sum + b)).0 h in omega arith
-
-    forth : a < b → nat_lt (sum + a) (sum + b) ≡ true
-    forth h = let far : sum + a < sum + b = omega arith in (Decides-ltb (sum + a) (sum + b)).1 far
-
-above_agrees : (sum size : ℕ) (left promised : Option ℕ) → promised ≡ option_map (λ n. sum + n) left → is_above size left ≡ is_above (sum + size) promised
-above_agrees sum size None promised h = rw h refl
-above_agrees sum size (Some n) promised h = rw h (shift sum n size)
-
-below_agrees : (sum size : ℕ) (left promised : Option ℕ) → promised ≡ option_map (λ n. sum + n) left → is_below size left ≡ is_below (sum + size) promised
-below_agrees sum size None promised h = rw h refl
-below_agrees sum size (Some n) promised h = rw h (shift sum size n)
-
-too_much_agrees : (facts : Facts) (stage : Stage) (said : List Outgoing) (e : Outgoing) → promised_length facts said ≡ option_map (λ n. body_bytes said + n) (bytes_left stage)
+too_much_agrees : (facts : Facts) (stage : Stage) (said : List Outgoing) (e : Outgoing) → promised_length facts said ≡ with_sent (body_bytes said) (bytes_left stage)
     → takes_too_much stage e ≡ has_too_much_body facts said e
 too_much_agrees facts stage said (ResponseBody body more) h = above_agrees (body_bytes said) (length body) (bytes_left stage) (promised_length facts said) h
 too_much_agrees facts stage said (DenialBody body more) h = above_agrees (body_bytes said) (length body) (bytes_left stage) (promised_length facts said) h
 too_much_agrees facts stage said _ h = refl
 
-too_little_agrees : (facts : Facts) (stage : Stage) (said : List Outgoing) (e : Outgoing) → promised_length facts said ≡ option_map (λ n. body_bytes said + n) (bytes_left stage)
+too_little_agrees : (facts : Facts) (stage : Stage) (said : List Outgoing) (e : Outgoing) → promised_length facts said ≡ with_sent (body_bytes said) (bytes_left stage)
     → leaves_too_much stage e ≡ has_too_little_body facts said e
 too_little_agrees facts stage said (ResponseBody body more) h = ap (λ b. not more && b) (below_agrees (body_bytes said) (length body) (bytes_left stage) (promised_length facts said) h)
 too_little_agrees facts stage said (DenialBody body more) h = ap (λ b. not more && b) (below_agrees (body_bytes said) (length body) (bytes_left stage) (promised_length facts said) h)

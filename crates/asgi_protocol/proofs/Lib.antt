@@ -1,3 +1,4 @@
+pub mod CountLemmas
 pub mod JudgeLemmas
 pub mod LawLemmas
 pub mod OfferLemmas

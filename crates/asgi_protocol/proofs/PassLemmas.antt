@@ -1,8 +1,6 @@
 -- A judge that passes an event stands for the list with that event.
-use Rattle.std.proofs.Common.{◌≡◌, ℕ, ◌+◌, ◌-◌, ◌≤◌, Bool, true, false, ◌⊎◌, inl, inr, List, [], ◌∷◌, ◌++◌, length, refl, ap, sym, ◌∙◌, subst, Option, Some, None, append_assoc, arith, zero-add, add-zero}
-use Rattle.std.specs.Prelude.{not, ◌||◌, nat_lt, if◌then◌else◌}
-use Rattle.std.specs.Option.{option_map}
-use Rattle.std.proofs.lemmas.Bool.Decides.{Decides-ltb, not_from_Decides}
+use Rattle.std.proofs.Common.{◌≡◌, ℕ, ◌+◌, Bool, true, false, ◌⊎◌, inl, inr, List, [], ◌∷◌, ◌++◌, length, refl, ap, sym, ◌∙◌, subst, Option, None, append_assoc, arith, zero-add, add-zero}
+use Rattle.std.specs.Prelude.{not, ◌||◌, if◌then◌else◌}
 use Rattle.asgi_types.specs.declared.scope.Kind.{Kind}
 use Rattle.asgi_types.specs.declared.scope.Kind.TheVariants.{Http, WebSocket, Lifespan}
 use Rattle.asgi_types.specs.declared.facts.Facts.{Facts}
@@ -13,12 +11,14 @@ use Rattle.asgi_protocol.specs.declared.verdict.Verdict.TheVariants.{Pass, Refus
 use Rattle.asgi_protocol.specs.declared.judge.Stage.{Stage}
 use Rattle.asgi_protocol.specs.declared.judge.Stage.TheVariants.{Fresh, Begun, Accepted, Started}
 use Rattle.asgi_protocol.specs.declared.judge.Judge.{Judge}
+use Rattle.asgi_protocol.specs.BytesLeft.{is_above, left_behind, with_sent}
 use Rattle.asgi_protocol.specs.Lawful.{IsLawful}
-use Rattle.asgi_protocol.specs.Rules.{MeetsRules, promised_length, body_bytes, is_above}
+use Rattle.asgi_protocol.specs.Rules.{MeetsRules, promised_length, body_bytes}
 use Rattle.asgi_protocol.specs.Shapes.{is_of, is_word, begins_word, goes_on}
 use Rattle.asgi_protocol.specs.Stages.{StandsFor, CountsBytes, is_rest, begins_rest}
 use Rattle.asgi_protocol.specs.Steps.{lines_at, stage_behind, has_place, takes_too_much}
 use Rattle.asgi_protocol.specs.Verdicts.{Lines, lines_on, first_line, verdict_on, verdict_on_closed}
+use Rattle.asgi_protocol.proofs.CountLemmas.{with_sent-zero, counts_down}
 use Rattle.asgi_protocol.proofs.WordLemmas.{word_from_beginning}
 use Rattle.asgi_protocol.proofs.JudgeLemmas.{verdict_agrees}
 
@@ -198,10 +198,6 @@ begins_behind Lifespan facts _ (ShutdownFailed message) more of at = absurd (cc)
 begins_behind Lifespan facts _ _ more of at = absurd (cc)
 
 -- the bytes behind an event
-nothing_yet : (o : Option ℕ) → o ≡ option_map (λ n. 0 + n) o
-nothing_yet None = refl
-nothing_yet (Some n) = ap Some (sym (zero-add n))
-
 never : (b : Bool) → (if b then None else (let o : Option ℕ = None in o)) ≡ None
 never true = refl
 never false = refl
@@ -212,32 +208,24 @@ body_bytes-append (ResponseBody body more ∷ xs) ys = omega (arith, body_bytes-
 body_bytes-append (DenialBody body more ∷ xs) ys = omega (arith, body_bytes-append xs ys)
 body_bytes-append (_ ∷ xs) ys = body_bytes-append xs ys
 
-counts_down : (sum size : ℕ) (left : Option ℕ) → is_above size left ≡ false
-    → option_map (λ n. sum + n) left ≡ option_map (λ n. (sum + size) + n) (option_map (λ n. n - size) left)
-counts_down sum size None h = refl
-counts_down sum size (Some n) h =
-    let fits = not_from_Decides (nat_lt n size) (Decides-ltb n size) h in
-    let enough : size ≤ n = omega (arith, fits) in
-    ap Some (omega arith)
-
 first_counts : (facts : Facts) (said : List Outgoing) (e : Outgoing) → said ≡ [] → body_bytes (e ∷ []) ≡ 0 → CountsBytes facts (Begun (promised_length facts (e ∷ []))) (said ++ e ∷ [])
 first_counts facts said e none no_bytes = (
   e,
   [],
   ap (λ (s : List Outgoing). s ++ e ∷ []) none,
-  ap (λ (s : List Outgoing). promised_length facts (s ++ e ∷ [])) none ∙ nothing_yet (promised_length facts (e ∷ []))
-      ∙ ap (λ (sum : ℕ). option_map (λ n. sum + n) (promised_length facts (e ∷ []))) (sym no_bytes ∙ ap (λ (s : List Outgoing). body_bytes (s ++ e ∷ [])) (sym none)),
+  ap (λ (s : List Outgoing). promised_length facts (s ++ e ∷ [])) none ∙ with_sent-zero (promised_length facts (e ∷ []))
+      ∙ ap (λ (sum : ℕ). with_sent sum (promised_length facts (e ∷ []))) (sym no_bytes ∙ ap (λ (s : List Outgoing). body_bytes (s ++ e ∷ [])) (sym none)),
 )
 
 body_counts : (facts : Facts) (said : List Outgoing) (e : Outgoing) (left : Option ℕ) (size : ℕ) → CountsBytes facts (Begun left) said → body_bytes (e ∷ []) ≡ size → is_above size left ≡ false
-    → CountsBytes facts (Begun (option_map (λ n. n - size) left)) (said ++ e ∷ [])
+    → CountsBytes facts (Begun (left_behind left size)) (said ++ e ∷ [])
 body_counts facts said e left size counts bytes fits = (
   counts.0,
   counts.1 ++ e ∷ [],
   ap (λ (s : List Outgoing). s ++ e ∷ []) counts.2,
   ap (λ (s : List Outgoing). promised_length facts (s ++ e ∷ [])) counts.2 ∙ ap (promised_length facts) (sym counts.2) ∙ counts.3
       ∙ counts_down (body_bytes said) size left fits
-      ∙ ap (λ (sum : ℕ). option_map (λ n. sum + n) (option_map (λ n. n - size) left)) (ap (λ (b : ℕ). body_bytes said + b) (sym bytes) ∙ sym (body_bytes-append said (e ∷ []))),
+      ∙ ap (λ (sum : ℕ). with_sent sum (left_behind left size)) (ap (λ (b : ℕ). body_bytes said + b) (sym bytes) ∙ sym (body_bytes-append said (e ∷ []))),
 )
 
 counts_behind : (kind : Kind) (facts : Facts) (stage : Stage) (said : List Outgoing) (e : Outgoing) → is_of kind e ≡ true → has_place stage e ≡ true

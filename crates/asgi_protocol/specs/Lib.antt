@@ -1,3 +1,4 @@
+pub mod BytesLeft
 pub mod ContentLengths
 pub mod Lawful
 pub mod Laws

@@ -7,6 +7,7 @@ use Rattle.asgi_types.specs.declared.outgoing.Outgoing.{Outgoing}
 use Rattle.asgi_types.specs.declared.outgoing.Outgoing.TheVariants.{ResponseStart, ResponseBody, WsAccept, WsClose, DenialStart, DenialBody}
 use Rattle.asgi_protocol.specs.declared.content_length.ContentLength.{ContentLength}
 use Rattle.asgi_protocol.specs.declared.content_length.ContentLength.TheVariants.{Absent, Given, Faulty}
+use Rattle.asgi_protocol.specs.BytesLeft.{is_above, is_below}
 use Rattle.asgi_protocol.specs.ContentLengths.{content_length}
 
 -- the status codes of a final response (RFC 9110, section 15)
@@ -100,14 +101,6 @@ body_bytes [] = 0
 body_bytes (ResponseBody body more_body ∷ events) = length body + body_bytes events
 body_bytes (DenialBody body more_body ∷ events) = length body + body_bytes events
 body_bytes (_ ∷ events) = body_bytes events
-
-abbrev pub is_above : ℕ → Option ℕ → Bool
-is_above n None = false
-is_above n (Some promised) = nat_lt promised n
-
-abbrev pub is_below : ℕ → Option ℕ → Bool
-is_below n None = false
-is_below n (Some promised) = nat_lt n promised
 
 -- with this body there are more bytes than were promised
 abbrev pub has_too_much_body : Facts → List Outgoing → Outgoing → Bool

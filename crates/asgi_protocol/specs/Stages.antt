@@ -1,6 +1,5 @@
 -- Words of private functions, which state no promise: what a judge keeps, and which lists of events it stands for.
-use Rattle.std.specs.Prelude.{◌≡◌, ◌+◌, ◌-◌, Bool, false, List, [], ◌∷◌, ◌++◌, None}
-use Rattle.std.specs.Option.{option_map}
+use Rattle.std.specs.Prelude.{◌≡◌, Bool, false, List, [], ◌∷◌, ◌++◌, None}
 use Rattle.asgi_types.specs.declared.scope.Kind.{Kind}
 use Rattle.asgi_types.specs.declared.scope.Kind.TheVariants.{Http, WebSocket, Lifespan}
 use Rattle.asgi_types.specs.declared.facts.Facts.{Facts}
@@ -8,6 +7,7 @@ use Rattle.asgi_types.specs.declared.outgoing.Outgoing.{Outgoing}
 use Rattle.asgi_protocol.specs.declared.judge.Stage.{Stage}
 use Rattle.asgi_protocol.specs.declared.judge.Stage.TheVariants.{Fresh, Begun, Accepted, Started, Ended}
 use Rattle.asgi_protocol.specs.declared.judge.Judge.{Judge}
+use Rattle.asgi_protocol.specs.BytesLeft.{with_sent}
 use Rattle.asgi_protocol.specs.Lawful.{IsLawful}
 use Rattle.asgi_protocol.specs.Rules.{promised_length, body_bytes}
 use Rattle.asgi_protocol.specs.Shapes.{is_word, begins_word, is_row, begins_row, is_empty, is_part, is_last_part, is_message, is_close, is_denial_part, is_last_denial_part, is_stop_answer, no_event}
@@ -44,7 +44,7 @@ abbrev pub CountsBytes : Facts → Stage → List Outgoing → Type 0
 CountsBytes facts Fresh said = said ≡ []
 CountsBytes facts (Begun left) said =
     (start : Outgoing) × (bodies : List Outgoing) × (said ≡ start ∷ bodies)
-    × (promised_length facts said ≡ option_map (λ n. body_bytes said + n) left)
+    × (promised_length facts said ≡ with_sent (body_bytes said) left)
 CountsBytes facts Accepted said = (start : Outgoing) × (sent : List Outgoing) × (said ≡ start ∷ sent) × (promised_length facts said ≡ None)
 CountsBytes facts Started said = (start : Outgoing) × (sent : List Outgoing) × (said ≡ start ∷ sent) × (promised_length facts said ≡ None)
 CountsBytes facts Ended said = Unit {0}

@@ -1,13 +1,13 @@
 -- What a judge does at an event, from what it keeps: words of private functions.
-use Rattle.std.specs.Prelude.{ℕ, ◌-◌, Bool, true, false, not, ◌&&◌, ◌||◌, List, [], ◌∷◌, length, Option, None, if◌then◌else◌}
-use Rattle.std.specs.Option.{option_map}
+use Rattle.std.specs.Prelude.{ℕ, Bool, true, false, not, ◌&&◌, ◌||◌, List, [], ◌∷◌, length, Option, None, if◌then◌else◌}
 use Rattle.asgi_types.specs.declared.facts.Facts.{Facts}
 use Rattle.asgi_types.specs.declared.outgoing.Outgoing.{Outgoing}
 use Rattle.asgi_types.specs.declared.outgoing.Outgoing.TheVariants.{ResponseStart, ResponseBody, WsAccept, WsSend, WsClose, DenialStart, DenialBody, StartupComplete, StartupFailed, ShutdownComplete, ShutdownFailed}
 use Rattle.asgi_protocol.specs.declared.judge.Stage.{Stage}
 use Rattle.asgi_protocol.specs.declared.judge.Stage.TheVariants.{Fresh, Begun, Accepted, Started, Ended}
 use Rattle.asgi_protocol.specs.declared.judge.Judge.{Judge}
-use Rattle.asgi_protocol.specs.Rules.{promised_length, is_above, is_below, has_bad_status, has_bad_header, has_bad_code, has_bad_reason, has_bad_subprotocol}
+use Rattle.asgi_protocol.specs.BytesLeft.{is_above, is_below, left_behind}
+use Rattle.asgi_protocol.specs.Rules.{promised_length, has_bad_status, has_bad_header, has_bad_code, has_bad_reason, has_bad_subprotocol}
 use Rattle.asgi_protocol.specs.Shapes.{is_of}
 use Rattle.asgi_protocol.specs.Verdicts.{Lines}
 
@@ -81,7 +81,7 @@ lines_at judge facts event = record {
 
 -- the stage behind a body
 abbrev pub behind_body : Stage → List ℕ → Bool → Stage
-behind_body stage body more_body = if more_body then Begun (option_map (λ n. n - length body) (bytes_left stage)) else Ended
+behind_body stage body more_body = if more_body then Begun (left_behind (bytes_left stage) (length body)) else Ended
 
 -- the stage behind an event that passed
 abbrev pub stage_behind : Facts → Stage → Outgoing → Stage

@@ -1,11 +1,10 @@
 //! The judge of what an application sends.
-ghost use Rattle.std.specs.Prelude.{◌≡◌, ◌≢◌, Bool, false, ◌||◌, List, [], ◌∷◌, ◌++◌, length};
+ghost use Rattle.std.specs.Prelude.{◌≡◌, ◌≢◌, Bool, false, ◌||◌, List, [], ◌∷◌, ◌++◌};
 ghost use Rattle.asgi_types.specs.declared.scope.Kind.{Kind};
 ghost use Rattle.asgi_types.specs.declared.facts.Facts.{Facts};
 ghost use Rattle.asgi_types.specs.declared.outgoing.Outgoing.{Outgoing};
 ghost use Rattle.asgi_protocol.specs.Stages.{StandsFor};
 ghost use Rattle.asgi_protocol.specs.Steps.{lines_at, stage_behind, behind_body as behind_body_of, bytes_left as left_of, has_place as has_place_for, takes_too_much as is_too_much, leaves_too_much as is_too_little};
-ghost use Rattle.asgi_protocol.specs.Rules.{is_above, is_below};
 ghost use Rattle.asgi_protocol.specs.Shapes.{is_of as is_event_of};
 ghost use Rattle.asgi_protocol.specs.Verdicts.{verdict_on, first_line, verdict_on_closed, is_disconnect as is_disconnect_event};
 
@@ -13,7 +12,7 @@ use crate::rules::{
     has_bad_code, has_bad_header, has_bad_reason, has_bad_status, has_bad_subprotocol,
     promised_length,
 };
-use crate::{Verdict, Violation};
+use crate::{BytesLeft, Verdict, Violation};
 use asgi_types::{Facts, Incoming, Kind, Octets, Outgoing};
 
 /// How far the conversation is.
@@ -21,9 +20,8 @@ use asgi_types::{Facts, Incoming, Kind, Octets, Outgoing};
 enum Stage {
     /// Nothing was said.
     Fresh,
-    /// A response or a denial has begun. So many bytes are left of the length that its start
-    /// gives.
-    Begun { left: Option<u64> },
+    /// A response or a denial has begun, and its bodies are counted.
+    Begun { left: BytesLeft },
     /// The session was accepted.
     Accepted,
     /// The startup is complete.
@@ -157,9 +155,10 @@ impl Stage {
     fn takes_too_much(self, event: &Outgoing) -> bool
         ensures { result ≡ is_too_much self event.now }
     {
+        let left = self.bytes_left();
         match event {
-            Outgoing::ResponseBody { body, .. } => self.is_exceeded_by(body),
-            Outgoing::DenialBody { body, .. } => self.is_exceeded_by(body),
+            Outgoing::ResponseBody { body, .. } => left.is_exceeded_by(body.bytes().len()),
+            Outgoing::DenialBody { body, .. } => left.is_exceeded_by(body.bytes().len()),
             _ => false,
         }
     }
@@ -168,38 +167,25 @@ impl Stage {
     fn leaves_too_much(self, event: &Outgoing) -> bool
         ensures { result ≡ is_too_little self event.now }
     {
+        let left = self.bytes_left();
         match event {
-            Outgoing::ResponseBody { body, more_body } => !*more_body && self.exceeds(body),
-            Outgoing::DenialBody { body, more_body } => !*more_body && self.exceeds(body),
+            Outgoing::ResponseBody { body, more_body } => {
+                !*more_body && left.exceeds(body.bytes().len())
+            }
+            Outgoing::DenialBody { body, more_body } => {
+                !*more_body && left.exceeds(body.bytes().len())
+            }
             _ => false,
         }
     }
 
     /// The bytes that are left of the length that a start gave.
-    fn bytes_left(self) -> Option<u64>
+    fn bytes_left(self) -> BytesLeft
         ensures { result ≡ left_of self }
     {
         match self {
             Stage::Begun { left } => left,
-            Stage::Fresh | Stage::Accepted | Stage::Started | Stage::Ended => None,
-        }
-    }
-
-    fn is_exceeded_by(self, body: &Octets) -> bool
-        ensures { result ≡ is_above (length body.now) (left_of self) }
-    {
-        match self.bytes_left() {
-            Some(left) => left < body.bytes().len() as u64,
-            None => false,
-        }
-    }
-
-    fn exceeds(self, body: &Octets) -> bool
-        ensures { result ≡ is_below (length body.now) (left_of self) }
-    {
-        match self.bytes_left() {
-            Some(left) => (body.bytes().len() as u64) < left,
-            None => false,
+            Stage::Fresh | Stage::Accepted | Stage::Started | Stage::Ended => BytesLeft::of(None),
         }
     }
 
@@ -209,7 +195,7 @@ impl Stage {
     {
         match event {
             Outgoing::ResponseStart { .. } | Outgoing::DenialStart { .. } => Stage::Begun {
-                left: promised_length(facts, event),
+                left: BytesLeft::of(promised_length(facts, event)),
             },
             Outgoing::ResponseBody { body, more_body } => self.behind_body(body, *more_body),
             Outgoing::DenialBody { body, more_body } => self.behind_body(body, *more_body),
@@ -228,11 +214,8 @@ impl Stage {
         if !more_body {
             return Stage::Ended;
         }
-        match self.bytes_left() {
-            Some(left) => Stage::Begun {
-                left: Some(left.saturating_sub(body.bytes().len() as u64)),
-            },
-            None => Stage::Begun { left: None },
+        Stage::Begun {
+            left: self.bytes_left().behind(body.bytes().len()),
         }
     }
 }

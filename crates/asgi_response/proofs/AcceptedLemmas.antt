@@ -1,8 +1,7 @@
 -- What passes behind a start and the parts that follow it.
-use Rattle.std.proofs.Common.{◌≡◌, ℕ, ◌+◌, ◌≤◌, Bool, true, false, List, [], ◌∷◌, ◌++◌, length, map, refl, sym, ap, ◌∙◌, subst, arith}
-use Rattle.std.proofs.lemmas.Bool.Decides.{nat_tests}
+use Rattle.std.proofs.Common.{◌≡◌, ℕ, ◌+◌, Bool, true, false, List, [], ◌∷◌, ◌++◌, length, map, refl, sym, ap, ◌∙◌, subst, arith}
 use Rattle.std.proofs.lemmas.List.Sums.{fold-append}
-use Rattle.std.specs.Prelude.{not, ◌&&◌, ◌||◌, ◌==◌, nat_le, nat_lt, if◌then◌else◌, Option, Some, None}
+use Rattle.std.specs.Prelude.{not, ◌&&◌, ◌||◌, if◌then◌else◌, Option}
 use Rattle.asgi_types.specs.Fields.{HeaderField}
 use Rattle.asgi_types.specs.declared.facts.Facts.{Facts}
 use Rattle.asgi_types.specs.declared.scope.Kind.TheVariants.{Http}
@@ -10,14 +9,16 @@ use Rattle.asgi_types.specs.declared.outgoing.Outgoing.{Outgoing}
 use Rattle.asgi_types.specs.declared.outgoing.Outgoing.TheVariants.{ResponseStart, ResponseBody}
 use Rattle.asgi_protocol.specs.declared.verdict.Verdict.{Verdict}
 use Rattle.asgi_protocol.specs.declared.verdict.Verdict.TheVariants.{Ignored, Refused}
+use Rattle.asgi_protocol.specs.BytesLeft.{is_above, is_below, left_behind, with_sent}
 use Rattle.asgi_protocol.specs.ContentLengths.{content_length}
 use Rattle.asgi_protocol.specs.Lawful.{IsResponse}
-use Rattle.asgi_protocol.specs.Rules.{is_status, is_faulty, is_above, is_below, promised_length, body_bytes}
+use Rattle.asgi_protocol.specs.Rules.{is_status, is_faulty, promised_length, body_bytes}
 use Rattle.asgi_protocol.specs.Shapes.{is_part, is_last_part, is_row, begins_row, is_word, begins_word}
 use Rattle.asgi_protocol.specs.Verdicts.{Lines, lines_on, first_line}
 use Rattle.asgi_response.specs.Accepted.{is_pass, passes, with_event, accepted}
-use Rattle.asgi_response.specs.Standing.{part, with_sent}
-use Rattle.asgi_response.specs.Steps.{is_allowed, left_behind}
+use Rattle.asgi_response.specs.Standing.{part}
+use Rattle.asgi_response.specs.Steps.{is_allowed}
+use Rattle.asgi_protocol.proofs.CountLemmas.{above_agrees, below_agrees, counts_down}
 
 -- ---- the words
 
@@ -85,20 +86,6 @@ start_lines true true = refl
 start_lines true false = refl
 start_lines false header = refl
 
--- ---- the bytes that are left
-
-fits_more : (sent n left : ℕ) → (not (nat_lt (sent + left) (sent + n)) && not (false && nat_lt (sent + n) (sent + left))) ≡ nat_le n left
-fits_more sent n left = grind (arith, nat_tests)
-
-fits_last : (sent n left : ℕ) → (not (nat_lt (sent + left) (sent + n)) && not (true && nat_lt (sent + n) (sent + left))) ≡ (n == left)
-fits_last sent n left = grind (arith, nat_tests)
-
-allowed_at : (sent n : ℕ) (left : Option ℕ) (more : Bool) → (not (is_above (sent + n) (with_sent sent left)) && not (not more && is_below (sent + n) (with_sent sent left))) ≡ is_allowed left n more
-allowed_at sent n None true = refl
-allowed_at sent n None false = refl
-allowed_at sent n (Some left) true = fits_more sent n left
-allowed_at sent n (Some left) false = fits_last sent n left
-
 -- ---- the events that pass
 
 start_text : ℕ → List HeaderField → List (List ℕ) → List Outgoing
@@ -113,8 +100,8 @@ passes_open facts status headers parts left body more e =
     let n : ℕ = length body in
     body_lines (is_word Http said) (begins_word Http (said ++ ResponseBody body more ∷ [])) (is_above (sent + n) (promised_length facts said)) (not more && is_below (sent + n) (promised_length facts said))
     (is_row-open parts) (begins_row-body parts body more)
-    ∙ ap (λ (p : Option ℕ). not (is_above (sent + n) p) && not (not more && is_below (sent + n) p)) e
-    ∙ allowed_at sent n left more
+    ∙ sym (ap (λ (b : Bool). not b && not (not more && is_below n left)) (above_agrees sent n left (promised_length facts said) e)
+    ∙ ap (λ (b : Bool). not (is_above (sent + n) (promised_length facts said)) && not (not more && b)) (below_agrees sent n left (promised_length facts said) e))
 
 pub passes_body : (facts : Facts) (said : List Outgoing) (status : ℕ) (headers : List HeaderField) (parts : List (List ℕ)) (left : Option ℕ) (body : List ℕ) (more : Bool)
     → said ≡ ResponseStart status headers ∷ map part parts → promised_length facts said ≡ with_sent (body_bytes said) left
@@ -157,11 +144,10 @@ body_bytes-parts : (parts : List (List ℕ)) (body : List ℕ) (more : Bool) →
 body_bytes-parts [] body more = omega arith
 body_bytes-parts (p ∷ parts) body more = ap (λ (n : ℕ). length p + n) (body_bytes-parts parts body more) ∙ omega arith
 
-left_after : (sent n : ℕ) (left : Option ℕ) → is_allowed left n true ≡ true → with_sent sent left ≡ with_sent (sent + n) (left_behind left n)
-left_after sent n None h = refl
-left_after sent n (Some left) h =
-    let fits : n ≤ left = grind (arith, nat_tests, h) in
-    ap (λ (m : ℕ). let o : Option ℕ = Some m in o) (omega (arith, fits))
+-- a body that is allowed does not go past them
+fits_in : (above below : Bool) → (not above && not (false && below)) ≡ true → above ≡ false
+fits_in true below h = cc
+fits_in false below h = refl
 
 pub promised_behind : (facts : Facts) (said : List Outgoing) (status : ℕ) (headers : List HeaderField) (parts : List (List ℕ)) (left : Option ℕ) (body : List ℕ)
     → said ≡ ResponseStart status headers ∷ map part parts → promised_length facts said ≡ with_sent (body_bytes said) left
@@ -171,6 +157,6 @@ promised_behind facts said status headers parts left body e promised fits =
     let start : List Outgoing = ResponseStart status headers ∷ map part parts in
     let same : promised_length facts start ≡ with_sent (body_bytes start) left = subst (λ (s : List Outgoing). promised_length facts s ≡ with_sent (body_bytes s) left) e promised in
     ap (λ (s : List Outgoing). promised_length facts (s ++ part body ∷ [])) e ∙ same
-    ∙ left_after (body_bytes start) (length body) left fits
+    ∙ counts_down (body_bytes start) (length body) left (fits_in (is_above (length body) left) (is_below (length body) left) fits)
     ∙ ap (λ (n : ℕ). with_sent n (left_behind left (length body))) (sym (body_bytes-parts parts body true))
     ∙ sym (ap (λ (s : List Outgoing). with_sent (body_bytes (s ++ part body ∷ [])) (left_behind left (length body))) e)

@@ -6,9 +6,10 @@ use Rattle.std.specs.Prelude.{not, ◌&&◌, nat_lt, if◌then◌else◌, Option
 use Rattle.asgi_types.specs.declared.facts.Facts.{Facts}
 use Rattle.asgi_types.specs.declared.outgoing.Outgoing.{Outgoing}
 use Rattle.asgi_types.specs.declared.outgoing.Outgoing.TheVariants.{ResponseStart, ResponseBody}
+use Rattle.asgi_protocol.specs.BytesLeft.{is_above, is_below}
 use Rattle.asgi_protocol.specs.ContentLengths.{content_length}
 use Rattle.asgi_protocol.specs.Lawful.{IsResponse}
-use Rattle.asgi_protocol.specs.Rules.{given_length, has_no_content, promised_length, body_bytes, is_above, is_below}
+use Rattle.asgi_protocol.specs.Rules.{given_length, has_no_content, promised_length, body_bytes}
 use Rattle.asgi_response.specs.Accepted.{accepted}
 use Rattle.asgi_response.specs.Content.{has_content}
 use Rattle.asgi_response.specs.Standing.{part}

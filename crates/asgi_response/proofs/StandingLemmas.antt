@@ -1,12 +1,13 @@
 -- What a text stands for behind one more event, and what the event adds.
-use Rattle.std.proofs.Common.{◌≡◌, ℕ, ◌+◌, Bool, true, false, List, [], ◌∷◌, ◌++◌, length, map, flat_map, refl, sym, ap, ◌∙◌, subst, append_assoc, zero-add, length-append, ◌⊎◌, inl, inr, IsTrue, arith}
+use Rattle.std.proofs.Common.{◌≡◌, ℕ, ◌+◌, Bool, true, false, List, [], ◌∷◌, ◌++◌, length, map, flat_map, refl, sym, ap, ◌∙◌, subst, append_assoc, length-append, ◌⊎◌, inl, inr, IsTrue, arith}
 use Rattle.std.proofs.lemmas.List.{append-nil, map-append}
 use Rattle.std.proofs.lemmas.List.Concat.{flat_map-append}
-use Rattle.std.specs.Prelude.{not, ◌&&◌, if◌then◌else◌, Option, Some, None}
+use Rattle.std.specs.Prelude.{not, ◌&&◌, if◌then◌else◌, Some}
 use Rattle.asgi_types.specs.Fields.{HeaderField}
 use Rattle.asgi_types.specs.declared.facts.Facts.{Facts}
 use Rattle.asgi_types.specs.declared.outgoing.Outgoing.{Outgoing}
 use Rattle.asgi_types.specs.declared.outgoing.Outgoing.TheVariants.{ResponseStart, ResponseBody, WsAccept, WsSend, WsClose, DenialStart, DenialBody, StartupComplete, StartupFailed, ShutdownComplete, ShutdownFailed}
+use Rattle.asgi_protocol.specs.BytesLeft.{with_sent}
 use Rattle.asgi_protocol.specs.ContentLengths.{content_length}
 use Rattle.asgi_protocol.specs.Rules.{is_status, is_faulty, promised_length, body_bytes}
 use Rattle.asgi_response.specs.declared.content.Coding.{Coding}
@@ -21,8 +22,9 @@ use Rattle.asgi_response.specs.Progress.{closes_behind}
 use Rattle.asgi_response.specs.Response.{body_text, message_text, continue_text, response_text}
 use Rattle.asgi_types.specs.Room.{LacksRoom}
 use Rattle.asgi_response.specs.Room.{LacksMemory, is_start}
-use Rattle.asgi_response.specs.Standing.{coding_of, part, with_sent, IsOpen, HasStart, HasParts, IsPhase, HasAccepted, StandsFor, Grows}
+use Rattle.asgi_response.specs.Standing.{coding_of, part, IsOpen, HasStart, HasParts, IsPhase, HasAccepted, StandsFor, Grows}
 use Rattle.asgi_response.specs.Steps.{coded_text, is_allowed, left_at_start, content_due, next_phase, may_start, content_at_start, after_part, part_added, after_event, starts, added_by}
+use Rattle.asgi_protocol.proofs.CountLemmas.{with_sent-zero}
 use Rattle.asgi_response.proofs.AcceptedLemmas.{passes_body, second_start, after_closed, first_start, first_body, other_scope, accepted-push, promised_behind}
 
 -- ---- an event that passes or not
@@ -42,10 +44,6 @@ choose P true false t u said more e taken kept = cc
 choose P false true t u said more e taken kept = cc
 
 -- ---- a start
-
-with_sent-zero : (left : Option ℕ) → left ≡ with_sent 0 left
-with_sent-zero None = refl
-with_sent-zero (Some n) = ap (λ (m : ℕ). let o : Option ℕ = Some m in o) (sym (zero-add n))
 
 -- in front of a start the request alone says whether the connection closes
 closes_first : (t : ResponseText) (facts : Facts) (said : List Outgoing) → HasAccepted t facts said → said ≡ [] → t.close ≡ facts.close

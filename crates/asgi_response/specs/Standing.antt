@@ -1,9 +1,10 @@
 -- What a response text stands for: the facts of a request, and the list of events that it has taken.
-use Rattle.std.specs.Prelude.{◌≡◌, ℕ, ◌+◌, Bool, true, List, [], ◌∷◌, ◌++◌, map, Option, Some, None, if◌then◌else◌}
+use Rattle.std.specs.Prelude.{◌≡◌, ℕ, Bool, true, List, [], ◌∷◌, ◌++◌, map, if◌then◌else◌}
 use Rattle.asgi_types.specs.Fields.{HeaderField}
 use Rattle.asgi_types.specs.declared.facts.Facts.{Facts}
 use Rattle.asgi_types.specs.declared.outgoing.Outgoing.{Outgoing}
 use Rattle.asgi_types.specs.declared.outgoing.Outgoing.TheVariants.{ResponseStart, ResponseBody}
+use Rattle.asgi_protocol.specs.BytesLeft.{with_sent}
 use Rattle.asgi_protocol.specs.Lawful.{IsResponse}
 use Rattle.asgi_protocol.specs.Rules.{promised_length, body_bytes}
 use Rattle.asgi_response.specs.declared.text.ResponseText.{ResponseText}
@@ -16,11 +17,6 @@ use Rattle.asgi_response.specs.Fields.{is_chunked, closes, head_text}
 use Rattle.asgi_response.specs.Content.{has_content}
 use Rattle.asgi_response.specs.Accepted.{accepted}
 use Rattle.asgi_response.specs.Progress.{closes_behind}
-
--- the bytes that were promised, from those that were sent and those that are left
-abbrev pub with_sent : ℕ → Option ℕ → Option ℕ
-with_sent sent None = None
-with_sent sent (Some left) = Some (sent + left)
 
 -- how the bodies are written, where the response has content or not, and in chunks or not
 abbrev pub coding_of : Bool → Bool → Coding

@@ -1,9 +1,10 @@
 -- What the private functions of a response text tell each other. No promise is stated by these words.
-use Rattle.std.specs.Prelude.{ℕ, ◌-◌, Bool, true, false, ◌&&◌, not, List, [], ◌++◌, length, Option, Some, None, if◌then◌else◌, nat_le, ◌==◌}
+use Rattle.std.specs.Prelude.{ℕ, Bool, true, false, ◌&&◌, not, List, [], ◌++◌, length, Option, Some, None, if◌then◌else◌}
 use Rattle.asgi_types.specs.Fields.{HeaderField}
 use Rattle.asgi_types.specs.declared.outgoing.HttpVersion.{HttpVersion}
 use Rattle.asgi_types.specs.declared.outgoing.Outgoing.{Outgoing}
 use Rattle.asgi_types.specs.declared.outgoing.Outgoing.TheVariants.{ResponseStart, ResponseBody}
+use Rattle.asgi_protocol.specs.BytesLeft.{is_above, is_below, left_behind}
 use Rattle.asgi_protocol.specs.ContentLengths.{content_length}
 use Rattle.asgi_protocol.specs.Rules.{is_status, is_faulty, promised_at}
 use Rattle.asgi_protocol.specs.declared.content_length.ContentLength.{ContentLength}
@@ -29,13 +30,7 @@ coded_text Chunked body more_body = part_text true body more_body
 
 -- a body of so many bytes is neither too much nor too little
 abbrev pub is_allowed : Option ℕ → ℕ → Bool → Bool
-is_allowed None n more_body = true
-is_allowed (Some left) n more_body = if more_body then nat_le n left else n == left
-
--- the bytes that are left behind a body of so many
-abbrev pub left_behind : Option ℕ → ℕ → Option ℕ
-left_behind None n = None
-left_behind (Some left) n = Some (left - n)
+is_allowed left n more_body = not (is_above n left) && not (not more_body && is_below n left)
 
 -- the bytes that are left behind a start
 abbrev pub left_at_start : Bool → ℕ → ContentLength → Option ℕ

@@ -1,6 +1,8 @@
 //! The content of a response: how its bodies are written, and how many bytes are left.
 ghost use Rattle.std.specs.Prelude.{◌≡◌};
 
+use asgi_protocol::BytesLeft;
+
 /// How the bodies are written (RFC 9112, section 6).
 #[derive(Clone, Copy, Debug, PartialEq, Eq)]
 pub enum Coding {
@@ -16,24 +18,21 @@ pub enum Coding {
 #[derive(Clone, Copy, Debug, PartialEq, Eq)]
 pub struct Content {
     pub coding: Coding,
-    /// The bytes that content-length promises and that are not there yet; `None` for any number.
-    pub left: Option<u64>,
+    pub left: BytesLeft,
 }
 
 impl Content {
-    ghost use Rattle.asgi_response.specs.Steps.{is_allowed, left_behind};
+    ghost use Rattle.asgi_protocol.specs.BytesLeft.{left_behind};
+    ghost use Rattle.asgi_response.specs.Steps.{is_allowed};
 
     /// Whether a body of so many bytes is neither too much nor, where it is the last, too little.
-    pub fn allows(self, len: usize, more_body: bool) -> bool
-        ensures { result ≡ is_allowed self.left len more_body }
+    pub fn allows(&self, len: usize, more_body: bool) -> bool
+        ensures { result ≡ is_allowed self.now.left len more_body }
     {
-        let Some(left) = self.left else {
-            return true;
-        };
-        if more_body {
-            return len as u64 <= left;
+        if self.left.is_exceeded_by(len) {
+            return false;
         }
-        len as u64 == left
+        more_body || !self.left.exceeds(len)
     }
 
     /// What the bodies may be behind one of so many bytes.
@@ -41,12 +40,9 @@ impl Content {
         ensures coding { result.coding ≡ self.coding }
         ensures left { result.left ≡ left_behind self.left len }
     {
-        let Some(left) = self.left else {
-            return self;
-        };
         Content {
             coding: self.coding,
-            left: Some(left.saturating_sub(len as u64)),
+            left: self.left.behind(len),
         }
     }
 }

@@ -21,7 +21,7 @@ use crate::fields::closes;
 use crate::head::{CRLF, head_text};
 use crate::progress::Progress;
 use crate::refusal::{Input, append_refusal};
-use asgi_protocol::{ContentLength, has_no_content};
+use asgi_protocol::{BytesLeft, ContentLength, has_no_content};
 use asgi_types::{Facts, Headers, HttpVersion, Octets, Outgoing};
 use std::alloc::{AllocError, Global};
 
@@ -244,12 +244,12 @@ fn content_at_start(head_only: bool, status: u16, chunked: bool, length: Content
     if head_only || has_no_content(status) {
         return Content {
             coding: Coding::Nothing,
-            left: None,
+            left: BytesLeft::of(None),
         };
     }
     Content {
         coding: coding_of(chunked),
-        left: length.promised_at(status),
+        left: BytesLeft::of(length.promised_at(status)),
     }
 }
 

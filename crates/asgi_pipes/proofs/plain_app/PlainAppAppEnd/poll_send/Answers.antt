@@ -10,35 +10,34 @@ use Rattle.asgi_pipes.proofs.DisconnectLemmas.{hears_said}
 use Rattle.asgi_pipes.proofs.JudgedLemmas.{passes}
 use Rattle.asgi_pipes.proofs.plain_app.PlainAppAppEnd.poll_send.Goals as goal
 
-pub invariant_of-self-2-clause-put_is : goal.invariant_of-self-2-clause-put_is
-invariant_of-self-2-clause-put_is c =
+pub invariant_of-self-clause-put_is : goal.invariant_of-self-clause-put_is
+invariant_of-self-clause-put_is c =
     let s = c.args.self.now in
     rw (c.with.ensures, c.requires)
     (c.put.ensures.put ∙ ap (λ l. l ++ Event c.args.event ∷ []) (s.put_is ∙ ap (items_of s.said.items) c.requires) ∙ sym (items_event s.said.items c.args.event))
 
-pub invariant_of-self-2-clause-judged : goal.invariant_of-self-2-clause-judged
-invariant_of-self-2-clause-judged c =
+pub invariant_of-self-clause-judged : goal.invariant_of-self-clause-judged
+invariant_of-self-clause-judged c =
     let s = c.args.self.now in
-    let pass = sym (c.verdict_of-verdict.ensures s.kind s.said.items (has_disconnect s.heard.items) s.judged) ∙ passes _ c.in_default.not-Ignored c.in_default-verdict.not-Refused in
-    rw c.with.ensures
-    (∥∥₁_map s.judged (λ x. c.judge-passes.ensures.passed (c.judge-passes.ensures.verdict s.kind s.said.items (has_disconnect s.heard.items) x ∙ pass) s.kind s.said.items (has_disconnect s.heard.items) x))
+    let pass = passes _ c.in_default.not-Ignored c.in_default-verdict.not-Refused in
+    rw c.with.ensures (c.judge_event-verdict.ensures.passed pass s.kind s.said.items (has_disconnect s.heard.items) s.judged)
 
-pub invariant_of-self-2-clause-opened : goal.invariant_of-self-2-clause-opened
-invariant_of-self-2-clause-opened c =
+pub invariant_of-self-clause-opened : goal.invariant_of-self-clause-opened
+invariant_of-self-clause-opened c =
     let s = c.args.self.now in
     rw c.with.ensures (c.opens-self.ensures ∙ ap (λ b. b || is_accept c.args.event) s.opened ∙ sym (accepted-append s.said.items c.args.event))
 
-pub invariant_of-self-2-clause-at_once : goal.invariant_of-self-2-clause-at_once
-invariant_of-self-2-clause-at_once c =
+pub invariant_of-self-clause-at_once : goal.invariant_of-self-clause-at_once
+invariant_of-self-clause-at_once c =
     let s = c.args.self.now in
-    let pass = sym (c.verdict_of-verdict.ensures s.kind s.said.items (has_disconnect s.heard.items) s.judged) ∙ passes _ c.in_default.not-Ignored c.in_default-verdict.not-Refused in
+    let pass = sym (c.judge_event-verdict.ensures.verdict s.kind s.said.items (has_disconnect s.heard.items) s.judged) ∙ passes _ c.in_default.not-Ignored c.in_default-verdict.not-Refused in
     rw c.with.ensures
     (c.behind-self.ensures ∙ ap (λ b. closing_of b c.args.event) s.opened
     ∙ sym (answer_behind s.kind s.said.items s.heard.items c.args.event (passed s.kind s.facts s.said.items s.heard.items c.args.event pass)))
 
-pub invariant_of-self-2-clause-hears_is : goal.invariant_of-self-2-clause-hears_is
-invariant_of-self-2-clause-hears_is c =
+pub invariant_of-self-clause-hears_is : goal.invariant_of-self-clause-hears_is
+invariant_of-self-clause-hears_is c =
     let s = c.args.self.now in
-    let pass = sym (c.verdict_of-verdict.ensures s.kind s.said.items (has_disconnect s.heard.items) s.judged) ∙ passes _ c.in_default.not-Ignored c.in_default-verdict.not-Refused in
+    let pass = sym (c.judge_event-verdict.ensures.verdict s.kind s.said.items (has_disconnect s.heard.items) s.judged) ∙ passes _ c.in_default.not-Ignored c.in_default-verdict.not-Refused in
     let p = passed s.kind s.facts s.said.items s.heard.items c.args.event pass in
     rw c.with.ensures (∥∥₁_map s.hears_is (hears_said s.kind s.said.items (s.said.items ++ c.args.event ∷ []) s.inn.taken.items s.heard.items p.open_is p.none))
