@@ -1,5 +1,6 @@
 -- The fields that the spans cover are those of the head.
-use Rattle.std.proofs.Common.{◌≡◌, ℕ, zero, suc, ◌<◌, ◌≤◌, length, take, subst, arith, List, [], ◌∷◌, map, refl, sym, ap, ◌∙◌}
+use Rattle.std.proofs.Common.{◌≡◌, ℕ, zero, suc, ◌<◌, ◌≤◌, length, take, subst, arith, List, [], ◌∷◌, map, refl, sym, ap, ◌∙◌, Option, Some, None}
+use Rattle.std.specs.Prelude.{IsSome}
 use Rattle.std.proofs.lemmas.List.{length-map, length-take, drop_all}
 use Rattle.httparse.specs.Grammar.{Field, RequestHead, ReadsRequest}
 use Rattle.httparse.specs.declared.spans.HeaderSpan.{HeaderSpan}
@@ -7,7 +8,8 @@ use Rattle.httparse.specs.declared.spans.RequestSpans.{RequestSpans}
 use Rattle.httparse.specs.Spans.{header_bytes, name_and_value, IsRequestAt}
 use Rattle.asgi_types.specs.Fields.{HeaderField, field_of}
 use Rattle.asgi_types.specs.declared.outgoing.HttpVersion.TheVariants.{V10, V11}
-use Rattle.asgi_request.specs.Head.{IsHeadOf, field_of_line, version_of}
+use Rattle.asgi_request.specs.declared.head.HeadRecord.{HeadRecord}
+use Rattle.asgi_request.specs.Head.{IsHeadOf, ParsesHead, field_of_line, version_of}
 use Rattle.asgi_request.specs.Steps.{field_at}
 
 pair_field : List ℕ × List ℕ → HeaderField
@@ -48,3 +50,10 @@ head_of_whole max_headers text spans r h len room at =
       reads = subst (λ (rest : List ℕ). ReadsRequest text h rest) none at.reads;
       few = omega arith;
     }
+
+-- a head of few fields is one of more
+pub more_room : (few most : ℕ) (text : List ℕ) (found : Option HeadRecord) → few ≤ most → IsSome found → ParsesHead few text found
+    → ParsesHead most text found
+more_room few most text None room is parses = cc
+more_room few most text (Some r) room is parses =
+    (parses.0, record { reads = parses.1.reads; few = omega (arith, room, parses.1.few) }, parses.2)

@@ -25,8 +25,33 @@ pub struct HeadRecord {
     pub headers: Headers,
 }
 
-/// The record of a head text, or `None` where it is no head.
+/// The most fields of most heads. To clear room for more would cost more than to read such a head.
+const FEW: usize = 32;
+
+/// The record of a head text, or `None` where it is no head. A text that has more than a few fields, or that is no head,
+/// is parsed twice.
+#[tactic(auto, using(crate::proofs::RecordLemmas::more_room))]
 pub fn parse_head(
+    alloc: Global,
+    max_headers: usize,
+    text: &[u8],
+) -> Result<Option<HeadRecord>, AllocError>
+    requires room { max_headers ≤ 128 }
+    requires short { length text.now ≤ 65535 }
+    ensures { IfOk result (λ found. ParsesHead max_headers text.now found) }
+{
+    if FEW < max_headers {
+        let mut spans = [EMPTY_HEADER_SPAN; FEW];
+        let found = parse_into(alloc, text, &mut spans)?;
+        if found.is_some() {
+            return Ok(found);
+        }
+    }
+    parse_full(alloc, max_headers, text)
+}
+
+/// The same, with room for as many fields as a head may have.
+fn parse_full(
     alloc: Global,
     max_headers: usize,
     text: &[u8],
