@@ -18,6 +18,9 @@ const CR: u8 = b'\r';
 /// The most bytes of a size line.
 const SIZE_LINE_LIMIT: usize = 256;
 
+/// So few bytes are looked at one by one, as where they come one by one.
+const SHORT: usize = 16;
+
 /// How far a search has come: no text ends whose line feed stands before `at`.
 #[derive(Clone, Copy, Debug, PartialEq, Eq)]
 pub struct Search {
@@ -130,8 +133,24 @@ fn find_line_feed(bytes: &[u8], from: usize) -> Option<usize>
     requires { from ≤ length bytes.now }
     ensures { IsFirst (Passes (is_byte line_feed) bytes.now) from (length bytes.now) result }
 {
+    if bytes.len() - from < SHORT {
+        return find_near_line_feed(bytes, from);
+    }
     let i = memchr(LF, &bytes[from..])?;
     Some(from + i)
+}
+
+/// The same, byte by byte.
+fn find_near_line_feed(bytes: &[u8], from: usize) -> Option<usize>
+    requires { from ≤ length bytes.now }
+    ensures { IsFirst (Passes (is_byte line_feed) bytes.now) from (length bytes.now) result }
+{
+    for i in from..bytes.len() {
+        if bytes[i] == LF {
+            return Some(i);
+        }
+    }
+    None
 }
 
 /// The end of the first empty line that follows a line feed at `from` or later, and how far the search has come.
