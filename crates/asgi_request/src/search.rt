@@ -129,6 +129,7 @@ fn is_open(bytes: &[u8]) -> bool
 }
 
 /// Where the first line feed stands, from `from` on.
+#[inline(always)]
 fn find_line_feed(bytes: &[u8], from: usize) -> Option<usize>
     requires { from ≤ length bytes.now }
     ensures { IsFirst (Passes (is_byte line_feed) bytes.now) from (length bytes.now) result }
@@ -141,6 +142,7 @@ fn find_line_feed(bytes: &[u8], from: usize) -> Option<usize>
 }
 
 /// The same, byte by byte.
+#[inline(always)]
 fn find_near_line_feed(bytes: &[u8], from: usize) -> Option<usize>
     requires { from ≤ length bytes.now }
     ensures { IsFirst (Passes (is_byte line_feed) bytes.now) from (length bytes.now) result }
