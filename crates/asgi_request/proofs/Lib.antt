@@ -23,3 +23,12 @@ pub mod FirstLemmas
 pub mod RefusalLemmas
 pub mod OpeningLemmas
 pub mod ThereLemmas
+pub mod RunLemmas
+pub mod SizeTestLemmas
+pub mod TrailerTestLemmas
+pub mod BodyOfLemmas
+pub mod BodyGrowthLemmas
+pub mod BodyEventLemmas
+pub mod DueLemmas
+pub mod OpenedLemmas
+pub mod NextLemmas

@@ -85,7 +85,7 @@ length_goes limits h n bytes = by (nat_le n (length bytes)) refl
         subst (λ (s : BodyState). BodyGoes limits (Counted n) bytes (length_events limits.block n bytes) s) state
         (counted_open limits h (length bytes) n bytes (omega arith) (no_le n (length bytes) e))
 
-body_goes : (limits : Limits) → 0 < limits.block → (framing : Framing) (bytes : List ℕ) (events : List Incoming) (state : BodyState)
+pub body_goes : (limits : Limits) → 0 < limits.block → (framing : Framing) (bytes : List ℕ) (events : List Incoming) (state : BodyState)
     → ReadsBody limits framing bytes events state → BodyGoes limits (body_place framing) bytes events state
 body_goes limits h (Length n) bytes events state x =
     let E : List Incoming → Type 0 = λ e. BodyGoes limits (Counted n) bytes e state in
