@@ -28,6 +28,7 @@ pub mod SizeTestLemmas
 pub mod TrailerTestLemmas
 pub mod BodyOfLemmas
 pub mod BodyGrowthLemmas
+pub mod BodyExamples
 pub mod BodyEventLemmas
 pub mod DueLemmas
 pub mod OpenedLemmas
