@@ -252,7 +252,7 @@ same_lists [] [] p q = refl
 same_lists [] (x ∷ b) p q = absurd (cc q.1)
 same_lists (x ∷ a) [] p q = absurd (cc p.1)
 same_lists (x ∷ a) (y ∷ b) p q =
-    let first : x ≡ y = cc p.1 in
+    let first : x ≡ y = cc in
     let on = same_lists a b (p.0, cc p.1) (q.0, cc q.1) in
     ap (λ (z : Incoming). z ∷ a) first ∙ ap (λ (l : List Incoming). y ∷ l) on
 

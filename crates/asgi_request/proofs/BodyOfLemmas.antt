@@ -10,6 +10,7 @@ use Rattle.asgi_types.specs.declared.facts.Framing.{Framing}
 use Rattle.asgi_types.specs.declared.facts.Framing.TheVariants.{Length, Chunked, Upgrade}
 use Rattle.asgi_types.specs.declared.incoming.Incoming.{Incoming}
 use Rattle.asgi_types.specs.declared.limits.Limits.{Limits}
+use Rattle.asgi_request.specs.declared.refusal.Refusal.{Refusal}
 use Rattle.asgi_request.specs.declared.refusal.Refusal.TheVariants.{BadRequest, ContentTooLarge}
 use Rattle.asgi_request.specs.Texts.{IsFirstWithin}
 use Rattle.asgi_request.specs.Fronts.{Front, found, too_long, unfinished, front_at, line_len, trailer_len}
@@ -23,7 +24,7 @@ use Rattle.asgi_request.proofs.LineLemmas.{line_search_for, section_search_for}
 use Rattle.asgi_request.proofs.ForwardLemmas.{yes_lt, no_lt, ended, SizeRead, size_read, chunk_first}
 use Rattle.asgi_request.specs.BodyTexts.{size_in, is_section}
 use Rattle.asgi_request.specs.BodyOf.{Decoded, no_piece, with_piece, trailers_at, trailers_of, chunk_of, behind_size, at_line, chunks_from, chunks_of, body_events, body_state}
-use Rattle.asgi_request.proofs.BodyGrowthLemmas.{body_is_one}
+use Rattle.asgi_request.proofs.BodyGrowthLemmas.{body_grows, body_is_one}
 use Rattle.asgi_request.proofs.SizeTestLemmas.{size_parses}
 use Rattle.asgi_request.proofs.TrailerTestLemmas.{trailers_parse}
 
@@ -181,3 +182,23 @@ body_is_computed limits framing bytes events state = (
       subst E (sym e.0) (subst S (sym e.1) (body_is_read limits framing bytes))
       ),
 )
+
+-- ---- more bytes behind a body that is whole or faulty
+
+grown : (limits : Limits) (framing : Framing) (bytes : List ℕ) (events : List Incoming) (state : BodyState)
+    → body_events limits framing bytes ≡ events → body_state limits framing bytes ≡ state → ReadsBody limits framing bytes events state
+grown limits framing bytes events state e f = (body_is_computed limits framing bytes events state).1 (sym e, sym f)
+
+pub whole_grows : (limits : Limits) (framing : Framing) (bytes more : List ℕ) (events : List Incoming) (behind : List ℕ)
+    → ReadsBody limits framing bytes events (complete behind) → ReadsBody limits framing (bytes ++ more) events (complete (behind ++ more))
+whole_grows limits framing bytes more events behind x =
+    let all = bytes ++ more in
+    let g = body_grows limits framing bytes more events (body_events limits framing all) (complete behind) (body_state limits framing all) x (body_is_read limits framing all) in
+    grown limits framing all events (complete (behind ++ more)) g.stays.0 g.stays.1
+
+pub faulty_grows : (limits : Limits) (framing : Framing) (bytes more : List ℕ) (events : List Incoming) (why : Refusal)
+    → ReadsBody limits framing bytes events (faulty why) → ReadsBody limits framing (bytes ++ more) events (faulty why)
+faulty_grows limits framing bytes more events why x =
+    let all = bytes ++ more in
+    let g = body_grows limits framing bytes more events (body_events limits framing all) (faulty why) (body_state limits framing all) x (body_is_read limits framing all) in
+    grown limits framing all events (faulty why) g.stays.0 g.stays.1

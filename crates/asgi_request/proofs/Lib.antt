@@ -33,3 +33,4 @@ pub mod BodyEventLemmas
 pub mod DueLemmas
 pub mod OpenedLemmas
 pub mod NextLemmas
+pub mod StartLemmas

@@ -13,12 +13,14 @@ ghost use Rattle.asgi_request.specs.BodyGrowth.{Grows, IsRequestEvent};
 ghost use Rattle.asgi_request.specs.BodyOf.{body_events, body_state};
 ghost use Rattle.asgi_request.specs.BodyTexts.{size_in, is_section};
 ghost use Rattle.asgi_request.specs.ChunkedBody.{BodyState, IsTrailerSection};
+ghost use Rattle.asgi_request.specs.HeadText.{EndsAsHead};
 ghost use Rattle.asgi_request.specs.Opened.{HasOpened, HasClosed, BeginsWith};
 ghost use Rattle.asgi_request.specs.Reading.{Reading, StandsFor, IsWaiting, IsRefused, AllGiven};
 ghost use Rattle.asgi_request.specs.Refusals.{status_of};
 ghost use Rattle.asgi_request.specs.RequestEvents.{ReadsBody};
 ghost use Rattle.asgi_request.specs.Places.{ResultsOf};
-ghost use Rattle.asgi_request.specs.Results.{GivesResults, HasFirst, Opens};
+ghost use Rattle.asgi_request.specs.Results.{RefusesHead, GivesResults, HasFirst, Opens};
+ghost use Rattle.asgi_request.specs.Texts.{IsUnfinished};
 
 /// The results of a front of the bytes come first among the results of all of them, so however
 /// the bytes are cut the results are the same.
@@ -125,9 +127,14 @@ pub fn body_is_one()
 
 /// However the bytes of a body are cut, what was due stays due and comes first; a body that is whole or faulty stays so.
 pub fn body_only_grows()
-    ensures { (limits : Limits) (framing : Framing) (bytes more : List ℕ) (events others : List Incoming) (state other : BodyState)
+    ensures grows { (limits : Limits) (framing : Framing) (bytes more : List ℕ) (events others : List Incoming) (state other : BodyState)
         → ReadsBody limits framing bytes events state → ReadsBody limits framing (bytes ++ more) others other
         → Grows more events state others other }
+    ensures whole { (limits : Limits) (framing : Framing) (bytes more : List ℕ) (events : List Incoming) (behind : List ℕ)
+        → ReadsBody limits framing bytes events (BodyState.complete behind)
+        → ReadsBody limits framing (bytes ++ more) events (BodyState.complete (behind ++ more)) }
+    ensures faulty { (limits : Limits) (framing : Framing) (bytes more : List ℕ) (events : List Incoming) (why : Refusal)
+        → ReadsBody limits framing bytes events (BodyState.faulty why) → ReadsBody limits framing (bytes ++ more) events (BodyState.faulty why) }
 {}
 
 /// Each event of a body is a part of it, and none a disconnect.
@@ -151,6 +158,31 @@ pub fn head_opens_a_body()
         → HasClosed reader.limits bytes closed behind → StandsFor reader bytes (closed ++ Next.Head scope facts ∷ more)
         → (arrived : List ℕ) × BeginsWith reader.limits behind scope facts arrived
         × HasOpened reader.limits bytes (closed ++ Next.Head scope facts ∷ []) facts.framing arrived }
+{}
+
+/// Behind whole requests, or where none was given, a head is due: one that the bytes begin with opens a body; a refusal says
+/// why they begin with none that is served; and where the reader needs more, the head is not whole.
+pub fn behind_a_request_a_head_is_due()
+    ensures starts { (limits : Limits) (bytes : List ℕ) → HasClosed limits bytes [] bytes }
+    ensures grows { (limits : Limits) (bytes more : List ℕ) (closed : List Next) (behind : List ℕ)
+        → HasClosed limits bytes closed behind → HasClosed limits (bytes ++ more) closed (behind ++ more) }
+    ensures opens { (limits : Limits) (bytes : List ℕ) (closed : List Next) (behind : List ℕ) (scope : Scope) (facts : Facts) (arrived : List ℕ)
+        → HasClosed limits bytes closed behind → BeginsWith limits behind scope facts arrived
+        → HasOpened limits bytes (closed ++ Next.Head scope facts ∷ []) facts.framing arrived }
+    ensures refused { (reader : Reading) (bytes : List ℕ) (closed : List Next) (behind : List ℕ) (status : ℕ)
+        → HasClosed reader.limits bytes closed behind → StandsFor reader bytes (closed ++ Next.Bad status ∷ [])
+        → (why : Refusal) × RefusesHead reader.limits behind why × (status ≡ status_of why) }
+    ensures need { (reader : Reading) (bytes : List ℕ) (closed : List Next) (behind : List ℕ)
+        → HasClosed reader.limits bytes closed behind → AllGiven reader bytes closed → IsUnfinished EndsAsHead reader.limits.max_head behind }
+{}
+
+/// The head that bytes begin with is one, and stays where more bytes follow.
+pub fn first_head_is_one()
+    ensures one { (limits : Limits) (bytes : List ℕ) (scope other : Scope) (facts others : Facts) (arrived left : List ℕ)
+        → BeginsWith limits bytes scope facts arrived → BeginsWith limits bytes other others left
+        → (scope ≡ other) × (facts ≡ others) × (arrived ≡ left) }
+    ensures stays { (limits : Limits) (bytes more : List ℕ) (scope : Scope) (facts : Facts) (arrived : List ℕ)
+        → BeginsWith limits bytes scope facts arrived → BeginsWith limits (bytes ++ more) scope facts (arrived ++ more) }
 {}
 
 /// What a reader gave behind a head are the first events that are due of the body: all of them where it needs more, where the
