@@ -17,18 +17,20 @@ use Rattle.asgi_request.specs.RequestEvents.{ReadsBody}
 use Rattle.asgi_request.specs.Results.{GivesResults}
 use Rattle.asgi_request.specs.Places.{front, body_place, Reads, shown, Reaches, gives}
 use Rattle.asgi_request.proofs.BackwardLemmas.{Goes, goes_on, one, takes_found}
-use Rattle.asgi_request.proofs.UniqueLemmas.{same_turn, same_rest, judged_known, Reads-append, shown-append}
+use Rattle.asgi_request.proofs.UniqueLemmas.{same_turn, same_rest, judged_known, shown-append}
 use Rattle.asgi_request.proofs.ResultsLemmas.{results_of}
-use Rattle.asgi_request.specs.Opened.{HasOpened}
 use Rattle.asgi_request.proofs.ResultsLemmas.{body_goes}
 use Rattle.asgi_request.proofs.BodyGrowthLemmas.{no_whole, mark, ends_as, BodyRun, run_of_body, marked_no_whole, only_whole, continues, nothing_more, no_front, none_more, Further}
 
--- ---- more bytes arrive
+-- ---- where the reader stands
 
-pub opened_grows : (limits : Limits) (bytes more : List ℕ) (opened : List Next) (framing : Framing) (arrived : List ℕ)
-    → HasOpened limits bytes opened framing arrived → HasOpened limits (bytes ++ more) opened framing (arrived ++ more)
-opened_grows limits bytes more opened framing arrived x =
-    record { steps = x.steps; reads = Reads-append limits Start bytes x.steps (body_place framing) arrived more x.reads; shows = x.shows }
+-- behind these results a body framed that way is due
+abbrev pub OpensAt : Limits → List ℕ → List Next → Framing → List ℕ → Type 0
+OpensAt limits bytes opened framing arrived = Reaches limits bytes opened (body_place framing) arrived
+
+-- behind these results a head is due
+abbrev pub ClosesAt : Limits → List ℕ → List Next → List ℕ → Type 0
+ClosesAt limits bytes closed behind = Reaches limits bytes closed Start behind
 
 -- ---- two runs over the same bytes
 
@@ -84,7 +86,7 @@ not_further limits end rest [] last left e r = refl
 not_further limits end rest (x ∷ items) last left e r = absurd (judged_known limits end rest (record { item = x; place = r.0 }) r.1 r.2 e)
 
 given_of : (limits : Limits) (bytes : List ℕ) (opened given : List Next) (framing : Framing) (arrived : List ℕ) (due : List Incoming) (state : BodyState) (place : Place) (held : List ℕ)
-    → HasOpened limits bytes opened framing arrived → ReadsBody limits framing arrived due state → Reaches limits bytes (opened ++ given) place held → IsGiven due state given
+    → OpensAt limits bytes opened framing arrived → ReadsBody limits framing arrived due state → Reaches limits bytes (opened ++ given) place held → IsGiven due state given
 unfolding mark ends_as
 given_of limits bytes opened given framing arrived due state place held x body r = by (runs_compare limits Start bytes r.steps place held c.steps b.end b.rest r.reads c.reads)
   where
@@ -159,7 +161,7 @@ bad_at [] (faulty why) status tail e =
 -- ---- what was given is due
 
 module _ (limits : Limits) (bytes : List ℕ) (opened : List Next) (framing : Framing) (arrived : List ℕ) (due : List Incoming) (state : BodyState)
-    (place : Place) (held : List ℕ) (x : HasOpened limits bytes opened framing arrived) (body : ReadsBody limits framing arrived due state) where
+    (place : Place) (held : List ℕ) (x : OpensAt limits bytes opened framing arrived) (body : ReadsBody limits framing arrived due state) where
   pub events_are_due : (events : List Incoming) → Reaches limits bytes (opened ++ map Event events) place held → IsPrefix events due
   events_are_due events r = by (given_of limits bytes opened (map Event events) framing arrived due state place held x body r)
     where
@@ -195,7 +197,7 @@ marked_there (z ∷ l) s tail n = marked_there l s tail n
 
 -- where the reader needs more, all was given, and the body is partial
 waits_at : (limits : Limits) (bytes : List ℕ) (opened : List Next) (framing : Framing) (arrived : List ℕ) (due : List Incoming) (state : BodyState)
-    (place : Place) (held : List ℕ) (events : List Incoming) → HasOpened limits bytes opened framing arrived → ReadsBody limits framing arrived due state
+    (place : Place) (held : List ℕ) (events : List Incoming) → OpensAt limits bytes opened framing arrived → ReadsBody limits framing arrived due state
     → Reaches limits bytes (opened ++ map Event events) place held → front limits place held ≡ unfinished → (events ≡ due) × (state ≡ partial)
 unfolding mark ends_as
 waits_at limits bytes opened framing arrived due state place held events x body r waits = by (runs_compare limits Start bytes c.steps b.end b.rest r.steps place held c.reads r.reads)
@@ -248,14 +250,14 @@ waits_at limits bytes opened framing arrived due state place held events x body 
         ends state b.end b.rest b.ends q.0 q.1 (shows_of (f.splits ∙ joined f.items_behind n r.steps))
 
 pub need_is_partial : (limits : Limits) (bytes : List ℕ) (opened : List Next) (framing : Framing) (arrived : List ℕ) (due : List Incoming) (state : BodyState) (events : List Incoming) (rest : List ℕ)
-    → HasOpened limits bytes opened framing arrived → ReadsBody limits framing arrived due state → GivesResults limits bytes (opened ++ map Event events) rest → (events ≡ due) × (state ≡ partial)
+    → OpensAt limits bytes opened framing arrived → ReadsBody limits framing arrived due state → GivesResults limits bytes (opened ++ map Event events) rest → (events ≡ due) × (state ≡ partial)
 need_is_partial limits bytes opened framing arrived due state events rest x body g =
     let r = results_of limits limits.block_in_range.0 bytes (opened ++ map Event events) rest g in
     waits_at limits bytes opened framing arrived due state r.place r.rest events x body r.reaches r.waits
 
 -- behind a whole body the request is whole, and what stands behind it is before the next head
 pub whole_goes_on : (limits : Limits) (bytes : List ℕ) (opened : List Next) (framing : Framing) (arrived : List ℕ) (events : List Incoming) (behind : List ℕ)
-    → HasOpened limits bytes opened framing arrived → ReadsBody limits framing arrived events (complete behind)
+    → OpensAt limits bytes opened framing arrived → ReadsBody limits framing arrived events (complete behind)
     → Reaches limits bytes (opened ++ (map Event events ++ Whole ∷ [])) Start behind
 whole_goes_on limits bytes opened framing arrived events behind x body =
     let last = one limits BodyEnd behind (Some Whole) Start behind (takes_found limits BodyEnd behind [] behind (gives Whole Start) refl refl refl) in

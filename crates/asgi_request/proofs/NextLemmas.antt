@@ -21,9 +21,9 @@ use Rattle.asgi_request.specs.Fronts.{Front, found, too_long, unfinished, front_
 use Rattle.asgi_request.specs.Places.{front, body_place, after_framing, after_head, Judges, Takes, Reads, shown, Reaches}
 use Rattle.asgi_request.proofs.TextLemmas.{tells, head_search_for}
 use Rattle.asgi_request.proofs.UniqueLemmas.{shown-append}
-use Rattle.asgi_request.specs.Opened.{HasOpened, BeginsWith}
+use Rattle.asgi_request.specs.Opened.{BeginsWith}
 use Rattle.asgi_request.proofs.BodyGrowthLemmas.{Further}
-use Rattle.asgi_request.proofs.DueLemmas.{runs_compare, same_behind}
+use Rattle.asgi_request.proofs.DueLemmas.{OpensAt, runs_compare, same_behind}
 
 -- what a turn before a head says of the head that it gives
 abbrev Tells : Limits → List ℕ → List ℕ → Option Next → Place → Type 0
@@ -57,7 +57,7 @@ head_tells limits bytes text rest x (Some r) parses =
     subst (λ (h : HeadRecord). TurnTells limits bytes rest (after_head limits (Some h))) (sym parses.2)
     (framing_tells limits bytes text rest parses.0 x parses.1 (framing_or_refusal (record_of parses.0) limits) refl)
 
-turn_tells : (limits : Limits) (bytes rest : List ℕ) (turn : Judged) → Takes limits Start bytes turn rest → TurnTells limits bytes rest turn
+pub turn_tells : (limits : Limits) (bytes rest : List ℕ) (turn : Judged) → Takes limits Start bytes turn rest → TurnTells limits bytes rest turn
 turn_tells limits bytes rest turn takes = by (front limits Start bytes) refl takes.splits takes.judged
   where
     by : (f : Front) → front limits Start bytes ≡ f → bytes ≡ front_text f ++ rest → Judges limits Start f turn → TurnTells limits bytes rest turn
@@ -86,7 +86,7 @@ some_item limits bytes rest mid takes = by (front limits Start bytes) takes.judg
 
 pub next_head : (limits : Limits) (bytes : List ℕ) (given : List Next) (behind : List ℕ) (place : Place) (held : List ℕ) (scope : Scope) (facts : Facts) (more : List Next)
     → Reaches limits bytes given Start behind → Reaches limits bytes (given ++ Head scope facts ∷ more) place held
-    → (arrived : List ℕ) × BeginsWith limits behind scope facts arrived × HasOpened limits bytes (given ++ Head scope facts ∷ []) facts.framing arrived
+    → (arrived : List ℕ) × BeginsWith limits behind scope facts arrived × OpensAt limits bytes (given ++ Head scope facts ∷ []) facts.framing arrived
 next_head limits bytes given behind place held scope facts more x r = by (runs_compare limits Start bytes x.steps Start behind r.steps place held x.reads r.reads)
   where
     on : (items : List (Option Next)) → Reads limits Start behind items place held → Head scope facts ∷ more ≡ shown items
@@ -108,7 +108,7 @@ next_head limits bytes given behind place held scope facts more x r = by (runs_c
     then_reads p b (i ∷ a) mid middle s end rest y z = (y.0, y.1, y.2, then_reads y.0 y.1 a mid middle s end rest y.3 z)
 
     by : Further limits x.steps Start behind r.steps place held ⊎ Further limits r.steps place held x.steps Start behind
-        → (arrived : List ℕ) × BeginsWith limits behind scope facts arrived × HasOpened limits bytes (given ++ Head scope facts ∷ []) facts.framing arrived
+        → (arrived : List ℕ) × BeginsWith limits behind scope facts arrived × OpensAt limits bytes (given ++ Head scope facts ∷ []) facts.framing arrived
     by (inl f) =
         let e = same_behind given (Head scope facts ∷ more) (shown f.items_behind)
         (sym r.shows ∙ ap shown f.splits ∙ shown-append x.steps f.items_behind ∙ ap (λ (l : List Next). l ++ shown f.items_behind) x.shows) in

@@ -162,7 +162,7 @@ begins_goes limits h bytes results (inr (inl x)) =
 begins_goes limits h bytes results (inr (inr (inl x))) = request_goes limits h bytes results partial x
 begins_goes limits h bytes results (inr (inr (inr x))) = request_goes limits h bytes results (faulty x.0) x.1
 
-requests_go : (limits : Limits) → 0 < limits.block → (bytes : List ℕ) (requests : List (List Next)) (rest : List ℕ) → AreRequests limits bytes requests rest
+pub requests_go : (limits : Limits) → 0 < limits.block → (bytes : List ℕ) (requests : List (List Next)) (rest : List ℕ) → AreRequests limits bytes requests rest
     → Goes limits Start bytes (flat_map (λ q. q) requests) Start rest
 requests_go limits h bytes [] rest x = subst (λ (l : List ℕ). Goes limits Start bytes [] Start l) x (here limits Start bytes)
 requests_go limits h bytes (results ∷ requests) rest x =

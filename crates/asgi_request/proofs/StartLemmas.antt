@@ -22,10 +22,10 @@ use Rattle.asgi_request.specs.Scopes.{scope_of, facts_of}
 use Rattle.asgi_request.specs.Results.{RefusesHead, GivesResults}
 use Rattle.asgi_request.specs.Fronts.{Front, found, too_long, unfinished, front_text, head_len}
 use Rattle.asgi_request.specs.Places.{front, gives, body_place, after_framing, after_head, Judges, Takes, Reads, shown, Reaches, ResultsOf}
-use Rattle.asgi_request.specs.Opened.{HasOpened, HasClosed, BeginsWith}
+use Rattle.asgi_request.specs.Opened.{BeginsWith}
 use Rattle.asgi_request.proofs.BackwardLemmas.{goes_on, one, takes_found}
 use Rattle.asgi_request.proofs.BodyGrowthLemmas.{Further}
-use Rattle.asgi_request.proofs.DueLemmas.{runs_compare, same_behind, not_further}
+use Rattle.asgi_request.proofs.DueLemmas.{OpensAt, ClosesAt, runs_compare, same_behind, not_further}
 use Rattle.asgi_request.proofs.NextLemmas.{some_item}
 use Rattle.asgi_request.proofs.ResultsLemmas.{results_of}
 use Rattle.asgi_request.proofs.TextLemmas.{tells, found_front, head_search_for}
@@ -86,17 +86,14 @@ begins_grows limits bytes more scope facts arrived b =
 
 -- ---- behind a whole request
 
-pub none_closed : (limits : Limits) (bytes : List ℕ) → HasClosed limits bytes [] bytes
-none_closed limits bytes = record { steps = []; reads = (refl, refl); shows = refl }
-
 pub closed_grows : (limits : Limits) (bytes more : List ℕ) (closed : List Next) (behind : List ℕ)
-    → HasClosed limits bytes closed behind → HasClosed limits (bytes ++ more) closed (behind ++ more)
+    → ClosesAt limits bytes closed behind → ClosesAt limits (bytes ++ more) closed (behind ++ more)
 closed_grows limits bytes more closed behind x =
     record { steps = x.steps; reads = Reads-append limits Start bytes x.steps Start behind more x.reads; shows = x.shows }
 
 pub head_reached : (limits : Limits) (bytes : List ℕ) (closed : List Next) (behind : List ℕ) (scope : Scope) (facts : Facts) (arrived : List ℕ)
-    → HasClosed limits bytes closed behind → BeginsWith limits behind scope facts arrived
-    → HasOpened limits bytes (closed ++ Head scope facts ∷ []) facts.framing arrived
+    → ClosesAt limits bytes closed behind → BeginsWith limits behind scope facts arrived
+    → OpensAt limits bytes (closed ++ Head scope facts ∷ []) facts.framing arrived
 unfolding head_turn
 head_reached limits bytes closed behind scope facts arrived x b =
     let goes = one limits Start behind (Some (Head scope facts)) (body_place facts.framing) arrived (head_takes limits behind scope facts arrived b) in
@@ -147,7 +144,7 @@ turn_tells limits bytes rest turn takes = by (front limits Start bytes) refl tak
     by unfinished e split j = absurd j
 
 pub next_refusal : (limits : Limits) (bytes : List ℕ) (closed : List Next) (behind : List ℕ) (place : Place) (held : List ℕ) (status : ℕ)
-    → HasClosed limits bytes closed behind → Reaches limits bytes (closed ++ Bad status ∷ []) place held
+    → ClosesAt limits bytes closed behind → Reaches limits bytes (closed ++ Bad status ∷ []) place held
     → (why : Refusal) × RefusesHead limits behind why × (status ≡ status_of why)
 next_refusal limits bytes closed behind place held status x r = by (runs_compare limits Start bytes x.steps Start behind r.steps place held x.reads r.reads)
   where
@@ -173,7 +170,7 @@ next_refusal limits bytes closed behind place held status x r = by (runs_compare
 
 -- ---- a head that is not whole
 
-pub head_is_open : (limits : Limits) (bytes : List ℕ) (closed : List Next) (behind rest : List ℕ) → HasClosed limits bytes closed behind → GivesResults limits bytes closed rest
+pub head_is_open : (limits : Limits) (bytes : List ℕ) (closed : List Next) (behind rest : List ℕ) → ClosesAt limits bytes closed behind → GivesResults limits bytes closed rest
     → IsUnfinished EndsAsHead limits.max_head behind
 head_is_open limits bytes closed behind rest x g =
     tells EndsAsHead head_len head_search_for limits.max_head behind unfinished
