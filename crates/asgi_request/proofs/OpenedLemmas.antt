@@ -1,5 +1,5 @@
 -- What a reader's results say of the bytes, at a head and behind it.
-use Rattle.std.proofs.Common.{◌≡◌, ℕ, ◌+◌, ◌-◌, length, Bool, true, false, List, [], ◌∷◌, ◌++◌, map, refl, sym, ap, ◌∙◌, subst, Option, Some, None}
+use Rattle.std.proofs.Common.{◌≡◌, ℕ, ◌+◌, ◌-◌, length, Bool, true, false, List, [], ◌∷◌, ◌++◌, ◌⊎◌, inl, inr, append-nil, map, refl, sym, ap, ◌∙◌, subst, Option, Some, None}
 use Rattle.std.specs.Prelude.{◌==◌, nat_lt, bytes_eq, if◌then◌else◌}
 use Rattle.httparse.specs.Ascii.{crlf_bytes}
 use Rattle.asgi_types.specs.declared.facts.Facts.{Facts}
@@ -19,11 +19,13 @@ use Rattle.asgi_request.specs.Fronts.{Front, found, too_long, unfinished}
 use Rattle.asgi_request.specs.Opened.{BeginsWith, HasClosed, HasOpened}
 use Rattle.asgi_request.specs.Places.{front, bad, gives, silent, after_counted, after_size, after_chunk, after_chunk_end, after_trailers, after_too_long, Judges, Takes, Reads, shown, Reaches}
 use Rattle.asgi_request.specs.RequestEvents.{ReadsBody}
-use Rattle.asgi_request.proofs.DueLemmas.{OpensAt, ClosesAt, whole_goes_on}
-use Rattle.asgi_request.proofs.NextLemmas.{turn_tells, next_head}
+use Rattle.asgi_request.proofs.DueLemmas.{OpensAt, ClosesAt, runs_compare, same_behind, whole_goes_on}
+use Rattle.asgi_request.proofs.NextLemmas.{turn_tells, some_item, next_head}
 use Rattle.asgi_request.proofs.ResultsLemmas.{requests_go}
 use Rattle.asgi_request.proofs.StandardLemmas.{whole_requests}
-use Rattle.asgi_request.proofs.StartLemmas.{begins_grows, closed_grows, head_reached}
+use Rattle.asgi_request.proofs.BodyGrowthLemmas.{Further}
+use Rattle.asgi_request.proofs.UniqueLemmas.{shown-append}
+use Rattle.asgi_request.proofs.StartLemmas.{begins_is_one, begins_grows, closed_grows, head_reached}
 
 -- ---- the words of the laws, and where the reader stands
 
@@ -194,3 +196,54 @@ pub next_opens : (limits : Limits) (bytes : List ℕ) (closed : List Next) (behi
 next_opens limits bytes closed behind place held scope facts more x r =
     let n = next_head limits bytes closed behind place held scope facts more (closed_at limits bytes closed behind x) r in
     (n.0, n.1, opens_behind limits bytes closed behind scope facts n.0 x n.1)
+
+-- ---- what stands behind is one
+
+silent_stays : (limits : Limits) (bytes : List ℕ) (items : List (Option Next)) (rest : List ℕ) → Reads limits Start bytes items Start rest → [] ≡ shown items → bytes ≡ rest
+silent_stays limits bytes [] rest r e = r.1
+silent_stays limits bytes (None ∷ items) rest r e = absurd (some_item limits bytes r.1 r.0 r.2)
+silent_stays limits bytes (Some item ∷ items) rest r e = cc
+
+nothing_behind : (a b : List Next) → a ≡ a ++ b → [] ≡ b
+nothing_behind a b e = same_behind a [] b (append-nil a ∙ e)
+
+pub closed_is_one : (limits : Limits) (bytes : List ℕ) (closed : List Next) (behind others : List ℕ)
+    → HasClosed limits bytes closed behind → HasClosed limits bytes closed others → behind ≡ others
+closed_is_one limits bytes closed behind others x y = by (runs_compare limits Start bytes a.steps Start behind b.steps Start others a.reads b.reads)
+  where
+    a : ClosesAt limits bytes closed behind
+    a = closed_at limits bytes closed behind x
+
+    b : ClosesAt limits bytes closed others
+    b = closed_at limits bytes closed others y
+
+    by : Further limits a.steps Start behind b.steps Start others ⊎ Further limits b.steps Start others a.steps Start behind → behind ≡ others
+    by (inl f) =
+        silent_stays limits behind f.items_behind others f.reads
+        (nothing_behind closed (shown f.items_behind)
+        (sym b.shows ∙ ap shown f.splits ∙ shown-append a.steps f.items_behind ∙ ap (λ (l : List Next). l ++ shown f.items_behind) a.shows))
+    by (inr f) =
+        sym (silent_stays limits others f.items_behind behind f.reads
+        (nothing_behind closed (shown f.items_behind)
+        (sym a.shows ∙ ap shown f.splits ∙ shown-append b.steps f.items_behind ∙ ap (λ (l : List Next). l ++ shown f.items_behind) b.shows)))
+
+last_same : (a b : List Next) (x y : Next) → a ++ x ∷ [] ≡ b ++ y ∷ [] → a ≡ b
+last_same [] [] x y e = refl
+last_same [] (q ∷ []) x y e = cc
+last_same [] (q ∷ r ∷ b) x y e = cc
+last_same (p ∷ []) [] x y e = cc
+last_same (p ∷ r ∷ a) [] x y e = cc
+last_same (p ∷ a) (q ∷ b) x y e =
+    let first : p ≡ q = cc in
+    let on = last_same a b x y cc in
+    cc
+
+pub opened_is_one : (limits : Limits) (bytes : List ℕ) (opened : List Next) (framing other : Framing) (arrived left : List ℕ)
+    → HasOpened limits bytes opened framing arrived → HasOpened limits bytes opened other left → (framing ≡ other) × (arrived ≡ left)
+opened_is_one limits bytes opened framing other arrived left x y =
+    let closeds = last_same x.closed y.closed (Head x.scope x.facts) (Head y.scope y.facts) (sym x.opened_is ∙ y.opened_is) in
+    let closed = subst (λ (l : List Next). HasClosed limits bytes l y.behind) (sym closeds) y.before in
+    let behinds = closed_is_one limits bytes x.closed x.behind y.behind x.before closed in
+    let head = subst (λ (l : List ℕ). BeginsWith limits l y.scope y.facts left) (sym behinds) y.head in
+    let one = begins_is_one limits x.behind x.scope y.scope x.facts y.facts arrived left x.head head in
+    (x.framing_is ∙ ap (λ (f : Facts). f.framing) one.1 ∙ sym y.framing_is, one.2)

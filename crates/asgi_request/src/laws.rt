@@ -176,6 +176,14 @@ pub fn behind_a_request_a_head_is_due()
         → HasClosed reader.limits bytes closed behind → AllGiven reader bytes closed → IsUnfinished EndsAsHead reader.limits.max_head behind }
 {}
 
+/// Behind whole requests the same bytes stand, however they are told apart, and behind a head the same bytes of its body.
+pub fn bytes_behind_results_are_one()
+    ensures closed { (limits : Limits) (bytes : List ℕ) (closed : List Next) (behind others : List ℕ)
+        → HasClosed limits bytes closed behind → HasClosed limits bytes closed others → behind ≡ others }
+    ensures opened { (limits : Limits) (bytes : List ℕ) (opened : List Next) (framing other : Framing) (arrived others : List ℕ)
+        → HasOpened limits bytes opened framing arrived → HasOpened limits bytes opened other others → (framing ≡ other) × (arrived ≡ others) }
+{}
+
 /// The head that bytes begin with is one, and stays where more bytes follow.
 pub fn first_head_is_one()
     ensures one { (limits : Limits) (bytes : List ℕ) (scope other : Scope) (facts others : Facts) (arrived left : List ℕ)
