@@ -56,12 +56,12 @@ at_line limits sum bytes go unfinished = no_piece partial
 at_line limits sum bytes go too_long = no_piece (faulty BadRequest)
 at_line limits sum bytes go (found text) = behind_size limits sum (drop (length text) bytes) go (size_in text)
 
--- fewer chunks than count, behind chunks of sum bytes of data
+-- at most count size lines and what stands behind them, where the chunks before them have sum bytes of data
 abbrev pub chunks_from : ℕ → Limits → ℕ → List ℕ → Decoded
 chunks_from zero limits sum bytes = no_piece partial
 chunks_from (suc count) limits sum bytes = at_line limits sum bytes (chunks_from count limits) (front_at size_line_limit bytes (line_len bytes))
 
--- the chunks of the bytes, of which there are no more than there are bytes
+-- a chunked body: it has no more size lines than bytes
 abbrev pub chunks_of : Limits → List ℕ → Decoded
 chunks_of limits bytes = chunks_from (suc (length bytes)) limits 0 bytes
 
