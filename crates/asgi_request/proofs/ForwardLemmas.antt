@@ -217,7 +217,7 @@ counted_good E limits h n bytes text rest turn t inside split e = by (nat_lt lim
 -- ---- a size line
 
 -- no chunk in front
-ended : (limits : Limits) (sum : ℕ) (bytes : List ℕ) (t : body.Tail) → sum ≤ limits.max_body → body.IsTail limits sum bytes t
+pub ended : (limits : Limits) (sum : ℕ) (bytes : List ℕ) (t : body.Tail) → sum ≤ limits.max_body → body.IsTail limits sum bytes t
     → ReadsChunks limits sum bytes (body.tail_pieces t) (tail_state t)
 ended limits sum bytes t h tail =
     let none : sum ≡ sum + total [] = omega arith in
@@ -250,11 +250,11 @@ refused E limits sum bytes rest t why h tail none state = (
 )
 
 -- a size line was read
-record SizeRead (bytes rest : List ℕ) (line : ChunkLine) : Type 0 where
+pub record SizeRead (bytes rest : List ℕ) (line : ChunkLine) : Type 0 where
   pub splits : bytes ≡ print_chunk_line line ++ rest
   pub line_is : IsSizeLine line
 
-size_read : (bytes text rest : List ℕ) (line : ChunkLine) → IsFirstWithin EndsAsLine size_line_limit bytes text rest → ReadsChunkLine text line []
+pub size_read : (bytes text rest : List ℕ) (line : ChunkLine) → IsFirstWithin EndsAsLine size_line_limit bytes text rest → ReadsChunkLine text line []
     → bytes ≡ text ++ rest → SizeRead bytes rest line
 size_read bytes text rest line x reads split =
     let is : text ≡ print_chunk_line line = reads.1 ∙ append-nil (print_chunk_line line) in
@@ -279,7 +279,7 @@ trailers_good E limits sum bytes rest line h s z = (tt, λ results r from. ([], 
         )
 
 -- one chunk more in front
-chunk_first : (limits : Limits) (sum : ℕ) (bytes d more : List ℕ) (line : ChunkLine) (pieces : List Piece) (state : BodyState)
+pub chunk_first : (limits : Limits) (sum : ℕ) (bytes d more : List ℕ) (line : ChunkLine) (pieces : List Piece) (state : BodyState)
     → bytes ≡ print_chunk_line line ++ (d ++ (crlf_bytes ++ more)) → IsSizeLine line → 0 < chunk_size line → length d ≡ chunk_size line
     → ReadsChunks limits (sum + chunk_size line) more pieces state
     → ReadsChunks limits sum bytes ((let p : Piece = record { size = chunk_size line; data_bytes = d } in p) ∷ pieces) state

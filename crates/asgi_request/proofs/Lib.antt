@@ -24,3 +24,14 @@ pub mod FirstLemmas
 pub mod RefusalLemmas
 pub mod OpeningLemmas
 pub mod ThereLemmas
+pub mod RunLemmas
+pub mod SizeTestLemmas
+pub mod TrailerTestLemmas
+pub mod BodyOfLemmas
+pub mod BodyGrowthLemmas
+pub mod BodyExamples
+pub mod BodyEventLemmas
+pub mod DueLemmas
+pub mod OpenedLemmas
+pub mod NextLemmas
+pub mod StartLemmas

@@ -85,7 +85,7 @@ length_goes limits h n bytes = by (nat_le n (length bytes)) refl
         subst (λ (s : BodyState). BodyGoes limits (Counted n) bytes (length_events limits.block n bytes) s) state
         (counted_open limits h (length bytes) n bytes (omega arith) (no_le n (length bytes) e))
 
-body_goes : (limits : Limits) → 0 < limits.block → (framing : Framing) (bytes : List ℕ) (events : List Incoming) (state : BodyState)
+pub body_goes : (limits : Limits) → 0 < limits.block → (framing : Framing) (bytes : List ℕ) (events : List Incoming) (state : BodyState)
     → ReadsBody limits framing bytes events state → BodyGoes limits (body_place framing) bytes events state
 body_goes limits h (Length n) bytes events state x =
     let E : List Incoming → Type 0 = λ e. BodyGoes limits (Counted n) bytes e state in
@@ -162,7 +162,7 @@ begins_goes limits h bytes results (inr (inl x)) =
 begins_goes limits h bytes results (inr (inr (inl x))) = request_goes limits h bytes results partial x
 begins_goes limits h bytes results (inr (inr (inr x))) = request_goes limits h bytes results (faulty x.0) x.1
 
-requests_go : (limits : Limits) → 0 < limits.block → (bytes : List ℕ) (requests : List (List Next)) (rest : List ℕ) → AreRequests limits bytes requests rest
+pub requests_go : (limits : Limits) → 0 < limits.block → (bytes : List ℕ) (requests : List (List Next)) (rest : List ℕ) → AreRequests limits bytes requests rest
     → Goes limits Start bytes (flat_map (λ q. q) requests) Start rest
 requests_go limits h bytes [] rest x = subst (λ (l : List ℕ). Goes limits Start bytes [] Start l) x (here limits Start bytes)
 requests_go limits h bytes (results ∷ requests) rest x =

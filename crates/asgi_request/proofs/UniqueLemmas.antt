@@ -46,7 +46,7 @@ same_text limits Trailers text a b x y = x.2 ∙ ap after_trailers (same_trailer
 same_text limits BodyEnd text a b x y = x ∙ sym y
 same_text limits (Stopped refusal) text a b x y = absurd x
 
-same_turn : (limits : Limits) (place : Place) (f : Front) (a b : Judged) → Judges limits place f a → Judges limits place f b → a ≡ b
+pub same_turn : (limits : Limits) (place : Place) (f : Front) (a b : Judged) → Judges limits place f a → Judges limits place f b → a ≡ b
 same_turn limits place (found text) a b x y = same_text limits place text a b x y
 same_turn limits place too_long a b x y = x ∙ sym y
 same_turn limits place unfinished a b x y = absurd x
@@ -93,7 +93,7 @@ same_front : (a b r q : List ℕ) → a ++ r ≡ a ++ q → r ≡ q
 same_front [] b r q e = e
 same_front (x ∷ a) b r q e = same_front a b r q cc
 
-same_rest : (limits : Limits) (place : Place) (bytes : List ℕ) (a b : Judged) (r q : List ℕ) → Takes limits place bytes a r → Takes limits place bytes b q → r ≡ q
+pub same_rest : (limits : Limits) (place : Place) (bytes : List ℕ) (a b : Judged) (r q : List ℕ) → Takes limits place bytes a r → Takes limits place bytes b q → r ≡ q
 same_rest limits place bytes a b r q x y = same_front (front_text (front limits place bytes)) [] r q (sym x.splits ∙ y.splits)
 
 -- where a run can't go on, it begins with each run over fewer bytes

@@ -16,3 +16,7 @@ pub mod Texts
 pub mod ChunkedBody
 pub mod RequestEvents
 pub mod Results
+pub mod BodyTexts
+pub mod BodyOf
+pub mod BodyGrowth
+pub mod Opened

@@ -1,10 +1,26 @@
 //! Laws of the definitions.
-ghost use Rattle.std.specs.Prelude.{◌≡◌, ◌++◌, ◌∷◌, [], ℕ, List, length};
+ghost use Rattle.std.specs.Prelude.{◌≡◌, ◌↔◌, ◌++◌, ◌∷◌, [], ℕ, List, All, Option, Some, true, length, map};
+ghost use mathlib.Core.List.{IsPrefix};
+ghost use Rattle.httparse.specs.Grammar.{ChunkLine, ReadsChunkLine, chunk_size, Field, LineEnd};
+ghost use Rattle.asgi_types.specs.declared.facts.Facts.{Facts};
+ghost use Rattle.asgi_types.specs.declared.facts.Framing.{Framing};
+ghost use Rattle.asgi_types.specs.declared.incoming.Incoming.{Incoming};
 ghost use Rattle.asgi_types.specs.declared.limits.Limits.{Limits};
+ghost use Rattle.asgi_types.specs.declared.scope.Scope.{Scope};
 ghost use Rattle.asgi_request.specs.declared.next.Next.{Next};
+ghost use Rattle.asgi_request.specs.declared.refusal.Refusal.{Refusal};
+ghost use Rattle.asgi_request.specs.BodyGrowth.{Grows, IsRequestEvent};
+ghost use Rattle.asgi_request.specs.BodyOf.{body_events, body_state};
+ghost use Rattle.asgi_request.specs.BodyTexts.{size_in, is_section};
+ghost use Rattle.asgi_request.specs.ChunkedBody.{BodyState, IsTrailerSection};
+ghost use Rattle.asgi_request.specs.HeadText.{EndsAsHead};
+ghost use Rattle.asgi_request.specs.Opened.{HasOpened, HasClosed, BeginsWith};
 ghost use Rattle.asgi_request.specs.Reading.{Reading, StandsFor, IsWaiting, IsRefused, AllGiven};
+ghost use Rattle.asgi_request.specs.Refusals.{status_of};
+ghost use Rattle.asgi_request.specs.RequestEvents.{ReadsBody};
 ghost use Rattle.asgi_request.specs.Places.{ResultsOf};
-ghost use Rattle.asgi_request.specs.Results.{GivesResults, HasFirst, Opens};
+ghost use Rattle.asgi_request.specs.Results.{RefusesHead, GivesResults, HasFirst, Opens};
+ghost use Rattle.asgi_request.specs.Texts.{IsUnfinished};
 
 /// The results of a front of the bytes come first among the results of all of them, so however
 /// the bytes are cut the results are the same.
@@ -88,4 +104,110 @@ pub fn places_give_the_results()
         → ResultsOf limits bytes results → (rest : List ℕ) × GivesResults limits bytes results rest }
     ensures to_places { (limits : Limits) (bytes : List ℕ) (results : List Next) (rest : List ℕ)
         → GivesResults limits bytes results rest → ResultsOf limits bytes results }
+{}
+
+/// Tests decide whether a whole text is a size line, and of which size, and whether it is a trailer section.
+pub fn body_texts_are_decided()
+    ensures size { (text : List ℕ) (size : ℕ) → (size_in text ≡ Some size) ↔ ((line : ChunkLine) × ReadsChunkLine text line [] × (size ≡ chunk_size line)) }
+    ensures trailers { (max_headers : ℕ) (text : List ℕ)
+        → (is_section max_headers text ≡ true) ↔ ((fields : List Field) × (end : LineEnd) × IsTrailerSection max_headers text fields end) }
+{}
+
+/// The events of a body, and how far it has come, are one computation over its bytes.
+pub fn body_is_computed()
+    ensures { (limits : Limits) (framing : Framing) (bytes : List ℕ) (events : List Incoming) (state : BodyState)
+        → ReadsBody limits framing bytes events state ↔ ((events ≡ body_events limits framing bytes) × (state ≡ body_state limits framing bytes)) }
+{}
+
+/// Bytes are one body.
+pub fn body_is_one()
+    ensures { (limits : Limits) (framing : Framing) (bytes : List ℕ) (events others : List Incoming) (state other : BodyState)
+        → ReadsBody limits framing bytes events state → ReadsBody limits framing bytes others other → (events ≡ others) × (state ≡ other) }
+{}
+
+/// However the bytes of a body are cut, what was due stays due and comes first; a body that is whole or faulty stays so.
+pub fn body_only_grows()
+    ensures grows { (limits : Limits) (framing : Framing) (bytes more : List ℕ) (events others : List Incoming) (state other : BodyState)
+        → ReadsBody limits framing bytes events state → ReadsBody limits framing (bytes ++ more) others other
+        → Grows more events state others other }
+    ensures whole { (limits : Limits) (framing : Framing) (bytes more : List ℕ) (events : List Incoming) (behind : List ℕ)
+        → ReadsBody limits framing bytes events (BodyState.complete behind)
+        → ReadsBody limits framing (bytes ++ more) events (BodyState.complete (behind ++ more)) }
+    ensures faulty { (limits : Limits) (framing : Framing) (bytes more : List ℕ) (events : List Incoming) (why : Refusal)
+        → ReadsBody limits framing bytes events (BodyState.faulty why) → ReadsBody limits framing (bytes ++ more) events (BodyState.faulty why) }
+{}
+
+/// Each event of a body is a part of it, and none a disconnect.
+pub fn body_events_are_no_disconnects()
+    ensures { (limits : Limits) (framing : Framing) (bytes : List ℕ) (events : List Incoming) (state : BodyState)
+        → ReadsBody limits framing bytes events state → All IsRequestEvent events }
+{}
+
+/// Behind a head that was given stand the bytes of its body, and those that are fed come behind them; behind a whole body
+/// stands the next head.
+pub fn head_opens_a_body()
+    ensures opens { (reader : Reading) (bytes : List ℕ) (before behind : List Next) (scope : Scope) (facts : Facts)
+        → StandsFor reader bytes (before ++ Next.Head scope facts ∷ behind)
+        → (arrived : List ℕ) × HasOpened reader.limits bytes (before ++ Next.Head scope facts ∷ []) facts.framing arrived }
+    ensures grows { (limits : Limits) (bytes more : List ℕ) (opened : List Next) (framing : Framing) (arrived : List ℕ)
+        → HasOpened limits bytes opened framing arrived → HasOpened limits (bytes ++ more) opened framing (arrived ++ more) }
+    ensures ends { (limits : Limits) (bytes : List ℕ) (opened : List Next) (framing : Framing) (arrived : List ℕ) (events : List Incoming) (behind : List ℕ)
+        → HasOpened limits bytes opened framing arrived → ReadsBody limits framing arrived events (BodyState.complete behind)
+        → HasClosed limits bytes (opened ++ (map Next.Event events ++ Next.Whole ∷ [])) behind }
+    ensures next { (reader : Reading) (bytes : List ℕ) (closed more : List Next) (behind : List ℕ) (scope : Scope) (facts : Facts)
+        → HasClosed reader.limits bytes closed behind → StandsFor reader bytes (closed ++ Next.Head scope facts ∷ more)
+        → (arrived : List ℕ) × BeginsWith reader.limits behind scope facts arrived
+        × HasOpened reader.limits bytes (closed ++ Next.Head scope facts ∷ []) facts.framing arrived }
+{}
+
+/// Behind whole requests, or where none was given, a head is due: one that the bytes begin with opens a body; a refusal says
+/// why they begin with none that is served; and where the reader needs more, the head is not whole.
+pub fn behind_a_request_a_head_is_due()
+    ensures starts { (limits : Limits) (bytes : List ℕ) → HasClosed limits bytes [] bytes }
+    ensures grows { (limits : Limits) (bytes more : List ℕ) (closed : List Next) (behind : List ℕ)
+        → HasClosed limits bytes closed behind → HasClosed limits (bytes ++ more) closed (behind ++ more) }
+    ensures opens { (limits : Limits) (bytes : List ℕ) (closed : List Next) (behind : List ℕ) (scope : Scope) (facts : Facts) (arrived : List ℕ)
+        → HasClosed limits bytes closed behind → BeginsWith limits behind scope facts arrived
+        → HasOpened limits bytes (closed ++ Next.Head scope facts ∷ []) facts.framing arrived }
+    ensures refused { (reader : Reading) (bytes : List ℕ) (closed : List Next) (behind : List ℕ) (status : ℕ)
+        → HasClosed reader.limits bytes closed behind → StandsFor reader bytes (closed ++ Next.Bad status ∷ [])
+        → (why : Refusal) × RefusesHead reader.limits behind why × (status ≡ status_of why) }
+    ensures need { (reader : Reading) (bytes : List ℕ) (closed : List Next) (behind : List ℕ)
+        → HasClosed reader.limits bytes closed behind → AllGiven reader bytes closed → IsUnfinished EndsAsHead reader.limits.max_head behind }
+{}
+
+/// Behind whole requests the same bytes stand, however they are told apart, and behind a head the same bytes of its body.
+pub fn bytes_behind_results_are_one()
+    ensures closed { (limits : Limits) (bytes : List ℕ) (closed : List Next) (behind others : List ℕ)
+        → HasClosed limits bytes closed behind → HasClosed limits bytes closed others → behind ≡ others }
+    ensures opened { (limits : Limits) (bytes : List ℕ) (opened : List Next) (framing other : Framing) (arrived others : List ℕ)
+        → HasOpened limits bytes opened framing arrived → HasOpened limits bytes opened other others → (framing ≡ other) × (arrived ≡ others) }
+{}
+
+/// The head that bytes begin with is one, and stays where more bytes follow.
+pub fn first_head_is_one()
+    ensures one { (limits : Limits) (bytes : List ℕ) (scope other : Scope) (facts others : Facts) (arrived left : List ℕ)
+        → BeginsWith limits bytes scope facts arrived → BeginsWith limits bytes other others left
+        → (scope ≡ other) × (facts ≡ others) × (arrived ≡ left) }
+    ensures stays { (limits : Limits) (bytes more : List ℕ) (scope : Scope) (facts : Facts) (arrived : List ℕ)
+        → BeginsWith limits bytes scope facts arrived → BeginsWith limits (bytes ++ more) scope facts (arrived ++ more) }
+{}
+
+/// What a reader gave behind a head are the first events that are due of the body: all of them where it needs more, where the
+/// request is whole and where it is refused.
+pub fn given_events_are_due()
+    ensures events { (reader : Reading) (bytes : List ℕ) (opened : List Next) (framing : Framing) (arrived : List ℕ) (events due : List Incoming) (state : BodyState)
+        → HasOpened reader.limits bytes opened framing arrived → ReadsBody reader.limits framing arrived due state
+        → StandsFor reader bytes (opened ++ map Next.Event events) → IsPrefix events due }
+    ensures need { (reader : Reading) (bytes : List ℕ) (opened : List Next) (framing : Framing) (arrived : List ℕ) (events due : List Incoming) (state : BodyState)
+        → HasOpened reader.limits bytes opened framing arrived → ReadsBody reader.limits framing arrived due state
+        → AllGiven reader bytes (opened ++ map Next.Event events) → (events ≡ due) × (state ≡ BodyState.partial) }
+    ensures whole { (reader : Reading) (bytes : List ℕ) (opened : List Next) (framing : Framing) (arrived : List ℕ) (events due : List Incoming) (state : BodyState)
+        → HasOpened reader.limits bytes opened framing arrived → ReadsBody reader.limits framing arrived due state
+        → StandsFor reader bytes (opened ++ (map Next.Event events ++ Next.Whole ∷ []))
+        → (events ≡ due) × ((behind : List ℕ) × (state ≡ BodyState.complete behind)) }
+    ensures refused { (reader : Reading) (bytes : List ℕ) (opened : List Next) (framing : Framing) (arrived : List ℕ) (events due : List Incoming) (state : BodyState) (status : ℕ)
+        → HasOpened reader.limits bytes opened framing arrived → ReadsBody reader.limits framing arrived due state
+        → StandsFor reader bytes (opened ++ (map Next.Event events ++ Next.Bad status ∷ []))
+        → (events ≡ due) × ((why : Refusal) × (state ≡ BodyState.faulty why) × (status ≡ status_of why)) }
 {}
