@@ -130,6 +130,24 @@ fn find_line_feed(bytes: &[u8], from: usize) -> Option<usize>
     requires { from ≤ length bytes.now }
     ensures { IsFirst (Passes (is_byte line_feed) bytes.now) from (length bytes.now) result }
 {
+    // So few bytes are not worth a vector.
+    if bytes.len() - from >= 16 {
+        return find_far_line_feed(bytes, from);
+    }
+    for i in from..bytes.len() {
+        if bytes[i] == LF {
+            return Some(i);
+        }
+    }
+    None
+}
+
+/// The same, many bytes at a time. It stays out of line, so that its registers are not saved for a few bytes.
+#[inline(never)]
+fn find_far_line_feed(bytes: &[u8], from: usize) -> Option<usize>
+    requires { from ≤ length bytes.now }
+    ensures { IsFirst (Passes (is_byte line_feed) bytes.now) from (length bytes.now) result }
+{
     let i = memchr(LF, &bytes[from..])?;
     Some(from + i)
 }
