@@ -18,9 +18,6 @@ const CR: u8 = b'\r';
 /// The most bytes of a size line.
 const SIZE_LINE_LIMIT: usize = 256;
 
-/// So few bytes are looked at one by one, as where they come one by one.
-const SHORT: usize = 16;
-
 /// How far a search has come: no text ends whose line feed stands before `at`.
 #[derive(Clone, Copy, Debug, PartialEq, Eq)]
 pub struct Search {
@@ -129,30 +126,30 @@ fn is_open(bytes: &[u8]) -> bool
 }
 
 /// Where the first line feed stands, from `from` on.
-#[inline(always)]
 fn find_line_feed(bytes: &[u8], from: usize) -> Option<usize>
     requires { from ≤ length bytes.now }
     ensures { IsFirst (Passes (is_byte line_feed) bytes.now) from (length bytes.now) result }
 {
-    if bytes.len() - from < SHORT {
-        return find_near_line_feed(bytes, from);
+    // So few bytes are not worth a vector.
+    if bytes.len() - from >= 16 {
+        return find_far_line_feed(bytes, from);
     }
-    let i = memchr(LF, &bytes[from..])?;
-    Some(from + i)
-}
-
-/// The same, byte by byte.
-#[inline(always)]
-fn find_near_line_feed(bytes: &[u8], from: usize) -> Option<usize>
-    requires { from ≤ length bytes.now }
-    ensures { IsFirst (Passes (is_byte line_feed) bytes.now) from (length bytes.now) result }
-{
     for i in from..bytes.len() {
         if bytes[i] == LF {
             return Some(i);
         }
     }
     None
+}
+
+/// The same, many bytes at a time. It stays out of line, so that its registers are not saved for a few bytes.
+#[inline(never)]
+fn find_far_line_feed(bytes: &[u8], from: usize) -> Option<usize>
+    requires { from ≤ length bytes.now }
+    ensures { IsFirst (Passes (is_byte line_feed) bytes.now) from (length bytes.now) result }
+{
+    let i = memchr(LF, &bytes[from..])?;
+    Some(from + i)
 }
 
 /// The end of the first empty line that follows a line feed at `from` or later, and how far the search has come.

@@ -3,7 +3,7 @@ use Rattle.std.proofs.lemmas.List.{take_rest}
 use Rattle.memchr.specs.Find.{IsFirst, IsFirstByte, Passes, is_byte}
 use Rattle.asgi_request.specs.Fronts.{more}
 use Rattle.asgi_request.proofs.LineFeedLemmas.{first_behind}
-use Rattle.asgi_request.proofs.search.find_line_feed.Goals as goal
+use Rattle.asgi_request.proofs.search.find_far_line_feed.Goals as goal
 
 pub returns-in_err-i : goal.returns-in_err-i
 returns-in_err-i c =
