@@ -7,7 +7,7 @@ ghost use Rattle.asgi_request.specs.Head.{record_of as record_of_head};
 ghost use Rattle.asgi_request.specs.Head.{ParsesHead};
 ghost use Rattle.asgi_request.specs.Steps.{IsKeepable, field_at};
 
-use asgi_types::{Chars, HeaderError, Headers, HttpVersion, Octets};
+use asgi_types::{Chars, Headers, HttpVersion, Octets};
 use httparse::Status;
 use httparse::spans::{EMPTY_HEADER_SPAN, HeaderSpan, RequestSpans, parse_request};
 use std::alloc::{AllocError, Global};
@@ -115,14 +115,14 @@ fn headers_of(alloc: Global, text: &[u8], spans: &[HeaderSpan]) -> Result<Header
     requires fields { All (IsKeepable text.now) spans.now }
     ensures { IfOk result (λ headers. headers ≡ map (field_at text.now) spans.now) }
 {
-    let mut headers = Headers::new(alloc);
+    let Some(first) = spans.first() else {
+        return Ok(Headers::new(alloc));
+    };
+    // All fields stand behind the first one's start, so none of them takes more memory.
+    let room = text.len() - first.name.start;
+    let mut headers = Headers::with_room(alloc, spans.len(), room)?;
     for span in spans {
-        match headers.push(span.name.of(text), span.value.of(text)) {
-            Ok(()) => {}
-            Err(HeaderError::NoMemory(e)) => return Err(e),
-            Err(HeaderError::BadName) => unreachable!(),
-            Err(HeaderError::BadValue) => unreachable!(),
-        }
+        headers.push_valid(span.name.of(text), span.value.of(text))?;
     }
     Ok(headers)
 }

@@ -65,6 +65,16 @@ impl Headers {
         }
     }
 
+    /// No fields, with room for so many of so many bytes. It is for the crates of this repository only.
+    #[doc(hidden)]
+    pub fn with_room(alloc: Global, fields: usize, bytes: usize) -> Result<Self, AllocError>
+        ensures { IfOk result (λ headers. headers ≡ []) }
+    {
+        let text = Vec::with_capacity(alloc, bytes)?;
+        let spans = Vec::with_capacity(alloc, fields)?;
+        Ok(Headers { text, spans })
+    }
+
     /// Adds a field at the end, its name in lower case.
     ///
     /// A name is a token of RFC 9110, section 5.6.2. A value has no control byte but the tab.
@@ -82,9 +92,21 @@ impl Headers {
         if !is_field_value(value) {
             return Err(HeaderError::BadValue);
         }
-        if let Err(e) = append(&mut self.text, &mut self.spans, name, value) {
+        if let Err(e) = self.push_valid(name, value) {
             return Err(HeaderError::NoMemory(e));
         }
+        Ok(())
+    }
+
+    /// The same for a name and a value that were judged already. It is for the crates of this repository only.
+    #[doc(hidden)]
+    pub fn push_valid(&mut self, name: &[u8], value: &[u8]) -> Result<(), AllocError>
+        requires name { IsFieldName name.now }
+        requires value { IsFieldValue value.now }
+        ensures ok { OnOk result (self.new ≡ self.old ++ field_of name.now value.now ∷ []) }
+        ensures err { OnErr result (self.new ≡ self.old) }
+    {
+        append(&mut self.text, &mut self.spans, name, value)?;
         Ok(())
     }
 
