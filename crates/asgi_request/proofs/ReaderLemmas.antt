@@ -14,13 +14,11 @@ use Rattle.asgi_request.specs.declared.place.Place.{Place}
 use Rattle.asgi_request.specs.declared.place.Place.TheVariants.{Start, Counted, SizeLine, Chunk, ChunkEnd, Trailers, BodyEnd, Stopped}
 use Rattle.asgi_request.specs.declared.next.Next.{Next}
 use Rattle.asgi_request.specs.declared.next.Next.TheVariants.{Need, Head, Event, Whole, Bad}
-use Rattle.asgi_request.specs.declared.place.Judged.{Judged}
 use Rattle.asgi_request.specs.Fronts.{Front, found, too_long, unfinished, front_text}
 use Rattle.asgi_request.specs.BodyLength.{framing_or_refusal}
-use Rattle.asgi_request.specs.Places.{front, bad, silent, gives, after_framing, after_head, after_counted, after_chunk, after_size, after_chunk_end, after_trailers, after_too_long, JudgesText, Judges, Takes, shown, Reaches}
+use Rattle.asgi_request.specs.Places.{Judged, front, bad, silent, gives, after_framing, after_head, after_counted, after_chunk, after_size, after_chunk_end, after_trailers, after_too_long, JudgesText, Judges, Takes, shown, Reaches}
 use Rattle.asgi_request.specs.Reading.{Reading, StandsFor, IsRefused}
-use Rattle.asgi_request.specs.declared.place.Advance.{Advance}
-use Rattle.asgi_request.specs.Searches.{advance_of, Steps, Stepped, IsResult, Answers, RefusesAgain, rank}
+use Rattle.asgi_request.specs.Searches.{left_in, turn_of, Ends, Stepped, IsResult, Answers, RefusesAgain, rank}
 use Rattle.asgi_request.proofs.UniqueLemmas.{Reads-append, Reads-push, shown-append}
 
 pub held_grown : (bytes a new : List ℕ) (start : ℕ) → start ≤ length bytes → new ≡ bytes ++ a → drop start new ≡ drop start bytes ++ a
@@ -74,12 +72,13 @@ stepped_stands old new item step bytes given stands =
       shows = shown-append stands.steps (item ∷ []) ∙ ap (λ (l : List Next). l ++ shown (item ∷ [])) stands.shows;
     }
 
-pub stepped_steps : (old new : Reading) (item : Option Next) (advance : Advance) → advance ≡ advance_of item → Stepped old new item → Steps old new advance
-stepped_steps old new item advance e step = let P : Advance → Type 0 = λ o. Steps old new o in subst P (sym e) (by item step)
-  where
-    by : (i : Option Next) → Stepped old new i → Steps old new (advance_of i)
-    by None x = x
-    by (Some next) x = x
+-- a turn that left a result is the last
+pub stepped_ends : (old new : Reading) (left : Next) → (left ≡ Need → ⊥) → Stepped old new (left_in left) → Ends old new (left_in left)
+stepped_ends old new Need not step = absurd (not refl)
+stepped_ends old new (Head scope facts) not step = step
+stepped_ends old new (Event event) not step = step
+stepped_ends old new Whole not step = step
+stepped_ends old new (Bad status) not step = step
 
 pub silent_stands : (old new : Reading) → Stepped old new None → (bytes : List ℕ) (given : List Next)
     → StandsFor old bytes given → Reaches new.limits bytes given new.place new.held
