@@ -38,7 +38,7 @@ pub fn judge(
         Place::ChunkEnd(sum) => Ok(after_chunk_end(sum, text, item)),
         Place::Trailers => Ok(after_trailers(alloc, is_trailer(limits.max_headers, text), item)),
         Place::BodyEnd => Ok(after_body(item)),
-        Place::Stopped(refusal) => Ok(bad(refusal, item)),
+        Place::Stopped(why) => Ok(bad(why, item)),
     }
 }
 

@@ -1,5 +1,5 @@
 use Rattle.std.proofs.Common.{◌≡◌, ◌+◌, ◌-◌, ℕ, List, length, arith, ◌∙◌, refl, ap, drop, take}
-use Rattle.std.proofs.lemmas.List.{length-take, length-drop, take_rest}
+use Rattle.std.proofs.lemmas.List.{take_rest}
 use Rattle.std.specs.Vec.{vec_capacity}
 use Rattle.asgi_request.specs.Reading.{Reading}
 use Rattle.asgi_request.specs.Searches.{Stepped, left_in, turn_of}
@@ -28,6 +28,6 @@ returns-after-matches-clause-steps c =
           c.self.view_is refl rest (ap (λ k. take k (drop start t)) short ∙ ap (λ (l : List ℕ). take n (drop start l)) c.deref-in-Text.ensures.value) front c.in_ok-place-in-Text.ensures;
     } in
     elim c.match-matches.branch [
-      in-Need w ↦ silent_steps c.args.self.now new left c.match-matches.matches w.in-Need.is w.matches-is stepped
-    | in_default w ↦ last_steps c.args.self.now new left c.match-matches.matches w.in_default.not-Need w.matches-is stepped
+      | in-Need w ↦ silent_steps c.args.self.now new left c.match-matches.matches w.in-Need.is w.matches-is stepped
+      | in_default w ↦ last_steps c.args.self.now new left c.match-matches.matches w.in_default.not-Need w.matches-is stepped
     ]
