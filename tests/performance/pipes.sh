@@ -8,7 +8,7 @@ folder=$(mktemp -d)
 trap 'rm -rf "$folder"' EXIT
 
 mkdir -p "$folder/crates/pipe_cost/src" "$folder/crates/pipe_cost/proofs/run"
-for crate in asgi_types asgi_protocol asgi_pipes; do
+for crate in asgi_io asgi_types asgi_protocol asgi_pipes; do
   cp -r "crates/$crate" "$folder/crates"
   grep "^$crate:" crates.txt >>"$folder/crates.txt"
 done
