@@ -14,6 +14,7 @@ use Rattle.asgi_request.specs.declared.next.Next.{Next}
 use Rattle.asgi_request.specs.declared.next.Next.TheVariants.{Event, Bad}
 use Rattle.asgi_request.specs.declared.place.Place.{Place}
 use Rattle.asgi_request.specs.declared.place.Place.TheVariants.{Counted, SizeLine, Chunk, ChunkEnd, Trailers, BodyEnd, Stopped}
+use Rattle.asgi_request.specs.declared.place.Judged.{Judged}
 use Rattle.asgi_request.specs.declared.refusal.Refusal.{Refusal}
 use Rattle.asgi_request.specs.declared.refusal.Refusal.TheVariants.{BadRequest, ContentTooLarge}
 use Rattle.asgi_request.specs.Refusals.{status_of}
@@ -21,7 +22,7 @@ use Rattle.asgi_request.specs.Fronts.{Front, found, too_long, unfinished, first,
 use Rattle.asgi_request.specs.ChunkedBody as body
 use Rattle.asgi_request.specs.ChunkedBody.{BodyState, partial, complete, faulty, Piece, print_chunk, size_line_limit, IsSizeLine, IsChunk, total, chunk_piece, EndsAsLine, EndsAsSection, tail_pieces, tail_state, ReadsChunks}
 use Rattle.asgi_request.specs.RequestEvents.{more_event, last_event, length_events, closing_event, piece_blocks}
-use Rattle.asgi_request.specs.Places.{Judged, front, bad, silent, gives, after_size, after_trailers, after_too_long, JudgesText, Judges, Takes, Reads, shown}
+use Rattle.asgi_request.specs.Places.{front, bad, silent, gives, after_size, after_trailers, after_too_long, JudgesText, Judges, Takes, Reads, shown}
 use Rattle.asgi_request.proofs.TextLemmas.{found_front, long_front, open_front}
 use Rattle.asgi_request.proofs.LineLemmas.{line_search_for, section_search_for}
 use Rattle.asgi_request.proofs.BlockLemmas.{length_more, length_last, length_none, rest_blocks, chunk_more, chunk_last, chunk_none}

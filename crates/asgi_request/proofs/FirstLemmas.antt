@@ -8,11 +8,12 @@ use Rattle.asgi_request.specs.declared.next.Next.{Next}
 use Rattle.asgi_request.specs.declared.next.Next.TheVariants.{Event, Whole}
 use Rattle.asgi_request.specs.declared.place.Place.{Place}
 use Rattle.asgi_request.specs.declared.place.Place.TheVariants.{Start, Counted, SizeLine, Chunk, ChunkEnd, Trailers, BodyEnd, Stopped}
+use Rattle.asgi_request.specs.declared.place.Judged.{Judged}
 use Rattle.asgi_request.specs.declared.refusal.Refusal.{Refusal}
 use Rattle.asgi_request.specs.declared.refusal.Refusal.TheVariants.{BadRequest, HeaderFieldsTooLarge}
 use Rattle.asgi_request.specs.Fronts.{Front, found, too_long, unfinished, front_at, first, front_text, head_len, line_len, trailer_len}
 use Rattle.asgi_request.specs.ChunkedBody.{size_line_limit}
-use Rattle.asgi_request.specs.Places.{Judged, front, gives, after_too_long, Judges, Takes, Reads, Reaches}
+use Rattle.asgi_request.specs.Places.{front, gives, after_too_long, Judges, Takes, Reads, Reaches}
 use Rattle.asgi_request.specs.Results.{GivesResults, HasFirst}
 use Rattle.asgi_request.proofs.FrontLemmas.{IsSearch, head_search, line_search, trailer_search, front-append}
 use Rattle.asgi_request.proofs.ForwardLemmas.{yes_le, le_yes, le_no}

@@ -15,6 +15,7 @@ use Rattle.asgi_request.specs.declared.next.Next.{Next}
 use Rattle.asgi_request.specs.declared.next.Next.TheVariants.{Event, Whole, Bad}
 use Rattle.asgi_request.specs.declared.place.Place.{Place}
 use Rattle.asgi_request.specs.declared.place.Place.TheVariants.{Start, Counted, SizeLine, Chunk, ChunkEnd, Trailers, BodyEnd, Stopped}
+use Rattle.asgi_request.specs.declared.place.Judged.{Judged}
 use Rattle.asgi_request.specs.declared.refusal.Refusal.{Refusal}
 use Rattle.asgi_request.specs.declared.refusal.Refusal.TheVariants.{BadRequest, ContentTooLarge}
 use Rattle.asgi_request.specs.Refusals.{status_of}
@@ -24,7 +25,7 @@ use Rattle.asgi_request.specs.Parts.{ParsesSize, ParsesTrailers}
 use Rattle.asgi_request.specs.ChunkedBody as body
 use Rattle.asgi_request.specs.ChunkedBody.{BodyState, partial, complete, faulty, Piece, print_chunk, size_line_limit, IsSizeLine, IsChunk, total, IsTrailerSection, EndsAsLine, EndsAsSection, IsBadSection, tail_state, ReadsChunks}
 use Rattle.asgi_request.specs.RequestEvents.{more_event, length_events, length_state, closing_event, chunked_events, piece_blocks}
-use Rattle.asgi_request.specs.Places.{Judged, front, bad, silent, gives, after_counted, after_size, after_chunk, after_trailers, after_too_long, JudgesText, Judges, Takes, shown}
+use Rattle.asgi_request.specs.Places.{front, bad, silent, gives, after_counted, after_size, after_chunk, after_trailers, after_too_long, JudgesText, Judges, Takes, shown}
 use Rattle.asgi_request.proofs.TextLemmas.{tells}
 use Rattle.asgi_request.proofs.LineLemmas.{line_search_for, section_search_for}
 use Rattle.asgi_request.proofs.BlockLemmas.{length_more, state_more, length_last, length_none, rest_blocks, chunk_more, chunk_last, chunk_none}

@@ -14,11 +14,13 @@ use Rattle.asgi_request.specs.declared.place.Place.{Place}
 use Rattle.asgi_request.specs.declared.place.Place.TheVariants.{Start, Counted, SizeLine, Chunk, ChunkEnd, Trailers, BodyEnd, Stopped}
 use Rattle.asgi_request.specs.declared.next.Next.{Next}
 use Rattle.asgi_request.specs.declared.next.Next.TheVariants.{Need, Head, Event, Whole, Bad}
+use Rattle.asgi_request.specs.declared.place.Judged.{Judged}
 use Rattle.asgi_request.specs.Fronts.{Front, found, too_long, unfinished, front_text}
 use Rattle.asgi_request.specs.BodyLength.{framing_or_refusal}
-use Rattle.asgi_request.specs.Places.{Judged, front, bad, silent, gives, after_framing, after_head, after_counted, after_chunk, after_size, after_chunk_end, after_trailers, after_too_long, JudgesText, Judges, Takes, shown, Reaches}
-use Rattle.asgi_request.specs.Reading.{Reading, StandsFor, IsRefused, Keeps}
-use Rattle.asgi_request.specs.Searches.{left_in, Ends, Steps, Stepped, IsResult, Answers, RefusesAgain, rank}
+use Rattle.asgi_request.specs.Places.{front, bad, silent, gives, after_framing, after_head, after_counted, after_chunk, after_size, after_chunk_end, after_trailers, after_too_long, JudgesText, Judges, Takes, shown, Reaches}
+use Rattle.asgi_request.specs.Reading.{Reading, StandsFor, IsRefused}
+use Rattle.asgi_request.specs.declared.place.Advance.{Advance}
+use Rattle.asgi_request.specs.Searches.{advance_of, Steps, Stepped, IsResult, Answers, RefusesAgain, rank}
 use Rattle.asgi_request.proofs.UniqueLemmas.{Reads-append, Reads-push, shown-append}
 
 pub held_grown : (bytes a new : List ℕ) (start : ℕ) → start ≤ length bytes → new ≡ bytes ++ a → drop start new ≡ drop start bytes ++ a
@@ -72,22 +74,12 @@ stepped_stands old new item step bytes given stands =
       shows = shown-append stands.steps (item ∷ []) ∙ ap (λ (l : List Next). l ++ shown (item ∷ [])) stands.shows;
     }
 
--- a turn that left nothing is silent, and one that left a result is the last
-pub silent_steps : (old new : Reading) (left : Next) (silent : Bool) → left ≡ Need → silent ≡ true → Stepped old new (left_in left) → Steps old new left silent
-silent_steps old new left silent none is step =
-    let P : Bool → Type 0 = λ b. Steps old new left b in
-    let Q : Next → Type 0 = λ n. Stepped old new (left_in n) in
-    subst P (sym is) (subst Q none step, none)
-
-pub last_steps : (old new : Reading) (left : Next) (silent : Bool) → (left ≡ Need → ⊥) → silent ≡ false → Stepped old new (left_in left) → Steps old new left silent
-last_steps old new left silent some is step = let P : Bool → Type 0 = λ b. Steps old new left b in subst P (sym is) (by left some step)
+pub stepped_steps : (old new : Reading) (item : Option Next) (advance : Advance) → advance ≡ advance_of item → Stepped old new item → Steps old new advance
+stepped_steps old new item advance e step = let P : Advance → Type 0 = λ o. Steps old new o in subst P (sym e) (by item step)
   where
-    by : (n : Next) → (n ≡ Need → ⊥) → Stepped old new (left_in n) → Ends old new (left_in n)
-    by Need not x = absurd (not refl)
-    by (Head scope facts) not x = x
-    by (Event event) not x = x
-    by Whole not x = x
-    by (Bad status) not x = x
+    by : (i : Option Next) → Stepped old new i → Steps old new (advance_of i)
+    by None x = x
+    by (Some next) x = x
 
 pub silent_stands : (old new : Reading) → Stepped old new None → (bytes : List ℕ) (given : List Next)
     → StandsFor old bytes given → Reaches new.limits bytes given new.place new.held
@@ -251,23 +243,6 @@ stepped_result old new item step =
 
 -- ---- answers from results
 
--- the last turn, behind silent ones, tells the answer
-pub ends_answers : (start old new : Reading) (answer : Option Next) → Keeps start old → Ends old new answer → Answers start new answer
-ends_answers start old new None keeps ends = let P : Reading → Type 0 = λ r. Keeps start r in (ends.1, subst P (sym ends.0) keeps)
-ends_answers start old new (Some item) keeps ends = λ bytes given stands. stepped_stands old new (Some item) ends bytes given (keeps bytes given stands)
-
-pub ends_result : (old new : Reading) (answer : Option Next) → Ends old new answer → IsResult new answer
-ends_result old new None ends = tt
-ends_result old new (Some item) ends = stepped_result old new (Some item) ends
-
-pub ends_limits : (old new : Reading) (answer : Option Next) → Ends old new answer → new.limits ≡ old.limits
-ends_limits old new None ends = ap (λ (r : Reading). r.limits) ends.0
-ends_limits old new (Some item) ends = ends.limits
-
-pub ends_capacity : (old new : Reading) (answer : Option Next) → Ends old new answer → new.capacity ≡ old.capacity
-ends_capacity old new None ends = ap (λ (r : Reading). r.capacity) ends.0
-ends_capacity old new (Some item) ends = ends.capacity
-
 pub answers_need : (old new : Reading) (next : Next) → IsResult new (Some next) → next ≡ Need → ⊥
 answers_need old new Need r e = r
 answers_need old new (Head scope facts) r e = cc
@@ -292,12 +267,11 @@ none_need old new answer none answers again =
     let P : Option Next → Type 0 = λ a. Answers old new a in
     subst P none (answers (none_again old new answer none again))
 
-pub again_left : (old new : Reading) (left : Next) → RefusesAgain old new (left_in left) → (status : ℕ) → IsRefused old status → (left ≡ Bad status) × (new ≡ old)
-again_left old new left again status refused = (bad_left left status (again status refused).0, (again status refused).1)
+pub some_again : (old new : Reading) (answer : Option Next) (next : Next) → answer ≡ Some next → RefusesAgain old new answer
+    → (status : ℕ) → IsRefused old status → (next ≡ Bad status) × (new ≡ old)
+some_again old new answer next some again status refused =
+    let both : Some next ≡ Some (Bad status) = sym some ∙ (again status refused).0 in
+    (same next (Bad status) both, (again status refused).1)
   where
-    bad_left : (n : Next) (s : ℕ) → left_in n ≡ Some (Bad s) → n ≡ Bad s
-    bad_left Need s e = absurd cc
-    bad_left (Head scope facts) s e = absurd cc
-    bad_left (Event event) s e = absurd cc
-    bad_left Whole s e = absurd cc
-    bad_left (Bad status) s e = cc
+    same : (a b : Next) → Some a ≡ Some b → a ≡ b
+    same a b e = cc

@@ -9,13 +9,14 @@ use Rattle.asgi_request.specs.declared.next.Next.{Next}
 use Rattle.asgi_request.specs.declared.next.Next.TheVariants.{Event, Whole, Bad}
 use Rattle.asgi_request.specs.declared.place.Place.{Place}
 use Rattle.asgi_request.specs.declared.place.Place.TheVariants.{Start, Counted, SizeLine, Chunk, ChunkEnd, Trailers, BodyEnd, Stopped}
+use Rattle.asgi_request.specs.declared.place.Judged.{Judged}
 use Rattle.asgi_request.specs.declared.refusal.Refusal.{Refusal}
 use Rattle.asgi_request.specs.declared.refusal.Refusal.TheVariants.{BadRequest, HeaderFieldsTooLarge}
 use Rattle.asgi_request.specs.Refusals.{status_of}
 use Rattle.asgi_request.specs.Fronts.{Front, found, too_long, unfinished, front_at, first, head_len, line_len, trailer_len}
 use Rattle.asgi_request.specs.ChunkedBody.{size_line_limit}
 use Rattle.asgi_request.specs.Head.{record_of}
-use Rattle.asgi_request.specs.Places.{Judged, front, bad, gives, after_head, after_counted, after_size, after_chunk, after_chunk_end, after_trailers, after_too_long, JudgesText, Takes, shown}
+use Rattle.asgi_request.specs.Places.{front, bad, gives, after_head, after_counted, after_size, after_chunk, after_chunk_end, after_trailers, after_too_long, JudgesText, Takes, shown}
 use Rattle.asgi_request.specs.Results.{GivesResults}
 use Rattle.asgi_request.proofs.Growth.{head_len-one, line_len-one, trailer_len-one}
 use Rattle.asgi_request.proofs.FrontLemmas.{IsSearch, head_search, line_search, trailer_search}

@@ -9,10 +9,11 @@ use Rattle.asgi_request.specs.declared.head.HeadRecord.{HeadRecord}
 use Rattle.asgi_request.specs.declared.place.Place.{Place}
 use Rattle.asgi_request.specs.declared.place.Place.TheVariants.{Start, Counted, SizeLine, Chunk, ChunkEnd, Trailers, BodyEnd, Stopped}
 use Rattle.asgi_request.specs.declared.next.Next.{Next}
+use Rattle.asgi_request.specs.declared.place.Judged.{Judged}
 use Rattle.asgi_request.specs.Fronts.{Front, found, too_long, unfinished, front_text}
 use Rattle.asgi_request.specs.Head.{ParsesHead, record_of}
 use Rattle.asgi_request.specs.Parts.{ParsesSize, ParsesTrailers}
-use Rattle.asgi_request.specs.Places.{Judged, front, after_head, after_size, after_trailers, JudgesText, Judges, Takes, Reads, shown, Reaches, ResultsOf}
+use Rattle.asgi_request.specs.Places.{front, after_head, after_size, after_trailers, JudgesText, Judges, Takes, Reads, shown, Reaches, ResultsOf}
 use Rattle.asgi_request.proofs.FrontLemmas.{front-append}
 
 same_head : (max_headers : ℕ) (text : List ℕ) (a b : Option HeadRecord) → ParsesHead max_headers text a → ParsesHead max_headers text b → a ≡ b

@@ -10,6 +10,7 @@ use Rattle.asgi_request.specs.declared.place.Place.{Place}
 use Rattle.asgi_request.specs.declared.place.Place.TheVariants.{Start, Counted, SizeLine, Chunk, ChunkEnd, Trailers, BodyEnd, Stopped}
 use Rattle.asgi_request.specs.declared.next.Next.{Next}
 use Rattle.asgi_request.specs.declared.next.Next.TheVariants.{Head, Event, Whole, Bad}
+use Rattle.asgi_request.specs.declared.place.Judged.{Judged}
 use Rattle.asgi_request.specs.Fronts.{Front, found, too_long, unfinished, front_at, first, front_text, head_len, line_len, trailer_len}
 use Rattle.asgi_request.specs.ChunkedBody.{size_line_limit}
 use Rattle.asgi_request.specs.Head.{ParsesHead}
@@ -20,11 +21,6 @@ use Rattle.asgi_request.specs.declared.refusal.Refusal.{Refusal}
 use Rattle.asgi_request.specs.declared.refusal.Refusal.TheVariants.{BadRequest, ContentTooLarge, HeaderFieldsTooLarge}
 use Rattle.httparse.specs.Ascii.{crlf_bytes}
 use Rattle.asgi_request.specs.Parts.{ParsesSize, ParsesTrailers}
-
--- what a text gives, if anything, and what is due behind it
-pub record Judged : Type 0 where
-  pub item : Option Next
-  pub place : Place
 
 -- the text that the bytes begin with, at this place
 abbrev pub front : Limits → Place → List ℕ → Front

@@ -3,13 +3,15 @@
 use Rattle.std.specs.Prelude.{◌≡◌, ℕ, ◌≤◌, List, ◌++◌, length, take, drop, Bool, true, false, Option, Some, None}
 use Rattle.asgi_request.specs.declared.place.Place.{Place}
 use Rattle.asgi_request.specs.declared.place.Place.TheVariants.{Start, Counted, SizeLine, Chunk, ChunkEnd, Trailers, BodyEnd, Stopped}
+use Rattle.asgi_request.specs.declared.place.Advance.{Advance}
+use Rattle.asgi_request.specs.declared.place.Advance.TheVariants.{Waits, Silent, Gives}
 use Rattle.asgi_request.specs.declared.next.Next.{Next}
 use Rattle.asgi_request.specs.declared.next.Next.TheVariants.{Need, Head, Event, Whole, Bad}
 use Rattle.asgi_request.specs.declared.search.Search.{Search}
 use Rattle.asgi_request.specs.declared.search.Arrival.{Arrival}
 use Rattle.asgi_request.specs.declared.search.Arrival.TheVariants.{Text, TooLong, Partial}
 use Rattle.asgi_request.specs.Fronts.{Front, found, too_long, unfinished, more, empty_line_len, head_len, lines_len, line_len, trailer_len}
-use Rattle.asgi_request.specs.Places.{Judged, Takes}
+use Rattle.asgi_request.specs.Places.{Takes}
 use Rattle.asgi_request.specs.Reading.{Reading, IsWaiting, IsRefused, Keeps, GoesOn}
 
 -- the bytes before `at` hold no end of the text, whatever follows
@@ -64,27 +66,16 @@ pub record Stepped (old new : Reading) (item : Option Next) : Type 0 where
   pub capacity : new.capacity ≡ old.capacity
   pub takes : Takes old.limits old.place old.held (record { item = item; place = new.place }) new.held
 
--- the result that was left here: `Need` is none
-abbrev pub left_in : Next → Option Next
-left_in Need = None
-left_in (Head scope facts) = Some (Head scope facts)
-left_in (Event event) = Some (Event event)
-left_in Whole = Some Whole
-left_in (Bad status) = Some (Bad status)
+-- what a turn came to, by its result
+abbrev pub advance_of : Option Next → Advance
+advance_of None = Silent
+advance_of (Some item) = Gives item
 
--- what a text gave that left this, and what is due behind it
-abbrev pub turn_of : Next → Place → Judged
-turn_of left place = record { item = left_in left; place = place }
-
--- the last turn, with its result, or none where the reader waits
-abbrev pub Ends : Reading → Reading → Option Next → Type 0
-Ends old new None = (new ≡ old) × IsWaiting new
-Ends old new (Some item) = Stepped old new (Some item)
-
--- one turn: a silent one leaves nothing, and is not the last
-abbrev pub Steps : Reading → Reading → Next → Bool → Type 0
-Steps old new left true = Stepped old new None × (left ≡ Need)
-Steps old new left false = Ends old new (left_in left)
+-- one turn, or none where the reader waits
+abbrev pub Steps : Reading → Reading → Advance → Type 0
+Steps old new Waits = (new ≡ old) × IsWaiting new
+Steps old new Silent = Stepped old new None
+Steps old new (Gives item) = Stepped old new (Some item)
 
 -- no further result of the bytes is there, or this is the next
 abbrev pub Answers : Reading → Reading → Option Next → Type 0

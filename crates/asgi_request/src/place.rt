@@ -1,4 +1,5 @@
 //! What is due next in the bytes.
+use crate::next::Next;
 use crate::refusal::Refusal;
 
 /// What is due next.
@@ -20,4 +21,22 @@ pub enum Place {
     BodyEnd,
     /// Nothing ever: the bytes are refused.
     Stopped(Refusal),
+}
+
+/// What one turn of a reader came to.
+#[derive(Drop)]
+pub enum Advance {
+    /// The next text is not whole.
+    Waits,
+    /// It gave no result.
+    Silent,
+    /// It gave this result.
+    Gives(Next),
+}
+
+/// What a text gives, if anything, and what is due behind it.
+#[derive(Drop)]
+pub struct Judged {
+    pub item: Option<Next>,
+    pub place: Place,
 }

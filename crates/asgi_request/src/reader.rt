@@ -5,11 +5,12 @@ ghost use Rattle.asgi_types.specs.Room.{LacksRoom};
 ghost use Rattle.asgi_request.specs.declared.next.Next.{Next};
 ghost use Rattle.asgi_request.specs.declared.place.Place.TheVariants.{Start};
 ghost use Rattle.asgi_request.specs.Reading.{StandsFor, EndsWhole, AllGiven, WholeGiven, IsRefused, Keeps, GoesOn};
-ghost use Rattle.asgi_request.specs.Searches.{Answers, RefusesAgain, IsResult, Steps, left_in};
+ghost use Rattle.asgi_request.specs.Searches as spec;
+ghost use Rattle.asgi_request.specs.Searches.{Answers, RefusesAgain, IsResult, Steps};
 
 use crate::judge::{after_too_long, judge};
 use crate::next::Next;
-use crate::place::Place;
+use crate::place::{Advance, Place};
 use crate::search::{Arrival, NEW_SEARCH, Search, arrive};
 use asgi_types::Limits;
 use std::alloc::{AllocError, Global};
@@ -94,37 +95,37 @@ impl RequestReader {
         ensures capacity { self.new.capacity ≡ self.old.capacity }
         ensures err { OnErr result (Keeps self.old self.new) }
     {
-        let mut item = Next::Need;
-        self.next_item(&mut item)?;
-        Ok(item)
+        match self.next_item()? {
+            None => Ok(Next::Need),
+            Some(item) => Ok(item),
+        }
     }
 
-    /// Leaves the next result in `item`, which stays `Need` where more bytes are needed.
-    fn next_item(&mut self, item: &mut Next) -> Result<(), AllocError>
-        requires none { item.old ≡ Next.Need }
-        ensures answers { OnOk result (((status : ℕ) → ¬ (IsRefused self.old status)) → Answers self.old self.new (left_in item.new)) }
-        ensures again { OnOk result (RefusesAgain self.old self.new (left_in item.new)) }
+    /// The next result, or `None` where more bytes are needed.
+    fn next_item(&mut self) -> Result<Option<Next>, AllocError>
+        ensures answers { IfOk result (λ answer. ((status : ℕ) → ¬ (IsRefused self.old status)) → Answers self.old self.new answer) }
+        ensures again { IfOk result (λ answer. RefusesAgain self.old self.new answer) }
         ensures sure { (status : ℕ) → IsRefused self.old status → IsOk result }
-        ensures is_result { OnOk result (IsResult self.new (left_in item.new)) }
+        ensures is_result { IfOk result (λ answer. IsResult self.new answer) }
         ensures limits { self.new.limits ≡ self.old.limits }
         ensures capacity { self.new.capacity ≡ self.old.capacity }
         ensures err { OnErr result (Keeps self.old self.new) }
     {
         if let Place::Stopped(refusal) = self.place {
-            *item = Next::Bad(refusal.status());
-            return Ok(());
+            return Ok(Some(Next::Bad(refusal.status())));
         }
         loop {
-            if !self.step(item)? {
-                return Ok(());
+            match self.step()? {
+                Advance::Waits => return Ok(None),
+                Advance::Gives(item) => return Ok(Some(item)),
+                Advance::Silent => {}
             }
         }
     }
 
-    /// One turn, which leaves what the next text gives in `item`. Returns whether it was silent: whether a text gave nothing.
-    fn step(&mut self, item: &mut Next) -> Result<bool, AllocError>
-        requires none { item.old ≡ Next.Need }
-        ensures steps { IfOk result (λ silent. Steps self.old self.new item.new silent) }
+    /// One turn: what the next text gives.
+    fn step(&mut self) -> Result<Advance, AllocError>
+        ensures steps { IfOk result (λ advance. Steps self.old self.new advance) }
         ensures err { OnErr result (self.new ≡ self.old) }
     {
         let (arrival, search) = arrive(
@@ -135,19 +136,20 @@ impl RequestReader {
         );
         self.search = search;
         match arrival {
-            Arrival::Partial => Ok(false),
+            Arrival::Partial => Ok(Advance::Waits),
             Arrival::TooLong => {
-                self.place = after_too_long(self.place, item);
+                let turn = after_too_long(self.place);
+                self.place = turn.place;
                 self.search = NEW_SEARCH;
-                Ok(false)
+                Ok(advance_of(turn.item))
             }
             Arrival::Text(n) => {
                 let text = &self.bytes[self.start..self.start + n];
-                let place = judge(self.alloc, &self.limits, self.place, text, item)?;
+                let turn = judge(self.alloc, &self.limits, self.place, text)?;
                 self.start += n;
-                self.place = place;
+                self.place = turn.place;
                 self.search = NEW_SEARCH;
-                Ok(matches!(item, Next::Need))
+                Ok(advance_of(turn.item))
             }
         }
     }
@@ -187,4 +189,14 @@ fn drop_front(bytes: &mut Vec<u8>, count: usize)
     ensures capacity { vec_capacity bytes.new ≡ vec_capacity bytes.old }
 {
     let _front = bytes.drain(..count);
+}
+
+/// What a turn came to that gave this result, or none.
+fn advance_of(item: Option<Next>) -> Advance
+    ensures { result ≡ spec.advance_of item }
+{
+    match item {
+        None => Advance::Silent,
+        Some(item) => Advance::Gives(item),
+    }
 }

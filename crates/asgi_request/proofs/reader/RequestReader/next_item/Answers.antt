@@ -1,43 +1,48 @@
-use Rattle.std.proofs.Common.{◌≡◌, ◌∙◌, refl, ap, sym, subst, Bool, None}
+use Rattle.std.proofs.Common.{◌∙◌, refl, ap, sym, subst, Some, None}
 use Rattle.asgi_request.specs.declared.next.Next.TheVariants as next
 use Rattle.asgi_request.specs.Refusals.{status_of}
 use Rattle.asgi_request.specs.Reading.{Reading}
-use Rattle.asgi_request.specs.Searches.{Stepped, Ends, Steps, left_in}
-use Rattle.asgi_request.proofs.ReaderLemmas.{silent_stands, silent_rank, ends_answers, ends_result, ends_limits, ends_capacity}
+use Rattle.asgi_request.specs.declared.place.Advance.{Advance}
+use Rattle.asgi_request.specs.Searches.{Stepped, Steps}
+use Rattle.asgi_request.proofs.ReaderLemmas.{stepped_stands, silent_stands, silent_rank, stepped_result, same_refusal}
 use Rattle.asgi_request.proofs.reader.RequestReader.next_item.Goals as goal
 
 pub returns-in-Stopped-clause-answers : goal.returns-in-Stopped-clause-answers
 returns-in-Stopped-clause-answers c going =
     absurd (going (status_of c.in-Stopped.refusal) (c.in-Stopped.refusal, sym (ap (λ (r : Reading). r.place) c.self.view_is) ∙ c.in-Stopped.is, refl))
 
-pub returns-then-not-branch : goal.returns-then-not-branch
-returns-then-not-branch c =
-    let P : Bool → Type 0 = λ b. Steps c.loop.self c.step.new.self c.step.new.item b in
-    let answer = left_in c.step.new.item in
-    let ends : Ends c.loop.self c.step.new.self answer = subst P c.if-not-branch.true c.in_ok-step.ensures.steps in
+pub returns-in-Stopped-clause-again : goal.returns-in-Stopped-clause-again
+returns-in-Stopped-clause-again c status refused =
+    let place = sym (ap (λ (r : Reading). r.place) c.self.view_is) ∙ c.in-Stopped.is in
+    let same = same_refusal c.args.self.now.place c.in-Stopped.refusal refused.0 place refused.1 in
+    (ap (λ n. Some (next.Bad n)) (c.status.ensures ∙ same ∙ sym refused.2), refl)
+
+pub returns-in-Gives : goal.returns-in-Gives
+returns-in-Gives c =
+    let P : Advance → Type 0 = λ o. Steps c.loop-item.self c.step.new.self o in
+    let stepped : Stepped c.loop-item.self c.step.new.self (Some c.in-Gives.item) = subst P c.in-Gives.is c.in_ok-step.ensures.steps in
     record {
-      answers = λ _. ends_answers c.args.self.now c.loop.self c.step.new.self answer c.loop.invariant.keeps ends;
+      answers = λ _ bytes given stands. stepped_stands c.loop-item.self c.step.new.self (Some c.in-Gives.item) stepped bytes given (c.loop-item.invariant.keeps bytes given stands);
       again = λ status e. absurd (c.in_default.not-Stopped e.0 (ap (λ (r : Reading). r.place) c.self.view_is ∙ e.1));
       sure = λ status e. absurd (c.in_default.not-Stopped e.0 (ap (λ (r : Reading). r.place) c.self.view_is ∙ e.1));
-      is_result = ends_result c.loop.self c.step.new.self answer ends;
-      limits = ends_limits c.loop.self c.step.new.self answer ends ∙ c.loop.invariant.limits;
-      capacity = ends_capacity c.loop.self c.step.new.self answer ends ∙ c.loop.invariant.capacity;
+      is_result = stepped_result c.loop-item.self c.step.new.self (Some c.in-Gives.item) stepped;
+      limits = stepped.limits ∙ c.loop-item.invariant.limits;
+      capacity = stepped.capacity ∙ c.loop-item.invariant.capacity;
       err = tt;
     }
 
-pub loop-smaller : goal.loop-smaller
-loop-smaller c =
-    let P : Bool → Type 0 = λ b. Steps c.loop.self c.step.new.self c.step.new.item b in
-    let silent : Stepped c.loop.self c.step.new.self None × (c.step.new.item ≡ next.Need) = subst P c.if-not-branch.false c.in_ok-step.ensures.steps in
-    silent_rank c.loop.self c.step.new.self silent.0
+pub loop-item-smaller : goal.loop-item-smaller
+loop-item-smaller c =
+    let P : Advance → Type 0 = λ o. Steps c.loop-item.self c.step.new.self o in
+    let stepped : Stepped c.loop-item.self c.step.new.self None = subst P c.in-Silent.is c.in_ok-step.ensures.steps in
+    silent_rank c.loop-item.self c.step.new.self stepped
 
-pub loop-preserved : goal.loop-preserved
-loop-preserved c =
-    let P : Bool → Type 0 = λ b. Steps c.loop.self c.step.new.self c.step.new.item b in
-    let silent : Stepped c.loop.self c.step.new.self None × (c.step.new.item ≡ next.Need) = subst P c.if-not-branch.false c.in_ok-step.ensures.steps in
+pub loop-item-preserved : goal.loop-item-preserved
+loop-item-preserved c =
+    let P : Advance → Type 0 = λ o. Steps c.loop-item.self c.step.new.self o in
+    let stepped : Stepped c.loop-item.self c.step.new.self None = subst P c.in-Silent.is c.in_ok-step.ensures.steps in
     record {
-      keeps = λ bytes given stands. silent_stands c.loop.self c.step.new.self silent.0 bytes given (c.loop.invariant.keeps bytes given stands);
-      limits = silent.0.limits ∙ c.loop.invariant.limits;
-      capacity = silent.0.capacity ∙ c.loop.invariant.capacity;
-      none = silent.1;
+      keeps = λ bytes given stands. silent_stands c.loop-item.self c.step.new.self stepped bytes given (c.loop-item.invariant.keeps bytes given stands);
+      limits = stepped.limits ∙ c.loop-item.invariant.limits;
+      capacity = stepped.capacity ∙ c.loop-item.invariant.capacity;
     }
