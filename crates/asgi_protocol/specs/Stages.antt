@@ -1,4 +1,5 @@
--- Words of private functions, which state no promise: what a judge keeps, and which lists of events it stands for.
+-- Which lists of events a judge stands for: `StandsFor`, which the clauses of `Judge` name. The other words here say what
+-- it keeps, and are those of private functions.
 use Rattle.std.specs.Prelude.{◌≡◌, Bool, false, List, [], ◌∷◌, ◌++◌, None}
 use Rattle.asgi_types.specs.declared.scope.Kind.{Kind}
 use Rattle.asgi_types.specs.declared.scope.Kind.TheVariants.{Http, WebSocket, Lifespan}

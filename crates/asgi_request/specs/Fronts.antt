@@ -1,5 +1,5 @@
--- Words of private functions, which state no promise: where a text ends that is judged only once it is whole: a head, a size
--- line, a trailer section, or so many bytes. The words of `Places.antt`; the laws say what these mean.
+-- Words of `Places.antt` and `BodyOf.antt`; the laws say what these mean. Where a text ends that is judged only once it is
+-- whole: a head, a size line, a trailer section, or so many bytes.
 use Rattle.std.specs.Prelude.{ℕ, ◌+◌, ◌-◌, ◌&&◌, List, [], ◌∷◌, length, take, if◌then◌else◌, ◌==◌, nat_lt, nat_le, Option, Some, None}
 use Rattle.std.specs.Option.{option_map}
 use Rattle.httparse.specs.Ascii.{line_feed, carriage_return}
