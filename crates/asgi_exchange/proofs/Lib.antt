@@ -8,3 +8,4 @@ pub mod ScheduleLemmas
 pub mod HttpLemmas
 pub mod HttpExchangeLemmas
 pub mod ResultLemmas
+pub mod MeetLemmas
