@@ -9,6 +9,7 @@ use Rattle.asgi_protocol.specs.declared.verdict.Verdict.{Verdict}
 use Rattle.asgi_protocol.specs.declared.verdict.Verdict.TheVariants.{Pass, Ignored, Refused}
 use Rattle.asgi_protocol.specs.Lawful.{IsLawful, IsClosed, BeginsWord}
 use Rattle.asgi_protocol.specs.Numbers.{number_of}
+use Rattle.asgi_protocol.specs.Passing.{is_lawful}
 use Rattle.asgi_protocol.specs.Shapes.{is_closed, goes_on}
 use Rattle.asgi_protocol.specs.Verdicts.{verdict_on}
 
@@ -25,6 +26,10 @@ EachPasses kind facts events =
 -- a list is lawful exactly where each of its events passes
 abbrev pub LawfulWhereEachPasses : Type 0
 LawfulWhereEachPasses = (kind : Kind) (facts : Facts) (events : List Outgoing) → IsLawful kind facts events ↔ EachPasses kind facts events
+
+-- one function of kind, facts and list decides which lists are lawful
+abbrev pub LawfulListsAreDecided : Type 0
+LawfulListsAreDecided = (kind : Kind) (facts : Facts) (events : List Outgoing) → (is_lawful kind facts events ≡ true) ↔ IsLawful kind facts events
 
 -- every verdict is one of the table, and `Ignored` comes in HTTP alone
 abbrev pub IsOfTable : Kind → Verdict → Type 0

@@ -6,9 +6,11 @@ use Rattle.std.proofs.lemmas.List.Concat.{flat_map-append}
 use Rattle.std.proofs.lemmas.List.Sums.{fold-append}
 use Rattle.std.specs.Prelude.{if◌then◌else◌}
 use Rattle.asgi_types.specs.declared.facts.Facts.{Facts}
+use Rattle.asgi_types.specs.declared.scope.Kind.TheVariants.{Http}
 use Rattle.asgi_types.specs.declared.outgoing.Outgoing.{Outgoing}
 use Rattle.asgi_types.specs.declared.outgoing.Outgoing.TheVariants.{ResponseStart, ResponseBody, WsAccept, WsSend, WsClose, DenialStart, DenialBody, StartupComplete, StartupFailed, ShutdownComplete, ShutdownFailed}
-use Rattle.asgi_response.specs.Accepted.{passes, with_event, accepted}
+use Rattle.asgi_protocol.specs.Passing.{passes}
+use Rattle.asgi_response.specs.Accepted.{with_event, accepted}
 use Rattle.asgi_response.specs.Fields.{is_chunked, closes, head_text}
 use Rattle.asgi_response.specs.Response.{body_text, message_text, continue_text}
 use Rattle.asgi_response.specs.Laws.{BeginsWith, TextOnlyGrows}
@@ -52,7 +54,7 @@ fold_grows : (facts : Facts) (more said : List Outgoing) → BeginsWith (message
 fold_grows facts [] said = same_front (message_text facts said)
 fold_grows facts (event ∷ more) said =
     longer (message_text facts (fold (with_event facts) (with_event facts said event) more)) (message_text facts (with_event facts said event)) (message_text facts said)
-    (fold_grows facts more (with_event facts said event)) (one_grows facts said event (passes facts said event))
+    (fold_grows facts more (with_event facts said event)) (one_grows facts said event (passes Http facts said event))
 
 along : (a a' b : List ℕ) → a ≡ a' → BeginsWith a' b → BeginsWith a b
 along a a' b e h = (h.0, e ∙ h.1)
