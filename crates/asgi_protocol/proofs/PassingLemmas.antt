@@ -1,16 +1,18 @@
--- A list is lawful exactly where each of its events passes in turn.
+-- A list is lawful exactly where each of its events passes in turn; so are its fronts, and nothing passes behind a closed one.
 use Rattle.std.proofs.Common.{◌≡◌, Bool, true, false, List, [], ◌∷◌, ◌++◌, refl, ap, sym, ◌∙◌, append_assoc, append-nil}
 use Rattle.asgi_types.specs.declared.scope.Kind.{Kind}
+use Rattle.asgi_types.specs.declared.scope.Kind.TheVariants.{Http, WebSocket, Lifespan}
 use Rattle.asgi_types.specs.declared.facts.Facts.{Facts}
 use Rattle.asgi_types.specs.declared.outgoing.Outgoing.{Outgoing}
 use Rattle.asgi_protocol.specs.declared.verdict.Verdict.{Verdict}
 use Rattle.asgi_protocol.specs.declared.verdict.Verdict.TheVariants.{Pass, Ignored, Refused}
-use Rattle.asgi_protocol.specs.Lawful.{IsLawful}
-use Rattle.asgi_protocol.specs.Laws.{LawfulListsAreDecided}
+use Rattle.asgi_protocol.specs.Lawful.{IsLawful, IsClosed}
+use Rattle.asgi_protocol.specs.Laws.{LawfulListsAreDecided, FrontsAreLawful, NothingPassesBehindClosed}
 use Rattle.asgi_protocol.specs.Passing.{is_pass, passes, each_passes, is_lawful}
-use Rattle.asgi_protocol.specs.Verdicts.{verdict_on}
-use Rattle.asgi_protocol.proofs.LawLemmas.{lawful_where_each_passes}
+use Rattle.asgi_protocol.specs.Verdicts.{verdict_on, verdict_on_closed}
+use Rattle.asgi_protocol.proofs.LawLemmas.{begins_front, lawful_where_each_passes}
 use Rattle.asgi_protocol.proofs.RowLemmas.{both, both_true}
+use Rattle.asgi_protocol.proofs.WordLemmas.{test_of_word}
 
 -- a verdict that tests as a pass is one
 pub is_passed : (v : Verdict) → is_pass v ≡ true → v ≡ Pass
@@ -65,3 +67,27 @@ test_of_lawful kind facts events lawful =
 
 pub lawful_lists_are_decided : LawfulListsAreDecided
 lawful_lists_are_decided kind facts events = (lawful_from_test kind facts events, test_of_lawful kind facts events)
+
+pub fronts_are_lawful : FrontsAreLawful
+fronts_are_lawful kind facts front behind lawful = record {
+  begins = begins_front kind front behind lawful.begins;
+  each = λ before after event split.
+      lawful.each before (after ++ behind) event (ap (λ (l : List Outgoing). l ++ behind) split ∙ append_assoc before (event ∷ after) behind);
+}
+
+-- ---- behind a closed list
+
+verdict_behind : (kind : Kind) (facts : Facts) (said : List Outgoing) (heard : Bool) (event : Outgoing) → IsClosed kind said
+    → verdict_on kind facts said heard event ≡ verdict_on_closed kind
+verdict_behind kind facts said heard event closed = rw (test_of_word kind said closed) refl
+
+no_pass : (kind : Kind) → is_pass (verdict_on_closed kind) ≡ false
+no_pass Http = refl
+no_pass WebSocket = refl
+no_pass Lifespan = refl
+
+pub nothing_passes : NothingPassesBehindClosed
+nothing_passes = record {
+  verdict = verdict_behind;
+  none = λ kind facts said event closed. ap is_pass (verdict_behind kind facts said false event closed) ∙ no_pass kind;
+}

@@ -20,16 +20,13 @@ use Rattle.asgi_response.specs.Accepted.{with_event, accepted}
 use Rattle.asgi_response.specs.Standing.{part}
 use Rattle.asgi_response.specs.Steps.{is_allowed}
 use Rattle.asgi_protocol.proofs.CountLemmas.{above_agrees, below_agrees, counts_down}
+use Rattle.asgi_protocol.proofs.PassingLemmas.{nothing_passes}
 
 -- ---- the words
 
 pub is_row-open : (parts : List (List ℕ)) → is_row is_part is_last_part (map part parts) ≡ false
 is_row-open [] = refl
 is_row-open (p ∷ parts) = ap (λ (b : Bool). b || false) (is_row-open parts)
-
-pub is_row-closed : (parts : List (List ℕ)) (last : List ℕ) → is_row is_part is_last_part (map part parts ++ ResponseBody last false ∷ []) ≡ true
-is_row-closed [] last = refl
-is_row-closed (p ∷ parts) last = ap (λ (b : Bool). b || false) (is_row-closed parts last)
 
 one_body : (body : List ℕ) (more : Bool) → begins_row is_part is_last_part (ResponseBody body more ∷ []) ≡ true
 one_body body true = refl
@@ -63,13 +60,6 @@ closed_or_wrong false false false false v h = cc
 
 out_of_order : (l : Lines) → l.out_of_order ≡ true → is_pass (first_line Http l) ≡ false
 out_of_order l h = closed_or_wrong l.closed l.disconnected l.wrong_scope l.out_of_order _ h
-
-closed : (a : Bool) (v : Verdict) → a ≡ true → is_pass (if a then Ignored else v) ≡ false
-closed true v h = refl
-closed false v h = cc
-
-is_closed : (l : Lines) → l.closed ≡ true → is_pass (first_line Http l) ≡ false
-is_closed l h = closed l.closed _ h
 
 body_lines : (closed goes much little : Bool) → closed ≡ false → goes ≡ true
     → is_pass (first_line Http (record { closed = closed; disconnected = false; wrong_scope = false; out_of_order = not goes; bad_status = false; bad_header = false; bad_code = false; bad_reason = false; bad_subprotocol = false; too_much_body = much; too_little_body = little }))
@@ -120,8 +110,7 @@ second_start facts said status headers parts again fields e =
 
 -- nothing passes behind a whole response
 pub after_closed : (facts : Facts) (said : List Outgoing) (event : Outgoing) → IsResponse said → passes Http facts said event ≡ false
-after_closed facts said event r =
-    is_closed (lines_on Http facts said false event) (ap (λ (s : List Outgoing). is_word Http s) r.in_order ∙ is_row-closed r.parts r.last)
+after_closed facts said event r = nothing_passes.none Http facts said event r
 
 pub first_start : (facts : Facts) (said : List Outgoing) (status : ℕ) (headers : List HeaderField) → said ≡ []
     → passes Http facts said (ResponseStart status headers) ≡ (is_status status && not (is_faulty (content_length headers)))
