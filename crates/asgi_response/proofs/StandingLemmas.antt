@@ -31,7 +31,7 @@ use Rattle.asgi_response.proofs.AcceptedLemmas.{passes_body, second_start, after
 
 -- ---- an event that passes or not
 
-not_taken : (facts : Facts) (said : List Outgoing) (event : Outgoing) → passes Http facts said event ≡ false → said ≡ with_event facts said event
+pub not_taken : (facts : Facts) (said : List Outgoing) (event : Outgoing) → passes Http facts said event ≡ false → said ≡ with_event facts said event
 not_taken facts said event h = sym (ap (λ (b : Bool). if b then said ++ event ∷ [] else said) h)
 
 keeps : (t : ResponseText) (facts : Facts) (said : List Outgoing) (event : Outgoing) → HasAccepted t facts said → passes Http facts said event ≡ false → HasAccepted t facts (with_event facts said event)
