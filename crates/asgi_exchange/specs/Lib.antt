@@ -5,3 +5,6 @@ pub mod Steps
 pub mod Schedules
 pub mod Heard
 pub mod Keeps
+pub mod Halves
+pub mod Http
+pub mod HttpExchange

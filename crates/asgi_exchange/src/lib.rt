@@ -3,3 +3,6 @@
 #![tactic(auto)]
 
 pub mod laws;
+mod meeting;
+
+pub use meeting::join;
