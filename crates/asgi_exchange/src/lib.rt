@@ -6,3 +6,6 @@ pub mod laws;
 mod meeting;
 
 pub use meeting::join;
+
+#[cfg(test)]
+mod tests;
