@@ -53,8 +53,8 @@ pub fn met_halves_make_an_exchange()
     ensures runs { (limits : Limits) (facts : Facts) (steps : List (ConnStep ℕ)) → ConnKeeps (http limits facts) (conn_run (http limits facts) steps empty_conn) }
 {}
 
-/// What is fed to a reader arrives. The event that it gives behind those offered is the next that is due; where it needs more
-/// or has refused, nothing more is due, so the input may break.
+/// What is fed to a reader arrives. The event that it gives behind those offered is the next that is due; where it needs more,
+/// has given the request whole or has refused it, nothing more is due, so the input may break.
 pub fn results_are_steps()
     ensures arrives { (limits : Limits) (bytes piece : List ℕ) (opened : List Next) (facts : Facts) (conn : ConnView ℕ ℕ)
         → HasOpened limits bytes opened facts.framing conn.arrived → is_by_input conn.broken ≡ false
@@ -65,6 +65,10 @@ pub fn results_are_steps()
         → conn.broken ≡ None → offer (http reader.limits facts) conn true ≡ record conn { offered = conn.offered ++ event ∷ [] } }
     ensures breaks { (reader : Reading) (bytes : List ℕ) (opened : List Next) (facts : Facts) (conn : ConnView ℕ ℕ)
         → HasOpened reader.limits bytes opened facts.framing conn.arrived → AllGiven reader bytes (opened ++ map Next.Event conn.offered)
+        → conn.broken ≡ None → end_of conn.got ≡ None
+        → break_off (http reader.limits facts) conn ByInput ≡ record conn { offered = conn.offered ++ Incoming.HttpDisconnect ∷ []; broken = Some ByInput } }
+    ensures whole { (reader : Reading) (bytes : List ℕ) (opened : List Next) (facts : Facts) (conn : ConnView ℕ ℕ)
+        → HasOpened reader.limits bytes opened facts.framing conn.arrived → StandsFor reader bytes (opened ++ (map Next.Event conn.offered ++ Next.Whole ∷ []))
         → conn.broken ≡ None → end_of conn.got ≡ None
         → break_off (http reader.limits facts) conn ByInput ≡ record conn { offered = conn.offered ++ Incoming.HttpDisconnect ∷ []; broken = Some ByInput } }
     ensures refused { (reader : Reading) (bytes : List ℕ) (opened : List Next) (facts : Facts) (conn : ConnView ℕ ℕ) (status : ℕ)
