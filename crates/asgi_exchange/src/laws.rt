@@ -1,0 +1,1 @@
+//! Laws of an exchange, over every list: contracts of functions with no code.

@@ -1,0 +1,5 @@
+//! One exchange between a connection and an application: what every schedule of its steps keeps.
+//! Definitions and laws, and hardly any code.
+#![tactic(auto)]
+
+pub mod laws;
