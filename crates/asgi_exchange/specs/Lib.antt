@@ -5,3 +5,4 @@ pub mod Steps
 pub mod Schedules
 pub mod Heard
 pub mod Keeps
+pub mod Calls

@@ -2,4 +2,6 @@
 //! Definitions and laws, and hardly any code.
 #![tactic(auto)]
 
+pub mod call_laws;
+pub mod calls;
 pub mod laws;
