@@ -23,14 +23,6 @@ abbrev pub IsDueTo : {A W : Type 0} → Exchange A W → ConnView A W → Break 
 IsDueTo x view ByInput event = (event ≡ x.input_disconnect view.arrived) × (length (x.due view.arrived) ≤ length view.offered) × (end_of view.got ≡ None)
 IsDueTo x view ByCut event = event ≡ cut_disconnect x.kind
 
--- nothing went through the end
-abbrev pub KeepsLists : {C : Type 0} → conn_end.Ghosts C → C → C → Type 0
-KeepsLists E old new = (E.offered new ≡ E.offered old) × (E.is_broken new ≡ E.is_broken old) × (E.got new ≡ E.got old)
-
--- the end is one of the same pair, with the same places
-abbrev pub IsSameConn : {C : Type 0} → conn_end.Ghosts C → C → C → Type 0
-IsSameConn E old new = (E.tag new ≡ E.tag old) × (E.ring new ≡ E.ring old) × (E.capacity new ≡ E.capacity old)
-
 -- ---- the application's end
 
 -- all that an application's half knows stands in its end
@@ -40,13 +32,6 @@ view_of E app = record { pulled = E.pulled app; heard = E.heard app; put = items
 -- the exchange is one of the end's kind of scope, and of its request
 abbrev pub IsExchangeOf : {A W C : Type 0} → app_end.Ghosts C → C → Exchange A W → Type 0
 IsExchangeOf E app x = (x.kind ≡ E.kind app) × (x.facts ≡ E.facts app)
-
--- the end is one of the same pair, with the same places and sources, in the same scope
-abbrev pub IsSameApp : {C : Type 0} → app_end.Ghosts C → C → C → Type 0
-IsSameApp E old new =
-    (E.tag new ≡ E.tag old) × (E.ring new ≡ E.ring old) × (E.capacity new ≡ E.capacity old)
-    × (E.arrivals new ≡ E.arrivals old) × (E.vacancies new ≡ E.vacancies old)
-    × (E.kind new ≡ E.kind old) × (E.facts new ≡ E.facts old)
 
 -- the event that a receive gave
 abbrev pub event_in : Poll Incoming → Option Incoming

@@ -5,3 +5,5 @@
 pub mod call_laws;
 pub mod calls;
 pub mod laws;
+#[cfg(test)]
+mod tests_calls;
