@@ -10,8 +10,8 @@ use Rattle.asgi_types.specs.declared.outgoing.Outgoing.{Outgoing}
 use Rattle.asgi_types.specs.declared.scope.Kind.{Kind}
 use Rattle.asgi_protocol.specs.declared.verdict.Verdict.{Verdict}
 use Rattle.asgi_protocol.specs.Verdicts.{verdict_on}
-use Rattle.asgi_response.specs.Accepted.{is_pass}
-use Rattle.asgi_pipes.specs.declared.items.EndKind.{EndKind}
+use Rattle.asgi_protocol.specs.Passing.{is_pass}
+use Rattle.asgi_types.specs.declared.end_kind.EndKind.{EndKind}
 use Rattle.asgi_pipes.specs.declared.items.OutItem.{OutItem}
 use Rattle.asgi_pipes.specs.declared.items.OutItem.TheVariants.{Event}
 use Rattle.asgi_pipes.specs.declared.items.Sent.{Sent}
@@ -19,16 +19,12 @@ use Rattle.asgi_pipes.specs.declared.items.Sent.TheVariants.{Done, Ignored, Full
 use Rattle.asgi_pipes.specs.Disconnects.{has_disconnect, answer_at_once}
 use Rattle.asgi_pipes.specs.Items.{items_of, Answers}
 use Rattle.asgi_pipes.proofs.ClosingLemmas.{items_event, items_end}
+use Rattle.asgi_exchange.proofs.EventLemmas.{events_are}
 use Rattle.asgi_exchange.specs.Calls.{event_in, finds_place}
 use Rattle.asgi_exchange.specs.Exchange.{Exchange}
-use Rattle.asgi_exchange.specs.Items.{events_of, end_of}
+use Rattle.asgi_exchange.specs.Items.{end_of}
 use Rattle.asgi_exchange.specs.Steps.{hear_this, hear, say, finish}
 use Rattle.asgi_exchange.specs.Views.{AppView}
-
-pub events_are : (said : List Outgoing) (ended : Option EndKind) → events_of (items_of said ended) ≡ said
-events_are [] None = refl
-events_are [] (Some kind) = refl
-events_are (event ∷ said) ended = ap (λ (l : List Outgoing). event ∷ l) (events_are said ended)
 
 pub end_is : (said : List Outgoing) (ended : Option EndKind) → end_of (items_of said ended) ≡ ended
 end_is [] None = refl

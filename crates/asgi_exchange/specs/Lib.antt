@@ -5,4 +5,7 @@ pub mod Steps
 pub mod Schedules
 pub mod Heard
 pub mod Keeps
+pub mod Halves
+pub mod Http
+pub mod HttpExchange
 pub mod Calls

@@ -5,5 +5,11 @@
 pub mod call_laws;
 pub mod calls;
 pub mod laws;
+mod meeting;
+
+pub use meeting::join;
+
+#[cfg(test)]
+mod tests;
 #[cfg(test)]
 mod tests_calls;

@@ -1,7 +1,7 @@
 -- A plain pair keeps its order in both directions, at any moment.
 use Rattle.std.proofs.Common.{◌≡◌, ◌+◌, ◌-◌, false, Option, Some, None, refl, ap, sym, ◌∙◌, length}
 use Rattle.std.specs.Prelude.{is_some}
-use Rattle.asgi_pipes.specs.declared.items.EndKind.{EndKind}
+use Rattle.asgi_types.specs.declared.end_kind.EndKind.{EndKind}
 use Rattle.asgi_pipes.specs.declared.plain_conn.PlainConn.{PlainConn}
 use Rattle.asgi_pipes.specs.declared.plain_app.PlainApp.{PlainApp}
 use Rattle.asgi_pipes.specs.Boxes.{put_by}

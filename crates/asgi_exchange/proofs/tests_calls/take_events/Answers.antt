@@ -6,16 +6,12 @@ use Rattle.asgi_exchange.specs.Items.{end_of}
 use Rattle.asgi_exchange.specs.Schedules.{Takes}
 use Rattle.asgi_exchange.specs.Steps.{take_next}
 use Rattle.asgi_exchange.specs.Views.{ConnView}
+use Rattle.asgi_exchange.proofs.EventLemmas.{end_event}
 use Rattle.asgi_exchange.proofs.GoesOnLemmas.{conn_steps, conn_follows}
 use Rattle.asgi_exchange.proofs.tests_calls.take_events.Goals as goal
 
-no_end : (got : List OutItem) (event : Outgoing) → end_of got ≡ None → end_of (got ++ Event event ∷ []) ≡ None
-no_end [] event none = refl
-no_end (Event other ∷ got) event none = no_end got event none
-no_end (Ended kind ∷ got) event none = absurd (cc)
-
 no_end_taken : {A W : Type 0} (view : ConnView A W) (event : Outgoing) → end_of view.got ≡ None → end_of (take_next view (Some (Event event))).got ≡ None
-no_end_taken view event none = rw none (no_end view.got event none)
+no_end_taken view event none = rw none (end_event view.got event ∙ none)
 
 pub returns-in_default-clause-goes_on : goal.returns-in_default-clause-goes_on
 returns-in_default-clause-goes_on g c x view is none =
