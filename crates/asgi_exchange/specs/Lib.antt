@@ -5,3 +5,7 @@ pub mod Steps
 pub mod Schedules
 pub mod Heard
 pub mod Keeps
+pub mod Messages
+pub mod Session
+pub mod WebSocket
+pub mod SessionExchange
