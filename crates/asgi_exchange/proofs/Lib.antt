@@ -1,2 +1,12 @@
 pub mod SessionLemmas
 pub mod SessionExchangeLemmas
+pub mod ListLemmas
+pub mod EventLemmas
+pub mod ConnLemmas
+pub mod AppLemmas
+pub mod QueueLemmas
+pub mod HeardLemmas
+pub mod ScheduleLemmas
+pub mod HttpLemmas
+pub mod HttpExchangeLemmas
+pub mod ResultLemmas

@@ -9,3 +9,6 @@ pub mod Messages
 pub mod Session
 pub mod WebSocket
 pub mod SessionExchange
+pub mod Halves
+pub mod Http
+pub mod HttpExchange

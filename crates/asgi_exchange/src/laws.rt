@@ -1,1 +1,98 @@
 //! Laws of an exchange, over every list: contracts of functions with no code.
+ghost use Rattle.std.specs.Prelude.{◌≡◌, ◌++◌, ◌∷◌, [], map, List, ℕ, Option, true, false, Some, None};
+ghost use Rattle.asgi_types.specs.declared.facts.Facts.{Facts};
+ghost use Rattle.asgi_types.specs.declared.incoming.Incoming.{Incoming};
+ghost use Rattle.asgi_types.specs.declared.limits.Limits.{Limits};
+ghost use Rattle.asgi_types.specs.declared.outgoing.Outgoing.{Outgoing};
+ghost use Rattle.asgi_types.specs.declared.scope.Kind.TheVariants.{Http};
+ghost use Rattle.asgi_protocol.specs.Lawful.{IsLawful};
+ghost use Rattle.asgi_request.specs.declared.next.Next.{Next};
+ghost use Rattle.asgi_request.specs.Opened.{HasOpened};
+ghost use Rattle.asgi_request.specs.Reading.{Reading, StandsFor, AllGiven};
+ghost use Rattle.asgi_pipes.specs.declared.items.EndKind.{EndKind};
+ghost use Rattle.asgi_pipes.specs.Disconnects.{Hears};
+ghost use Rattle.asgi_pipes.specs.Items.{items_of};
+ghost use Rattle.asgi_pipes.specs.Queues.{KeepsOrder};
+ghost use Rattle.asgi_exchange.specs.Exchange.{Exchange, IsSteady};
+ghost use Rattle.asgi_exchange.specs.Halves.{ConnKeeps};
+ghost use Rattle.asgi_exchange.specs.Http.{http};
+ghost use Rattle.asgi_exchange.specs.HttpExchange.{IsHttpExchange};
+ghost use Rattle.asgi_exchange.specs.Items.{end_of};
+ghost use Rattle.asgi_exchange.specs.Keeps.{IsExchange};
+ghost use Rattle.asgi_exchange.specs.Schedules.{Step, run, ConnStep, conn_run, AppStep, app_run};
+ghost use Rattle.asgi_exchange.specs.Steps.{is_by_input, arrive, offer, break_off};
+ghost use Rattle.asgi_exchange.specs.Views.{ConnView, ByInput, empty_world, empty_conn, empty_app};
+
+// ---- one HTTP exchange
+
+/// However the bytes of a request are cut, and however the turns of the connection and the application fall: what was heard
+/// is a beginning of what was due, and then only disconnects with their cause; what was said is lawful; what was taken is a
+/// beginning of it; and what was written is a beginning of the text of what was taken.
+pub fn every_schedule()
+    ensures http { (limits : Limits) (facts : Facts) (steps : List (Step ℕ)) → IsHttpExchange limits facts (run (http limits facts) steps empty_world) }
+{}
+
+/// Any run of the connection's half and any run of the application's half, whatever their queues answered in each step, make
+/// an exchange where both queues keep their order.
+pub fn halves_make_an_exchange()
+    ensures http { (limits : Limits) (facts : Facts) (conn_steps : List (ConnStep ℕ)) (app_steps : List AppStep) (ring left_in left_out : ℕ)
+        → (let conn = conn_run (http limits facts) conn_steps empty_conn in let app = app_run (http limits facts) app_steps empty_app in
+        KeepsOrder ring conn.offered app.pulled left_in → KeepsOrder ring app.put conn.got left_out
+        → IsHttpExchange limits facts (record { conn = conn; app = app })) }
+{}
+
+/// The same from what `meet` says. Of the application's half no step is needed: what it heard and said, its end keeps by
+/// itself; of the connection's half is needed what each run of its steps keeps.
+pub fn met_halves_make_an_exchange()
+    ensures met { (limits : Limits) (facts : Facts) (conn : ConnView ℕ ℕ) (said : List Outgoing) (ended : Option EndKind)
+        (pulled heard : List Incoming) (ring left_in left_out : ℕ)
+        → ConnKeeps (http limits facts) conn
+        → KeepsOrder ring conn.offered pulled left_in → KeepsOrder ring (items_of said ended) conn.got left_out
+        → Hears Http said pulled heard → IsLawful Http facts said
+        → IsHttpExchange limits facts (record { conn = conn; app = record { pulled = pulled; heard = heard; put = items_of said ended } }) }
+    ensures runs { (limits : Limits) (facts : Facts) (steps : List (ConnStep ℕ)) → ConnKeeps (http limits facts) (conn_run (http limits facts) steps empty_conn) }
+{}
+
+/// What is fed to a reader arrives. The event that it gives behind those offered is the next that is due; where it needs more
+/// or has refused, nothing more is due, so the input may break.
+pub fn results_are_steps()
+    ensures arrives { (limits : Limits) (bytes piece : List ℕ) (opened : List Next) (facts : Facts) (conn : ConnView ℕ ℕ)
+        → HasOpened limits bytes opened facts.framing conn.arrived → is_by_input conn.broken ≡ false
+        → (let new = arrive (http limits facts) conn piece in
+        (new ≡ record conn { arrived = conn.arrived ++ piece }) × HasOpened limits (bytes ++ piece) opened facts.framing new.arrived) }
+    ensures offers { (reader : Reading) (bytes : List ℕ) (opened : List Next) (facts : Facts) (conn : ConnView ℕ ℕ) (event : Incoming)
+        → HasOpened reader.limits bytes opened facts.framing conn.arrived → StandsFor reader bytes (opened ++ map Next.Event (conn.offered ++ event ∷ []))
+        → conn.broken ≡ None → offer (http reader.limits facts) conn true ≡ record conn { offered = conn.offered ++ event ∷ [] } }
+    ensures breaks { (reader : Reading) (bytes : List ℕ) (opened : List Next) (facts : Facts) (conn : ConnView ℕ ℕ)
+        → HasOpened reader.limits bytes opened facts.framing conn.arrived → AllGiven reader bytes (opened ++ map Next.Event conn.offered)
+        → conn.broken ≡ None → end_of conn.got ≡ None
+        → break_off (http reader.limits facts) conn ByInput ≡ record conn { offered = conn.offered ++ Incoming.HttpDisconnect ∷ []; broken = Some ByInput } }
+    ensures refused { (reader : Reading) (bytes : List ℕ) (opened : List Next) (facts : Facts) (conn : ConnView ℕ ℕ) (status : ℕ)
+        → HasOpened reader.limits bytes opened facts.framing conn.arrived → StandsFor reader bytes (opened ++ (map Next.Event conn.offered ++ Next.Bad status ∷ []))
+        → conn.broken ≡ None → end_of conn.got ≡ None
+        → break_off (http reader.limits facts) conn ByInput ≡ record conn { offered = conn.offered ++ Incoming.HttpDisconnect ∷ []; broken = Some ByInput } }
+{}
+
+// ---- any exchange
+
+/// Whatever a steady exchange makes of its lists: each schedule of it is an exchange; so are any runs of its halves, where
+/// both queues keep their order; and so is what the connection kept, with what `meet` says of the application.
+pub fn schedules_of_steady_exchanges<A, W>()
+    ensures schedules { (x : Exchange A W) → IsSteady x → (steps : List (Step A)) → IsExchange x (run x steps empty_world) }
+    ensures halves { (x : Exchange A W) → IsSteady x → (conn_steps : List (ConnStep A)) (app_steps : List AppStep) (ring left_in left_out : ℕ)
+        → (let conn = conn_run x conn_steps empty_conn in let app = app_run x app_steps empty_app in
+        KeepsOrder ring conn.offered app.pulled left_in → KeepsOrder ring app.put conn.got left_out
+        → IsExchange x (record { conn = conn; app = app })) }
+    ensures met { (x : Exchange A W) → IsSteady x → (conn : ConnView A W) (said : List Outgoing) (ended : Option EndKind)
+        (pulled heard : List Incoming) (ring left_in left_out : ℕ)
+        → ConnKeeps x conn
+        → KeepsOrder ring conn.offered pulled left_in → KeepsOrder ring (items_of said ended) conn.got left_out
+        → Hears x.kind said pulled heard → IsLawful x.kind x.facts said
+        → IsExchange x (record { conn = conn; app = record { pulled = pulled; heard = heard; put = items_of said ended } }) }
+    ensures runs { (x : Exchange A W) → IsSteady x → (steps : List (ConnStep A)) → ConnKeeps x (conn_run x steps empty_conn) }
+{}
+
+/// An HTTP exchange is steady, whatever its limits and facts.
+pub fn http_is_steady()
+    ensures { (limits : Limits) (facts : Facts) → IsSteady (http limits facts) }
+{}

@@ -1,0 +1,11 @@
+use Rattle.asgi_exchange.proofs.laws.met_halves_make_an_exchange.Goals as goal
+use Rattle.asgi_exchange.proofs.HttpLemmas.{http_is_steady}
+use Rattle.asgi_exchange.proofs.HttpExchangeLemmas.{in_words}
+use Rattle.asgi_exchange.proofs.ScheduleLemmas.{met_makes, run_keeps}
+
+pub returns-clause-met : goal.returns-clause-met
+returns-clause-met c limits facts conn said ended pulled heard ring left_in left_out kept inward outward h lawful =
+    in_words limits facts _ (met_makes _ (http_is_steady limits facts) conn said ended pulled heard ring left_in left_out kept inward outward h lawful)
+
+pub returns-clause-runs : goal.returns-clause-runs
+returns-clause-runs c limits facts steps = run_keeps _ (http_is_steady limits facts) steps
