@@ -1,5 +1,5 @@
 -- The exchange of an opening handshake is steady.
-use Rattle.std.proofs.Common.{◌≡◌, ℕ, Bool, true, false, List, [], ◌∷◌, ◌++◌, Option, Some, None, refl, ap, sym, ◌∙◌, map, append_assoc, append-nil}
+use Rattle.std.proofs.Common.{◌≡◌, ℕ, Bool, true, false, List, [], ◌∷◌, ◌++◌, Option, Some, None, refl, ap, sym, ◌∙◌, map}
 use Rattle.std.specs.Prelude.{if◌then◌else◌}
 use Rattle.std.specs.List.{flat_map}
 use Rattle.std.proofs.lemmas.List.Concat.{flat_map-append}
@@ -22,14 +22,9 @@ use Rattle.asgi_exchange.specs.Messages.{Message, Text, Bytes, Ping, Pong, Close
 use Rattle.asgi_exchange.specs.Session as session
 use Rattle.asgi_exchange.specs.Session.{Output, Byte, Handshake, with_session_event, accepted_session, message_of, closing_facts, as_response, denial_text, output_of, session_output}
 use Rattle.asgi_exchange.specs.WebSocket.{web_socket}
+use Rattle.asgi_exchange.proofs.ListLemmas.{prefix_self, prefix_behind}
 
 -- ---- beginnings of lists
-
-self_begins : {A : Type 0} (xs : List A) → IsPrefix xs xs
-self_begins xs = ([], append-nil xs)
-
-behind_begins : {A : Type 0} (front xs ys : List A) → IsPrefix xs ys → IsPrefix (front ++ xs) (front ++ ys)
-behind_begins front xs ys p = (p.0, append_assoc front xs p.0 ∙ ap (λ w. front ++ w) p.1)
 
 map_begins : {A B : Type 0} (f : A → B) (xs ys : List A) → IsPrefix xs ys → IsPrefix (map f xs) (map f ys)
 map_begins f xs ys p = (map f p.0, sym (map_both f xs p.0) ∙ ap (map f) p.1)
@@ -43,9 +38,9 @@ map_begins f xs ys p = (map f p.0, sym (map_both f xs p.0) ∙ ap (map f) p.1)
 heard_grow : (messages more : List Message) → IsPrefix (flat_map events_in (before_close messages)) (flat_map events_in (before_close (messages ++ more)))
 heard_grow [] more = (flat_map events_in (before_close more), refl)
 heard_grow (Text text ∷ messages) more =
-    behind_begins (WsReceive (payload.Text text) ∷ []) (flat_map events_in (before_close messages)) (flat_map events_in (before_close (messages ++ more))) (heard_grow messages more)
+    prefix_behind (WsReceive (payload.Text text) ∷ []) (flat_map events_in (before_close messages)) (flat_map events_in (before_close (messages ++ more))) (heard_grow messages more)
 heard_grow (Bytes bytes ∷ messages) more =
-    behind_begins (WsReceive (payload.Bytes bytes) ∷ []) (flat_map events_in (before_close messages)) (flat_map events_in (before_close (messages ++ more))) (heard_grow messages more)
+    prefix_behind (WsReceive (payload.Bytes bytes) ∷ []) (flat_map events_in (before_close messages)) (flat_map events_in (before_close (messages ++ more))) (heard_grow messages more)
 heard_grow (Ping ∷ messages) more = heard_grow messages more
 heard_grow (Pong ∷ messages) more = heard_grow messages more
 heard_grow (Close close ∷ messages) more = ([], refl)
@@ -86,7 +81,7 @@ message_grows : (facts : Facts) (said : List Outgoing) (event : Outgoing) → Is
 message_grows facts [] event = (message_text facts (event ∷ []), refl)
 message_grows facts (ResponseStart status headers ∷ []) event = (message_text facts (ResponseStart status headers ∷ event ∷ []), refl)
 message_grows facts (ResponseStart status headers ∷ body ∷ bodies) event =
-    behind_begins (head_text (is_chunked facts.version status headers) (closes facts.close headers) status headers)
+    prefix_behind (head_text (is_chunked facts.version status headers) (closes facts.close headers) status headers)
     (flat_map (body_text facts status headers) (body ∷ bodies)) (flat_map (body_text facts status headers) ((body ∷ bodies) ++ event ∷ []))
     (flat_map (body_text facts status headers) (event ∷ []), sym (flat_map-append (body_text facts status headers) (body ∷ bodies) (event ∷ [])))
 message_grows facts (ResponseBody a b ∷ said) event = ([], refl)
@@ -112,9 +107,9 @@ denial_grows facts said event =
 output_grows : (handshake : Handshake) (facts : Facts) (said : List Outgoing) (event : Outgoing) → IsPrefix (output_of handshake facts said) (output_of handshake facts (said ++ event ∷ []))
 output_grows handshake facts [] event = (output_of handshake facts (event ∷ []), refl)
 output_grows handshake facts (WsAccept subprotocol headers ∷ said) event =
-    behind_begins (map Byte (handshake subprotocol headers)) (flat_map message_of said) (flat_map message_of (said ++ event ∷ []))
+    prefix_behind (map Byte (handshake subprotocol headers)) (flat_map message_of said) (flat_map message_of (said ++ event ∷ []))
     (flat_map message_of (event ∷ []), sym (flat_map-append message_of said (event ∷ [])))
-output_grows handshake facts (WsClose code reason ∷ said) event = self_begins (map Byte (refusal_text 403))
+output_grows handshake facts (WsClose code reason ∷ said) event = prefix_self (map Byte (refusal_text 403))
 output_grows handshake facts (DenialStart status headers ∷ said) event =
     map_begins Byte (denial_text facts (DenialStart status headers ∷ said)) (denial_text facts ((DenialStart status headers ∷ said) ++ event ∷ []))
     (denial_grows facts (DenialStart status headers ∷ said) event)
@@ -130,7 +125,7 @@ output_grows handshake facts (ShutdownFailed a ∷ said) event = ([], refl)
 one_grows : (handshake : Handshake) (facts : Facts) (said : List Outgoing) (event : Outgoing) (b : Bool)
     → IsPrefix (output_of handshake facts said) (output_of handshake facts (if b then said ++ event ∷ [] else said))
 one_grows handshake facts said event true = output_grows handshake facts said event
-one_grows handshake facts said event false = self_begins (output_of handshake facts said)
+one_grows handshake facts said event false = prefix_self (output_of handshake facts said)
 
 session_grows : (handshake : Handshake) (facts : Facts) (said : List Outgoing) (event : Outgoing)
     → IsPrefix (session_output handshake facts said) (session_output handshake facts (said ++ event ∷ []))
@@ -141,11 +136,11 @@ session_grows handshake facts said event =
 pub web_socket_is_steady : (handshake : Handshake) (facts : Facts) (ring : ℕ) → IsSteady (web_socket handshake facts ring)
 web_socket_is_steady handshake facts ring = record {
   due_grows = λ messages more.
-      behind_begins (WsConnect ∷ []) (flat_map events_in (before_close messages)) (flat_map events_in (before_close (messages ++ more))) (heard_grow messages more);
+      prefix_behind (WsConnect ∷ []) (flat_map events_in (before_close messages)) (flat_map events_in (before_close (messages ++ more))) (heard_grow messages more);
   due_is_no_disconnect = no_disconnect;
   over_due = λ messages more h. ap (λ w. WsConnect ∷ flat_map events_in w) (before_stays messages more h);
   over_disconnect = λ messages more h. ap disconnect_of (first_stays messages more h);
   input_disconnect_is_one = λ messages. is_one (first_close messages);
   text_grows = session_grows handshake facts;
-  added_grows = λ said kind broken messages more. self_begins (session.session_ending facts said kind broken);
+  added_grows = λ said kind broken messages more. prefix_self (session.session_ending facts said kind broken);
 }

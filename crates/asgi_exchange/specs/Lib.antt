@@ -12,3 +12,4 @@ pub mod SessionExchange
 pub mod Halves
 pub mod Http
 pub mod HttpExchange
+pub mod Examples

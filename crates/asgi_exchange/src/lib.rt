@@ -2,5 +2,5 @@
 //! Definitions and laws, and hardly any code.
 #![tactic(auto)]
 
+pub mod examples;
 pub mod laws;
-pub mod session_laws;
