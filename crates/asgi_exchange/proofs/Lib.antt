@@ -10,3 +10,4 @@ pub mod ScheduleLemmas
 pub mod HttpLemmas
 pub mod HttpExchangeLemmas
 pub mod ResultLemmas
+pub mod LeftOutLemmas

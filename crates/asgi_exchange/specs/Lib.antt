@@ -13,3 +13,4 @@ pub mod Halves
 pub mod Http
 pub mod HttpExchange
 pub mod Examples
+pub mod LeftOut

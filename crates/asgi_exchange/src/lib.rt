@@ -2,5 +2,6 @@
 //! Definitions and laws, and hardly any code.
 #![tactic(auto)]
 
+pub mod conditions;
 pub mod examples;
 pub mod laws;
