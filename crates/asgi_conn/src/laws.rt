@@ -4,6 +4,8 @@ ghost use Rattle.asgi_types.specs.declared.limits.Limits.{Limits};
 ghost use Rattle.asgi_conn.specs.declared.report.Report.{Report};
 ghost use Rattle.asgi_conn.specs.Conversation.{Due, Conversation, IsDue, IsWhole, NothingIsDue, due_text};
 
+pub use asgi_exchange::laws::every_schedule;
+
 /// At most one answer is due to the bytes read, and none where the head may still come.
 pub fn one_answer()
     ensures one { (limits : Limits) (read : List ℕ) (first second : Due)

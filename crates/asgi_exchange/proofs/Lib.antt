@@ -11,3 +11,4 @@ pub mod HttpLemmas
 pub mod HttpExchangeLemmas
 pub mod ResultLemmas
 pub mod LeftOutLemmas
+pub mod MeetLemmas

@@ -5,3 +5,9 @@
 pub mod conditions;
 pub mod examples;
 pub mod laws;
+mod meeting;
+
+pub use meeting::join;
+
+#[cfg(test)]
+mod tests;

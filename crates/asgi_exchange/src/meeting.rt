@@ -1,0 +1,26 @@
+//! The two halves of an exchange meet.
+ghost use Rattle.std.specs.Prelude.{◌≡◌, ℕ, IfSome, IsSome};
+ghost use Rattle.asgi_types.specs.declared.limits.Limits.{Limits};
+ghost use Rattle.asgi_types.specs.declared.scope.Kind.TheVariants.{Http};
+ghost use Rattle.asgi_pipes.specs.Items.{items_of};
+ghost use Rattle.asgi_pipes.specs.Queues.{KeepsOrder};
+ghost use Rattle.asgi_exchange.specs.Halves.{ConnKeeps};
+ghost use Rattle.asgi_exchange.specs.Http.{http};
+ghost use Rattle.asgi_exchange.specs.HttpExchange.{IsHttpExchange};
+ghost use Rattle.asgi_exchange.specs.Views.{ConnView};
+
+use asgi_pipes::{Met, Pipes};
+
+/// Brings the ends of one exchange together. What the connection's half kept and what the ends say of their lists make an
+/// exchange, with no step of the application's half.
+pub fn join<P: Pipes>(conn: P::Conn, app: P::App) -> Option<Met>
+    requires { P.is_pair conn app }
+    ensures met { IsSome result }
+    ensures inward { IfSome result (λ met. KeepsOrder (P.Conn.ring conn) (P.Conn.offered conn) (P.App.pulled app) met.left_in) }
+    ensures outward { IfSome result (λ met. KeepsOrder (P.Conn.ring conn) (items_of (P.App.said app) (P.App.ended app)) (P.Conn.got conn) met.left_out) }
+    ensures http { (limits : Limits) (view : ConnView ℕ ℕ) → P.App.kind app ≡ Http
+        → ConnKeeps (http limits (P.App.facts app)) view → view.offered ≡ P.Conn.offered conn → view.got ≡ P.Conn.got conn
+        → IsHttpExchange limits (P.App.facts app) (record { conn = view; app = record { pulled = P.App.pulled app; heard = P.App.heard app; put = items_of (P.App.said app) (P.App.ended app) } }) }
+{
+    P::meet(conn, app)
+}
