@@ -14,7 +14,7 @@ use Rattle.asgi_types.specs.declared.outgoing.Outgoing.{Outgoing}
 use Rattle.asgi_types.specs.declared.outgoing.Outgoing.TheVariants.{ResponseStart, ResponseBody, WsAccept, WsSend, WsClose, DenialStart, DenialBody}
 use Rattle.asgi_pipes.specs.declared.items.EndKind.{EndKind}
 use Rattle.asgi_pipes.specs.declared.items.EndKind.TheVariants.{Returned, Faulted}
-use Rattle.asgi_exchange.specs.Messages.{Message, Text, Ping, Close}
+use Rattle.asgi_exchange.specs.Messages.{Message, Text, Ping, Pong, Close}
 use Rattle.asgi_exchange.specs.Session.{Handshake}
 use Rattle.asgi_exchange.specs.Schedules.{Step, Arrive, Offer, BreakOff, Take, Write, Hear, Say, End}
 use Rattle.asgi_exchange.specs.Views.{ByInput, ByCut, World, said_of, taken_of}
@@ -145,14 +145,15 @@ fault_inside = Say bare_start ∷ Say (ResponseBody (codes "x") true) ∷ Take �
 abbrev pub opened : List (Step Message)
 opened = Offer ∷ Hear ∷ Say accept ∷ Take ∷ Write 1000 ∷ []
 
--- the client closes, with a code or with none: it is heard again and again, and nothing more is said
+-- the client closes, with a code or with none: that is heard again and again, but nothing that follows it, and nothing more
+-- is said
 abbrev pub client_closes : Option (ℕ × List ℕ) → List (Step Message)
-client_closes close = opened ++ Arrive (Close close ∷ []) ∷ Offer ∷ BreakOff ByInput ∷ Hear ∷ Hear ∷ Say (WsSend (payload.Text (codes "late"))) ∷ at_last Returned
+client_closes close = opened ++ Arrive (Close close ∷ Text (codes "late") ∷ []) ∷ Offer ∷ BreakOff ByInput ∷ Hear ∷ Hear ∷ Say (WsSend (payload.Text (codes "late"))) ∷ at_last Returned
 
 -- a message comes back, and then the input ends
 abbrev pub message_echoed : List (Step Message)
 message_echoed =
-    opened ++ Arrive (Ping ∷ Text (codes "Hello") ∷ []) ∷ Offer ∷ Hear ∷ Say (WsSend (payload.Text (codes "Hello"))) ∷ Take ∷ Write 1000 ∷ BreakOff ByInput ∷ Hear
+    opened ++ Arrive (Ping ∷ Text (codes "Hello") ∷ Pong ∷ []) ∷ Offer ∷ Hear ∷ Say (WsSend (payload.Text (codes "Hello"))) ∷ Take ∷ Write 1000 ∷ BreakOff ByInput ∷ Hear
     ∷ at_last Returned
 
 -- the application closes, and receives once more
@@ -163,12 +164,15 @@ server_closes = opened ++ Say (WsClose 1000 (codes "bye")) ∷ Take ∷ Write 10
 abbrev pub task_ends : EndKind → List (Step Message)
 task_ends kind = opened ++ at_last kind
 
--- the session is refused, by a close or by a response; and the task faults before that
+-- the session is refused, by a close or by a response; and the task faults inside the response, or before its body
 abbrev pub session_refused : List (Step Message)
 session_refused = Say (WsClose 1000 []) ∷ Take ∷ at_last Returned
 
 abbrev pub session_denied : List (Step Message)
 session_denied = Say (DenialStart 401 []) ∷ Say (DenialBody (codes "no") false) ∷ Take ∷ Take ∷ at_last Returned
+
+abbrev pub denial_faulted : List (Step Message)
+denial_faulted = Say (DenialStart 401 []) ∷ Say (DenialBody (codes "no") true) ∷ Take ∷ Take ∷ at_last Faulted
 
 abbrev pub session_faulted : List (Step Message)
 session_faulted = Offer ∷ Hear ∷ Say (DenialStart 401 []) ∷ Take ∷ at_last Faulted

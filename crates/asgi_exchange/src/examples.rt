@@ -5,8 +5,8 @@ ghost use Rattle.asgi_types.specs.declared.facts.Framing.TheVariants.{Length, Ch
 ghost use Rattle.asgi_types.specs.declared.incoming.Incoming.TheVariants.{HttpDisconnect, WsConnect, WsReceive, WsDisconnect};
 ghost use Rattle.asgi_types.specs.declared.incoming.Payload.TheVariants as payload;
 ghost use Rattle.asgi_types.specs.declared.outgoing.Outgoing.TheVariants.{ResponseBody, WsSend, WsClose, DenialStart, DenialBody};
-ghost use Rattle.asgi_pipes.specs.declared.items.EndKind.TheVariants.{Returned, Faulted};
-ghost use Rattle.asgi_exchange.specs.Examples.{Shows, ShowsChunks, usual_limits, limits_of_4_bytes, limits_of_blocks, facts_with, session_facts, session_answer, answer_handshake, hello_start, hello_body, echo_start, bare_start, accept, body_broken_off, chunk_too_large, chunks_arrive, chunked_bytes, answer_cut_off, body_cut_off, fault_at_once, fault_inside, client_closes, message_echoed, server_closes, task_ends, session_refused, session_denied, session_faulted};
+ghost use Rattle.asgi_pipes.specs.declared.items.EndKind.TheVariants.{Returned, Faulted, Idle};
+ghost use Rattle.asgi_exchange.specs.Examples.{Shows, ShowsChunks, usual_limits, limits_of_4_bytes, limits_of_blocks, facts_with, session_facts, session_answer, answer_handshake, hello_start, hello_body, echo_start, bare_start, accept, body_broken_off, chunk_too_large, chunks_arrive, chunked_bytes, answer_cut_off, body_cut_off, fault_at_once, fault_inside, client_closes, message_echoed, server_closes, task_ends, session_refused, session_denied, denial_faulted, session_faulted};
 ghost use Rattle.asgi_exchange.specs.Http.{http};
 ghost use Rattle.asgi_exchange.specs.Schedules.{run, Arrive};
 ghost use Rattle.asgi_exchange.specs.Session as session;
@@ -56,7 +56,7 @@ pub fn clients_that_close()
         (map session.Byte session_answer ++ session.Data (payload.Text (codes "Hello")) ∷ []) }
 {}
 
-/// An open session is closed by the application, or by the server where its task ended.
+/// An open session is closed by the application, or by the server where its task ended, but not where it was given up.
 pub fn servers_that_close()
     ensures said { Shows (run (web_socket answer_handshake session_facts 16) server_closes empty_world)
         (WsConnect ∷ WsDisconnect 1000 [] ∷ []) (accept ∷ WsClose 1000 (codes "bye") ∷ []) (accept ∷ WsClose 1000 (codes "bye") ∷ [])
@@ -65,15 +65,20 @@ pub fn servers_that_close()
         (WsConnect ∷ []) (accept ∷ []) (accept ∷ []) (map session.Byte session_answer ++ session.Close 1000 [] ∷ []) }
     ensures faulted { Shows (run (web_socket answer_handshake session_facts 16) (task_ends Faulted) empty_world)
         (WsConnect ∷ []) (accept ∷ []) (accept ∷ []) (map session.Byte session_answer ++ session.Close 1011 [] ∷ []) }
+    ensures given_up { Shows (run (web_socket answer_handshake session_facts 16) (task_ends Idle) empty_world)
+        (WsConnect ∷ []) (accept ∷ []) (accept ∷ []) (map session.Byte session_answer) }
 {}
 
-/// A session that is refused, one that is denied by a response, and one whose task faults before either.
+/// A session that is refused, one that is denied by a response, and tasks that fault inside the response or before it.
 pub fn sessions_that_never_open()
     ensures refused { Shows (run (web_socket answer_handshake session_facts 16) session_refused empty_world) [] (WsClose 1000 [] ∷ []) (WsClose 1000 [] ∷ [])
         (map session.Byte (codes "HTTP/1.1 403 Forbidden\r\ncontent-length: 0\r\nconnection: close\r\n\r\n")) }
     ensures denied { Shows (run (web_socket answer_handshake session_facts 16) session_denied empty_world) []
         (DenialStart 401 [] ∷ DenialBody (codes "no") false ∷ []) (DenialStart 401 [] ∷ DenialBody (codes "no") false ∷ [])
         (map session.Byte (codes "HTTP/1.1 401 Unauthorized\r\ntransfer-encoding: chunked\r\nconnection: close\r\n\r\n2\r\nno\r\n0\r\n\r\n")) }
+    ensures faulted_inside { Shows (run (web_socket answer_handshake session_facts 16) denial_faulted empty_world) []
+        (DenialStart 401 [] ∷ DenialBody (codes "no") true ∷ []) (DenialStart 401 [] ∷ DenialBody (codes "no") true ∷ [])
+        (map session.Byte (codes "HTTP/1.1 401 Unauthorized\r\ntransfer-encoding: chunked\r\nconnection: close\r\n\r\n2\r\nno\r\n")) }
     ensures faulted { Shows (run (web_socket answer_handshake session_facts 16) session_faulted empty_world) (WsConnect ∷ [])
         (DenialStart 401 [] ∷ []) (DenialStart 401 [] ∷ [])
         (map session.Byte (codes "HTTP/1.1 500 Internal Server Error\r\ncontent-length: 0\r\nconnection: close\r\n\r\n")) }

@@ -13,3 +13,7 @@ returns-clause-denied c = record { heard_is = refl; said_is = refl; taken_is = r
 pub returns-clause-faulted : goal.returns-clause-faulted
 unfolding digits
 returns-clause-faulted c = record { heard_is = refl; said_is = refl; taken_is = refl; written_is = refl }
+
+pub returns-clause-faulted_inside : goal.returns-clause-faulted_inside
+unfolding digits
+returns-clause-faulted_inside c = record { heard_is = refl; said_is = refl; taken_is = refl; written_is = refl }
