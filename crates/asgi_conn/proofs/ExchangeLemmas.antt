@@ -1,6 +1,7 @@
 -- The text of an exchange, event by event.
 use Rattle.std.proofs.Common.{◌≡◌, ℕ, ◌<◌, ◌≤◌, ◌+◌, List, [], ◌∷◌, ◌++◌, length, take, get_or, sym, ap, ◌∙◌, subst}
 use Rattle.std.proofs.lemmas.List.{take_more, take_all}
+use Rattle.asgi_types.specs.declared.end_kind.EndKind.TheVariants.{Returned}
 use Rattle.asgi_types.specs.declared.facts.Facts.{Facts}
 use Rattle.asgi_types.specs.declared.outgoing.Outgoing.{Outgoing}
 use Rattle.asgi_response.specs.declared.refusal.Input.TheVariants.{Whole}
@@ -40,7 +41,7 @@ taken_all old new front out events i h x = subst (λ (l : List Outgoing). Taken 
 -- the text of all events, and what the end of the task adds
 pub whole_text : (facts : Facts) (events : List Outgoing) (empty begun said out : List ℕ) → empty ≡ [] → begun ≡ empty ++ response_text facts []
     → (begun ≡ response_text facts [] → said ≡ response_text facts events) → out ≡ said ++ end_text facts events Whole → events ≡ hello_events
-    → out ≡ exchange_text facts hello_events Whole
+    → out ≡ exchange_text facts hello_events Returned Whole
 whole_text facts events empty begun said out none first all last are =
     let front : begun ≡ response_text facts [] = first ∙ ap (λ (l : List ℕ). l ++ response_text facts []) none in
-    last ∙ ap (λ (l : List ℕ). l ++ end_text facts events Whole) (all front) ∙ ap (λ (l : List Outgoing). exchange_text facts l Whole) are
+    last ∙ ap (λ (l : List ℕ). l ++ end_text facts events Whole) (all front) ∙ ap (λ (l : List Outgoing). exchange_text facts l Returned Whole) are

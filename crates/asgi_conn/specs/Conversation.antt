@@ -1,6 +1,7 @@
 -- The conversation of one request: what the bytes read, the bytes written and the report say of each other
 -- (RFC 9112, sections 2.1 and 9). No sentence of it names a read or a write: only whole lists of bytes.
 use Rattle.std.specs.Prelude.{◌≡◌, ℕ, ◌<◌, ◌⊎◌, List, [], ◌∷◌, length, take, All, IsTrue, if◌then◌else◌}
+use Rattle.asgi_types.specs.declared.end_kind.EndKind.TheVariants.{Returned}
 use Rattle.asgi_types.specs.declared.facts.Facts.{Facts}
 use Rattle.asgi_types.specs.declared.limits.Limits.{Limits}
 use Rattle.asgi_request.specs.declared.next.Next.{Next}
@@ -49,7 +50,7 @@ NothingIsDue limits read = (rest : List ℕ) × GivesResults limits read [] rest
 -- its text: what is written
 abbrev pub due_text : Due → List ℕ
 due_text (refusal status) = refusal_text status
-due_text (exchange facts) = exchange_text facts hello_events input.Whole
+due_text (exchange facts) = exchange_text facts hello_events Returned input.Whole
 
 -- the outcome once its text is out
 abbrev pub outcome_of : Due → Outcome

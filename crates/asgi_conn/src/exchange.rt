@@ -1,5 +1,6 @@
 //! The text of an exchange with the application.
 ghost use Rattle.std.specs.Prelude.{◌≡◌, ◌+◌, [], IfOk, OnOk};
+ghost use Rattle.asgi_types.specs.declared.end_kind.EndKind.TheVariants.{Returned};
 ghost use Rattle.asgi_types.specs.declared.facts.Facts.{Facts};
 ghost use Rattle.asgi_response.specs.Exchange as spec;
 ghost use Rattle.asgi_response.specs.Response.{response_text};
@@ -18,7 +19,7 @@ pub fn exchange_text<A: Greets>(
     app: &mut A,
     facts: &Facts,
 ) -> Result<Vec<u8>, AllocError>
-    ensures text { IfOk result (λ text. text.items ≡ spec.exchange_text facts.now hello_events Input.Whole) }
+    ensures text { IfOk result (λ text. text.items ≡ spec.exchange_text facts.now hello_events Returned Input.Whole) }
     ensures asked { A.asked app.new ≡ counted (A.asked app.old + 1) }
 {
     let said = app.greet(alloc)?;

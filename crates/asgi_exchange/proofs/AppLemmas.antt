@@ -13,8 +13,8 @@ use Rattle.asgi_protocol.specs.Lawful.{IsLawful}
 use Rattle.asgi_protocol.specs.Verdicts.{lines_on, verdict_on}
 use Rattle.asgi_protocol.proofs.LawLemmas.{lawful_where_each_passes}
 use Rattle.asgi_protocol.proofs.PassLemmas.{no_line, passes, lawful_more}
-use Rattle.asgi_response.specs.Accepted.{is_pass}
-use Rattle.asgi_pipes.specs.declared.items.EndKind.{EndKind}
+use Rattle.asgi_protocol.specs.Passing.{is_pass}
+use Rattle.asgi_types.specs.declared.end_kind.EndKind.{EndKind}
 use Rattle.asgi_pipes.specs.declared.items.OutItem.TheVariants.{Event, Ended}
 use Rattle.asgi_pipes.specs.Disconnects as pipes
 use Rattle.asgi_pipes.specs.Disconnects.{first_disconnect, has_disconnect, answer_at_once}

@@ -5,7 +5,7 @@ use Rattle.std.proofs.lemmas.Bool.{ltb-false}
 use mathlib.Core.List.{IsPrefix}
 use Rattle.asgi_types.specs.declared.incoming.Incoming.{Incoming}
 use Rattle.asgi_types.specs.declared.outgoing.Outgoing.{Outgoing}
-use Rattle.asgi_pipes.specs.declared.items.EndKind.{EndKind}
+use Rattle.asgi_types.specs.declared.end_kind.EndKind.{EndKind}
 use Rattle.asgi_pipes.specs.declared.items.OutItem.{OutItem}
 use Rattle.asgi_pipes.specs.declared.items.OutItem.TheVariants.{Event, Ended}
 use Rattle.asgi_exchange.specs.Exchange.{Exchange, IsSteady}

@@ -8,7 +8,7 @@ use Rattle.asgi_types.specs.declared.limits.Limits.{Limits}
 use Rattle.asgi_request.specs.BodyOf.{body_events, body_state}
 use Rattle.asgi_request.proofs.BodyOfLemmas.{body_is_read}
 use Rattle.asgi_response.specs.Response.{response_text}
-use Rattle.asgi_pipes.specs.declared.items.EndKind.{EndKind}
+use Rattle.asgi_types.specs.declared.end_kind.EndKind.{EndKind}
 use Rattle.asgi_exchange.specs.Heard.{Cause, Closed, Input, Cut, HearsDue}
 use Rattle.asgi_exchange.specs.Http.{input_of, http}
 use Rattle.asgi_exchange.specs.HttpExchange.{HasCause, text_of, IsHttpExchange}

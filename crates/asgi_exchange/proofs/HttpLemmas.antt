@@ -14,13 +14,13 @@ use Rattle.asgi_request.proofs.BodyEventLemmas.{events_are_requests}
 use Rattle.asgi_request.proofs.BodyGrowthLemmas.{body_grows}
 use Rattle.asgi_request.proofs.BodyOfLemmas.{body_is_read}
 use Rattle.asgi_response.specs.Accepted.{accepted}
-use Rattle.asgi_response.specs.Exchange.{has_begun, replacement_text, end_text}
+use Rattle.asgi_response.specs.Exchange.{has_begun, replacement_text, end_text, added_by_end}
 use Rattle.asgi_response.proofs.LawLemmas as response
-use Rattle.asgi_pipes.specs.declared.items.EndKind.{EndKind}
-use Rattle.asgi_pipes.specs.declared.items.EndKind.TheVariants.{Returned, Faulted, Idle}
+use Rattle.asgi_types.specs.declared.end_kind.EndKind.{EndKind}
+use Rattle.asgi_types.specs.declared.end_kind.EndKind.TheVariants.{Returned, Faulted, Idle}
 use Rattle.asgi_pipes.specs.Disconnects.{disconnect_in, or_else, first_disconnect}
 use Rattle.asgi_exchange.specs.Exchange.{IsSteady}
-use Rattle.asgi_exchange.specs.Http.{is_over, input_of, added_at, http}
+use Rattle.asgi_exchange.specs.Http.{is_over, input_of, http}
 use Rattle.asgi_exchange.proofs.ListLemmas.{prefix_same}
 
 -- ---- what is due
@@ -58,7 +58,7 @@ module _ (limits : Limits) (facts : Facts) where
       (body_state limits facts.framing (bytes ++ more)) (body_is_read limits facts.framing bytes) (body_is_read limits facts.framing (bytes ++ more))
 
   added_grows : (said : List Outgoing) (kind : EndKind) (bytes more : List ℕ)
-      → IsPrefix (added_at facts said kind (input_of (body_state limits facts.framing bytes))) (added_at facts said kind (input_of (body_state limits facts.framing (bytes ++ more))))
+      → IsPrefix (added_by_end facts said kind (input_of (body_state limits facts.framing bytes))) (added_by_end facts said kind (input_of (body_state limits facts.framing (bytes ++ more))))
   added_grows said kind bytes more = by kind
     where
       old : BodyState
@@ -72,7 +72,7 @@ module _ (limits : Limits) (facts : Facts) where
           where_open (has_begun (accepted facts said)) (replacement_text (input_of old)) (replacement_text (input_of new))
           (answer_grows more (body_events limits facts.framing bytes) (body_events limits facts.framing (bytes ++ more)) old new (let g = grows bytes more in g.stays))
 
-      by : (kind : EndKind) → IsPrefix (added_at facts said kind (input_of old)) (added_at facts said kind (input_of new))
+      by : (kind : EndKind) → IsPrefix (added_by_end facts said kind (input_of old)) (added_by_end facts said kind (input_of new))
       by Returned = ended
       by Faulted = ended
       by Idle = ([], refl)

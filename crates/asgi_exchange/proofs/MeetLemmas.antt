@@ -5,7 +5,7 @@ use Rattle.asgi_types.specs.declared.incoming.Incoming.{Incoming}
 use Rattle.asgi_types.specs.declared.outgoing.Outgoing.{Outgoing}
 use Rattle.asgi_types.specs.declared.scope.Kind.{Kind}
 use Rattle.asgi_protocol.specs.Lawful.{IsLawful}
-use Rattle.asgi_pipes.specs.declared.items.EndKind.{EndKind}
+use Rattle.asgi_types.specs.declared.end_kind.EndKind.{EndKind}
 use Rattle.asgi_pipes.specs.declared.items.OutItem.{OutItem}
 use Rattle.asgi_pipes.specs.Disconnects.{Hears}
 use Rattle.asgi_pipes.specs.Items.{items_of}

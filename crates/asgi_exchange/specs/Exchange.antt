@@ -8,7 +8,7 @@ use Rattle.asgi_types.specs.declared.facts.Facts.{Facts}
 use Rattle.asgi_types.specs.declared.incoming.Incoming.{Incoming}
 use Rattle.asgi_types.specs.declared.incoming.Incoming.TheVariants.{HttpDisconnect, WsDisconnect}
 use Rattle.asgi_types.specs.declared.outgoing.Outgoing.{Outgoing}
-use Rattle.asgi_pipes.specs.declared.items.EndKind.{EndKind}
+use Rattle.asgi_types.specs.declared.end_kind.EndKind.{EndKind}
 use Rattle.asgi_protocol.specs.Verdicts.{is_disconnect}
 use Rattle.asgi_pipes.specs.Disconnects.{first_disconnect}
 

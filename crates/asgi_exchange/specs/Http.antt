@@ -1,20 +1,17 @@
 -- The exchange of one HTTP request: what is due of the bytes behind its head, and what is written of the events that its
 -- application says.
-use Rattle.std.specs.Prelude.{ℕ, Bool, true, false, List, []}
+use Rattle.std.specs.Prelude.{ℕ, Bool, true, false}
 use Rattle.asgi_types.specs.declared.facts.Facts.{Facts}
 use Rattle.asgi_types.specs.declared.incoming.Incoming.TheVariants.{HttpDisconnect}
 use Rattle.asgi_types.specs.declared.limits.Limits.{Limits}
-use Rattle.asgi_types.specs.declared.outgoing.Outgoing.{Outgoing}
 use Rattle.asgi_types.specs.declared.scope.Kind.TheVariants.{Http}
 use Rattle.asgi_request.specs.BodyOf.{body_events, body_state}
 use Rattle.asgi_request.specs.ChunkedBody.{BodyState, partial, complete, faulty}
 use Rattle.asgi_request.specs.Refusals.{status_of}
 use Rattle.asgi_response.specs.declared.refusal.Input.{Input}
 use Rattle.asgi_response.specs.declared.refusal.Input.TheVariants.{Whole, Faulty, Broken}
-use Rattle.asgi_response.specs.Exchange.{end_text}
+use Rattle.asgi_response.specs.Exchange.{added_by_end}
 use Rattle.asgi_response.specs.Response.{response_text}
-use Rattle.asgi_pipes.specs.declared.items.EndKind.{EndKind}
-use Rattle.asgi_pipes.specs.declared.items.EndKind.TheVariants.{Returned, Faulted, Idle}
 use Rattle.asgi_exchange.specs.Exchange.{Exchange}
 
 -- more bytes change nothing of the body: it is whole or faulty
@@ -29,12 +26,6 @@ input_of partial = Broken
 input_of (complete behind) = Whole
 input_of (faulty why) = Faulty (status_of why)
 
--- what the end of the task adds; a task that was given up adds nothing
-abbrev pub added_at : Facts → List Outgoing → EndKind → Input → List ℕ
-added_at facts said Returned input = end_text facts said input
-added_at facts said Faulted input = end_text facts said input
-added_at facts said Idle input = []
-
 abbrev pub http : Limits → Facts → Exchange ℕ ℕ
 http limits facts = record {
   kind = Http;
@@ -43,6 +34,6 @@ http limits facts = record {
   is_over = λ bytes. is_over (body_state limits facts.framing bytes);
   input_disconnect = λ bytes. HttpDisconnect;
   text = response_text facts;
-  added = λ said kind broken bytes. added_at facts said kind (input_of (body_state limits facts.framing bytes));
+  added = λ said kind broken bytes. added_by_end facts said kind (input_of (body_state limits facts.framing bytes));
   ring = limits.ring;
 }

@@ -11,9 +11,10 @@ use Rattle.asgi_protocol.specs.Lawful.{IsLawful, IsClosed}
 use Rattle.asgi_request.specs.ChunkedBody.{BodyState}
 use Rattle.asgi_request.specs.RequestEvents.{ReadsBody}
 use Rattle.asgi_response.specs.declared.refusal.Input.{Input}
+use Rattle.asgi_response.specs.Exchange.{exchange_text}
 use Rattle.asgi_response.specs.Response.{response_text}
-use Rattle.asgi_pipes.specs.declared.items.EndKind.{EndKind}
-use Rattle.asgi_exchange.specs.Http.{input_of, added_at}
+use Rattle.asgi_types.specs.declared.end_kind.EndKind.{EndKind}
+use Rattle.asgi_exchange.specs.Http.{input_of}
 use Rattle.asgi_exchange.specs.Items.{end_of}
 use Rattle.asgi_exchange.specs.Views.{ByInput, ByCut, World, said_of, taken_of}
 
@@ -30,7 +31,7 @@ HasCause w events first =
 -- the text of the events, and what the end adds, once it was taken
 abbrev pub text_of : Facts → List Outgoing → Option EndKind → Input → List ℕ
 text_of facts events None input = response_text facts events
-text_of facts events (Some kind) input = response_text facts events ++ added_at facts events kind input
+text_of facts events (Some kind) input = exchange_text facts events kind input
 
 pub record IsHttpExchange (limits : Limits) (facts : Facts) (w : World ℕ ℕ) : Type 0 where
   -- what arrived is a body that far, of which these events are due

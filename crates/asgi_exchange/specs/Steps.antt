@@ -4,8 +4,8 @@ use Rattle.std.specs.Prelude.{ℕ, Bool, true, false, not, List, [], ◌∷◌, 
 use Rattle.asgi_types.specs.declared.incoming.Incoming.{Incoming}
 use Rattle.asgi_types.specs.declared.outgoing.Outgoing.{Outgoing}
 use Rattle.asgi_protocol.specs.Verdicts.{verdict_on}
-use Rattle.asgi_response.specs.Accepted.{is_pass}
-use Rattle.asgi_pipes.specs.declared.items.EndKind.{EndKind}
+use Rattle.asgi_protocol.specs.Passing.{is_pass}
+use Rattle.asgi_types.specs.declared.end_kind.EndKind.{EndKind}
 use Rattle.asgi_pipes.specs.declared.items.OutItem.{OutItem}
 use Rattle.asgi_pipes.specs.declared.items.OutItem.TheVariants.{Event, Ended}
 use Rattle.asgi_pipes.specs.Disconnects.{has_disconnect, answer_at_once}

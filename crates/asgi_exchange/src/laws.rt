@@ -9,7 +9,7 @@ ghost use Rattle.asgi_protocol.specs.Lawful.{IsLawful};
 ghost use Rattle.asgi_request.specs.declared.next.Next.{Next};
 ghost use Rattle.asgi_request.specs.Opened.{HasOpened};
 ghost use Rattle.asgi_request.specs.Reading.{Reading, StandsFor, AllGiven};
-ghost use Rattle.asgi_pipes.specs.declared.items.EndKind.{EndKind};
+ghost use Rattle.asgi_types.specs.declared.end_kind.EndKind.{EndKind};
 ghost use Rattle.asgi_pipes.specs.Disconnects.{Hears};
 ghost use Rattle.asgi_pipes.specs.Items.{items_of};
 ghost use Rattle.asgi_pipes.specs.Queues.{KeepsOrder};

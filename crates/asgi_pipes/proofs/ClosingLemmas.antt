@@ -7,6 +7,7 @@ use Rattle.asgi_types.specs.declared.scope.Kind.TheVariants.{Http, WebSocket, Li
 use Rattle.asgi_types.specs.declared.facts.Facts.{Facts}
 use Rattle.asgi_types.specs.declared.incoming.Incoming.{Incoming}
 use Rattle.asgi_types.specs.declared.incoming.Incoming.TheVariants.{HttpDisconnect, WsDisconnect}
+use Rattle.asgi_types.specs.declared.end_kind.EndKind.{EndKind}
 use Rattle.asgi_types.specs.declared.outgoing.Outgoing.{Outgoing}
 use Rattle.asgi_types.specs.declared.outgoing.Outgoing.TheVariants.{ResponseStart, ResponseBody, WsAccept, WsSend, WsClose, DenialStart, DenialBody, StartupComplete, StartupFailed, ShutdownComplete, ShutdownFailed}
 use Rattle.asgi_protocol.specs.declared.verdict.Verdict.TheVariants.{Pass}
@@ -16,7 +17,6 @@ use Rattle.asgi_protocol.proofs.PassLemmas.{no_line}
 use Rattle.asgi_pipes.specs.Disconnects.{first_disconnect, has_disconnect, is_accept, is_accepted, last_of, code_of, answer_at_once}
 use Rattle.asgi_pipes.specs.Closings.{closing_of}
 use Rattle.asgi_pipes.specs.Items.{items_of}
-use Rattle.asgi_pipes.specs.declared.items.EndKind.{EndKind}
 use Rattle.asgi_pipes.specs.declared.items.OutItem.{OutItem}
 use Rattle.asgi_pipes.specs.declared.items.OutItem.TheVariants.{Event, Ended}
 

@@ -7,17 +7,17 @@ ghost use Rattle.futures.specs.Task as task;
 ghost use Rattle.futures.specs.Task.{IsArmed, Keeps};
 ghost use Rattle.asgi_types.specs.declared.scope.Kind.{Kind};
 ghost use Rattle.asgi_types.specs.declared.facts.Facts.{Facts};
+ghost use Rattle.asgi_types.specs.declared.end_kind.EndKind.{EndKind};
 ghost use Rattle.asgi_types.specs.declared.incoming.Incoming.{Incoming};
 ghost use Rattle.asgi_types.specs.declared.outgoing.Outgoing.{Outgoing};
 ghost use Rattle.asgi_protocol.specs.Lawful.{IsLawful};
 ghost use Rattle.asgi_protocol.specs.Verdicts.{verdict_on};
-ghost use Rattle.asgi_pipes.specs.declared.items.EndKind.{EndKind};
 ghost use Rattle.asgi_pipes.specs.declared.items.OutItem.{OutItem};
 ghost use Rattle.asgi_pipes.specs.Disconnects.{has_disconnect, answer_at_once, Hears};
 ghost use Rattle.asgi_pipes.specs.Items.{Answers, IfDone, IfFull, IfTurnedAway};
 
-use crate::items::{EndKind, OutItem, Sent};
-use asgi_types::{Incoming, Outgoing};
+use crate::items::{OutItem, Sent};
+use asgi_types::{EndKind, Incoming, Outgoing};
 use futures::task::{Context, Poll};
 
 /// The end of the connection. No call takes memory or waits.

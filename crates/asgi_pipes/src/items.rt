@@ -1,16 +1,5 @@
 //! What goes from an application to its connection.
-use asgi_types::Outgoing;
-
-/// How a task ended.
-#[derive(Clone, Copy, Debug, PartialEq, Eq)]
-pub enum EndKind {
-    /// It returned.
-    Returned,
-    /// It faulted.
-    Faulted,
-    /// It reached a limit of turns.
-    Idle,
-}
+use asgi_types::{EndKind, Outgoing};
 
 /// What a connection takes: the events that the application said, and then its end.
 #[derive(Debug, Drop)]

@@ -13,8 +13,9 @@ mod plain;
 mod plain_app;
 mod plain_conn;
 
+pub use asgi_types::EndKind;
 pub use ends::{AppEnd, ConnEnd};
-pub use items::{EndKind, OutItem, Sent};
+pub use items::{OutItem, Sent};
 pub use pipes::{Met, Pipes};
 pub use plain::Plain;
 pub use plain_app::PlainApp;

@@ -13,11 +13,11 @@ ghost use Rattle.asgi_pipes.specs.Items.{items_of};
 use crate::disconnect::{Disconnect, is_accept};
 use crate::ends::AppEnd;
 use crate::inbox::Inbox;
-use crate::items::{EndKind, OutItem, Sent};
+use crate::items::{OutItem, Sent};
 use crate::outbox::Outbox;
 use asgi_io::History;
 use asgi_protocol::{Judge, Verdict};
-use asgi_types::{Facts, Incoming, Kind, Outgoing};
+use asgi_types::{EndKind, Facts, Incoming, Kind, Outgoing};
 use futures::task::{Context, Poll};
 
 /// The end of the application, for one thread: see `Plain::carry`.

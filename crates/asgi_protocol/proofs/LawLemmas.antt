@@ -75,7 +75,7 @@ closed_is_last kind facts said after event closed lawful =
     word_is_last kind said after event (test_of_word kind said closed) (test_of_beginning kind (said ++ event ∷ after) lawful.begins)
 
 -- a beginning of a beginning is one
-begins_front : (kind : Kind) (es rest : List Outgoing) → BeginsWord kind (es ++ rest) → BeginsWord kind es
+pub begins_front : (kind : Kind) (es rest : List Outgoing) → BeginsWord kind (es ++ rest) → BeginsWord kind es
 begins_front kind es rest b = (rest ++ b.0, subst (IsWord kind) (append_assoc es rest b.0) b.1)
 
 -- each event of a beginning belongs to its kind of scope

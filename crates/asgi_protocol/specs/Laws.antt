@@ -9,8 +9,9 @@ use Rattle.asgi_protocol.specs.declared.verdict.Verdict.{Verdict}
 use Rattle.asgi_protocol.specs.declared.verdict.Verdict.TheVariants.{Pass, Ignored, Refused}
 use Rattle.asgi_protocol.specs.Lawful.{IsLawful, IsClosed, BeginsWord}
 use Rattle.asgi_protocol.specs.Numbers.{number_of}
+use Rattle.asgi_protocol.specs.Passing.{passes, is_lawful}
 use Rattle.asgi_protocol.specs.Shapes.{is_closed, goes_on}
-use Rattle.asgi_protocol.specs.Verdicts.{verdict_on}
+use Rattle.asgi_protocol.specs.Verdicts.{verdict_on, verdict_on_closed}
 
 -- no lawful list goes on after a closed one
 abbrev pub ClosedIsLast : Type 0
@@ -25,6 +26,20 @@ EachPasses kind facts events =
 -- a list is lawful exactly where each of its events passes
 abbrev pub LawfulWhereEachPasses : Type 0
 LawfulWhereEachPasses = (kind : Kind) (facts : Facts) (events : List Outgoing) → IsLawful kind facts events ↔ EachPasses kind facts events
+
+-- one function of kind, facts and list decides which lists are lawful
+abbrev pub LawfulListsAreDecided : Type 0
+LawfulListsAreDecided = (kind : Kind) (facts : Facts) (events : List Outgoing) → (is_lawful kind facts events ≡ true) ↔ IsLawful kind facts events
+
+-- each front of a lawful list is lawful
+abbrev pub FrontsAreLawful : Type 0
+FrontsAreLawful = (kind : Kind) (facts : Facts) (front behind : List Outgoing) → IsLawful kind facts (front ++ behind) → IsLawful kind facts front
+
+-- nothing passes behind a closed list: in HTTP each event is ignored there, elsewhere it is refused
+pub record NothingPassesBehindClosed : Type 0 where
+  pub verdict : (kind : Kind) (facts : Facts) (said : List Outgoing) (heard : Bool) (event : Outgoing) → IsClosed kind said
+      → verdict_on kind facts said heard event ≡ verdict_on_closed kind
+  pub none : (kind : Kind) (facts : Facts) (said : List Outgoing) (event : Outgoing) → IsClosed kind said → passes kind facts said event ≡ false
 
 -- every verdict is one of the table, and `Ignored` comes in HTTP alone
 abbrev pub IsOfTable : Kind → Verdict → Type 0

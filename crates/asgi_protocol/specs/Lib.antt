@@ -3,6 +3,7 @@ pub mod ContentLengths
 pub mod Lawful
 pub mod Laws
 pub mod Numbers
+pub mod Passing
 pub mod Rules
 pub mod Shapes
 pub mod Stages

@@ -1,5 +1,5 @@
 //! Laws of lawful lists and of verdicts, over every list: contracts of functions with no code.
-ghost use Rattle.asgi_protocol.specs.Laws.{ClosedIsLast, LawfulWhereEachPasses, VerdictsAreOfTable, TestsAgree};
+ghost use Rattle.asgi_protocol.specs.Laws.{ClosedIsLast, LawfulWhereEachPasses, LawfulListsAreDecided, FrontsAreLawful, NothingPassesBehindClosed, VerdictsAreOfTable, TestsAgree};
 
 /// No lawful list goes on after a closed one.
 pub fn closed_is_last()
@@ -9,6 +9,21 @@ pub fn closed_is_last()
 /// A list is lawful exactly where each of its events passes behind those before it.
 pub fn lawful_where_each_passes()
     ensures { LawfulWhereEachPasses }
+{}
+
+/// One function of kind, facts and list decides which lists are lawful.
+pub fn lawful_lists_are_decided()
+    ensures { LawfulListsAreDecided }
+{}
+
+/// Each front of a lawful list is lawful.
+pub fn fronts_of_lawful_lists_are_lawful()
+    ensures { FrontsAreLawful }
+{}
+
+/// Nothing passes behind a closed list: in HTTP each event is ignored there, elsewhere it is refused.
+pub fn nothing_passes_behind_a_closed_list()
+    ensures { NothingPassesBehindClosed }
 {}
 
 /// Every verdict is one of the table, and `Ignored` comes in HTTP alone.

@@ -12,23 +12,21 @@ use Rattle.asgi_protocol.specs.declared.verdict.Verdict.TheVariants.{Ignored, Re
 use Rattle.asgi_protocol.specs.BytesLeft.{is_above, is_below, left_behind, with_sent}
 use Rattle.asgi_protocol.specs.ContentLengths.{content_length}
 use Rattle.asgi_protocol.specs.Lawful.{IsResponse}
+use Rattle.asgi_protocol.specs.Passing.{is_pass, passes}
 use Rattle.asgi_protocol.specs.Rules.{is_status, is_faulty, promised_length, body_bytes}
 use Rattle.asgi_protocol.specs.Shapes.{is_part, is_last_part, is_row, begins_row, is_word, begins_word}
 use Rattle.asgi_protocol.specs.Verdicts.{Lines, lines_on, first_line}
-use Rattle.asgi_response.specs.Accepted.{is_pass, passes, with_event, accepted}
+use Rattle.asgi_response.specs.Accepted.{with_event, accepted}
 use Rattle.asgi_response.specs.Standing.{part}
 use Rattle.asgi_response.specs.Steps.{is_allowed}
 use Rattle.asgi_protocol.proofs.CountLemmas.{above_agrees, below_agrees, counts_down}
+use Rattle.asgi_protocol.proofs.PassingLemmas.{nothing_passes}
 
 -- ---- the words
 
 pub is_row-open : (parts : List (List ℕ)) → is_row is_part is_last_part (map part parts) ≡ false
 is_row-open [] = refl
 is_row-open (p ∷ parts) = ap (λ (b : Bool). b || false) (is_row-open parts)
-
-pub is_row-closed : (parts : List (List ℕ)) (last : List ℕ) → is_row is_part is_last_part (map part parts ++ ResponseBody last false ∷ []) ≡ true
-is_row-closed [] last = refl
-is_row-closed (p ∷ parts) last = ap (λ (b : Bool). b || false) (is_row-closed parts last)
 
 one_body : (body : List ℕ) (more : Bool) → begins_row is_part is_last_part (ResponseBody body more ∷ []) ≡ true
 one_body body true = refl
@@ -63,13 +61,6 @@ closed_or_wrong false false false false v h = cc
 out_of_order : (l : Lines) → l.out_of_order ≡ true → is_pass (first_line Http l) ≡ false
 out_of_order l h = closed_or_wrong l.closed l.disconnected l.wrong_scope l.out_of_order _ h
 
-closed : (a : Bool) (v : Verdict) → a ≡ true → is_pass (if a then Ignored else v) ≡ false
-closed true v h = refl
-closed false v h = cc
-
-is_closed : (l : Lines) → l.closed ≡ true → is_pass (first_line Http l) ≡ false
-is_closed l h = closed l.closed _ h
-
 body_lines : (closed goes much little : Bool) → closed ≡ false → goes ≡ true
     → is_pass (first_line Http (record { closed = closed; disconnected = false; wrong_scope = false; out_of_order = not goes; bad_status = false; bad_header = false; bad_code = false; bad_reason = false; bad_subprotocol = false; too_much_body = much; too_little_body = little }))
     ≡ (not much && not little)
@@ -93,7 +84,7 @@ start_text status headers parts = ResponseStart status headers ∷ map part part
 
 passes_open : (facts : Facts) (status : ℕ) (headers : List HeaderField) (parts : List (List ℕ)) (left : Option ℕ) (body : List ℕ) (more : Bool)
     → promised_length facts (ResponseStart status headers ∷ map part parts) ≡ with_sent (body_bytes (ResponseStart status headers ∷ map part parts)) left
-    → passes facts (ResponseStart status headers ∷ map part parts) (ResponseBody body more) ≡ is_allowed left (length body) more
+    → passes Http facts (ResponseStart status headers ∷ map part parts) (ResponseBody body more) ≡ is_allowed left (length body) more
 passes_open facts status headers parts left body more e =
     let said : List Outgoing = ResponseStart status headers ∷ map part parts in
     let sent : ℕ = body_bytes said in
@@ -105,32 +96,31 @@ passes_open facts status headers parts left body more e =
 
 pub passes_body : (facts : Facts) (said : List Outgoing) (status : ℕ) (headers : List HeaderField) (parts : List (List ℕ)) (left : Option ℕ) (body : List ℕ) (more : Bool)
     → said ≡ ResponseStart status headers ∷ map part parts → promised_length facts said ≡ with_sent (body_bytes said) left
-    → passes facts said (ResponseBody body more) ≡ is_allowed left (length body) more
+    → passes Http facts said (ResponseBody body more) ≡ is_allowed left (length body) more
 passes_body facts said status headers parts left body more e promised =
-    ap (λ (s : List Outgoing). passes facts s (ResponseBody body more)) e
+    ap (λ (s : List Outgoing). passes Http facts s (ResponseBody body more)) e
     ∙ passes_open facts status headers parts left body more (subst (λ (s : List Outgoing). promised_length facts s ≡ with_sent (body_bytes s) left) e promised)
 
 -- no other start passes behind a start
 pub second_start : (facts : Facts) (said : List Outgoing) (status : ℕ) (headers : List HeaderField) (parts : List (List ℕ)) (again : ℕ) (fields : List HeaderField)
-    → said ≡ ResponseStart status headers ∷ map part parts → passes facts said (ResponseStart again fields) ≡ false
+    → said ≡ ResponseStart status headers ∷ map part parts → passes Http facts said (ResponseStart again fields) ≡ false
 second_start facts said status headers parts again fields e =
-    ap (λ (s : List Outgoing). passes facts s (ResponseStart again fields)) e
+    ap (λ (s : List Outgoing). passes Http facts s (ResponseStart again fields)) e
     ∙ out_of_order (lines_on Http facts (ResponseStart status headers ∷ map part parts) false (ResponseStart again fields)) (ap not (begins_row-start parts again fields))
 
 -- nothing passes behind a whole response
-pub after_closed : (facts : Facts) (said : List Outgoing) (event : Outgoing) → IsResponse said → passes facts said event ≡ false
-after_closed facts said event r =
-    is_closed (lines_on Http facts said false event) (ap (λ (s : List Outgoing). is_word Http s) r.in_order ∙ is_row-closed r.parts r.last)
+pub after_closed : (facts : Facts) (said : List Outgoing) (event : Outgoing) → IsResponse said → passes Http facts said event ≡ false
+after_closed facts said event r = nothing_passes.none Http facts said event r
 
 pub first_start : (facts : Facts) (said : List Outgoing) (status : ℕ) (headers : List HeaderField) → said ≡ []
-    → passes facts said (ResponseStart status headers) ≡ (is_status status && not (is_faulty (content_length headers)))
+    → passes Http facts said (ResponseStart status headers) ≡ (is_status status && not (is_faulty (content_length headers)))
 first_start facts said status headers e =
-    ap (λ (s : List Outgoing). passes facts s (ResponseStart status headers)) e ∙ start_lines (is_status status) (is_faulty (content_length headers))
+    ap (λ (s : List Outgoing). passes Http facts s (ResponseStart status headers)) e ∙ start_lines (is_status status) (is_faulty (content_length headers))
 
-pub first_body : (facts : Facts) (said : List Outgoing) (body : List ℕ) (more : Bool) → said ≡ [] → passes facts said (ResponseBody body more) ≡ false
-first_body facts said body more e = ap (λ (s : List Outgoing). passes facts s (ResponseBody body more)) e
+pub first_body : (facts : Facts) (said : List Outgoing) (body : List ℕ) (more : Bool) → said ≡ [] → passes Http facts said (ResponseBody body more) ≡ false
+first_body facts said body more e = ap (λ (s : List Outgoing). passes Http facts s (ResponseBody body more)) e
 
-pub other_scope : (facts : Facts) (said : List Outgoing) (event : Outgoing) → (lines_on Http facts said false event).wrong_scope ≡ true → passes facts said event ≡ false
+pub other_scope : (facts : Facts) (said : List Outgoing) (event : Outgoing) → (lines_on Http facts said false event).wrong_scope ≡ true → passes Http facts said event ≡ false
 other_scope facts said event h = wrong_scope (lines_on Http facts said false event) h
 
 -- ---- the accepted events

@@ -6,14 +6,16 @@ use Rattle.std.proofs.lemmas.List.Concat.{flat_map-append}
 use Rattle.std.proofs.lemmas.List.Sums.{fold-append}
 use Rattle.std.specs.Prelude.{if◌then◌else◌}
 use Rattle.asgi_types.specs.declared.facts.Facts.{Facts}
+use Rattle.asgi_types.specs.declared.scope.Kind.TheVariants.{Http}
 use Rattle.asgi_types.specs.declared.outgoing.Outgoing.{Outgoing}
 use Rattle.asgi_types.specs.declared.outgoing.Outgoing.TheVariants.{ResponseStart, ResponseBody, WsAccept, WsSend, WsClose, DenialStart, DenialBody, StartupComplete, StartupFailed, ShutdownComplete, ShutdownFailed}
-use Rattle.asgi_response.specs.Accepted.{passes, with_event, accepted}
+use Rattle.asgi_protocol.specs.Passing.{passes}
+use Rattle.asgi_response.specs.Accepted.{with_event, accepted}
 use Rattle.asgi_response.specs.Fields.{is_chunked, closes, head_text}
-use Rattle.asgi_response.specs.Response.{body_text, message_text, continue_text}
-use Rattle.asgi_response.specs.Laws.{BeginsWith, TextOnlyGrows}
+use Rattle.asgi_response.specs.Response.{body_text, message_text, event_text, continue_text, response_text}
+use Rattle.asgi_response.specs.Laws.{BeginsWith, TextOnlyGrows, EventsAddTheirText}
 
-same_front : (xs : List ℕ) → BeginsWith xs xs
+pub same_front : (xs : List ℕ) → BeginsWith xs xs
 same_front xs = ([], sym (append-nil xs))
 
 behind : (front a b : List ℕ) → BeginsWith a b → BeginsWith (front ++ a) (front ++ b)
@@ -22,26 +24,39 @@ behind front a b h = (h.0, ap (λ (x : List ℕ). front ++ x) h.1 ∙ sym (appen
 longer : (a b c : List ℕ) → BeginsWith a b → BeginsWith b c → BeginsWith a c
 longer a b c h k = (k.0 ++ h.0, h.1 ∙ ap (λ (x : List ℕ). x ++ h.0) k.1 ∙ append_assoc c k.0 h.0)
 
-nothing_in_front : (xs : List ℕ) → BeginsWith xs []
-nothing_in_front xs = (xs, refl)
+-- one more event adds its text
+message_behind : (facts : Facts) (said : List Outgoing) (event : Outgoing) → message_text facts (said ++ event ∷ []) ≡ message_text facts said ++ event_text facts said event
+message_behind facts [] (ResponseStart a b) = refl
+message_behind facts [] (ResponseBody a b) = refl
+message_behind facts [] (WsAccept a b) = refl
+message_behind facts [] (WsSend a) = refl
+message_behind facts [] (WsClose a b) = refl
+message_behind facts [] (DenialStart a b) = refl
+message_behind facts [] (DenialBody a b) = refl
+message_behind facts [] (StartupComplete a) = refl
+message_behind facts [] (StartupFailed a) = refl
+message_behind facts [] ShutdownComplete = refl
+message_behind facts [] (ShutdownFailed a) = refl
+message_behind facts (ResponseStart status headers ∷ []) event =
+    ap (λ (x : List ℕ). head_text (is_chunked facts.version status headers) (closes facts.close headers) status headers ++ x) (append-nil (body_text facts status headers event))
+message_behind facts (ResponseStart status headers ∷ body ∷ bodies) event =
+    let head : List ℕ = head_text (is_chunked facts.version status headers) (closes facts.close headers) status headers in
+    let text : Outgoing → List ℕ = body_text facts status headers in
+    ap (λ (x : List ℕ). head ++ x) (flat_map-append text (body ∷ bodies) (event ∷ []) ∙ ap (λ (x : List ℕ). flat_map text (body ∷ bodies) ++ x) (append-nil (text event)))
+    ∙ sym (append_assoc head (flat_map text (body ∷ bodies)) (text event))
+message_behind facts (ResponseBody a b ∷ said) event = refl
+message_behind facts (WsAccept a b ∷ said) event = refl
+message_behind facts (WsSend a ∷ said) event = refl
+message_behind facts (WsClose a b ∷ said) event = refl
+message_behind facts (DenialStart a b ∷ said) event = refl
+message_behind facts (DenialBody a b ∷ said) event = refl
+message_behind facts (StartupComplete a ∷ said) event = refl
+message_behind facts (StartupFailed a ∷ said) event = refl
+message_behind facts (ShutdownComplete ∷ said) event = refl
+message_behind facts (ShutdownFailed a ∷ said) event = refl
 
 message_grows : (facts : Facts) (said : List Outgoing) (event : Outgoing) → BeginsWith (message_text facts (said ++ event ∷ [])) (message_text facts said)
-message_grows facts [] event = nothing_in_front (message_text facts (event ∷ []))
-message_grows facts (ResponseStart status headers ∷ []) event = nothing_in_front (message_text facts (ResponseStart status headers ∷ event ∷ []))
-message_grows facts (ResponseStart status headers ∷ body ∷ bodies) event =
-    behind (head_text (is_chunked facts.version status headers) (closes facts.close headers) status headers)
-    (flat_map (body_text facts status headers) ((body ∷ bodies) ++ event ∷ [])) (flat_map (body_text facts status headers) (body ∷ bodies))
-    (flat_map (body_text facts status headers) (event ∷ []), flat_map-append (body_text facts status headers) (body ∷ bodies) (event ∷ []))
-message_grows facts (ResponseBody a b ∷ said) event = same_front []
-message_grows facts (WsAccept a b ∷ said) event = same_front []
-message_grows facts (WsSend a ∷ said) event = same_front []
-message_grows facts (WsClose a b ∷ said) event = same_front []
-message_grows facts (DenialStart a b ∷ said) event = same_front []
-message_grows facts (DenialBody a b ∷ said) event = same_front []
-message_grows facts (StartupComplete a ∷ said) event = same_front []
-message_grows facts (StartupFailed a ∷ said) event = same_front []
-message_grows facts (ShutdownComplete ∷ said) event = same_front []
-message_grows facts (ShutdownFailed a ∷ said) event = same_front []
+message_grows facts said event = (event_text facts said event, message_behind facts said event)
 
 one_grows : (facts : Facts) (said : List Outgoing) (event : Outgoing) (b : Bool)
     → BeginsWith (message_text facts (if b then said ++ event ∷ [] else said)) (message_text facts said)
@@ -52,7 +67,7 @@ fold_grows : (facts : Facts) (more said : List Outgoing) → BeginsWith (message
 fold_grows facts [] said = same_front (message_text facts said)
 fold_grows facts (event ∷ more) said =
     longer (message_text facts (fold (with_event facts) (with_event facts said event) more)) (message_text facts (with_event facts said event)) (message_text facts said)
-    (fold_grows facts more (with_event facts said event)) (one_grows facts said event (passes facts said event))
+    (fold_grows facts more (with_event facts said event)) (one_grows facts said event (passes Http facts said event))
 
 along : (a a' b : List ℕ) → a ≡ a' → BeginsWith a' b → BeginsWith a b
 along a a' b e h = (h.0, e ∙ h.1)
@@ -61,3 +76,20 @@ pub text_grows : TextOnlyGrows
 text_grows facts events more =
     behind (continue_text facts.expect) (message_text facts (accepted facts (events ++ more))) (message_text facts (accepted facts events))
     (along _ _ _ (ap (message_text facts) (fold-append (with_event facts) [] events more)) (fold_grows facts more (accepted facts events)))
+
+-- ---- one event
+
+at_event : (facts : Facts) (events : List Outgoing) (event : Outgoing) (b : Bool) → passes Http facts (accepted facts events) event ≡ b
+    → response_text facts (events ++ event ∷ []) ≡ continue_text facts.expect ++ message_text facts (if b then accepted facts events ++ event ∷ [] else accepted facts events)
+at_event facts events event b h =
+    ap (λ (s : List Outgoing). continue_text facts.expect ++ message_text facts s)
+    (fold-append (with_event facts) [] events (event ∷ []) ∙ ap (λ (b : Bool). if b then accepted facts events ++ event ∷ [] else accepted facts events) h)
+
+pub events_add_their_text : EventsAddTheirText
+events_add_their_text = record {
+  lawful = λ facts events event h.
+      at_event facts events event true h
+      ∙ ap (λ (x : List ℕ). continue_text facts.expect ++ x) (message_behind facts (accepted facts events) event)
+      ∙ sym (append_assoc (continue_text facts.expect) (message_text facts (accepted facts events)) (event_text facts (accepted facts events) event));
+  other = λ facts events event h. at_event facts events event false h;
+}

@@ -11,3 +11,4 @@ pub mod ReadBackBodyLemmas
 pub mod StartLemmas
 pub mod LawfulLemmas
 pub mod SizedLemmas
+pub mod EndLemmas

@@ -17,7 +17,8 @@ use Rattle.asgi_response.specs.Exchange.{has_begun}
 use Rattle.asgi_response.specs.Progress.{closes_behind, progress_in, progress_of}
 use Rattle.asgi_response.specs.Standing.{part, IsPhase, StandsFor}
 use Rattle.asgi_response.specs.Steps.{progress_at}
-use Rattle.asgi_response.proofs.AcceptedLemmas.{is_row-open, is_row-closed}
+use Rattle.asgi_protocol.proofs.WordLemmas.{test_of_word}
+use Rattle.asgi_response.proofs.AcceptedLemmas.{is_row-open}
 
 begun_in : (closed begun close : Bool) → closed ≡ false → begun ≡ true
     → (if closed then progress.Complete close else (if begun then progress.Begun else progress.Nothing)) ≡ progress.Begun
@@ -49,7 +50,7 @@ at_phase facts said head close (Begun content) h e =
 at_phase facts said head close Complete r e =
     ap (λ (b : Bool). let p : Progress = progress.Complete b in p) e
     ∙ sym (complete_in (is_closed Http said) (has_begun said) (closes_behind facts said)
-    (ap (λ (s : List Outgoing). is_closed Http s) r.in_order ∙ is_row-closed r.parts r.last))
+    (test_of_word Http said r))
 
 pub progress_is : (t : ResponseText) (facts : Facts) (events : List Outgoing) → StandsFor t facts events → progress_at t.phase t.close ≡ progress_of facts events
 progress_is t facts events at = at_phase facts (accepted facts events) t.head t.close t.phase at.phase at.close

@@ -5,17 +5,19 @@ use Rattle.std.proofs.lemmas.List.Concat.{flat_map-append}
 use Rattle.std.specs.Prelude.{not, ◌&&◌, if◌then◌else◌, Some}
 use Rattle.asgi_types.specs.Fields.{HeaderField}
 use Rattle.asgi_types.specs.declared.facts.Facts.{Facts}
+use Rattle.asgi_types.specs.declared.scope.Kind.TheVariants.{Http}
 use Rattle.asgi_types.specs.declared.outgoing.Outgoing.{Outgoing}
 use Rattle.asgi_types.specs.declared.outgoing.Outgoing.TheVariants.{ResponseStart, ResponseBody, WsAccept, WsSend, WsClose, DenialStart, DenialBody, StartupComplete, StartupFailed, ShutdownComplete, ShutdownFailed}
 use Rattle.asgi_protocol.specs.BytesLeft.{with_sent}
 use Rattle.asgi_protocol.specs.ContentLengths.{content_length}
+use Rattle.asgi_protocol.specs.Passing.{passes}
 use Rattle.asgi_protocol.specs.Rules.{is_status, is_faulty, promised_length, body_bytes}
 use Rattle.asgi_response.specs.declared.content.Coding.{Coding}
 use Rattle.asgi_response.specs.declared.content.Content.{Content}
 use Rattle.asgi_response.specs.declared.text.ResponseText.{ResponseText}
 use Rattle.asgi_response.specs.declared.text.Phase.{Phase}
 use Rattle.asgi_response.specs.declared.text.Phase.TheVariants.{Waiting, Started, Begun, Complete}
-use Rattle.asgi_response.specs.Accepted.{passes, with_event, accepted}
+use Rattle.asgi_response.specs.Accepted.{with_event, accepted}
 use Rattle.asgi_response.specs.Content.{part_text, has_content}
 use Rattle.asgi_response.specs.Fields.{is_chunked, closes, head_text}
 use Rattle.asgi_response.specs.Progress.{closes_behind}
@@ -29,10 +31,10 @@ use Rattle.asgi_response.proofs.AcceptedLemmas.{passes_body, second_start, after
 
 -- ---- an event that passes or not
 
-not_taken : (facts : Facts) (said : List Outgoing) (event : Outgoing) → passes facts said event ≡ false → said ≡ with_event facts said event
+pub not_taken : (facts : Facts) (said : List Outgoing) (event : Outgoing) → passes Http facts said event ≡ false → said ≡ with_event facts said event
 not_taken facts said event h = sym (ap (λ (b : Bool). if b then said ++ event ∷ [] else said) h)
 
-keeps : (t : ResponseText) (facts : Facts) (said : List Outgoing) (event : Outgoing) → HasAccepted t facts said → passes facts said event ≡ false → HasAccepted t facts (with_event facts said event)
+keeps : (t : ResponseText) (facts : Facts) (said : List Outgoing) (event : Outgoing) → HasAccepted t facts said → passes Http facts said event ≡ false → HasAccepted t facts (with_event facts said event)
 keeps t facts said event at h = subst (λ (s : List Outgoing). HasAccepted t facts s) (not_taken facts said event h) at
 
 -- the one choice follows the other
@@ -80,7 +82,7 @@ start_step : (t : ResponseText) (facts : Facts) (said : List Outgoing) (status :
     then record t { phase = Started (content_at_start t.version t.head_only status headers); head = head_text (is_chunked t.version status headers) (closes t.close headers) status headers; close = closes t.close headers } else t)
     facts (with_event facts said (ResponseStart status headers))
 start_step t facts said status headers at Waiting none =
-    choose (λ u s. HasAccepted u facts s) (is_status status && not (is_faulty (content_length headers))) (passes facts said (ResponseStart status headers)) t _ said _
+    choose (λ u s. HasAccepted u facts s) (is_status status && not (is_faulty (content_length headers))) (passes Http facts said (ResponseStart status headers)) t _ said _
     (first_start facts said status headers none) (λ h. started t facts said status headers at none) at
 start_step t facts said status headers at (Started content) h =
     keeps t facts said (ResponseStart status headers) at (second_start facts said h.status h.headers [] status headers h.is_open.events)
@@ -128,7 +130,7 @@ open_step : (t : ResponseText) (facts : Facts) (said : List Outgoing) (status : 
     → HasAccepted t facts said → IsOpen facts said status headers parts content
     → HasAccepted (after_part t (Some content) body more) facts (with_event facts said (ResponseBody body more))
 open_step t facts said status headers parts content body more at o =
-    choose (λ u s. HasAccepted u facts s) (is_allowed content.left (length body) more) (passes facts said (ResponseBody body more)) t
+    choose (λ u s. HasAccepted u facts s) (is_allowed content.left (length body) more) (passes Http facts said (ResponseBody body more)) t
     (record t { phase = next_phase content (length body) more; head = [] }) said (said ++ ResponseBody body more ∷ [])
     (passes_body facts said status headers parts content.left body more o.events o.left)
     (λ fits. record { version = at.version; head_only = at.head_only; close = at.close ∙ closes_on facts said status headers parts body more o.events; expect = at.expect; phase = next_is facts said status headers parts content body more o fits })
@@ -194,7 +196,7 @@ parts_push : (facts : Facts) (status : ℕ) (headers : List HeaderField) (front 
 parts_push facts status headers [] last event = message_push facts status headers (part last) [] event
 parts_push facts status headers (f ∷ front) last event = message_push facts status headers (part f) (map part (front ++ last ∷ [])) event
 
-nothing_added : (facts : Facts) (said : List Outgoing) (event : Outgoing) → passes facts said event ≡ false
+nothing_added : (facts : Facts) (said : List Outgoing) (event : Outgoing) → passes Http facts said event ≡ false
     → message_text facts (with_event facts said event) ≡ message_text facts said ++ []
 nothing_added facts said event h = ap (message_text facts) (sym (not_taken facts said event h)) ∙ sym (append-nil (message_text facts said))
 
@@ -230,10 +232,10 @@ body_adds : (facts : Facts) (said : List Outgoing) (head body : List ℕ) (more 
     → message_text facts (with_event facts said (ResponseBody body more)) ≡ message_text facts said ++ part_added head (content_due phase) body more
 body_adds facts said head body more Waiting none = nothing_added facts said (ResponseBody body more) (first_body facts said body more none)
 body_adds facts said head body more (Started content) h =
-    choose_text (is_allowed content.left (length body) more) (passes facts said (ResponseBody body more)) said (said ++ ResponseBody body more ∷ []) facts (head ++ coded_text content.coding body more)
+    choose_text (is_allowed content.left (length body) more) (passes Http facts said (ResponseBody body more)) said (said ++ ResponseBody body more ∷ []) facts (head ++ coded_text content.coding body more)
     (passes_body facts said h.status h.headers [] content.left body more h.is_open.events h.is_open.left) (first_part facts said content head body more h)
 body_adds facts said head body more (Begun content) h =
-    choose_text (is_allowed content.left (length body) more) (passes facts said (ResponseBody body more)) said (said ++ ResponseBody body more ∷ []) facts (head ++ coded_text content.coding body more)
+    choose_text (is_allowed content.left (length body) more) (passes Http facts said (ResponseBody body more)) said (said ++ ResponseBody body more ∷ []) facts (head ++ coded_text content.coding body more)
     (passes_body facts said h.status h.headers (h.front ++ h.last ∷ []) content.left body more h.is_open.events h.is_open.left) (later_part facts said content head body more h)
 body_adds facts said head body more Complete r = nothing_added facts said (ResponseBody body more) (after_closed facts said (ResponseBody body more) r)
 
@@ -246,7 +248,7 @@ start_alone facts said status headers false none = sym (append-nil (message_text
 
 start_adds : (facts : Facts) (said : List Outgoing) (head : List ℕ) (status : ℕ) (headers : List HeaderField) (phase : Phase) → IsPhase facts said head phase
     → message_text facts (with_event facts said (ResponseStart status headers)) ≡ message_text facts said ++ []
-start_adds facts said head status headers Waiting none = start_alone facts said status headers (passes facts said (ResponseStart status headers)) none
+start_adds facts said head status headers Waiting none = start_alone facts said status headers (passes Http facts said (ResponseStart status headers)) none
 start_adds facts said head status headers (Started content) h =
     nothing_added facts said (ResponseStart status headers) (second_start facts said h.status h.headers [] status headers h.is_open.events)
 start_adds facts said head status headers (Begun content) h =
@@ -281,14 +283,14 @@ grows_behind t facts events event old new e at = record { added = added_by t eve
 
 -- where a text starts, the start is lawful
 first_passes : (facts : Facts) (said : List Outgoing) (head : List ℕ) (status : ℕ) (headers : List HeaderField) (phase : Phase) → IsPhase facts said head phase
-    → IsTrue (may_start phase status (is_faulty (content_length headers))) → IsTrue (passes facts said (ResponseStart status headers))
+    → IsTrue (may_start phase status (is_faulty (content_length headers))) → IsTrue (passes Http facts said (ResponseStart status headers))
 first_passes facts said head status headers Waiting none h = first_start facts said status headers none ∙ h
 first_passes facts said head status headers (Started content) at h = cc
 first_passes facts said head status headers (Begun content) at h = cc
 first_passes facts said head status headers Complete at h = cc
 
 start_passes : (t : ResponseText) (facts : Facts) (said : List Outgoing) (event : Outgoing) → HasAccepted t facts said → IsTrue (starts t event)
-    → IsTrue (is_start event && passes facts said event)
+    → IsTrue (is_start event && passes Http facts said event)
 start_passes t facts said (ResponseStart status headers) at h = first_passes facts said t.head status headers t.phase at.phase h
 start_passes t facts said (ResponseBody a b) at h = cc
 start_passes t facts said (WsAccept a b) at h = cc

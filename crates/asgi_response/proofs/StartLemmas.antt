@@ -5,12 +5,14 @@ use Rattle.std.specs.Prelude.{if◌then◌else◌, ◌&&◌, not}
 use Rattle.std.specs.List.{fold}
 use Rattle.asgi_types.specs.Fields.{HeaderField}
 use Rattle.asgi_types.specs.declared.facts.Facts.{Facts}
+use Rattle.asgi_types.specs.declared.scope.Kind.TheVariants.{Http}
 use Rattle.asgi_types.specs.declared.outgoing.Outgoing.{Outgoing}
 use Rattle.asgi_types.specs.declared.outgoing.Outgoing.TheVariants.{ResponseStart, ResponseBody, WsAccept, WsSend, WsClose, DenialStart, DenialBody, StartupComplete, StartupFailed, ShutdownComplete, ShutdownFailed}
 use Rattle.asgi_protocol.specs.ContentLengths.{content_length}
 use Rattle.asgi_protocol.specs.Lawful.{IsResponse}
+use Rattle.asgi_protocol.specs.Passing.{passes}
 use Rattle.asgi_protocol.specs.Rules.{is_status, is_faulty}
-use Rattle.asgi_response.specs.Accepted.{passes, with_event, accepted}
+use Rattle.asgi_response.specs.Accepted.{with_event, accepted}
 use Rattle.asgi_response.proofs.AcceptedLemmas.{first_start, first_body, other_scope}
 
 begins_well : List Outgoing → Bool
@@ -50,23 +52,23 @@ begun true true y status headers h e = sym e
 begun true false y status headers h e = cc
 begun false x y status headers h e = refl
 
-first_well : (facts : Facts) (event : Outgoing) → begins_well (if passes facts [] event then event ∷ [] else []) ≡ true
+first_well : (facts : Facts) (event : Outgoing) → begins_well (if passes Http facts [] event then event ∷ [] else []) ≡ true
 first_well facts (ResponseStart status headers) =
-    begun (passes facts [] (ResponseStart status headers)) (is_status status) (not (is_faulty (content_length headers))) status headers (first_start facts [] status headers refl) refl
-first_well facts (ResponseBody a b) = not_begun (passes facts [] (ResponseBody a b)) (ResponseBody a b) (first_body facts [] a b refl)
-first_well facts (WsAccept a b) = not_begun (passes facts [] (WsAccept a b)) (WsAccept a b) (other_scope facts [] (WsAccept a b) refl)
-first_well facts (WsSend a) = not_begun (passes facts [] (WsSend a)) (WsSend a) (other_scope facts [] (WsSend a) refl)
-first_well facts (WsClose a b) = not_begun (passes facts [] (WsClose a b)) (WsClose a b) (other_scope facts [] (WsClose a b) refl)
-first_well facts (DenialStart a b) = not_begun (passes facts [] (DenialStart a b)) (DenialStart a b) (other_scope facts [] (DenialStart a b) refl)
-first_well facts (DenialBody a b) = not_begun (passes facts [] (DenialBody a b)) (DenialBody a b) (other_scope facts [] (DenialBody a b) refl)
-first_well facts (StartupComplete a) = not_begun (passes facts [] (StartupComplete a)) (StartupComplete a) (other_scope facts [] (StartupComplete a) refl)
-first_well facts (StartupFailed a) = not_begun (passes facts [] (StartupFailed a)) (StartupFailed a) (other_scope facts [] (StartupFailed a) refl)
-first_well facts ShutdownComplete = not_begun (passes facts [] ShutdownComplete) ShutdownComplete (other_scope facts [] ShutdownComplete refl)
-first_well facts (ShutdownFailed a) = not_begun (passes facts [] (ShutdownFailed a)) (ShutdownFailed a) (other_scope facts [] (ShutdownFailed a) refl)
+    begun (passes Http facts [] (ResponseStart status headers)) (is_status status) (not (is_faulty (content_length headers))) status headers (first_start facts [] status headers refl) refl
+first_well facts (ResponseBody a b) = not_begun (passes Http facts [] (ResponseBody a b)) (ResponseBody a b) (first_body facts [] a b refl)
+first_well facts (WsAccept a b) = not_begun (passes Http facts [] (WsAccept a b)) (WsAccept a b) (other_scope facts [] (WsAccept a b) refl)
+first_well facts (WsSend a) = not_begun (passes Http facts [] (WsSend a)) (WsSend a) (other_scope facts [] (WsSend a) refl)
+first_well facts (WsClose a b) = not_begun (passes Http facts [] (WsClose a b)) (WsClose a b) (other_scope facts [] (WsClose a b) refl)
+first_well facts (DenialStart a b) = not_begun (passes Http facts [] (DenialStart a b)) (DenialStart a b) (other_scope facts [] (DenialStart a b) refl)
+first_well facts (DenialBody a b) = not_begun (passes Http facts [] (DenialBody a b)) (DenialBody a b) (other_scope facts [] (DenialBody a b) refl)
+first_well facts (StartupComplete a) = not_begun (passes Http facts [] (StartupComplete a)) (StartupComplete a) (other_scope facts [] (StartupComplete a) refl)
+first_well facts (StartupFailed a) = not_begun (passes Http facts [] (StartupFailed a)) (StartupFailed a) (other_scope facts [] (StartupFailed a) refl)
+first_well facts ShutdownComplete = not_begun (passes Http facts [] ShutdownComplete) ShutdownComplete (other_scope facts [] ShutdownComplete refl)
+first_well facts (ShutdownFailed a) = not_begun (passes Http facts [] (ShutdownFailed a)) (ShutdownFailed a) (other_scope facts [] (ShutdownFailed a) refl)
 
 with_event_well : (facts : Facts) (said : List Outgoing) (event : Outgoing) → begins_well said ≡ true → begins_well (with_event facts said event) ≡ true
 with_event_well facts [] event h = first_well facts event
-with_event_well facts (x ∷ xs) event h = goes_on_well (passes facts (x ∷ xs) event) x xs event h
+with_event_well facts (x ∷ xs) event h = goes_on_well (passes Http facts (x ∷ xs) event) x xs event h
 
 all_well : (facts : Facts) (events said : List Outgoing) → begins_well said ≡ true → begins_well (fold (with_event facts) said events) ≡ true
 all_well facts [] said h = h

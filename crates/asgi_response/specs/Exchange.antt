@@ -1,6 +1,8 @@
 -- The text of a whole exchange: that of its events, and what the end of its task adds.
 use Rattle.std.specs.Prelude.{ℕ, Bool, true, false, List, [], ◌∷◌, ◌++◌, if◌then◌else◌, ◌==◌, codes}
 use Rattle.httparse.specs.Ascii.{crlf_bytes}
+use Rattle.asgi_types.specs.declared.end_kind.EndKind.{EndKind}
+use Rattle.asgi_types.specs.declared.end_kind.EndKind.TheVariants.{Returned, Faulted, Idle}
 use Rattle.asgi_types.specs.declared.facts.Facts.{Facts}
 use Rattle.asgi_types.specs.declared.outgoing.Outgoing.{Outgoing}
 use Rattle.asgi_response.specs.declared.refusal.Input.{Input}
@@ -35,9 +37,16 @@ replacement_text Whole = refusal_text 500
 replacement_text (Faulty status) = refusal_text status
 replacement_text Broken = []
 
--- what the end of the task adds; a response that has begun is left as it is
+-- what the end of a task adds that returned or faulted; a response that has begun is left as it is
 abbrev pub end_text : Facts → List Outgoing → Input → List ℕ
 end_text facts events input = if has_begun (accepted facts events) then [] else replacement_text input
 
-abbrev pub exchange_text : Facts → List Outgoing → Input → List ℕ
-exchange_text facts events input = response_text facts events ++ end_text facts events input
+-- what the end of a task adds; one that ended by its limit of turns adds nothing
+abbrev pub added_by_end : Facts → List Outgoing → EndKind → Input → List ℕ
+added_by_end facts events Returned input = end_text facts events input
+added_by_end facts events Faulted input = end_text facts events input
+added_by_end facts events Idle input = []
+
+-- the text of an exchange, by its events, how its task ended, and the body of its request
+abbrev pub exchange_text : Facts → List Outgoing → EndKind → Input → List ℕ
+exchange_text facts events kind input = response_text facts events ++ added_by_end facts events kind input

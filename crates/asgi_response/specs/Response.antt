@@ -30,6 +30,13 @@ message_text facts (ResponseStart status headers ∷ body ∷ bodies) =
     ++ flat_map (body_text facts status headers) (body ∷ bodies)
 message_text facts (_ ∷ events) = []
 
+-- what an event adds behind these: the first body also the head
+abbrev pub event_text : Facts → List Outgoing → Outgoing → List ℕ
+event_text facts (ResponseStart status headers ∷ []) event =
+    head_text (is_chunked facts.version status headers) (closes facts.close headers) status headers ++ body_text facts status headers event
+event_text facts (ResponseStart status headers ∷ body ∷ bodies) event = body_text facts status headers event
+event_text facts _ event = []
+
 -- the text of the events, in front of which a client that waits is told to go on
 abbrev pub response_text : Facts → List Outgoing → List ℕ
 response_text facts events = continue_text facts.expect ++ message_text facts (accepted facts events)

@@ -1,9 +1,11 @@
 -- When an event may be refused for want of memory: only where the output had no room for what it adds.
 use Rattle.std.specs.Prelude.{ℕ, ◌+◌, ◌<◌, ◌⊎◌, ◌&&◌, Bool, true, false, IsTrue, List, [], ◌∷◌, ◌++◌, length}
 use Rattle.asgi_types.specs.declared.facts.Facts.{Facts}
+use Rattle.asgi_types.specs.declared.scope.Kind.TheVariants.{Http}
 use Rattle.asgi_types.specs.declared.outgoing.Outgoing.{Outgoing}
 use Rattle.asgi_types.specs.declared.outgoing.Outgoing.TheVariants.{ResponseStart}
-use Rattle.asgi_response.specs.Accepted.{passes, accepted}
+use Rattle.asgi_protocol.specs.Passing.{passes}
+use Rattle.asgi_response.specs.Accepted.{accepted}
 use Rattle.asgi_response.specs.Response.{response_text}
 
 -- the head of a start is kept in memory of its own
@@ -15,5 +17,5 @@ is_start _ = false
 -- adds to the text
 abbrev pub LacksMemory : ℕ → ℕ → Facts → List Outgoing → Outgoing → Type 0
 LacksMemory capacity len facts events event =
-    IsTrue (is_start event && passes facts (accepted facts events) event)
+    IsTrue (is_start event && passes Http facts (accepted facts events) event)
     ⊎ (capacity + length (response_text facts events) < len + length (response_text facts (events ++ event ∷ [])))

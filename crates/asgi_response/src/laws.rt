@@ -1,6 +1,6 @@
 //! Laws of the text of a response.
 ghost use Rattle.std.specs.Prelude.{All};
-ghost use Rattle.asgi_response.specs.Laws.{TextOnlyGrows, PassedIsAccepted, LawfulIsAccepted};
+ghost use Rattle.asgi_response.specs.Laws.{TextOnlyGrows, PassedIsAccepted, LawfulIsAccepted, EventsAddTheirText, ClosedTextStays, BegunResponsesGetNothingMore, UnbegunResponsesAreReplaced, AddedTextOnlyGrows};
 ghost use Rattle.asgi_response.specs.ReadBack.{HeadIsReadBack, IsHeadReadBack, IsSendable};
 ghost use Rattle.asgi_response.specs.ReadBackBody.{ResponseIsReadBack, IsResponseReadBack};
 
@@ -11,6 +11,11 @@ pub fn text_only_grows()
     ensures { TextOnlyGrows }
 {}
 
+/// The text grows by that of each event that is lawful in its place, and by nothing for any other.
+pub fn events_add_their_text()
+    ensures { EventsAddTheirText }
+{}
+
 /// Events that a judge passes, one behind the other, are accepted whole.
 pub fn passed_is_accepted()
     ensures { PassedIsAccepted }
@@ -19,6 +24,26 @@ pub fn passed_is_accepted()
 /// A lawful list of events is accepted whole.
 pub fn lawful_is_accepted()
     ensures { LawfulIsAccepted }
+{}
+
+/// Behind a closed list nothing more is accepted, and its text stays, whatever events follow.
+pub fn closed_text_stays()
+    ensures { ClosedTextStays }
+{}
+
+/// A response that has begun or is complete gets nothing more from the end of its task.
+pub fn begun_responses_get_nothing_more()
+    ensures { BegunResponsesGetNothingMore }
+{}
+
+/// A response that has not begun gets the answer in its place, where its task returned or faulted.
+pub fn unbegun_responses_are_replaced()
+    ensures { UnbegunResponsesAreReplaced }
+{}
+
+/// What the end of a task adds only grows as more of the request's body is known.
+pub fn added_text_only_grows()
+    ensures { AddedTextOnlyGrows }
 {}
 
 /// A recipient reads the status and just the fields that were sent: no value can add a line, and no other head is read.

@@ -3,6 +3,7 @@
 #![tactic(auto)]
 
 mod chars;
+mod end_kind;
 mod facts;
 mod headers;
 mod incoming;
@@ -17,6 +18,7 @@ mod state;
 mod tokens;
 
 pub use chars::Chars;
+pub use end_kind::EndKind;
 pub use facts::{Facts, Framing};
 pub use headers::{Fields, HeaderError, Headers};
 pub use incoming::{Incoming, Payload};
