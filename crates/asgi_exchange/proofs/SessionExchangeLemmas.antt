@@ -1,9 +1,9 @@
 -- What every exchange keeps, in the words of a session.
 use Rattle.std.proofs.Common.{◌≡◌, ℕ, Bool, List, ◌++◌, ◌⊎◌, inl, inr, Option, Some, None, refl, ap, ◌∙◌}
+use Rattle.asgi_types.specs.declared.end_kind.EndKind.{EndKind}
 use Rattle.asgi_types.specs.declared.facts.Facts.{Facts}
 use Rattle.asgi_types.specs.declared.incoming.Incoming.{Incoming}
 use Rattle.asgi_types.specs.declared.outgoing.Outgoing.{Outgoing}
-use Rattle.asgi_pipes.specs.declared.items.EndKind.{EndKind}
 use Rattle.asgi_exchange.specs.Heard.{Cause, Closed, Input, Cut}
 use Rattle.asgi_exchange.specs.Keeps.{IsExchange}
 use Rattle.asgi_exchange.specs.Messages.{Message}

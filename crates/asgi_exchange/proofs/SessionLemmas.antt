@@ -11,8 +11,8 @@ use Rattle.asgi_types.specs.declared.incoming.Payload.TheVariants as payload
 use Rattle.asgi_types.specs.declared.outgoing.Outgoing.{Outgoing}
 use Rattle.asgi_types.specs.declared.outgoing.Outgoing.TheVariants.{ResponseStart, ResponseBody, WsAccept, WsSend, WsClose, DenialStart, DenialBody, StartupComplete, StartupFailed, ShutdownComplete, ShutdownFailed}
 use Rattle.asgi_types.specs.declared.scope.Kind.TheVariants.{WebSocket}
-use Rattle.asgi_protocol.specs.Verdicts.{is_disconnect, verdict_on}
-use Rattle.asgi_response.specs.Accepted.{is_pass}
+use Rattle.asgi_protocol.specs.Verdicts.{is_disconnect}
+use Rattle.asgi_protocol.specs.Passing.{passes}
 use Rattle.asgi_response.specs.Exchange.{refusal_text}
 use Rattle.asgi_response.specs.Fields.{is_chunked, closes, head_text}
 use Rattle.asgi_response.specs.Response.{body_text, message_text}
@@ -130,7 +130,7 @@ one_grows handshake facts said event false = prefix_self (output_of handshake fa
 session_grows : (handshake : Handshake) (facts : Facts) (said : List Outgoing) (event : Outgoing)
     → IsPrefix (session_output handshake facts said) (session_output handshake facts (said ++ event ∷ []))
 session_grows handshake facts said event =
-    let g = one_grows handshake facts (accepted_session facts said) event (is_pass (verdict_on WebSocket facts (accepted_session facts said) false event)) in
+    let g = one_grows handshake facts (accepted_session facts said) event (passes WebSocket facts (accepted_session facts said) event) in
     (g.0, g.1 ∙ ap (output_of handshake facts) (sym (fold-append (with_session_event facts) [] said (event ∷ []))))
 
 pub web_socket_is_steady : (handshake : Handshake) (facts : Facts) (ring : ℕ) → IsSteady (web_socket handshake facts ring)

@@ -2,6 +2,8 @@
 use Rattle.std.specs.Prelude.{◌≡◌, ℕ, ◌^◌, true, false, List, [], ◌∷◌, ◌++◌, Option, None, replicate, codes, refl}
 use Rattle.std.proofs.lemmas.Bool.{leb-true}
 use Rattle.asgi_types.specs.Fields.{HeaderField}
+use Rattle.asgi_types.specs.declared.end_kind.EndKind.{EndKind}
+use Rattle.asgi_types.specs.declared.end_kind.EndKind.TheVariants.{Returned, Faulted}
 use Rattle.asgi_types.specs.declared.facts.Facts.{Facts}
 use Rattle.asgi_types.specs.declared.facts.Framing.{Framing}
 use Rattle.asgi_types.specs.declared.facts.Framing.TheVariants.{Upgrade}
@@ -12,8 +14,6 @@ use Rattle.asgi_types.specs.declared.limits.Limits.{Limits}
 use Rattle.asgi_types.specs.declared.outgoing.HttpVersion.TheVariants.{V11}
 use Rattle.asgi_types.specs.declared.outgoing.Outgoing.{Outgoing}
 use Rattle.asgi_types.specs.declared.outgoing.Outgoing.TheVariants.{ResponseStart, ResponseBody, WsAccept, WsSend, WsClose, DenialStart, DenialBody}
-use Rattle.asgi_pipes.specs.declared.items.EndKind.{EndKind}
-use Rattle.asgi_pipes.specs.declared.items.EndKind.TheVariants.{Returned, Faulted}
 use Rattle.asgi_exchange.specs.Messages.{Message, Text, Ping, Pong, Close}
 use Rattle.asgi_exchange.specs.Session.{Handshake}
 use Rattle.asgi_exchange.specs.Schedules.{Step, Arrive, Offer, BreakOff, Take, Write, Hear, Say, End}

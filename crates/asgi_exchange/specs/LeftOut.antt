@@ -1,8 +1,8 @@
 -- Words of examples: the steps of an exchange, each with one of its conditions left out. No promise is stated by these words.
-use Rattle.std.specs.Prelude.{Bool, false, List, [], ◌∷◌, ◌++◌, Option, Some, is_none, if◌then◌else◌}
+use Rattle.std.specs.Prelude.{Bool, List, [], ◌∷◌, ◌++◌, Option, Some, is_none, if◌then◌else◌}
 use Rattle.asgi_types.specs.declared.outgoing.Outgoing.{Outgoing}
 use Rattle.asgi_protocol.specs.Verdicts.{verdict_on}
-use Rattle.asgi_response.specs.Accepted.{is_pass}
+use Rattle.asgi_protocol.specs.Passing.{is_pass, passes}
 use Rattle.asgi_pipes.specs.declared.items.OutItem.{OutItem}
 use Rattle.asgi_pipes.specs.declared.items.OutItem.TheVariants.{Event}
 use Rattle.asgi_pipes.specs.Disconnects.{has_disconnect}
@@ -50,7 +50,7 @@ say_unjudged app event has_place = if is_none (end_of app.put) then (if has_plac
 abbrev pub say_unheard : {A W : Type 0} → Exchange A W → AppView → Outgoing → (has_place : Bool) → AppView
 say_unheard x app event has_place =
     if is_none (end_of app.put)
-    then (if has_place then (if is_pass (verdict_on x.kind x.facts (said_of app) false event) then record app { put = app.put ++ Event event ∷ [] } else app) else app)
+    then (if has_place then (if passes x.kind x.facts (said_of app) event then record app { put = app.put ++ Event event ∷ [] } else app) else app)
     else app
 
 -- Say, also behind the end

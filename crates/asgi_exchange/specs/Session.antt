@@ -1,21 +1,20 @@
 -- What is written in a session or in its place (ASGI WebSocket message format 2.4, "Accept", "Send" and "Close", and the
 -- extension `websocket.http.response`; RFC 6455, sections 4.2.2, 5.6 and 7.1). An event that is not lawful in its place
 -- has no text.
-use Rattle.std.specs.Prelude.{ℕ, Bool, true, false, List, [], ◌∷◌, ◌++◌, Option, map, if◌then◌else◌}
+use Rattle.std.specs.Prelude.{ℕ, Bool, true, List, [], ◌∷◌, ◌++◌, Option, map, if◌then◌else◌}
 use Rattle.std.specs.List.{flat_map, fold}
 use Rattle.asgi_types.specs.Fields.{HeaderField}
+use Rattle.asgi_types.specs.declared.end_kind.EndKind.{EndKind}
+use Rattle.asgi_types.specs.declared.end_kind.EndKind.TheVariants.{Returned, Faulted, Idle}
 use Rattle.asgi_types.specs.declared.facts.Facts.{Facts}
 use Rattle.asgi_types.specs.declared.incoming.Payload.{Payload}
 use Rattle.asgi_types.specs.declared.outgoing.Outgoing.{Outgoing}
 use Rattle.asgi_types.specs.declared.outgoing.Outgoing.TheVariants.{ResponseStart, ResponseBody, WsAccept, WsSend, WsClose, DenialStart, DenialBody}
 use Rattle.asgi_types.specs.declared.scope.Kind.TheVariants.{WebSocket}
 use Rattle.asgi_protocol.specs.Shapes.{is_closed}
-use Rattle.asgi_protocol.specs.Verdicts.{verdict_on}
-use Rattle.asgi_response.specs.Accepted.{is_pass}
+use Rattle.asgi_protocol.specs.Passing.{passes}
 use Rattle.asgi_response.specs.Exchange.{refusal_text}
 use Rattle.asgi_response.specs.Response.{message_text}
-use Rattle.asgi_pipes.specs.declared.items.EndKind.{EndKind}
-use Rattle.asgi_pipes.specs.declared.items.EndKind.TheVariants.{Returned, Faulted, Idle}
 
 -- a byte of a text, or a message of the server
 pub data Output : Type 0 where
@@ -30,7 +29,7 @@ Handshake = Option (List ℕ) → List HeaderField → List ℕ
 -- ---- the events that have a text
 
 abbrev pub with_session_event : Facts → List Outgoing → Outgoing → List Outgoing
-with_session_event facts said event = if is_pass (verdict_on WebSocket facts said false event) then said ++ event ∷ [] else said
+with_session_event facts said event = if passes WebSocket facts said event then said ++ event ∷ [] else said
 
 -- the events that pass, each behind those that passed before it
 abbrev pub accepted_session : Facts → List Outgoing → List Outgoing

@@ -1,13 +1,13 @@
 -- What every schedule of a session keeps: what was heard, said, taken and written (ASGI WebSocket message format 2.4).
 use Rattle.std.specs.Prelude.{◌≡◌, ◌≢◌, ℕ, ◌⊎◌, Bool, List, [], ◌++◌, Option, Some, None, replicate}
 use mathlib.Core.List.{IsPrefix}
+use Rattle.asgi_types.specs.declared.end_kind.EndKind.{EndKind}
 use Rattle.asgi_types.specs.declared.facts.Facts.{Facts}
 use Rattle.asgi_types.specs.declared.incoming.Incoming.{Incoming}
 use Rattle.asgi_types.specs.declared.incoming.Incoming.TheVariants.{WsDisconnect}
 use Rattle.asgi_types.specs.declared.outgoing.Outgoing.{Outgoing}
 use Rattle.asgi_types.specs.declared.scope.Kind.TheVariants.{WebSocket}
 use Rattle.asgi_protocol.specs.Lawful.{IsLawful, IsClosed}
-use Rattle.asgi_pipes.specs.declared.items.EndKind.{EndKind}
 use Rattle.asgi_pipes.specs.Disconnects.{own_disconnect}
 use Rattle.asgi_exchange.specs.Items.{end_of}
 use Rattle.asgi_exchange.specs.Messages.{Message, session_events, session_disconnect}

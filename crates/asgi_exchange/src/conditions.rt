@@ -1,10 +1,10 @@
 //! What the conditions of the steps are for: with one of them left out, a schedule leads out of what every schedule keeps.
 //! Contracts of functions with no code.
 ghost use Rattle.std.specs.Prelude.{true, [], ◌∷◌, codes, Some};
+ghost use Rattle.asgi_types.specs.declared.end_kind.EndKind.TheVariants.{Returned};
 ghost use Rattle.asgi_types.specs.declared.facts.Framing.TheVariants.{Length};
 ghost use Rattle.asgi_types.specs.declared.incoming.Payload.TheVariants as payload;
 ghost use Rattle.asgi_types.specs.declared.outgoing.Outgoing.TheVariants.{WsSend, WsClose};
-ghost use Rattle.asgi_pipes.specs.declared.items.EndKind.TheVariants.{Returned};
 ghost use Rattle.asgi_pipes.specs.declared.items.OutItem.TheVariants.{Event, Ended};
 ghost use Rattle.asgi_exchange.specs.Examples.{usual_limits, facts_with, hello_start, hello_body, accept};
 ghost use Rattle.asgi_exchange.specs.Halves.{ConnKeeps};

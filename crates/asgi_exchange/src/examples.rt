@@ -1,11 +1,11 @@
 //! Worked examples: schedules, and what their worlds show, computed over the definitions. Contracts of functions with no
 //! code.
 ghost use Rattle.std.specs.Prelude.{ℕ, true, false, List, [], ◌∷◌, ◌++◌, map, codes, Some, None};
+ghost use Rattle.asgi_types.specs.declared.end_kind.EndKind.TheVariants.{Returned, Faulted, Idle};
 ghost use Rattle.asgi_types.specs.declared.facts.Framing.TheVariants.{Length, Chunked};
 ghost use Rattle.asgi_types.specs.declared.incoming.Incoming.TheVariants.{HttpDisconnect, WsConnect, WsReceive, WsDisconnect};
 ghost use Rattle.asgi_types.specs.declared.incoming.Payload.TheVariants as payload;
 ghost use Rattle.asgi_types.specs.declared.outgoing.Outgoing.TheVariants.{ResponseBody, WsSend, WsClose, DenialStart, DenialBody};
-ghost use Rattle.asgi_pipes.specs.declared.items.EndKind.TheVariants.{Returned, Faulted, Idle};
 ghost use Rattle.asgi_exchange.specs.Examples.{Shows, ShowsChunks, usual_limits, limits_of_4_bytes, limits_of_blocks, facts_with, session_facts, session_answer, answer_handshake, hello_start, hello_body, echo_start, bare_start, accept, body_broken_off, chunk_too_large, chunks_arrive, chunked_bytes, answer_cut_off, body_cut_off, fault_at_once, fault_inside, client_closes, message_echoed, server_closes, task_ends, session_refused, session_denied, denial_faulted, session_faulted};
 ghost use Rattle.asgi_exchange.specs.Http.{http};
 ghost use Rattle.asgi_exchange.specs.Schedules.{run, Arrive};
