@@ -14,7 +14,7 @@ use Rattle.asgi_types.specs.declared.scope.Kind.TheVariants.{WebSocket}
 use Rattle.asgi_protocol.specs.Shapes.{is_closed}
 use Rattle.asgi_protocol.specs.Passing.{passes}
 use Rattle.asgi_response.specs.Exchange.{refusal_text}
-use Rattle.asgi_response.specs.Response.{message_text}
+use Rattle.asgi_response.specs.Response.{message_text, event_text}
 
 -- a byte of a text, or a message of the server
 pub data Output : Type 0 where
@@ -61,6 +61,16 @@ output_of handshake facts (WsAccept subprotocol headers ∷ events) = map Byte (
 output_of handshake facts (WsClose code reason ∷ events) = map Byte (refusal_text 403)
 output_of handshake facts (DenialStart status headers ∷ events) = map Byte (denial_text facts (DenialStart status headers ∷ events))
 output_of handshake facts _ = []
+
+-- what an event adds behind these
+abbrev pub event_output : Handshake → Facts → List Outgoing → Outgoing → List Output
+event_output handshake facts [] (WsAccept subprotocol headers) = map Byte (handshake subprotocol headers)
+event_output handshake facts [] (WsClose code reason) = map Byte (refusal_text 403)
+event_output handshake facts [] event = []
+event_output handshake facts (WsAccept subprotocol headers ∷ events) event = message_of event
+event_output handshake facts (DenialStart status headers ∷ events) event =
+    map Byte (event_text (closing_facts facts) (map as_response (DenialStart status headers ∷ events)) (as_response event))
+event_output handshake facts _ event = []
 
 abbrev pub session_output : Handshake → Facts → List Outgoing → List Output
 session_output handshake facts events = output_of handshake facts (accepted_session facts events)

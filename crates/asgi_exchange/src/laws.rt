@@ -6,6 +6,7 @@ ghost use Rattle.asgi_types.specs.declared.limits.Limits.{Limits};
 ghost use Rattle.asgi_types.specs.declared.outgoing.Outgoing.{Outgoing};
 ghost use Rattle.asgi_types.specs.declared.scope.Kind.TheVariants.{Http, WebSocket};
 ghost use Rattle.asgi_protocol.specs.Lawful.{IsLawful};
+ghost use Rattle.asgi_protocol.specs.Passing.{passes};
 ghost use Rattle.asgi_request.specs.declared.next.Next.{Next};
 ghost use Rattle.asgi_request.specs.Opened.{HasOpened};
 ghost use Rattle.asgi_request.specs.Reading.{Reading, StandsFor, AllGiven};
@@ -21,7 +22,7 @@ ghost use Rattle.asgi_exchange.specs.Items.{end_of};
 ghost use Rattle.asgi_exchange.specs.Keeps.{IsExchange};
 ghost use Rattle.asgi_exchange.specs.Messages.{Message};
 ghost use Rattle.asgi_exchange.specs.Schedules.{Step, run, ConnStep, conn_run, AppStep, app_run};
-ghost use Rattle.asgi_exchange.specs.Session.{Output, Handshake};
+ghost use Rattle.asgi_exchange.specs.Session.{Output, Handshake, accepted_session, session_output, event_output};
 ghost use Rattle.asgi_exchange.specs.SessionExchange.{IsSessionExchange};
 ghost use Rattle.asgi_exchange.specs.Steps.{is_by_input, arrive, offer, break_off};
 ghost use Rattle.asgi_exchange.specs.Views.{ConnView, ByInput, empty_world, empty_conn, empty_app};
@@ -118,4 +119,19 @@ pub fn http_is_steady()
 /// So is a WebSocket exchange, whatever the text of its handshake is.
 pub fn web_socket_is_steady()
     ensures { (handshake : Handshake) (facts : Facts) (ring : ℕ) → IsSteady (web_socket handshake facts ring) }
+{}
+
+// ---- what is written of a session
+
+/// What is written of a session grows by the part of each event that is lawful in its place, and by nothing for any other.
+pub fn session_events_add_their_output()
+    ensures lawful { (handshake : Handshake) (facts : Facts) (events : List Outgoing) (event : Outgoing) → passes WebSocket facts (accepted_session facts events) event ≡ true
+        → session_output handshake facts (events ++ event ∷ []) ≡ session_output handshake facts events ++ event_output handshake facts (accepted_session facts events) event }
+    ensures other { (handshake : Handshake) (facts : Facts) (events : List Outgoing) (event : Outgoing) → passes WebSocket facts (accepted_session facts events) event ≡ false
+        → session_output handshake facts (events ++ event ∷ []) ≡ session_output handshake facts events }
+{}
+
+/// A lawful list of events of a session is accepted whole.
+pub fn lawful_sessions_are_accepted()
+    ensures { (facts : Facts) (events : List Outgoing) → IsLawful WebSocket facts events → accepted_session facts events ≡ events }
 {}
