@@ -1,4 +1,5 @@
 pub mod SessionLemmas
+pub mod DenialLemmas
 pub mod SessionExchangeLemmas
 pub mod ListLemmas
 pub mod EventLemmas

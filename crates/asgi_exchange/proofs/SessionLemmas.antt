@@ -70,7 +70,7 @@ is_one (Some (Some (code, reason))) = refl
 
 -- ---- the text
 
-map_append : {A B : Type 0} (f : A → B) (xs ys : List A) → map f (xs ++ ys) ≡ map f xs ++ map f ys
+pub map_append : {A B : Type 0} (f : A → B) (xs ys : List A) → map f (xs ++ ys) ≡ map f xs ++ map f ys
 map_append f [] ys = refl
 map_append f (x ∷ xs) ys = ap (λ w. f x ∷ w) (map_append f xs ys)
 
