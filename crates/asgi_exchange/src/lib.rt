@@ -4,6 +4,8 @@
 
 pub mod call_laws;
 pub mod calls;
+pub mod conditions;
+pub mod examples;
 pub mod laws;
 mod meeting;
 
