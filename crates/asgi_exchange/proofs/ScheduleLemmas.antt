@@ -12,7 +12,7 @@ use Rattle.asgi_pipes.specs.Items.{items_of}
 use Rattle.asgi_pipes.specs.Queues.{KeepsOrder}
 use Rattle.asgi_exchange.specs.Exchange.{Exchange, IsSteady}
 use Rattle.asgi_exchange.specs.Halves.{ConnKeeps, AppKeeps, AreJoined}
-use Rattle.asgi_exchange.specs.Items.{events_of}
+use Rattle.asgi_exchange.specs.Items.{events_of, end_of}
 use Rattle.asgi_exchange.specs.Keeps.{IsExchange}
 use Rattle.asgi_exchange.specs.Schedules.{Step, Arrive, Offer, BreakOff, Take, Write, Hear, Say, End, after, run, ConnStep, conn_run, AppStep, app_run}
 use Rattle.asgi_exchange.specs.Steps.{next_of}
@@ -41,6 +41,7 @@ module _ {A W : Type 0} (x : Exchange A W) (s : IsSteady x) where
     taken = events_prefix w.conn.got w.app.put j.outward;
     closed = closed_taken (taken_of w.conn) (said_of w.app) (events_prefix w.conn.got w.app.put j.outward) a.lawful;
     ended = λ h. ap events_of (all_taken w.conn.got w.app.put a.ordered j.outward h);
+    end_is = λ h. ap end_of (all_taken w.conn.got w.app.put a.ordered j.outward h);
     written = c.written;
   }
 
