@@ -43,6 +43,7 @@ in_words handshake facts ring w x =
       taken = x.taken;
       closed = x.closed;
       ended = x.ended;
+      end_is = x.end_is;
       written = (
         x.written.0,
         x.written.1 ∙ ap (λ text. session_output handshake facts (taken_of w.conn) ++ text)
