@@ -19,7 +19,7 @@ ghost use Rattle.asgi_exchange.specs.Http.{http};
 ghost use Rattle.asgi_exchange.specs.HttpExchange.{IsHttpExchange};
 ghost use Rattle.asgi_exchange.specs.Items.{end_of};
 ghost use Rattle.asgi_exchange.specs.Keeps.{IsExchange};
-ghost use Rattle.asgi_exchange.specs.Schedules.{Step, run, ConnStep, conn_run, AppStep, app_run};
+ghost use Rattle.asgi_exchange.specs.Schedules.{Step, run, ConnStep, conn_run, AppStep, app_run, ConnGoesOn};
 ghost use Rattle.asgi_exchange.specs.Steps.{is_by_input, arrive, offer, break_off};
 ghost use Rattle.asgi_exchange.specs.Views.{ConnView, ByInput, empty_world, empty_conn, empty_app};
 
@@ -42,7 +42,7 @@ pub fn halves_make_an_exchange()
 {}
 
 /// The same from what `meet` says. Of the application's half no step is needed: what it heard and said, its end keeps by
-/// itself; of the connection's half is needed what each run of its steps keeps.
+/// itself; of the connection's half is needed what each run of its steps keeps, from the start and from where it is.
 pub fn met_halves_make_an_exchange()
     ensures met { (limits : Limits) (facts : Facts) (conn : ConnView ℕ ℕ) (said : List Outgoing) (ended : Option EndKind)
         (pulled heard : List Incoming) (ring left_in left_out : ℕ)
@@ -51,6 +51,8 @@ pub fn met_halves_make_an_exchange()
         → Hears Http said pulled heard → IsLawful Http facts said
         → IsHttpExchange limits facts (record { conn = conn; app = record { pulled = pulled; heard = heard; put = items_of said ended } }) }
     ensures runs { (limits : Limits) (facts : Facts) (steps : List (ConnStep ℕ)) → ConnKeeps (http limits facts) (conn_run (http limits facts) steps empty_conn) }
+    ensures goes_on { (limits : Limits) (facts : Facts) (old new : ConnView ℕ ℕ)
+        → ConnKeeps (http limits facts) old → ConnGoesOn (http limits facts) old new → ConnKeeps (http limits facts) new }
 {}
 
 /// What is fed to a reader arrives. The event that it gives behind those offered is the next that is due; where it needs more,
@@ -94,6 +96,7 @@ pub fn schedules_of_steady_exchanges<A, W>()
         → Hears x.kind said pulled heard → IsLawful x.kind x.facts said
         → IsExchange x (record { conn = conn; app = record { pulled = pulled; heard = heard; put = items_of said ended } }) }
     ensures runs { (x : Exchange A W) → IsSteady x → (steps : List (ConnStep A)) → ConnKeeps x (conn_run x steps empty_conn) }
+    ensures goes_on { (x : Exchange A W) → IsSteady x → (old new : ConnView A W) → ConnKeeps x old → ConnGoesOn x old new → ConnKeeps x new }
 {}
 
 /// An HTTP exchange is steady, whatever its limits and facts.
