@@ -9,3 +9,5 @@ pub mod HttpLemmas
 pub mod HttpExchangeLemmas
 pub mod ResultLemmas
 pub mod MeetLemmas
+pub mod CallLemmas
+pub mod GoesOnLemmas

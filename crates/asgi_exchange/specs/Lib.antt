@@ -8,3 +8,4 @@ pub mod Keeps
 pub mod Halves
 pub mod Http
 pub mod HttpExchange
+pub mod Calls

@@ -35,9 +35,9 @@ pub fn every_schedule()
 /// Any run of the connection's half and any run of the application's half, whatever their queues answered in each step, make
 /// an exchange where both queues keep their order.
 pub fn halves_make_an_exchange()
-    ensures http { (limits : Limits) (facts : Facts) (conn_steps : List (ConnStep ℕ)) (app_steps : List AppStep) (ring left_in left_out : ℕ)
+    ensures http { (limits : Limits) (facts : Facts) (conn_steps : List (ConnStep ℕ)) (app_steps : List AppStep) (places_in places_out left_in left_out : ℕ)
         → (let conn = conn_run (http limits facts) conn_steps empty_conn in let app = app_run (http limits facts) app_steps empty_app in
-        KeepsOrder ring conn.offered app.pulled left_in → KeepsOrder ring app.put conn.got left_out
+        KeepsOrder places_in conn.offered app.pulled left_in → KeepsOrder places_out app.put conn.got left_out
         → IsHttpExchange limits facts (record { conn = conn; app = app })) }
 {}
 
@@ -45,9 +45,9 @@ pub fn halves_make_an_exchange()
 /// itself; of the connection's half is needed what each run of its steps keeps, from the start and from where it is.
 pub fn met_halves_make_an_exchange()
     ensures met { (limits : Limits) (facts : Facts) (conn : ConnView ℕ ℕ) (said : List Outgoing) (ended : Option EndKind)
-        (pulled heard : List Incoming) (ring left_in left_out : ℕ)
+        (pulled heard : List Incoming) (places_in places_out left_in left_out : ℕ)
         → ConnKeeps (http limits facts) conn
-        → KeepsOrder ring conn.offered pulled left_in → KeepsOrder ring (items_of said ended) conn.got left_out
+        → KeepsOrder places_in conn.offered pulled left_in → KeepsOrder places_out (items_of said ended) conn.got left_out
         → Hears Http said pulled heard → IsLawful Http facts said
         → IsHttpExchange limits facts (record { conn = conn; app = record { pulled = pulled; heard = heard; put = items_of said ended } }) }
     ensures runs { (limits : Limits) (facts : Facts) (steps : List (ConnStep ℕ)) → ConnKeeps (http limits facts) (conn_run (http limits facts) steps empty_conn) }
@@ -85,14 +85,14 @@ pub fn results_are_steps()
 /// both queues keep their order; and so is what the connection kept, with what `meet` says of the application.
 pub fn schedules_of_steady_exchanges<A, W>()
     ensures schedules { (x : Exchange A W) → IsSteady x → (steps : List (Step A)) → IsExchange x (run x steps empty_world) }
-    ensures halves { (x : Exchange A W) → IsSteady x → (conn_steps : List (ConnStep A)) (app_steps : List AppStep) (ring left_in left_out : ℕ)
+    ensures halves { (x : Exchange A W) → IsSteady x → (conn_steps : List (ConnStep A)) (app_steps : List AppStep) (places_in places_out left_in left_out : ℕ)
         → (let conn = conn_run x conn_steps empty_conn in let app = app_run x app_steps empty_app in
-        KeepsOrder ring conn.offered app.pulled left_in → KeepsOrder ring app.put conn.got left_out
+        KeepsOrder places_in conn.offered app.pulled left_in → KeepsOrder places_out app.put conn.got left_out
         → IsExchange x (record { conn = conn; app = app })) }
     ensures met { (x : Exchange A W) → IsSteady x → (conn : ConnView A W) (said : List Outgoing) (ended : Option EndKind)
-        (pulled heard : List Incoming) (ring left_in left_out : ℕ)
+        (pulled heard : List Incoming) (places_in places_out left_in left_out : ℕ)
         → ConnKeeps x conn
-        → KeepsOrder ring conn.offered pulled left_in → KeepsOrder ring (items_of said ended) conn.got left_out
+        → KeepsOrder places_in conn.offered pulled left_in → KeepsOrder places_out (items_of said ended) conn.got left_out
         → Hears x.kind said pulled heard → IsLawful x.kind x.facts said
         → IsExchange x (record { conn = conn; app = record { pulled = pulled; heard = heard; put = items_of said ended } }) }
     ensures runs { (x : Exchange A W) → IsSteady x → (steps : List (ConnStep A)) → ConnKeeps x (conn_run x steps empty_conn) }

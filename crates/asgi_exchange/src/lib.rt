@@ -2,6 +2,8 @@
 //! Definitions and laws, and hardly any code.
 #![tactic(auto)]
 
+pub mod call_laws;
+pub mod calls;
 pub mod laws;
 mod meeting;
 
@@ -9,3 +11,5 @@ pub use meeting::join;
 
 #[cfg(test)]
 mod tests;
+#[cfg(test)]
+mod tests_calls;

@@ -6,5 +6,5 @@ use Rattle.asgi_exchange.proofs.MeetLemmas.{ends_make}
 pub returns-clause-http : goal.returns-clause-http
 returns-clause-http g c limits view is kept offered got =
     in_words limits _ _ (
-    ends_make _ (http_is_steady limits _) (λ m. m.left_in) (λ m. m.left_out) c.meet.result _ view _ _ _ _ _ _ _
+    ends_make _ (http_is_steady limits _) (λ m. m.left_in) (λ m. m.left_out) c.meet.result _ view _ _ _ _ _ _ _ _
     c.meet.ensures.met c.meet.ensures.inward c.meet.ensures.outward c.meet.ensures.heard c.meet.ensures.lawful is kept offered got)
