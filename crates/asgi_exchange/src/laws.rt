@@ -23,7 +23,7 @@ ghost use Rattle.asgi_exchange.specs.HttpExchange.{IsHttpExchange};
 ghost use Rattle.asgi_exchange.specs.Items.{end_of};
 ghost use Rattle.asgi_exchange.specs.Keeps.{IsExchange};
 ghost use Rattle.asgi_exchange.specs.Messages.{Message};
-ghost use Rattle.asgi_exchange.specs.Schedules.{Step, run, ConnStep, conn_run, AppStep, app_run};
+ghost use Rattle.asgi_exchange.specs.Schedules.{Step, run, ConnStep, conn_run, AppStep, app_run, ConnGoesOn};
 ghost use Rattle.asgi_exchange.specs.Session.{Output, Handshake, accepted_session, closing_facts, as_response, denial_text, session_output, event_output};
 ghost use Rattle.asgi_exchange.specs.SessionExchange.{IsSessionExchange};
 ghost use Rattle.asgi_exchange.specs.Steps.{is_by_input, arrive, offer, break_off};
@@ -55,7 +55,7 @@ pub fn halves_make_an_exchange()
 {}
 
 /// The same from what `meet` says. Of the application's half no step is needed: what it heard and said, its end keeps by
-/// itself; of the connection's half is needed what each run of its steps keeps.
+/// itself; of the connection's half is needed what each run of its steps keeps, from the start and from where it is.
 pub fn met_halves_make_an_exchange()
     ensures met { (limits : Limits) (facts : Facts) (conn : ConnView ℕ ℕ) (said : List Outgoing) (ended : Option EndKind)
         (pulled heard : List Incoming) (places_in places_out left_in left_out : ℕ)
@@ -64,6 +64,8 @@ pub fn met_halves_make_an_exchange()
         → Hears Http said pulled heard → IsLawful Http facts said
         → IsHttpExchange limits facts (record { conn = conn; app = record { pulled = pulled; heard = heard; put = items_of said ended } }) }
     ensures runs { (limits : Limits) (facts : Facts) (steps : List (ConnStep ℕ)) → ConnKeeps (http limits facts) (conn_run (http limits facts) steps empty_conn) }
+    ensures goes_on { (limits : Limits) (facts : Facts) (old new : ConnView ℕ ℕ)
+        → ConnKeeps (http limits facts) old → ConnGoesOn (http limits facts) old new → ConnKeeps (http limits facts) new }
     ensures web_socket_met { (handshake : Handshake) (facts : Facts) (ring : ℕ) (conn : ConnView Message Output) (said : List Outgoing) (ended : Option EndKind)
         (pulled heard : List Incoming) (places_in places_out left_in left_out : ℕ)
         → ConnKeeps (web_socket handshake facts ring) conn
@@ -72,6 +74,8 @@ pub fn met_halves_make_an_exchange()
         → IsSessionExchange handshake facts (record { conn = conn; app = record { pulled = pulled; heard = heard; put = items_of said ended } }) }
     ensures web_socket_runs { (handshake : Handshake) (facts : Facts) (ring : ℕ) (steps : List (ConnStep Message))
         → ConnKeeps (web_socket handshake facts ring) (conn_run (web_socket handshake facts ring) steps empty_conn) }
+    ensures web_socket_goes_on { (handshake : Handshake) (facts : Facts) (ring : ℕ) (old new : ConnView Message Output)
+        → ConnKeeps (web_socket handshake facts ring) old → ConnGoesOn (web_socket handshake facts ring) old new → ConnKeeps (web_socket handshake facts ring) new }
 {}
 
 /// What is fed to a reader arrives. The event that it gives behind those offered is the next that is due; where it needs more,
@@ -115,6 +119,7 @@ pub fn schedules_of_steady_exchanges<A, W>()
         → Hears x.kind said pulled heard → IsLawful x.kind x.facts said
         → IsExchange x (record { conn = conn; app = record { pulled = pulled; heard = heard; put = items_of said ended } }) }
     ensures runs { (x : Exchange A W) → IsSteady x → (steps : List (ConnStep A)) → ConnKeeps x (conn_run x steps empty_conn) }
+    ensures goes_on { (x : Exchange A W) → IsSteady x → (old new : ConnView A W) → ConnKeeps x old → ConnGoesOn x old new → ConnKeeps x new }
 {}
 
 /// An HTTP exchange is steady, whatever its limits and facts.
