@@ -13,3 +13,5 @@ pub mod HttpExchangeLemmas
 pub mod ResultLemmas
 pub mod LeftOutLemmas
 pub mod MeetLemmas
+pub mod CallLemmas
+pub mod GoesOnLemmas

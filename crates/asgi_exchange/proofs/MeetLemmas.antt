@@ -17,14 +17,14 @@ use Rattle.asgi_exchange.specs.Views.{ConnView}
 use Rattle.asgi_exchange.proofs.ScheduleLemmas.{met_makes}
 
 module _ {A W M : Type 0} (x : Exchange A W) (s : IsSteady x) (left_in left_out : M → ℕ) where
-  pub ends_make : (r : Option M) (kind : Kind) (view : ConnView A W) (said : List Outgoing) (ended : Option EndKind) (offered pulled heard : List Incoming) (got : List OutItem) (ring : ℕ)
-      → IsSome r → IfSome r (λ m. KeepsOrder ring offered pulled (left_in m)) → IfSome r (λ m. KeepsOrder ring (items_of said ended) got (left_out m))
+  pub ends_make : (r : Option M) (kind : Kind) (view : ConnView A W) (said : List Outgoing) (ended : Option EndKind) (offered pulled heard : List Incoming) (got : List OutItem) (places_in places_out : ℕ)
+      → IsSome r → IfSome r (λ m. KeepsOrder places_in offered pulled (left_in m)) → IfSome r (λ m. KeepsOrder places_out (items_of said ended) got (left_out m))
       → Hears kind said pulled heard → IsLawful kind x.facts said → kind ≡ x.kind
       → ConnKeeps x view → view.offered ≡ offered → view.got ≡ got
       → IsExchange x (record { conn = view; app = record { pulled = pulled; heard = heard; put = items_of said ended } })
-  ends_make None kind view said ended offered pulled heard got ring some_ inward outward h lawful is kept o g = cc
-  ends_make (Some m) kind view said ended offered pulled heard got ring some_ inward outward h lawful is kept o g =
-      met_makes x s view said ended pulled heard ring (left_in m) (left_out m) kept
-      (subst (λ (l : List Incoming). KeepsOrder ring l pulled (left_in m)) (sym o) inward)
-      (subst (λ (l : List OutItem). KeepsOrder ring (items_of said ended) l (left_out m)) (sym g) outward)
+  ends_make None kind view said ended offered pulled heard got places_in places_out some_ inward outward h lawful is kept o g = cc
+  ends_make (Some m) kind view said ended offered pulled heard got places_in places_out some_ inward outward h lawful is kept o g =
+      met_makes x s view said ended pulled heard places_in places_out (left_in m) (left_out m) kept
+      (subst (λ (l : List Incoming). KeepsOrder places_in l pulled (left_in m)) (sym o) inward)
+      (subst (λ (l : List OutItem). KeepsOrder places_out (items_of said ended) l (left_out m)) (sym g) outward)
       (subst (λ (k : Kind). Hears k said pulled heard) is h) (subst (λ (k : Kind). IsLawful k x.facts said) is lawful)

@@ -23,8 +23,8 @@ use Rattle.asgi_exchange.proofs.EventLemmas.{events_prefix, all_taken, events_ar
 use Rattle.asgi_exchange.proofs.HeardLemmas.{heard_is_due}
 use Rattle.asgi_exchange.proofs.QueueLemmas.{arrive_joined, offer_joined, break_joined, take_joined, write_joined, hear_joined, say_joined, finish_joined}
 
-front_of : {B : Type 0} (ring : ℕ) (put got : List B) (count : ℕ) → KeepsOrder ring put got count → IsPrefix got put
-front_of ring put got count k = (k.0, sym k.1)
+front_of : {B : Type 0} (places : ℕ) (put got : List B) (count : ℕ) → KeepsOrder places put got count → IsPrefix got put
+front_of places put got count k = (k.0, sym k.1)
 
 module _ {A W : Type 0} (x : Exchange A W) (s : IsSteady x) where
   -- once a closing event was taken, all that was said was taken
@@ -45,23 +45,23 @@ module _ {A W : Type 0} (x : Exchange A W) (s : IsSteady x) where
   }
 
   -- any run of each half alone, with queues between them that keep their order
-  pub both_runs_make : (conn_steps : List (ConnStep A)) (app_steps : List AppStep) (ring left_in left_out : ℕ)
-      → KeepsOrder ring (conn_run x conn_steps empty_conn).offered (app_run x app_steps empty_app).pulled left_in
-      → KeepsOrder ring (app_run x app_steps empty_app).put (conn_run x conn_steps empty_conn).got left_out
+  pub both_runs_make : (conn_steps : List (ConnStep A)) (app_steps : List AppStep) (places_in places_out left_in left_out : ℕ)
+      → KeepsOrder places_in (conn_run x conn_steps empty_conn).offered (app_run x app_steps empty_app).pulled left_in
+      → KeepsOrder places_out (app_run x app_steps empty_app).put (conn_run x conn_steps empty_conn).got left_out
       → IsExchange x (record { conn = conn_run x conn_steps empty_conn; app = app_run x app_steps empty_app })
-  both_runs_make conn_steps app_steps ring left_in left_out inward outward =
+  both_runs_make conn_steps app_steps places_in places_out left_in left_out inward outward =
       let conn : ConnView A W = conn_run x conn_steps empty_conn in
       let app : AppView = app_run x app_steps empty_app in
       both_make (record { conn = conn; app = app }) (conn_run_keeps x s conn_steps empty_conn (empty_conn_keeps x s))
       (app_run_keeps x app_steps empty_app (empty_app_keeps x))
-      (record { inward = front_of ring conn.offered app.pulled left_in inward; outward = front_of ring app.put conn.got left_out outward })
+      (record { inward = front_of places_in conn.offered app.pulled left_in inward; outward = front_of places_out app.put conn.got left_out outward })
 
   -- what the ends of a pair say where they meet is all that is needed of the application's half
-  pub met_makes : (conn : ConnView A W) (said : List Outgoing) (ended : Option EndKind) (pulled heard : List Incoming) (ring left_in left_out : ℕ)
-      → ConnKeeps x conn → KeepsOrder ring conn.offered pulled left_in → KeepsOrder ring (items_of said ended) conn.got left_out
+  pub met_makes : (conn : ConnView A W) (said : List Outgoing) (ended : Option EndKind) (pulled heard : List Incoming) (places_in places_out left_in left_out : ℕ)
+      → ConnKeeps x conn → KeepsOrder places_in conn.offered pulled left_in → KeepsOrder places_out (items_of said ended) conn.got left_out
       → Hears x.kind said pulled heard → IsLawful x.kind x.facts said
       → IsExchange x (record { conn = conn; app = record { pulled = pulled; heard = heard; put = items_of said ended } })
-  met_makes conn said ended pulled heard ring left_in left_out kept inward outward h lawful =
+  met_makes conn said ended pulled heard places_in places_out left_in left_out kept inward outward h lawful =
       let app : AppView = record { pulled = pulled; heard = heard; put = items_of said ended } in
       let same : said ≡ events_of (items_of said ended) = sym (events_are said ended) in
       both_make (record { conn = conn; app = app }) kept
@@ -70,7 +70,7 @@ module _ {A W : Type 0} (x : Exchange A W) (s : IsSteady x) where
         lawful = subst (λ (l : List Outgoing). IsLawful x.kind x.facts l) same lawful;
         ordered = items_in_order said ended;
       })
-      (record { inward = front_of ring conn.offered pulled left_in inward; outward = front_of ring app.put conn.got left_out outward })
+      (record { inward = front_of places_in conn.offered pulled left_in inward; outward = front_of places_out app.put conn.got left_out outward })
 
   pub run_keeps : (steps : List (ConnStep A)) → ConnKeeps x (conn_run x steps empty_conn)
   run_keeps steps = conn_run_keeps x s steps empty_conn (empty_conn_keeps x s)

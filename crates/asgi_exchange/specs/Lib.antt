@@ -14,3 +14,4 @@ pub mod Http
 pub mod HttpExchange
 pub mod Examples
 pub mod LeftOut
+pub mod Calls

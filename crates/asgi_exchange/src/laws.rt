@@ -32,9 +32,9 @@ ghost use Rattle.asgi_exchange.specs.WebSocket.{web_socket};
 
 // ---- one exchange
 
-/// However the bytes of a request or the messages of a session arrive, and however the turns of the connection and the application fall: what was heard
-/// is a beginning of what was due, and then only disconnects with their cause; what was said is lawful; what was taken is a
-/// beginning of it; and what was written is a beginning of the text of what was taken.
+/// However the bytes of a request or the messages of a session arrive, and however the turns of the connection and the
+/// application fall: what was heard is a beginning of what was due, and then only disconnects with their cause; what was said
+/// is lawful; what was taken is a beginning of it; and what was written is a beginning of the text of what was taken.
 pub fn every_schedule()
     ensures http { (limits : Limits) (facts : Facts) (steps : List (Step ℕ)) → IsHttpExchange limits facts (run (http limits facts) steps empty_world) }
     ensures web_socket { (handshake : Handshake) (facts : Facts) (ring : ℕ) (steps : List (Step Message))
@@ -44,13 +44,13 @@ pub fn every_schedule()
 /// Any run of the connection's half and any run of the application's half, whatever their queues answered in each step, make
 /// an exchange where both queues keep their order.
 pub fn halves_make_an_exchange()
-    ensures http { (limits : Limits) (facts : Facts) (conn_steps : List (ConnStep ℕ)) (app_steps : List AppStep) (ring left_in left_out : ℕ)
+    ensures http { (limits : Limits) (facts : Facts) (conn_steps : List (ConnStep ℕ)) (app_steps : List AppStep) (places_in places_out left_in left_out : ℕ)
         → (let conn = conn_run (http limits facts) conn_steps empty_conn in let app = app_run (http limits facts) app_steps empty_app in
-        KeepsOrder ring conn.offered app.pulled left_in → KeepsOrder ring app.put conn.got left_out
+        KeepsOrder places_in conn.offered app.pulled left_in → KeepsOrder places_out app.put conn.got left_out
         → IsHttpExchange limits facts (record { conn = conn; app = app })) }
-    ensures web_socket { (handshake : Handshake) (facts : Facts) (places : ℕ) (conn_steps : List (ConnStep Message)) (app_steps : List AppStep) (ring left_in left_out : ℕ)
-        → (let conn = conn_run (web_socket handshake facts places) conn_steps empty_conn in let app = app_run (web_socket handshake facts places) app_steps empty_app in
-        KeepsOrder ring conn.offered app.pulled left_in → KeepsOrder ring app.put conn.got left_out
+    ensures web_socket { (handshake : Handshake) (facts : Facts) (ring : ℕ) (conn_steps : List (ConnStep Message)) (app_steps : List AppStep) (places_in places_out left_in left_out : ℕ)
+        → (let conn = conn_run (web_socket handshake facts ring) conn_steps empty_conn in let app = app_run (web_socket handshake facts ring) app_steps empty_app in
+        KeepsOrder places_in conn.offered app.pulled left_in → KeepsOrder places_out app.put conn.got left_out
         → IsSessionExchange handshake facts (record { conn = conn; app = app })) }
 {}
 
@@ -58,24 +58,24 @@ pub fn halves_make_an_exchange()
 /// itself; of the connection's half is needed what each run of its steps keeps.
 pub fn met_halves_make_an_exchange()
     ensures met { (limits : Limits) (facts : Facts) (conn : ConnView ℕ ℕ) (said : List Outgoing) (ended : Option EndKind)
-        (pulled heard : List Incoming) (ring left_in left_out : ℕ)
+        (pulled heard : List Incoming) (places_in places_out left_in left_out : ℕ)
         → ConnKeeps (http limits facts) conn
-        → KeepsOrder ring conn.offered pulled left_in → KeepsOrder ring (items_of said ended) conn.got left_out
+        → KeepsOrder places_in conn.offered pulled left_in → KeepsOrder places_out (items_of said ended) conn.got left_out
         → Hears Http said pulled heard → IsLawful Http facts said
         → IsHttpExchange limits facts (record { conn = conn; app = record { pulled = pulled; heard = heard; put = items_of said ended } }) }
     ensures runs { (limits : Limits) (facts : Facts) (steps : List (ConnStep ℕ)) → ConnKeeps (http limits facts) (conn_run (http limits facts) steps empty_conn) }
-    ensures web_socket_met { (handshake : Handshake) (facts : Facts) (places : ℕ) (conn : ConnView Message Output) (said : List Outgoing) (ended : Option EndKind)
-        (pulled heard : List Incoming) (ring left_in left_out : ℕ)
-        → ConnKeeps (web_socket handshake facts places) conn
-        → KeepsOrder ring conn.offered pulled left_in → KeepsOrder ring (items_of said ended) conn.got left_out
+    ensures web_socket_met { (handshake : Handshake) (facts : Facts) (ring : ℕ) (conn : ConnView Message Output) (said : List Outgoing) (ended : Option EndKind)
+        (pulled heard : List Incoming) (places_in places_out left_in left_out : ℕ)
+        → ConnKeeps (web_socket handshake facts ring) conn
+        → KeepsOrder places_in conn.offered pulled left_in → KeepsOrder places_out (items_of said ended) conn.got left_out
         → Hears WebSocket said pulled heard → IsLawful WebSocket facts said
         → IsSessionExchange handshake facts (record { conn = conn; app = record { pulled = pulled; heard = heard; put = items_of said ended } }) }
-    ensures web_socket_runs { (handshake : Handshake) (facts : Facts) (places : ℕ) (steps : List (ConnStep Message))
-        → ConnKeeps (web_socket handshake facts places) (conn_run (web_socket handshake facts places) steps empty_conn) }
+    ensures web_socket_runs { (handshake : Handshake) (facts : Facts) (ring : ℕ) (steps : List (ConnStep Message))
+        → ConnKeeps (web_socket handshake facts ring) (conn_run (web_socket handshake facts ring) steps empty_conn) }
 {}
 
-/// What is fed to a reader arrives. The event that it gives behind those offered is the next that is due; where it needs more
-/// or has refused, nothing more is due, so the input may break.
+/// What is fed to a reader arrives. The event that it gives behind those offered is the next that is due; where it needs more,
+/// has given the request whole or has refused it, nothing more is due, so the input may break.
 pub fn results_are_steps()
     ensures arrives { (limits : Limits) (bytes piece : List ℕ) (opened : List Next) (facts : Facts) (conn : ConnView ℕ ℕ)
         → HasOpened limits bytes opened facts.framing conn.arrived → is_by_input conn.broken ≡ false
@@ -86,6 +86,10 @@ pub fn results_are_steps()
         → conn.broken ≡ None → offer (http reader.limits facts) conn true ≡ record conn { offered = conn.offered ++ event ∷ [] } }
     ensures breaks { (reader : Reading) (bytes : List ℕ) (opened : List Next) (facts : Facts) (conn : ConnView ℕ ℕ)
         → HasOpened reader.limits bytes opened facts.framing conn.arrived → AllGiven reader bytes (opened ++ map Next.Event conn.offered)
+        → conn.broken ≡ None → end_of conn.got ≡ None
+        → break_off (http reader.limits facts) conn ByInput ≡ record conn { offered = conn.offered ++ Incoming.HttpDisconnect ∷ []; broken = Some ByInput } }
+    ensures whole { (reader : Reading) (bytes : List ℕ) (opened : List Next) (facts : Facts) (conn : ConnView ℕ ℕ)
+        → HasOpened reader.limits bytes opened facts.framing conn.arrived → StandsFor reader bytes (opened ++ (map Next.Event conn.offered ++ Next.Whole ∷ []))
         → conn.broken ≡ None → end_of conn.got ≡ None
         → break_off (http reader.limits facts) conn ByInput ≡ record conn { offered = conn.offered ++ Incoming.HttpDisconnect ∷ []; broken = Some ByInput } }
     ensures refused { (reader : Reading) (bytes : List ℕ) (opened : List Next) (facts : Facts) (conn : ConnView ℕ ℕ) (status : ℕ)
@@ -100,14 +104,14 @@ pub fn results_are_steps()
 /// both queues keep their order; and so is what the connection kept, with what `meet` says of the application.
 pub fn schedules_of_steady_exchanges<A, W>()
     ensures schedules { (x : Exchange A W) → IsSteady x → (steps : List (Step A)) → IsExchange x (run x steps empty_world) }
-    ensures halves { (x : Exchange A W) → IsSteady x → (conn_steps : List (ConnStep A)) (app_steps : List AppStep) (ring left_in left_out : ℕ)
+    ensures halves { (x : Exchange A W) → IsSteady x → (conn_steps : List (ConnStep A)) (app_steps : List AppStep) (places_in places_out left_in left_out : ℕ)
         → (let conn = conn_run x conn_steps empty_conn in let app = app_run x app_steps empty_app in
-        KeepsOrder ring conn.offered app.pulled left_in → KeepsOrder ring app.put conn.got left_out
+        KeepsOrder places_in conn.offered app.pulled left_in → KeepsOrder places_out app.put conn.got left_out
         → IsExchange x (record { conn = conn; app = app })) }
     ensures met { (x : Exchange A W) → IsSteady x → (conn : ConnView A W) (said : List Outgoing) (ended : Option EndKind)
-        (pulled heard : List Incoming) (ring left_in left_out : ℕ)
+        (pulled heard : List Incoming) (places_in places_out left_in left_out : ℕ)
         → ConnKeeps x conn
-        → KeepsOrder ring conn.offered pulled left_in → KeepsOrder ring (items_of said ended) conn.got left_out
+        → KeepsOrder places_in conn.offered pulled left_in → KeepsOrder places_out (items_of said ended) conn.got left_out
         → Hears x.kind said pulled heard → IsLawful x.kind x.facts said
         → IsExchange x (record { conn = conn; app = record { pulled = pulled; heard = heard; put = items_of said ended } }) }
     ensures runs { (x : Exchange A W) → IsSteady x → (steps : List (ConnStep A)) → ConnKeeps x (conn_run x steps empty_conn) }

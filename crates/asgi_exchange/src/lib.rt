@@ -2,6 +2,8 @@
 //! Definitions and laws, and hardly any code.
 #![tactic(auto)]
 
+pub mod call_laws;
+pub mod calls;
 pub mod conditions;
 pub mod examples;
 pub mod laws;
@@ -11,3 +13,5 @@ pub use meeting::join;
 
 #[cfg(test)]
 mod tests;
+#[cfg(test)]
+mod tests_calls;

@@ -1,9 +1,9 @@
 //! The two halves of an exchange meet.
-ghost use Rattle.std.specs.Prelude.{◌≡◌, ℕ, IfSome, IsSome};
+ghost use Rattle.std.specs.Prelude.{◌≡◌, ℕ, is_some, IfSome, IsSome};
 ghost use Rattle.asgi_types.specs.declared.limits.Limits.{Limits};
 ghost use Rattle.asgi_types.specs.declared.scope.Kind.TheVariants.{Http, WebSocket};
 ghost use Rattle.asgi_pipes.specs.Items.{items_of};
-ghost use Rattle.asgi_pipes.specs.Queues.{KeepsOrder};
+ghost use Rattle.asgi_pipes.specs.Queues.{KeepsOrder, open_places};
 ghost use Rattle.asgi_exchange.specs.Halves.{ConnKeeps};
 ghost use Rattle.asgi_exchange.specs.Http.{http};
 ghost use Rattle.asgi_exchange.specs.HttpExchange.{IsHttpExchange};
@@ -20,13 +20,13 @@ use asgi_pipes::{Met, Pipes};
 pub fn join<P: Pipes>(conn: P::Conn, app: P::App) -> Option<Met>
     requires { P.is_pair conn app }
     ensures met { IsSome result }
-    ensures inward { IfSome result (λ met. KeepsOrder (P.Conn.ring conn) (P.Conn.offered conn) (P.App.pulled app) met.left_in) }
-    ensures outward { IfSome result (λ met. KeepsOrder (P.Conn.ring conn) (items_of (P.App.said app) (P.App.ended app)) (P.Conn.got conn) met.left_out) }
+    ensures inward { IfSome result (λ met. KeepsOrder (open_places (P.Conn.ring conn) (P.Conn.is_broken conn)) (P.Conn.offered conn) (P.App.pulled app) met.left_in) }
+    ensures outward { IfSome result (λ met. KeepsOrder (open_places (P.Conn.ring conn) (is_some (P.App.ended app))) (items_of (P.App.said app) (P.App.ended app)) (P.Conn.got conn) met.left_out) }
     ensures http { (limits : Limits) (view : ConnView ℕ ℕ) → P.App.kind app ≡ Http
         → ConnKeeps (http limits (P.App.facts app)) view → view.offered ≡ P.Conn.offered conn → view.got ≡ P.Conn.got conn
         → IsHttpExchange limits (P.App.facts app) (record { conn = view; app = record { pulled = P.App.pulled app; heard = P.App.heard app; put = items_of (P.App.said app) (P.App.ended app) } }) }
-    ensures web_socket { (handshake : Handshake) (places : ℕ) (view : ConnView Message Output) → P.App.kind app ≡ WebSocket
-        → ConnKeeps (web_socket handshake (P.App.facts app) places) view → view.offered ≡ P.Conn.offered conn → view.got ≡ P.Conn.got conn
+    ensures web_socket { (handshake : Handshake) (ring : ℕ) (view : ConnView Message Output) → P.App.kind app ≡ WebSocket
+        → ConnKeeps (web_socket handshake (P.App.facts app) ring) view → view.offered ≡ P.Conn.offered conn → view.got ≡ P.Conn.got conn
         → IsSessionExchange handshake (P.App.facts app) (record { conn = view; app = record { pulled = P.App.pulled app; heard = P.App.heard app; put = items_of (P.App.said app) (P.App.ended app) } }) }
 {
     P::meet(conn, app)

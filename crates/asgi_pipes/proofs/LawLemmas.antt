@@ -23,9 +23,9 @@ InOrder offered heard =
     × (offered ≡ events ++ unheard) × (heard ≡ events ++ replicate times disconnect)
     × (disconnect_in disconnect ≡ Some disconnect)
 
-in_order_until : (kind : Kind) (said : List Outgoing) (ring count : ℕ) (offered pulled heard : List Incoming)
-    → KeepsOrder ring offered pulled count → HearsUntil kind said pulled heard → InOrder offered heard
-in_order_until kind said ring count offered pulled heard order h = elim h.cause [
+in_order_until : (kind : Kind) (said : List Outgoing) (places count : ℕ) (offered pulled heard : List Incoming)
+    → KeepsOrder places offered pulled count → HearsUntil kind said pulled heard → InOrder offered heard
+in_order_until kind said places count offered pulled heard order h = elim h.cause [
   | inl none ↦ (
     h.events,
     order.0,
@@ -56,9 +56,9 @@ in_order_until kind said ring count offered pulled heard order h = elim h.cause 
 ]
 
 pub in_order : HeardIsOfferedInOrder
-in_order Http said ring count offered pulled heard order h = in_order_until Http said ring count offered pulled heard order h
-in_order WebSocket said ring count offered pulled heard order h = in_order_until WebSocket said ring count offered pulled heard order h
-in_order Lifespan said ring count offered pulled heard order h =
+in_order Http said places count offered pulled heard order h = in_order_until Http said places count offered pulled heard order h
+in_order WebSocket said places count offered pulled heard order h = in_order_until WebSocket said places count offered pulled heard order h
+in_order Lifespan said places count offered pulled heard order h =
     (pulled, order.0, 0, HttpDisconnect, order.1, h ∙ sym (append-nil pulled), refl)
 
 pub closed_hears : ClosedScopeHearsItsDisconnect

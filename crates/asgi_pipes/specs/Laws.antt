@@ -1,5 +1,5 @@
 -- Laws of what is heard, over every list.
-use Rattle.std.specs.Prelude.{◌≡◌, ◌≢◌, ℕ, ◌-◌, true, List, ◌∷◌, ◌++◌, Some, replicate}
+use Rattle.std.specs.Prelude.{◌≡◌, ◌≢◌, ℕ, ◌-◌, true, List, ◌∷◌, ◌++◌, Some, is_some, replicate}
 use Rattle.asgi_types.specs.declared.scope.Kind.{Kind}
 use Rattle.asgi_types.specs.declared.scope.Kind.TheVariants.{Lifespan}
 use Rattle.asgi_types.specs.declared.incoming.Incoming.{Incoming}
@@ -11,12 +11,12 @@ use Rattle.asgi_pipes.specs.declared.plain_app.PlainApp.{PlainApp}
 use Rattle.asgi_pipes.specs.Boxes.{put_by}
 use Rattle.asgi_pipes.specs.Items.{items_of}
 use Rattle.asgi_pipes.specs.PlainPairs.{IsPlainPair}
-use Rattle.asgi_pipes.specs.Queues.{KeepsOrder}
+use Rattle.asgi_pipes.specs.Queues.{KeepsOrder, open_places}
 
 -- what is heard is a beginning of what was offered, and then equal disconnects
 abbrev pub HeardIsOfferedInOrder : Type 0
-HeardIsOfferedInOrder = (kind : Kind) (said : List Outgoing) (ring count : ℕ) (offered pulled heard : List Incoming)
-    → KeepsOrder ring offered pulled count → Hears kind said pulled heard
+HeardIsOfferedInOrder = (kind : Kind) (said : List Outgoing) (places count : ℕ) (offered pulled heard : List Incoming)
+    → KeepsOrder places offered pulled count → Hears kind said pulled heard
     → (events : List Incoming) × (unheard : List Incoming) × (times : ℕ) × (disconnect : Incoming)
     × (offered ≡ events ++ unheard) × (heard ≡ events ++ replicate times disconnect)
     × (disconnect_in disconnect ≡ Some disconnect)
@@ -43,8 +43,8 @@ abbrev pub HeardHasOneReading : Type 0
 HeardHasOneReading = (kind : Kind) (said : List Outgoing) (pulled heard : List Incoming)
     → ∥ Hears kind said pulled heard ∥₁ → Hears kind said pulled heard
 
--- the ends of a plain pair keep both orders at any moment
+-- the ends of a plain pair keep both orders at any moment: the reserved place has nothing but the disconnect or the end
 abbrev pub PlainPairsKeepOrder : Type 0
 PlainPairsKeepOrder = (conn : PlainConn) (app : PlainApp) → IsPlainPair conn app
-    → ((left_in : ℕ) × KeepsOrder (conn.out.places - 1) (put_by conn.out) app.inn.taken.items left_in)
-    × ((left_out : ℕ) × KeepsOrder (conn.out.places - 1) (items_of app.said.items app.ended) conn.inn.taken.items left_out)
+    → ((left_in : ℕ) × KeepsOrder (open_places (conn.out.places - 1) conn.broken) (put_by conn.out) app.inn.taken.items left_in)
+    × ((left_out : ℕ) × KeepsOrder (open_places (conn.out.places - 1) (is_some app.ended)) (items_of app.said.items app.ended) conn.inn.taken.items left_out)

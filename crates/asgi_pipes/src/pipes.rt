@@ -1,10 +1,10 @@
 //! Pairs of ends.
-ghost use Rattle.std.specs.Prelude.{◌≡◌, ◌+◌, false, [], None, IfSome, IsSome, IfOk};
+ghost use Rattle.std.specs.Prelude.{◌≡◌, ◌+◌, false, [], None, is_some, IfSome, IsSome, IfOk};
 ghost use Rattle.asgi_types.specs.declared.scope.Kind.{Kind};
 ghost use Rattle.asgi_protocol.specs.Lawful.{IsLawful};
 ghost use Rattle.asgi_pipes.specs.Disconnects.{Hears};
 ghost use Rattle.asgi_pipes.specs.Items.{items_of};
-ghost use Rattle.asgi_pipes.specs.Queues.{KeepsOrder};
+ghost use Rattle.asgi_pipes.specs.Queues.{KeepsOrder, open_places};
 
 use crate::ends::{AppEnd, ConnEnd};
 use asgi_types::{Facts, Kind};
@@ -46,12 +46,13 @@ pub trait Pipes {
         ensures scope { IfOk result (λ ends. (Self.App.kind ends.1 ≡ kind) × (Self.App.facts ends.1 ≡ facts) × (Self.App.has_moved ends.1 ≡ false)) }
         ensures pair { IfOk result (λ ends. is_pair ends.0 ends.1) };
 
-    /// Brings the ends of one pair together, and counts what was left between them.
+    /// Brings the ends of one pair together, and counts what was left between them. Only the
+    /// disconnect or the end is ever in a reserved place.
     fn meet(conn: Self::Conn, app: Self::App) -> Option<Met>
         requires { is_pair conn app }
         ensures met { IsSome result }
-        ensures inward { IfSome result (λ met. KeepsOrder (Self.Conn.ring conn) (Self.Conn.offered conn) (Self.App.pulled app) met.left_in) }
-        ensures outward { IfSome result (λ met. KeepsOrder (Self.Conn.ring conn) (items_of (Self.App.said app) (Self.App.ended app)) (Self.Conn.got conn) met.left_out) }
+        ensures inward { IfSome result (λ met. KeepsOrder (open_places (Self.Conn.ring conn) (Self.Conn.is_broken conn)) (Self.Conn.offered conn) (Self.App.pulled app) met.left_in) }
+        ensures outward { IfSome result (λ met. KeepsOrder (open_places (Self.Conn.ring conn) (is_some (Self.App.ended app))) (items_of (Self.App.said app) (Self.App.ended app)) (Self.Conn.got conn) met.left_out) }
         ensures heard { Hears (Self.App.kind app) (Self.App.said app) (Self.App.pulled app) (Self.App.heard app) }
         ensures lawful { IsLawful (Self.App.kind app) (Self.App.facts app) (Self.App.said app) };
 

@@ -6,16 +6,16 @@ use Rattle.asgi_exchange.proofs.SessionLemmas.{web_socket_is_steady}
 use Rattle.asgi_exchange.proofs.SessionExchangeLemmas as session
 
 pub returns-clause-met : goal.returns-clause-met
-returns-clause-met c limits facts conn said ended pulled heard ring left_in left_out kept inward outward h lawful =
-    in_words limits facts _ (met_makes _ (http_is_steady limits facts) conn said ended pulled heard ring left_in left_out kept inward outward h lawful)
+returns-clause-met c limits facts conn said ended pulled heard places_in places_out left_in left_out kept inward outward h lawful =
+    in_words limits facts _ (met_makes _ (http_is_steady limits facts) conn said ended pulled heard places_in places_out left_in left_out kept inward outward h lawful)
 
 pub returns-clause-runs : goal.returns-clause-runs
 returns-clause-runs c limits facts steps = run_keeps _ (http_is_steady limits facts) steps
 
 pub returns-clause-web_socket_met : goal.returns-clause-web_socket_met
-returns-clause-web_socket_met c handshake facts places conn said ended pulled heard ring left_in left_out kept inward outward h lawful =
-    session.in_words handshake facts places _
-    (met_makes _ (web_socket_is_steady handshake facts places) conn said ended pulled heard ring left_in left_out kept inward outward h lawful)
+returns-clause-web_socket_met c handshake facts ring conn said ended pulled heard places_in places_out left_in left_out kept inward outward h lawful =
+    session.in_words handshake facts ring _
+    (met_makes _ (web_socket_is_steady handshake facts ring) conn said ended pulled heard places_in places_out left_in left_out kept inward outward h lawful)
 
 pub returns-clause-web_socket_runs : goal.returns-clause-web_socket_runs
-returns-clause-web_socket_runs c handshake facts places steps = run_keeps _ (web_socket_is_steady handshake facts places) steps
+returns-clause-web_socket_runs c handshake facts ring steps = run_keeps _ (web_socket_is_steady handshake facts ring) steps
