@@ -32,9 +32,9 @@ ghost use Rattle.asgi_exchange.specs.WebSocket.{web_socket};
 
 // ---- one exchange
 
-/// However the bytes of a request or the messages of a session arrive, and however the turns of the connection and the application fall: what was heard
-/// is a beginning of what was due, and then only disconnects with their cause; what was said is lawful; what was taken is a
-/// beginning of it; and what was written is a beginning of the text of what was taken.
+/// However the bytes of a request or the messages of a session arrive, and however the turns of the connection and the
+/// application fall: what was heard is a beginning of what was due, and then only disconnects with their cause; what was said
+/// is lawful; what was taken is a beginning of it; and what was written is a beginning of the text of what was taken.
 pub fn every_schedule()
     ensures http { (limits : Limits) (facts : Facts) (steps : List (Step ℕ)) → IsHttpExchange limits facts (run (http limits facts) steps empty_world) }
     ensures web_socket { (handshake : Handshake) (facts : Facts) (ring : ℕ) (steps : List (Step Message))
