@@ -1,17 +1,13 @@
 -- Each step of the application keeps what its half keeps.
-use Rattle.std.proofs.Common.{◌≡◌, Bool, true, false, inl, List, [], ◌∷◌, ◌++◌, Option, Some, None, refl, sym, ◌∙◌, subst, append-nil}
+use Rattle.std.proofs.Common.{◌≡◌, Bool, false, List, [], ◌∷◌, ◌++◌, Option, Some, None, refl, sym, ◌∙◌, subst, append-nil}
 use Rattle.std.specs.Prelude.{is_none, is_some, if◌then◌else◌}
-use Rattle.asgi_types.specs.declared.scope.Kind.{Kind}
-use Rattle.asgi_types.specs.declared.scope.Kind.TheVariants.{Http, WebSocket, Lifespan}
-use Rattle.asgi_types.specs.declared.facts.Facts.{Facts}
 use Rattle.asgi_types.specs.declared.incoming.Incoming.{Incoming}
-use Rattle.asgi_types.specs.declared.incoming.Incoming.TheVariants.{HttpDisconnect}
 use Rattle.asgi_types.specs.declared.outgoing.Outgoing.{Outgoing}
 use Rattle.asgi_protocol.specs.declared.verdict.Verdict.{Verdict}
-use Rattle.asgi_protocol.specs.declared.verdict.Verdict.TheVariants.{Pass, Ignored, Refused}
+use Rattle.asgi_protocol.specs.declared.verdict.Verdict.TheVariants.{Pass}
 use Rattle.asgi_protocol.specs.Lawful.{IsLawful}
 use Rattle.asgi_protocol.specs.Verdicts.{lines_on, verdict_on}
-use Rattle.asgi_protocol.proofs.LawLemmas.{lawful_where_each_passes}
+use Rattle.asgi_protocol.proofs.PassingLemmas.{is_passed, lawful_from_test}
 use Rattle.asgi_protocol.proofs.PassLemmas.{no_line, passes, lawful_more}
 use Rattle.asgi_protocol.specs.Passing.{is_pass}
 use Rattle.asgi_types.specs.declared.end_kind.EndKind.{EndKind}
@@ -19,6 +15,7 @@ use Rattle.asgi_pipes.specs.declared.items.OutItem.TheVariants.{Event, Ended}
 use Rattle.asgi_pipes.specs.Disconnects as pipes
 use Rattle.asgi_pipes.specs.Disconnects.{first_disconnect, has_disconnect, answer_at_once}
 use Rattle.asgi_pipes.proofs.DisconnectLemmas.{hears_again, hears_next, hears_said}
+use Rattle.asgi_pipes.proofs.StartLemmas.{hears_nothing}
 use Rattle.asgi_exchange.specs.Exchange.{Exchange}
 use Rattle.asgi_exchange.specs.Halves.{AppKeeps}
 use Rattle.asgi_exchange.specs.Items.{events_of, end_of}
@@ -28,26 +25,9 @@ use Rattle.asgi_exchange.specs.Views.{AppView, said_of, empty_app}
 use Rattle.asgi_exchange.proofs.ListLemmas.{if_holds}
 use Rattle.asgi_exchange.proofs.EventLemmas.{none_is, events_append, ordered_event, ordered_ended}
 
-pub is_passed : (v : Verdict) → is_pass v ≡ true → v ≡ Pass
-is_passed Pass h = refl
-is_passed Ignored h = cc
-is_passed (Refused n) h = cc
-
 not_some : (o : Option Incoming) → is_some o ≡ false → o ≡ None
 not_some None h = refl
 not_some (Some e) h = absurd (cc)
-
-nothing_heard : (kind : Kind) → pipes.Hears kind [] [] []
-nothing_heard Http = record { events = []; times = 0; disconnect = HttpDisconnect; in_order = refl; no_other = refl; cause = inl (refl, refl) }
-nothing_heard WebSocket = record { events = []; times = 0; disconnect = HttpDisconnect; in_order = refl; no_other = refl; cause = inl (refl, refl) }
-nothing_heard Lifespan = refl
-
-nothing_said : (kind : Kind) (facts : Facts) → IsLawful kind facts []
-nothing_said kind facts = (lawful_where_each_passes kind facts []).1 none
-  where
-    none : (before after : List Outgoing) (event : Outgoing) → [] ≡ before ++ event ∷ after → verdict_on kind facts before false event ≡ Pass
-    none [] after event h = absurd (cc)
-    none (x ∷ before) after event h = absurd (cc)
 
 module _ {A W : Type 0} (x : Exchange A W) where
   -- ---- Hear
@@ -108,4 +88,4 @@ module _ {A W : Type 0} (x : Exchange A W) where
   app_run_keeps (step ∷ steps) app k = app_run_keeps steps (app_after x app step) (app_keeps app step k)
 
   pub empty_app_keeps : AppKeeps x empty_app
-  empty_app_keeps = record { heard = nothing_heard x.kind; lawful = nothing_said x.kind x.facts; ordered = tt }
+  empty_app_keeps = record { heard = hears_nothing x.kind; lawful = lawful_from_test x.kind x.facts [] refl; ordered = tt }

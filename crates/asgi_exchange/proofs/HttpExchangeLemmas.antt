@@ -67,5 +67,6 @@ module _ (limits : Limits) (facts : Facts) (w : World ℕ ℕ) where
         taken = x.taken;
         closed = x.closed;
         ended = x.ended;
+        end_is = x.end_is;
         written = (x.written.0, x.written.1 ∙ text_is);
       }

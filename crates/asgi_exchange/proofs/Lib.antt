@@ -1,3 +1,6 @@
+pub mod SessionLemmas
+pub mod DenialLemmas
+pub mod SessionExchangeLemmas
 pub mod ListLemmas
 pub mod EventLemmas
 pub mod ConnLemmas
@@ -8,6 +11,7 @@ pub mod ScheduleLemmas
 pub mod HttpLemmas
 pub mod HttpExchangeLemmas
 pub mod ResultLemmas
+pub mod LeftOutLemmas
 pub mod MeetLemmas
 pub mod CallLemmas
 pub mod GoesOnLemmas

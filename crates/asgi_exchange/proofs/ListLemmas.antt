@@ -1,4 +1,4 @@
--- Beginnings of lists.
+-- What begins a list begins what goes on from it, and the next item takes it further.
 use Rattle.std.proofs.Common.{◌≡◌, ℕ, ◌≤◌, Bool, true, false, List, [], ◌∷◌, ◌++◌, ◌⊎◌, inl, inr, length, take, drop, Some, slice_get, refl, ap, sym, ◌∙◌, arith, append_assoc, append-nil, if◌then◌else◌, take-append-drop}
 use Rattle.std.proofs.Math.Seq.{drop-append_seam}
 use mathlib.Core.List.{IsPrefix}

@@ -7,12 +7,12 @@ use Rattle.asgi_types.specs.declared.incoming.Incoming.{Incoming}
 use Rattle.asgi_types.specs.declared.incoming.Incoming.TheVariants.{HttpDisconnect}
 use Rattle.asgi_types.specs.declared.limits.Limits.{Limits}
 use Rattle.asgi_request.specs.declared.next.Next.{Next}
-use Rattle.asgi_request.specs.declared.next.Next.TheVariants.{Event, Bad}
+use Rattle.asgi_request.specs.declared.next.Next.TheVariants.{Event, Whole, Bad}
 use Rattle.asgi_request.specs.BodyOf.{body_events, body_state}
 use Rattle.asgi_request.specs.Opened.{HasOpened}
 use Rattle.asgi_request.specs.Reading.{Reading, StandsFor, AllGiven}
 use Rattle.asgi_request.proofs.BodyOfLemmas.{body_is_read}
-use Rattle.asgi_request.proofs.DueLemmas.{events_are_due, bad_is_faulty, need_is_partial}
+use Rattle.asgi_request.proofs.DueLemmas.{events_are_due, whole_is_complete, bad_is_faulty, need_is_partial}
 use Rattle.asgi_request.proofs.OpenedLemmas.{opened_at, opened_stays}
 use Rattle.asgi_exchange.specs.Http.{http}
 use Rattle.asgi_exchange.specs.Items.{end_of}
@@ -73,3 +73,12 @@ refused_off reader bytes opened facts conn status x stands b e =
     break_is_offered reader facts conn b e
     (bad_is_faulty reader.limits bytes opened facts.framing conn.arrived (body_events reader.limits facts.framing conn.arrived) (body_state reader.limits facts.framing conn.arrived) reader.place reader.held
     (opened_at reader.limits bytes opened facts.framing conn.arrived x) (body_is_read reader.limits facts.framing conn.arrived) conn.offered status stands).0
+
+pub whole_off : (reader : Reading) (bytes : List ℕ) (opened : List Next) (facts : Facts) (conn : ConnView ℕ ℕ)
+    → HasOpened reader.limits bytes opened facts.framing conn.arrived → StandsFor reader bytes (opened ++ (map Event conn.offered ++ Whole ∷ []))
+    → conn.broken ≡ None → end_of conn.got ≡ None
+    → break_off (http reader.limits facts) conn ByInput ≡ record conn { offered = conn.offered ++ HttpDisconnect ∷ []; broken = Some ByInput }
+whole_off reader bytes opened facts conn x stands b e =
+    break_is_offered reader facts conn b e
+    (whole_is_complete reader.limits bytes opened facts.framing conn.arrived (body_events reader.limits facts.framing conn.arrived) (body_state reader.limits facts.framing conn.arrived) reader.place reader.held
+    (opened_at reader.limits bytes opened facts.framing conn.arrived x) (body_is_read reader.limits facts.framing conn.arrived) conn.offered stands).0

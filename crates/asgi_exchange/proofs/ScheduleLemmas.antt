@@ -12,9 +12,9 @@ use Rattle.asgi_pipes.specs.Items.{items_of}
 use Rattle.asgi_pipes.specs.Queues.{KeepsOrder}
 use Rattle.asgi_exchange.specs.Exchange.{Exchange, IsSteady}
 use Rattle.asgi_exchange.specs.Halves.{ConnKeeps, AppKeeps, AreJoined}
-use Rattle.asgi_exchange.specs.Items.{events_of}
+use Rattle.asgi_exchange.specs.Items.{events_of, end_of}
 use Rattle.asgi_exchange.specs.Keeps.{IsExchange}
-use Rattle.asgi_exchange.specs.Schedules.{Step, Arrive, Offer, BreakOff, Take, Write, Hear, Say, End, after, run, ConnStep, conn_run, AppStep, app_run}
+use Rattle.asgi_exchange.specs.Schedules.{Step, Arrive, Offer, BreakOff, Take, Write, Hear, Say, End, after, run, ConnStep, conn_run, AppStep, app_run, ConnGoesOn}
 use Rattle.asgi_exchange.specs.Steps.{next_of}
 use Rattle.asgi_exchange.specs.Views.{ConnView, World, empty_conn, empty_app, AppView, empty_world, taken_of, said_of}
 use Rattle.asgi_exchange.proofs.AppLemmas.{hear_keeps, say_keeps, finish_keeps, app_run_keeps, empty_app_keeps}
@@ -41,6 +41,7 @@ module _ {A W : Type 0} (x : Exchange A W) (s : IsSteady x) where
     taken = events_prefix w.conn.got w.app.put j.outward;
     closed = closed_taken (taken_of w.conn) (said_of w.app) (events_prefix w.conn.got w.app.put j.outward) a.lawful;
     ended = λ h. ap events_of (all_taken w.conn.got w.app.put a.ordered j.outward h);
+    end_is = λ h. ap end_of (all_taken w.conn.got w.app.put a.ordered j.outward h);
     written = c.written;
   }
 
@@ -71,6 +72,9 @@ module _ {A W : Type 0} (x : Exchange A W) (s : IsSteady x) where
         ordered = items_in_order said ended;
       })
       (record { inward = front_of places_in conn.offered pulled left_in inward; outward = front_of places_out app.put conn.got left_out outward })
+
+  pub goes_on_keeps : (old new : ConnView A W) → ConnKeeps x old → ConnGoesOn x old new → ConnKeeps x new
+  goes_on_keeps old new k goes = subst (ConnKeeps x) (sym goes.1) (conn_run_keeps x s goes.0 old k)
 
   pub run_keeps : (steps : List (ConnStep A)) → ConnKeeps x (conn_run x steps empty_conn)
   run_keeps steps = conn_run_keeps x s steps empty_conn (empty_conn_keeps x s)

@@ -49,5 +49,7 @@ pub record IsHttpExchange (limits : Limits) (facts : Facts) (w : World ℕ ℕ) 
   pub taken : IsPrefix (taken_of w.conn) (said_of w.app)
   pub closed : IsClosed Http (taken_of w.conn) → taken_of w.conn ≡ said_of w.app
   pub ended : end_of w.conn.got ≢ None → taken_of w.conn ≡ said_of w.app
+  -- the end that was taken is the one that was put
+  pub end_is : end_of w.conn.got ≢ None → end_of w.conn.got ≡ end_of w.app.put
   -- what was written is a beginning of the text of what was taken
   pub written : IsPrefix w.conn.written (text_of facts (taken_of w.conn) (end_of w.conn.got) (input_of state))

@@ -16,5 +16,7 @@ pub record IsExchange {A W : Type 0} (x : Exchange A W) (w : World A W) : Type 0
   pub taken : IsPrefix (taken_of w.conn) (said_of w.app)
   pub closed : IsClosed x.kind (taken_of w.conn) → taken_of w.conn ≡ said_of w.app
   pub ended : end_of w.conn.got ≢ None → taken_of w.conn ≡ said_of w.app
+  -- the end that was taken is the one that was put
+  pub end_is : end_of w.conn.got ≢ None → end_of w.conn.got ≡ end_of w.app.put
   -- written is a beginning of what is to be written of what was taken
   pub written : IsPrefix w.conn.written (output x w.conn)

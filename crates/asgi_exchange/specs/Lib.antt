@@ -5,7 +5,13 @@ pub mod Steps
 pub mod Schedules
 pub mod Heard
 pub mod Keeps
+pub mod Messages
+pub mod Session
+pub mod WebSocket
+pub mod SessionExchange
 pub mod Halves
 pub mod Http
 pub mod HttpExchange
 pub mod Calls
+pub mod Examples
+pub mod LeftOut

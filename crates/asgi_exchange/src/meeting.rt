@@ -1,13 +1,17 @@
 //! The two halves of an exchange meet.
 ghost use Rattle.std.specs.Prelude.{◌≡◌, ℕ, is_some, IfSome, IsSome};
 ghost use Rattle.asgi_types.specs.declared.limits.Limits.{Limits};
-ghost use Rattle.asgi_types.specs.declared.scope.Kind.TheVariants.{Http};
+ghost use Rattle.asgi_types.specs.declared.scope.Kind.TheVariants.{Http, WebSocket};
 ghost use Rattle.asgi_pipes.specs.Items.{items_of};
 ghost use Rattle.asgi_pipes.specs.Queues.{KeepsOrder, open_places};
 ghost use Rattle.asgi_exchange.specs.Halves.{ConnKeeps};
 ghost use Rattle.asgi_exchange.specs.Http.{http};
 ghost use Rattle.asgi_exchange.specs.HttpExchange.{IsHttpExchange};
+ghost use Rattle.asgi_exchange.specs.Messages.{Message};
+ghost use Rattle.asgi_exchange.specs.Session.{Output, Handshake};
+ghost use Rattle.asgi_exchange.specs.SessionExchange.{IsSessionExchange};
 ghost use Rattle.asgi_exchange.specs.Views.{ConnView};
+ghost use Rattle.asgi_exchange.specs.WebSocket.{web_socket};
 
 use asgi_pipes::{Met, Pipes};
 
@@ -21,6 +25,9 @@ pub fn join<P: Pipes>(conn: P::Conn, app: P::App) -> Option<Met>
     ensures http { (limits : Limits) (view : ConnView ℕ ℕ) → P.App.kind app ≡ Http
         → ConnKeeps (http limits (P.App.facts app)) view → view.offered ≡ P.Conn.offered conn → view.got ≡ P.Conn.got conn
         → IsHttpExchange limits (P.App.facts app) (record { conn = view; app = record { pulled = P.App.pulled app; heard = P.App.heard app; put = items_of (P.App.said app) (P.App.ended app) } }) }
+    ensures web_socket { (handshake : Handshake) (ring : ℕ) (view : ConnView Message Output) → P.App.kind app ≡ WebSocket
+        → ConnKeeps (web_socket handshake (P.App.facts app) ring) view → view.offered ≡ P.Conn.offered conn → view.got ≡ P.Conn.got conn
+        → IsSessionExchange handshake (P.App.facts app) (record { conn = view; app = record { pulled = P.App.pulled app; heard = P.App.heard app; put = items_of (P.App.said app) (P.App.ended app) } }) }
 {
     P::meet(conn, app)
 }

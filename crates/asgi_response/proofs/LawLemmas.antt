@@ -25,7 +25,7 @@ longer : (a b c : List ℕ) → BeginsWith a b → BeginsWith b c → BeginsWith
 longer a b c h k = (k.0 ++ h.0, h.1 ∙ ap (λ (x : List ℕ). x ++ h.0) k.1 ∙ append_assoc c k.0 h.0)
 
 -- one more event adds its text
-message_behind : (facts : Facts) (said : List Outgoing) (event : Outgoing) → message_text facts (said ++ event ∷ []) ≡ message_text facts said ++ event_text facts said event
+pub message_behind : (facts : Facts) (said : List Outgoing) (event : Outgoing) → message_text facts (said ++ event ∷ []) ≡ message_text facts said ++ event_text facts said event
 message_behind facts [] (ResponseStart a b) = refl
 message_behind facts [] (ResponseBody a b) = refl
 message_behind facts [] (WsAccept a b) = refl
