@@ -1,7 +1,6 @@
-use Rattle.std.proofs.Common.{◌≡◌, List, [], ◌∷◌, ◌++◌, Option, Some, None, refl, ap, ◌∙◌}
+use Rattle.std.proofs.Common.{◌≡◌, Some, None, ap, ◌∙◌}
 use Rattle.asgi_types.specs.declared.outgoing.Outgoing.{Outgoing}
-use Rattle.asgi_pipes.specs.declared.items.OutItem.{OutItem}
-use Rattle.asgi_pipes.specs.declared.items.OutItem.TheVariants.{Event, Ended}
+use Rattle.asgi_pipes.specs.declared.items.OutItem.TheVariants.{Event}
 use Rattle.asgi_exchange.specs.Items.{end_of}
 use Rattle.asgi_exchange.specs.Schedules.{Takes}
 use Rattle.asgi_exchange.specs.Steps.{take_next}
