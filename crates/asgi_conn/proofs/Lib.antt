@@ -2,3 +2,10 @@ pub mod LawLemmas
 pub mod EndLemmas
 pub mod ReadingLemmas
 pub mod ExchangeLemmas
+pub mod AnsweredLemmas
+pub mod SoFarLemmas
+pub mod RequestLemmas
+pub mod OneConversationLemmas
+pub mod TakenLemmas
+pub mod LoopLemmas
+pub mod TaskEndLemmas
