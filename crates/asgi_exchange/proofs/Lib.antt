@@ -11,6 +11,7 @@ pub mod ScheduleLemmas
 pub mod HttpLemmas
 pub mod HttpExchangeLemmas
 pub mod ResultLemmas
+pub mod MessageLemmas
 pub mod LeftOutLemmas
 pub mod MeetLemmas
 pub mod CallLemmas

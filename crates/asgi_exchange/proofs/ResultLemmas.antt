@@ -14,6 +14,7 @@ use Rattle.asgi_request.specs.Reading.{Reading, StandsFor, AllGiven}
 use Rattle.asgi_request.proofs.BodyOfLemmas.{body_is_read}
 use Rattle.asgi_request.proofs.DueLemmas.{events_are_due, whole_is_complete, bad_is_faulty, need_is_partial}
 use Rattle.asgi_request.proofs.OpenedLemmas.{opened_at, opened_stays}
+use Rattle.asgi_exchange.specs.Exchange.{Exchange}
 use Rattle.asgi_exchange.specs.Http.{http}
 use Rattle.asgi_exchange.specs.Items.{end_of}
 use Rattle.asgi_exchange.specs.Steps.{next_of, is_by_input, arrive, offer_this, offer, break_off}
@@ -31,6 +32,28 @@ next_is xs e more ys h = ap (λ (l : List Incoming). next_of l xs) (sym h ∙ ap
     at [] = refl
     at (x ∷ l) = at l
 
+not_less : (n : ℕ) → nat_lt n n ≡ false
+not_less n = grind (arith, nat_tests)
+
+-- behind all that is due the input may break
+pub break_is_offered : {A W : Type 0} (x : Exchange A W) (conn : ConnView A W) → conn.broken ≡ None → end_of conn.got ≡ None → conn.offered ≡ x.due conn.arrived
+    → break_off x conn ByInput ≡ record conn { offered = conn.offered ++ x.input_disconnect conn.arrived ∷ []; broken = Some ByInput }
+break_is_offered {A} {W} x conn b e all =
+    let due = x.due conn.arrived in
+    let broken : ConnView A W = record conn { offered = conn.offered ++ x.input_disconnect conn.arrived ∷ []; broken = Some ByInput } in
+    let none : is_none conn.broken ≡ true = ap is_none b in
+    let open_ : is_none (end_of conn.got) ≡ true = ap is_none e in
+    let less : nat_lt (length conn.offered) (length due) ≡ false = ap (λ (l : List Incoming). nat_lt (length l) (length due)) all ∙ not_less (length due) in
+    ap (λ (o : Bool). if o then (if nat_lt (length conn.offered) (length due) then conn else (if is_none (end_of conn.got) then broken else conn)) else conn) none
+    ∙ ap (λ (o : Bool). if o then conn else (if is_none (end_of conn.got) then broken else conn)) less ∙ ap (λ (o : Bool). if o then broken else conn) open_
+
+-- the next event that is due is offered
+pub next_is_offered : {A W : Type 0} (x : Exchange A W) (conn : ConnView A W) (event : Incoming) (more : List Incoming) → conn.broken ≡ None
+    → (conn.offered ++ event ∷ []) ++ more ≡ x.due conn.arrived → offer x conn true ≡ record conn { offered = conn.offered ++ event ∷ [] }
+next_is_offered x conn event more b e =
+    ap (λ (o : Bool). if o then offer_this conn (next_of (x.due conn.arrived) conn.offered) else conn) (ap is_none b)
+    ∙ ap (offer_this conn) (next_is conn.offered event more (x.due conn.arrived) e)
+
 pub event_is_offered : (reader : Reading) (bytes : List ℕ) (opened : List Next) (facts : Facts) (conn : ConnView ℕ ℕ) (event : Incoming)
     → HasOpened reader.limits bytes opened facts.framing conn.arrived → StandsFor reader bytes (opened ++ map Event (conn.offered ++ event ∷ []))
     → conn.broken ≡ None → offer (http reader.limits facts) conn true ≡ record conn { offered = conn.offered ++ event ∷ [] }
@@ -38,30 +61,14 @@ event_is_offered reader bytes opened facts conn event x stands b =
     let due = body_events reader.limits facts.framing conn.arrived in
     let p = events_are_due reader.limits bytes opened facts.framing conn.arrived due (body_state reader.limits facts.framing conn.arrived) reader.place reader.held
     (opened_at reader.limits bytes opened facts.framing conn.arrived x) (body_is_read reader.limits facts.framing conn.arrived) (conn.offered ++ event ∷ []) stands in
-    ap (λ (o : Bool). if o then offer_this conn (next_of due conn.offered) else conn) (ap is_none b)
-    ∙ ap (offer_this conn) (next_is conn.offered event p.0 due p.1)
-
-not_less : (n : ℕ) → nat_lt n n ≡ false
-not_less n = grind (arith, nat_tests)
-
-break_is_offered : (reader : Reading) (facts : Facts) (conn : ConnView ℕ ℕ) → conn.broken ≡ None → end_of conn.got ≡ None
-    → conn.offered ≡ body_events reader.limits facts.framing conn.arrived
-    → break_off (http reader.limits facts) conn ByInput ≡ record conn { offered = conn.offered ++ HttpDisconnect ∷ []; broken = Some ByInput }
-break_is_offered reader facts conn b e all =
-    let due = body_events reader.limits facts.framing conn.arrived in
-    let broken : ConnView ℕ ℕ = record conn { offered = conn.offered ++ HttpDisconnect ∷ []; broken = Some ByInput } in
-    let none : is_none conn.broken ≡ true = ap is_none b in
-    let open_ : is_none (end_of conn.got) ≡ true = ap is_none e in
-    let less : nat_lt (length conn.offered) (length due) ≡ false = ap (λ (l : List Incoming). nat_lt (length l) (length due)) all ∙ not_less (length due) in
-    ap (λ (o : Bool). if o then (if nat_lt (length conn.offered) (length due) then conn else (if is_none (end_of conn.got) then broken else conn)) else conn) none
-    ∙ ap (λ (o : Bool). if o then conn else (if is_none (end_of conn.got) then broken else conn)) less ∙ ap (λ (o : Bool). if o then broken else conn) open_
+    next_is_offered (http reader.limits facts) conn event p.0 b p.1
 
 pub broken_off : (reader : Reading) (bytes : List ℕ) (opened : List Next) (facts : Facts) (conn : ConnView ℕ ℕ)
     → HasOpened reader.limits bytes opened facts.framing conn.arrived → AllGiven reader bytes (opened ++ map Event conn.offered)
     → conn.broken ≡ None → end_of conn.got ≡ None
     → break_off (http reader.limits facts) conn ByInput ≡ record conn { offered = conn.offered ++ HttpDisconnect ∷ []; broken = Some ByInput }
 broken_off reader bytes opened facts conn x g b e =
-    break_is_offered reader facts conn b e
+    break_is_offered (http reader.limits facts) conn b e
     (need_is_partial reader.limits bytes opened facts.framing conn.arrived (body_events reader.limits facts.framing conn.arrived) (body_state reader.limits facts.framing conn.arrived) conn.offered g.0
     (opened_at reader.limits bytes opened facts.framing conn.arrived x) (body_is_read reader.limits facts.framing conn.arrived) g.1).0
 
@@ -70,7 +77,7 @@ pub refused_off : (reader : Reading) (bytes : List ℕ) (opened : List Next) (fa
     → conn.broken ≡ None → end_of conn.got ≡ None
     → break_off (http reader.limits facts) conn ByInput ≡ record conn { offered = conn.offered ++ HttpDisconnect ∷ []; broken = Some ByInput }
 refused_off reader bytes opened facts conn status x stands b e =
-    break_is_offered reader facts conn b e
+    break_is_offered (http reader.limits facts) conn b e
     (bad_is_faulty reader.limits bytes opened facts.framing conn.arrived (body_events reader.limits facts.framing conn.arrived) (body_state reader.limits facts.framing conn.arrived) reader.place reader.held
     (opened_at reader.limits bytes opened facts.framing conn.arrived x) (body_is_read reader.limits facts.framing conn.arrived) conn.offered status stands).0
 
@@ -79,6 +86,6 @@ pub whole_off : (reader : Reading) (bytes : List ℕ) (opened : List Next) (fact
     → conn.broken ≡ None → end_of conn.got ≡ None
     → break_off (http reader.limits facts) conn ByInput ≡ record conn { offered = conn.offered ++ HttpDisconnect ∷ []; broken = Some ByInput }
 whole_off reader bytes opened facts conn x stands b e =
-    break_is_offered reader facts conn b e
+    break_is_offered (http reader.limits facts) conn b e
     (whole_is_complete reader.limits bytes opened facts.framing conn.arrived (body_events reader.limits facts.framing conn.arrived) (body_state reader.limits facts.framing conn.arrived) reader.place reader.held
     (opened_at reader.limits bytes opened facts.framing conn.arrived x) (body_is_read reader.limits facts.framing conn.arrived) conn.offered stands).0

@@ -22,7 +22,7 @@ ghost use Rattle.asgi_exchange.specs.Http.{http};
 ghost use Rattle.asgi_exchange.specs.HttpExchange.{IsHttpExchange};
 ghost use Rattle.asgi_exchange.specs.Items.{end_of};
 ghost use Rattle.asgi_exchange.specs.Keeps.{IsExchange};
-ghost use Rattle.asgi_exchange.specs.Messages.{Message};
+ghost use Rattle.asgi_exchange.specs.Messages.{Message, Close, events_in, has_close, session_events, disconnect_of, session_disconnect};
 ghost use Rattle.asgi_exchange.specs.Schedules.{Step, run, ConnStep, conn_run, AppStep, app_run, ConnGoesOn};
 ghost use Rattle.asgi_exchange.specs.Session.{Output, Handshake, accepted_session, closing_facts, as_response, denial_text, session_output, event_output};
 ghost use Rattle.asgi_exchange.specs.SessionExchange.{IsSessionExchange};
@@ -100,6 +100,24 @@ pub fn results_are_steps()
         → HasOpened reader.limits bytes opened facts.framing conn.arrived → StandsFor reader bytes (opened ++ (map Next.Event conn.offered ++ Next.Bad status ∷ []))
         → conn.broken ≡ None → end_of conn.got ≡ None
         → break_off (http reader.limits facts) conn ByInput ≡ record conn { offered = conn.offered ++ Incoming.HttpDisconnect ∷ []; broken = Some ByInput } }
+{}
+
+/// A message that the message layer gives arrives. What is heard of it is the next event that is due, where no close came
+/// before it; and where all that is due was offered, the input may break: by the client's close, or with 1006 where there is
+/// none.
+pub fn messages_are_steps()
+    ensures arrives { (handshake : Handshake) (facts : Facts) (ring : ℕ) (conn : ConnView Message Output) (message : Message) → is_by_input conn.broken ≡ false
+        → arrive (web_socket handshake facts ring) conn (message ∷ []) ≡ record conn { arrived = conn.arrived ++ message ∷ [] } }
+    ensures is_due { (messages : List Message) (message : Message) → has_close messages ≡ false → session_events (messages ++ message ∷ []) ≡ session_events messages ++ events_in message }
+    ensures offers { (handshake : Handshake) (facts : Facts) (ring : ℕ) (conn : ConnView Message Output) (message : Message) (event : Incoming) (arrived : List Message)
+        → has_close arrived ≡ false → events_in message ≡ event ∷ [] → conn.arrived ≡ arrived ++ message ∷ [] → conn.offered ≡ session_events arrived → conn.broken ≡ None
+        → offer (web_socket handshake facts ring) conn true ≡ record conn { offered = conn.offered ++ event ∷ [] } }
+    ensures breaks { (handshake : Handshake) (facts : Facts) (ring : ℕ) (conn : ConnView Message Output)
+        → conn.offered ≡ session_events conn.arrived → conn.broken ≡ None → end_of conn.got ≡ None
+        → break_off (web_socket handshake facts ring) conn ByInput ≡ record conn { offered = conn.offered ++ session_disconnect conn.arrived ∷ []; broken = Some ByInput } }
+    ensures closed { (messages : List Message) (close : Option (ℕ × List ℕ)) → has_close messages ≡ false
+        → session_disconnect (messages ++ Close close ∷ []) ≡ disconnect_of (Some close) }
+    ensures unclosed { (messages : List Message) → has_close messages ≡ false → session_disconnect messages ≡ Incoming.WsDisconnect 1006 [] }
 {}
 
 // ---- any exchange
