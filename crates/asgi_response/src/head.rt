@@ -18,6 +18,8 @@ pub const CRLF: &[u8] = b"\r\n";
 
 const COLON: &[u8] = b": ";
 
+const OK_LINE: &[u8] = b"HTTP/1.1 200 OK\r\n";
+
 const CHUNKED_LINE: &[u8] = b"transfer-encoding: chunked\r\n";
 
 const CLOSE_LINE: &[u8] = b"connection: close\r\n";
@@ -155,12 +157,23 @@ fn write_status_line(
     ensures capacity { vec_capacity out.old ≤ vec_capacity out.new }
     ensures full { OnErr result (LacksRoom (vec_capacity out.old) (vec_len out.old) (line.status_line status)) }
 {
+    // Most responses have this status.
+    if status == 200 {
+        return out.extend_from_slice(ok_line());
+    }
     out.extend_from_slice(VERSION)?;
     out.extend_from_slice(code)?;
     out.extend_from_slice(SPACE)?;
     out.extend_from_slice(reason)?;
     out.extend_from_slice(CRLF)?;
     Ok(())
+}
+
+/// The line of status 200.
+fn ok_line() -> &'static [u8]
+    ensures { result.now ≡ line.status_line 200 }
+{
+    OK_LINE
 }
 
 /// The reason phrase of a status.
