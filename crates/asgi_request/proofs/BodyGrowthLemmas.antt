@@ -5,7 +5,7 @@ use Rattle.asgi_types.specs.declared.limits.Limits.{Limits}
 use Rattle.asgi_request.specs.declared.place.Place.{Place}
 use Rattle.asgi_request.specs.declared.place.Place.TheVariants.{BodyEnd}
 use Rattle.asgi_request.specs.declared.next.Next.{Next}
-use Rattle.asgi_request.specs.declared.place.Judged.{Judged}
+use Rattle.asgi_request.specs.Places.{Judged}
 use Rattle.asgi_request.specs.Fronts.{found, unfinished}
 use Rattle.asgi_request.specs.Places.{front, body_place, Takes, Reads, shown}
 use mathlib.Core.List.{IsPrefix}

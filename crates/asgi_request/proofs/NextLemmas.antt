@@ -10,7 +10,7 @@ use Rattle.asgi_request.specs.declared.next.Next.{Next}
 use Rattle.asgi_request.specs.declared.next.Next.TheVariants.{Head}
 use Rattle.asgi_request.specs.declared.place.Place.{Place}
 use Rattle.asgi_request.specs.declared.place.Place.TheVariants.{Start}
-use Rattle.asgi_request.specs.declared.place.Judged.{Judged}
+use Rattle.asgi_request.specs.Places.{Judged}
 use Rattle.asgi_request.specs.declared.refusal.Refusal.{Refusal}
 use Rattle.asgi_request.specs.Texts.{IsFirstWithin}
 use Rattle.asgi_request.specs.HeadText.{EndsAsHead}

@@ -1,6 +1,6 @@
 -- What a reader stands for after one call.
 use Rattle.std.proofs.Common.{◌≡◌, ℕ, ◌+◌, ◌<◌, ◌≤◌, Bool, true, false, List, [], ◌∷◌, ◌++◌, length, take, drop, refl, sym, ap, ◌∙◌, subst, arith, Option, Some, None, Result, Ok, Err}
-use Rattle.std.specs.Prelude.{nat_lt, ◌-◌, ◌==◌, if◌then◌else◌, bytes_eq}
+use Rattle.std.specs.Prelude.{nat_lt, ◌-◌, ◌==◌, if◌then◌else◌, bytes_eq, IfOk, OnErr}
 use Rattle.std.proofs.lemmas.List.{append-nil, drop-append-le, take-append-drop, drop-drop}
 use Rattle.asgi_types.specs.declared.limits.Limits.{Limits}
 use Rattle.asgi_types.specs.declared.facts.Framing.{Framing}
@@ -14,13 +14,12 @@ use Rattle.asgi_request.specs.declared.place.Place.{Place}
 use Rattle.asgi_request.specs.declared.place.Place.TheVariants.{Start, Counted, SizeLine, Chunk, ChunkEnd, Trailers, BodyEnd, Stopped}
 use Rattle.asgi_request.specs.declared.next.Next.{Next}
 use Rattle.asgi_request.specs.declared.next.Next.TheVariants.{Need, Head, Event, Whole, Bad}
-use Rattle.asgi_request.specs.declared.place.Judged.{Judged}
+use Rattle.asgi_request.specs.Places.{Judged}
 use Rattle.asgi_request.specs.Fronts.{Front, found, too_long, unfinished, front_text}
 use Rattle.asgi_request.specs.BodyLength.{framing_or_refusal}
 use Rattle.asgi_request.specs.Places.{front, bad, silent, gives, after_framing, after_head, after_counted, after_chunk, after_size, after_chunk_end, after_trailers, after_too_long, JudgesText, Judges, Takes, shown, Reaches}
 use Rattle.asgi_request.specs.Reading.{Reading, StandsFor, IsRefused}
-use Rattle.asgi_request.specs.declared.place.Advance.{Advance}
-use Rattle.asgi_request.specs.Searches.{advance_of, Steps, Stepped, IsResult, Answers, RefusesAgain, rank}
+use Rattle.asgi_request.specs.Searches.{Stepped, IsResult, IsThere, TakesText, refusal_at, rank}
 use Rattle.asgi_request.proofs.UniqueLemmas.{Reads-append, Reads-push, shown-append}
 
 pub held_grown : (bytes a new : List ℕ) (start : ℕ) → start ≤ length bytes → new ≡ bytes ++ a → drop start new ≡ drop start bytes ++ a
@@ -51,17 +50,14 @@ takes_text limits place held rest n turn e judged r = record {
   judged = subst (λ (f : Front). Judges limits place f turn) (sym e) judged;
 }
 
-pub step_text : (old seen : Reading) (bytes : List ℕ) (start n : ℕ) (arrived text : List ℕ) (turn : Judged)
-    → seen ≡ old → seen.held ≡ drop start bytes → arrived ≡ seen.held → text ≡ take n seen.held
-    → found (take n arrived) ≡ front seen.limits seen.place arrived → JudgesText seen.limits seen.place text turn
-    → Takes old.limits old.place old.held turn (drop (start + n) bytes)
-step_text old seen bytes start n arrived text turn same held at cut is_front judged =
-    let F : List ℕ → Type 0 = λ l. front seen.limits seen.place l ≡ found (take n l) in
-    let J : List ℕ → Type 0 = λ l. JudgesText seen.limits seen.place l turn in
-    let T : Reading → Type 0 = λ r. Takes r.limits r.place r.held turn (drop (start + n) bytes) in
-    subst T same
-    (takes_text seen.limits seen.place seen.held (drop (start + n) bytes) n turn (subst F at (sym is_front)) (subst J cut judged)
-    (ap (drop n) held ∙ drop-drop n start bytes))
+-- a text that gives a result
+pub text_stepped : (old new : Reading) (n : ℕ) (item : Next) → IsThere old n → TakesText old new old.place n item → Stepped old new (Some item)
+text_stepped old new n item there took = record {
+  limits = ap (λ (r : Reading). r.limits) took.is_behind;
+  capacity = ap (λ (r : Reading). r.capacity) took.is_behind;
+  takes = takes_text old.limits old.place old.held new.held n (record { item = Some item; place = new.place }) there.is_front took.judged
+      (sym (ap (λ (r : Reading). r.held) took.is_behind));
+}
 
 -- one turn more
 pub stepped_stands : (old new : Reading) (item : Option Next) → Stepped old new item → (bytes : List ℕ) (given : List Next)
@@ -73,13 +69,6 @@ stepped_stands old new item step bytes given stands =
       reads = Reads-push old.limits Start bytes stands.steps old.place old.held item new.place new.held stands.reads step.takes;
       shows = shown-append stands.steps (item ∷ []) ∙ ap (λ (l : List Next). l ++ shown (item ∷ [])) stands.shows;
     }
-
-pub stepped_steps : (old new : Reading) (item : Option Next) (advance : Advance) → advance ≡ advance_of item → Stepped old new item → Steps old new advance
-stepped_steps old new item advance e step = let P : Advance → Type 0 = λ o. Steps old new o in subst P (sym e) (by item step)
-  where
-    by : (i : Option Next) → Stepped old new i → Steps old new (advance_of i)
-    by None x = x
-    by (Some next) x = x
 
 pub silent_stands : (old new : Reading) → Stepped old new None → (bytes : List ℕ) (given : List Next)
     → StandsFor old bytes given → Reaches new.limits bytes given new.place new.held
@@ -257,21 +246,26 @@ answers_bad new next status r e = let P : Next → Type 0 = λ n. IsResult new (
 pub same_refusal : (place : Place) (a b : Refusal) → place ≡ Stopped a → place ≡ Stopped b → status_of a ≡ status_of b
 same_refusal place a b e f = let x : Stopped a ≡ Stopped b = sym e ∙ f in let y : a ≡ b = cc in ap status_of y
 
-pub none_again : (old new : Reading) (answer : Option Next) → answer ≡ None → RefusesAgain old new answer → (status : ℕ) → IsRefused old status → ⊥
-none_again old new answer none again status refused =
-    let same : None ≡ Some (Bad status) = sym none ∙ (again status refused).0 in cc
+pub refused_place : (place : Place) (why : Refusal) → Some why ≡ refusal_at place → place ≡ Stopped why
+refused_place Start why e = cc
+refused_place (Counted n) why e = cc
+refused_place (SizeLine sum) why e = cc
+refused_place (Chunk left sum) why e = cc
+refused_place (ChunkEnd sum) why e = cc
+refused_place Trailers why e = cc
+refused_place BodyEnd why e = cc
+refused_place (Stopped refusal) why e = cc
 
-pub none_need : (old new : Reading) (answer : Option Next) → answer ≡ None
-    → (((status : ℕ) → IsRefused old status → ⊥) → Answers old new answer) → RefusesAgain old new answer → Answers old new None
-none_need old new answer none answers again =
-    let P : Option Next → Type 0 = λ a. Answers old new a in
-    subst P none (answers (none_again old new answer none again))
+-- ---- where a call may fail
 
-pub some_again : (old new : Reading) (answer : Option Next) (next : Next) → answer ≡ Some next → RefusesAgain old new answer
-    → (status : ℕ) → IsRefused old status → (next ≡ Bad status) × (new ≡ old)
-some_again old new answer next some again status refused =
-    let both : Some next ≡ Some (Bad status) = sym some ∙ (again status refused).0 in
-    (same next (Bad status) both, (again status refused).1)
-  where
-    same : (a b : Next) → Some a ≡ Some b → a ≡ b
-    same a b e = cc
+pub when_ok : {A E : Type 0} (P Q : A → Type 0) (r : Result A E) → ((a : A) → P a → Q a) → IfOk r P → IfOk r Q
+when_ok P Q (Ok a) f p = f a p
+when_ok P Q (Err e) f p = tt
+
+pub when_err : {A E : Type 0} (P Q : Type 0) (r : Result A E) → (P → Q) → OnErr r P → OnErr r Q
+when_err P Q (Ok a) f p = tt
+when_err P Q (Err e) f p = f p
+
+pub both_ways : {A E : Type 0} (P : A → Type 0) (Q R : Type 0) (r : Result A E) → ((a : A) → P a → R) → (Q → R) → IfOk r P → OnErr r Q → R
+both_ways P Q R (Ok a) f g p q = f a p
+both_ways P Q R (Err e) f g p q = g q

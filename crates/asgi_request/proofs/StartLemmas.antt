@@ -8,7 +8,7 @@ use Rattle.httparse.specs.Grammar.{RequestHead}
 use Rattle.asgi_request.specs.declared.head.HeadRecord.{HeadRecord}
 use Rattle.asgi_request.specs.declared.next.Next.{Next}
 use Rattle.asgi_request.specs.declared.next.Next.TheVariants.{Head, Bad}
-use Rattle.asgi_request.specs.declared.place.Judged.{Judged}
+use Rattle.asgi_request.specs.Places.{Judged}
 use Rattle.asgi_request.specs.declared.place.Place.{Place}
 use Rattle.asgi_request.specs.declared.place.Place.TheVariants.{Start}
 use Rattle.asgi_request.specs.declared.refusal.Refusal.{Refusal}

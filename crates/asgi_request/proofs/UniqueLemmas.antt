@@ -9,7 +9,7 @@ use Rattle.asgi_request.specs.declared.head.HeadRecord.{HeadRecord}
 use Rattle.asgi_request.specs.declared.place.Place.{Place}
 use Rattle.asgi_request.specs.declared.place.Place.TheVariants.{Start, Counted, SizeLine, Chunk, ChunkEnd, Trailers, BodyEnd, Stopped}
 use Rattle.asgi_request.specs.declared.next.Next.{Next}
-use Rattle.asgi_request.specs.declared.place.Judged.{Judged}
+use Rattle.asgi_request.specs.Places.{Judged}
 use Rattle.asgi_request.specs.Fronts.{Front, found, too_long, unfinished, front_text}
 use Rattle.asgi_request.specs.Head.{ParsesHead, record_of}
 use Rattle.asgi_request.specs.Parts.{ParsesSize, ParsesTrailers}

@@ -10,7 +10,6 @@ use Rattle.asgi_request.specs.declared.place.Place.{Place}
 use Rattle.asgi_request.specs.declared.place.Place.TheVariants.{Start, Counted, SizeLine, Chunk, ChunkEnd, Trailers, BodyEnd, Stopped}
 use Rattle.asgi_request.specs.declared.next.Next.{Next}
 use Rattle.asgi_request.specs.declared.next.Next.TheVariants.{Head, Event, Whole, Bad}
-use Rattle.asgi_request.specs.declared.place.Judged.{Judged}
 use Rattle.asgi_request.specs.Fronts.{Front, found, too_long, unfinished, front_at, first, front_text, head_len, line_len, trailer_len}
 use Rattle.asgi_request.specs.ChunkedBody.{size_line_limit}
 use Rattle.asgi_request.specs.Head.{ParsesHead}
@@ -32,6 +31,11 @@ front limits (ChunkEnd sum) bytes = first 2 bytes
 front limits Trailers bytes = front_at limits.max_head bytes (trailer_len bytes)
 front limits BodyEnd bytes = found []
 front limits (Stopped refusal) bytes = unfinished
+
+-- what a text gives, if anything, and what is due behind it
+pub record Judged : Type 0 where
+  pub item : Option Next
+  pub place : Place
 
 -- nothing follows a refusal
 abbrev pub bad : Refusal → Judged

@@ -4,14 +4,16 @@ use Rattle.std.specs.Prelude.{◌≡◌, ℕ, ◌≤◌, List, ◌++◌, length,
 use Rattle.asgi_request.specs.declared.place.Place.{Place}
 use Rattle.asgi_request.specs.declared.place.Place.TheVariants.{Start, Counted, SizeLine, Chunk, ChunkEnd, Trailers, BodyEnd, Stopped}
 use Rattle.asgi_request.specs.declared.place.Advance.{Advance}
-use Rattle.asgi_request.specs.declared.place.Advance.TheVariants.{Waits, Silent, Gives}
+use Rattle.asgi_request.specs.declared.place.Advance.TheVariants.{Waits, Refuses, Gives}
 use Rattle.asgi_request.specs.declared.next.Next.{Next}
 use Rattle.asgi_request.specs.declared.next.Next.TheVariants.{Need, Head, Event, Whole, Bad}
 use Rattle.asgi_request.specs.declared.search.Search.{Search}
 use Rattle.asgi_request.specs.declared.search.Arrival.{Arrival}
 use Rattle.asgi_request.specs.declared.search.Arrival.TheVariants.{Text, TooLong, Partial}
 use Rattle.asgi_request.specs.Fronts.{Front, found, too_long, unfinished, more, empty_line_len, head_len, lines_len, line_len, trailer_len}
-use Rattle.asgi_request.specs.Places.{Takes}
+use Rattle.asgi_request.specs.Places.{Judged, JudgesText, Takes, front}
+use Rattle.asgi_request.specs.Refusals.{status_of}
+use Rattle.asgi_request.specs.declared.refusal.Refusal.{Refusal}
 use Rattle.asgi_request.specs.Reading.{Reading, IsWaiting, IsRefused, Keeps, GoesOn}
 
 -- the bytes before `at` hold no end of the text, whatever follows
@@ -66,25 +68,56 @@ pub record Stepped (old new : Reading) (item : Option Next) : Type 0 where
   pub capacity : new.capacity ≡ old.capacity
   pub takes : Takes old.limits old.place old.held (record { item = item; place = new.place }) new.held
 
--- what a turn came to, by its result
-abbrev pub advance_of : Option Next → Advance
-advance_of None = Silent
-advance_of (Some item) = Gives item
+-- a text of so many bytes is there
+pub record IsThere (r : Reading) (n : ℕ) : Type 0 where
+  pub inside : n ≤ length r.held
+  pub is_front : front r.limits r.place r.held ≡ found (take n r.held)
 
--- one turn, or none where the reader waits
-abbrev pub Steps : Reading → Reading → Advance → Type 0
-Steps old new Waits = (new ≡ old) × IsWaiting new
-Steps old new Silent = Stepped old new None
-Steps old new (Gives item) = Stepped old new (Some item)
+-- the reader behind so many bytes, at this place
+abbrev pub behind : Reading → ℕ → Place → Reading
+behind r n place = record { limits = r.limits; place = place; held = drop n r.held; capacity = r.capacity }
 
--- no further result of the bytes is there, or this is the next
-abbrev pub Answers : Reading → Reading → Option Next → Type 0
-Answers old new None = IsWaiting new × Keeps old new
-Answers old new (Some item) = GoesOn old new item
+-- a text of so many bytes, judged at this place, gave this
+pub record TakesText (old new : Reading) (place : Place) (n : ℕ) (item : Next) : Type 0 where
+  pub is_behind : new ≡ behind old n new.place
+  pub judged : JudgesText old.limits place (take n old.held) (record { item = Some item; place = new.place })
 
--- after a refusal the answer is that refusal
-abbrev pub RefusesAgain : Reading → Reading → Option Next → Type 0
-RefusesAgain old new answer = (status : ℕ) → IsRefused old status → (answer ≡ Some (Bad status)) × (new ≡ old)
+-- whether a text that is not refused gives no result here
+abbrev pub is_silent : Place → Bool
+is_silent Start = false
+is_silent (Counted n) = false
+is_silent (SizeLine sum) = true
+is_silent (Chunk left sum) = false
+is_silent (ChunkEnd sum) = true
+is_silent Trailers = false
+is_silent BodyEnd = false
+is_silent (Stopped refusal) = false
+
+-- why the bytes are refused here, if they are
+abbrev pub refusal_at : Place → Option Refusal
+refusal_at Start = None
+refusal_at (Counted n) = None
+refusal_at (SizeLine sum) = None
+refusal_at (Chunk left sum) = None
+refusal_at (ChunkEnd sum) = None
+refusal_at Trailers = None
+refusal_at BodyEnd = None
+refusal_at (Stopped refusal) = Some refusal
+
+-- a refusal, or no result
+abbrev pub refused : Option Refusal → Option Next
+refused None = None
+refused (Some why) = Some (Bad (status_of why))
+
+-- a turn without a result, or with a refusal
+abbrev pub passing : Place → Judged
+passing place = record { item = refused (refusal_at place); place = place }
+
+-- no result of the bytes is there, or they are refused, or a text of so many bytes gives one
+abbrev pub Advances : Reading → Reading → Advance → Type 0
+Advances old new Waits = IsWaiting new × Keeps old new
+Advances old new (Refuses why) = GoesOn old new (Bad (status_of why)) × (new.place ≡ Stopped why)
+Advances old new (Gives n) = Keeps old new × IsThere new n × (is_silent new.place ≡ false)
 
 -- what a result says of the reader: `Need` is none, and behind a refusal the reader is refused
 abbrev pub IsResult : Reading → Option Next → Type 0

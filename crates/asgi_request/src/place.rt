@@ -1,5 +1,6 @@
 //! What is due next in the bytes.
-use crate::next::Next;
+ghost use Rattle.std.specs.Prelude.{◌≡◌};
+
 use crate::refusal::Refusal;
 
 /// What is due next.
@@ -23,20 +24,37 @@ pub enum Place {
     Stopped(Refusal),
 }
 
-/// What one turn of a reader came to.
-#[derive(Drop)]
+/// How far a reader comes without a result.
+#[derive(Clone, Copy, Debug, PartialEq, Eq)]
 pub enum Advance {
     /// The next text is not whole.
     Waits,
-    /// It gave no result.
-    Silent,
-    /// It gave this result.
-    Gives(Next),
+    /// The bytes are refused.
+    Refuses(Refusal),
+    /// Up to a text of this length, which gives a result.
+    Gives(usize),
 }
 
-/// What a text gives, if anything, and what is due behind it.
-#[derive(Drop)]
-pub struct Judged {
-    pub item: Option<Next>,
-    pub place: Place,
+impl Place {
+    ghost use Rattle.asgi_request.specs.Searches as spec;
+
+    /// Whether a text that is not refused gives no result here.
+    pub fn is_silent(self) -> bool
+        ensures { result ≡ spec.is_silent self }
+    {
+        match self {
+            Place::SizeLine(_) | Place::ChunkEnd(_) => true,
+            _ => false,
+        }
+    }
+
+    /// Why the bytes are refused here, if they are.
+    pub fn refusal(self) -> Option<Refusal>
+        ensures { result ≡ spec.refusal_at self }
+    {
+        match self {
+            Place::Stopped(refusal) => Some(refusal),
+            _ => None,
+        }
+    }
 }

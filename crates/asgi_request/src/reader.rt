@@ -1,18 +1,27 @@
 //! Requests out of bytes that come in any pieces.
-ghost use Rattle.std.specs.Prelude.{◌≡◌, ◌≢◌, ◌+◌, ◌<◌, ◌≤◌, ◌++◌, ◌∷◌, [], ℕ, List, length, drop, OnOk, OnErr, IfOk, IsOk, Option};
+ghost use Rattle.std.specs.Prelude.{◌≡◌, ◌≢◌, ◌+◌, ◌<◌, ◌≤◌, ◌++◌, ◌∷◌, [], ℕ, List, length, take, drop, OnOk, OnErr, IfOk, IsOk, true, false, Some};
 ghost use Rattle.std.specs.Vec.{vec_len, vec_capacity};
 ghost use Rattle.asgi_types.specs.Room.{LacksRoom};
 ghost use Rattle.asgi_request.specs.declared.next.Next.{Next};
 ghost use Rattle.asgi_request.specs.declared.place.Place.TheVariants.{Start};
 ghost use Rattle.asgi_request.specs.Reading.{StandsFor, EndsWhole, AllGiven, WholeGiven, IsRefused, Keeps, GoesOn};
-ghost use Rattle.asgi_request.specs.Searches as spec;
-ghost use Rattle.asgi_request.specs.Searches.{Answers, RefusesAgain, IsResult, Steps};
+ghost use Rattle.asgi_request.specs.Fronts.{too_long};
+ghost use Rattle.asgi_request.specs.Places as places;
+ghost use Rattle.asgi_request.specs.Places.{front};
+ghost use Rattle.asgi_request.specs.Refusals.{status_of};
+ghost use Rattle.asgi_request.specs.Scopes.{scope_of as scope_is, facts_of as facts_is};
+ghost use Rattle.asgi_request.specs.Searches.{Advances, IsThere, IsWithin, Stepped, TakesText, behind, front_of, is_silent, refusal_at, refused};
 
-use crate::judge::{after_too_long, judge};
+use crate::framing::framing_or_refusal;
+use crate::head::{HeadRecord, parse_head};
+use crate::judge::{after_silent, body_place, why_too_long};
 use crate::next::Next;
+use crate::parts::is_trailer;
 use crate::place::{Advance, Place};
+use crate::refusal::Refusal;
+use crate::scope::{facts_of, scope_of};
 use crate::search::{Arrival, NEW_SEARCH, Search, arrive};
-use asgi_types::Limits;
+use asgi_types::{Framing, Incoming, Limits, Octets};
 use std::alloc::{AllocError, Global};
 use std::marker::Model;
 
@@ -95,63 +104,214 @@ impl RequestReader {
         ensures capacity { self.new.capacity ≡ self.old.capacity }
         ensures err { OnErr result (Keeps self.old self.new) }
     {
-        match self.next_item()? {
-            None => Ok(Next::Need),
-            Some(item) => Ok(item),
+        if let Place::Stopped(refusal) = self.place {
+            return Ok(Next::Bad(refusal.status()));
+        }
+        match self.advance() {
+            Advance::Waits => Ok(Next::Need),
+            Advance::Refuses(refusal) => Ok(Next::Bad(refusal.status())),
+            Advance::Gives(n) => self.give(n),
         }
     }
 
-    /// The next result, or `None` where more bytes are needed.
-    fn next_item(&mut self) -> Result<Option<Next>, AllocError>
-        ensures answers { IfOk result (λ answer. ((status : ℕ) → ¬ (IsRefused self.old status)) → Answers self.old self.new answer) }
-        ensures again { IfOk result (λ answer. RefusesAgain self.old self.new answer) }
-        ensures sure { (status : ℕ) → IsRefused self.old status → IsOk result }
-        ensures is_result { IfOk result (λ answer. IsResult self.new answer) }
+    /// Goes past the texts that give no result, up to one that gives one.
+    fn advance(&mut self) -> Advance
+        ensures advances { Advances self.old self.new result }
         ensures limits { self.new.limits ≡ self.old.limits }
         ensures capacity { self.new.capacity ≡ self.old.capacity }
-        ensures err { OnErr result (Keeps self.old self.new) }
     {
-        if let Place::Stopped(refusal) = self.place {
-            return Ok(Some(Next::Bad(refusal.status())));
-        }
         loop {
-            match self.step()? {
-                Advance::Waits => return Ok(None),
-                Advance::Gives(item) => return Ok(Some(item)),
-                Advance::Silent => {}
+            match self.arrive() {
+                Arrival::Partial => return Advance::Waits,
+                Arrival::TooLong => return Advance::Refuses(self.stop()),
+                Arrival::Text(n) => {
+                    if !self.place.is_silent() {
+                        return Advance::Gives(n);
+                    }
+                    if let Some(refusal) = self.pass(n) {
+                        return Advance::Refuses(refusal);
+                    }
+                }
             }
         }
     }
 
-    /// One turn: what the next text gives.
-    fn step(&mut self) -> Result<Advance, AllocError>
-        ensures steps { IfOk result (λ advance. Steps self.old self.new advance) }
-        ensures err { OnErr result (self.new ≡ self.old) }
+    /// What the bytes begin with.
+    fn arrive(&mut self) -> Arrival
+        ensures kept { self.new ≡ self.old }
+        ensures front { front_of self.old.held result ≡ front self.old.limits self.old.place self.old.held }
+        ensures within { IsWithin self.old.held result }
     {
-        let (arrival, search) = arrive(
+        arrive(
             &self.limits,
             self.place,
             &self.bytes[self.start..],
-            self.search,
-        );
-        self.search = search;
-        match arrival {
-            Arrival::Partial => Ok(Advance::Waits),
-            Arrival::TooLong => {
-                let turn = after_too_long(self.place);
-                self.place = turn.place;
-                self.search = NEW_SEARCH;
-                Ok(advance_of(turn.item))
-            }
-            Arrival::Text(n) => {
-                let text = &self.bytes[self.start..self.start + n];
-                let turn = judge(self.alloc, &self.limits, self.place, text)?;
-                self.start += n;
-                self.place = turn.place;
-                self.search = NEW_SEARCH;
-                Ok(advance_of(turn.item))
-            }
+            &mut self.search,
+        )
+    }
+
+    /// Refuses bytes without a text within its limit.
+    fn stop(&mut self) -> Refusal
+        requires { front self.old.limits self.old.place self.old.held ≡ too_long }
+        ensures steps { Stepped self.old self.new (Some (Next.Bad (status_of result))) }
+        ensures place { self.new.place ≡ Place.Stopped result }
+    {
+        let refusal = why_too_long(self.place);
+        self.go_on(0, Place::Stopped(refusal));
+        refusal
+    }
+
+    /// Goes behind a text that gives no result, or refuses it.
+    fn pass(&mut self, n: usize) -> Option<Refusal>
+        requires there { IsThere self.old n }
+        requires silent { is_silent self.old.place ≡ true }
+        ensures steps { Stepped self.old self.new (refused result) }
+        ensures place { result ≡ refusal_at self.new.place }
+    {
+        let place = after_silent(&self.limits, self.place, self.text(n));
+        self.go_on(n, place);
+        place.refusal()
+    }
+
+    /// What a text gives.
+    fn give(&mut self, n: usize) -> Result<Next, AllocError>
+        requires there { IsThere self.old n }
+        requires loud { is_silent self.old.place ≡ false }
+        ensures ok { IfOk result (λ item. TakesText self.old self.new self.old.place n item) }
+        ensures err { OnErr result (self.new ≡ self.old) }
+    {
+        match self.place {
+            Place::Start => self.give_head(n),
+            Place::Counted(left) => self.give_counted(n, left),
+            Place::Chunk { left, sum } => self.give_chunk(n, left, sum),
+            Place::Trailers => Ok(self.give_trailers(n)),
+            Place::BodyEnd => Ok(self.give_whole(n)),
+            Place::SizeLine(_) | Place::ChunkEnd(_) | Place::Stopped(_) => unreachable!(),
         }
+    }
+
+    /// The request of a head, or its refusal.
+    fn give_head(&mut self, n: usize) -> Result<Next, AllocError>
+        requires inside { n ≤ length self.old.held }
+        requires short { n ≤ self.old.limits.max_head }
+        ensures ok { IfOk result (λ item. TakesText self.old self.new Place.Start n item) }
+        ensures err { OnErr result (self.new ≡ self.old) }
+    {
+        let Some(head) = parse_head(self.alloc, self.limits.max_headers, self.text(n))? else {
+            return Ok(self.refuse(n, Refusal::BadRequest));
+        };
+        match framing_or_refusal(&head, &self.limits) {
+            Err(refusal) => Ok(self.refuse(n, refusal)),
+            Ok(framing) => self.give_request(n, head, framing),
+        }
+    }
+
+    /// The request of a head whose body is delimited in this way.
+    fn give_request(
+        &mut self,
+        n: usize,
+        head: HeadRecord,
+        framing: Framing,
+    ) -> Result<Next, AllocError>
+        requires { n ≤ length self.old.held }
+        ensures item { IfOk result (λ item. item ≡ Next.Head (scope_is head) (facts_is head framing)) }
+        ensures ok { OnOk result (self.new ≡ behind self.old n (places.body_place framing)) }
+        ensures err { OnErr result (self.new ≡ self.old) }
+    {
+        let facts = facts_of(self.alloc, &head, framing);
+        let scope = scope_of(self.alloc, head)?;
+        self.go_on(n, body_place(framing));
+        Ok(Next::Head(scope, facts))
+    }
+
+    /// The next block of a body whose length was announced.
+    fn give_counted(&mut self, n: usize, left: u64) -> Result<Next, AllocError>
+        requires { n ≤ length self.old.held }
+        ensures ok { IfOk result (λ item. TakesText self.old self.new (Place.Counted left) n item) }
+        ensures err { OnErr result (self.new ≡ self.old) }
+    {
+        let taken = n as u64;
+        if taken < left {
+            return self.give_block(n, true, Place::Counted(left - taken));
+        }
+        self.give_block(n, false, Place::BodyEnd)
+    }
+
+    /// The next block of a chunk.
+    fn give_chunk(&mut self, n: usize, left: u64, sum: u64) -> Result<Next, AllocError>
+        requires { n ≤ length self.old.held }
+        ensures ok { IfOk result (λ item. TakesText self.old self.new (Place.Chunk left sum) n item) }
+        ensures err { OnErr result (self.new ≡ self.old) }
+    {
+        let taken = n as u64;
+        if taken < left {
+            let left = left - taken;
+            return self.give_block(n, true, Place::Chunk { left, sum });
+        }
+        self.give_block(n, true, Place::ChunkEnd(sum))
+    }
+
+    /// The event of a block, behind which this is due.
+    fn give_block(&mut self, n: usize, more_body: bool, place: Place) -> Result<Next, AllocError>
+        requires { n ≤ length self.old.held }
+        ensures item { IfOk result (λ item. item ≡ Next.Event (Incoming.HttpRequest (take n self.old.held) more_body)) }
+        ensures ok { OnOk result (self.new ≡ behind self.old n place) }
+        ensures err { OnErr result (self.new ≡ self.old) }
+    {
+        let body = Octets::new(Vec::from_slice(self.alloc, self.text(n))?);
+        self.go_on(n, place);
+        Ok(Next::Event(Incoming::HttpRequest { body, more_body }))
+    }
+
+    /// The empty event behind a trailer section, or its refusal.
+    fn give_trailers(&mut self, n: usize) -> Next
+        requires { n ≤ length self.old.held }
+        ensures { TakesText self.old self.new Place.Trailers n result }
+    {
+        if !is_trailer(self.limits.max_headers, self.text(n)) {
+            return self.refuse(n, Refusal::BadRequest);
+        }
+        self.go_on(n, Place::BodyEnd);
+        let body = Octets::new(Vec::new(self.alloc));
+        let more_body = false;
+        Next::Event(Incoming::HttpRequest { body, more_body })
+    }
+
+    /// The end of a request.
+    fn give_whole(&mut self, n: usize) -> Next
+        requires { n ≤ length self.old.held }
+        ensures { TakesText self.old self.new Place.BodyEnd n result }
+    {
+        self.go_on(n, Place::Start);
+        Next::Whole
+    }
+
+    /// Refuses a text.
+    fn refuse(&mut self, n: usize, refusal: Refusal) -> Next
+        requires { n ≤ length self.old.held }
+        ensures item { result ≡ Next.Bad (status_of refusal) }
+        ensures stopped { self.new ≡ behind self.old n (Place.Stopped refusal) }
+    {
+        self.go_on(n, Place::Stopped(refusal));
+        Next::Bad(refusal.status())
+    }
+
+    /// Goes behind so many bytes, where this is due.
+    fn go_on(&mut self, n: usize, place: Place)
+        requires { n ≤ length self.old.held }
+        ensures { self.new ≡ behind self.old n place }
+    {
+        self.start += n;
+        self.place = place;
+        self.search = NEW_SEARCH;
+    }
+
+    /// The first bytes behind the last text.
+    fn text(&self, n: usize) -> &[u8]
+        requires { n ≤ length self.now.held }
+        ensures { result.now ≡ take n self.now.held }
+    {
+        &self.bytes[self.start..self.start + n]
     }
 
     /// The bytes behind the last `Whole`, or all of them where none was given yet; to be called while no
@@ -189,14 +349,4 @@ fn drop_front(bytes: &mut Vec<u8>, count: usize)
     ensures capacity { vec_capacity bytes.new ≡ vec_capacity bytes.old }
 {
     let _front = bytes.drain(..count);
-}
-
-/// What a turn came to that gave this result, or none.
-fn advance_of(item: Option<Next>) -> Advance
-    ensures { result ≡ spec.advance_of item }
-{
-    match item {
-        None => Advance::Silent,
-        Some(item) => Advance::Gives(item),
-    }
 }

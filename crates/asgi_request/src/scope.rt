@@ -53,8 +53,8 @@ pub fn scope_of(alloc: Global, head: HeadRecord) -> Result<Scope, AllocError>
 fn decoded(alloc: Global, path: &[u8]) -> Result<Chars, AllocError>
     ensures { IfOk result (λ text. text ≡ spec.decoded path.now) }
 {
-    let mut bytes = Vec::new(alloc);
-    percent_decode(path).append_to(&mut bytes)?;
+    // Where nothing is encoded, these are the bytes of the path itself.
+    let bytes = percent_decode(path).into_cow(alloc)?;
     Ok(Chars::new(String::from_utf8_lossy(alloc, &bytes)?))
 }
 

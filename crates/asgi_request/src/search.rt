@@ -44,30 +44,21 @@ pub const NEW_SEARCH: Search = Search {
 };
 
 /// What the bytes begin with at this place, and how far the search has come.
-pub fn arrive(limits: &Limits, place: Place, bytes: &[u8], search: Search) -> (Arrival, Search)
-    requires { Resumes place search bytes.now }
-    ensures front { front_of bytes.now result.0 ≡ front limits.now place bytes.now }
-    ensures within { IsWithin bytes.now result.0 }
-    ensures resumes { Resumes place result.1 bytes.now }
+pub fn arrive(limits: &Limits, place: Place, bytes: &[u8], search: &mut Search) -> Arrival
+    requires { Resumes place search.old bytes.now }
+    ensures front { front_of bytes.now result ≡ front limits.now place bytes.now }
+    ensures within { IsWithin bytes.now result }
+    ensures resumes { Resumes place search.new bytes.now }
 {
     match place {
-        Place::Start => {
-            let (found, search) = find_head(bytes, search);
-            (within(limits.max_head, bytes, found), search)
-        }
-        Place::Counted(n) => (first(at_most(n, limits.block), bytes), search),
-        Place::SizeLine(_) => {
-            let (found, search) = find_line(bytes, search);
-            (within(SIZE_LINE_LIMIT, bytes, found), search)
-        }
-        Place::Chunk { left, .. } => (first(at_most(left, limits.block), bytes), search),
-        Place::ChunkEnd(_) => (first(2, bytes), search),
-        Place::Trailers => {
-            let (found, search) = find_trailer(bytes, search);
-            (within(limits.max_head, bytes, found), search)
-        }
-        Place::BodyEnd => (Arrival::Text(0), search),
-        Place::Stopped(_) => (Arrival::Partial, search),
+        Place::Start => within(limits.max_head, bytes, find_head(bytes, search)),
+        Place::Counted(n) => first(at_most(n, limits.block), bytes),
+        Place::SizeLine(_) => within(SIZE_LINE_LIMIT, bytes, find_line(bytes, search)),
+        Place::Chunk { left, .. } => first(at_most(left, limits.block), bytes),
+        Place::ChunkEnd(_) => first(2, bytes),
+        Place::Trailers => within(limits.max_head, bytes, find_trailer(bytes, search)),
+        Place::BodyEnd => Arrival::Text(0),
+        Place::Stopped(_) => Arrival::Partial,
     }
 }
 
@@ -152,26 +143,29 @@ fn find_far_line_feed(bytes: &[u8], from: usize) -> Option<usize>
     Some(from + i)
 }
 
-/// The end of the first empty line that follows a line feed at `from` or later, and how far the search has come.
-fn find_lines(bytes: &[u8], from: usize) -> (Option<usize>, usize)
-    requires { from ≤ length bytes.now }
-    ensures found { result.0 ≡ spec.more from (lines_len (drop from bytes.now)) }
-    ensures inside { result.1 ≤ length bytes.now }
-    ensures same { GoesFrom lines_len lines_len from result.1 bytes.now }
+/// The end of the first empty line that follows a line feed behind `at`, to which the search goes on.
+fn find_lines(bytes: &[u8], at: &mut usize) -> Option<usize>
+    requires { at.old ≤ length bytes.now }
+    ensures found { result ≡ spec.more at.old (lines_len (drop at.old bytes.now)) }
+    ensures inside { at.new ≤ length bytes.now }
+    ensures same { GoesFrom lines_len lines_len at.old at.new bytes.now }
 {
-    let mut at = from;
-    while let Some(i) = find_line_feed(bytes, at) {
+    let mut from = *at;
+    while let Some(i) = find_line_feed(bytes, from) {
         let rest = &bytes[i + 1..];
         let n = empty_line_length(rest);
         if n > 0 {
-            return (Some(i + 1 + n), i);
+            *at = i;
+            return Some(i + 1 + n);
         }
         if is_open(rest) {
-            return (None, i);
+            *at = i;
+            return None;
         }
-        at = i + 1;
+        from = i + 1;
     }
-    (None, bytes.len())
+    *at = bytes.len();
+    None
 }
 
 /// Where the first byte that is neither CR nor LF stands, from `from` on.
@@ -188,68 +182,60 @@ fn find_begin(bytes: &[u8], from: usize) -> Option<usize>
     None
 }
 
-fn find_head(bytes: &[u8], search: Search) -> (Option<usize>, Search)
-    requires { Continues head_len (head_part search.begun) search.at bytes.now }
-    ensures found { result.0 ≡ head_len bytes.now }
-    ensures resumes { Continues head_len (head_part result.1.begun) result.1.at bytes.now }
+fn find_head(bytes: &[u8], search: &mut Search) -> Option<usize>
+    requires { Continues head_len (head_part search.old.begun) search.old.at bytes.now }
+    ensures found { result ≡ head_len bytes.now }
+    ensures resumes { Continues head_len (head_part search.new.begun) search.new.at bytes.now }
 {
     if search.begun {
-        return find_head_from(bytes, search.at);
+        return find_lines(bytes, &mut search.at);
     }
     match find_begin(bytes, search.at) {
-        Some(i) => find_head_from(bytes, i + 1),
-        None => (
-            None,
-            Search {
-                at: bytes.len(),
-                begun: false,
-            },
-        ),
+        Some(i) => {
+            search.at = i + 1;
+            search.begun = true;
+            find_lines(bytes, &mut search.at)
+        }
+        None => {
+            search.at = bytes.len();
+            None
+        }
     }
 }
 
-fn find_head_from(bytes: &[u8], from: usize) -> (Option<usize>, Search)
-    requires { from ≤ length bytes.now }
-    ensures found { result.0 ≡ spec.more from (lines_len (drop from bytes.now)) }
-    ensures inside { result.1.at ≤ length bytes.now }
-    ensures begun { result.1.begun ≡ true }
-    ensures same { GoesFrom lines_len lines_len from result.1.at bytes.now }
-{
-    let (found, at) = find_lines(bytes, from);
-    (found, Search { at, begun: true })
-}
-
-fn find_line(bytes: &[u8], search: Search) -> (Option<usize>, Search)
-    requires { Continues line_len line_len search.at bytes.now }
-    ensures found { result.0 ≡ line_len bytes.now }
-    ensures resumes { Continues line_len line_len result.1.at bytes.now }
+fn find_line(bytes: &[u8], search: &mut Search) -> Option<usize>
+    requires { Continues line_len line_len search.old.at bytes.now }
+    ensures found { result ≡ line_len bytes.now }
+    ensures resumes { Continues line_len line_len search.new.at bytes.now }
 {
     match find_line_feed(bytes, search.at) {
-        Some(at) => (Some(at + 1), Search { at, begun: false }),
-        None => (
-            None,
-            Search {
-                at: bytes.len(),
-                begun: false,
-            },
-        ),
+        Some(i) => {
+            search.at = i;
+            Some(i + 1)
+        }
+        None => {
+            search.at = bytes.len();
+            None
+        }
     }
 }
 
-fn find_trailer(bytes: &[u8], search: Search) -> (Option<usize>, Search)
-    requires { ResumesTrailer search.begun search.at bytes.now }
-    ensures found { result.0 ≡ trailer_len bytes.now }
-    ensures resumes { ResumesTrailer result.1.begun result.1.at bytes.now }
+fn find_trailer(bytes: &[u8], search: &mut Search) -> Option<usize>
+    requires { ResumesTrailer search.old.begun search.old.at bytes.now }
+    ensures found { result ≡ trailer_len bytes.now }
+    ensures resumes { ResumesTrailer search.new.begun search.new.at bytes.now }
 {
     if search.begun {
-        return find_head_from(bytes, search.at);
+        return find_lines(bytes, &mut search.at);
     }
     let n = empty_line_length(bytes);
     if n > 0 {
-        return (Some(n), NEW_SEARCH);
+        return Some(n);
     }
     if is_open(bytes) {
-        return (None, NEW_SEARCH);
+        return None;
     }
-    find_head_from(bytes, 0)
+    search.at = 0;
+    search.begun = true;
+    find_lines(bytes, &mut search.at)
 }

@@ -22,7 +22,7 @@ pub fn append_all(out: &mut Vec<u8>, texts: &[&[u8]]) -> Result<(), AllocError>
 }
 
 /// How many bytes the texts have together. It fails where a `usize` can't say it: no memory holds so many.
-fn total_len(texts: &[&[u8]]) -> Result<usize, AllocError>
+pub fn total_len(texts: &[&[u8]]) -> Result<usize, AllocError>
     ensures ok { IfOk result (λ n. n ≡ length (flat_map (λ text. text.now) texts.now)) }
     ensures err { OnErr result (2 ^ 64 ≤ length (flat_map (λ text. text.now) texts.now)) }
 {

@@ -1,11 +1,10 @@
 //! The head of a response.
-ghost use Rattle.std.specs.Prelude.{◌≡◌, ◌++◌, ◌≤◌, [], length, min, OnOk, OnErr, IfOk, if◌then◌else◌};
+ghost use Rattle.std.specs.Prelude.{◌≡◌, ◌++◌, ◌≤◌, [], length, min, OnOk, OnErr, IfOk, if◌then◌else◌, decimal};
 ghost use Rattle.std.specs.Vec.{vec_len, vec_capacity};
 ghost use Rattle.asgi_types.specs.Room.{LacksRoom};
 ghost use Rattle.asgi_response.specs.StatusLine as line;
 ghost use Rattle.asgi_response.specs.Fields as spec;
 
-use crate::append::append_all;
 use crate::fields::is_shown;
 use asgi_types::{Headers, Octets};
 use itoa::Buffer;
@@ -18,6 +17,8 @@ pub const SPACE: &[u8] = b" ";
 pub const CRLF: &[u8] = b"\r\n";
 
 const COLON: &[u8] = b": ";
+
+const OK_LINE: &[u8] = b"HTTP/1.1 200 OK\r\n";
 
 const CHUNKED_LINE: &[u8] = b"transfer-encoding: chunked\r\n";
 
@@ -49,31 +50,44 @@ fn append_head(
     ensures ok { OnOk result (out.new.items ≡ out.old.items ++ spec.head_text chunked closing status headers.now) }
     ensures full { OnErr result (LacksRoom (vec_capacity out.old) (vec_len out.old) (spec.head_text chunked closing status headers.now)) }
 {
-    out.reserve(head_len(chunked, closing, status, headers))?;
-    write_head(out, chunked, closing, status, headers)
+    let mut buffer = Buffer::new();
+    let code = buffer.format(status).as_bytes();
+    let reason = reason_phrase(status).as_bytes();
+    out.reserve(head_len(chunked, closing, code, reason, status, headers))?;
+    write_head(out, chunked, closing, code, reason, status, headers)
 }
 
 /// How many bytes the head of a response has, or the greatest `usize` where it has more.
-fn head_len(chunked: bool, closing: bool, status: u16, headers: &Headers) -> usize
+fn head_len(
+    chunked: bool,
+    closing: bool,
+    code: &[u8],
+    reason: &[u8],
+    status: u16,
+    headers: &Headers,
+) -> usize
+    requires code { code.now ≡ decimal status }
+    requires reason { reason.now ≡ line.reason_phrase status }
     ensures { result ≡ min (length (spec.head_text chunked closing status headers.now)) usize.MAX }
 {
-    status_line_len(status)
+    status_line_len(status, code, reason)
         .saturating_add(fields_len(status, headers))
         .saturating_add(len_if(chunked, CHUNKED_LINE))
         .saturating_add(len_if(closing, CLOSE_LINE))
         .saturating_add(CRLF.len())
 }
 
-/// How many bytes the line of a status has.
-fn status_line_len(status: u16) -> usize
+/// How many bytes the line of a status has, by its code and its reason phrase.
+fn status_line_len(status: u16, code: &[u8], reason: &[u8]) -> usize
+    requires code { code.now ≡ decimal status }
+    requires reason { reason.now ≡ line.reason_phrase status }
     ensures { result ≡ min (length (line.status_line status)) usize.MAX }
 {
-    let mut buffer = Buffer::new();
     VERSION
         .len()
-        .saturating_add(buffer.format(status).len())
+        .saturating_add(code.len())
         .saturating_add(SPACE.len())
-        .saturating_add(reason_phrase(status).len())
+        .saturating_add(reason.len())
         .saturating_add(CRLF.len())
 }
 
@@ -112,13 +126,17 @@ fn write_head(
     out: &mut Vec<u8>,
     chunked: bool,
     closing: bool,
+    code: &[u8],
+    reason: &[u8],
     status: u16,
     headers: &Headers,
 ) -> Result<(), AllocError>
+    requires code { code.now ≡ decimal status }
+    requires reason { reason.now ≡ line.reason_phrase status }
     ensures ok { OnOk result (out.new.items ≡ out.old.items ++ spec.head_text chunked closing status headers.now) }
     ensures full { OnErr result (LacksRoom (vec_capacity out.old) (vec_len out.old) (spec.head_text chunked closing status headers.now)) }
 {
-    write_status_line(out, status)?;
+    write_status_line(out, status, code, reason)?;
     write_fields(out, status, headers)?;
     write_if(out, chunked, CHUNKED_LINE)?;
     write_if(out, closing, CLOSE_LINE)?;
@@ -126,16 +144,36 @@ fn write_head(
     Ok(())
 }
 
-/// Appends the line of a status.
-fn write_status_line(out: &mut Vec<u8>, status: u16) -> Result<(), AllocError>
+/// Appends the line of a status, by its code and its reason phrase.
+fn write_status_line(
+    out: &mut Vec<u8>,
+    status: u16,
+    code: &[u8],
+    reason: &[u8],
+) -> Result<(), AllocError>
+    requires code { code.now ≡ decimal status }
+    requires reason { reason.now ≡ line.reason_phrase status }
     ensures ok { OnOk result (out.new.items ≡ out.old.items ++ line.status_line status) }
     ensures capacity { vec_capacity out.old ≤ vec_capacity out.new }
     ensures full { OnErr result (LacksRoom (vec_capacity out.old) (vec_len out.old) (line.status_line status)) }
 {
-    let mut buffer = Buffer::new();
-    let code = buffer.format(status).as_bytes();
-    let reason = reason_phrase(status).as_bytes();
-    append_all(out, &[VERSION, code, SPACE, reason, CRLF])
+    // Most responses have this status.
+    if status == 200 {
+        return out.extend_from_slice(ok_line());
+    }
+    out.extend_from_slice(VERSION)?;
+    out.extend_from_slice(code)?;
+    out.extend_from_slice(SPACE)?;
+    out.extend_from_slice(reason)?;
+    out.extend_from_slice(CRLF)?;
+    Ok(())
+}
+
+/// The line of status 200.
+fn ok_line() -> &'static [u8]
+    ensures { result.now ≡ line.status_line 200 }
+{
+    OK_LINE
 }
 
 /// The reason phrase of a status.
@@ -194,12 +232,16 @@ fn write_fields(out: &mut Vec<u8>, status: u16, headers: &Headers) -> Result<(),
 }
 
 /// Appends the line of a field.
-fn write_field<'a>(out: &mut Vec<u8>, name: &'a [u8], value: &'a [u8]) -> Result<(), AllocError>
+fn write_field(out: &mut Vec<u8>, name: &[u8], value: &[u8]) -> Result<(), AllocError>
     ensures ok { OnOk result (out.new.items ≡ out.old.items ++ spec.field_line (record { name = name.now; value = value.now })) }
     ensures capacity { vec_capacity out.old ≤ vec_capacity out.new }
     ensures full { OnErr result (LacksRoom (vec_capacity out.old) (vec_len out.old) (spec.field_line (record { name = name.now; value = value.now }))) }
 {
-    append_all(out, &[name, COLON, value, CRLF])
+    out.extend_from_slice(name)?;
+    out.extend_from_slice(COLON)?;
+    out.extend_from_slice(value)?;
+    out.extend_from_slice(CRLF)?;
+    Ok(())
 }
 
 /// Appends the text where it is wanted.

@@ -15,7 +15,7 @@ ghost use Rattle.asgi_response.specs.Room.{LacksMemory};
 ghost use Rattle.asgi_response.specs.Standing as standing;
 ghost use Rattle.asgi_response.specs.Steps as steps;
 
-use crate::append::{append_all, hexadecimal};
+use crate::append::{append_all, hexadecimal, total_len};
 use crate::content::{Coding, Content};
 use crate::fields::closes;
 use crate::head::{CRLF, head_text};
@@ -332,7 +332,15 @@ fn append_sized<'a>(
     ensures err { OnErr result (out.new.items ≡ out.old.items) }
     ensures full { OnErr result (LacksRoom (vec_capacity out.old) (vec_len out.old) (front.now ++ (size.now ++ crlf_bytes ++ body.now ++ crlf_bytes ++ last.now))) }
 {
-    append_all(out, &[front, size, CRLF, body, CRLF, last])
+    out.reserve(total_len(&[front, size, CRLF, body, CRLF, last])?)?;
+    // The room is there, so these never fail: only their type says that they may.
+    out.extend_from_slice(front)?;
+    out.extend_from_slice(size)?;
+    out.extend_from_slice(CRLF)?;
+    out.extend_from_slice(body)?;
+    out.extend_from_slice(CRLF)?;
+    out.extend_from_slice(last)?;
+    Ok(())
 }
 
 /// The last chunk, where no more bodies follow.

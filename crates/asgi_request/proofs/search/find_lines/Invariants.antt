@@ -4,7 +4,7 @@ use Rattle.asgi_request.specs.Searches.{GoesFrom}
 use Rattle.asgi_request.proofs.search.find_lines.Given as goal
 
 abbrev pub invariant-loop-i : goal.invariant-loop-i
-invariant-loop-i l = (l.at ≤ length l.bytes) × GoesFrom lines_len lines_len l.from l.at l.bytes
+invariant-loop-i l = (l.from ≤ length l.bytes) × GoesFrom lines_len lines_len l.fn.at l.from l.bytes
 
 abbrev pub decreases-loop-i : goal.decreases-loop-i
-decreases-loop-i l = length l.bytes - l.at
+decreases-loop-i l = length l.bytes - l.from

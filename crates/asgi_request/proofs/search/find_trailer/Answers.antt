@@ -6,14 +6,12 @@ use Rattle.asgi_request.proofs.search.find_trailer.Goals as goal
 
 pub returns-then-search-clause-found : goal.returns-then-search-clause-found
 returns-then-search-clause-found c =
-    let P : Bool → Type 0 = λ b. ResumesTrailer b c.args.search.at c.args.bytes.now in
+    let P : Bool → Type 0 = λ b. ResumesTrailer b c.args.search.now.at c.args.bytes.now in
     let begun = subst P c.if-search.true c.requires in
-    c.find_head_from.ensures.found ∙ sym (whole_is trailer_len lines_len c.args.search.at c.args.bytes.now begun)
+    c.find_lines.ensures.found ∙ sym (whole_is trailer_len lines_len c.args.search.now.at c.args.bytes.now begun)
 
 pub returns-clause-resumes : goal.returns-clause-resumes
 returns-clause-resumes c =
     let none : c.empty_line_length-n.result ≡ 0 = omega arith in
     let start = trailer_begun c.args.bytes.now (sym c.empty_line_length-n.ensures.value ∙ none) (c.is_open.ensures.closed c.if-is_open.false) in
-    let P : Bool → Type 0 = λ b. ResumesTrailer b c.find_head_from-2.result.1.at c.args.bytes.now in
-    subst P (sym c.find_head_from-2.ensures.begun)
-    (Continues-then trailer_len lines_len lines_len 0 c.find_head_from-2.result.1.at c.args.bytes.now start c.find_head_from-2.ensures.inside c.find_head_from-2.ensures.same)
+    Continues-then trailer_len lines_len lines_len 0 c.find_lines-2.new.at c.args.bytes.now start c.find_lines-2.ensures.inside c.find_lines-2.ensures.same

@@ -1,22 +1,46 @@
-use Rattle.asgi_request.proofs.ReaderLemmas.{none_need, none_again, some_again}
+use Rattle.std.proofs.Common.{◌≡◌, refl, ap, sym, ◌∙◌, subst, Some}
+use Rattle.asgi_request.specs.Refusals.{status_of}
+use Rattle.asgi_request.specs.Reading.{Reading, Keeps}
+use Rattle.asgi_request.specs.Searches.{TakesText}
+use Rattle.asgi_request.proofs.ReaderLemmas.{stepped_stands, stepped_result, text_stepped, answers_need, answers_bad, when_ok, when_err, both_ways}
 use Rattle.asgi_request.proofs.StandardLemmas.{all_results}
 use Rattle.asgi_request.proofs.reader.RequestReader.next.Goals as goal
 
-pub returns-in-None-clause-need : goal.returns-in-None-clause-need
-returns-in-None-clause-need c e bytes given stands =
-    let new = c.next_item.new.self in
-    let waits =
-    none_need c.args.self.now c.next_item.new.self c.in_ok-next_item.field-0 c.in-None.is c.in_ok-next_item.ensures.answers c.in_ok-next_item.ensures.again in
-    let kept = waits.1 bytes given stands in
-    (kept, all_results new.limits new.limits.block_in_range.0 bytes given new.place new.held kept waits.0)
+pub returns-in-Stopped-clause-given : goal.returns-in-Stopped-clause-given
+returns-in-Stopped-clause-given c result going =
+    absurd (going (status_of c.in-Stopped.refusal) (c.in-Stopped.refusal, sym (ap (λ (r : Reading). r.place) c.self.view_is) ∙ c.in-Stopped.is, refl))
 
-pub returns-in-None-clause-again : goal.returns-in-None-clause-again
-returns-in-None-clause-again c status refused =
-    absurd (none_again c.args.self.now c.next_item.new.self c.in_ok-next_item.field-0 c.in-None.is c.in_ok-next_item.ensures.again status refused)
+pub returns-in-Waits : goal.returns-in-Waits
+returns-in-Waits c =
+    let new = c.advance.new.self in
+    let waits = c.in-Waits.ensures.advances in
+    record {
+      need = λ e bytes given stands. (waits.1 bytes given stands, all_results new.limits new.limits.block_in_range.0 bytes given new.place new.held (waits.1 bytes given stands) waits.0);
+      given = λ result. absurd (result refl);
+      refused = λ status e. absurd cc;
+      again = λ status e. absurd (c.in_default.not-Stopped e.0 (ap (λ (r : Reading). r.place) c.self.view_is ∙ e.1));
+      sure = λ status e. absurd (c.in_default.not-Stopped e.0 (ap (λ (r : Reading). r.place) c.self.view_is ∙ e.1));
+      limits = c.advance.ensures.limits;
+      capacity = c.advance.ensures.capacity;
+      err = tt;
+    }
 
-pub returns-in-Some-clause-again : goal.returns-in-Some-clause-again
-returns-in-Some-clause-again c status refused =
-    some_again c.args.self.now c.next_item.new.self c.in_ok-next_item.field-0 _ c.in-Some.is c.in_ok-next_item.ensures.again status refused
-
-pub returns-in_err-next_item-clause-sure : goal.returns-in_err-next_item-clause-sure
-returns-in_err-next_item-clause-sure c status refused = let e = c.in_err-next_item.ensures.sure status refused in absurd cc
+pub returns-in-Gives : goal.returns-in-Gives
+returns-in-Gives c =
+    let mid = c.advance.new.self in
+    let new = c.give.new.self in
+    let n = c.in-Gives.n in
+    let gives = c.in-Gives.ensures.advances in
+    let P : Reading → Type 0 = λ r. Keeps c.args.self.now r in
+    let ok = c.give.ensures.ok in
+    let err = c.give.ensures.err in
+    record {
+      need = when_ok (λ item. TakesText mid new mid.place n item) _ c.give.result (λ item took e. absurd (answers_need mid new item (stepped_result mid new (Some item) (text_stepped mid new n item gives.1 took)) e)) ok;
+      given = when_ok (λ item. TakesText mid new mid.place n item) _ c.give.result (λ item took _ _ bytes given stands. stepped_stands mid new (Some item) (text_stepped mid new n item gives.1 took) bytes given (gives.0 bytes given stands)) ok;
+      refused = when_ok (λ item. TakesText mid new mid.place n item) _ c.give.result (λ item took status e. answers_bad new item status (stepped_result mid new (Some item) (text_stepped mid new n item gives.1 took)) e) ok;
+      again = when_ok (λ item. TakesText mid new mid.place n item) _ c.give.result (λ item took status e. absurd (c.in_default.not-Stopped e.0 (ap (λ (r : Reading). r.place) c.self.view_is ∙ e.1))) ok;
+      sure = λ status e. absurd (c.in_default.not-Stopped e.0 (ap (λ (r : Reading). r.place) c.self.view_is ∙ e.1));
+      limits = both_ways (λ item. TakesText mid new mid.place n item) (new ≡ mid) _ c.give.result (λ item took. ap (λ (r : Reading). r.limits) took.is_behind ∙ c.advance.ensures.limits) (λ e. ap (λ (r : Reading). r.limits) e ∙ c.advance.ensures.limits) ok err;
+      capacity = both_ways (λ item. TakesText mid new mid.place n item) (new ≡ mid) _ c.give.result (λ item took. ap (λ (r : Reading). r.capacity) took.is_behind ∙ c.advance.ensures.capacity) (λ e. ap (λ (r : Reading). r.capacity) e ∙ c.advance.ensures.capacity) ok err;
+      err = when_err (new ≡ mid) (Keeps c.args.self.now new) c.give.result (λ e. subst P (sym e) gives.0) err;
+    }
