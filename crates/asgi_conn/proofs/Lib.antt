@@ -9,3 +9,4 @@ pub mod OneConversationLemmas
 pub mod TakenLemmas
 pub mod LoopLemmas
 pub mod TaskEndLemmas
+pub mod ConversationExample
