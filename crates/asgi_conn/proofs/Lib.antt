@@ -10,3 +10,4 @@ pub mod TakenLemmas
 pub mod LoopLemmas
 pub mod TaskEndLemmas
 pub mod ConversationExample
+pub mod BeginningLemmas
