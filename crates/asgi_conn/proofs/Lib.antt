@@ -9,3 +9,5 @@ pub mod OneConversationLemmas
 pub mod TakenLemmas
 pub mod LoopLemmas
 pub mod TaskEndLemmas
+pub mod ConversationExample
+pub mod BeginningLemmas

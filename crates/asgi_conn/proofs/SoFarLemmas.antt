@@ -172,11 +172,11 @@ ends_by_task limits end read exchanges written scope facts w kind events state r
 
 -- ---- a connection that is cut short
 
-text_front : (facts : Facts) (taken said : List Outgoing) → IsPrefix taken said → IsPrefix (response_text facts taken) (response_text facts said)
+pub text_front : (facts : Facts) (taken said : List Outgoing) → IsPrefix taken said → IsPrefix (response_text facts taken) (response_text facts said)
 text_front facts taken said p = let g = text_grows facts taken p.0 in (g.0, sym g.1 ∙ ap (response_text facts) p.1)
 
 -- the text of the events comes first, whether the task ended or not
-response_first : (x : Exchanged) (state : BodyState) → IsPrefix (response_text x.facts x.said) (out_text x (input_of state))
+pub response_first : (x : Exchanged) (state : BodyState) → IsPrefix (response_text x.facts x.said) (out_text x (input_of state))
 response_first x state = by x.ended
   where
     by : (o : Option EndKind) → IsPrefix (response_text x.facts x.said) (text_of x.facts x.said o (input_of state))

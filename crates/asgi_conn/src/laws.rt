@@ -25,8 +25,8 @@ ghost use Rattle.asgi_exchange.specs.Views.{World, taken_of};
 ghost use Rattle.asgi_conn.specs.declared.report.Outcome.{Outcome};
 ghost use Rattle.asgi_conn.specs.declared.report.Report.{Report};
 ghost use Rattle.asgi_conn.specs.Conversation.{Due, Conversation, IsDue, IsBlank, IsWhole, NothingIsDue, due_text};
-ghost use Rattle.asgi_conn.specs.Exchanges.{Exchanged, IsFollowed, requests_of};
-ghost use Rattle.asgi_conn.specs.Persistence.{CountsExchanges, Converses, EndsBetween, StopsWithin, heads_of};
+ghost use Rattle.asgi_conn.specs.Exchanges.{Exchanged, IsFollowed, out_text, requests_of};
+ghost use Rattle.asgi_conn.specs.Persistence.{CountsExchanges, Converses, EndsBetween, EndsWithin, StopsWithin, heads_of};
 ghost use Rattle.asgi_conn.specs.SoFar.{SoFar, InOne, Between, Within, exchanged, TaskIsOver, HasBroken, HasBrokenIn, IsCutBy, IsOut, IsLast, ConversesLast};
 ghost use Rattle.asgi_conn.specs.TaskEnds.{InputEnd, at_end, failed, has_ended, is_faulty, is_cut, next_request, connection_ends};
 
@@ -70,6 +70,12 @@ pub fn conversation_is_one()
         → is_cut report.outcome ≡ false → is_cut another.outcome ≡ false → (written ≡ other) × (report.outcome ≡ another.outcome) }
     ensures follows { (x : Exchanged) (state : BodyState) → IsFollowed x state next_request
         → (progress_of x.facts x.said ≡ Progress.Complete false) × ((behind : List ℕ) × (state ≡ BodyState.complete behind)) }
+{}
+
+/// However the connection ends in an exchange, what is written there is a beginning of the text of the exchange.
+pub fn what_is_written_is_a_beginning()
+    ensures { (outcome : Outcome) (end : InputEnd) (x : Exchanged) (state : BodyState) (text : List ℕ)
+        → EndsWithin outcome end x state text → IsPrefix text (out_text x (input_of state)) }
 {}
 
 /// The requests of a conversation are the first heads among the results of the bytes read, in order; where nothing is due

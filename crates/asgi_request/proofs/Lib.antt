@@ -35,3 +35,4 @@ pub mod DueLemmas
 pub mod OpenedLemmas
 pub mod NextLemmas
 pub mod StartLemmas
+pub mod HeadExamples
