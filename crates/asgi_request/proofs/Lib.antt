@@ -35,3 +35,5 @@ pub mod DueLemmas
 pub mod OpenedLemmas
 pub mod NextLemmas
 pub mod StartLemmas
+pub mod KeyLemmas
+pub mod SubprotocolLemmas
