@@ -13,7 +13,9 @@ mod refusal;
 mod tests;
 mod text;
 
+pub use append::append_all;
 pub use asgi_io::{Counted, Counts, Wrote, is_passing, write_out};
+pub use head::write_field;
 pub use laws::{
     head_is_read_back, headers_are_read_back, lawful_is_accepted, passed_is_accepted,
     response_is_read_back, text_only_grows,
