@@ -104,3 +104,21 @@ fn a_key_is_answered(rt: HostRuntime) -> Result<(), Fail> {
     );
     Ok(())
 }
+
+/// An "Accept" with a subprotocol and a field.
+fn chosen(alloc: Global) -> Result<Outgoing, HeaderError> {
+    accept(alloc, named(alloc, "chat")?, &[("x-a", "q")])
+}
+
+#[test]
+fn memory_for_an_answer(rt: HostRuntime) -> Result<(), Fail> {
+    let lines = "sec-websocket-protocol: chat\r\nx-a: q\r\n\r\n";
+    let event = chosen(rt.alloc()).or_else(|_| chosen(rt.alloc()))?;
+    let given = ends_with(rt.alloc(), &event, lines).or_else(|_| ends_with(
+        rt.alloc(),
+        &event,
+        lines,
+    ))?;
+    assert!(rt; given);
+    Ok(())
+}
