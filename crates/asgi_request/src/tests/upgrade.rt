@@ -269,3 +269,32 @@ fn subprotocols_are_the_tokens_in_their_order(rt: HostRuntime) -> Result<(), Fai
     }
     Ok(())
 }
+
+/// The record of a handshake that offers two subprotocols, made again where memory was refused.
+fn offering(alloc: Global) -> Result<HeadRecord, HeaderError> {
+    let fields = [WS, UP, KEY, V13, ("sec-websocket-protocol", "a, b")];
+    match record(alloc, HttpVersion::V11, "GET", &fields) {
+        Ok(head) => Ok(head),
+        Err(_) => record(alloc, HttpVersion::V11, "GET", &fields),
+    }
+}
+
+/// Whether two subprotocols are offered.
+fn offers_two(ask: &UpgradeAsk) -> bool {
+    match ask {
+        UpgradeAsk::Upgrade { subprotocols, .. } => subprotocols.len() == 2,
+        _ => false,
+    }
+}
+
+fn gives_two(alloc: Global, head: &HeadRecord) -> Result<bool, AllocError> {
+    of_given(check_upgrade(alloc, head, &NONE), offers_two)
+}
+
+#[test]
+fn memory_for_an_upgrade(rt: HostRuntime) -> Result<(), Fail> {
+    let head = offering(rt.alloc())?;
+    let given = gives_two(rt.alloc(), &head).or_else(|_| gives_two(rt.alloc(), &head))?;
+    assert!(rt; given);
+    Ok(())
+}
