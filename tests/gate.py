@@ -13,6 +13,7 @@ import time
 
 TOP = os.path.dirname(os.path.dirname(os.path.realpath(__file__)))
 PROGRAM = "crates/asgi_demo/out/asgi_demo"
+KEYS = "crates/asgi_keys/out/asgi_keys"
 # What each part runs, and what its sum counts.
 PARTS = [
     ("sources read", ["python3", "tests/sources.py"]),
@@ -22,6 +23,7 @@ PARTS = [
     ("rt ci", ["rt", "ci"]),
     ("runs with an allocation refused", ["python3", "tests/memory.py"]),
     ("tests from outside", ["python3", "tests/program.py", PROGRAM]),
+    ("tests from outside", ["python3", "tests/keys.py", KEYS]),
     ("further edits refused", ["python3", "tests/must_fail.py"]),
 ]
 SUM = re.compile(r"(\d+) passed, (\d+) failed")

@@ -20,7 +20,7 @@ use Rattle.asgi_io.proofs.WriteLemmas.{moved_some, moved_none, paused, failed}
 use Rattle.asgi_request.specs.declared.next.Next.{Next}
 use Rattle.asgi_request.specs.declared.next.Next.TheVariants.{Need, Bad}
 use Rattle.asgi_request.specs.declared.refusal.Refusal.{Refusal}
-use Rattle.asgi_request.specs.declared.refusal.Refusal.TheVariants.{BadRequest, ContentTooLarge, HeaderFieldsTooLarge, NotImplemented}
+use Rattle.asgi_request.specs.declared.refusal.Refusal.TheVariants.{BadRequest, ContentTooLarge, HeaderFieldsTooLarge, NotImplemented, UpgradeRequired}
 use Rattle.asgi_request.specs.Reading.{Reading, StandsFor, IsRefused, WholeGiven, GoesOn as GivesOn}
 use Rattle.asgi_request.specs.Refusals.{status_of}
 use Rattle.asgi_request.specs.Results.{GivesResults, HasFirst}
@@ -67,6 +67,7 @@ refusal_known why status e = subst (λ k. IsTrue (is_refusal k)) (sym e) (known 
     known BadRequest = refl
     known ContentTooLarge = refl
     known HeaderFieldsTooLarge = refl
+    known UpgradeRequired = refl
     known NotImplemented = refl
 
 -- ---- the end of the input

@@ -1,5 +1,6 @@
 -- More bytes behind a body: what was due stays due, and a body that is whole or faulty stays so.
-use Rattle.std.proofs.Common.{◌≡◌, ℕ, arith, List, [], ◌∷◌, ◌++◌, map, refl, sym, ap, ◌∙◌, append_assoc, subst, Option, Some, None}
+use Rattle.std.proofs.Common.{◌≡◌, ℕ, List, [], ◌∷◌, ◌++◌, map, refl, sym, ap, ◌∙◌, append_assoc, subst, Option, Some, None}
+use Rattle.std.specs.Prelude.{◌==◌, if◌then◌else◌}
 use Rattle.std.proofs.lemmas.List.{append-nil}
 use Rattle.asgi_types.specs.declared.limits.Limits.{Limits}
 use Rattle.asgi_request.specs.declared.place.Place.{Place}
@@ -184,23 +185,23 @@ whole_stays limits bytes (item ∷ steps) end rest more state r ends e =
 
 -- ---- a faulty body
 
+refusal_with : ℕ → Refusal
+refusal_with status =
+    if status == 413 then refusal.ContentTooLarge else (
+    if status == 426 then refusal.UpgradeRequired else (
+    if status == 431 then refusal.HeaderFieldsTooLarge else (
+    if status == 501 then refusal.NotImplemented else refusal.BadRequest)))
+
+refusal_back : (a : Refusal) → refusal_with (status_of a) ≡ a
+unfolding refusal_with
+refusal_back refusal.BadRequest = refl
+refusal_back refusal.ContentTooLarge = refl
+refusal_back refusal.UpgradeRequired = refl
+refusal_back refusal.HeaderFieldsTooLarge = refl
+refusal_back refusal.NotImplemented = refl
+
 same_refusal : (a b : Refusal) → status_of a ≡ status_of b → a ≡ b
-same_refusal refusal.BadRequest refusal.BadRequest e = refl
-same_refusal refusal.BadRequest refusal.ContentTooLarge e = absurd (omega (arith, e))
-same_refusal refusal.BadRequest refusal.HeaderFieldsTooLarge e = absurd (omega (arith, e))
-same_refusal refusal.BadRequest refusal.NotImplemented e = absurd (omega (arith, e))
-same_refusal refusal.ContentTooLarge refusal.BadRequest e = absurd (omega (arith, e))
-same_refusal refusal.ContentTooLarge refusal.ContentTooLarge e = refl
-same_refusal refusal.ContentTooLarge refusal.HeaderFieldsTooLarge e = absurd (omega (arith, e))
-same_refusal refusal.ContentTooLarge refusal.NotImplemented e = absurd (omega (arith, e))
-same_refusal refusal.HeaderFieldsTooLarge refusal.BadRequest e = absurd (omega (arith, e))
-same_refusal refusal.HeaderFieldsTooLarge refusal.ContentTooLarge e = absurd (omega (arith, e))
-same_refusal refusal.HeaderFieldsTooLarge refusal.HeaderFieldsTooLarge e = refl
-same_refusal refusal.HeaderFieldsTooLarge refusal.NotImplemented e = absurd (omega (arith, e))
-same_refusal refusal.NotImplemented refusal.BadRequest e = absurd (omega (arith, e))
-same_refusal refusal.NotImplemented refusal.ContentTooLarge e = absurd (omega (arith, e))
-same_refusal refusal.NotImplemented refusal.HeaderFieldsTooLarge e = absurd (omega (arith, e))
-same_refusal refusal.NotImplemented refusal.NotImplemented e = refl
+same_refusal a b e = sym (refusal_back a) ∙ ap refusal_with e ∙ refusal_back b
 
 bad_stays : (more : List Incoming) (state : BodyState) (why : Refusal) (tail : List Next) → map Event more ++ mark state ≡ Bad (status_of why) ∷ tail
     → (more ≡ []) × (state ≡ faulty why)

@@ -36,3 +36,5 @@ pub mod OpenedLemmas
 pub mod NextLemmas
 pub mod StartLemmas
 pub mod HeadExamples
+pub mod KeyLemmas
+pub mod SubprotocolLemmas

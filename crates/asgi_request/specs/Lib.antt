@@ -5,6 +5,8 @@ pub mod Target
 pub mod Refusals
 pub mod BodyLength
 pub mod Framings
+pub mod Key
+pub mod Upgrade
 pub mod Scopes
 pub mod Steps
 pub mod Fronts

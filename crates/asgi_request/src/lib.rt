@@ -6,6 +6,7 @@ mod fields;
 mod framing;
 mod head;
 mod judge;
+mod key;
 pub mod laws;
 mod next;
 mod parts;
@@ -14,13 +15,17 @@ mod reader;
 mod refusal;
 mod scope;
 mod search;
+mod subprotocols;
 mod target;
+mod upgrade;
 
 pub use framing::{HeadFraming, framing_of};
 pub use head::HeadRecord;
+pub use key::is_key;
 pub use next::Next;
 pub use reader::RequestReader;
 pub use scope::has_body;
+pub use upgrade::{UpgradeAsk, check_upgrade};
 
 #[cfg(test)]
 mod tests;

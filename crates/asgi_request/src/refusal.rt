@@ -11,6 +11,8 @@ pub enum Refusal {
     ContentTooLarge,
     /// The head is longer than the limit.
     HeaderFieldsTooLarge,
+    /// It asks for another version of WebSocket than the one that is served.
+    UpgradeRequired,
     /// It asks for something that is not served.
     NotImplemented,
 }
@@ -24,6 +26,7 @@ impl Refusal {
             Refusal::BadRequest => 400,
             Refusal::ContentTooLarge => 413,
             Refusal::HeaderFieldsTooLarge => 431,
+            Refusal::UpgradeRequired => 426,
             Refusal::NotImplemented => 501,
         }
     }

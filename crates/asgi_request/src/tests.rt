@@ -11,6 +11,7 @@ mod edges;
 mod heads;
 mod limits_edges;
 mod scopes;
+mod upgrade;
 
 /// Feeds each input in pieces of 1, 2, 7 and 1000 bytes, of which the last is the whole, and cut in two at each place:
 /// the reader gives the same results, which are these words.

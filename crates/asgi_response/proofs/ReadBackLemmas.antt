@@ -16,21 +16,21 @@ use Rattle.httparse.specs.Spans.{name_and_value}
 use Rattle.httparse.proofs.GrammarLemmas.{response_unique}
 use Rattle.asgi_types.specs.Fields.{HeaderField, IsValidField}
 use Rattle.asgi_types.proofs.FieldLemmas.{valid-read}
-use Rattle.asgi_response.specs.StatusLine.{reason_phrase, status_line}
+use Rattle.asgi_response.specs.StatusLine.{reason_phrase, status_line, status_line_with}
 use Rattle.asgi_response.specs.Fields.{is_shown, field_line, field_lines, head_text}
-use Rattle.asgi_response.specs.ReadBack.{IsSendable, fields_sent, as_read, HeadIsReadBack}
+use Rattle.asgi_response.specs.ReadBack.{IsSendable, IsReadAs, fields_sent, as_read, HeadIsReadBack}
 
 -- ---- bytes that pass a test
 
 pass-cons : (test : ℕ → Bool) (b : ℕ) (bytes : List ℕ) → test b ≡ true → AllPass test bytes → AllPass test (b ∷ bytes)
 pass-cons test b bytes h k = All-cons (λ x. IsTrue (test x)) b bytes h k
 
-all_pass : (test : ℕ → Bool) (bytes : List ℕ) → list_all test bytes ≡ true → AllPass test bytes
+pub all_pass : (test : ℕ → Bool) (bytes : List ℕ) → list_all test bytes ≡ true → AllPass test bytes
 all_pass test bytes h = AllPass-from_list_all test bytes h
 
 -- ---- the status
 
-three_digits : (n : ℕ) → 200 ≤ n → n ≤ 599 → decimal n ≡ (48 + n / 10 / 10) ∷ (48 + n / 10 % 10) ∷ (48 + n % 10) ∷ []
+three_digits : (n : ℕ) → 100 ≤ n → n ≤ 599 → decimal n ≡ (48 + n / 10 / 10) ∷ (48 + n / 10 % 10) ∷ (48 + n % 10) ∷ []
 three_digits n low high =
     decimal_step n (omega (arith, low)) (omega (arith, high))
     ∙ ap (λ (d : List ℕ). d ++ (48 + n % 10) ∷ []) (decimal_step (n / 10) (omega (arith, low)) (omega (arith, high))
@@ -39,7 +39,7 @@ three_digits n low high =
 digit_passes : (d : ℕ) → d < 10 → is_ascii_digit (48 + d) ≡ true
 digit_passes d h = grind (arith, nat_tests)
 
-status_digits : (n : ℕ) → 200 ≤ n → n ≤ 599 → (length (decimal n) ≡ 3) × AllPass is_ascii_digit (decimal n)
+status_digits : (n : ℕ) → 100 ≤ n → n ≤ 599 → (length (decimal n) ≡ 3) × AllPass is_ascii_digit (decimal n)
 status_digits n low high =
     let P : List ℕ → Type 0 = λ d. (length d ≡ 3) × AllPass is_ascii_digit d in
     subst P (sym (three_digits n low high)) (
@@ -144,7 +144,7 @@ sendable_one : (b : Bool) (f : HeaderField) → IsSendable f → All IsSendable 
 sendable_one true f h = All-cons IsSendable f [] h (All-nil IsSendable)
 sendable_one false f h = All-nil IsSendable
 
-own_sendable : (name value : List ℕ) → 0 < length name → list_all is_token_byte name ≡ true → list_all is_value_byte value ≡ true
+pub own_sendable : (name value : List ℕ) → 0 < length name → list_all is_token_byte name ≡ true → list_all is_value_byte value ≡ true
     → (let f : HeaderField = record { name = name; value = value } in IsSendable f)
 own_sendable name value some token bytes = record { name = (some, all_pass is_token_byte name token); value = all_pass is_value_byte value bytes }
 
@@ -159,47 +159,52 @@ all_sendable chunked closing status headers h =
     (sendable_one chunked te (own_sendable (codes "transfer-encoding") (codes "chunked") (omega arith) refl refl)))
     (sendable_one closing cl (own_sendable (codes "connection") (codes "close") (omega arith) refl refl))
 
-head_sent : ℕ → List HeaderField → ResponseHead
-head_sent status fields = record {
+head_sent : ℕ → List ℕ → List HeaderField → ResponseHead
+head_sent status reason fields = record {
   blank = [];
   minor = 1;
   digits = decimal status;
-  reason = Some (reason_phrase status);
+  reason = Some reason;
   line_end = crlf;
   fields = map field_sent fields;
   last = crlf;
 }
 
-regroup : (a b c d rest : List ℕ) → (a ++ b ++ c ++ d ++ crlf_bytes) ++ rest ≡ (a ++ ((b ++ c ++ d) ++ crlf_bytes)) ++ rest
-regroup a b c d rest = simp append_assoc
-
-head_printed : (chunked closing : Bool) (status : ℕ) (headers : List HeaderField) (rest : List ℕ)
-    → head_text chunked closing status headers ++ rest ≡ print_response (head_sent status (fields_sent chunked closing status headers)) ++ rest
+-- a status line, lines of fields that can be sent and the empty line are read as this status and just these fields
+pub fields_are_read_back : (status : ℕ) (reason : List ℕ) (fields : List HeaderField) (rest : List ℕ) → 100 ≤ status → status ≤ 599
+    → AllPass is_value_byte reason → All IsSendable fields
+    → IsReadAs ((status_line_with status reason ++ (flat_map field_line fields ++ crlf_bytes)) ++ rest) status fields rest
 unfolding head_sent print_response
-head_printed chunked closing status headers rest =
-    let te : List ℕ = (if chunked then codes "transfer-encoding: chunked" ++ crlf_bytes else []) in
-    let cl : List ℕ = (if closing then codes "connection: close" ++ crlf_bytes else []) in
-    regroup (status_line status) (field_lines status headers) te cl rest
-    ∙ ap (λ (x : List ℕ). (status_line status ++ (x ++ crlf_bytes)) ++ rest) (sym (sent-lines (fields_sent chunked closing status headers) ∙ lines_sent chunked closing status headers))
-
-pub head_is_read_back : HeadIsReadBack
-unfolding head_sent
-head_is_read_back headers clean chunked closing status rest low high =
-    let sent : List HeaderField = fields_sent chunked closing status headers in
-    let text : List ℕ = head_text chunked closing status headers ++ rest in
-    let reads : ReadsResponse text (head_sent status sent) rest = (
+fields_are_read_back status reason fields rest low high phrase clean =
+    let text : List ℕ = (status_line_with status reason ++ (flat_map field_line fields ++ crlf_bytes)) ++ rest in
+    let reads : ReadsResponse text (head_sent status reason fields) rest = (
       record {
         minor = omega arith;
         digits = status_digits status low high;
-        reason = all_pass is_value_byte (reason_phrase status) (reason_passes status);
-        fields = All-map IsField field_sent sent (All-weaker IsSendable (λ f. IsField (field_sent f)) sendable sent (all_sendable chunked closing status headers clean));
+        reason = phrase;
+        fields = All-map IsField field_sent fields (All-weaker IsSendable (λ f. IsField (field_sent f)) sendable fields clean);
       },
-      head_printed chunked closing status headers rest,
+      ap (λ (x : List ℕ). (status_line_with status reason ++ (x ++ crlf_bytes)) ++ rest) (sym (sent-lines fields)),
     ) in
     record {
-      head = head_sent status sent;
+      head = head_sent status reason fields;
       reads = reads;
       code = (decimal_is_IsNumeral status (omega (arith, high))).1;
-      named = sent-named sent;
-      only = λ other behind found. response_unique text other (head_sent status sent) behind rest found reads;
+      named = sent-named fields;
+      only = λ other behind found. response_unique text other (head_sent status reason fields) behind rest found reads;
     }
+
+regroup : (a b c d rest : List ℕ) → (a ++ ((b ++ c ++ d) ++ crlf_bytes)) ++ rest ≡ (a ++ b ++ c ++ d ++ crlf_bytes) ++ rest
+regroup a b c d rest = simp append_assoc
+
+pub head_is_read_back : HeadIsReadBack
+head_is_read_back headers clean chunked closing status rest low high =
+    let te : List ℕ = (if chunked then codes "transfer-encoding: chunked" ++ crlf_bytes else []) in
+    let cl : List ℕ = (if closing then codes "connection: close" ++ crlf_bytes else []) in
+    let sent : List HeaderField = fields_sent chunked closing status headers in
+    let same : (status_line status ++ (flat_map field_line sent ++ crlf_bytes)) ++ rest ≡ head_text chunked closing status headers ++ rest =
+    ap (λ (x : List ℕ). (status_line status ++ (x ++ crlf_bytes)) ++ rest) (lines_sent chunked closing status headers)
+    ∙ regroup (status_line status) (field_lines status headers) te cl rest in
+    subst (λ (text : List ℕ). IsReadAs text status sent rest) same
+    (fields_are_read_back status (reason_phrase status) sent rest (omega (arith, low)) high (all_pass is_value_byte (reason_phrase status) (reason_passes status))
+    (all_sendable chunked closing status headers clean))

@@ -41,5 +41,9 @@ reason_phrase status =
     []))))))))))))))))))))))))))))))))
 
 -- status-line = HTTP-version SP status-code SP [ reason-phrase ] CRLF
+abbrev pub status_line_with : ℕ → List ℕ → List ℕ
+status_line_with status reason = codes "HTTP/1.1 " ++ decimal status ++ space ∷ reason ++ crlf_bytes
+
+-- the status line of a response
 abbrev pub status_line : ℕ → List ℕ
-status_line status = codes "HTTP/1.1 " ++ decimal status ++ space ∷ reason_phrase status ++ crlf_bytes
+status_line status = status_line_with status (reason_phrase status)

@@ -6,7 +6,9 @@ ghost use Rattle.std.specs.Fmt.{digits, digit_glyph};
 
 use std::alloc::AllocError;
 
-/// Appends the texts, one behind the other, in one reservation. On an error the vector is as before.
+/// Appends the texts, one behind the other, in one reservation. On an error the vector is as before. It is for the crates of
+/// this repository only.
+#[doc(hidden)]
 pub fn append_all(out: &mut Vec<u8>, texts: &[&[u8]]) -> Result<(), AllocError>
     ensures ok { OnOk result (out.new.items ≡ out.old.items ++ flat_map (λ text. text.now) texts.now) }
     ensures err { OnErr result (out.new.items ≡ out.old.items) }

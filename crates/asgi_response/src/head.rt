@@ -231,8 +231,9 @@ fn write_fields(out: &mut Vec<u8>, status: u16, headers: &Headers) -> Result<(),
     Ok(())
 }
 
-/// Appends the line of a field.
-fn write_field(out: &mut Vec<u8>, name: &[u8], value: &[u8]) -> Result<(), AllocError>
+/// Appends the line of a field. It is for the crates of this repository only.
+#[doc(hidden)]
+pub fn write_field<'a>(out: &mut Vec<u8>, name: &'a [u8], value: &'a [u8]) -> Result<(), AllocError>
     ensures ok { OnOk result (out.new.items ≡ out.old.items ++ spec.field_line (record { name = name.now; value = value.now })) }
     ensures capacity { vec_capacity out.old ≤ vec_capacity out.new }
     ensures full { OnErr result (LacksRoom (vec_capacity out.old) (vec_len out.old) (spec.field_line (record { name = name.now; value = value.now }))) }

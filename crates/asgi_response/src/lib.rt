@@ -13,7 +13,9 @@ mod refusal;
 mod tests;
 mod text;
 
+pub use append::append_all;
 pub use asgi_io::{Counted, Counts, Wrote, is_passing, write_out};
+pub use head::write_field;
 pub use laws::{
     added_text_only_grows, begun_responses_get_nothing_more, closed_text_stays,
     events_add_their_text, head_is_read_back, headers_are_read_back, lawful_is_accepted,

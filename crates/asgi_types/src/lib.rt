@@ -30,6 +30,7 @@ pub use outgoing::{HttpVersion, Outgoing};
 pub use reason::Reason;
 pub use scope::{Asgi, Extensions, HttpScope, Kind, LifespanScope, Peer, Scope, WsScope};
 pub use state::{State, StateError, StateValue};
+pub use tokens::trimmed;
 
 #[cfg(test)]
 mod tests;

@@ -40,8 +40,9 @@ fn is_token(part: &[u8], token: &[u8]) -> bool
     !trimmed.is_empty() && trimmed.eq_ignore_ascii_case(token)
 }
 
-/// The part without the spaces and tabs at its ends.
-fn trimmed(part: &[u8]) -> &[u8]
+/// The part without the spaces and tabs at its ends. It is for the crates of this repository only.
+#[doc(hidden)]
+pub fn trimmed(part: &[u8]) -> &[u8]
     ensures { result.now ≡ trim_ows part.now }
 {
     trim_end(trim_start(part))

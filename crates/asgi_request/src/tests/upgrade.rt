@@ -1,0 +1,300 @@
+//! Which requests are opening handshakes, and what their clients offer (RFC 6455, section 4.2.1).
+use super::of_given;
+use crate::{HeadFraming, HeadRecord, UpgradeAsk, check_upgrade, is_key};
+use asgi_types::{Chars, HeaderError, Headers, HttpVersion, Names, Octets};
+use std::alloc::{AllocError, Global};
+use std::process::Abort;
+use std::test::Fail;
+
+type Field = (&'static str, &'static str);
+
+const WS: Field = ("Upgrade", "websocket");
+
+const UP: Field = ("Connection", "Upgrade");
+
+const KEY: Field = ("Sec-WebSocket-Key", "dGhlIHNhbXBsZSBub25jZQ==");
+
+const V13: Field = ("Sec-WebSocket-Version", "13");
+
+const SHORT: Field = ("Sec-WebSocket-Key", "AAAA");
+
+const NONE: HeadFraming = HeadFraming::Length(0);
+
+/// What a row is about, its method, its framing and its fields, and what is asked.
+type Row = (
+    &'static str,
+    &'static str,
+    HeadFraming,
+    &'static [Field],
+    &'static str,
+);
+
+fn headers_of(alloc: Global, fields: &[Field]) -> Result<Headers, HeaderError> {
+    let mut headers = Headers::new(alloc);
+    for (name, value) in fields {
+        headers.push(name.as_bytes(), value.as_bytes())?;
+    }
+    Ok(headers)
+}
+
+fn record(
+    alloc: Global,
+    version: HttpVersion,
+    method: &str,
+    fields: &[Field],
+) -> Result<HeadRecord, HeaderError> {
+    let method = Chars::new(String::from_str(alloc, method)?);
+    let target = Octets::new(Vec::from_slice(alloc, b"/c")?);
+    let headers = headers_of(alloc, fields)?;
+    Ok(HeadRecord {
+        version,
+        method,
+        target,
+        headers,
+    })
+}
+
+/// The words of what is asked.
+fn words(alloc: Global, ask: &UpgradeAsk) -> Result<String, AllocError> {
+    let mut words = String::new(alloc);
+    match ask {
+        UpgradeAsk::Plain => words.push_str("plain")?,
+        UpgradeAsk::Bad(status) => write!(words, "{status}")?,
+        UpgradeAsk::Upgrade { key, subprotocols } => add_offer(key, subprotocols, &mut words)?,
+    }
+    Ok(words)
+}
+
+fn add_offer(key: &[u8], names: &Names, words: &mut String) -> Result<(), AllocError> {
+    for b in key {
+        words.push(*b as char)?;
+    }
+    for i in 0..names.len() {
+        words.push_str(" ")?;
+        words.push_str(names.at(i).map_or("?", |name| name.as_str()))?;
+    }
+    Ok(())
+}
+
+fn asked(
+    alloc: Global,
+    version: HttpVersion,
+    method: &str,
+    framing: HeadFraming,
+    fields: &[Field],
+) -> Result<String, HeaderError> {
+    let head = record(alloc, version, method, fields)?;
+    Ok(of_given(
+        check_upgrade(alloc, &head, &framing),
+        |ask| words(alloc, ask),
+    )??)
+}
+
+fn ask(rt: &impl Abort, alloc: Global, version: HttpVersion, rows: &[Row]) -> Result<(), Fail> {
+    for (what, method, framing, fields, wanted) in rows {
+        let words = asked(alloc, version, method, *framing, fields)?;
+        assert_eq!(rt; words.as_str(), *wanted, "{what}");
+    }
+    Ok(())
+}
+
+#[test]
+fn an_upgrade_is_judged_by_the_first_rule_that_holds(rt: HostRuntime) -> Result<(), Fail> {
+    let rows: &[Row] = &[
+        (
+            "whole",
+            "GET",
+            NONE,
+            &[WS, UP, KEY, V13],
+            "dGhlIHNhbXBsZSBub25jZQ==",
+        ),
+        ("no upgrade", "GET", NONE, &[UP, KEY, V13], "plain"),
+        ("no connection", "GET", NONE, &[WS, KEY, V13], "plain"),
+        (
+            "another protocol",
+            "GET",
+            NONE,
+            &[("Upgrade", "h2c"), UP, KEY, V13],
+            "plain",
+        ),
+        ("nothing", "GET", NONE, &[], "plain"),
+        (
+            "plain, whatever else",
+            "POST",
+            HeadFraming::Chunked,
+            &[WS, SHORT],
+            "plain",
+        ),
+        ("another method", "POST", NONE, &[WS, UP, KEY, V13], "400"),
+        ("HEAD", "HEAD", NONE, &[WS, UP, KEY, V13], "400"),
+        (
+            "a body of 1",
+            "GET",
+            HeadFraming::Length(1),
+            &[WS, UP, KEY, V13],
+            "400",
+        ),
+        (
+            "a chunked body",
+            "GET",
+            HeadFraming::Chunked,
+            &[WS, UP, KEY, V13],
+            "400",
+        ),
+        ("no version", "GET", NONE, &[WS, UP, KEY], "426"),
+        ("no key", "GET", NONE, &[WS, UP, V13], "400"),
+        ("a short key", "GET", NONE, &[WS, UP, SHORT, V13], "400"),
+        ("two keys", "GET", NONE, &[WS, UP, KEY, KEY, V13], "400"),
+        ("method before version", "POST", NONE, &[WS, UP, KEY], "400"),
+        (
+            "body before version",
+            "GET",
+            HeadFraming::Length(1),
+            &[WS, UP, KEY],
+            "400",
+        ),
+        ("version before key", "GET", NONE, &[WS, UP, SHORT], "426"),
+        (
+            "a refused framing",
+            "GET",
+            HeadFraming::Bad(413),
+            &[WS, UP, KEY, V13],
+            "413",
+        ),
+    ];
+    ask(&rt, rt.alloc(), HttpVersion::V11, rows)
+}
+
+#[test]
+fn an_upgrade_of_http_10_is_ignored(rt: HostRuntime) -> Result<(), Fail> {
+    let rows: &[Row] = &[("HTTP/1.0", "GET", NONE, &[WS, UP, KEY, V13], "plain")];
+    ask(&rt, rt.alloc(), HttpVersion::V10, rows)
+}
+
+#[test]
+fn only_version_13_is_served(rt: HostRuntime) -> Result<(), Fail> {
+    for value in ["8", "13, 8", "8, 13", "013", "", "1", "+13"] {
+        let version = ("Sec-WebSocket-Version", value);
+        let words = asked(
+            rt.alloc(),
+            HttpVersion::V11,
+            "GET",
+            NONE,
+            &[WS, UP, KEY, version],
+        )?;
+        assert_eq!(rt; words.as_str(), "426", "{value}");
+    }
+    let words = asked(
+        rt.alloc(),
+        HttpVersion::V11,
+        "GET",
+        NONE,
+        &[WS, UP, KEY, V13, V13],
+    )?;
+    assert_eq!(rt; words.as_str(), "426");
+    Ok(())
+}
+
+#[test]
+fn tokens_of_upgrade_and_connection_are_in_any_case(rt: HostRuntime) -> Result<(), Fail> {
+    let asks: [(&str, &str, &str); 8] = [
+        (
+            "WebSocket",
+            "keep-alive, upgrade",
+            "dGhlIHNhbXBsZSBub25jZQ==",
+        ),
+        ("h2c, \twebsocket", "UPGRADE", "dGhlIHNhbXBsZSBub25jZQ=="),
+        (",, websocket ,", " ,upgrade", "dGhlIHNhbXBsZSBub25jZQ=="),
+        ("web socket", "upgrade", "plain"),
+        ("websocket/13", "upgrade", "plain"),
+        ("websocket", "upgraded", "plain"),
+        ("websocket", "keep-alive upgrade", "plain"),
+        ("websocket", "", "plain"),
+    ];
+    for (upgrade, connection, wanted) in asks {
+        let fields = [("upgrade", upgrade), ("connection", connection), KEY, V13];
+        let words = asked(rt.alloc(), HttpVersion::V11, "GET", NONE, &fields)?;
+        assert_eq!(rt; words.as_str(), wanted, "{upgrade}; {connection}");
+    }
+    Ok(())
+}
+
+#[test]
+fn a_key_is_the_base64_of_16_bytes(rt: HostRuntime) -> Result<(), Fail> {
+    let keys: [(&str, bool); 16] = [
+        ("dGhlIHNhbXBsZSBub25jZQ==", true),
+        ("AAAAAAAAAAAAAAAAAAAAAA==", true),
+        ("/////////////////////w==", true),
+        ("x3JJHMbDL1EzLkh9GBhXDw==", true),
+        ("dGhlIHNhbXBsZSBub25jZR==", false),
+        ("dGhlIHNhbXBsZSBub25jZQ=", false),
+        ("dGhlIHNhbXBsZSBub25jZQ", false),
+        ("dGhlIHNhbXBsZSBub25jZQ===", false),
+        ("dGhlIHNhbXBsZSBub25jZQA=", false),
+        ("dGhlIHNhbXBsZSBub25jZQAA", false),
+        ("dGhlIHNhbXBsZSBub25jZS0x", false),
+        ("_____________________w==", false),
+        ("dGhlIHNhbXBsZSBub25 ZQ==", false),
+        ("=GhlIHNhbXBsZSBub25jZQ==", false),
+        ("dGhlIHNhbXBsZSBub25j", false),
+        ("", false),
+    ];
+    for (key, wanted) in keys {
+        assert_eq!(rt; is_key(key.as_bytes()), wanted, "{key}");
+    }
+    Ok(())
+}
+
+#[test]
+fn subprotocols_are_the_tokens_in_their_order(rt: HostRuntime) -> Result<(), Fail> {
+    let offers: [(&str, &str, &str); 8] = [
+        ("chat", "superchat", " chat superchat"),
+        ("chat, superchat", "v1.Bar", " chat superchat v1.Bar"),
+        (" \tB ,,\t, a,", "", " B a"),
+        ("chat chat, a/b, \"c\", d", "", " d"),
+        ("a, a", "a", " a a a"),
+        ("mqtt;v=5", "caf\u{e9}", ""),
+        ("!#$%&'*+-.^_`|~", "0", " !#$%&'*+-.^_`|~ 0"),
+        ("", ",", ""),
+    ];
+    for (first, second, wanted) in offers {
+        let protocols = [
+            ("sec-websocket-protocol", first),
+            ("Sec-WebSocket-Protocol", second),
+        ];
+        let fields = [protocols[0], WS, UP, KEY, V13, protocols[1]];
+        let words = asked(rt.alloc(), HttpVersion::V11, "GET", NONE, &fields)?;
+        let names = words.as_str().strip_prefix("dGhlIHNhbXBsZSBub25jZQ==");
+        assert_eq!(rt; names, Some(wanted), "{first}; {second}");
+    }
+    Ok(())
+}
+
+/// The record of a handshake that offers two subprotocols, made again where memory was refused.
+fn offering(alloc: Global) -> Result<HeadRecord, HeaderError> {
+    let fields = [WS, UP, KEY, V13, ("sec-websocket-protocol", "a, b")];
+    match record(alloc, HttpVersion::V11, "GET", &fields) {
+        Ok(head) => Ok(head),
+        Err(_) => record(alloc, HttpVersion::V11, "GET", &fields),
+    }
+}
+
+/// Whether two subprotocols are offered.
+fn offers_two(ask: &UpgradeAsk) -> bool {
+    match ask {
+        UpgradeAsk::Upgrade { subprotocols, .. } => subprotocols.len() == 2,
+        _ => false,
+    }
+}
+
+fn gives_two(alloc: Global, head: &HeadRecord) -> Result<bool, AllocError> {
+    of_given(check_upgrade(alloc, head, &NONE), offers_two)
+}
+
+#[test]
+fn memory_for_an_upgrade(rt: HostRuntime) -> Result<(), Fail> {
+    let head = offering(rt.alloc())?;
+    let given = gives_two(rt.alloc(), &head).or_else(|_| gives_two(rt.alloc(), &head))?;
+    assert!(rt; given);
+    Ok(())
+}

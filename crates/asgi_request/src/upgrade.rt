@@ -1,0 +1,136 @@
+//! The client's opening handshake of WebSocket (RFC 6455, section 4.2.1).
+ghost use Rattle.std.specs.Prelude.{◌≡◌, IfOk, OnErr, IsTrue, Ok, true};
+ghost use Rattle.asgi_request.specs.Key.{IsKey};
+ghost use Rattle.asgi_request.specs.Upgrade as spec;
+ghost use Rattle.asgi_request.specs.Upgrade.{HasKey, OffersSome, upgrade_of, upgrade_answer};
+
+use crate::fields::{count_named, value_named};
+use crate::framing::HeadFraming;
+use crate::head::HeadRecord;
+use crate::key::is_key;
+use crate::refusal::Refusal;
+use crate::subprotocols::subprotocols_of;
+use asgi_types::{Headers, HttpVersion, Names};
+use std::alloc::{AllocError, Global};
+
+const GET: &[u8] = b"GET";
+
+const UPGRADE: &[u8] = b"upgrade";
+
+const WEBSOCKET: &[u8] = b"websocket";
+
+const CONNECTION: &[u8] = b"connection";
+
+const SEC_WEBSOCKET_VERSION: &[u8] = b"sec-websocket-version";
+
+const VERSION: &[u8] = b"13";
+
+const SEC_WEBSOCKET_KEY: &[u8] = b"sec-websocket-key";
+
+/// Whether a request asks for WebSocket.
+#[derive(Debug, Drop)]
+pub enum UpgradeAsk {
+    /// It does not.
+    Plain,
+    /// It is an opening handshake.
+    Upgrade {
+        /// The value of `sec-websocket-key`.
+        key: [u8; 24],
+        /// The subprotocols that the client offers, in its order.
+        subprotocols: Names,
+    },
+    /// It asks for it and is refused with this status: 400 or 426.
+    Bad(u16),
+}
+
+/// Whether the request asks for WebSocket, and with what. It takes memory only where subprotocols are offered. A head
+/// whose framing is refused stays refused.
+pub fn check_upgrade(
+    alloc: Global,
+    head: &HeadRecord,
+    framing: &HeadFraming,
+) -> Result<UpgradeAsk, AllocError>
+    ensures ask { IfOk result (λ ask. ask ≡ upgrade_of head.now framing.now) }
+    ensures key { IfOk result HasKey }
+    ensures memory { OnErr result (OffersSome (upgrade_of head.now framing.now)) }
+{
+    match framing {
+        HeadFraming::Length(n) => ask_of(alloc, head, *n > 0),
+        HeadFraming::Chunked => ask_of(alloc, head, true),
+        HeadFraming::Bad(status) => Ok(UpgradeAsk::Bad(*status)),
+    }
+}
+
+/// The same, where the framing says whether there is a body.
+fn ask_of(alloc: Global, head: &HeadRecord, has_body: bool) -> Result<UpgradeAsk, AllocError>
+    ensures ask { IfOk result (λ ask. ask ≡ upgrade_answer head.now.headers (spec.handshake_or_refusal head.now has_body)) }
+    ensures key { IfOk result HasKey }
+    ensures memory { OnErr result (OffersSome (upgrade_answer head.now.headers (spec.handshake_or_refusal head.now has_body))) }
+{
+    match handshake_or_refusal(head, has_body) {
+        Ok(true) => handshake(alloc, &head.headers),
+        Ok(false) => Ok(UpgradeAsk::Plain),
+        Err(refusal) => Ok(UpgradeAsk::Bad(refusal.status())),
+    }
+}
+
+/// The key and the subprotocols of an opening handshake.
+fn handshake(alloc: Global, headers: &Headers) -> Result<UpgradeAsk, AllocError>
+    requires { IsKey (spec.key_of headers.now) }
+    ensures ask { IfOk result (λ ask. ask ≡ upgrade_answer headers.now (Ok true)) }
+    ensures key { IfOk result HasKey }
+    ensures memory { OnErr result (OffersSome (upgrade_answer headers.now (Ok true))) }
+{
+    let mut key = [0; 24];
+    key.copy_from_slice(value_named(headers, SEC_WEBSOCKET_KEY));
+    let subprotocols = subprotocols_of(alloc, headers)?;
+    Ok(UpgradeAsk::Upgrade { key, subprotocols })
+}
+
+/// Whether the request is an opening handshake, or why it is refused: the first case that holds. It takes no memory.
+pub fn handshake_or_refusal(head: &HeadRecord, has_body: bool) -> Result<bool, Refusal>
+    ensures first { result ≡ spec.handshake_or_refusal head.now has_body }
+    ensures key { result ≡ Ok true → IsKey (spec.key_of head.now.headers) }
+{
+    if !asks_for_websocket(head) {
+        return Ok(false);
+    }
+    if head.method.as_str().as_bytes() != GET {
+        return Err(Refusal::BadRequest);
+    }
+    if has_body {
+        return Err(Refusal::BadRequest);
+    }
+    if !has_version(&head.headers) {
+        return Err(Refusal::UpgradeRequired);
+    }
+    if !has_key(&head.headers) {
+        return Err(Refusal::BadRequest);
+    }
+    Ok(true)
+}
+
+/// Whether the request asks to go over to WebSocket.
+fn asks_for_websocket(head: &HeadRecord) -> bool
+    ensures { result ≡ spec.asks_for_websocket head.now }
+{
+    head.version == HttpVersion::V11
+        && head.headers.has_token(UPGRADE, WEBSOCKET)
+        && head.headers.has_token(CONNECTION, UPGRADE)
+}
+
+/// Whether one field, and no other, gives the version that is served.
+fn has_version(headers: &Headers) -> bool
+    ensures { result ≡ spec.has_version headers.now }
+{
+    count_named(headers, SEC_WEBSOCKET_VERSION) == 1
+        && value_named(headers, SEC_WEBSOCKET_VERSION) == VERSION
+}
+
+/// Whether one field, and no other, gives the key.
+fn has_key(headers: &Headers) -> bool
+    ensures only { result ≡ spec.has_key headers.now }
+    ensures key { IsTrue result → IsKey (spec.key_of headers.now) }
+{
+    count_named(headers, SEC_WEBSOCKET_KEY) == 1 && is_key(value_named(headers, SEC_WEBSOCKET_KEY))
+}

@@ -1,0 +1,3 @@
+pub mod AcceptValue
+pub mod Handshake
+pub mod Laws
