@@ -28,7 +28,13 @@ module _ {E : Type 0} (ends : Ghosts E) where
     pulled = prefix_self (ends.pulled e);
     said = prefix_self (ends.said e);
     ended_is = is;
-    kind = refl; facts = refl; tag = refl; ring = refl; capacity = refl; arrivals = refl; vacancies = refl;
+    kind = refl;
+    facts = refl;
+    tag = refl;
+    ring = refl;
+    capacity = refl;
+    arrivals = refl;
+    vacancies = refl;
   }
 
   pub goes_further : (mid last : Option EndKind) (a b c : E) → GoesOn ends mid a b → GoesOn ends last b c → GoesOn ends last a c

@@ -1,2 +1,4 @@
+pub mod AnswerLemmas
 pub mod EndLemmas
 pub mod PauseLemmas
+pub mod SayLemmas

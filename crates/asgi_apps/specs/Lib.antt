@@ -1,3 +1,5 @@
+pub mod Answers
 pub mod Driving
 pub mod Ends
+pub mod Saying
 pub mod Scopes

@@ -2,9 +2,18 @@
 //! that are ready.
 #![tactic(auto)]
 
+mod hello;
+mod not_found;
+mod responses;
+mod root_path;
 mod running;
+mod says;
 mod task;
 
 pub use asgi_io::Pause;
+pub use hello::Hello;
+pub use not_found::NotFound;
+pub use root_path::RootPath;
 pub use running::{Ended, Lent, Running, drive};
+pub use says::Says;
 pub use task::{AppFault, AppTask, Application};

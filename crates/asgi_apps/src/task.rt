@@ -1,5 +1,6 @@
 //! An application and its tasks, by what they promise of what is heard and said.
-ghost use Rattle.std.specs.Prelude.{◌≡◌, List, [], Option, Some, None, IfOk, OnErr};
+ghost use Rattle.std.specs.Prelude.{◌≡◌, List, [], Option, Some, None, IfOk, OnErr, ⊤};
+ghost use Rattle.std.specs.Result.{IsErrOf};
 ghost use Rattle.futures.specs.Poll.{OnPending};
 ghost use Rattle.futures.specs.Task.{IsArmed, Keeps};
 ghost use Rattle.asgi_types.specs.declared.incoming.Incoming.{Incoming};
@@ -34,10 +35,10 @@ pub enum AppFault {
 /// end's source, or has asked for another poll. Only what runs the task calls `finish`.
 pub trait AppTask: Drop {
     // The task may be polled in a scope of this kind, where this was heard and said so far.
-    ghost stands: { Self → Kind → List Incoming → List Outgoing → Type 0 };
+    ghost stands: { Self → Kind → List Incoming → List Outgoing → Type 0 } = { λ _ _ _ _. ⊤ };
 
     // The promise: that this was heard and said, and that the task ended so; while it runs, None.
-    ghost answers: { Self → List Incoming → List Outgoing → Option EndKind → Type 0 };
+    ghost answers: { Self → List Incoming → List Outgoing → Option EndKind → Type 0 } = { λ _ _ _ _. ⊤ };
 
     /// Goes on with the work, with the end that it is lent.
     fn poll<E: AppEnd>(&mut self, cx: &mut Context<'_>, end: &mut E) -> Poll<Result<(), AppFault>>
@@ -61,11 +62,15 @@ pub trait Application {
     type Task: AppTask;
 
     // The promise: that this was heard and said in the scope, and that the task ended so; while it runs, None.
-    ghost answers: { Self → Scope → List Incoming → List Outgoing → Option EndKind → Type 0 };
+    ghost answers: { Self → Scope → List Incoming → List Outgoing → Option EndKind → Type 0 } = { λ _ _ _ _ _. ⊤ };
+
+    // The scopes whose call may fail by its own judgement.
+    ghost refuses: { Self → Scope → Type 0 } = { λ _ _. ⊤ };
 
     /// A task for the scope. It keeps the allocator, where it needs one later.
     fn call(&self, alloc: Global, scope: &Scope) -> Result<Self::Task, AppFault>
         ensures stands { IfOk result (λ task. Self.Task.stands task (kind_of scope.now) [] []) }
         ensures answers { IfOk result (λ task. (heard : List Incoming) (said : List Outgoing) (ended : Option EndKind) → Self.Task.answers task heard said ended → answers self.now scope.now heard said ended) }
+        ensures failed { IsErrOf result AppFault.Failed → refuses self.now scope.now }
         ensures fault { OnErr result (answers self.now scope.now [] [] (Some Faulted)) };
 }
