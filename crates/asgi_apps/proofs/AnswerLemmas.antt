@@ -33,7 +33,7 @@ zero_is_a_value = AllPass-from_list_all is_value_byte (codes "0") refl
 abbrev passes_behind : Kind → Facts → List Outgoing → Outgoing → Type 0
 passes_behind kind facts before event = verdict_on kind facts before false event ≡ Pass
 
-one_passes : (kind : Kind) (facts : Facts) (x : Outgoing) → passes_behind kind facts [] x → EachPasses kind facts (x ∷ [])
+pub one_passes : (kind : Kind) (facts : Facts) (x : Outgoing) → passes_behind kind facts [] x → EachPasses kind facts (x ∷ [])
 one_passes kind facts x p [] after event split = let same : x ≡ event = cc in subst (λ (e : Outgoing). passes_behind kind facts [] e) same p
 one_passes kind facts x p (b ∷ []) after event split = absurd cc
 one_passes kind facts x p (b ∷ c ∷ rest) after event split = absurd cc

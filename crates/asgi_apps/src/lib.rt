@@ -2,6 +2,7 @@
 //! that are ready.
 #![tactic(auto)]
 
+mod echo;
 mod hello;
 mod not_found;
 mod responses;
@@ -11,6 +12,7 @@ mod says;
 mod task;
 
 pub use asgi_io::Pause;
+pub use echo::{Echo, EchoTask};
 pub use hello::Hello;
 pub use not_found::NotFound;
 pub use root_path::RootPath;
