@@ -19,3 +19,8 @@ pub use root_path::RootPath;
 pub use running::{Ended, Lent, Running, drive};
 pub use says::Says;
 pub use task::{AppFault, AppTask, Application};
+
+#[cfg(test)]
+mod tests;
+#[cfg(test)]
+mod tests_own;
