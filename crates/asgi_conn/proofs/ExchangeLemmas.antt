@@ -9,7 +9,7 @@ use Rattle.asgi_response.specs.declared.text.ResponseText.{ResponseText}
 use Rattle.asgi_response.specs.Exchange.{end_text, exchange_text}
 use Rattle.asgi_response.specs.Response.{response_text}
 use Rattle.asgi_response.specs.Standing.{StandsFor, Grows}
-use Rattle.asgi_conn.specs.Hello.{hello_events}
+use Rattle.asgi_apps.specs.Answers.{hello_events}
 
 -- from a text that had taken no event and an output that held the text of none, these events were taken
 pub record Taken (old new : ResponseText) (front out : List ℕ) (events : List Outgoing) : Type 0 where

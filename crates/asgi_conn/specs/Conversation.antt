@@ -14,7 +14,7 @@ use Rattle.asgi_response.specs.Exchange.{exchange_text, refusal_text}
 use Rattle.asgi_conn.specs.declared.report.Outcome.{Outcome}
 use Rattle.asgi_conn.specs.declared.report.Outcome.TheVariants.{Finished, Refused, InputBroke, WriteFailed, Idle, NoMemory}
 use Rattle.asgi_conn.specs.declared.report.Report.{Report}
-use Rattle.asgi_conn.specs.Hello.{hello_events}
+use Rattle.asgi_apps.specs.Answers.{hello_events}
 
 -- ---- what is due to the bytes read
 

@@ -6,7 +6,7 @@ ghost use Rattle.asgi_response.specs.Exchange as spec;
 ghost use Rattle.asgi_response.specs.Response.{response_text};
 ghost use Rattle.asgi_response.specs.Standing.{StandsFor};
 ghost use Rattle.asgi_io.specs.Counting.{counted};
-ghost use Rattle.asgi_conn.specs.Hello.{hello_events};
+ghost use Rattle.asgi_apps.specs.Answers.{hello_events};
 
 use crate::hello::Greets;
 use asgi_response::{Input, ResponseText};

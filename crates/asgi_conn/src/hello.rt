@@ -1,7 +1,7 @@
 //! The application that greets.
 ghost use Rattle.std.specs.Prelude.{◌≡◌, ◌+◌, ℕ, IfOk};
 ghost use Rattle.asgi_io.specs.Counting.{counted};
-ghost use Rattle.asgi_conn.specs.Hello.{hello_events};
+ghost use Rattle.asgi_apps.specs.Answers.{hello_events};
 
 use asgi_types::{HeaderError, Headers, Octets, Outgoing};
 use std::alloc::{AllocError, Global};

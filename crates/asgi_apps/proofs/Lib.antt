@@ -1,0 +1,6 @@
+pub mod AnswerLemmas
+pub mod EchoLemmas
+pub mod EchoSteps
+pub mod EndLemmas
+pub mod PauseLemmas
+pub mod SayLemmas

@@ -1,0 +1,53 @@
+-- What a poll does to the end that a task was lent, and how a task ends.
+use Rattle.std.specs.Prelude.{◌≡◌, Bool, true, false, List, Option, Some, None, Result, Ok, Err}
+use mathlib.Core.List.{IsPrefix}
+use Rattle.futures.specs.declared.task.Poll.{Poll}
+use Rattle.futures.specs.declared.task.Poll.TheVariants.{Ready, Pending}
+use Rattle.asgi_io.specs.declared.turns.Turn.{Turn}
+use Rattle.asgi_io.specs.declared.turns.Turn.TheVariants as turn
+use Rattle.asgi_types.specs.declared.scope.Kind.{Kind}
+use Rattle.asgi_types.specs.declared.incoming.Incoming.{Incoming}
+use Rattle.asgi_types.specs.declared.outgoing.Outgoing.{Outgoing}
+use Rattle.asgi_pipes.specs.declared.ends.AppEnd.{Ghosts}
+use Rattle.asgi_pipes.specs.declared.items.EndKind.{EndKind}
+use Rattle.asgi_pipes.specs.declared.items.EndKind.TheVariants.{Returned, Faulted, Idle}
+
+-- An application's end went on: it may have heard and said more, it is ended like this, and nothing else of it changed.
+pub record GoesOn {E : Type 0} (ends : Ghosts E) (ended : Option EndKind) (old new : E) : Type 0 where
+  pub heard : IsPrefix (ends.heard old) (ends.heard new)
+  pub pulled : IsPrefix (ends.pulled old) (ends.pulled new)
+  pub said : IsPrefix (ends.said old) (ends.said new)
+  pub ended_is : ends.ended new ≡ ended
+  pub kind : ends.kind new ≡ ends.kind old
+  pub facts : ends.facts new ≡ ends.facts old
+  pub tag : ends.tag new ≡ ends.tag old
+  pub ring : ends.ring new ≡ ends.ring old
+  pub capacity : ends.capacity new ≡ ends.capacity old
+  pub arrivals : ends.arrivals new ≡ ends.arrivals old
+  pub vacancies : ends.vacancies new ≡ ends.vacancies old
+
+-- The task may be polled with this end: `finish` was not called, and the task stands for what was heard and said.
+pub record MayGoOn {T E : Type 0} (stands : T → Kind → List Incoming → List Outgoing → Type 0) (ends : Ghosts E) (task : T) (app_end : E) : Type 0 where
+  pub not_ended : ends.ended app_end ≡ None
+  pub stands_for : stands task (ends.kind app_end) (ends.heard app_end) (ends.said app_end)
+
+-- how the answer of a poll ends the task
+abbrev pub end_of : {F : Type 0} → Poll (Result (Unit {0}) F) → Option EndKind
+end_of Pending = None
+end_of (Ready (Ok done)) = Some Returned
+end_of (Ready (Err fault)) = Some Faulted
+
+-- how the task itself ended: one that a limit stopped was still running
+abbrev pub own_end : EndKind → Option EndKind
+own_end Returned = Some Returned
+own_end Faulted = Some Faulted
+own_end Idle = None
+
+-- what a task promises as it is now is within what it promised before
+abbrev pub IsWithin : {T : Type 0} → (T → List Incoming → List Outgoing → Option EndKind → Type 0) → T → T → Type 0
+IsWithin answers now before = (heard : List Incoming) (said : List Outgoing) (ended : Option EndKind) → answers now heard said ended → answers before heard said ended
+
+-- a poll is a turn, which is idle where no item went through a queue
+abbrev pub turn_of : Bool → Turn
+turn_of true = turn.Moved
+turn_of false = turn.Idle

@@ -1,0 +1,142 @@
+//! The application that says what it hears.
+ghost use Rattle.std.specs.Prelude.{◌≡◌, ◌∷◌, [], None, Some, true, IfOk};
+ghost use Rattle.std.specs.Result.{IsErrOf};
+ghost use Rattle.asgi_types.specs.declared.scope.Kind.TheVariants as kind;
+ghost use Rattle.asgi_apps.specs.Answers.{start_of};
+ghost use Rattle.asgi_apps.specs.Scopes.{kind_of};
+
+use crate::responses::{close, start};
+use crate::task::{AppFault, AppTask, Application};
+use asgi_pipes::{AppEnd, Sent};
+use asgi_types::{Incoming, Kind, Outgoing, Scope};
+use futures::task::{Context, Poll};
+use std::alloc::Global;
+
+const CONTENT_TYPE: &[u8] = b"content-type";
+
+const OCTET_STREAM: &[u8] = b"application/octet-stream";
+
+/// Answers each request with its own body, as it comes, and refuses each session.
+#[derive(Clone, Copy, Debug)]
+pub struct Echo;
+
+/// The task of `Echo`.
+#[derive(Drop)]
+pub struct EchoTask {
+    kind: Kind,
+    /// What is to be said next.
+    waiting: Option<Outgoing>,
+    /// There may be more to hear.
+    listens: bool,
+}
+
+/// What an event makes of a task that echoes.
+#[derive(Drop)]
+enum Reaction {
+    /// It says this, and listens on or not.
+    Says(Outgoing, bool),
+    Returns,
+    Listens,
+}
+
+impl Application for Echo {
+    ghost use Rattle.asgi_apps.specs.Echo.{EchoAnswers};
+
+    type Task = EchoTask;
+
+    ghost answers = { λ _ scope heard said ended. EchoAnswers (kind_of scope) heard said ended };
+
+    ghost refuses = { λ _ scope. kind_of scope ≡ kind.Lifespan };
+
+    fn call(&self, alloc: Global, scope: &Scope) -> Result<EchoTask, AppFault> {
+        match scope {
+            Scope::Http(_) => echo_request(alloc),
+            Scope::WebSocket(_) => Ok(EchoTask {
+                kind: Kind::WebSocket,
+                waiting: Some(close(alloc)),
+                listens: false,
+            }),
+            Scope::Lifespan(_) => Err(AppFault::Failed),
+        }
+    }
+}
+
+/// A task that starts its answer, and listens.
+fn echo_request(alloc: Global) -> Result<EchoTask, AppFault>
+    ensures ok { IfOk result (λ task. (task.kind ≡ kind.Http) × (task.listens ≡ true)
+        × (task.waiting ≡ Some (start_of 200 CONTENT_TYPE.now OCTET_STREAM.now))) }
+    ensures failed { ¬ (IsErrOf result AppFault.Failed) }
+{
+    match start(alloc, 200, CONTENT_TYPE, OCTET_STREAM) {
+        Ok(event) => Ok(EchoTask {
+            kind: Kind::Http,
+            waiting: Some(event),
+            listens: true,
+        }),
+        Err(e) => Err(AppFault::NoMemory(e)),
+    }
+}
+
+impl AppTask for EchoTask {
+    ghost use Rattle.asgi_apps.specs.Echo.{EchoAnswers};
+    ghost use Rattle.asgi_apps.specs.Echoing.{Stands};
+    ghost use Rattle.std.proofs.Common.{refl, subst, sym};
+    ghost use Rattle.std.specs.Option.{option_to_list};
+    ghost use Rattle.asgi_apps.specs.Answers.{Answers};
+
+    ghost stands = { Stands };
+
+    ghost answers = { λ task heard said ended. EchoAnswers task.kind heard said ended };
+
+    fn poll<E: AppEnd>(&mut self, cx: &mut Context<'_>, end: &mut E) -> Poll<Result<(), AppFault>> {
+        if let Some(event) = self.waiting.take() {
+            return match end.poll_send(cx, event) {
+                Sent::Done => cx.yield_now(),
+                Sent::Full(event) => {
+                    self.waiting = Some(event);
+                    Poll::Pending
+                }
+                Sent::Ignored => unreachable!(),
+                Sent::Refused(_, _) => unreachable!(),
+            };
+        }
+        if !self.listens {
+            return Poll::Ready(Ok(()));
+        }
+        let Poll::Ready(event) = end.poll_receive(cx) else {
+            return Poll::Pending;
+        };
+        match Reaction::to(event) {
+            Reaction::Says(event, listens) => {
+                self.waiting = Some(event);
+                self.listens = listens;
+                cx.yield_now()
+            }
+            Reaction::Listens => cx.yield_now(),
+            Reaction::Returns => Poll::Ready(Ok(())),
+        }
+    }
+
+    ghost keeps = { λ task kind heard said stands. (subst (λ answer. Answers answer heard said None) (sym stands.in_order) (option_to_list task.waiting, refl), tt) };
+}
+
+impl Reaction {
+    ghost use Rattle.asgi_apps.specs.Echoing.{ReactsTo};
+
+    /// What the event makes of the task.
+    fn to(event: Incoming) -> Reaction
+        ensures { ReactsTo event result }
+    {
+        match event {
+            Incoming::HttpRequest { body, more_body } => {
+                Reaction::Says(Outgoing::ResponseBody { body, more_body }, more_body)
+            }
+            Incoming::HttpDisconnect => Reaction::Returns,
+            Incoming::WsDisconnect { code: _, reason: _ } => Reaction::Returns,
+            Incoming::WsConnect => Reaction::Listens,
+            Incoming::WsReceive { payload: _ } => Reaction::Listens,
+            Incoming::LifespanStartup => Reaction::Listens,
+            Incoming::LifespanShutdown => Reaction::Listens,
+        }
+    }
+}

@@ -1,0 +1,26 @@
+//! Applications, as tasks that are polled by hand: what they promise, what drives them, and some
+//! that are ready.
+#![tactic(auto)]
+
+mod echo;
+mod hello;
+mod not_found;
+mod responses;
+mod root_path;
+mod running;
+mod says;
+mod task;
+
+pub use asgi_io::Pause;
+pub use echo::{Echo, EchoTask};
+pub use hello::Hello;
+pub use not_found::NotFound;
+pub use root_path::RootPath;
+pub use running::{Ended, Lent, Running, drive};
+pub use says::Says;
+pub use task::{AppFault, AppTask, Application};
+
+#[cfg(test)]
+mod tests;
+#[cfg(test)]
+mod tests_own;

@@ -1,0 +1,196 @@
+//! A task with the end that it is lent: as a future, and driven by hand.
+ghost use Rattle.std.specs.Prelude.{◌≡◌, ◌≢◌, ◌≤◌, ◌⊎◌, ◌+◌, ℕ, List, Option, Some, None, IsSomeAnd};
+ghost use Rattle.futures.specs.Poll.{IfReady, OnPending};
+ghost use Rattle.futures.specs.Task.{IsArmed, Keeps};
+ghost use Rattle.asgi_io.specs.Counting.{RoseBy, counted};
+ghost use Rattle.asgi_types.specs.declared.incoming.Incoming.{Incoming};
+ghost use Rattle.asgi_types.specs.declared.outgoing.Outgoing.{Outgoing};
+ghost use Rattle.asgi_pipes.specs.declared.items.EndKind.{EndKind};
+ghost use Rattle.asgi_apps.specs.Driving.{IsDriven};
+ghost use Rattle.asgi_apps.specs.Ends.{GoesOn, IsWithin, MayGoOn, end_of, own_end, turn_of};
+
+use crate::task::{AppFault, AppTask};
+use asgi_io::{Pause, Turn, Turns};
+use asgi_pipes::{AppEnd, EndKind};
+use futures::Future;
+use futures::task::{Context, Poll};
+
+/// A task, and the end that it is lent.
+#[derive(Drop)]
+pub struct Lent<T, E> {
+    pub task: T,
+    pub app_end: E,
+}
+
+/// A task that runs, as a future that gives it back when it ended.
+#[derive(Drop)]
+pub struct Running<T, E> {
+    /// None once the task ended.
+    pub lent: Option<Lent<T, E>>,
+    /// The polls that were made.
+    pub turns: u64,
+}
+
+/// A task that ended, with its end, on which `finish` was called.
+#[derive(Drop)]
+pub struct Ended<T, E> {
+    pub task: T,
+    pub app_end: E,
+    pub kind: EndKind,
+    /// The polls that were made.
+    pub turns: u64,
+}
+
+impl<T: AppTask, E: AppEnd> Running<T, E> {
+    /// Lends the end to the task. No poll was made yet.
+    pub fn new(task: T, end: E) -> Self
+        requires open { E.ended end ≡ None }
+        requires stands { T.stands task (E.kind end) (E.heard end) (E.said end) }
+        ensures lent { result.lent ≡ Some (record { task = task; app_end = end }) }
+        ensures turns { result.turns ≡ 0 }
+    {
+        Running {
+            lent: Some(Lent { task, app_end: end }),
+            turns: 0,
+        }
+    }
+
+    /// Polls the task once. Where it ended, `finish` is called, and nothing runs any more.
+    pub fn turn(&mut self, cx: &mut Context<'_>) -> Poll<Ended<T, E>>
+        requires { IsSomeAnd self.old.lent (λ was. MayGoOn T.stands E.AppEnd was.task was.app_end) }
+        ensures ready { IfReady result (λ ended. IsSomeAnd self.old.lent (λ was. GoesOn E.AppEnd (Some ended.kind) was.app_end ended.app_end)) }
+        ensures answers { IfReady result (λ ended. IsSomeAnd self.old.lent (λ was. T.answers was.task (E.heard ended.app_end) (E.said ended.app_end) (own_end ended.kind))) }
+        ensures not_idle { IfReady result (λ ended. (ended.kind ≢ EndKind.Idle) × (ended.turns ≡ counted (self.old.turns + 1))) }
+        ensures pending { OnPending result (IsSomeAnd self.old.lent (λ was. IsSomeAnd self.new.lent (λ is. GoesOn E.AppEnd None was.app_end is.app_end))) }
+        ensures same { OnPending result (IsSomeAnd self.old.lent (λ was. IsSomeAnd self.new.lent (λ is. IsWithin T.answers is.task was.task))) }
+        ensures again { OnPending result (IsSomeAnd self.new.lent (λ is. MayGoOn T.stands E.AppEnd is.task is.app_end)) }
+        ensures turns { OnPending result (self.new.turns ≡ counted (self.old.turns + 1)) }
+        ensures armed { OnPending result (IsArmed cx.new) }
+        ensures kept { Keeps cx.old cx.new }
+    {
+        let Some(lent) = self.lent.take() else {
+            unreachable!()
+        };
+        let Lent {
+            mut task,
+            mut app_end,
+        } = lent;
+        let turns = self.turns.saturating_add(1);
+        match task.poll(cx, &mut app_end) {
+            Poll::Pending => {
+                self.lent = Some(Lent { task, app_end });
+                self.turns = turns;
+                Poll::Pending
+            }
+            Poll::Ready(answer) => Poll::Ready(finish(task, app_end, kind_of(answer), turns)),
+        }
+    }
+
+    /// What the polls since this was last asked did.
+    fn moved(&mut self) -> Turn
+        requires { IsSomeAnd self.old.lent (λ was. MayGoOn T.stands E.AppEnd was.task was.app_end) }
+        ensures turn { IsSomeAnd self.old.lent (λ was. result ≡ turn_of (E.has_moved was.app_end)) }
+        ensures same { IsSomeAnd self.old.lent (λ was. IsSomeAnd self.new.lent (λ is. (is.task ≡ was.task) × GoesOn E.AppEnd None was.app_end is.app_end)) }
+        ensures again { IsSomeAnd self.new.lent (λ is. MayGoOn T.stands E.AppEnd is.task is.app_end) }
+        ensures turns { self.new.turns ≡ self.old.turns }
+    {
+        let Some(lent) = self.lent.take() else {
+            unreachable!()
+        };
+        let Lent { task, mut app_end } = lent;
+        let moved = app_end.moved();
+        self.lent = Some(Lent { task, app_end });
+        if moved { Turn::Moved } else { Turn::Idle }
+    }
+}
+
+/// How the answer of a poll ends a task.
+fn kind_of(answer: Result<(), AppFault>) -> EndKind
+    ensures kind { own_end result ≡ end_of (Poll.Ready answer) }
+    ensures not_idle { result ≢ EndKind.Idle }
+{
+    match answer {
+        Ok(()) => EndKind::Returned,
+        Err(_) => EndKind::Faulted,
+    }
+}
+
+/// Puts the end of the task behind all that it said.
+fn finish<T, E: AppEnd>(task: T, end: E, kind: EndKind, turns: u64) -> Ended<T, E>
+    requires { E.ended end ≡ None }
+    ensures end { GoesOn E.AppEnd (Some kind) end result.app_end }
+    ensures lists { (E.heard result.app_end ≡ E.heard end) × (E.said result.app_end ≡ E.said end) }
+    ensures same { (result.task ≡ task) × (result.kind ≡ kind) × (result.turns ≡ turns) }
+{
+    let mut app_end = end;
+    let _first = app_end.finish(kind);
+    Ended {
+        task,
+        app_end,
+        kind,
+        turns,
+    }
+}
+
+impl<T: AppTask, E: AppEnd> Future for Running<T, E> {
+    type Output = Ended<T, E>;
+
+    ghost can_poll = { λ running. IsSomeAnd running.lent (λ was. MayGoOn T.stands E.AppEnd was.task was.app_end) };
+
+    ghost gives = { λ running ended. IsSomeAnd running.lent (λ was. GoesOn E.AppEnd (Some ended.kind) was.app_end ended.app_end × T.answers was.task (E.heard ended.app_end) (E.said ended.app_end) (own_end ended.kind)) };
+
+    fn poll(&mut self, cx: &mut Context<'_>) -> Poll<Ended<T, E>> {
+        self.turn(cx)
+    }
+}
+
+/// Polls the task until it ends, so many polls were made, or so many polls in a row moved nothing.
+/// Behind each poll that moved nothing it pauses. `turns` of the result counts the polls of this call.
+pub fn drive<T: AppTask, E: AppEnd, P: Pause>(
+    cx: &mut Context<'_>,
+    running: Running<T, E>,
+    pause: &mut P,
+    idle_turns: u32,
+    turns: u64,
+) -> Ended<T, E>
+    requires { IsSomeAnd running.lent (λ was. MayGoOn T.stands E.AppEnd was.task was.app_end) }
+    ensures end { IsSomeAnd running.lent (λ was. GoesOn E.AppEnd (Some result.kind) was.app_end result.app_end) }
+    ensures answers { IsSomeAnd running.lent (λ was. T.answers was.task (E.heard result.app_end) (E.said result.app_end) (own_end result.kind)) }
+    ensures turns { IsDriven turns idle_turns (P.count pause.old) (P.count pause.new) result.turns result.kind }
+    ensures at_most { result.turns ≤ turns }
+    ensures idle { result.kind ≡ EndKind.Idle → RoseBy idle_turns (P.count pause.old) (P.count pause.new) ⊎ (result.turns ≡ turns) }
+    ensures kept { Keeps cx.old cx.new }
+{
+    let mut running = running;
+    let mut taken = Turns::new(turns, idle_turns);
+    while !taken.is_over() {
+        if let Poll::Ready(ended) = running.turn(cx) {
+            taken.take(Turn::Last, pause);
+            return counted_as(ended, taken.turns);
+        }
+        taken.take(running.moved(), pause);
+    }
+    stop(running, taken.turns)
+}
+
+/// The same end, behind so many polls.
+fn counted_as<T, E>(ended: Ended<T, E>, turns: u64) -> Ended<T, E>
+    ensures same { (result.task ≡ ended.task) × (result.app_end ≡ ended.app_end) × (result.kind ≡ ended.kind) }
+    ensures turns { result.turns ≡ turns }
+{
+    Ended { turns, ..ended }
+}
+
+/// Ends a task that a limit stops.
+fn stop<T: AppTask, E: AppEnd>(running: Running<T, E>, turns: u64) -> Ended<T, E>
+    requires { IsSomeAnd running.lent (λ was. E.ended was.app_end ≡ None) }
+    ensures end { IsSomeAnd running.lent (λ was. GoesOn E.AppEnd (Some EndKind.Idle) was.app_end result.app_end) }
+    ensures lists { IsSomeAnd running.lent (λ was. (E.heard result.app_end ≡ E.heard was.app_end) × (E.said result.app_end ≡ E.said was.app_end)) }
+    ensures task { IsSomeAnd running.lent (λ was. result.task ≡ was.task) }
+    ensures kind { (result.kind ≡ EndKind.Idle) × (result.turns ≡ turns) }
+{
+    let Running { lent, turns: _ } = running;
+    let Some(lent) = lent else { unreachable!() };
+    let Lent { task, app_end } = lent;
+    finish(task, app_end, EndKind::Idle, turns)
+}

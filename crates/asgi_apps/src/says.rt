@@ -1,0 +1,93 @@
+//! A task that has a list of events to say.
+ghost use Rattle.std.specs.Prelude.{◌≡◌, List, [], ◌∷◌, ◌++◌, None, OnOk, OnErr, IfOk, IfSome, IfNone};
+
+use crate::task::{AppFault, AppTask};
+use asgi_io::History;
+use asgi_pipes::{AppEnd, Sent};
+use asgi_types::{Kind, Outgoing};
+use futures::task::{Context, Poll};
+use std::alloc::{AllocError, Global};
+use std::collections::VecDeque;
+
+/// Says a list of events, one a poll, and returns. It hears nothing.
+#[derive(Drop)]
+pub struct Says {
+    kind: Kind,
+    /// What found no place when it was said.
+    waiting: Option<Outgoing>,
+    events: VecDeque<Outgoing>,
+    script: History<Outgoing>,
+}
+
+impl Says {
+    ghost use Rattle.asgi_types.specs.declared.outgoing.Outgoing.{Outgoing};
+    ghost use Rattle.asgi_apps.specs.Saying.{IsToSay, left_of, script};
+
+    /// Nothing to say yet, in a scope of this kind, with room for so many events.
+    pub fn with_room(alloc: Global, kind: Kind, events: usize) -> Result<Self, AllocError>
+        ensures { IfOk result (λ says. IsToSay says kind []) }
+    {
+        let events = VecDeque::with_capacity(alloc, events)?;
+        Ok(Says {
+            kind,
+            waiting: None,
+            events,
+            script: History::new(),
+        })
+    }
+
+    /// One more event to say, behind the others.
+    pub fn add(&mut self, event: Outgoing) -> Result<(), AllocError>
+        ensures ok { OnOk result ((script self.new ≡ script self.old ++ event ∷ []) × (left_of self.new ≡ left_of self.old ++ event ∷ [])) }
+        ensures err { OnErr result ((script self.new ≡ script self.old) × (left_of self.new ≡ left_of self.old)) }
+        ensures kind { self.new.kind ≡ self.old.kind }
+    {
+        let script = History::with(&self.script, &event);
+        self.events.push_back(event)?;
+        self.script = script;
+        Ok(())
+    }
+
+    /// The event that is to be said next.
+    fn next(&mut self) -> Option<Outgoing>
+        ensures some { IfSome result (λ event. left_of self.old ≡ event ∷ self.new.events.items) }
+        ensures none { IfNone result ((left_of self.old ≡ []) × (self.new.events.items ≡ [])) }
+        ensures waiting { self.new.waiting ≡ None }
+        ensures same { (self.new.kind ≡ self.old.kind) × (script self.new ≡ script self.old) }
+    {
+        match self.waiting.take() {
+            Some(event) => Some(event),
+            None => self.events.pop_front(),
+        }
+    }
+}
+
+impl AppTask for Says {
+    ghost use Rattle.asgi_apps.specs.Saying.{HasSaid, SaysList, left_of, script};
+
+    ghost stands = { HasSaid };
+
+    ghost answers = { λ says heard said ended. SaysList says.kind (script says) said ended };
+
+    fn poll<E: AppEnd>(&mut self, cx: &mut Context<'_>, end: &mut E) -> Poll<Result<(), AppFault>> {
+        let Some(event) = self.next() else {
+            return Poll::Ready(Ok(()));
+        };
+        match end.poll_send(cx, event) {
+            Sent::Done => {
+                if self.events.is_empty() {
+                    return Poll::Ready(Ok(()));
+                }
+                cx.yield_now()
+            }
+            Sent::Full(event) => {
+                self.waiting = Some(event);
+                Poll::Pending
+            }
+            Sent::Ignored => Poll::Ready(Err(AppFault::Failed)),
+            Sent::Refused(_, _) => Poll::Ready(Err(AppFault::Failed)),
+        }
+    }
+
+    ghost keeps = { λ says kind heard said stands. (left_of says, stands.in_order) };
+}

@@ -1,0 +1,399 @@
+//! Each ready application over a plain pair, driven to its end: what it says, as a text of one line an event.
+ghost use Rattle.std.specs.Prelude.{◌≡◌, [], None, IfOk};
+ghost use Rattle.futures.specs.Task.{Keeps};
+ghost use Rattle.asgi_apps.specs.Scopes.{kind_of};
+ghost use Rattle.asgi_pipes.specs.PlainPairs.{IsPlainPair};
+
+use crate::{
+    AppFault, AppTask, Application, Echo, Ended, Hello, NotFound, RootPath, Running, drive,
+};
+use asgi_io::CountingPause;
+use asgi_pipes::{ConnEnd, EndKind, OutItem, Pipes, Plain, PlainApp, PlainConn};
+use asgi_types::{
+    Asgi, Chars, Extensions, Facts, Framing, Headers, HttpScope, HttpVersion, Incoming, Kind,
+    LifespanScope, Names, Octets, Outgoing, Scope, State, WsScope,
+};
+use futures::task::{Context, Poll};
+use futures::{Future, FutureExt};
+use std::alloc::{AllocError, AllocGlobal, Global};
+use std::process::Abort;
+use std::random::RandomSource;
+use std::test::Fail;
+
+/// What the application is offered: at most three events.
+#[derive(Clone, Copy, Debug)]
+pub enum Offered {
+    Nothing,
+    Part(&'static str),
+    Last(&'static str),
+    Disconnect,
+}
+
+use Offered::{Disconnect, Last, Part};
+
+/// A task that is driven within one poll, which is where a context comes from.
+#[derive(Drop)]
+struct Served<A> {
+    alloc: Global,
+    app: A,
+    kind: Kind,
+    offered: &'static [Offered],
+}
+
+impl<A: Application + Drop> Future for Served<A> {
+    type Output = Result<Vec<u8>, AppFault>;
+
+    fn poll(&mut self, cx: &mut Context<'_>) -> Poll<Result<Vec<u8>, AppFault>> {
+        Poll::Ready(serve(self.alloc, cx, &self.app, self.kind, self.offered))
+    }
+}
+
+fn chars(alloc: Global, text: &str) -> Result<Chars, AllocError> {
+    Ok(Chars::new(String::from_str(alloc, text)?))
+}
+
+fn octets(alloc: Global, text: &str) -> Result<Octets, AllocError> {
+    Ok(Octets::new(Vec::from_slice(alloc, text.as_bytes())?))
+}
+
+fn facts(alloc: Global) -> Facts {
+    Facts {
+        version: HttpVersion::V11,
+        head_only: false,
+        close: false,
+        expect: false,
+        framing: Framing::Length(0),
+        key: [0; 24],
+        subprotocols: Names::new(alloc),
+    }
+}
+
+const NO_EXTENSIONS: Extensions = Extensions {
+    websocket_http_response: false,
+    http_response_trailers: false,
+};
+
+fn scope_of(alloc: Global, kind: Kind) -> Result<Scope, AllocError>
+    ensures { IfOk result (λ scope. kind_of scope ≡ kind) }
+{
+    match kind {
+        Kind::Http => Ok(Scope::Http(HttpScope {
+            asgi: Asgi::of(Kind::Http),
+            http_version: HttpVersion::V11,
+            method: chars(alloc, "POST")?,
+            scheme: chars(alloc, "http")?,
+            path: chars(alloc, "/a/b")?,
+            raw_path: octets(alloc, "/a/b")?,
+            query_string: octets(alloc, "")?,
+            root_path: chars(alloc, "/a")?,
+            headers: Headers::new(alloc),
+            client: None,
+            server: None,
+            state: State::new(alloc),
+            extensions: NO_EXTENSIONS,
+        })),
+        Kind::WebSocket => Ok(Scope::WebSocket(WsScope {
+            asgi: Asgi::of(Kind::WebSocket),
+            http_version: HttpVersion::V11,
+            scheme: chars(alloc, "ws")?,
+            path: chars(alloc, "/a/b")?,
+            raw_path: octets(alloc, "/a/b")?,
+            query_string: octets(alloc, "")?,
+            root_path: chars(alloc, "/a")?,
+            headers: Headers::new(alloc),
+            client: None,
+            server: None,
+            subprotocols: Names::new(alloc),
+            state: State::new(alloc),
+            extensions: NO_EXTENSIONS,
+        })),
+        Kind::Lifespan => Ok(Scope::Lifespan(LifespanScope {
+            asgi: Asgi::of(Kind::Lifespan),
+            state: State::new(alloc),
+        })),
+    }
+}
+
+fn at(offered: &[Offered], index: usize) -> Offered {
+    match offered.get(index) {
+        Some(one) => *one,
+        None => Offered::Nothing,
+    }
+}
+
+fn event_of(alloc: Global, offered: Offered) -> Result<Option<Incoming>, AllocError> {
+    Ok(match offered {
+        Offered::Nothing => None,
+        Offered::Part(text) => Some(Incoming::HttpRequest {
+            body: octets(alloc, text)?,
+            more_body: true,
+        }),
+        Offered::Last(text) => Some(Incoming::HttpRequest {
+            body: octets(alloc, text)?,
+            more_body: false,
+        }),
+        Offered::Disconnect => Some(Incoming::HttpDisconnect),
+    })
+}
+
+/// Offers the event. There is a place for it.
+fn offer(conn: &mut PlainConn, event: Option<Incoming>)
+    ensures { ⟦<PlainConn as ConnEnd>⟧.tag conn.new ≡ ⟦<PlainConn as ConnEnd>⟧.tag conn.old }
+{
+    if let Some(event) = event {
+        let _back = conn.offer(event);
+    }
+}
+
+/// A pair of ends, with what is offered at the application's end.
+#[derive(Drop)]
+struct Pair {
+    conn: PlainConn,
+    app: PlainApp,
+    ghost pair: { IsPlainPair conn app },
+}
+
+fn pair_of(alloc: Global, kind: Kind, offered: &[Offered]) -> Result<Pair, AllocError>
+    ensures { IfOk result (λ made. (made.app.kind ≡ kind) × (made.app.heard.items ≡ []) × (made.app.said.items ≡ []) × (made.app.ended ≡ None)) }
+{
+    let first = event_of(alloc, at(offered, 0))?;
+    let second = event_of(alloc, at(offered, 1))?;
+    let third = event_of(alloc, at(offered, 2))?;
+    let (mut conn, mut app) = Plain.make(alloc, kind, facts(alloc), 16)?;
+    offer(&mut conn, first);
+    offer(&mut conn, second);
+    offer(&mut conn, third);
+    Plain::carry(&mut conn, &mut app);
+    Ok(Pair { conn, app })
+}
+
+fn task_of<A: Application>(alloc: Global, app: &A, kind: Kind) -> Result<A::Task, AppFault>
+    ensures { IfOk result (λ task. A.Task.stands task kind [] []) }
+{
+    let scope = scope_of(alloc, kind)?;
+    app.call(alloc, &scope)
+}
+
+/// Calls the application, drives its task, and tells what the connection takes.
+fn serve<A: Application>(
+    alloc: Global,
+    cx: &mut Context<'_>,
+    app: &A,
+    kind: Kind,
+    offered: &[Offered],
+) -> Result<Vec<u8>, AppFault>
+    ensures { Keeps cx.old cx.new }
+{
+    let task = task_of(alloc, app, kind)?;
+    let pair = pair_of(alloc, kind, offered)?;
+    Ok(told(alloc, cx, task, pair)?)
+}
+
+fn told<T: AppTask>(
+    alloc: Global,
+    cx: &mut Context<'_>,
+    task: T,
+    pair: Pair,
+) -> Result<Vec<u8>, AllocError>
+    requires open { pair.app.ended ≡ None }
+    requires stands { T.stands task pair.app.kind pair.app.heard.items pair.app.said.items }
+    ensures { Keeps cx.old cx.new }
+{
+    let Pair { mut conn, app } = pair;
+    let mut pause = CountingPause::new();
+    let ended = drive(cx, Running::new(task, app), &mut pause, 3, 100);
+    let Ended { mut app_end, .. } = ended;
+    Plain::carry(&mut conn, &mut app_end);
+    taken(alloc, &mut conn)
+}
+
+/// Takes all, and tells it.
+fn taken(alloc: Global, conn: &mut PlainConn) -> Result<Vec<u8>, AllocError> {
+    let mut text = Vec::new(alloc);
+    for _item in 0..20 {
+        match conn.take() {
+            Some(OutItem::Event(event)) => tell(alloc, &mut text, &event)?,
+            Some(OutItem::Ended(end)) => text.extend_from_slice(word_of(end).as_bytes())?,
+            None => return Ok(text),
+        }
+    }
+    Ok(text)
+}
+
+fn word_of(end: EndKind) -> &'static str {
+    match end {
+        EndKind::Returned => "returned",
+        EndKind::Faulted => "faulted",
+        EndKind::Idle => "idle",
+    }
+}
+
+fn tell(alloc: Global, text: &mut Vec<u8>, event: &Outgoing) -> Result<(), AllocError> {
+    match event {
+        Outgoing::ResponseStart { status, headers } => {
+            text.extend_from_slice(format!(in alloc; "start {status}")?.as_bytes())?;
+            for (name, value) in headers.iter() {
+                text.extend_from_slice(b" ")?;
+                text.extend_from_slice(name)?;
+                text.extend_from_slice(b"=")?;
+                text.extend_from_slice(value)?;
+            }
+        }
+        Outgoing::ResponseBody { body, more_body } => {
+            let word: &str = if *more_body { "part " } else { "last " };
+            text.extend_from_slice(word.as_bytes())?;
+            text.extend_from_slice(body.bytes())?;
+        }
+        Outgoing::WsClose { code, reason } => {
+            text.extend_from_slice(format!(in alloc; "close {code} ")?.as_bytes())?;
+            text.extend_from_slice(reason.as_str().as_bytes())?;
+        }
+        _ => text.extend_from_slice(b"other")?,
+    }
+    text.extend_from_slice(b"|")?;
+    Ok(())
+}
+
+/// The text of what the application says, or its fault.
+fn run<R: RandomSource + AllocGlobal, A: Application + Drop>(
+    rt: &R,
+    app: A,
+    kind: Kind,
+    offered: &'static [Offered],
+) -> Result<Vec<u8>, AppFault> {
+    let served = Served {
+        alloc: rt.alloc(),
+        app,
+        kind,
+        offered,
+    };
+    match served.now_or_never(rt) {
+        Ok(Some(said)) => said,
+        Ok(None) => Err(AppFault::Failed),
+        Err(_) => Err(AppFault::NoMemory(AllocError)),
+    }
+}
+
+/// A kind of scope, what is offered, and what is said.
+pub type Row = (Kind, &'static [Offered], &'static str);
+
+pub const SILENCE: &[Offered] = &[];
+
+pub fn check<R: Abort + RandomSource + AllocGlobal, A: Application + Copy + Drop>(
+    rt: &R,
+    app: A,
+    rows: &[Row],
+) -> Result<(), Fail> {
+    for (kind, offered, expected) in rows {
+        match run(rt, app, *kind, *offered) {
+            Ok(said) => assert_eq!(rt; said.as_slice(), expected.as_bytes(), "{expected}"),
+            Err(_) => assert_eq!(rt; "faulted", *expected),
+        }
+    }
+    Ok(())
+}
+
+const HELLO: &[Row] = &[
+    (
+        Kind::Http,
+        SILENCE,
+        "start 200 content-type=text/plain|last hello\n|returned",
+    ),
+    (
+        Kind::Http,
+        &[Last("abc"), Disconnect],
+        "start 200 content-type=text/plain|last hello\n|returned",
+    ),
+    (Kind::WebSocket, SILENCE, "close 1000 |returned"),
+    (Kind::Lifespan, SILENCE, "faulted"),
+];
+
+#[test]
+fn hello_greets(rt: HostRuntime) -> Result<(), Fail> {
+    check(&rt, Hello, HELLO)
+}
+
+const NOT_FOUND: &[Row] = &[
+    (
+        Kind::Http,
+        SILENCE,
+        "start 404 content-length=0|last |returned",
+    ),
+    (Kind::WebSocket, SILENCE, "close 1000 |returned"),
+    (Kind::Lifespan, SILENCE, "faulted"),
+];
+
+#[test]
+fn not_found_has_no_content(rt: HostRuntime) -> Result<(), Fail> {
+    check(&rt, NotFound, NOT_FOUND)
+}
+
+const ROOT_PATH: &[Row] = &[
+    (
+        Kind::Http,
+        SILENCE,
+        "start 200 content-type=text/plain|last /a\n|returned",
+    ),
+    (Kind::WebSocket, SILENCE, "close 1000 |returned"),
+    (Kind::Lifespan, SILENCE, "faulted"),
+];
+
+#[test]
+fn root_path_is_said_in_a_line(rt: HostRuntime) -> Result<(), Fail> {
+    check(&rt, RootPath, ROOT_PATH)
+}
+
+const ECHO: &[Row] = &[
+    (
+        Kind::Http,
+        &[Last("abc")],
+        "start 200 content-type=application/octet-stream|last abc|returned",
+    ),
+    (
+        Kind::Http,
+        &[Part("abc"), Part(""), Last("d")],
+        "start 200 content-type=application/octet-stream|part abc|part |last d|returned",
+    ),
+    (
+        Kind::Http,
+        &[Part("abc"), Disconnect],
+        "start 200 content-type=application/octet-stream|part abc|returned",
+    ),
+    (
+        Kind::Http,
+        &[Part("abc")],
+        "start 200 content-type=application/octet-stream|part abc|idle",
+    ),
+    (Kind::WebSocket, SILENCE, "close 1000 |returned"),
+    (Kind::Lifespan, SILENCE, "faulted"),
+];
+
+#[test]
+fn echo_says_what_it_hears(rt: HostRuntime) -> Result<(), Fail> {
+    check(&rt, Echo, ECHO)
+}
+
+/// Where an allocation is refused, the fault says so, and the next call answers whole.
+fn check_memory<R: Abort + RandomSource + AllocGlobal, A: Application + Copy + Drop>(
+    rt: &R,
+    app: A,
+    row: &Row,
+) -> Result<(), Fail> {
+    let (kind, offered, expected) = *row;
+    let said = match run(rt, app, kind, offered) {
+        Err(AppFault::NoMemory(_)) => run(rt, app, kind, offered)?,
+        answer => answer?,
+    };
+    assert_eq!(rt; said.as_slice(), expected.as_bytes());
+    Ok(())
+}
+
+#[test]
+fn memory_for_each_application(rt: HostRuntime) -> Result<(), Fail> {
+    check_memory(&rt, Hello, &HELLO[0])?;
+    check_memory(&rt, Hello, &HELLO[2])?;
+    check_memory(&rt, NotFound, &NOT_FOUND[0])?;
+    check_memory(&rt, RootPath, &ROOT_PATH[0])?;
+    check_memory(&rt, Echo, &ECHO[1])?;
+    check_memory(&rt, Echo, &ECHO[4])
+}
