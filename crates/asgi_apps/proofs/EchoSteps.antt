@@ -18,7 +18,7 @@ use Rattle.asgi_protocol.specs.Lawful.{IsLawful}
 use Rattle.asgi_protocol.specs.Verdicts.{verdict_on, is_disconnect}
 use Rattle.asgi_protocol.proofs.LawLemmas.{lawful_where_each_passes}
 use Rattle.asgi_pipes.specs.Disconnects.{has_disconnect}
-use Rattle.asgi_pipes.specs.declared.items.EndKind.TheVariants.{Returned, Faulted, Idle}
+use Rattle.asgi_types.specs.declared.end_kind.EndKind.TheVariants.{Returned, Faulted, Idle}
 use Rattle.asgi_apps.specs.declared.echo.Reaction.TheVariants.{Says, Returns, Listens}
 use Rattle.asgi_apps.specs.Answers.{Answers, close_events, start_of}
 use Rattle.asgi_apps.specs.Echo.{bodies_of, echo_answer, echo_events, ends_request, EchoAnswers, HeardAll}

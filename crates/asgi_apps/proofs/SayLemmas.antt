@@ -11,8 +11,8 @@ use Rattle.asgi_protocol.specs.Lawful.{IsLawful}
 use Rattle.asgi_protocol.specs.Verdicts.{verdict_on}
 use Rattle.asgi_protocol.proofs.LawLemmas.{lawful_where_each_passes}
 use Rattle.asgi_pipes.specs.Disconnects.{has_disconnect}
-use Rattle.asgi_pipes.specs.declared.items.EndKind.{EndKind}
-use Rattle.asgi_pipes.specs.declared.items.EndKind.TheVariants.{Returned, Faulted, Idle}
+use Rattle.asgi_types.specs.declared.end_kind.EndKind.{EndKind}
+use Rattle.asgi_types.specs.declared.end_kind.EndKind.TheVariants.{Returned, Faulted, Idle}
 use Rattle.asgi_apps.specs.Answers.{Answers}
 use Rattle.asgi_apps.specs.declared.says.Says.{Says}
 use Rattle.asgi_apps.specs.Saying.{Gives, IsToSay, SaysList, script}

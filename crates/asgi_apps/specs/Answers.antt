@@ -8,8 +8,8 @@ use Rattle.asgi_types.specs.declared.scope.Scope.TheVariants.{Http, WebSocket, L
 use Rattle.asgi_types.specs.declared.incoming.Incoming.{Incoming}
 use Rattle.asgi_types.specs.declared.outgoing.Outgoing.{Outgoing}
 use Rattle.asgi_types.specs.declared.outgoing.Outgoing.TheVariants.{ResponseStart, ResponseBody, WsClose}
-use Rattle.asgi_pipes.specs.declared.items.EndKind.{EndKind}
-use Rattle.asgi_pipes.specs.declared.items.EndKind.TheVariants.{Returned, Faulted, Idle}
+use Rattle.asgi_types.specs.declared.end_kind.EndKind.{EndKind}
+use Rattle.asgi_types.specs.declared.end_kind.EndKind.TheVariants.{Returned, Faulted, Idle}
 
 -- the code of a line feed
 abbrev pub line_feed : ℕ

@@ -9,8 +9,8 @@ use Rattle.asgi_types.specs.declared.scope.Kind.{Kind}
 use Rattle.asgi_types.specs.declared.incoming.Incoming.{Incoming}
 use Rattle.asgi_types.specs.declared.outgoing.Outgoing.{Outgoing}
 use Rattle.asgi_pipes.specs.declared.ends.AppEnd.{Ghosts}
-use Rattle.asgi_pipes.specs.declared.items.EndKind.{EndKind}
-use Rattle.asgi_pipes.specs.declared.items.EndKind.TheVariants.{Returned, Faulted, Idle}
+use Rattle.asgi_types.specs.declared.end_kind.EndKind.{EndKind}
+use Rattle.asgi_types.specs.declared.end_kind.EndKind.TheVariants.{Returned, Faulted, Idle}
 
 -- An application's end went on: it may have heard and said more, it is ended like this, and nothing else of it changed.
 pub record GoesOn {E : Type 0} (ends : Ghosts E) (ended : Option EndKind) (old new : E) : Type 0 where

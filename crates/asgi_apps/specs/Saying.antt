@@ -7,8 +7,8 @@ use Rattle.asgi_types.specs.declared.facts.Facts.{Facts}
 use Rattle.asgi_types.specs.declared.incoming.Incoming.{Incoming}
 use Rattle.asgi_types.specs.declared.outgoing.Outgoing.{Outgoing}
 use Rattle.asgi_protocol.specs.Lawful.{IsLawful}
-use Rattle.asgi_pipes.specs.declared.items.EndKind.{EndKind}
-use Rattle.asgi_pipes.specs.declared.items.EndKind.TheVariants.{Returned, Faulted, Idle}
+use Rattle.asgi_types.specs.declared.end_kind.EndKind.{EndKind}
+use Rattle.asgi_types.specs.declared.end_kind.EndKind.TheVariants.{Returned, Faulted, Idle}
 use Rattle.asgi_apps.specs.declared.says.Says.{Says}
 use Rattle.asgi_apps.specs.Answers.{Answers}
 

@@ -5,7 +5,7 @@ ghost use Rattle.futures.specs.Task.{IsArmed, Keeps};
 ghost use Rattle.asgi_io.specs.Counting.{RoseBy, counted};
 ghost use Rattle.asgi_types.specs.declared.incoming.Incoming.{Incoming};
 ghost use Rattle.asgi_types.specs.declared.outgoing.Outgoing.{Outgoing};
-ghost use Rattle.asgi_pipes.specs.declared.items.EndKind.{EndKind};
+ghost use Rattle.asgi_types.specs.declared.end_kind.EndKind.{EndKind};
 ghost use Rattle.asgi_apps.specs.Driving.{IsDriven};
 ghost use Rattle.asgi_apps.specs.Ends.{GoesOn, IsWithin, MayGoOn, end_of, own_end, turn_of};
 

@@ -7,8 +7,8 @@ ghost use Rattle.asgi_types.specs.declared.incoming.Incoming.{Incoming};
 ghost use Rattle.asgi_types.specs.declared.outgoing.Outgoing.{Outgoing};
 ghost use Rattle.asgi_types.specs.declared.scope.Kind.{Kind};
 ghost use Rattle.asgi_types.specs.declared.scope.Scope.{Scope};
-ghost use Rattle.asgi_pipes.specs.declared.items.EndKind.{EndKind};
-ghost use Rattle.asgi_pipes.specs.declared.items.EndKind.TheVariants.{Faulted};
+ghost use Rattle.asgi_types.specs.declared.end_kind.EndKind.{EndKind};
+ghost use Rattle.asgi_types.specs.declared.end_kind.EndKind.TheVariants.{Faulted};
 ghost use Rattle.asgi_apps.specs.Ends.{GoesOn, IsWithin, end_of};
 ghost use Rattle.asgi_apps.specs.Scopes.{kind_of};
 

@@ -15,11 +15,11 @@ use Rattle.asgi_request.specs.HeadText.{EndsAsHead, is_line_break}
 use Rattle.asgi_request.specs.RequestEvents.{last_event}
 use Rattle.asgi_request.proofs.HeadExamples.{example_limits, post_text, post_scope, post_facts, post_begins, get_text, get_scope, get_facts, get_begins}
 use Rattle.asgi_request.proofs.TextLemmas.{tells, head_search_for}
+use Rattle.asgi_apps.specs.Answers.{hello_events}
 use Rattle.asgi_conn.specs.declared.report.Outcome.TheVariants.{Finished}
 use Rattle.asgi_conn.specs.declared.report.Report.{Report}
 use Rattle.asgi_conn.specs.Conversation.{NothingIsDue, IsBlank}
 use Rattle.asgi_conn.specs.Exchanges.{Exchanged, ServesFirst, IsFollowed, answer_texts}
-use Rattle.asgi_conn.specs.Hello.{hello_events}
 use Rattle.asgi_conn.specs.Persistence.{Converses}
 use Rattle.asgi_conn.specs.TaskEnds.{at_end, next_request}
 use Rattle.asgi_conn.proofs.RequestLemmas.{nothing_due}

@@ -1,6 +1,6 @@
 use Rattle.std.proofs.Common.{rules, ◌≡◌, [], ◌∷◌, ◌++◌, ℕ, List, Some, None, IsSomeAnd, inl, inr, refl, sym, subst, ◌∙◌}
 use Rattle.asgi_io.specs.Turns.{CountsTurns}
-use Rattle.asgi_pipes.specs.declared.items.EndKind.TheVariants.{Idle}
+use Rattle.asgi_types.specs.declared.end_kind.EndKind.TheVariants.{Idle}
 use Rattle.asgi_apps.specs.Ends.{own_end}
 use Rattle.asgi_apps.proofs.EndLemmas.{not_polled, polled_again, asked, ended_further, answered_further, so_far}
 use Rattle.asgi_apps.proofs.PauseLemmas.{counts_more, paused_for_each}
