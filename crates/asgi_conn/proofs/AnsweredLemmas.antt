@@ -10,7 +10,9 @@ use Rattle.asgi_response.specs.declared.progress.Progress.{Progress}
 use Rattle.asgi_response.specs.declared.progress.Progress.TheVariants.{Nothing, Begun, Complete}
 use Rattle.asgi_response.specs.declared.refusal.Input.TheVariants as input
 use Rattle.asgi_response.specs.Progress.{progress_of}
-use Rattle.asgi_conn.specs.TaskEnds.{InputEnd, has_ended, next_request, after_task}
+use Rattle.asgi_conn.specs.declared.following.Following.TheVariants.{NextRequest}
+use Rattle.asgi_conn.specs.declared.input.InputEnd.{InputEnd}
+use Rattle.asgi_conn.specs.TaskEnds.{has_ended, after_task}
 use Rattle.asgi_conn.specs.Exchanges.{Exchanged, ServesFirst, IsFollowed, out_text, AreAnswered, answer_texts}
 
 -- ---- more bytes
@@ -74,7 +76,7 @@ answered_end limits old new bytes (x ∷ exchanges) behind on a =
 -- ---- one more
 
 pub answered_more : (limits : Limits) (end : InputEnd) (bytes : List ℕ) (exchanges : List Exchanged) (middle : List ℕ) (x : Exchanged) (behind : List ℕ)
-    → AreAnswered limits end bytes exchanges middle → ServesFirst limits end false middle x (complete behind) → IsFollowed x (complete behind) next_request
+    → AreAnswered limits end bytes exchanges middle → ServesFirst limits end false middle x (complete behind) → IsFollowed x (complete behind) NextRequest
     → AreAnswered limits end bytes (exchanges ++ x ∷ []) behind
 answered_more limits end bytes [] middle x behind a s f = (behind, subst (λ (l : List ℕ). ServesFirst limits end false l x (complete behind)) (sym a) s, f, refl)
 answered_more limits end bytes (y ∷ exchanges) middle x behind a s f = (a.0, a.1, a.2, answered_more limits end a.0 exchanges middle x behind a.3 s f)

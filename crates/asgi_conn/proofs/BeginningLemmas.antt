@@ -10,7 +10,7 @@ use Rattle.asgi_exchange.specs.HttpExchange.{text_of}
 use Rattle.asgi_exchange.proofs.ListLemmas.{prefix_trans, prefix_same, prefix_behind}
 use Rattle.asgi_conn.specs.declared.report.Outcome.{Outcome}
 use Rattle.asgi_conn.specs.declared.report.Outcome.TheVariants.{Finished, Refused, InputBroke, WriteFailed, Idle, NoMemory}
-use Rattle.asgi_conn.specs.TaskEnds.{InputEnd}
+use Rattle.asgi_conn.specs.declared.input.InputEnd.{InputEnd}
 use Rattle.asgi_conn.specs.Exchanges.{Exchanged, out_text}
 use Rattle.asgi_conn.specs.Persistence.{InHand, Beginning, Saying, Ending, StopsWithin, EndsWithin}
 use Rattle.asgi_conn.proofs.SoFarLemmas.{text_front, response_first}

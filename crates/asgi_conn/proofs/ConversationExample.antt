@@ -21,7 +21,8 @@ use Rattle.asgi_conn.specs.declared.report.Report.{Report}
 use Rattle.asgi_conn.specs.Conversation.{NothingIsDue, IsBlank}
 use Rattle.asgi_conn.specs.Exchanges.{Exchanged, ServesFirst, IsFollowed, answer_texts}
 use Rattle.asgi_conn.specs.Persistence.{Converses}
-use Rattle.asgi_conn.specs.TaskEnds.{at_end, next_request}
+use Rattle.asgi_conn.specs.declared.following.Following.TheVariants.{NextRequest}
+use Rattle.asgi_conn.specs.declared.input.InputEnd.TheVariants.{AtEnd}
 use Rattle.asgi_conn.proofs.RequestLemmas.{nothing_due}
 
 -- CR LF
@@ -80,7 +81,7 @@ greeting_is_closed = record {
   in_order = refl;
 }
 
-post_is_served : ServesFirst example_limits at_end false read posted (complete behind_post)
+post_is_served : ServesFirst example_limits AtEnd false read posted (complete behind_post)
 unfolding read posted post_facts behind_post example_limits get_text empty_line
 post_is_served = record {
   arrived = codes "abc" ++ behind_post;
@@ -92,7 +93,7 @@ post_is_served = record {
   breaks = λ b. cc b;
 }
 
-get_is_served : ServesFirst example_limits at_end false behind_post got (complete empty_line)
+get_is_served : ServesFirst example_limits AtEnd false behind_post got (complete empty_line)
 unfolding got get_facts behind_post example_limits empty_line
 get_is_served = record {
   arrived = empty_line;
@@ -104,11 +105,11 @@ get_is_served = record {
   breaks = λ b. cc b;
 }
 
-post_is_followed : IsFollowed posted (complete behind_post) next_request
+post_is_followed : IsFollowed posted (complete behind_post) NextRequest
 unfolding posted post_facts
 post_is_followed = (Returned, refl, refl)
 
-get_is_followed : IsFollowed got (complete empty_line) next_request
+get_is_followed : IsFollowed got (complete empty_line) NextRequest
 unfolding got get_facts
 get_is_followed = (Returned, refl, refl)
 
@@ -124,7 +125,7 @@ blank : IsBlank empty_line
 unfolding empty_line
 blank = AllPass-from_list_all is_line_break empty_line refl
 
-two_requests_are_a_conversation : Converses example_limits at_end read (posted ∷ got ∷ []) (told_to_go_on ++ greeting ++ greeting) reported
+two_requests_are_a_conversation : Converses example_limits AtEnd read (posted ∷ got ∷ []) (told_to_go_on ++ greeting ++ greeting) reported
 unfolding reported posted got
 two_requests_are_a_conversation = record {
   answered = posted ∷ got ∷ [];

@@ -30,7 +30,10 @@ use Rattle.asgi_conn.specs.declared.report.Outcome.{Outcome}
 use Rattle.asgi_conn.specs.declared.report.Outcome.TheVariants.{Finished, Refused, InputBroke, WriteFailed, Idle, NoMemory}
 use Rattle.asgi_conn.specs.declared.report.Report.{Report}
 use Rattle.asgi_conn.specs.Conversation.{NothingIsDue, IsBlank}
-use Rattle.asgi_conn.specs.TaskEnds.{InputEnd, at_end, failed, has_ended, next_request}
+use Rattle.asgi_conn.specs.declared.following.Following.TheVariants.{NextRequest}
+use Rattle.asgi_conn.specs.declared.input.InputEnd.{InputEnd}
+use Rattle.asgi_conn.specs.declared.input.InputEnd.TheVariants.{AtEnd, Failed}
+use Rattle.asgi_conn.specs.TaskEnds.{has_ended}
 use Rattle.asgi_conn.specs.Exchanges.{Exchanged}
 use Rattle.asgi_conn.specs.Persistence.{EndsBetween, CountsExchanges, Converses}
 use Rattle.asgi_conn.specs.SoFar.{exchanged, Between, Within, TaskIsOver}
@@ -96,7 +99,7 @@ keeps_on limits end read opened exchanges written scope facts w k events place h
       behind,
       record {
         so_far = one_more limits end read exchanges written scope facts w k events behind x.one i t.taken body (λ b. inl (broke b)) (λ b. absurd (t.uncut b))
-            (follows limits scope facts w k (complete behind) t (Complete false) next_request i p refl)
+            (follows limits scope facts w k (complete behind) t (Complete false) NextRequest i p refl)
             (begun_is_out limits scope facts w k (complete behind) t (kept_is_begun facts w p) out);
         closed = whole_closes limits read opened facts.framing w.conn.arrived events behind x.opens body;
       },
@@ -140,10 +143,10 @@ module _ (limits : Limits) (end : InputEnd) (read : List ℕ) (given : List Next
   none_due : (rest : List ℕ) → GivesResults limits read given rest → NothingIsDue limits behind
   none_due rest g = nothing_due limits behind (head_is_open limits read given behind rest (closed_at limits read given behind b.closed) g)
 
-  pub finished : (rest : List ℕ) → GivesResults limits read given rest → end ≡ at_end → IsBlank behind → report.outcome ≡ Finished → Converses limits end read exchanges written report
+  pub finished : (rest : List ℕ) → GivesResults limits read given rest → end ≡ AtEnd → IsBlank behind → report.outcome ≡ Finished → Converses limits end read exchanges written report
   finished rest g e blank o = ends_silent limits end read exchanges behind written given Finished report b o (refl, none_due rest g, e, blank) c
 
-  pub input_broke : (rest : List ℕ) → GivesResults limits read given rest → (end ≡ failed) ⊎ ((end ≡ at_end) × ¬ (IsBlank behind)) → report.outcome ≡ InputBroke
+  pub input_broke : (rest : List ℕ) → GivesResults limits read given rest → (end ≡ Failed) ⊎ ((end ≡ AtEnd) × ¬ (IsBlank behind)) → report.outcome ≡ InputBroke
       → Converses limits end read exchanges written report
   input_broke rest g e o = ends_silent limits end read exchanges behind written given InputBroke report b o (refl, none_due rest g, e) c
 

@@ -22,7 +22,11 @@ use Rattle.asgi_conn.specs.declared.report.Outcome.{Outcome}
 use Rattle.asgi_conn.specs.declared.report.Outcome.TheVariants.{Finished, Refused, InputBroke, WriteFailed, Idle, NoMemory}
 use Rattle.asgi_conn.specs.declared.report.Report.{Report}
 use Rattle.asgi_conn.specs.Conversation.{NothingIsDue, IsBlank}
-use Rattle.asgi_conn.specs.TaskEnds.{InputEnd, at_end, failed, is_cut, Following, next_request, connection_ends, after_response, after_task}
+use Rattle.asgi_conn.specs.declared.following.Following.{Following}
+use Rattle.asgi_conn.specs.declared.following.Following.TheVariants.{NextRequest, ConnectionEnds}
+use Rattle.asgi_conn.specs.declared.input.InputEnd.{InputEnd}
+use Rattle.asgi_conn.specs.declared.input.InputEnd.TheVariants.{AtEnd, Failed}
+use Rattle.asgi_conn.specs.TaskEnds.{is_cut, after_response, after_task}
 use Rattle.asgi_conn.specs.Exchanges.{Exchanged, ServesFirst, IsFollowed, out_text, AreAnswered, answer_texts}
 use Rattle.asgi_conn.specs.Persistence.{EndsBetween, IsDone, EndsWithin, Ends, listed, Converses}
 
@@ -54,7 +58,7 @@ record LastServed (limits : Limits) (end : InputEnd) (bytes : List ℕ) (exchang
   pub rest : List ℕ
   pub each : AreAnswered limits end bytes exchanges middle
   pub serves : ServesFirst limits end false middle x (complete rest)
-  pub follows : IsFollowed x (complete rest) next_request
+  pub follows : IsFollowed x (complete rest) NextRequest
 
 last_served : (limits : Limits) (end : InputEnd) (bytes : List ℕ) (exchanges : List Exchanged) (x : Exchanged) (behind : List ℕ) → AreAnswered limits end bytes (exchanges ++ x ∷ []) behind
     → LastServed limits end bytes exchanges x
@@ -76,7 +80,7 @@ same_refusal : (limits : Limits) (bytes : List ℕ) (a b : Refusal) → RefusesH
 same_refusal limits bytes a b r s =
     let e = unique_of limits limits.block_in_range.0 bytes (Bad (status_of a) ∷ []) (Bad (status_of b) ∷ []) bytes bytes (gives_refusal limits bytes a r) (gives_refusal limits bytes b s) in cc e
 
-not_both : (end : InputEnd) (bytes : List ℕ) → end ≡ at_end → IsBlank bytes → (end ≡ failed) ⊎ ((end ≡ at_end) × ¬ (IsBlank bytes)) → ⊥
+not_both : (end : InputEnd) (bytes : List ℕ) → end ≡ AtEnd → IsBlank bytes → (end ≡ Failed) ⊎ ((end ≡ AtEnd) × ¬ (IsBlank bytes)) → ⊥
 not_both end bytes e blank (inl f) = cc (sym e ∙ f)
 not_both end bytes e blank (inr g) = g.1 blank
 
@@ -116,10 +120,10 @@ is_done (WriteFailed n) end x state text c e = cc
 is_done Idle end x state text c e = cc
 is_done NoMemory end x state text c e = cc
 
-outcome_of : (o p : Outcome) → connection_ends o ≡ connection_ends p → o ≡ p
+outcome_of : (o p : Outcome) → ConnectionEnds o ≡ ConnectionEnds p → o ≡ p
 outcome_of o p e = cc
 
-apart : (o : Outcome) → connection_ends o ≡ next_request → ⊥
+apart : (o : Outcome) → ConnectionEnds o ≡ NextRequest → ⊥
 apart o e = cc
 
 -- answered and last split the same list: an exchange can't be both
@@ -131,7 +135,7 @@ clash limits end other read answered x a b o text c s t e =
     let serves = subst (λ (m : List ℕ). ServesFirst limits end false m x (complete l.rest)) same l.serves in
     let states = one_state limits end other false (is_cut o) b x (complete l.rest) e.0 serves e.1 in
     let done = is_done o other x e.0 text c e.2 in
-    apart o (one_following x e.0 (connection_ends o) next_request done.0 (subst (λ (k : BodyState). IsFollowed x k next_request) states l.follows))
+    apart o (one_following x e.0 (ConnectionEnds o) NextRequest done.0 (subst (λ (k : BodyState). IsFollowed x k NextRequest) states l.follows))
 
 pub one_conversation : (limits : Limits) (end : InputEnd) (read : List ℕ) (exchanges : List Exchanged) (written other : List ℕ) (report another : Report)
     → Converses limits end read exchanges written report → Converses limits end read exchanges other another → is_cut report.outcome ≡ false → is_cut another.outcome ≡ false
@@ -168,13 +172,13 @@ one_conversation limits end read exchanges written other report another c d uncu
         let states = one_state limits end end (is_cut report.outcome) (is_cut another.outcome) d.behind v z.0 y.0 z.1 y.1 in
         let p = is_done report.outcome end v z.0 c.text uncut z.2 in
         let q = is_done another.outcome end v y.0 d.text whole y.2 in
-        let f = one_following v y.0 (connection_ends report.outcome) (connection_ends another.outcome)
-        (subst (λ (k : BodyState). IsFollowed v k (connection_ends report.outcome)) states p.0) q.0 in
+        let f = one_following v y.0 (ConnectionEnds report.outcome) (ConnectionEnds another.outcome)
+        (subst (λ (k : BodyState). IsFollowed v k (ConnectionEnds report.outcome)) states p.0) q.0 in
         joined e.0 (outcome_of report.outcome another.outcome f, p.1 ∙ ap (λ (k : BodyState). out_text v (input_of k)) states ∙ sym q.1)
 
 -- ---- what the next request follows
 
-kept_follows : (broke : Bool) (p : Progress) (state : BodyState) → after_response p state broke ≡ next_request → (p ≡ Complete false) × ((behind : List ℕ) × (state ≡ complete behind))
+kept_follows : (broke : Bool) (p : Progress) (state : BodyState) → after_response p state broke ≡ NextRequest → (p ≡ Complete false) × ((behind : List ℕ) × (state ≡ complete behind))
 kept_follows broke Nothing state e = cc
 kept_follows broke Begun state e = cc
 kept_follows broke (Complete true) state e = cc
@@ -182,10 +186,10 @@ kept_follows broke (Complete false) (complete behind) e = (refl, (behind, refl))
 kept_follows broke (Complete false) partial e = cc
 kept_follows broke (Complete false) (faulty why) e = cc
 
-pub next_follows : (x : Exchanged) (state : BodyState) → IsFollowed x state next_request → (progress_of x.facts x.said ≡ Complete false) × ((behind : List ℕ) × (state ≡ complete behind))
+pub next_follows : (x : Exchanged) (state : BodyState) → IsFollowed x state NextRequest → (progress_of x.facts x.said ≡ Complete false) × ((behind : List ℕ) × (state ≡ complete behind))
 next_follows x state f = by f.0 f.2
   where
-    by : (k : EndKind) → after_task k (progress_of x.facts x.said) state x.broke ≡ next_request → (progress_of x.facts x.said ≡ Complete false) × ((behind : List ℕ) × (state ≡ complete behind))
+    by : (k : EndKind) → after_task k (progress_of x.facts x.said) state x.broke ≡ NextRequest → (progress_of x.facts x.said ≡ Complete false) × ((behind : List ℕ) × (state ≡ complete behind))
     by kind.Returned e = kept_follows x.broke (progress_of x.facts x.said) state e
     by kind.Faulted e = kept_follows x.broke (progress_of x.facts x.said) state e
     by kind.Idle e = cc

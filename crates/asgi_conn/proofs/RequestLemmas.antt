@@ -22,7 +22,7 @@ use Rattle.asgi_request.proofs.TextLemmas.{open_front, head_search_for}
 use Rattle.asgi_request.proofs.UniqueLemmas.{results_same, reached_begin}
 use Rattle.asgi_conn.specs.declared.report.Report.{Report}
 use Rattle.asgi_conn.specs.Conversation.{NothingIsDue}
-use Rattle.asgi_conn.specs.TaskEnds.{InputEnd}
+use Rattle.asgi_conn.specs.declared.input.InputEnd.{InputEnd}
 use Rattle.asgi_conn.specs.Exchanges.{Exchanged, AreAnswered, requests_of}
 use Rattle.asgi_conn.specs.Persistence.{Ends, listed, Converses, heads_of}
 use Rattle.asgi_conn.specs.SoFar.{SoFar}

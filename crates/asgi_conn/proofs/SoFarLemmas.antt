@@ -26,7 +26,9 @@ use Rattle.asgi_exchange.proofs.ListLemmas.{prefix_trans, prefix_front}
 use Rattle.asgi_conn.specs.declared.report.Outcome.{Outcome}
 use Rattle.asgi_conn.specs.declared.report.Outcome.TheVariants.{Finished, Refused, InputBroke, WriteFailed, Idle, NoMemory}
 use Rattle.asgi_conn.specs.declared.report.Report.{Report}
-use Rattle.asgi_conn.specs.TaskEnds.{InputEnd, has_ended, is_faulty, is_cut, next_request, connection_ends}
+use Rattle.asgi_conn.specs.declared.following.Following.TheVariants.{NextRequest, ConnectionEnds}
+use Rattle.asgi_conn.specs.declared.input.InputEnd.{InputEnd}
+use Rattle.asgi_conn.specs.TaskEnds.{has_ended, is_faulty, is_cut}
 use Rattle.asgi_conn.specs.Exchanges.{Exchanged, ServesFirst, IsFollowed, out_text, answer_texts}
 use Rattle.asgi_conn.specs.Persistence.{EndsBetween, StopsWithin, EndsWithin, CountsExchanges, Converses}
 use Rattle.asgi_conn.specs.SoFar.{SoFar, InOne, exchanged, HasBroken, IsCutBy, IsOut}
@@ -100,7 +102,7 @@ out_is limits scope facts w kind state i e =
 pub one_more : (limits : Limits) (end : InputEnd) (read : List ℕ) (exchanges : List Exchanged) (written : List ℕ) (scope : Scope) (facts : Facts) (w : World ℕ ℕ) (kind : EndKind) (events : List Incoming) (behind : List ℕ)
     → InOne limits end read exchanges written scope facts w.conn.arrived → IsHttpExchange limits facts w → end_of w.conn.got ≡ Some kind
     → ReadsBody limits facts.framing w.conn.arrived events (complete behind) → HasBroken end w (complete behind) → IsCutBy false w
-    → IsFollowed (exchanged scope facts w) (complete behind) next_request → IsOut facts w (complete behind)
+    → IsFollowed (exchanged scope facts w) (complete behind) NextRequest → IsOut facts w (complete behind)
     → SoFar limits end read (exchanges ++ exchanged scope facts w ∷ []) behind (written ++ w.conn.written)
 one_more limits end read exchanges written scope facts w kind events behind o i e body broke uncut f out =
     let s = o.so_far in
@@ -146,7 +148,7 @@ ends_in limits end read exchanges behind written x state text report s serves e 
   counts = c;
 }
 
-done : (outcome : Outcome) (end : InputEnd) (x : Exchanged) (state : BodyState) (text : List ℕ) → IsFollowed x state (connection_ends outcome) → text ≡ out_text x (input_of state)
+done : (outcome : Outcome) (end : InputEnd) (x : Exchanged) (state : BodyState) (text : List ℕ) → IsFollowed x state (ConnectionEnds outcome) → text ≡ out_text x (input_of state)
     → is_cut outcome ≡ false → (outcome ≡ InputBroke → (has_ended end ≡ true) ⊎ (is_faulty state ≡ true)) → EndsWithin outcome end x state text
 done Finished end x state text f out uncut broke = (f, out)
 done (Refused status) end x state text f out uncut broke = (f, out)
@@ -160,7 +162,7 @@ pub ends_by_task : (limits : Limits) (end : InputEnd) (read : List ℕ) (exchang
     (state : BodyState) (report : Report)
     → InOne limits end read exchanges written scope facts w.conn.arrived → IsHttpExchange limits facts w → end_of w.conn.got ≡ Some kind
     → ReadsBody limits facts.framing w.conn.arrived events state → HasBroken end w state → IsCutBy false w
-    → IsFollowed (exchanged scope facts w) state (connection_ends report.outcome) → IsOut facts w state
+    → IsFollowed (exchanged scope facts w) state (ConnectionEnds report.outcome) → IsOut facts w state
     → is_cut report.outcome ≡ false → (report.outcome ≡ InputBroke → (has_ended end ≡ true) ⊎ (is_faulty state ≡ true))
     → CountsExchanges report (exchanges ++ exchanged scope facts w ∷ [])
     → Converses limits end read (exchanges ++ exchanged scope facts w ∷ []) (written ++ w.conn.written) report

@@ -17,7 +17,8 @@ use Rattle.asgi_exchange.specs.Http.{input_of}
 use Rattle.asgi_exchange.specs.HttpExchange.{text_of, IsHttpExchange}
 use Rattle.asgi_exchange.specs.Steps.{is_by_input}
 use Rattle.asgi_exchange.specs.Views.{World, said_of, taken_of}
-use Rattle.asgi_conn.specs.TaskEnds.{Following, after_response, after_task}
+use Rattle.asgi_conn.specs.declared.following.Following.{Following}
+use Rattle.asgi_conn.specs.TaskEnds.{after_response, after_task}
 use Rattle.asgi_conn.specs.Exchanges.{IsFollowed}
 use Rattle.asgi_conn.specs.SoFar.{exchanged, TaskIsOver, IsOut}
 use Rattle.asgi_conn.proofs.SoFarLemmas.{taken_whole, end_put}

@@ -34,7 +34,9 @@ use Rattle.asgi_exchange.specs.Views.{World, said_of, taken_of}
 use Rattle.asgi_conn.specs.declared.report.Outcome.{Outcome}
 use Rattle.asgi_conn.specs.declared.report.Outcome.TheVariants.{Finished, Refused, InputBroke, WriteFailed, Idle, NoMemory}
 use Rattle.asgi_conn.specs.declared.report.Report.{Report}
-use Rattle.asgi_conn.specs.TaskEnds.{InputEnd, has_ended, is_faulty, is_cut, connection_ends, after_response, incomplete}
+use Rattle.asgi_conn.specs.declared.following.Following.TheVariants.{ConnectionEnds}
+use Rattle.asgi_conn.specs.declared.input.InputEnd.{InputEnd}
+use Rattle.asgi_conn.specs.TaskEnds.{has_ended, is_faulty, is_cut, after_response, incomplete}
 use Rattle.asgi_conn.specs.Exchanges.{Exchanged}
 use Rattle.asgi_conn.specs.Persistence.{Beginning, Saying, Ending, StopsWithin, CountsExchanges, Converses}
 use Rattle.asgi_conn.specs.SoFar.{exchanged, Within, TaskIsOver, HasBroken, HasBrokenIn, IsOut}
@@ -47,14 +49,14 @@ module _ (limits : Limits) (end : InputEnd) (read : List ℕ) (opened : List Nex
   -- ---- by the table
 
   ends_as : (k : EndKind) (known : BodyState) (progress : Progress) (outcome : Outcome) → TaskIsOver w k → body_state limits facts.framing w.conn.arrived ≡ known → HasBroken end w known
-      → progress_of facts (taken_of w.conn) ≡ progress → after_response progress known (is_by_input w.conn.broken) ≡ connection_ends outcome → IsOut facts w known
+      → progress_of facts (taken_of w.conn) ≡ progress → after_response progress known (is_by_input w.conn.broken) ≡ ConnectionEnds outcome → IsOut facts w known
       → report.outcome ≡ outcome → is_cut outcome ≡ false → (outcome ≡ InputBroke → (has_ended end ≡ true) ⊎ (is_faulty known ≡ true))
       → Converses limits end read (exchanges ++ exchanged scope facts w ∷ []) (written ++ w.conn.written) report
   ends_as k known progress outcome t same broke p row out o uncut why =
       let S : BodyState → Type 0 = λ s. ReadsBody limits facts.framing w.conn.arrived (body_events limits facts.framing w.conn.arrived) s in
       ends_by_task limits end read exchanges written scope facts w k (body_events limits facts.framing w.conn.arrived) known report x.one i t.taken
       (subst S same (body_is_read limits facts.framing w.conn.arrived)) broke (λ b. absurd (t.uncut b))
-      (follows limits scope facts w k known t progress (connection_ends report.outcome) i p (row ∙ ap connection_ends (sym o))) out
+      (follows limits scope facts w k known t progress (ConnectionEnds report.outcome) i p (row ∙ ap ConnectionEnds (sym o))) out
       (ap is_cut o ∙ uncut) (λ q. why (sym o ∙ q)) c
 
   intact : (s : BodyState) → incomplete s false ≡ Finished
@@ -76,7 +78,7 @@ module _ (limits : Limits) (end : InputEnd) (read : List ℕ) (opened : List Nex
       → Converses limits end read (exchanges ++ exchanged scope facts w ∷ []) (written ++ w.conn.written) report
   leaves_off k t broke p out o =
       let s = body_state limits facts.framing w.conn.arrived in
-      ends_as k s Begun Finished t refl (λ b. cc (sym broke ∙ b)) p (ap (λ (b : Bool). connection_ends (incomplete s b)) broke ∙ ap connection_ends (intact s))
+      ends_as k s Begun Finished t refl (λ b. cc (sym broke ∙ b)) p (ap (λ (b : Bool). ConnectionEnds (incomplete s b)) broke ∙ ap ConnectionEnds (intact s))
       (begun_is_out limits scope facts w k s t (λ n. cc (sym p ∙ n)) out) o refl (λ e. cc)
 
   module _ (k : EndKind) (t : TaskIsOver w k) (events : List Incoming) (place : Place) (held : List ℕ) where
@@ -116,7 +118,7 @@ module _ (limits : Limits) (end : InputEnd) (read : List ℕ) (opened : List Nex
         → Converses limits end read (exchanges ++ exchanged scope facts w ∷ []) (written ++ w.conn.written) report
     refuses_body status r p out o =
         let known = known_bad status r in
-        ends_as k (faulty known.0) Nothing (Refused status) t known.1 (λ b. inr refl) p (ap (λ (s : ℕ). connection_ends (Refused s)) (sym known.2))
+        ends_as k (faulty known.0) Nothing (Refused status) t known.1 (λ b. inr refl) p (ap (λ (s : ℕ). ConnectionEnds (Refused s)) (sym known.2))
         (replaced_is_out limits scope facts w k (faulty known.0) t p
         (out ∙ ap (λ (s : ℕ). response_text facts (taken_of w.conn) ++ refusal_text s) known.2)) o refl (λ e. cc)
 
@@ -135,7 +137,7 @@ module _ (limits : Limits) (end : InputEnd) (read : List ℕ) (opened : List Nex
             ends_as k (faulty known.0) (Complete false) InputBroke t known.1 (λ b. inr refl) p refl
             (begun_is_out limits scope facts w k (faulty known.0) t (λ n. cc (sym p ∙ n)) out) o refl (λ e. inr refl)
         by (inr p) =
-            ends_as k (faulty known.0) Begun InputBroke t known.1 (λ b. inr refl) p.0 (ap (λ (b : Bool). connection_ends (incomplete (faulty known.0) b)) p.1)
+            ends_as k (faulty known.0) Begun InputBroke t known.1 (λ b. inr refl) p.0 (ap (λ (b : Bool). ConnectionEnds (incomplete (faulty known.0) b)) p.1)
             (begun_is_out limits scope facts w k (faulty known.0) t (λ n. cc (sym p.0 ∙ n)) out) o refl (λ e. inr refl)
 
     -- ---- the input ended or failed in the body
@@ -162,7 +164,7 @@ module _ (limits : Limits) (end : InputEnd) (read : List ℕ) (opened : List Nex
             ends_as k partial (Complete false) InputBroke t known (λ b. inl over) p refl
             (begun_is_out limits scope facts w k partial t (λ n. cc (sym p ∙ n)) out) o refl (λ e. inl over)
         by (inr (inr p)) =
-            ends_as k partial Begun InputBroke t known (λ b. inl over) p.0 (ap (λ (b : Bool). connection_ends (incomplete partial b)) p.1)
+            ends_as k partial Begun InputBroke t known (λ b. inl over) p.0 (ap (λ (b : Bool). ConnectionEnds (incomplete partial b)) p.1)
             (begun_is_out limits scope facts w k partial t (λ n. cc (sym p.0 ∙ n)) out) o refl (λ e. inl over)
 
     -- ---- a write of the answer in place of the response failed

@@ -20,7 +20,10 @@ use Rattle.asgi_response.specs.declared.refusal.Input.{Input}
 use Rattle.asgi_response.specs.declared.refusal.Input.TheVariants as input
 use Rattle.asgi_response.specs.Progress.{progress_of}
 use Rattle.asgi_exchange.specs.HttpExchange.{text_of}
-use Rattle.asgi_conn.specs.TaskEnds.{InputEnd, has_ended, is_faulty, Following, next_request, after_task}
+use Rattle.asgi_conn.specs.declared.following.Following.{Following}
+use Rattle.asgi_conn.specs.declared.following.Following.TheVariants.{NextRequest}
+use Rattle.asgi_conn.specs.declared.input.InputEnd.{InputEnd}
+use Rattle.asgi_conn.specs.TaskEnds.{has_ended, is_faulty, after_task}
 
 -- One exchange, as it stands in the end.
 pub record Exchanged : Type 0 where
@@ -70,7 +73,7 @@ out_text x input = text_of x.facts x.said x.ended input
 abbrev pub AreAnswered : Limits → InputEnd → List ℕ → List Exchanged → List ℕ → Type 0
 AreAnswered limits end bytes [] behind = bytes ≡ behind
 AreAnswered limits end bytes (x ∷ exchanges) behind =
-    (rest : List ℕ) × ServesFirst limits end false bytes x (complete rest) × IsFollowed x (complete rest) next_request
+    (rest : List ℕ) × ServesFirst limits end false bytes x (complete rest) × IsFollowed x (complete rest) NextRequest
     × AreAnswered limits end rest exchanges behind
 
 -- their responses, in order

@@ -22,7 +22,10 @@ use Rattle.asgi_conn.specs.declared.report.Outcome.{Outcome}
 use Rattle.asgi_conn.specs.declared.report.Outcome.TheVariants.{Finished, Refused, InputBroke, WriteFailed, Idle, NoMemory}
 use Rattle.asgi_conn.specs.declared.report.Report.{Report}
 use Rattle.asgi_conn.specs.Conversation.{NothingIsDue, IsBlank}
-use Rattle.asgi_conn.specs.TaskEnds.{InputEnd, at_end, failed, has_ended, is_faulty, is_cut, connection_ends}
+use Rattle.asgi_conn.specs.declared.following.Following.TheVariants.{ConnectionEnds}
+use Rattle.asgi_conn.specs.declared.input.InputEnd.{InputEnd}
+use Rattle.asgi_conn.specs.declared.input.InputEnd.TheVariants.{AtEnd, Failed}
+use Rattle.asgi_conn.specs.TaskEnds.{has_ended, is_faulty, is_cut}
 use Rattle.asgi_conn.specs.Exchanges.{Exchanged, ServesFirst, IsFollowed, out_text, AreAnswered, answer_texts, fault_count}
 
 -- ---- the end between two requests
@@ -30,13 +33,13 @@ use Rattle.asgi_conn.specs.Exchanges.{Exchanged, ServesFirst, IsFollowed, out_te
 -- By the bytes behind the answered requests: what is written there.
 abbrev pub EndsBetween : Outcome → Limits → InputEnd → List ℕ → List ℕ → Type 0
 -- the input ended, and no further request was begun
-EndsBetween Finished limits end behind text = (text ≡ []) × NothingIsDue limits behind × (end ≡ at_end) × IsBlank behind
+EndsBetween Finished limits end behind text = (text ≡ []) × NothingIsDue limits behind × (end ≡ AtEnd) × IsBlank behind
 -- a head is refused
 EndsBetween (Refused status) limits end behind text =
     (why : Refusal) × RefusesHead limits behind why × (status ≡ status_of why) × (text ≡ refusal_text status)
 -- the input failed, or ended inside a head
 EndsBetween InputBroke limits end behind text =
-    (text ≡ []) × NothingIsDue limits behind × ((end ≡ failed) ⊎ ((end ≡ at_end) × ¬ (IsBlank behind)))
+    (text ≡ []) × NothingIsDue limits behind × ((end ≡ Failed) ⊎ ((end ≡ AtEnd) × ¬ (IsBlank behind)))
 -- a head is refused, and so much of its refusal was written
 EndsBetween (WriteFailed n) limits end behind text =
     (why : Refusal) × RefusesHead limits behind why × (n < length (refusal_text (status_of why))) × (text ≡ take n (refusal_text (status_of why)))
@@ -62,7 +65,7 @@ pub record StopsWithin (n : ℕ) (x : Exchanged) (input : Input) (written : List
 
 -- the outcome is that of the end of the task, and all is written
 abbrev pub IsDone : Outcome → Exchanged → BodyState → List ℕ → Type 0
-IsDone outcome x state text = IsFollowed x state (connection_ends outcome) × (text ≡ out_text x (input_of state))
+IsDone outcome x state text = IsFollowed x state (ConnectionEnds outcome) × (text ≡ out_text x (input_of state))
 
 -- By the exchange, and how far the body of its request has come: what is written there.
 abbrev pub EndsWithin : Outcome → InputEnd → Exchanged → BodyState → List ℕ → Type 0

@@ -15,7 +15,8 @@ use Rattle.asgi_exchange.specs.Items.{end_of}
 use Rattle.asgi_exchange.specs.Steps.{is_by_input}
 use Rattle.asgi_exchange.specs.Views.{ByCut, World, said_of, taken_of}
 use Rattle.asgi_conn.specs.declared.report.Report.{Report}
-use Rattle.asgi_conn.specs.TaskEnds.{InputEnd, has_ended, is_faulty}
+use Rattle.asgi_conn.specs.declared.input.InputEnd.{InputEnd}
+use Rattle.asgi_conn.specs.TaskEnds.{has_ended, is_faulty}
 use Rattle.asgi_conn.specs.Exchanges.{Exchanged, AreAnswered, answer_texts}
 use Rattle.asgi_conn.specs.Persistence.{CountsExchanges, Converses}
 

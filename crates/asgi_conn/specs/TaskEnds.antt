@@ -7,20 +7,18 @@ use Rattle.asgi_request.specs.ChunkedBody.{BodyState, partial, complete, faulty}
 use Rattle.asgi_request.specs.Refusals.{status_of}
 use Rattle.asgi_response.specs.declared.progress.Progress.{Progress}
 use Rattle.asgi_response.specs.declared.progress.Progress.TheVariants.{Nothing, Begun, Complete}
+use Rattle.asgi_conn.specs.declared.following.Following.{Following}
+use Rattle.asgi_conn.specs.declared.following.Following.TheVariants.{NextRequest, ConnectionEnds}
+use Rattle.asgi_conn.specs.declared.input.InputEnd.{InputEnd}
+use Rattle.asgi_conn.specs.declared.input.InputEnd.TheVariants.{OpenStill, AtEnd, Failed}
 use Rattle.asgi_conn.specs.declared.report.Outcome.{Outcome}
 use Rattle.asgi_conn.specs.declared.report.Outcome.TheVariants.{Finished, Refused, InputBroke, WriteFailed, Idle, NoMemory}
 
--- how far the input has come
-pub data InputEnd : Type 0 where
-  open_still : InputEnd
-  at_end : InputEnd
-  failed : InputEnd
-
 -- no more bytes come
 abbrev pub has_ended : InputEnd → Bool
-has_ended open_still = false
-has_ended at_end = true
-has_ended failed = true
+has_ended OpenStill = false
+has_ended AtEnd = true
+has_ended Failed = true
 
 abbrev pub is_faulty : BodyState → Bool
 is_faulty partial = false
@@ -35,11 +33,6 @@ is_cut InputBroke = false
 is_cut (WriteFailed n) = true
 is_cut Idle = true
 is_cut NoMemory = true
-
--- what follows the end of a task
-pub data Following : Type 0 where
-  next_request : Following
-  connection_ends : Outcome → Following
 
 -- The response has not begun. The rest of the body is read, and the server answers in its place.
 abbrev pub unanswered : BodyState → Outcome
@@ -56,19 +49,19 @@ incomplete partial broke = if broke then InputBroke else Finished
 
 -- The response is complete and keeps the connection: the rest of the body is read and dropped (section 9.3).
 abbrev pub kept : BodyState → Following
-kept (complete behind) = next_request
-kept (faulty why) = connection_ends InputBroke
-kept partial = connection_ends InputBroke
+kept (complete behind) = NextRequest
+kept (faulty why) = ConnectionEnds InputBroke
+kept partial = ConnectionEnds InputBroke
 
 -- by how far the response is; a complete one that closes needs no look at the body (section 9.6)
 abbrev pub after_response : Progress → BodyState → (broke : Bool) → Following
-after_response Nothing state broke = connection_ends (unanswered state)
-after_response Begun state broke = connection_ends (incomplete state broke)
-after_response (Complete true) state broke = connection_ends Finished
+after_response Nothing state broke = ConnectionEnds (unanswered state)
+after_response Begun state broke = ConnectionEnds (incomplete state broke)
+after_response (Complete true) state broke = ConnectionEnds Finished
 after_response (Complete false) state broke = kept state
 
 -- by how the task ended; one that ended by its limit of turns takes the connection with it
 abbrev pub after_task : EndKind → Progress → BodyState → (broke : Bool) → Following
 after_task kind.Returned progress state broke = after_response progress state broke
 after_task kind.Faulted progress state broke = after_response progress state broke
-after_task kind.Idle progress state broke = connection_ends Idle
+after_task kind.Idle progress state broke = ConnectionEnds Idle

@@ -28,7 +28,10 @@ ghost use Rattle.asgi_conn.specs.Conversation.{Due, Conversation, IsDue, IsBlank
 ghost use Rattle.asgi_conn.specs.Exchanges.{Exchanged, IsFollowed, out_text, requests_of};
 ghost use Rattle.asgi_conn.specs.Persistence.{CountsExchanges, Converses, EndsBetween, EndsWithin, StopsWithin, heads_of};
 ghost use Rattle.asgi_conn.specs.SoFar.{SoFar, InOne, Between, Within, exchanged, TaskIsOver, HasBroken, HasBrokenIn, IsCutBy, IsOut, IsLast, ConversesLast};
-ghost use Rattle.asgi_conn.specs.TaskEnds.{InputEnd, at_end, failed, has_ended, is_faulty, is_cut, next_request, connection_ends};
+ghost use Rattle.asgi_conn.specs.declared.following.Following.TheVariants.{NextRequest, ConnectionEnds};
+ghost use Rattle.asgi_conn.specs.declared.input.InputEnd.{InputEnd};
+ghost use Rattle.asgi_conn.specs.declared.input.InputEnd.TheVariants.{AtEnd, Failed};
+ghost use Rattle.asgi_conn.specs.TaskEnds.{has_ended, is_faulty, is_cut};
 
 pub use asgi_exchange::laws::every_schedule;
 
@@ -68,7 +71,7 @@ pub fn conversation_is_one()
     ensures one { (limits : Limits) (end : InputEnd) (read : List ℕ) (exchanges : List Exchanged) (written other : List ℕ) (report another : Report)
         → Converses limits end read exchanges written report → Converses limits end read exchanges other another
         → is_cut report.outcome ≡ false → is_cut another.outcome ≡ false → (written ≡ other) × (report.outcome ≡ another.outcome) }
-    ensures follows { (x : Exchanged) (state : BodyState) → IsFollowed x state next_request
+    ensures follows { (x : Exchanged) (state : BodyState) → IsFollowed x state NextRequest
         → (progress_of x.facts x.said ≡ Progress.Complete false) × ((behind : List ℕ) × (state ≡ BodyState.complete behind)) }
 {}
 
@@ -101,7 +104,7 @@ pub fn exchanges_make_a_conversation_so_far()
         (w : World ℕ ℕ) (kind : EndKind) (events : List Incoming) (behind : List ℕ)
         → InOne limits end read exchanges written scope facts w.conn.arrived → IsHttpExchange limits facts w → end_of w.conn.got ≡ Some kind
         → ReadsBody limits facts.framing w.conn.arrived events (BodyState.complete behind) → HasBroken end w (BodyState.complete behind) → IsCutBy false w
-        → IsFollowed (exchanged scope facts w) (BodyState.complete behind) next_request → IsOut facts w (BodyState.complete behind)
+        → IsFollowed (exchanged scope facts w) (BodyState.complete behind) NextRequest → IsOut facts w (BodyState.complete behind)
         → SoFar limits end read (exchanges ++ exchanged scope facts w ∷ []) behind (written ++ w.conn.written) }
 {}
 
@@ -115,7 +118,7 @@ pub fn ends_make_a_conversation()
         (w : World ℕ ℕ) (kind : EndKind) (events : List Incoming) (state : BodyState) (report : Report)
         → InOne limits end read exchanges written scope facts w.conn.arrived → IsHttpExchange limits facts w → end_of w.conn.got ≡ Some kind
         → ReadsBody limits facts.framing w.conn.arrived events state → HasBroken end w state → IsCutBy false w
-        → IsFollowed (exchanged scope facts w) state (connection_ends report.outcome) → IsOut facts w state → is_cut report.outcome ≡ false
+        → IsFollowed (exchanged scope facts w) state (ConnectionEnds report.outcome) → IsOut facts w state → is_cut report.outcome ≡ false
         → (report.outcome ≡ Outcome.InputBroke → (has_ended end ≡ true) ⊎ (is_faulty state ≡ true))
         → CountsExchanges report (exchanges ++ exchanged scope facts w ∷ [])
         → ConversesLast limits end read exchanges written scope facts w report }
@@ -168,11 +171,11 @@ pub fn a_reader_ends_a_conversation()
         → Converses reader.limits end read exchanges (written ++ take n (refusal_text status)) report }
     ensures finished { (reader : Reading) (end : InputEnd) (read : List ℕ) (given : List Next) (exchanges : List Exchanged) (behind written : List ℕ) (report : Report)
         → Between reader.limits end read given exchanges behind written → CountsExchanges report exchanges
-        → AllGiven reader read given → end ≡ at_end → IsBlank behind → report.outcome ≡ Outcome.Finished
+        → AllGiven reader read given → end ≡ AtEnd → IsBlank behind → report.outcome ≡ Outcome.Finished
         → Converses reader.limits end read exchanges written report }
     ensures input_broke { (reader : Reading) (end : InputEnd) (read : List ℕ) (given : List Next) (exchanges : List Exchanged) (behind written : List ℕ) (report : Report)
         → Between reader.limits end read given exchanges behind written → CountsExchanges report exchanges
-        → AllGiven reader read given → (end ≡ failed) ⊎ ((end ≡ at_end) × ¬ (IsBlank behind)) → report.outcome ≡ Outcome.InputBroke
+        → AllGiven reader read given → (end ≡ Failed) ⊎ ((end ≡ AtEnd) × ¬ (IsBlank behind)) → report.outcome ≡ Outcome.InputBroke
         → Converses reader.limits end read exchanges written report }
     ensures idle { (reader : Reading) (end : InputEnd) (read : List ℕ) (given : List Next) (exchanges : List Exchanged) (behind written : List ℕ) (report : Report)
         → Between reader.limits end read given exchanges behind written → CountsExchanges report exchanges

@@ -3,12 +3,18 @@
 
 mod connection;
 mod exchange;
+mod following;
 mod hello;
+mod input;
 pub mod laws;
+mod line;
 mod reading;
 mod report;
 
 pub use asgi_io::{CountingPause, Pause};
 pub use connection::serve_connection;
+pub use following::{Following, after_task};
 pub use hello::{CountedHello, Greets, Hello};
+pub use input::InputEnd;
+pub use line::{Joined, Line};
 pub use report::{Outcome, Report};
