@@ -21,12 +21,18 @@ pub trait Counts {
     /// How each call was answered, the oldest first.
     ghost answers: { Self → List Answer };
 
+    /// What a write leaves as it is: where it also reads, its other side.
+    ghost Beside: { Type 0 };
+
+    ghost beside: { Self → Beside };
+
     /// Writes some of the bytes, and answers how many. A failure is an error, or that none of some bytes were taken.
     fn write_some(&mut self, bytes: &[u8]) -> io::Result<usize>
         ensures bound { WritesAtMost result bytes.now }
         ensures bytes { WriteAppends (written self.old) (written self.new) result bytes.now }
         ensures counts { CountsFailures (failed self.old) (failed self.new) bytes.now result }
-        ensures told { answers self.new ≡ answers self.old ++ answer_of (length bytes.now) result ∷ [] };
+        ensures told { answers self.new ≡ answers self.old ++ answer_of (length bytes.now) result ∷ [] }
+        ensures beside { beside self.new ≡ beside self.old };
 
     /// The count of failures.
     fn failures(&self) -> u64
@@ -63,6 +69,10 @@ impl<W: Write> Counts for Counted<W> {
     ghost failed = { λ s. s.failures };
 
     ghost answers = { λ s. s.answers.items };
+
+    ghost Beside = { Unit {0} };
+
+    ghost beside = { λ _. tt };
 
     fn write_some(&mut self, bytes: &[u8]) -> io::Result<usize> {
         let wrote = self.writer.write(bytes);

@@ -18,11 +18,17 @@ pub trait Reads {
     /// How each call was answered, the oldest first.
     ghost answers: { Self → List Answer };
 
+    /// What a read leaves as it is: where it also writes, its other side.
+    ghost Beside: { Type 0 };
+
+    ghost beside: { Self → Beside };
+
     /// Reads some bytes, and answers how many: none at the end.
     fn read_some(&mut self, buf: &mut [u8]) -> io::Result<usize>
         ensures bound { ReadsAtMost result buf.new }
         ensures bytes { ReadConsumes (remaining self.old) (remaining self.new) result buf.new }
-        ensures told { answers self.new ≡ answers self.old ++ answer_of (length buf.new) result ∷ [] };
+        ensures told { answers self.new ≡ answers self.old ++ answer_of (length buf.new) result ∷ [] }
+        ensures beside { beside self.new ≡ beside self.old };
 
     /// How often a read failed with a fault that does not pass. The count stops at the greatest `u64`.
     fn faults(&self) -> u64
@@ -57,6 +63,10 @@ impl<R: Read> Reads for CountedReader<R> {
     ghost remaining = { λ s. R.remaining s.reader };
 
     ghost answers = { λ s. s.answers.items };
+
+    ghost Beside = { Unit {0} };
+
+    ghost beside = { λ _. tt };
 
     fn read_some(&mut self, buf: &mut [u8]) -> io::Result<usize> {
         let read = self.reader.read(buf);

@@ -25,6 +25,7 @@ pub enum Wrote {
 pub fn write_out<W: Counts>(writer: &mut W, text: &[u8]) -> Wrote
     ensures writes { WritesOut (W.written writer.old) (W.written writer.new) (W.failed writer.old) (W.failed writer.new) text.now result }
     ensures tries { TriesWrites (W.answers writer.old) (W.answers writer.new) (out_of text.now result) result }
+    ensures beside { W.beside writer.new ≡ W.beside writer.old }
 {
     let mut at = 0;
     while at < text.len() {
@@ -45,6 +46,7 @@ fn write_retrying<W: Counts>(writer: &mut W, bytes: &[u8]) -> usize
     ensures counts { RoseBy 0 (W.failed writer.old) (W.failed writer.new) }
     ensures failed { result ≡ 0 → RoseBy 1 (W.failed writer.old) (W.failed writer.new) }
     ensures tries { TriesPart (W.answers writer.old) (W.answers writer.new) result }
+    ensures beside { W.beside writer.new ≡ W.beside writer.old }
 {
     for _tried in 0..RETRIES {
         match writer.write_some(bytes) {

@@ -10,4 +10,5 @@ invariant-loop-tried g l = record {
   held : Keeps (g.W.Counts.written l.fn.writer) (g.W.Counts.written l.writer);
   counted : RoseBy 0 (g.W.Counts.failed l.fn.writer) (g.W.Counts.failed l.writer);
   told : g.W.Counts.answers l.writer ≡ g.W.Counts.answers l.fn.writer ++ replicate l._tried Paused;
+  beside : g.W.Counts.beside l.writer ≡ g.W.Counts.beside l.fn.writer;
 }
