@@ -1,19 +1,37 @@
 //! The connection's half of an exchange: it reads, offers what is due, takes what is said, and
-//! writes. It knows its end of the pair alone, whatever thread the application runs in.
-ghost use Rattle.std.specs.Prelude.{◌≡◌};
+//! writes. It knows its own end of the pair alone, whatever thread the application runs in.
+ghost use Rattle.std.specs.Prelude.{◌≡◌, ◌↔◌, ◌⊎◌, true, false, [], ◌∷◌, ◌++◌, map, List, ℕ, IsTrue, IsFalse, OnOk};
+ghost use Rattle.asgi_types.specs.declared.facts.Facts.{Facts};
+ghost use Rattle.asgi_types.specs.declared.facts.Framing.{Framing};
+ghost use Rattle.asgi_types.specs.declared.incoming.Incoming.{Incoming};
+ghost use Rattle.asgi_types.specs.declared.outgoing.Outgoing.{Outgoing};
+ghost use Rattle.asgi_request.specs.declared.next.Next.{Next};
+ghost use Rattle.asgi_request.specs.Opened.{HasOpened};
+ghost use Rattle.asgi_request.specs.Reading.{Reading};
+ghost use Rattle.asgi_response.specs.Progress.{progress_of};
+ghost use Rattle.asgi_response.specs.Standing as standing;
+ghost use Rattle.asgi_exchange.specs.Calls.{IsViewOf};
+ghost use Rattle.asgi_exchange.specs.Views.{ConnView, empty_conn};
+ghost use Rattle.asgi_conn.specs.Half.{Scene, Stands, Leads, HasGiven, EndsWhere, IsSettled};
+ghost use Rattle.asgi_conn.specs.HalfSteps.{Opens, Pending, LeadsOut, LeadsIn, KeepsBesidesBody, GivesOn, GivesBehind, GaveNext, BreaksAt, IsFree, ReadsAt, NeedsBody, known_input};
+ghost use Rattle.asgi_conn.specs.Lines.{state_of};
+ghost use Rattle.asgi_conn.specs.TaskEnds.{has_ended};
 
 use crate::following::{Following, after_task};
 use crate::input::InputEnd;
 use crate::line::Line;
 use crate::report::Outcome;
 use crate::wire::Wire;
-use asgi_exchange::calls;
-use asgi_io::{Turn, Wrote, write_out};
+use asgi_io::Turn;
 use asgi_pipes::{ConnEnd, EndKind, OutItem};
-use asgi_request::{Next, RequestReader};
+use asgi_request::Next;
 use asgi_response::{Input, Progress, ResponseText};
-use asgi_types::{Facts, Incoming, Limits, Outgoing};
-use std::alloc::{AllocError, Global};
+use asgi_types::{Facts, Incoming, Outgoing};
+use std::alloc::AllocError;
+use std::mem;
+
+/// The most bytes behind the request in hand that are held while more is read.
+const AHEAD: usize = 65_536;
 
 /// How far the body of the request in hand has come, by what the reader gave.
 #[derive(Debug, Drop)]
@@ -56,7 +74,11 @@ pub struct ConnHalf {
 
 impl ConnHalf {
     /// Begins an exchange: a client that waits for `100 Continue` is told to go on.
-    pub fn begin<L: Line>(wire: Wire, facts: &Facts, line: &mut L) -> ConnHalf {
+    pub fn begin<L: Line>(wire: Wire, facts: &Facts, line: &mut L) -> ConnHalf
+        ensures begins { (scene : Scene) (read arrived : List ℕ) → Opens scene (state_of L.Reads L.Counts line.old) wire facts.now read arrived
+            → (written : List ℕ) × Stands scene (state_of L.Reads L.Counts line.new) result read (record empty_conn { arrived = arrived; written = written }) }
+        ensures limits { result.wire.limits ≡ wire.limits }
+    {
         let text = ResponseText::new(wire.alloc, facts);
         let mut half = ConnHalf {
             wire,
@@ -72,34 +94,62 @@ impl ConnHalf {
         half
     }
 
-    /// One turn.
-    pub fn turn<L: Line, C: ConnEnd>(&mut self, line: &mut L, end: &mut C) -> Turn {
+    /// One turn: what it did is told where it counts as idle or not.
+    pub fn turn<L: Line, C: ConnEnd>(&mut self, line: &mut L, end: &mut C) -> Turn
+        ensures leads { Leads (state_of L.Reads L.Counts line.old) self.old (IsViewOf C.ConnEnd end.old) (state_of L.Reads L.Counts line.new) self.new (IsViewOf C.ConnEnd end.new) }
+        ensures tag { (C.tag end.new ≡ C.tag end.old) × (C.ring end.new ≡ C.ring end.old) }
+        ensures limits { self.new.wire.limits ≡ self.old.wire.limits }
+    {
         match self.stage {
             Stage::Running => self.run(line, end),
-            Stage::Ending(kind) => self.wind_up(line, kind),
-            Stage::Cut(outcome) => self.clear(end, outcome),
+            Stage::Ending(kind) => self.wind_up(kind, line),
+            Stage::Cut(outcome) => self.clear(outcome, end),
             Stage::Over(_) => Turn::Last,
         }
     }
 
+    /// Nothing more is done.
+    pub fn is_over(&self) -> bool
+        ensures { IsTrue result ↔ ((following : Following) × (self.now.stage ≡ Stage.Over following)) }
+    {
+        match self.stage {
+            Stage::Over(_) => true,
+            _ => false,
+        }
+    }
+
     /// Takes all that is there and writes it, offers what is due, and reads where it did neither.
-    fn run<L: Line, C: ConnEnd>(&mut self, line: &mut L, end: &mut C) -> Turn {
+    fn run<L: Line, C: ConnEnd>(&mut self, line: &mut L, end: &mut C) -> Turn
+        requires { self.old.stage ≡ Stage.Running }
+        ensures leads { Leads (state_of L.Reads L.Counts line.old) self.old (IsViewOf C.ConnEnd end.old) (state_of L.Reads L.Counts line.new) self.new (IsViewOf C.ConnEnd end.new) }
+        ensures tag { (C.tag end.new ≡ C.tag end.old) × (C.ring end.new ≡ C.ring end.old) }
+        ensures limits { self.new.wire.limits ≡ self.old.wire.limits }
+    {
         let took = self.take_all(line, end);
         if self.stage != Stage::Running {
             return Turn::Moved;
         }
         let offered = self.offer_all(end);
-        if took || offered || self.stage != Stage::Running {
+        if self.stage != Stage::Running {
+            return Turn::Moved;
+        }
+        if took || offered {
             return Turn::Moved;
         }
         self.read(line)
     }
 
+    // ---- what is said
+
     /// Takes all that is there, and writes what it adds.
-    fn take_all<L: Line, C: ConnEnd>(&mut self, line: &mut L, end: &mut C) -> bool {
+    fn take_all<L: Line, C: ConnEnd>(&mut self, line: &mut L, end: &mut C) -> bool
+        ensures leads { Leads (state_of L.Reads L.Counts line.old) self.old (IsViewOf C.ConnEnd end.old) (state_of L.Reads L.Counts line.new) self.new (IsViewOf C.ConnEnd end.new) }
+        ensures tag { (C.tag end.new ≡ C.tag end.old) × (C.ring end.new ≡ C.ring end.old) }
+        ensures limits { self.new.wire.limits ≡ self.old.wire.limits }
+    {
         let mut took = false;
-        while self.stage == Stage::Running {
-            if !self.take_one(line, end) {
+        for _item in 0..self.wire.limits.ring {
+            if self.stage != Stage::Running || !self.take_one(line, end) {
                 return took;
             }
             took = true;
@@ -107,9 +157,14 @@ impl ConnHalf {
         took
     }
 
-    /// Takes the next item, and writes what it adds.
-    fn take_one<L: Line, C: ConnEnd>(&mut self, line: &mut L, end: &mut C) -> bool {
-        match calls::take::<u8, u8, C>(end) {
+    /// Takes the next item, and writes what it adds. The answer says whether there was one.
+    fn take_one<L: Line, C: ConnEnd>(&mut self, line: &mut L, end: &mut C) -> bool
+        requires { self.old.stage ≡ Stage.Running }
+        ensures leads { Leads (state_of L.Reads L.Counts line.old) self.old (IsViewOf C.ConnEnd end.old) (state_of L.Reads L.Counts line.new) self.new (IsViewOf C.ConnEnd end.new) }
+        ensures tag { (C.tag end.new ≡ C.tag end.old) × (C.ring end.new ≡ C.ring end.old) }
+        ensures limits { self.new.wire.limits ≡ self.old.wire.limits }
+    {
+        match end.take() {
             None => false,
             Some(OutItem::Ended(kind)) => {
                 self.stage = Stage::Ending(kind);
@@ -123,7 +178,12 @@ impl ConnHalf {
     }
 
     /// Writes what an event adds.
-    fn say<L: Line>(&mut self, event: &Outgoing, line: &mut L) {
+    fn say<L: Line>(&mut self, event: &Outgoing, line: &mut L)
+        requires { self.old.stage ≡ Stage.Running }
+        ensures says { (scene : Scene) (read : List ℕ) (view : ConnView ℕ ℕ) → Stands scene (state_of L.Reads L.Counts line.old) self.old read view
+            → (written : List ℕ) × Stands scene (state_of L.Reads L.Counts line.new) self.new read (record view { got = view.got ++ OutItem.Event event.now ∷ []; written = written }) }
+        ensures limits { self.new.wire.limits ≡ self.old.wire.limits }
+    {
         match self.text.take(event, &mut self.wire.out) {
             Ok(()) => self.put(line),
             Err(_) => self.stage = Stage::Cut(Outcome::NoMemory),
@@ -131,29 +191,332 @@ impl ConnHalf {
     }
 
     /// Writes the text in hand.
-    fn put<L: Line>(&mut self, line: &mut L) {
+    fn put<L: Line>(&mut self, line: &mut L)
+        ensures puts { (scene : Scene) (read : List ℕ) (view : ConnView ℕ ℕ) → Pending scene (state_of L.Reads L.Counts line.old) self.old read view
+            → (written : List ℕ) × Stands scene (state_of L.Reads L.Counts line.new) self.new read (record view { written = written }) }
+        ensures limits { self.new.wire.limits ≡ self.old.wire.limits }
+    {
         if let Some(n) = self.wire.put(line) {
             self.stage = Stage::Cut(Outcome::WriteFailed(n));
         }
     }
 
+    // ---- what is due
+
     /// Offers what is due, as far as places are free.
-    fn offer_all<C: ConnEnd>(&mut self, end: &mut C) -> bool {
+    fn offer_all<C: ConnEnd>(&mut self, end: &mut C) -> bool
+        ensures leads { LeadsIn self.old (IsViewOf C.ConnEnd end.old) self.new (IsViewOf C.ConnEnd end.new) }
+        ensures tag { (C.tag end.new ≡ C.tag end.old) × (C.ring end.new ≡ C.ring end.old) }
+        ensures limits { self.new.wire.limits ≡ self.old.wire.limits }
+    {
         let mut offered = false;
-        while self.offer_one(end) {
+        for _event in 0..self.wire.limits.ring {
+            if self.stage != Stage::Running || !self.offer_one(end) {
+                return offered;
+            }
             offered = true;
         }
         offered
     }
 
-    /// Offers the next event that is due, or the disconnect behind the last one.
-    fn offer_one<C: ConnEnd>(&mut self, end: &mut C) -> bool {
+    /// Offers the next event that is due, or the disconnect behind the last one. The answer says
+    /// whether one was offered.
+    fn offer_one<C: ConnEnd>(&mut self, end: &mut C) -> bool
+        requires { self.old.stage ≡ Stage.Running }
+        ensures leads { LeadsIn self.old (IsViewOf C.ConnEnd end.old) self.new (IsViewOf C.ConnEnd end.new) }
+        ensures tag { (C.tag end.new ≡ C.tag end.old) × (C.ring end.new ≡ C.ring end.old) }
+        ensures limits { self.new.wire.limits ≡ self.old.wire.limits }
+    {
         if self.broke {
             return false;
         }
-        if let Body::Open = self.body {
-            self.pull();
+        if self.pull().is_err() {
+            self.stage = Stage::Cut(Outcome::NoMemory);
+            return false;
         }
-        ..
+        self.offer_held(end)
+    }
+
+    /// Offers the event that waits, or the disconnect where nothing more is due.
+    fn offer_held<C: ConnEnd>(&mut self, end: &mut C) -> bool
+        requires { (self.old.stage ≡ Stage.Running) × (self.old.broke ≡ false) }
+        ensures leads { LeadsIn self.old (IsViewOf C.ConnEnd end.old) self.new (IsViewOf C.ConnEnd end.new) }
+        ensures tag { (C.tag end.new ≡ C.tag end.old) × (C.ring end.new ≡ C.ring end.old) }
+        ensures limits { self.new.wire.limits ≡ self.old.wire.limits }
+    {
+        match mem::replace(&mut self.body, Body::Open) {
+            Body::Open => false,
+            Body::Waits(event) => self.offer(event, end),
+            Body::Whole => {
+                self.body = Body::Whole;
+                if !self.wire.input.has_ended() {
+                    return false;
+                }
+                self.break_off(end)
+            }
+            Body::Refused(status) => {
+                self.body = Body::Refused(status);
+                self.break_off(end)
+            }
+            Body::BrokenOff => {
+                self.body = Body::BrokenOff;
+                self.break_off(end)
+            }
+        }
+    }
+
+    /// Offers the event that waited, which waits on where no place is free.
+    fn offer<C: ConnEnd>(&mut self, event: Incoming, end: &mut C) -> bool
+        requires { (self.old.stage ≡ Stage.Running) × ((self.old.broke ≡ false) × (self.old.body ≡ Body.Open)) }
+        ensures leads { LeadsIn (record self.old { body = Body.Waits event }) (IsViewOf C.ConnEnd end.old) self.new (IsViewOf C.ConnEnd end.new) }
+        ensures tag { (C.tag end.new ≡ C.tag end.old) × (C.ring end.new ≡ C.ring end.old) }
+        ensures limits { self.new.wire.limits ≡ self.old.wire.limits }
+    {
+        match end.offer(event) {
+            Ok(()) => true,
+            Err(back) => {
+                self.body = Body::Waits(back);
+                false
+            }
+        }
+    }
+
+    /// Offers the disconnect.
+    fn break_off<C: ConnEnd>(&mut self, end: &mut C) -> bool
+        requires running { (self.old.stage ≡ Stage.Running) × (self.old.broke ≡ false) }
+        requires due { BreaksAt self.old.body self.old.wire.input }
+        ensures leads { LeadsIn self.old (IsViewOf C.ConnEnd end.old) self.new (IsViewOf C.ConnEnd end.new) }
+        ensures tag { (C.tag end.new ≡ C.tag end.old) × (C.ring end.new ≡ C.ring end.old) }
+        ensures limits { self.new.wire.limits ≡ self.old.wire.limits }
+    {
+        self.broke = true;
+        end.offer_disconnect(Incoming::HttpDisconnect)
+    }
+
+    /// Asks the reader for more of the body, where more of it may be given.
+    fn pull(&mut self) -> Result<(), AllocError>
+        ensures same { KeepsBesidesBody self.old self.new }
+        ensures gives { GivesBehind self.old self.new }
+        ensures limits { self.new.wire.requests.limits ≡ self.old.wire.requests.limits }
+    {
+        if let Body::Open = self.body {
+            self.body = body_of(self.wire.requests.next()?, self.wire.input);
+        }
+        Ok(())
+    }
+
+    /// Reads, where nothing waits for a place and not too much is held.
+    fn read<L: Line>(&mut self, line: &mut L) -> Turn
+        requires { self.old.stage ≡ Stage.Running }
+        ensures leads { LeadsOut (state_of L.Reads L.Counts line.old) self.old (state_of L.Reads L.Counts line.new) self.new }
+        ensures limits { self.new.wire.limits ≡ self.old.wire.limits }
+    {
+        if !self.reads_on() {
+            return Turn::Idle;
+        }
+        match self.wire.read(line) {
+            Ok(turn) => turn,
+            Err(_) => {
+                self.stage = Stage::Cut(Outcome::NoMemory);
+                Turn::Moved
+            }
+        }
+    }
+
+    /// Whether more is read.
+    fn reads_on(&self) -> bool
+        ensures open { IsTrue result → has_ended self.now.wire.input ≡ false }
+        ensures free { IsTrue result → ReadsAt self.now.body }
+    {
+        if self.wire.input.has_ended() {
+            return false;
+        }
+        match self.body {
+            Body::Open => true,
+            Body::Waits(_) => false,
+            Body::Whole => self.wire.requests.held().len() < AHEAD,
+            Body::Refused(_) => false,
+            Body::BrokenOff => false,
+        }
+    }
+
+    // ---- the end
+
+    /// Ends the exchange once the task has ended: where the response needs it, the rest of the body is
+    /// read and dropped first.
+    fn wind_up<L: Line>(&mut self, kind: EndKind, line: &mut L) -> Turn
+        requires { self.old.stage ≡ Stage.Ending kind }
+        ensures leads { LeadsOut (state_of L.Reads L.Counts line.old) self.old (state_of L.Reads L.Counts line.new) self.new }
+        ensures limits { self.new.wire.limits ≡ self.old.wire.limits }
+    {
+        let progress = self.text.progress();
+        if needs_body(kind, progress, self.broke) {
+            if self.drop_rest().is_err() {
+                self.stage = Stage::Over(Following::ConnectionEnds(Outcome::NoMemory));
+                return Turn::Moved;
+            }
+            match self.body {
+                Body::Open => return self.read_rest(line),
+                Body::Waits(_) => return Turn::Moved,
+                Body::Whole | Body::Refused(_) | Body::BrokenOff => {}
+            }
+        }
+        self.close(kind, progress, line);
+        Turn::Moved
+    }
+
+    /// Drops the event that waits, where one does.
+    fn drop_one(&mut self) -> bool
+        ensures same { KeepsBesidesBody self.old self.new }
+        ensures requests { self.new.wire.requests ≡ self.old.wire.requests }
+        ensures gives { GivesOn self.old self.new }
+        ensures no { IsFalse result → IsFree self.new.body }
+    {
+        if let Body::Waits(_) = self.body {
+            self.body = Body::Open;
+            return true;
+        }
+        false
+    }
+
+    /// Drops events of the rest of the body, as many as one turn takes.
+    fn drop_rest(&mut self) -> Result<(), AllocError>
+        ensures same { KeepsBesidesBody self.old self.new }
+        ensures gives { OnOk result (GivesOn self.old self.new) }
+        ensures limits { self.new.wire.requests.limits ≡ self.old.wire.requests.limits }
+    {
+        self.pull()?;
+        for _event in 0..self.wire.limits.ring {
+            if !self.drop_one() {
+                return Ok(());
+            }
+            self.pull()?;
+        }
+        Ok(())
+    }
+
+    /// Reads on in the rest of the body.
+    fn read_rest<L: Line>(&mut self, line: &mut L) -> Turn
+        requires ending { (kind : EndKind) × (self.old.stage ≡ Stage.Ending kind) }
+        ensures leads { LeadsOut (state_of L.Reads L.Counts line.old) self.old (state_of L.Reads L.Counts line.new) self.new }
+        ensures limits { self.new.wire.limits ≡ self.old.wire.limits }
+    {
+        if self.wire.input.has_ended() {
+            return Turn::Moved;
+        }
+        match self.wire.read(line) {
+            Ok(turn) => turn,
+            Err(_) => {
+                self.stage = Stage::Over(Following::ConnectionEnds(Outcome::NoMemory));
+                Turn::Moved
+            }
+        }
+    }
+
+    /// Writes what the end of the task adds.
+    fn close<L: Line>(&mut self, kind: EndKind, progress: Progress, line: &mut L)
+        requires ending { self.old.stage ≡ Stage.Ending kind }
+        requires progress { (facts : Facts) (said : List Outgoing) → standing.StandsFor self.old.text facts said → progress ≡ progress_of facts said }
+        requires known { NeedsBody kind progress self.old.broke → IsSettled self.old.body }
+        ensures leads { LeadsOut (state_of L.Reads L.Counts line.old) self.old (state_of L.Reads L.Counts line.new) self.new }
+        ensures limits { self.new.wire.limits ≡ self.old.wire.limits }
+    {
+        let input = input_of(&self.body);
+        let following = after_task(kind, progress, input, self.broke);
+        if kind == EndKind::Idle {
+            self.stage = Stage::Over(following);
+            return;
+        }
+        if self.text.end(input, &mut self.wire.out).is_err() {
+            self.stage = Stage::Over(Following::ConnectionEnds(Outcome::NoMemory));
+            return;
+        }
+        self.stage = match self.wire.put(line) {
+            None => Stage::Over(following),
+            Some(n) => Stage::Over(Following::ConnectionEnds(Outcome::WriteFailed(n))),
+        };
+    }
+
+    /// Offers the disconnect of a connection that is cut short, and takes what is there next: the
+    /// exchange is over with the end of the task.
+    fn clear<C: ConnEnd>(&mut self, outcome: Outcome, end: &mut C) -> Turn
+        requires { self.old.stage ≡ Stage.Cut outcome }
+        ensures leads { LeadsIn self.old (IsViewOf C.ConnEnd end.old) self.new (IsViewOf C.ConnEnd end.new) }
+        ensures tag { (C.tag end.new ≡ C.tag end.old) × (C.ring end.new ≡ C.ring end.old) }
+        ensures limits { self.new.wire.limits ≡ self.old.wire.limits }
+    {
+        let _first = end.offer_disconnect(Incoming::HttpDisconnect);
+        match end.take() {
+            None => Turn::Idle,
+            Some(OutItem::Event(_)) => Turn::Moved,
+            Some(OutItem::Ended(_)) => {
+                self.stage = Stage::Over(Following::ConnectionEnds(outcome));
+                Turn::Moved
+            }
+        }
+    }
+
+    /// Gives the exchange up, where it is not over: a limit on turns was reached.
+    pub fn give_up<C: ConnEnd>(&mut self, end: &mut C)
+        ensures leads { LeadsIn self.old (IsViewOf C.ConnEnd end.old) self.new (IsViewOf C.ConnEnd end.new) }
+        ensures over { (following : Following) × (self.new.stage ≡ Stage.Over following) }
+        ensures tag { (C.tag end.new ≡ C.tag end.old) × (C.ring end.new ≡ C.ring end.old) }
+        ensures limits { self.new.wire.limits ≡ self.old.wire.limits }
+    {
+        match self.stage {
+            Stage::Over(_) => return,
+            Stage::Cut(outcome) => self.stage = Stage::Over(Following::ConnectionEnds(outcome)),
+            Stage::Running | Stage::Ending(_) => {
+                self.stage = Stage::Over(Following::ConnectionEnds(Outcome::Idle));
+            }
+        }
+        let _first = end.offer_disconnect(Incoming::HttpDisconnect);
+    }
+}
+
+/// The body behind what the reader gave.
+///
+/// A reader gives no head inside a body.
+fn body_of(next: Next, input: InputEnd) -> Body
+    ensures gives { (reader : Reading) (read : List ℕ) (opened : List Next) (framing : Framing) (arrived : List ℕ) (events : List Incoming)
+        → HasOpened reader.limits read opened framing arrived → GaveNext reader read (opened ++ map Next.Event events) next → HasGiven reader read opened events result }
+    ensures ends_where { EndsWhere result input }
+{
+    match next {
+        Next::Need => {
+            if input.has_ended() {
+                return Body::BrokenOff;
+            }
+            Body::Open
+        }
+        Next::Event(event) => Body::Waits(event),
+        Next::Whole => Body::Whole,
+        Next::Bad(status) => Body::Refused(status),
+        Next::Head(_, _) => Body::Open,
+    }
+}
+
+/// Whether what follows the end of a task needs to know the rest of the body.
+fn needs_body(kind: EndKind, progress: Progress, broke: bool) -> bool
+    ensures { IsTrue result ↔ NeedsBody kind progress broke }
+{
+    if kind == EndKind::Idle {
+        return false;
+    }
+    match progress {
+        Progress::Nothing => true,
+        Progress::Begun => broke,
+        Progress::Complete { closes } => !closes,
+    }
+}
+
+/// What the end of a task finds of the body.
+fn input_of(body: &Body) -> Input
+    ensures { result ≡ known_input body.now }
+{
+    match body {
+        Body::Whole => Input::Whole,
+        Body::Refused(status) => Input::Faulty(*status),
+        _ => Input::Broken,
     }
 }

@@ -4,12 +4,14 @@
 mod connection;
 mod exchange;
 mod following;
+mod half;
 mod hello;
 mod input;
 pub mod laws;
 mod line;
 mod reading;
 mod report;
+mod wire;
 
 pub use asgi_io::{CountingPause, Pause};
 pub use connection::serve_connection;

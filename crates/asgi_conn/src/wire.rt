@@ -1,0 +1,69 @@
+//! What a connection keeps from its first byte to its last.
+ghost use Rattle.std.specs.Prelude.{◌≡◌, ◌<◌, ◌++◌, [], ℕ, List, false, take, length, IfNone, IfSome, OnOk, OnErr};
+ghost use Rattle.std.specs.Io.KnownBytes.{Appends};
+ghost use Rattle.asgi_io.specs.Counting.{RoseBy};
+ghost use Rattle.asgi_request.specs.declared.next.Next.{Next};
+ghost use Rattle.asgi_request.specs.Reading.{StandsFor};
+ghost use Rattle.asgi_conn.specs.Lines.{LineState, HasMoved, state_of};
+ghost use Rattle.asgi_conn.specs.TaskEnds.{has_ended};
+
+use crate::input::InputEnd;
+use crate::line::Line;
+use asgi_io::{Answer, Turn, Wrote, answer_of, write_out};
+use asgi_request::RequestReader;
+use asgi_types::Limits;
+use std::alloc::{AllocError, Global};
+
+/// The most bytes that one turn reads.
+pub const PIECE: usize = 4_096;
+
+/// What a connection keeps from its first byte to its last.
+#[derive(Drop)]
+pub struct Wire {
+    pub alloc: Global,
+    pub limits: Limits,
+    pub requests: RequestReader,
+    pub input: InputEnd,
+    /// The text in hand, empty between two.
+    pub out: Vec<u8>,
+}
+
+impl Wire {
+    /// Reads once, and feeds what came to the reader of requests.
+    pub fn read<L: Line>(&mut self, line: &mut L) -> Result<Turn, AllocError>
+        requires { has_ended self.old.input ≡ false }
+        ensures moved { (more : List ℕ)
+            × ((start : LineState) (read written : List ℕ) (failures : ℕ) → HasMoved start (state_of L.Reads L.Counts line.old) self.old.input read written failures
+            → HasMoved start (state_of L.Reads L.Counts line.new) self.new.input (read ++ more) written failures)
+            × OnOk result ((bytes : List ℕ) (given : List Next) → StandsFor self.old.requests bytes given → StandsFor self.new.requests (bytes ++ more) given) }
+        ensures limits { (self.new.limits ≡ self.old.limits) × (self.new.requests.limits ≡ self.old.requests.limits) }
+        ensures out { self.new.out ≡ self.old.out }
+    {
+        let mut piece = [0; PIECE];
+        let read = line.read_some(&mut piece);
+        let answer = answer_of(&read, PIECE);
+        match answer {
+            Answer::Moved(n) => self.requests.feed(&piece[..n])?,
+            Answer::Nothing => self.input = InputEnd::AtEnd,
+            Answer::Failed => self.input = InputEnd::Failed,
+            Answer::Paused => {}
+        }
+        Ok(answer.turn())
+    }
+
+    /// Writes the text in hand, and answers how much of it went out where a write failed.
+    pub fn put<L: Line>(&mut self, line: &mut L) -> Option<usize>
+        ensures none { IfNone result (Appends (L.written line.old) (L.written line.new) self.old.out.items × RoseBy 0 (L.failed line.old) (L.failed line.new)) }
+        ensures some { IfSome result (λ n. (n < length self.old.out.items) × Appends (L.written line.old) (L.written line.new) (take n self.old.out.items) × RoseBy 1 (L.failed line.old) (L.failed line.new)) }
+        ensures reads { (L.remaining line.new ≡ L.remaining line.old) × (L.Reads.answers line.new ≡ L.Reads.answers line.old) }
+        ensures same { (self.new.limits ≡ self.old.limits) × (self.new.requests ≡ self.old.requests) × (self.new.input ≡ self.old.input) }
+        ensures empty { self.new.out.items ≡ [] }
+    {
+        let wrote = write_out(line, &self.out);
+        self.out.clear();
+        match wrote {
+            Wrote::Done => None,
+            Wrote::Failed(n) => Some(n),
+        }
+    }
+}
