@@ -7,6 +7,8 @@ pub mod SoFarLemmas
 pub mod RequestLemmas
 pub mod OneConversationLemmas
 pub mod TakenLemmas
+pub mod LineLemmas
+pub mod HalfLemmas
 pub mod LoopLemmas
 pub mod TaskEndLemmas
 pub mod ConversationExample

@@ -23,6 +23,13 @@ pub record LineState : Type 0 where
 abbrev pub state_of : {L : Type 0} → reads.Ghosts L → counts.Ghosts L → L → LineState
 state_of R W line = record { left = R.remaining line; reads = R.answers line; written = W.written line; failed = W.failed line }
 
+-- how far the input has come behind a read that was answered so
+abbrev pub input_behind : InputEnd → Answer → InputEnd
+input_behind end (answer.Moved n) = end
+input_behind end answer.Nothing = AtEnd
+input_behind end answer.Paused = end
+input_behind end answer.Failed = Failed
+
 -- by the answers to all reads: no read follows the end, or a fault that does not pass
 abbrev pub EndsAs : InputEnd → List Answer → Option (List ℕ) → Type 0
 EndsAs OpenStill answers left = All GoesOn answers

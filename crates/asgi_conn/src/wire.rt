@@ -1,10 +1,11 @@
 //! What a connection keeps from its first byte to its last.
-ghost use Rattle.std.specs.Prelude.{◌≡◌, ◌<◌, ◌++◌, [], ℕ, List, false, take, length, IfNone, IfSome, OnOk, OnErr};
+ghost use Rattle.std.specs.Prelude.{◌≡◌, ◌<◌, ◌≤◌, ◌++◌, [], ℕ, List, false, take, length, IfNone, IfSome, OnOk};
 ghost use Rattle.std.specs.Io.KnownBytes.{Appends};
+ghost use Rattle.asgi_io.specs.Answers.{bytes_of};
 ghost use Rattle.asgi_io.specs.Counting.{RoseBy};
 ghost use Rattle.asgi_request.specs.declared.next.Next.{Next};
 ghost use Rattle.asgi_request.specs.Reading.{StandsFor};
-ghost use Rattle.asgi_conn.specs.Lines.{LineState, HasMoved, state_of};
+ghost use Rattle.asgi_conn.specs.Lines.{LineState, HasMoved, input_behind, state_of};
 ghost use Rattle.asgi_conn.specs.TaskEnds.{has_ended};
 
 use crate::input::InputEnd;
@@ -36,19 +37,39 @@ impl Wire {
             × ((start : LineState) (read written : List ℕ) (failures : ℕ) → HasMoved start (state_of L.Reads L.Counts line.old) self.old.input read written failures
             → HasMoved start (state_of L.Reads L.Counts line.new) self.new.input (read ++ more) written failures)
             × OnOk result ((bytes : List ℕ) (given : List Next) → StandsFor self.old.requests bytes given → StandsFor self.new.requests (bytes ++ more) given) }
-        ensures limits { (self.new.limits ≡ self.old.limits) × (self.new.requests.limits ≡ self.old.requests.limits) }
-        ensures out { self.new.out ≡ self.old.out }
+        ensures same { self.new ≡ record self.old { requests = self.new.requests; input = self.new.input } }
+        ensures limits { self.new.requests.limits ≡ self.old.requests.limits }
     {
         let mut piece = [0; PIECE];
         let read = line.read_some(&mut piece);
         let answer = answer_of(&read, PIECE);
-        match answer {
-            Answer::Moved(n) => self.requests.feed(&piece[..n])?,
-            Answer::Nothing => self.input = InputEnd::AtEnd,
-            Answer::Failed => self.input = InputEnd::Failed,
-            Answer::Paused => {}
+        match self.take_in(answer, &piece) {
+            Ok(()) => Ok(answer.turn()),
+            Err(e) => Err(e),
         }
-        Ok(answer.turn())
+    }
+
+    /// Takes what a read gave, whose answer tells how much of the piece it is.
+    fn take_in(&mut self, answer: Answer, piece: &[u8]) -> Result<(), AllocError>
+        requires { bytes_of answer ≤ length piece.now }
+        ensures fed { OnOk result ((bytes : List ℕ) (given : List Next) → StandsFor self.old.requests bytes given
+            → StandsFor self.new.requests (bytes ++ take (bytes_of answer) piece.now) given) }
+        ensures input { self.new.input ≡ input_behind self.old.input answer }
+        ensures same { self.new ≡ record self.old { requests = self.new.requests; input = self.new.input } }
+        ensures limits { self.new.requests.limits ≡ self.old.requests.limits }
+    {
+        match answer {
+            Answer::Moved(n) => self.requests.feed(&piece[..n]),
+            Answer::Nothing => {
+                self.input = InputEnd::AtEnd;
+                Ok(())
+            }
+            Answer::Failed => {
+                self.input = InputEnd::Failed;
+                Ok(())
+            }
+            Answer::Paused => Ok(()),
+        }
     }
 
     /// Writes the text in hand, and answers how much of it went out where a write failed.
@@ -56,7 +77,7 @@ impl Wire {
         ensures none { IfNone result (Appends (L.written line.old) (L.written line.new) self.old.out.items × RoseBy 0 (L.failed line.old) (L.failed line.new)) }
         ensures some { IfSome result (λ n. (n < length self.old.out.items) × Appends (L.written line.old) (L.written line.new) (take n self.old.out.items) × RoseBy 1 (L.failed line.old) (L.failed line.new)) }
         ensures reads { (L.remaining line.new ≡ L.remaining line.old) × (L.Reads.answers line.new ≡ L.Reads.answers line.old) }
-        ensures same { (self.new.limits ≡ self.old.limits) × (self.new.requests ≡ self.old.requests) × (self.new.input ≡ self.old.input) }
+        ensures same { self.new ≡ record self.old { out = self.new.out } }
         ensures empty { self.new.out.items ≡ [] }
     {
         let wrote = write_out(line, &self.out);

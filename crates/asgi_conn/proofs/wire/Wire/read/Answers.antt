@@ -1,0 +1,36 @@
+use Rattle.std.proofs.Common.{List, ℕ, ◌++◌, take, arith, subst, sym}
+use Rattle.asgi_io.specs.Answers.{bytes_of}
+use Rattle.asgi_conn.specs.declared.input.InputEnd.{InputEnd}
+use Rattle.asgi_conn.specs.Lines.{HasMoved, state_of}
+use Rattle.asgi_conn.proofs.LineLemmas.{gave, told_as, moved_by_open_read}
+use Rattle.asgi_conn.proofs.wire.Wire.read.Goals as goal
+
+pub returns-in-Ok-clause-moved : goal.returns-in-Ok-clause-moved
+returns-in-Ok-clause-moved g c =
+    let buffer = c.read_some-read.new.buf in
+    let a = c.answer_of-answer.result in
+    let x = gave _ _ buffer c.read_some-read.result a c.read_some-read.ensures.bound c.read_some-read.ensures.bytes (omega (arith, c.read_some-read.auto.buf)) c.answer_of-answer.ensures in
+    let stay = g.met.L.Line.writes_stay _ _ c.read_some-read.ensures.beside in (
+      take (bytes_of a) buffer,
+      λ start read written failures moved.
+          subst (λ (end : InputEnd). HasMoved start (state_of g.L.Reads g.L.Counts c.read_some-read.new.self) end (read ++ take (bytes_of a) buffer) written failures)
+          (sym c.take_in.ensures.input)
+          (moved_by_open_read start (state_of g.L.Reads g.L.Counts c.args.line.now) _ c.args.self.now.input read written failures buffer a c.requires moved x
+              (told_as _ _ buffer c.read_some-read.result a c.read_some-read.ensures.told (omega (arith, c.read_some-read.auto.buf)) c.answer_of-answer.ensures) stay.0 stay.1.0),
+      c.in-Ok.ensures.fed,
+    )
+
+pub returns-in-Err-clause-moved : goal.returns-in-Err-clause-moved
+returns-in-Err-clause-moved g c =
+    let buffer = c.read_some-read.new.buf in
+    let a = c.answer_of-answer.result in
+    let x = gave _ _ buffer c.read_some-read.result a c.read_some-read.ensures.bound c.read_some-read.ensures.bytes (omega (arith, c.read_some-read.auto.buf)) c.answer_of-answer.ensures in
+    let stay = g.met.L.Line.writes_stay _ _ c.read_some-read.ensures.beside in (
+      take (bytes_of a) buffer,
+      λ start read written failures moved.
+          subst (λ (end : InputEnd). HasMoved start (state_of g.L.Reads g.L.Counts c.read_some-read.new.self) end (read ++ take (bytes_of a) buffer) written failures)
+          (sym c.take_in.ensures.input)
+          (moved_by_open_read start (state_of g.L.Reads g.L.Counts c.args.line.now) _ c.args.self.now.input read written failures buffer a c.requires moved x
+              (told_as _ _ buffer c.read_some-read.result a c.read_some-read.ensures.told (omega (arith, c.read_some-read.auto.buf)) c.answer_of-answer.ensures) stay.0 stay.1.0),
+      tt,
+    )
