@@ -1,11 +1,13 @@
 -- What a reader gave behind a head is what is due of the body.
 use Rattle.std.proofs.Common.{◌≡◌, ℕ, List, [], ◌∷◌, ◌++◌, ◌⊎◌, inl, inr, map, refl, sym, ap, ◌∙◌, append_assoc, append-nil, subst, Option, Some}
 use mathlib.Core.List.{IsPrefix}
+use Rattle.asgi_types.specs.declared.facts.Facts.{Facts}
 use Rattle.asgi_types.specs.declared.facts.Framing.{Framing}
 use Rattle.asgi_types.specs.declared.incoming.Incoming.{Incoming}
 use Rattle.asgi_types.specs.declared.limits.Limits.{Limits}
+use Rattle.asgi_types.specs.declared.scope.Scope.{Scope}
 use Rattle.asgi_request.specs.declared.next.Next.{Next}
-use Rattle.asgi_request.specs.declared.next.Next.TheVariants.{Event, Whole, Bad}
+use Rattle.asgi_request.specs.declared.next.Next.TheVariants.{Event, Whole, Bad, Head}
 use Rattle.asgi_request.specs.declared.place.Place.{Place}
 use Rattle.asgi_request.specs.declared.place.Place.TheVariants.{Start, BodyEnd}
 use Rattle.asgi_request.specs.Places.{Judged}
@@ -135,6 +137,11 @@ unfolding no_whole
 refused_no_whole [] status = tt
 refused_no_whole (e ∷ events) status = refused_no_whole events status
 
+head_no_whole : (events : List Incoming) (scope : Scope) (facts : Facts) → no_whole (map Event events ++ Head scope facts ∷ [])
+unfolding no_whole
+head_no_whole [] scope facts = tt
+head_no_whole (e ∷ events) scope facts = head_no_whole events scope facts
+
 whole_at : (events due : List Incoming) (tail : List Next) → map Event events ++ Whole ∷ [] ≡ map Event due ++ Whole ∷ tail → events ≡ due
 whole_at [] [] tail e = refl
 whole_at [] (y ∷ due) tail e = cc
@@ -157,6 +164,13 @@ bad_at [] (complete behind) status tail e = cc
 bad_at [] (faulty why) status tail e =
     let first : Bad (status_of why) ≡ Bad status = cc e in
     (refl, (why, refl, cc first))
+
+no_head_at : (more : List Incoming) (state : BodyState) (scope : Scope) (facts : Facts) (tail : List Next) → map Event more ++ mark state ≡ Head scope facts ∷ tail → ⊥
+unfolding mark
+no_head_at (x ∷ more) state scope facts tail e = cc
+no_head_at [] partial scope facts tail e = cc
+no_head_at [] (complete behind) scope facts tail e = cc
+no_head_at [] (faulty why) scope facts tail e = cc
 
 -- ---- what was given is due
 
@@ -187,6 +201,16 @@ module _ (limits : Limits) (bytes : List ℕ) (opened : List Next) (framing : Fr
           let f = bad_at c.more state status tail c.same in
           (sym (none_more events due c.more c.splits f.0), f.1)
       by (beyond behind tail e g) = absurd (whole_there due tail (subst no_whole g (refused_no_whole events status)))
+
+  -- inside a body the reader gives no head
+  pub no_head : (events : List Incoming) (scope : Scope) (facts : Facts) → Reaches limits bytes (opened ++ (map Event events ++ Head scope facts ∷ [])) place held → ⊥
+  no_head events scope facts r = by (given_of limits bytes opened (map Event events ++ Head scope facts ∷ []) framing arrived due state place held x body r)
+    where
+      by : IsGiven due state (map Event events ++ Head scope facts ∷ []) → ⊥
+      by (within tail e) =
+          let c = continues events due (Head scope facts ∷ tail) state (e ∙ append_assoc (map Event events) (Head scope facts ∷ []) tail) in
+          no_head_at c.more state scope facts tail c.same
+      by (beyond behind tail e g) = whole_there due tail (subst no_whole g (head_no_whole events scope facts))
 
 marked_there : (l : List Incoming) (s : BodyState) (tail : List Next) → no_whole ((map Event l ++ mark s) ++ Whole ∷ tail) → ⊥
 unfolding no_whole mark

@@ -194,7 +194,7 @@ pub fn first_head_is_one()
 {}
 
 /// What a reader gave behind a head are the first events that are due of the body: all of them where it needs more, where the
-/// request is whole and where it is refused.
+/// request is whole and where it is refused. Inside a body it gives no head.
 pub fn given_events_are_due()
     ensures events { (reader : Reading) (bytes : List ℕ) (opened : List Next) (framing : Framing) (arrived : List ℕ) (events due : List Incoming) (state : BodyState)
         → HasOpened reader.limits bytes opened framing arrived → ReadsBody reader.limits framing arrived due state
@@ -210,4 +210,7 @@ pub fn given_events_are_due()
         → HasOpened reader.limits bytes opened framing arrived → ReadsBody reader.limits framing arrived due state
         → StandsFor reader bytes (opened ++ (map Next.Event events ++ Next.Bad status ∷ []))
         → (events ≡ due) × ((why : Refusal) × (state ≡ BodyState.faulty why) × (status ≡ status_of why)) }
+    ensures head { (reader : Reading) (bytes : List ℕ) (opened : List Next) (framing : Framing) (arrived : List ℕ) (events due : List Incoming) (state : BodyState) (scope : Scope) (facts : Facts)
+        → HasOpened reader.limits bytes opened framing arrived → ReadsBody reader.limits framing arrived due state
+        → ¬ (StandsFor reader bytes (opened ++ (map Next.Event events ++ Next.Head scope facts ∷ []))) }
 {}

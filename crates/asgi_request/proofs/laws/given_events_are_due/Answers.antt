@@ -1,5 +1,5 @@
 use Rattle.asgi_request.proofs.laws.given_events_are_due.Goals as goal
-use Rattle.asgi_request.proofs.DueLemmas.{events_are_due, whole_is_complete, bad_is_faulty, need_is_partial}
+use Rattle.asgi_request.proofs.DueLemmas.{events_are_due, whole_is_complete, bad_is_faulty, need_is_partial, no_head}
 use Rattle.asgi_request.proofs.OpenedLemmas.{opened_at}
 
 pub returns-clause-events : goal.returns-clause-events
@@ -17,3 +17,7 @@ returns-clause-whole c reader bytes opened framing arrived events due state x bo
 pub returns-clause-refused : goal.returns-clause-refused
 returns-clause-refused c reader bytes opened framing arrived events due state status x body r =
     bad_is_faulty reader.limits bytes opened framing arrived due state reader.place reader.held (opened_at reader.limits bytes opened framing arrived x) body events status r
+
+pub returns-clause-head : goal.returns-clause-head
+returns-clause-head c reader bytes opened framing arrived events due state scope facts x body r =
+    no_head reader.limits bytes opened framing arrived due state reader.place reader.held (opened_at reader.limits bytes opened framing arrived x) body events scope facts r
