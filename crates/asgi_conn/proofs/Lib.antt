@@ -11,3 +11,8 @@ pub mod LoopLemmas
 pub mod TaskEndLemmas
 pub mod ConversationExample
 pub mod BeginningLemmas
+pub mod BodyShapeLemmas
+pub mod ToldLemmas
+pub mod ServedLemmas
+pub mod AnswerLemmas
+pub mod PromisedLemmas

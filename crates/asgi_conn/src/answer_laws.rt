@@ -1,0 +1,30 @@
+//! Laws of what applications answer over one connection, each the contract of a function that does nothing.
+ghost use Rattle.std.specs.Prelude.{◌≡◌, ◌++◌, List, ℕ};
+ghost use mathlib.Core.List.{IsPrefix};
+ghost use Rattle.asgi_types.specs.declared.limits.Limits.{Limits};
+ghost use Rattle.asgi_conn.specs.declared.report.Report.{Report};
+ghost use Rattle.asgi_conn.specs.Exchanges.{Exchanged};
+ghost use Rattle.asgi_conn.specs.Promised.{ConversesWith, echo_promise, hello_promise};
+ghost use Rattle.asgi_conn.specs.TaskEnds.{InputEnd};
+
+/// The bytes that `Echo` and `Hello` have written, how the connection ended and how many exchanges it had are one function of
+/// the bytes read and of how reading ended, where no outcome cut the connection short and no exchange faulted.
+pub fn answers_are_one()
+    ensures echo { (limits : Limits) (end : InputEnd) (read : List ℕ) (exchanges others : List Exchanged) (written other : List ℕ) (report another : Report)
+        → ConversesWith echo_promise limits end read exchanges written report → ConversesWith echo_promise limits end read others other another
+        → (written ≡ other) × (report.outcome ≡ another.outcome) × (report.exchanges ≡ another.exchanges) }
+    ensures hello { (limits : Limits) (end : InputEnd) (read : List ℕ) (exchanges others : List Exchanged) (written other : List ℕ) (report another : Report)
+        → ConversesWith hello_promise limits end read exchanges written report → ConversesWith hello_promise limits end read others other another
+        → (written ≡ other) × (report.outcome ≡ another.outcome) × (report.exchanges ≡ another.exchanges) }
+{}
+
+/// What they have written for a front of the input is a beginning of what they write for the whole, however reading ended
+/// behind the front: what was answered stays answered.
+pub fn answers_to_a_front_come_first()
+    ensures echo { (limits : Limits) (early late : InputEnd) (read more : List ℕ) (exchanges others : List Exchanged) (written other : List ℕ) (report another : Report)
+        → ConversesWith echo_promise limits early read exchanges written report → ConversesWith echo_promise limits late (read ++ more) others other another
+        → IsPrefix written other }
+    ensures hello { (limits : Limits) (early late : InputEnd) (read more : List ℕ) (exchanges others : List Exchanged) (written other : List ℕ) (report another : Report)
+        → ConversesWith hello_promise limits early read exchanges written report → ConversesWith hello_promise limits late (read ++ more) others other another
+        → IsPrefix written other }
+{}
