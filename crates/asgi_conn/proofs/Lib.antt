@@ -16,3 +16,5 @@ pub mod ToldLemmas
 pub mod ServedLemmas
 pub mod AnswerLemmas
 pub mod PromisedLemmas
+pub mod ReadAnswerLemmas
+pub mod ReadResponsesLemmas

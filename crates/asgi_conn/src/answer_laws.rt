@@ -1,11 +1,15 @@
 //! Laws of what applications answer over one connection, each the contract of a function that does nothing.
-ghost use Rattle.std.specs.Prelude.{◌≡◌, ◌++◌, List, ℕ};
+ghost use Rattle.std.specs.Prelude.{◌≡◌, ◌++◌, [], List, ℕ, false, Some};
 ghost use mathlib.Core.List.{IsPrefix};
 ghost use Rattle.asgi_types.specs.declared.limits.Limits.{Limits};
+ghost use Rattle.asgi_types.specs.declared.scope.Kind.TheVariants.{Http};
+ghost use Rattle.asgi_protocol.specs.Lawful.{IsClosed};
 ghost use Rattle.asgi_conn.specs.declared.report.Report.{Report};
-ghost use Rattle.asgi_conn.specs.Exchanges.{Exchanged};
+ghost use Rattle.asgi_conn.specs.Exchanges.{Exchanged, AreAnswered, answer_texts};
+ghost use Rattle.asgi_conn.specs.Persistence.{Converses};
 ghost use Rattle.asgi_conn.specs.Promised.{ConversesWith, echo_promise, hello_promise};
-ghost use Rattle.asgi_conn.specs.TaskEnds.{InputEnd};
+ghost use Rattle.asgi_conn.specs.ReadResponses.{ReadsAnswer, AreRead, AllCanBeSent};
+ghost use Rattle.asgi_conn.specs.TaskEnds.{InputEnd, is_cut};
 
 /// The bytes that `Echo` and `Hello` have written, how the connection ended and how many exchanges it had are one function of
 /// the bytes read and of how reading ended, where no outcome cut the connection short and no exchange faulted.
@@ -27,4 +31,18 @@ pub fn answers_to_a_front_come_first()
     ensures hello { (limits : Limits) (early late : InputEnd) (read more : List ℕ) (exchanges others : List Exchanged) (written other : List ℕ) (report another : Report)
         → ConversesWith hello_promise limits early read exchanges written report → ConversesWith hello_promise limits late (read ++ more) others other another
         → IsPrefix written other }
+{}
+
+/// Whatever the application is, the responses of a connection are read back one behind the other, each as its own status, its
+/// own fields and the bytes of its own bodies: no body can be taken for a head. It needs fields as each `Headers` has them,
+/// bodies whose size fits 64 bits, and a recipient that knows which request was HEAD.
+pub fn responses_are_read_back()
+    ensures answered { (limits : Limits) (end : InputEnd) (read : List ℕ) (exchanges : List Exchanged) (behind more : List ℕ)
+        → AreAnswered limits end read exchanges behind → AllCanBeSent exchanges → AreRead (answer_texts exchanges ++ more) exchanges more }
+    ensures conversation { (limits : Limits) (end : InputEnd) (read : List ℕ) (exchanges : List Exchanged) (written : List ℕ) (report : Report)
+        → (c : Converses limits end read exchanges written report) → AllCanBeSent exchanges → AreRead written c.answered c.text }
+    // the last one, where it is complete and the connection was not cut short
+    ensures last { (limits : Limits) (end : InputEnd) (read : List ℕ) (exchanges : List Exchanged) (written : List ℕ) (report : Report)
+        → (c : Converses limits end read exchanges written report) → AllCanBeSent exchanges → is_cut report.outcome ≡ false
+        → (x : Exchanged) → c.last ≡ Some x → IsClosed Http x.said → ReadsAnswer c.text x [] }
 {}

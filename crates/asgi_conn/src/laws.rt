@@ -30,7 +30,9 @@ ghost use Rattle.asgi_conn.specs.Persistence.{CountsExchanges, Converses, EndsBe
 ghost use Rattle.asgi_conn.specs.SoFar.{SoFar, InOne, Between, Within, exchanged, TaskIsOver, HasBroken, HasBrokenIn, IsCutBy, IsOut, IsLast, ConversesLast};
 ghost use Rattle.asgi_conn.specs.TaskEnds.{InputEnd, at_end, failed, has_ended, is_faulty, is_cut, next_request, connection_ends};
 
-pub use crate::answer_laws::{answers_are_one, answers_to_a_front_come_first};
+pub use crate::answer_laws::{
+    answers_are_one, answers_to_a_front_come_first, responses_are_read_back,
+};
 pub use asgi_exchange::laws::every_schedule;
 
 // ---- one request, as serve_connection answers it
