@@ -16,5 +16,6 @@ pub mod ToldLemmas
 pub mod ServedLemmas
 pub mod AnswerLemmas
 pub mod PromisedLemmas
+pub mod FieldsSentLemmas
 pub mod ReadAnswerLemmas
 pub mod ReadResponsesLemmas

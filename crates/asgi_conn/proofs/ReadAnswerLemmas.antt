@@ -33,7 +33,8 @@ use Rattle.asgi_response.proofs.ReadBackBodyLemmas.{response_is_read_back}
 use Rattle.asgi_response.proofs.ReadBackLemmas.{all_pass, fields_are_read_back, head_is_read_back}
 use Rattle.asgi_response.proofs.StartLemmas.{final_status}
 use Rattle.asgi_conn.specs.Exchanges.{Exchanged}
-use Rattle.asgi_conn.specs.ReadResponses.{ReadsChunked, ReadsContent, ReadsContinue, ReadsAnswer, CanBeSent}
+use Rattle.asgi_conn.specs.ReadResponses.{ReadsChunked, IsDelimited, ReadsContent, ReadsContinue, ReadsAnswer, CanBeSent, says_chunked, says_close}
+use Rattle.asgi_conn.proofs.FieldsSentLemmas.{chunked_said, close_said, length_said}
 
 -- ---- more bytes behind what is read
 
@@ -167,7 +168,7 @@ module _ (x : Exchanged) (r : IsResponse x.said) (lawful : IsLawful Http x.facts
   carried : (chunked closing : Bool) (given : Option ℕ) (body : List ℕ) → Carries chunked body (concat (r.parts ++ r.last ∷ []))
       → (chunked ≡ false → given ≡ None → closing ≡ true) → (closing ≡ true → more ≡ [])
       → ((n : ℕ) → given ≡ Some n → length (concat (r.parts ++ r.last ∷ [])) ≡ n)
-      → ReadsContent true chunked closing given (body ++ more) (concat (r.parts ++ r.last ∷ [])) more
+      → IsDelimited true chunked closing given (body ++ more) (concat (r.parts ++ r.last ∷ [])) more
   carried true closing given body c must none sizes = chunked_more body (concat (r.parts ++ r.last ∷ [])) more c
   carried false closing (Some n) body c must none sizes = (sizes n refl, ap (λ (l : List ℕ). l ++ more) c)
   carried false closing None body c must none sizes =
@@ -175,22 +176,49 @@ module _ (x : Exchanged) (r : IsResponse x.said) (lawful : IsLawful Http x.facts
       let nothing = none closed in
       (closed, ap (λ (l : List ℕ). body ++ l) nothing ∙ append-nil body ∙ c, nothing)
 
-  with_content : has_content x.facts.head_only r.status ≡ true → ReadsAnswer (response_text x.facts x.said ++ more) x more
-  unfolding message accepted_response
-  with_content has =
-      let back = response_is_read_back x.facts x.said accepted_response fields_sendable sized has in
+  -- the recipient is told so by the fields
+  fields : List HeaderField
+  fields = fields_sent (is_chunked x.facts.version r.status r.headers) (closes x.facts.close r.headers) r.status r.headers
+
+  told : (body : List ℕ) → has_content x.facts.head_only r.status ≡ true
+      → IsDelimited true (is_chunked x.facts.version r.status r.headers) (closes x.facts.close r.headers) (given_length (content_length r.headers)) body (concat (r.parts ++ r.last ∷ [])) more
+      → ReadsContent (has_content x.facts.head_only r.status) fields body (concat (r.parts ++ r.last ∷ [])) more
+  unfolding fields
+  told body has d =
       let chunked = is_chunked x.facts.version r.status r.headers in
       let closing = closes x.facts.close r.headers in
-      let given = given_length (content_length r.headers) in
+      let sent_fields = fields_sent chunked closing r.status r.headers in
+      let all = concat (r.parts ++ r.last ∷ []) in
+      let L : ContentLength → Type 0 = λ l. IsDelimited true chunked closing (given_length l) body all more in
+      let E : Bool → Type 0 = λ b. IsDelimited true chunked b (given_length (content_length sent_fields)) body all more in
+      let C : Bool → Type 0 = λ b. IsDelimited true b (says_close sent_fields) (given_length (content_length sent_fields)) body all more in
+      let H : Bool → Type 0 = λ b. ReadsContent b sent_fields body all more in
+      subst H (sym has)
+      (subst C (sym (chunked_said chunked closing r.status r.headers))
+      (subst E (sym (close_said chunked closing r.status r.headers))
+      (subst L (sym (length_said chunked closing x.facts.head_only r.status r.headers has)) d)))
+
+  first : ReadsContinue x.facts.expect (response_text x.facts x.said ++ more) (message ++ more)
+  unfolding message
+  first =
+      subst (λ (l : List ℕ). ReadsContinue x.facts.expect l (message ++ more)) (sym (append_assoc (continue_text x.facts.expect) message more))
+      (continue_is_read x.facts.expect (message ++ more))
+
+  with_content : has_content x.facts.head_only r.status ≡ true → ReadsAnswer (response_text x.facts x.said ++ more) x more
+  unfolding message accepted_response fields
+  with_content has =
+      let back = response_is_read_back x.facts x.said accepted_response fields_sendable sized has in
       record {
         response = r;
+        fields = fields;
+        fields_are = refl;
         final = message ++ more;
-        body = back.body ++ more;
-        interim = subst (λ (l : List ℕ). ReadsContinue x.facts.expect l (message ++ more)) (sym (append_assoc (continue_text x.facts.expect) message more))
-            (continue_is_read x.facts.expect (message ++ more));
-        head = read_as_more message more r.status (fields_sent chunked closing r.status r.headers) back.body back.head;
-        content = subst (λ (b : Bool). ReadsContent b chunked closing given (back.body ++ more) (concat (r.parts ++ r.last ∷ [])) more) (sym has)
-            (carried chunked closing given back.body back.carries (λ p g. must_close x.facts r.status r.headers keeps sound has p g) ends back.sized);
+        interim = first;
+        behind = back.body ++ more;
+        head = read_as_more message more r.status fields back.body back.head;
+        body = told (back.body ++ more) has
+            (carried (is_chunked x.facts.version r.status r.headers) (closes x.facts.close r.headers) (given_length (content_length r.headers)) back.body back.carries
+            (λ p g. must_close x.facts r.status r.headers keeps sound has p g) ends back.sized);
       }
 
   bare : has_content x.facts.head_only r.status ≡ false → message ≡ head_text (is_chunked x.facts.version r.status r.headers) (closes x.facts.close r.headers) r.status r.headers
@@ -201,21 +229,19 @@ module _ (x : Exchanged) (r : IsResponse x.said) (lawful : IsLawful Http x.facts
       ∙ ap (λ (l : List ℕ). head ++ l) (no_texts x.facts r.status r.headers r.parts r.last none) ∙ append-nil head
 
   without_content : has_content x.facts.head_only r.status ≡ false → ReadsAnswer (response_text x.facts x.said ++ more) x more
-  unfolding message accepted_response
+  unfolding message accepted_response fields
   without_content none =
-      let chunked = is_chunked x.facts.version r.status r.headers in
-      let closing = closes x.facts.close r.headers in
-      let given = given_length (content_length r.headers) in
       let range = final_status x.facts x.said accepted_response in
       record {
         response = r;
+        fields = fields;
+        fields_are = refl;
         final = message ++ more;
-        body = more;
-        interim = subst (λ (l : List ℕ). ReadsContinue x.facts.expect l (message ++ more)) (sym (append_assoc (continue_text x.facts.expect) message more))
-            (continue_is_read x.facts.expect (message ++ more));
-        head = subst (λ (l : List ℕ). IsReadAs (l ++ more) r.status (fields_sent chunked closing r.status r.headers) more) (sym (bare none))
-            (head_is_read_back r.headers fields_sendable chunked closing r.status more range.0 range.1);
-        content = subst (λ (b : Bool). ReadsContent b chunked closing given more (concat (r.parts ++ r.last ∷ [])) more) (sym none) refl;
+        interim = first;
+        behind = more;
+        head = subst (λ (l : List ℕ). IsReadAs (l ++ more) r.status fields more) (sym (bare none))
+            (head_is_read_back r.headers fields_sendable (is_chunked x.facts.version r.status r.headers) (closes x.facts.close r.headers) r.status more range.0 range.1);
+        body = subst (λ (b : Bool). ReadsContent b fields more (concat (r.parts ++ r.last ∷ [])) more) (sym none) refl;
       }
 
   pub answer_is_read : ReadsAnswer (response_text x.facts x.said ++ more) x more

@@ -1,9 +1,11 @@
 -- The responses of a connection, as a recipient reads them back one after another by the grammars of `httparse` and `http1`
 -- (RFC 9112, sections 4 to 7 and 9.3.2).
-use Rattle.std.specs.Prelude.{◌≡◌, ℕ, Bool, true, false, List, [], ◌∷◌, ◌++◌, length, All, Option, Some, None}
+use Rattle.std.specs.Prelude.{◌≡◌, ℕ, Bool, true, false, List, [], ◌∷◌, ◌++◌, length, All, Option, Some, None, codes}
 use Rattle.std.specs.List.{concat}
 use Rattle.httparse.specs.Ascii.{crlf_bytes}
 use Rattle.http1.specs.ChunkedBody.{Chunks, ReadsChunks, content}
+use Rattle.asgi_types.specs.Fields.{HeaderField}
+use Rattle.asgi_types.specs.Tokens.{has_token}
 use Rattle.asgi_types.specs.declared.outgoing.Outgoing.{Outgoing}
 use Rattle.asgi_types.specs.declared.outgoing.Outgoing.TheVariants.{ResponseStart, ResponseBody}
 use Rattle.asgi_protocol.specs.ContentLengths.{content_length}
@@ -25,17 +27,29 @@ pub record ReadsChunked (bytes sent rest : List ℕ) : Type 0 where
   pub carried : content chunks ≡ sent
   pub only : (limit : ℕ) (other : Chunks) (behind : List ℕ) → ReadsChunks limit bytes other behind → (content other ≡ sent) × (behind ≡ crlf_bytes ++ rest)
 
--- Where the content ends (RFC 9112, section 6.3), by whether there is any, whether it is chunked, whether the response says
--- `close`, and its content-length.
-abbrev pub ReadsContent : (has_any chunked closing : Bool) → Option ℕ → List ℕ → List ℕ → List ℕ → Type 0
+-- Where the content ends (section 6.3), by whether there is any, whether it is chunked, whether the connection closes, and the
+-- length that is given.
+abbrev pub IsDelimited : (has_any chunked closing : Bool) → Option ℕ → List ℕ → List ℕ → List ℕ → Type 0
 -- rule 1: an answer to HEAD, 204 and 304 end with the head, whatever its fields say
-ReadsContent false chunked closing given bytes sent rest = bytes ≡ rest
+IsDelimited false chunked closing given bytes sent rest = bytes ≡ rest
 -- rule 4
-ReadsContent true true closing given bytes sent rest = ReadsChunked bytes sent rest
+IsDelimited true true closing given bytes sent rest = ReadsChunked bytes sent rest
 -- rule 6
-ReadsContent true false closing (Some n) bytes sent rest = (length sent ≡ n) × (bytes ≡ sent ++ rest)
+IsDelimited true false closing (Some n) bytes sent rest = (length sent ≡ n) × (bytes ≡ sent ++ rest)
 -- rule 8: it goes on until the connection closes
-ReadsContent true false closing None bytes sent rest = (closing ≡ true) × (bytes ≡ sent) × (rest ≡ [])
+IsDelimited true false closing None bytes sent rest = (closing ≡ true) × (bytes ≡ sent) × (rest ≡ [])
+
+-- the fields say that the content is chunked (section 6.1), and that the connection closes (section 9.6)
+abbrev pub says_chunked : List HeaderField → Bool
+says_chunked fields = has_token fields (codes "transfer-encoding") (codes "chunked")
+
+abbrev pub says_close : List HeaderField → Bool
+says_close fields = has_token fields (codes "connection") (codes "close")
+
+-- The bytes begin with this content, and the rest follows: where it ends is told by the fields that were read, and by whether
+-- there is any.
+abbrev pub ReadsContent : (has_any : Bool) → List HeaderField → List ℕ → List ℕ → List ℕ → Type 0
+ReadsContent has_any fields bytes sent rest = IsDelimited has_any (says_chunked fields) (says_close fields) (given_length (content_length fields)) bytes sent rest
 
 -- ---- one response
 
@@ -48,13 +62,15 @@ ReadsContinue false bytes rest = bytes ≡ rest
 -- bytes of its bodies, and nothing else can be.
 pub record ReadsAnswer (bytes : List ℕ) (x : Exchanged) (rest : List ℕ) : Type 0 where
   pub response : IsResponse x.said
+  -- the application's fields, and those that the server adds
+  pub fields : List HeaderField
+  pub fields_are : fields ≡ fields_sent (is_chunked x.facts.version response.status response.headers) (closes x.facts.close response.headers) response.status response.headers
   pub final : List ℕ
-  pub body : List ℕ
   pub interim : ReadsContinue x.facts.expect bytes final
-  pub head : IsReadAs final response.status
-      (fields_sent (is_chunked x.facts.version response.status response.headers) (closes x.facts.close response.headers) response.status response.headers) body
-  pub content : ReadsContent (has_content x.facts.head_only response.status) (is_chunked x.facts.version response.status response.headers) (closes x.facts.close response.headers)
-      (given_length (content_length response.headers)) body (concat (response.parts ++ response.last ∷ [])) rest
+  pub behind : List ℕ
+  pub head : IsReadAs final response.status fields behind
+  -- the recipient knows whether the request was HEAD
+  pub body : ReadsContent (has_content x.facts.head_only response.status) fields behind (concat (response.parts ++ response.last ∷ [])) rest
 
 -- ---- one behind the other
 
