@@ -3,12 +3,11 @@ use Rattle.std.proofs.Common.{◌≡◌, ℕ, Bool, true, false, List, [], ◌�
 use Rattle.std.proofs.lemmas.Slice.Eq.{bytes_eq-Decides}
 use Rattle.std.proofs.lemmas.List.Folds.{list_any-append}
 use Rattle.std.specs.Prelude.{◌&&◌, ◌||◌, not, codes, bytes_eq, ◌==◌, if◌then◌else◌}
-use Rattle.std.specs.List.{filter, list_any}
+use Rattle.std.specs.List.{filter}
 use Rattle.httparse.specs.Grammar.{trim_ows}
 use Rattle.asgi_types.specs.Fields.{HeaderField}
 use Rattle.asgi_types.specs.Tokens.{has_token, is_listed, lists_token}
 use Rattle.asgi_protocol.specs.ContentLengths.{values_of, length_of_values, content_length}
-use Rattle.asgi_protocol.specs.Rules.{has_no_content}
 use Rattle.asgi_response.specs.Content.{has_content}
 use Rattle.asgi_response.specs.Fields.{is_shown}
 use Rattle.asgi_response.specs.ReadBack.{fields_sent}

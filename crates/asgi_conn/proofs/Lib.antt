@@ -19,3 +19,5 @@ pub mod PromisedLemmas
 pub mod FieldsSentLemmas
 pub mod ReadAnswerLemmas
 pub mod ReadResponsesLemmas
+pub mod PromisedExample
+pub mod ReadRefusalLemmas

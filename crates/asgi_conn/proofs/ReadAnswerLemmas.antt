@@ -33,7 +33,7 @@ use Rattle.asgi_response.proofs.ReadBackBodyLemmas.{response_is_read_back}
 use Rattle.asgi_response.proofs.ReadBackLemmas.{all_pass, fields_are_read_back, head_is_read_back}
 use Rattle.asgi_response.proofs.StartLemmas.{final_status}
 use Rattle.asgi_conn.specs.Exchanges.{Exchanged}
-use Rattle.asgi_conn.specs.ReadResponses.{ReadsChunked, IsDelimited, ReadsContent, ReadsContinue, ReadsAnswer, CanBeSent, says_chunked, says_close}
+use Rattle.asgi_conn.specs.ReadResponses.{ReadsChunked, IsDelimited, ReadsContent, ReadsContinue, ReadsAnswer, CanBeSent, says_close}
 use Rattle.asgi_conn.proofs.FieldsSentLemmas.{chunked_said, close_said, length_said}
 
 -- ---- more bytes behind what is read

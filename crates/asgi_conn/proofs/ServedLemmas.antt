@@ -145,3 +145,16 @@ module _ (say : List Incoming → List Outgoing) (limits : Limits) (bytes more :
       let P : List ℕ → Type 0 = λ l. IsPrefix l (out_text y (input_of other)) in
       let Q : List ℕ → Type 0 = λ l. IsPrefix (response_text y.facts (say s.events)) l in
       subst P (sym here) (subst Q (sym (told_text y (say t.events) other (input_of other) t.ended t.told)) there)
+
+-- ---- the events of its body, whatever is told of them
+
+pub said_of_body : (answers : Scope → List Incoming → List Outgoing → Option EndKind → Type 0) (say : List Incoming → List Outgoing) → SaysOf answers say
+    → (limits : Limits) (end : InputEnd) (bytes : List ℕ) (x : Exchanged) (state : BodyState) (client server : Option Peer) (values : List (List ℕ × StateValue))
+    (arrived : List ℕ) (events : List Incoming)
+    → ServesFirst limits end false bytes x state → IsPromised answers client server values x → x.ended ≡ Some Returned
+    → BeginsWith limits bytes x.scope x.facts arrived → ReadsBody limits x.facts.framing arrived events state → x.said ≡ say events
+said_of_body answers say law limits end bytes x state client server values arrived events s p r head body =
+    let told = law.tells limits end bytes x state client server values s r p in
+    let same = (begins_is_one limits bytes x.scope x.scope x.facts x.facts s.arrived arrived s.head head).2 in
+    let one = body_is_one limits x.facts.framing s.arrived s.events events state state s.body (subst (λ (l : List ℕ). ReadsBody limits x.facts.framing l events state) (sym same) body) in
+    told.said_is ∙ ap say one.0

@@ -1,10 +1,10 @@
 -- The responses of a connection, as a recipient reads them back one after another by the grammars of `httparse` and `http1`
 -- (RFC 9112, sections 4 to 7 and 9.3.2).
-use Rattle.std.specs.Prelude.{◌≡◌, ℕ, Bool, true, false, List, [], ◌∷◌, ◌++◌, length, All, Option, Some, None, codes}
+use Rattle.std.specs.Prelude.{◌≡◌, ℕ, Bool, true, false, List, [], ◌∷◌, ◌++◌, length, All, Option, Some, None, codes, ◌==◌, if◌then◌else◌}
 use Rattle.std.specs.List.{concat}
 use Rattle.httparse.specs.Ascii.{crlf_bytes}
 use Rattle.http1.specs.ChunkedBody.{Chunks, ReadsChunks, content}
-use Rattle.asgi_types.specs.Fields.{HeaderField}
+use Rattle.asgi_types.specs.Fields.{HeaderField, field_of}
 use Rattle.asgi_types.specs.Tokens.{has_token}
 use Rattle.asgi_types.specs.declared.outgoing.Outgoing.{Outgoing}
 use Rattle.asgi_types.specs.declared.outgoing.Outgoing.TheVariants.{ResponseStart, ResponseBody}
@@ -78,6 +78,14 @@ pub record ReadsAnswer (bytes : List ℕ) (x : Exchanged) (rest : List ℕ) : Ty
 abbrev pub AreRead : List ℕ → List Exchanged → List ℕ → Type 0
 AreRead bytes [] rest = bytes ≡ rest
 AreRead bytes (x ∷ exchanges) rest = (behind : List ℕ) × ReadsAnswer bytes x behind × AreRead behind exchanges rest
+
+-- the fields of a refusal; 426 also says what is served (RFC 9110, section 15.5.22; RFC 6455, section 4.4)
+abbrev pub refusal_fields : ℕ → List HeaderField
+refusal_fields status =
+    if status == 426
+    then field_of (codes "upgrade") (codes "websocket") ∷ field_of (codes "sec-websocket-version") (codes "13") ∷ field_of (codes "content-length") (codes "0")
+    ∷ field_of (codes "connection") (codes "upgrade, close") ∷ []
+    else field_of (codes "content-length") (codes "0") ∷ field_of (codes "connection") (codes "close") ∷ []
 
 -- ---- what can be read back
 

@@ -1,15 +1,34 @@
 //! Laws of what applications answer over one connection, each the contract of a function that does nothing.
-ghost use Rattle.std.specs.Prelude.{◌≡◌, ◌++◌, [], List, ℕ, false, Some};
+ghost use Rattle.std.specs.Prelude.{◌≡◌, ◌++◌, [], List, ℕ, Option, Some, false, IsTrue};
 ghost use mathlib.Core.List.{IsPrefix};
+ghost use Rattle.asgi_types.specs.declared.end_kind.EndKind.TheVariants.{Returned};
+ghost use Rattle.asgi_types.specs.declared.incoming.Incoming.{Incoming};
 ghost use Rattle.asgi_types.specs.declared.limits.Limits.{Limits};
 ghost use Rattle.asgi_types.specs.declared.scope.Kind.TheVariants.{Http};
+ghost use Rattle.asgi_types.specs.declared.scope.Peer.{Peer};
+ghost use Rattle.asgi_types.specs.declared.state.StateValue.{StateValue};
 ghost use Rattle.asgi_protocol.specs.Lawful.{IsClosed};
+ghost use Rattle.asgi_request.specs.ChunkedBody.{BodyState};
+ghost use Rattle.asgi_request.specs.Opened.{BeginsWith};
+ghost use Rattle.asgi_request.specs.RequestEvents.{ReadsBody};
+ghost use Rattle.asgi_response.specs.Exchange.{refusal_text};
+ghost use Rattle.asgi_response.specs.ReadBack.{IsReadAs};
+ghost use Rattle.asgi_response.specs.Refusals.{is_refusal};
+ghost use Rattle.asgi_apps.specs.Echo.{echo_events};
 ghost use Rattle.asgi_conn.specs.declared.report.Report.{Report};
-ghost use Rattle.asgi_conn.specs.Exchanges.{Exchanged, AreAnswered, answer_texts};
+ghost use Rattle.asgi_conn.specs.Exchanges.{Exchanged, ServesFirst, AreAnswered, answer_texts};
 ghost use Rattle.asgi_conn.specs.Persistence.{Converses};
-ghost use Rattle.asgi_conn.specs.Promised.{ConversesWith, echo_promise, hello_promise};
-ghost use Rattle.asgi_conn.specs.ReadResponses.{ReadsAnswer, AreRead, AllCanBeSent};
+ghost use Rattle.asgi_conn.specs.Promised.{IsPromised, ConversesWith, echo_promise, hello_promise};
+ghost use Rattle.asgi_conn.specs.ReadResponses.{ReadsAnswer, AreRead, AllCanBeSent, refusal_fields};
 ghost use Rattle.asgi_conn.specs.TaskEnds.{InputEnd, is_cut};
+
+/// `Echo` says back all of the body that came, event by event, where its task returned and the connection was not cut short.
+pub fn echo_says_the_body_back()
+    ensures { (limits : Limits) (end : InputEnd) (bytes : List ℕ) (x : Exchanged) (body : BodyState) (client server : Option Peer) (state : List (List ℕ × StateValue))
+        (arrived : List ℕ) (events : List Incoming)
+        → ServesFirst limits end false bytes x body → IsPromised echo_promise client server state x → x.ended ≡ Some Returned
+        → BeginsWith limits bytes x.scope x.facts arrived → ReadsBody limits x.facts.framing arrived events body → x.said ≡ echo_events events }
+{}
 
 /// The bytes that `Echo` and `Hello` have written, how the connection ended and how many exchanges it had are one function of
 /// the bytes read and of how reading ended, where no outcome cut the connection short and no exchange faulted.
@@ -45,4 +64,9 @@ pub fn responses_are_read_back()
     ensures last { (limits : Limits) (end : InputEnd) (read : List ℕ) (exchanges : List Exchanged) (written : List ℕ) (report : Report)
         → (c : Converses limits end read exchanges written report) → AllCanBeSent exchanges → is_cut report.outcome ≡ false
         → (x : Exchanged) → c.last ≡ Some x → IsClosed Http x.said → ReadsAnswer c.text x [] }
+{}
+
+/// The text of a refusal is read back as its status and its own fields, whatever follows.
+pub fn refusals_are_read_back()
+    ensures { (status : ℕ) (more : List ℕ) → IsTrue (is_refusal status) → IsReadAs (refusal_text status ++ more) status (refusal_fields status) more }
 {}

@@ -31,7 +31,8 @@ ghost use Rattle.asgi_conn.specs.SoFar.{SoFar, InOne, Between, Within, exchanged
 ghost use Rattle.asgi_conn.specs.TaskEnds.{InputEnd, at_end, failed, has_ended, is_faulty, is_cut, next_request, connection_ends};
 
 pub use crate::answer_laws::{
-    answers_are_one, answers_to_a_front_come_first, responses_are_read_back,
+    answers_are_one, answers_to_a_front_come_first, echo_says_the_body_back,
+    refusals_are_read_back, responses_are_read_back,
 };
 pub use asgi_exchange::laws::every_schedule;
 
