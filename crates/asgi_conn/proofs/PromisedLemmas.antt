@@ -1,6 +1,6 @@
 -- A conversation with an application that keeps its promise is one in which every task returned, and said what the events of the
 -- bodies ask for.
-use Rattle.std.proofs.Common.{◌≡◌, ℕ, Bool, false, List, [], ◌∷◌, ◌++◌, length, sym, ap, ◌∙◌, subst, append_assoc, Option, Some, None, arith, All}
+use Rattle.std.proofs.Common.{◌≡◌, ℕ, Bool, false, List, [], ◌∷◌, ◌++◌, length, sym, ap, ◌∙◌, subst, append_assoc, append-nil, length-append, Option, Some, None, arith, All}
 use Rattle.std.proofs.lemmas.List.Elements.{All-head, All-tail}
 use mathlib.Core.List.{IsPrefix}
 use Rattle.asgi_types.specs.declared.end_kind.EndKind.{EndKind}
@@ -14,6 +14,7 @@ use Rattle.asgi_types.specs.declared.state.StateValue.{StateValue}
 use Rattle.asgi_request.specs.ChunkedBody.{BodyState, complete}
 use Rattle.asgi_response.specs.Progress.{progress_of}
 use Rattle.asgi_response.specs.declared.refusal.Input.TheVariants as input
+use Rattle.asgi_exchange.proofs.ListLemmas.{prefix_whole}
 use Rattle.asgi_conn.specs.declared.report.Outcome.{Outcome}
 use Rattle.asgi_conn.specs.declared.report.Outcome.TheVariants.{Finished, Refused, InputBroke, WriteFailed, Idle, NoMemory}
 use Rattle.asgi_conn.specs.declared.report.Report.{Report}
@@ -112,3 +113,19 @@ pub front_comes_first : (answers : Scope → List Incoming → List Outgoing →
 front_comes_first answers say law limits early late read more exchanges others written other report another v w =
     first say law.grows limits early late report.outcome another.outcome v.uncut w.uncut more read v.converses.answered w.converses.answered v.converses.last w.converses.last written other
     (plainly answers say law limits early read exchanges written report v) (plainly answers say law limits late (read ++ more) others other another w)
+
+-- ---- however reading ended
+
+both_ways : {A : Type 0} (a b : List A) → IsPrefix a b → IsPrefix b a → a ≡ b
+both_ways a b p q = prefix_whole a b p (omega (arith, length-append b q.0, ap length q.1))
+
+pub same_bytes : (answers : Scope → List Incoming → List Outgoing → Option EndKind → Type 0) (say : List Incoming → List Outgoing) → SaysOf answers say
+    → (limits : Limits) (end late : InputEnd) (read : List ℕ) (exchanges others : List Exchanged) (written other : List ℕ) (report another : Report)
+    → ConversesWith answers limits end read exchanges written report → ConversesWith answers limits late read others other another → written ≡ other
+same_bytes answers say law limits end late read exchanges others written other report another v w =
+    let nothing : read ≡ read ++ [] = sym (append-nil read) in
+    both_ways written other
+    (front_comes_first answers say law limits end late read [] exchanges others written other report another v
+    (subst (λ (l : List ℕ). ConversesWith answers limits late l others other another) nothing w))
+    (front_comes_first answers say law limits late end read [] others exchanges other written another report w
+    (subst (λ (l : List ℕ). ConversesWith answers limits end l exchanges written report) nothing v))

@@ -41,6 +41,14 @@ pub fn answers_are_one()
         → (written ≡ other) × (report.outcome ≡ another.outcome) × (report.exchanges ≡ another.exchanges) }
 {}
 
+/// However reading ended behind the same bytes, they have written the same: only the outcome tells of it.
+pub fn same_bytes_are_answered_alike()
+    ensures echo { (limits : Limits) (end late : InputEnd) (read : List ℕ) (exchanges others : List Exchanged) (written other : List ℕ) (report another : Report)
+        → ConversesWith echo_promise limits end read exchanges written report → ConversesWith echo_promise limits late read others other another → written ≡ other }
+    ensures hello { (limits : Limits) (end late : InputEnd) (read : List ℕ) (exchanges others : List Exchanged) (written other : List ℕ) (report another : Report)
+        → ConversesWith hello_promise limits end read exchanges written report → ConversesWith hello_promise limits late read others other another → written ≡ other }
+{}
+
 /// What they have written for a front of the input is a beginning of what they write for the whole, however reading ended
 /// behind the front: what was answered stays answered.
 pub fn answers_to_a_front_come_first()

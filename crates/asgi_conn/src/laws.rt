@@ -32,7 +32,7 @@ ghost use Rattle.asgi_conn.specs.TaskEnds.{InputEnd, at_end, failed, has_ended, 
 
 pub use crate::answer_laws::{
     answers_are_one, answers_to_a_front_come_first, echo_says_the_body_back,
-    refusals_are_read_back, responses_are_read_back,
+    refusals_are_read_back, responses_are_read_back, same_bytes_are_answered_alike,
 };
 pub use asgi_exchange::laws::every_schedule;
 
