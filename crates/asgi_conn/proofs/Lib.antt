@@ -1,5 +1,15 @@
 pub mod LawLemmas
 pub mod EndLemmas
+pub mod BodyShapeLemmas
+pub mod ToldLemmas
+pub mod ServedLemmas
+pub mod AnswerLemmas
+pub mod PromisedLemmas
+pub mod FieldsSentLemmas
+pub mod ReadAnswerLemmas
+pub mod ReadResponsesLemmas
+pub mod PromisedExample
+pub mod ReadRefusalLemmas
 pub mod ReadingLemmas
 pub mod ExchangeLemmas
 pub mod AnsweredLemmas

@@ -33,6 +33,10 @@ ghost use Rattle.asgi_conn.specs.declared.input.InputEnd.{InputEnd};
 ghost use Rattle.asgi_conn.specs.declared.input.InputEnd.TheVariants.{AtEnd, Failed};
 ghost use Rattle.asgi_conn.specs.TaskEnds.{has_ended, is_faulty, is_cut};
 
+pub use crate::answer_laws::{
+    answers_are_one, answers_to_a_front_come_first, echo_says_the_body_back,
+    refusals_are_read_back, responses_are_read_back, same_bytes_are_answered_alike,
+};
 pub use asgi_exchange::laws::every_schedule;
 
 // ---- one request, as serve_connection answers it

@@ -1,6 +1,7 @@
 //! One connection: the bytes of a request in, the bytes of its response out.
 #![tactic(auto)]
 
+pub mod answer_laws;
 mod connection;
 mod exchange;
 mod following;
