@@ -18,6 +18,7 @@ pub mod RequestLemmas
 pub mod OneConversationLemmas
 pub mod TakenLemmas
 pub mod LineLemmas
+pub mod HalfBodyLemmas
 pub mod HalfLemmas
 pub mod LoopLemmas
 pub mod TaskEndLemmas

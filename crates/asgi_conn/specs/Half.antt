@@ -77,6 +77,14 @@ IsSettled Whole = ⊤
 IsSettled (Refused status) = ⊤
 IsSettled BrokenOff = ⊤
 
+-- the disconnect is due: all that was due was offered, and the input ended, failed or was faulty
+abbrev pub BreaksAt : Body → InputEnd → Type 0
+BreaksAt Open end = ⊥
+BreaksAt (Waits event) end = ⊥
+BreaksAt Whole end = has_ended end ≡ true
+BreaksAt (Refused status) end = ⊤
+BreaksAt BrokenOff end = has_ended end ≡ true
+
 -- the input ended inside of it, where it is said to be broken off
 abbrev pub EndsWhere : Body → InputEnd → Type 0
 EndsWhere Open end = ⊤
@@ -91,7 +99,7 @@ EndsWhere BrokenOff end = has_ended end ≡ true
 pub record Talks (scene : Scene) (half : ConnHalf) (read : List ℕ) (view : ConnView ℕ ℕ) : Type 0 where
   pub uncut : is_by_cut view.broken ≡ false
   pub broke : half.broke ≡ is_by_input view.broken
-  pub settled : half.broke ≡ true → IsSettled half.body
+  pub settled : half.broke ≡ true → BreaksAt half.body half.wire.input
   pub events : List Incoming
   pub given : HasGiven half.wire.requests read scene.opened events half.body
   pub ends_where : EndsWhere half.body half.wire.input

@@ -26,7 +26,7 @@ use Rattle.asgi_conn.specs.declared.half.ConnHalf.{ConnHalf}
 use Rattle.asgi_conn.specs.declared.half.Stage.TheVariants.{Running}
 use Rattle.asgi_conn.specs.declared.input.InputEnd.{InputEnd}
 use Rattle.asgi_conn.specs.declared.wire.Wire.{Wire}
-use Rattle.asgi_conn.specs.Half.{Scene, Stands, HasGiven, EndsWhere, IsSettled, alone, known}
+use Rattle.asgi_conn.specs.Half.{Scene, Stands, HasGiven, EndsWhere, BreaksAt, alone, known}
 use Rattle.asgi_conn.specs.Lines.{LineState, HasMoved}
 use Rattle.asgi_conn.specs.Persistence.{InHand}
 use Rattle.asgi_conn.specs.SoFar.{Within, HasBrokenIn}
@@ -51,7 +51,7 @@ pub record Pending (scene : Scene) (now : LineState) (half : ConnHalf) (read : L
   pub running : half.stage ≡ Running
   pub uncut : is_by_cut view.broken ≡ false
   pub broke : half.broke ≡ is_by_input view.broken
-  pub settled : half.broke ≡ true → IsSettled half.body
+  pub settled : half.broke ≡ true → BreaksAt half.body half.wire.input
   pub events : List Incoming
   pub given : HasGiven half.wire.requests read scene.opened events half.body
   pub ends_where : EndsWhere half.body half.wire.input
@@ -95,14 +95,6 @@ GivesBehind old new =
 abbrev pub GaveNext : Reading → List ℕ → List Next → Next → Type 0
 GaveNext reader read given next.Need = StandsFor reader read given × AllGiven reader read given
 GaveNext reader read given item = StandsFor reader read (given ++ item ∷ [])
-
--- the disconnect is due: all that was due was offered, and the input ended, failed or was faulty
-abbrev pub BreaksAt : Body → InputEnd → Type 0
-BreaksAt Open end = ⊥
-BreaksAt (Waits event) end = ⊥
-BreaksAt Whole end = has_ended end ≡ true
-BreaksAt (Refused status) end = ⊤
-BreaksAt BrokenOff end = has_ended end ≡ true
 
 -- more is read: of the body, or behind it
 abbrev pub ReadsAt : Body → Type 0
