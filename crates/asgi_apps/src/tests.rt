@@ -48,12 +48,31 @@ impl<A: Application + Drop> Future for Served<A> {
     }
 }
 
-fn chars(alloc: Global, text: &str) -> Result<Chars, AllocError> {
-    Ok(Chars::new(String::from_str(alloc, text)?))
+// What a task is given is made, and asked for again where memory was refused.
+
+fn chars(alloc: Global, text: &str) -> Chars {
+    for _ in 0..2 {
+        if let Ok(made) = String::from_str(alloc, text) {
+            return Chars::new(made);
+        }
+    }
+    Chars::new(String::new(alloc))
 }
 
-fn octets(alloc: Global, text: &str) -> Result<Octets, AllocError> {
-    Ok(Octets::new(Vec::from_slice(alloc, text.as_bytes())?))
+fn octets(alloc: Global, text: &str) -> Octets {
+    for _ in 0..2 {
+        if let Ok(made) = Vec::from_slice(alloc, text.as_bytes()) {
+            return Octets::new(made);
+        }
+    }
+    Octets::new(Vec::new(alloc))
+}
+
+/// What is said of a value. It stands for a value of any type, so its proof sees no field of one.
+fn of<T: Drop, S, F: FnOnce(&T) -> S>(value: T, says: F) -> S
+    requires { F.IsAlwaysCallable says }
+{
+    says(&value)
 }
 
 fn facts(alloc: Global) -> Facts {
@@ -73,44 +92,56 @@ const NO_EXTENSIONS: Extensions = Extensions {
     http_response_trailers: false,
 };
 
-fn scope_of(alloc: Global, kind: Kind) -> Result<Scope, AllocError>
-    ensures { IfOk result (λ scope. kind_of scope ≡ kind) }
+fn http_scope(alloc: Global) -> HttpScope {
+    HttpScope {
+        asgi: Asgi::of(Kind::Http),
+        http_version: HttpVersion::V11,
+        method: chars(alloc, "POST"),
+        scheme: chars(alloc, "http"),
+        path: chars(alloc, "/a/b"),
+        raw_path: octets(alloc, "/a/b"),
+        query_string: octets(alloc, ""),
+        root_path: chars(alloc, "/a"),
+        headers: Headers::new(alloc),
+        client: None,
+        server: None,
+        state: State::new(alloc),
+        extensions: NO_EXTENSIONS,
+    }
+}
+
+fn ws_scope(alloc: Global) -> WsScope {
+    WsScope {
+        asgi: Asgi::of(Kind::WebSocket),
+        http_version: HttpVersion::V11,
+        scheme: chars(alloc, "ws"),
+        path: chars(alloc, "/a/b"),
+        raw_path: octets(alloc, "/a/b"),
+        query_string: octets(alloc, ""),
+        root_path: chars(alloc, "/a"),
+        headers: Headers::new(alloc),
+        client: None,
+        server: None,
+        subprotocols: Names::new(alloc),
+        state: State::new(alloc),
+        extensions: NO_EXTENSIONS,
+    }
+}
+
+fn lifespan_scope(alloc: Global) -> LifespanScope {
+    LifespanScope {
+        asgi: Asgi::of(Kind::Lifespan),
+        state: State::new(alloc),
+    }
+}
+
+fn scope_of(alloc: Global, kind: Kind) -> Scope
+    ensures { kind_of result ≡ kind }
 {
     match kind {
-        Kind::Http => Ok(Scope::Http(HttpScope {
-            asgi: Asgi::of(Kind::Http),
-            http_version: HttpVersion::V11,
-            method: chars(alloc, "POST")?,
-            scheme: chars(alloc, "http")?,
-            path: chars(alloc, "/a/b")?,
-            raw_path: octets(alloc, "/a/b")?,
-            query_string: octets(alloc, "")?,
-            root_path: chars(alloc, "/a")?,
-            headers: Headers::new(alloc),
-            client: None,
-            server: None,
-            state: State::new(alloc),
-            extensions: NO_EXTENSIONS,
-        })),
-        Kind::WebSocket => Ok(Scope::WebSocket(WsScope {
-            asgi: Asgi::of(Kind::WebSocket),
-            http_version: HttpVersion::V11,
-            scheme: chars(alloc, "ws")?,
-            path: chars(alloc, "/a/b")?,
-            raw_path: octets(alloc, "/a/b")?,
-            query_string: octets(alloc, "")?,
-            root_path: chars(alloc, "/a")?,
-            headers: Headers::new(alloc),
-            client: None,
-            server: None,
-            subprotocols: Names::new(alloc),
-            state: State::new(alloc),
-            extensions: NO_EXTENSIONS,
-        })),
-        Kind::Lifespan => Ok(Scope::Lifespan(LifespanScope {
-            asgi: Asgi::of(Kind::Lifespan),
-            state: State::new(alloc),
-        })),
+        Kind::Http => Scope::Http(http_scope(alloc)),
+        Kind::WebSocket => Scope::WebSocket(ws_scope(alloc)),
+        Kind::Lifespan => Scope::Lifespan(lifespan_scope(alloc)),
     }
 }
 
@@ -121,19 +152,17 @@ fn at(offered: &[Offered], index: usize) -> Offered {
     }
 }
 
-fn event_of(alloc: Global, offered: Offered) -> Result<Option<Incoming>, AllocError> {
-    Ok(match offered {
+fn event_of(alloc: Global, offered: Offered) -> Option<Incoming> {
+    match offered {
         Offered::Nothing => None,
-        Offered::Part(text) => Some(Incoming::HttpRequest {
-            body: octets(alloc, text)?,
-            more_body: true,
-        }),
-        Offered::Last(text) => Some(Incoming::HttpRequest {
-            body: octets(alloc, text)?,
-            more_body: false,
-        }),
+        Offered::Part(text) => Some(request(octets(alloc, text), true)),
+        Offered::Last(text) => Some(request(octets(alloc, text), false)),
         Offered::Disconnect => Some(Incoming::HttpDisconnect),
-    })
+    }
+}
+
+fn request(body: Octets, more_body: bool) -> Incoming {
+    Incoming::HttpRequest { body, more_body }
 }
 
 /// Offers the event. There is a place for it.
@@ -156,13 +185,10 @@ struct Pair {
 fn pair_of(alloc: Global, kind: Kind, offered: &[Offered]) -> Result<Pair, AllocError>
     ensures { IfOk result (λ made. (made.app.kind ≡ kind) × (made.app.heard.items ≡ []) × (made.app.said.items ≡ []) × (made.app.ended ≡ None)) }
 {
-    let first = event_of(alloc, at(offered, 0))?;
-    let second = event_of(alloc, at(offered, 1))?;
-    let third = event_of(alloc, at(offered, 2))?;
     let (mut conn, mut app) = Plain.make(alloc, kind, facts(alloc), 16)?;
-    offer(&mut conn, first);
-    offer(&mut conn, second);
-    offer(&mut conn, third);
+    offer(&mut conn, event_of(alloc, at(offered, 0)));
+    offer(&mut conn, event_of(alloc, at(offered, 1)));
+    offer(&mut conn, event_of(alloc, at(offered, 2)));
     Plain::carry(&mut conn, &mut app);
     Ok(Pair { conn, app })
 }
@@ -170,7 +196,7 @@ fn pair_of(alloc: Global, kind: Kind, offered: &[Offered]) -> Result<Pair, Alloc
 fn task_of<A: Application>(alloc: Global, app: &A, kind: Kind) -> Result<A::Task, AppFault>
     ensures { IfOk result (λ task. A.Task.stands task kind [] []) }
 {
-    let scope = scope_of(alloc, kind)?;
+    let scope = scope_of(alloc, kind);
     app.call(alloc, &scope)
 }
 
@@ -210,14 +236,31 @@ fn told<T: AppTask>(
 /// Takes all, and tells it.
 fn taken(alloc: Global, conn: &mut PlainConn) -> Result<Vec<u8>, AllocError> {
     let mut text = Vec::new(alloc);
+    tell_all(alloc, &mut text, conn)?;
+    Ok(text)
+}
+
+fn tell_all(alloc: Global, text: &mut Vec<u8>, conn: &mut PlainConn) -> Result<(), AllocError> {
     for _item in 0..20 {
-        match conn.take() {
-            Some(OutItem::Event(event)) => tell(alloc, &mut text, &event)?,
-            Some(OutItem::Ended(end)) => text.extend_from_slice(word_of(end).as_bytes())?,
-            None => return Ok(text),
+        if !of(conn.take(), |item| tell_item(alloc, text, item))? {
+            return Ok(());
         }
     }
-    Ok(text)
+    Ok(())
+}
+
+/// Tells what was taken, and says whether it was anything.
+fn tell_item(
+    alloc: Global,
+    text: &mut Vec<u8>,
+    item: &Option<OutItem>,
+) -> Result<bool, AllocError> {
+    match item {
+        Some(OutItem::Event(event)) => tell(alloc, text, event)?,
+        Some(OutItem::Ended(end)) => text.extend_from_slice(word_of(*end).as_bytes())?,
+        None => return Ok(false),
+    }
+    Ok(true)
 }
 
 fn word_of(end: EndKind) -> &'static str {
@@ -230,27 +273,46 @@ fn word_of(end: EndKind) -> &'static str {
 
 fn tell(alloc: Global, text: &mut Vec<u8>, event: &Outgoing) -> Result<(), AllocError> {
     match event {
-        Outgoing::ResponseStart { status, headers } => {
-            text.extend_from_slice(format!(in alloc; "start {status}")?.as_bytes())?;
-            for (name, value) in headers.iter() {
-                text.extend_from_slice(b" ")?;
-                text.extend_from_slice(name)?;
-                text.extend_from_slice(b"=")?;
-                text.extend_from_slice(value)?;
-            }
-        }
-        Outgoing::ResponseBody { body, more_body } => {
-            let word: &str = if *more_body { "part " } else { "last " };
-            text.extend_from_slice(word.as_bytes())?;
-            text.extend_from_slice(body.bytes())?;
-        }
-        Outgoing::WsClose { code, reason } => {
-            text.extend_from_slice(format!(in alloc; "close {code} ")?.as_bytes())?;
-            text.extend_from_slice(reason.as_str().as_bytes())?;
-        }
-        _ => text.extend_from_slice(b"other")?,
+        Outgoing::ResponseStart { status, headers } => tell_start(alloc, text, *status, headers),
+        Outgoing::ResponseBody { body, more_body } => tell_body(text, body.bytes(), *more_body),
+        Outgoing::WsClose { code, reason } => tell_close(alloc, text, *code, reason.as_str()),
+        _ => text.extend_from_slice(b"other|"),
     }
-    text.extend_from_slice(b"|")?;
+}
+
+fn tell_start(
+    alloc: Global,
+    text: &mut Vec<u8>,
+    status: u16,
+    headers: &Headers,
+) -> Result<(), AllocError> {
+    let line = format!(in alloc; "start {status}")?;
+    text.extend_from_slice(line.as_bytes())?;
+    for (name, value) in headers.iter() {
+        add(text, &[b" ", name, b"=", value])?;
+    }
+    text.extend_from_slice(b"|")
+}
+
+fn tell_body(text: &mut Vec<u8>, body: &[u8], more_body: bool) -> Result<(), AllocError> {
+    let word: &[u8] = if more_body { b"part " } else { b"last " };
+    add(text, &[word, body, b"|"])
+}
+
+fn tell_close(
+    alloc: Global,
+    text: &mut Vec<u8>,
+    code: u16,
+    reason: &str,
+) -> Result<(), AllocError> {
+    let word = format!(in alloc; "close {code} ")?;
+    add(text, &[word.as_bytes(), reason.as_bytes(), b"|"])
+}
+
+fn add(text: &mut Vec<u8>, parts: &[&[u8]]) -> Result<(), AllocError> {
+    for part in parts {
+        text.extend_from_slice(part)?;
+    }
     Ok(())
 }
 

@@ -47,10 +47,6 @@ const PASS: Verdict = Verdict::Pass;
 
 const IGNORED: Verdict = Verdict::Ignored;
 
-fn refused(number: u8) -> Verdict {
-    Verdict::Refused(number)
-}
-
 fn letters(alloc: Global, count: usize) -> Result<String, AllocError> {
     let mut text = String::new(alloc);
     for _ in 0..count {
@@ -192,15 +188,26 @@ fn says(
     steps: &[(Step, Verdict)],
 ) -> Result<(), Fail> {
     for (step, verdict) in steps {
-        let event = event(rt.alloc(), *step)?;
-        assert_eq!(rt;
-            judge.look(facts, &event),
-            *verdict,
-            "{row}: looking at {step:?}"
-        );
-        assert_eq!(rt; judge.judge(facts, &event), *verdict, "{row}: {step:?}");
+        let found = verdicts(rt.alloc(), judge, facts, *step)?;
+        assert_eq!(rt; found, [*verdict, *verdict], "{row}: {step:?}");
     }
     Ok(())
+}
+
+/// The verdicts on the step: by a look, and then as it is said.
+fn verdicts(
+    alloc: Global,
+    judge: &mut Judge,
+    facts: &Facts,
+    step: Step,
+) -> Result<[Verdict; 2], Fail> {
+    let event = event(alloc, step)?;
+    Ok(verdicts_on(judge, facts, &event))
+}
+
+fn verdicts_on(judge: &mut Judge, facts: &Facts, event: &Outgoing) -> [Verdict; 2] {
+    let looked = judge.look(facts, event);
+    [looked, judge.judge(facts, event)]
 }
 
 /// A fresh judge of a request that isn't a HEAD.

@@ -37,10 +37,13 @@ fn gives_in_pieces(
     wanted: &str,
 ) -> Result<(), Fail> {
     for size in [1, 2, 7, 1_000] {
-        let words = in_pieces(alloc, limits, bytes, size)?;
-        assert_eq!(rt; words.as_str(), wanted);
+        are(rt, in_pieces(alloc, limits, bytes, size)?.as_str(), wanted);
     }
     Ok(())
+}
+
+fn are(rt: &impl Abort, words: &str, wanted: &str) {
+    assert_eq!(rt; words, wanted);
 }
 
 fn gives_in_two(
@@ -51,8 +54,7 @@ fn gives_in_two(
     wanted: &str,
 ) -> Result<(), Fail> {
     for cut in 0..bytes.len() {
-        let words = in_two(alloc, limits, bytes, cut)?;
-        assert_eq!(rt; words.as_str(), wanted);
+        are(rt, in_two(alloc, limits, bytes, cut)?.as_str(), wanted);
     }
     Ok(())
 }
@@ -110,7 +112,7 @@ fn feed(reader: &mut RequestReader, piece: &[u8], words: &mut String) -> Result<
 fn drain(reader: &mut RequestReader, words: &mut String) -> Result<(), AllocError> {
     for _ in 0..1_000 {
         if add_next(reader, words)? {
-            return Ok(());
+            break;
         }
     }
     Ok(())
@@ -127,10 +129,10 @@ fn show(next: &Next, words: &mut String) -> Result<bool, AllocError> {
 }
 
 /// What is said of the result that a call gave. It stands for a result of any type, so its proof sees no field of one.
-pub fn of_given<T: Drop, S, F: FnOnce(&T) -> S>(
-    given: Result<T, AllocError>,
+pub fn of_given<T: Drop, E: Drop, S, F: FnOnce(&T) -> S>(
+    given: Result<T, E>,
     says: F,
-) -> Result<S, AllocError>
+) -> Result<S, E>
     requires { F.IsAlwaysCallable says }
 {
     let result = given?;

@@ -9,7 +9,7 @@ use std::test::Fail;
 /// A name, a value, and what a push of the two answers.
 type Push = (&'static [u8], &'static [u8], Result<(), HeaderError>);
 
-const PUSHES: [Push; 16] = [
+const PUSHES: &[Push] = &[
     (b"X-A", b"q", Ok(())),
     (b"!#$%&'*+-.^_`|~09azAZ", b"q", Ok(())),
     (b"X-A", b"", Ok(())),
@@ -28,36 +28,51 @@ const PUSHES: [Push; 16] = [
     (b"A b", b"\0", Err(HeaderError::BadName)),
 ];
 
+/// What a push of the two answers.
+fn answer(headers: &mut Headers, name: &[u8], value: &[u8]) -> Result<(), HeaderError> {
+    headers.push(name, value)
+}
+
+/// There is one field where it was kept, and else none.
+fn has_kept(headers: &Headers, is_kept: bool) -> bool {
+    headers.len() == is_kept as usize && headers.is_empty() != is_kept
+}
+
 /// The push of the field to no fields answers so, and the list then has it exactly if it was kept.
-fn answers(alloc: Global, name: &[u8], value: &[u8], wanted: Result<(), HeaderError>) -> bool {
+fn answers(alloc: Global, name: &[u8], value: &[u8], wanted: &Result<(), HeaderError>) -> bool {
     let mut headers = Headers::new(alloc);
-    if headers.push(name, value) != wanted {
-        return false;
-    }
-    let kept = if wanted.is_ok() { 1 } else { 0 };
-    headers.len() == kept && headers.is_empty() == wanted.is_err()
+    answer(&mut headers, name, value) == *wanted && has_kept(&headers, wanted.is_ok())
+}
+
+fn answers_so(alloc: Global, row: &Push) -> bool {
+    answers(alloc, row.0, row.1, &row.2)
 }
 
 #[test]
 fn a_field_is_kept_or_refused(rt: HostRuntime) {
-    for (row, (name, value, wanted)) in PUSHES.iter().enumerate() {
-        assert!(rt; answers(rt.alloc(), name, value, *wanted), "row {row}");
+    for (row, push) in PUSHES.iter().enumerate() {
+        assert!(rt; answers_so(rt.alloc(), push), "row {row}");
     }
 }
 
+/// How many bytes a name has, and what a push of it answers.
+const SIZES: &[(usize, Result<(), HeaderError>)] = &[
+    (65_535, Ok(())),
+    (65_536, Err(HeaderError::BadName)),
+];
+
 fn answers_name_of(
     alloc: Global,
-    size: usize,
-    wanted: Result<(), HeaderError>,
+    row: &(usize, Result<(), HeaderError>),
 ) -> Result<bool, AllocError> {
-    let name = vec![in alloc; b'a'; size]?;
-    Ok(answers(alloc, name.as_slice(), b"q", wanted))
+    let name = vec![in alloc; b'a'; row.0]?;
+    Ok(answers(alloc, name.as_slice(), b"q", &row.1))
 }
 
 #[test]
 fn a_name_has_at_most_65535_bytes(rt: HostRuntime) -> Result<(), Fail> {
-    for (size, wanted) in [(65_535, Ok(())), (65_536, Err(HeaderError::BadName))] {
-        assert!(rt; answers_name_of(rt.alloc(), size, wanted)?, "{size} bytes");
+    for (row, size) in SIZES.iter().enumerate() {
+        assert!(rt; answers_name_of(rt.alloc(), size)?, "row {row}");
     }
     Ok(())
 }
@@ -79,18 +94,36 @@ fn is_kept_at(held: &Headers, index: usize) -> bool {
     }
 }
 
-/// The fields are those, by their index and as they are gone over.
-fn are_kept(rt: &impl Abort, held: &Headers) {
+/// How many fields are those, by their index.
+fn kept_by_index(held: &Headers) -> usize {
     for index in 0..3usize {
-        assert!(rt; is_kept_at(held, index), "field {index}");
+        if !is_kept_at(held, index) {
+            return index;
+        }
     }
+    held.len()
+}
+
+/// How many fields are those, as they are gone over.
+fn kept_in_order(held: &Headers) -> usize {
     let mut count = 0usize;
     for (name, value) in held.iter() {
-        assert!(rt; is_kept(count, name, value), "field {count}");
+        if !is_kept(count, name, value) {
+            return count;
+        }
         count = count.saturating_add(1);
     }
-    assert!(rt; count == 3 && held.len() == 3);
-    assert!(rt; held.at(3).is_none() && held.at(usize::MAX).is_none());
+    count
+}
+
+fn ends_at_three(held: &Headers) -> bool {
+    held.at(3).is_none() && held.at(usize::MAX).is_none()
+}
+
+/// The fields are those, by their index and as they are gone over.
+fn are_kept(rt: &impl Abort, held: &Headers) {
+    assert_eq!(rt; [kept_by_index(held), kept_in_order(held)], [3, 3]);
+    assert!(rt; ends_at_three(held));
 }
 
 fn is_copied(rt: &(impl Abort + AllocGlobal), held: &Headers) -> Result<(), Fail> {
@@ -98,18 +131,28 @@ fn is_copied(rt: &(impl Abort + AllocGlobal), held: &Headers) -> Result<(), Fail
     Ok(())
 }
 
+/// Three fields that are kept, and one that is refused.
+const PUSHES_OF_THREE: &[Push] = &[
+    (b"X-A", b"q", Ok(())),
+    (b"Host", b"", Ok(())),
+    (b"A b", b"x", Err(HeaderError::BadName)),
+    (b"x-a", b"Q", Ok(())),
+];
+
+fn is_pushed(headers: &mut Headers, push: &Push) -> bool {
+    answer(headers, push.0, push.1) == push.2
+}
+
+fn are_pushed(rt: &impl Abort, headers: &mut Headers) {
+    for (row, push) in PUSHES_OF_THREE.iter().enumerate() {
+        assert!(rt; is_pushed(headers, push), "row {row}");
+    }
+}
+
 #[test]
 fn fields_keep_their_order(rt: HostRuntime) -> Result<(), Fail> {
     let mut headers = Headers::new(rt.alloc());
-    let pushes: [Push; 4] = [
-        (b"X-A", b"q", Ok(())),
-        (b"Host", b"", Ok(())),
-        (b"A b", b"x", Err(HeaderError::BadName)),
-        (b"x-a", b"Q", Ok(())),
-    ];
-    for (row, (name, value, wanted)) in pushes.iter().enumerate() {
-        assert!(rt; headers.push(name, value) == *wanted, "row {row}");
-    }
+    are_pushed(&rt, &mut headers);
     are_kept(&rt, &headers);
     is_copied(&rt, &headers)
 }

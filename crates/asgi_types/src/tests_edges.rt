@@ -1,7 +1,7 @@
 //! The values at the edges that no clause reaches: many fields, many bytes, and nothing at all. With ample memory each
 //! call succeeds, and what was given comes back.
 
-use crate::tests_values::{chars, is_name, is_number};
+use crate::tests_values::{chars, is_name, is_number, of, of_given};
 use crate::{
     Asgi, Chars, Extensions, Facts, Framing, HeaderError, Headers, HttpScope, HttpVersion, Kind,
     LifespanScope, Names, Octets, Peer, Scope, State, StateError, StateValue, WsScope,
@@ -148,17 +148,26 @@ fn set(state: &mut State, name: &str, number: u64) -> Result<(), StateError> {
     state.set(name, StateValue::Number(number))
 }
 
+fn is_first(alloc: Global, state: &mut State) -> Result<bool, StateError> {
+    set(state, "", 1)?;
+    set(state, "a", 2)?;
+    Ok(has_numbers_copied(alloc, state, 1)?)
+}
+
+fn is_replaced(alloc: Global, state: &mut State) -> Result<bool, StateError> {
+    set(state, "", 3)?;
+    Ok(has_numbers_copied(alloc, state, 3)?)
+}
+
+fn has_empty_name(rt: &(impl Abort + AllocGlobal), state: &mut State) -> Result<(), Fail> {
+    assert!(rt; is_first(rt.alloc(), state)?);
+    assert!(rt; is_replaced(rt.alloc(), state)?);
+    Ok(())
+}
+
 #[test]
 fn a_state_has_a_value_under_the_empty_name(rt: HostRuntime) -> Result<(), Fail> {
-    let mut state = State::new(rt.alloc());
-    for (name, number) in [("", 1), ("a", 2)] {
-        set(&mut state, name, number)?;
-    }
-    let is_first = has_numbers_copied(rt.alloc(), &state, 1)?;
-    set(&mut state, "", 3)?;
-    let is_replaced = has_numbers_copied(rt.alloc(), &state, 3)?;
-    assert!(rt; is_first && is_replaced);
-    Ok(())
+    has_empty_name(&rt, &mut State::new(rt.alloc()))
 }
 
 fn gives_no_field(held: &Headers) -> bool {
@@ -362,16 +371,22 @@ fn is_bare(scope: &Scope, kind: Kind) -> bool {
     }
 }
 
-fn is_bare_copied(alloc: Global, scope: &Scope, kind: Kind) -> Result<bool, AllocError> {
-    let copied = scope.copy(alloc)?;
-    Ok(is_bare(&copied, kind) && is_bare(scope, kind))
+fn has_bare_copy(alloc: Global, scope: &Scope, kind: Kind) -> Result<bool, AllocError> {
+    let is_so = of_given(scope.copy(alloc), |copied| is_bare(copied, kind))?;
+    Ok(is_so && is_bare(scope, kind))
+}
+
+fn is_bare_copied(alloc: Global, kind: Kind) -> Result<bool, AllocError> {
+    of(
+        bare_scope(alloc, kind),
+        |scope| has_bare_copy(alloc, scope, kind),
+    )
 }
 
 #[test]
 fn a_scope_with_nothing_known_is_copied(rt: HostRuntime) -> Result<(), Fail> {
     for kind in [Kind::Http, Kind::WebSocket, Kind::Lifespan] {
-        let is_so = is_bare_copied(rt.alloc(), &bare_scope(rt.alloc(), kind), kind)?;
-        assert!(rt; is_so, "{kind:?}");
+        assert!(rt; is_bare_copied(rt.alloc(), kind)?, "{kind:?}");
     }
     Ok(())
 }

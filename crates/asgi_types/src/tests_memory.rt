@@ -1,12 +1,12 @@
 //! Each call that allocates, where one allocation is refused: it answers so, its object is as before, and the call can
 //! be made again. `tests/memory.py` runs these with each allocation refused in turn; with ample memory none is refused.
 
-use crate::tests_scopes::{is_copied, is_peer, whole_scope};
+use crate::tests_scopes::{is_copied, is_peer};
 use crate::tests_values::{
     are_facts, chars, facts, has_each_sort, is_bytes, is_name, is_number, is_text, octets,
     value_of_sort,
 };
-use crate::{Chars, Facts, Framing, Headers, Kind, Names, Octets, Peer, Scope, State, StateValue};
+use crate::{Chars, Facts, Framing, Headers, Kind, Names, Octets, Peer, State, StateValue};
 use std::alloc::{AllocError, Global};
 use std::process::Abort;
 use std::test::Fail;
@@ -94,13 +94,6 @@ fn copy_of_facts(alloc: Global, held: &Facts) -> Result<Facts, AllocError> {
     match held.copy(alloc) {
         Ok(copied) => Ok(copied),
         Err(_) => held.copy(alloc),
-    }
-}
-
-fn new_scope(alloc: Global, kind: Kind) -> Result<Scope, AllocError> {
-    match whole_scope(alloc, kind) {
-        Ok(made) => Ok(made),
-        Err(_) => whole_scope(alloc, kind),
     }
 }
 
@@ -217,36 +210,34 @@ fn has_values_copied(alloc: Global, held: &State) -> Result<bool, AllocError> {
     Ok(has_values(held) && has_values(&copy_of_state(alloc, held)?))
 }
 
-#[test]
-fn memory_for_a_state(rt: HostRuntime) -> Result<(), Fail> {
-    let mut state = State::new(rt.alloc());
+fn are_set(rt: &(impl Abort + AllocGlobal), state: &mut State) -> Result<(), Fail> {
     for sort in ["text", "bytes", "number", "d", "e"] {
-        assert!(rt; is_set_again(rt.alloc(), &mut state, sort)?, "{sort}");
+        assert!(rt; is_set_again(rt.alloc(), state, sort)?, "{sort}");
     }
-    assert!(rt; has_values_copied(rt.alloc(), &state)?);
+    assert!(rt; has_values_copied(rt.alloc(), state)?);
     Ok(())
 }
 
-/// A scope with all that it can have, and its copy.
-fn is_a_scope(alloc: Global, kind: Kind) -> Result<bool, AllocError> {
-    is_copied(alloc, new_scope(alloc, kind)?, kind)
+#[test]
+fn memory_for_a_state(rt: HostRuntime) -> Result<(), Fail> {
+    are_set(&rt, &mut State::new(rt.alloc()))
 }
 
 #[test]
 fn memory_for_an_http_scope(rt: HostRuntime) -> Result<(), Fail> {
-    assert!(rt; is_a_scope(rt.alloc(), Kind::Http)?);
+    assert!(rt; is_copied(rt.alloc(), Kind::Http)?);
     Ok(())
 }
 
 #[test]
 fn memory_for_a_websocket_scope(rt: HostRuntime) -> Result<(), Fail> {
-    assert!(rt; is_a_scope(rt.alloc(), Kind::WebSocket)?);
+    assert!(rt; is_copied(rt.alloc(), Kind::WebSocket)?);
     Ok(())
 }
 
 #[test]
 fn memory_for_a_lifespan_scope(rt: HostRuntime) -> Result<(), Fail> {
-    assert!(rt; is_a_scope(rt.alloc(), Kind::Lifespan)?);
+    assert!(rt; is_copied(rt.alloc(), Kind::Lifespan)?);
     Ok(())
 }
 

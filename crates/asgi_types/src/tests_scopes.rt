@@ -1,38 +1,72 @@
 //! The three kinds of scope, with what a connection adds to them, and copied.
 
-use crate::tests_values::{chars, is_bytes, is_name, is_number, is_text, octets, value_of_sort};
+use crate::tests_values::{chars, is_bytes, is_name, is_number, is_text, octets, of, of_given};
 use crate::{
     Asgi, Chars, Extensions, Headers, HttpScope, HttpVersion, Kind, LifespanScope, Names, Octets,
-    Peer, Scope, State, WsScope,
+    Peer, Scope, State, StateValue, WsScope,
 };
 use std::alloc::{AllocError, Global};
 use std::process::Abort;
 use std::test::Fail;
 
-fn peer(alloc: Global, host: &str, port: u16) -> Result<Peer, AllocError> {
-    Ok(Peer {
-        host: chars(alloc, host)?,
+// Each part of a scope is made, and asked for again where memory was refused.
+
+fn text(alloc: Global, text: &str) -> Chars {
+    for _ in 0..2 {
+        if let Ok(made) = chars(alloc, text) {
+            return made;
+        }
+    }
+    Chars::new(String::new(alloc))
+}
+
+fn bytes(alloc: Global, bytes: &[u8]) -> Octets {
+    for _ in 0..2 {
+        if let Ok(made) = octets(alloc, bytes) {
+            return made;
+        }
+    }
+    Octets::new(Vec::new(alloc))
+}
+
+fn peer(alloc: Global, host: &str, port: u16) -> Option<Peer> {
+    Some(Peer {
+        host: text(alloc, host),
         port,
     })
 }
 
-fn headers(alloc: Global) -> Result<Headers, AllocError> {
+fn headers(alloc: Global) -> Headers {
     let mut headers = Headers::new(alloc);
-    headers.push(b"X-A", b"q").map_err(|_| AllocError)?;
-    Ok(headers)
+    let _is_kept = add_field(&mut headers) || add_field(&mut headers);
+    headers
 }
 
-fn http_scope(alloc: Global) -> Result<HttpScope, AllocError> {
-    Ok(HttpScope {
+fn add_field(headers: &mut Headers) -> bool {
+    headers.push(b"X-A", b"q").is_ok()
+}
+
+fn subprotocols(alloc: Global) -> Names {
+    let mut names = Names::new(alloc);
+    let _is_kept = add_name(alloc, &mut names) || add_name(alloc, &mut names);
+    names
+}
+
+fn add_name(alloc: Global, names: &mut Names) -> bool {
+    names.push(text(alloc, "chat")).is_ok()
+}
+
+fn http_scope(alloc: Global) -> HttpScope {
+    HttpScope {
         asgi: Asgi::of(Kind::Http),
         http_version: HttpVersion::V11,
-        method: chars(alloc, "GET")?,
-        scheme: chars(alloc, "http")?,
-        path: chars(alloc, "/a b")?,
-        raw_path: octets(alloc, b"/a%20b")?,
-        query_string: octets(alloc, b"q=%20")?,
-        root_path: chars(alloc, "/a")?,
-        headers: headers(alloc)?,
+        method: text(alloc, "GET"),
+        scheme: text(alloc, "http"),
+        path: text(alloc, "/a b"),
+        raw_path: bytes(alloc, b"/a%20b"),
+        query_string: bytes(alloc, b"q=%20"),
+        root_path: text(alloc, "/a"),
+        headers: headers(alloc),
         client: None,
         server: None,
         state: State::new(alloc),
@@ -40,30 +74,28 @@ fn http_scope(alloc: Global) -> Result<HttpScope, AllocError> {
             websocket_http_response: false,
             http_response_trailers: false,
         },
-    })
+    }
 }
 
-fn ws_scope(alloc: Global) -> Result<WsScope, AllocError> {
-    let mut subprotocols = Names::new(alloc);
-    subprotocols.push(chars(alloc, "chat")?)?;
-    Ok(WsScope {
+fn ws_scope(alloc: Global) -> WsScope {
+    WsScope {
         asgi: Asgi::of(Kind::WebSocket),
         http_version: HttpVersion::V11,
-        scheme: chars(alloc, "ws")?,
-        path: chars(alloc, "/a b")?,
-        raw_path: octets(alloc, b"/a%20b")?,
-        query_string: octets(alloc, b"q=%20")?,
-        root_path: chars(alloc, "/a")?,
-        headers: headers(alloc)?,
+        scheme: text(alloc, "ws"),
+        path: text(alloc, "/a b"),
+        raw_path: bytes(alloc, b"/a%20b"),
+        query_string: bytes(alloc, b"q=%20"),
+        root_path: text(alloc, "/a"),
+        headers: headers(alloc),
         client: None,
         server: None,
-        subprotocols,
+        subprotocols: subprotocols(alloc),
         state: State::new(alloc),
         extensions: Extensions {
             websocket_http_response: true,
             http_response_trailers: false,
         },
-    })
+    }
 }
 
 fn lifespan_scope(alloc: Global) -> LifespanScope {
@@ -73,35 +105,39 @@ fn lifespan_scope(alloc: Global) -> LifespanScope {
     }
 }
 
-fn scope_of(alloc: Global, kind: Kind) -> Result<Scope, AllocError> {
+fn scope_of(alloc: Global, kind: Kind) -> Scope {
     match kind {
-        Kind::Http => Ok(Scope::Http(http_scope(alloc)?)),
-        Kind::WebSocket => Ok(Scope::WebSocket(ws_scope(alloc)?)),
-        Kind::Lifespan => Ok(Scope::Lifespan(lifespan_scope(alloc))),
+        Kind::Http => Scope::Http(http_scope(alloc)),
+        Kind::WebSocket => Scope::WebSocket(ws_scope(alloc)),
+        Kind::Lifespan => Scope::Lifespan(lifespan_scope(alloc)),
     }
 }
 
-/// A state with one value, of another sort in each kind of scope.
-fn state_of(alloc: Global, kind: Kind) -> Result<State, AllocError> {
-    let sort = match kind {
-        Kind::Http => "text",
-        Kind::WebSocket => "bytes",
-        Kind::Lifespan => "number",
-    };
-    let value = value_of_sort(alloc, sort)?;
-    let mut state = State::new(alloc);
-    match state.set("held", value) {
-        Ok(()) => Ok(state),
-        Err(_) => Err(AllocError),
+/// A value, of another sort for each kind of scope.
+fn value_of(alloc: Global, kind: Kind) -> StateValue {
+    match kind {
+        Kind::Http => StateValue::Text(text(alloc, "t")),
+        Kind::WebSocket => StateValue::Bytes(bytes(alloc, b"b\xff")),
+        Kind::Lifespan => StateValue::Number(7),
     }
+}
+
+/// A state with the value of the kind.
+fn state_of(alloc: Global, kind: Kind) -> State {
+    let mut state = State::new(alloc);
+    let _is_set = set_held(alloc, &mut state, kind) || set_held(alloc, &mut state, kind);
+    state
+}
+
+fn set_held(alloc: Global, state: &mut State, kind: Kind) -> bool {
+    state.set("held", value_of(alloc, kind)).is_ok()
 }
 
 /// A scope of this kind with a client, a server and a state.
-pub fn whole_scope(alloc: Global, kind: Kind) -> Result<Scope, AllocError> {
-    let client = peer(alloc, "127.0.0.1", 4_000)?;
-    let server = peer(alloc, "::1", 80)?;
-    let state = state_of(alloc, kind)?;
-    Ok(scope_of(alloc, kind)?.with(Some(client), Some(server), state))
+pub fn whole_scope(alloc: Global, kind: Kind) -> Scope {
+    let client = peer(alloc, "127.0.0.1", 4_000);
+    let server = peer(alloc, "::1", 80);
+    scope_of(alloc, kind).with(client, server, state_of(alloc, kind))
 }
 
 fn has_value(state: &State, kind: Kind) -> bool {
@@ -206,10 +242,6 @@ fn is_whole(scope: &Scope, kind: Kind) -> bool {
     }
 }
 
-fn is_whole_itself(scope: Scope, kind: Kind) -> bool {
-    is_whole(&scope, kind)
-}
-
 fn copy_of_scope(alloc: Global, held: &Scope) -> Result<Scope, AllocError> {
     match held.copy(alloc) {
         Ok(copied) => Ok(copied),
@@ -218,29 +250,33 @@ fn copy_of_scope(alloc: Global, held: &Scope) -> Result<Scope, AllocError> {
 }
 
 /// The scope is whole, and so is its copy, which is made once more where it was refused memory.
-pub fn is_copied(alloc: Global, scope: Scope, kind: Kind) -> Result<bool, AllocError> {
-    has_whole_copy(alloc, &scope, kind)
+pub fn is_copied(alloc: Global, kind: Kind) -> Result<bool, AllocError> {
+    of(
+        whole_scope(alloc, kind),
+        |scope| has_whole_copy(alloc, scope, kind),
+    )
 }
 
 fn has_whole_copy(alloc: Global, scope: &Scope, kind: Kind) -> Result<bool, AllocError> {
-    let is_so = is_whole_itself(copy_of_scope(alloc, scope)?, kind);
+    let is_so = of_given(copy_of_scope(alloc, scope), |copied| is_whole(copied, kind))?;
     Ok(is_so && is_whole(scope, kind))
 }
 
+fn is_made_whole(alloc: Global, kind: Kind) -> bool {
+    of(whole_scope(alloc, kind), |scope| is_whole(scope, kind))
+}
+
 #[test]
-fn a_scope_has_what_its_connection_knows(rt: HostRuntime) -> Result<(), Fail> {
+fn a_scope_has_what_its_connection_knows(rt: HostRuntime) {
     for kind in [Kind::Http, Kind::WebSocket, Kind::Lifespan] {
-        let is_so = is_whole_itself(whole_scope(rt.alloc(), kind)?, kind);
-        assert!(rt; is_so, "{kind:?}");
+        assert!(rt; is_made_whole(rt.alloc(), kind), "{kind:?}");
     }
-    Ok(())
 }
 
 #[test]
 fn a_scope_is_copied_with_all_its_fields(rt: HostRuntime) -> Result<(), Fail> {
     for kind in [Kind::Http, Kind::WebSocket, Kind::Lifespan] {
-        let is_so = is_copied(rt.alloc(), whole_scope(rt.alloc(), kind)?, kind)?;
-        assert!(rt; is_so, "{kind:?}");
+        assert!(rt; is_copied(rt.alloc(), kind)?, "{kind:?}");
     }
     Ok(())
 }
@@ -257,19 +293,11 @@ fn is_replaced(scope: &Scope) -> bool {
     }
 }
 
-fn is_replaced_itself(scope: Scope) -> bool {
-    is_replaced(&scope)
-}
-
-fn scope_again(alloc: Global) -> Result<Scope, AllocError> {
-    let server = peer(alloc, "b", 1)?;
-    let state = State::new(alloc);
-    Ok(whole_scope(alloc, Kind::Http)?.with(None, Some(server), state))
+fn scope_again(alloc: Global) -> Scope {
+    whole_scope(alloc, Kind::Http).with(None, peer(alloc, "b", 1), State::new(alloc))
 }
 
 #[test]
-fn what_a_scope_had_before_is_replaced(rt: HostRuntime) -> Result<(), Fail> {
-    let is_so = is_replaced_itself(scope_again(rt.alloc())?);
-    assert!(rt; is_so);
-    Ok(())
+fn what_a_scope_had_before_is_replaced(rt: HostRuntime) {
+    assert!(rt; of(scope_again(rt.alloc()), is_replaced));
 }

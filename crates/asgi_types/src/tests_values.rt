@@ -16,6 +16,23 @@ pub fn octets(alloc: Global, bytes: &[u8]) -> Result<Octets, AllocError> {
     Ok(Octets::new(bytes.to_vec(alloc)?))
 }
 
+/// What is said of a value. It stands for a value of any type, so its proof sees no field of one.
+pub fn of<T: Drop, S, F: FnOnce(&T) -> S>(value: T, says: F) -> S
+    requires { F.IsAlwaysCallable says }
+{
+    says(&value)
+}
+
+/// The same of a value that a call gave.
+pub fn of_given<T: Drop, S, F: FnOnce(&T) -> S>(
+    given: Result<T, AllocError>,
+    says: F,
+) -> Result<S, AllocError>
+    requires { F.IsAlwaysCallable says }
+{
+    Ok(of(given?, says))
+}
+
 fn is_a_text(alloc: Global, text: &str) -> Result<bool, AllocError> {
     let held = chars(alloc, text)?;
     let copied = held.copy(alloc)?;
@@ -249,26 +266,34 @@ fn a_state_holds_each_sort_of_value(rt: HostRuntime) -> Result<(), Fail> {
     are_sorts(&rt, &state)
 }
 
+/// A text, and the length that it is read as.
+type Length = (&'static [u8], Option<u64>);
+
+const LENGTHS: &[Length] = &[
+    (b"0", Some(0)),
+    (b"5", Some(5)),
+    (b"0042", Some(42)),
+    (b"1234567890", Some(1_234_567_890)),
+    (b"0000000000000000001", Some(1)),
+    (b"9999999999999999999", Some(9_999_999_999_999_999_999)),
+    (b"00000000000000000001", None),
+    (b"18446744073709551615", None),
+    (b"", None),
+    (b"+5", None),
+    (b"-5", None),
+    (b" 5", None),
+    (b"5 ", None),
+    (b"5a", None),
+];
+
+fn is_read(row: &Length) -> bool {
+    parse_length(row.0) == row.1
+}
+
 #[test]
 fn lengths_are_1_to_19_digits(rt: HostRuntime) {
-    let cases: [(&[u8], Option<u64>); 14] = [
-        (b"0", Some(0)),
-        (b"5", Some(5)),
-        (b"0042", Some(42)),
-        (b"1234567890", Some(1_234_567_890)),
-        (b"0000000000000000001", Some(1)),
-        (b"9999999999999999999", Some(9_999_999_999_999_999_999)),
-        (b"00000000000000000001", None),
-        (b"18446744073709551615", None),
-        (b"", None),
-        (b"+5", None),
-        (b"-5", None),
-        (b" 5", None),
-        (b"5 ", None),
-        (b"5a", None),
-    ];
-    for (row, (text, length)) in cases.iter().enumerate() {
-        assert!(rt; parse_length(text) == *length, "row {row}");
+    for (index, row) in LENGTHS.iter().enumerate() {
+        assert!(rt; is_read(row), "row {index}");
     }
 }
 
@@ -320,23 +345,31 @@ fn lists(alloc: Global, value: &[u8], token: &[u8]) -> bool {
     headers.has_token(b"connection", token)
 }
 
+/// The value of a field, and whether it lists the token `close`.
+type Lists = (&'static [u8], bool);
+
+const LISTS: &[Lists] = &[
+    (b"close", true),
+    (b"CLOSE", true),
+    (b"keep-alive , Close\t,x", true),
+    (b",,close", true),
+    (b"", false),
+    (b"x-close", false),
+    (b"closed", false),
+    (b"keep-alive close", false),
+    (b"close;q=1", false),
+    (b"keep-alive;close", false),
+    (b"\x0cclose", false),
+];
+
+fn lists_close(alloc: Global, row: &Lists) -> bool {
+    lists(alloc, row.0, b"close") == row.1
+}
+
 #[test]
 fn a_field_lists_its_tokens(rt: HostRuntime) {
-    let rows: [(&[u8], bool); 11] = [
-        (b"close", true),
-        (b"CLOSE", true),
-        (b"keep-alive , Close\t,x", true),
-        (b",,close", true),
-        (b"", false),
-        (b"x-close", false),
-        (b"closed", false),
-        (b"keep-alive close", false),
-        (b"close;q=1", false),
-        (b"keep-alive;close", false),
-        (b"\x0cclose", false),
-    ];
-    for (row, (value, listed)) in rows.iter().enumerate() {
-        assert!(rt; lists(rt.alloc(), value, b"close") == *listed, "row {row}");
+    for (index, row) in LISTS.iter().enumerate() {
+        assert!(rt; lists_close(rt.alloc(), row), "row {index}");
     }
 }
 

@@ -22,22 +22,32 @@ impl Write for Always {
     }
 }
 
+/// What is written, the fault of each write, the most bytes that one takes, its answer, and the failures of two.
+type Row = (&'static [u8], Option<ErrorKind>, usize, Answer, u64);
+
+const ROWS: &[Row] = &[
+    (b"abc", None, 9, Answer::Moved(3), 0),
+    (b"abc", None, 2, Answer::Moved(2), 0),
+    (b"abc", None, 0, Answer::Nothing, 2),
+    (b"", None, 0, Answer::Moved(0), 0),
+    (b"abc", Some(ErrorKind::WouldBlock), 0, Answer::Paused, 2),
+    (b"abc", Some(ErrorKind::BrokenPipe), 0, Answer::Failed, 2),
+];
+
+/// The answer to a write.
+fn answer(writer: &mut Counted<Always>, bytes: &[u8]) -> Answer {
+    answer_of(&writer.write_some(bytes), bytes.len())
+}
+
 #[test]
 fn each_failure_is_counted(rt: HostRuntime) {
-    let rows: [(&[u8], Option<ErrorKind>, usize, Answer, u64); 6] = [
-        (b"abc", None, 9, Answer::Moved(3), 0),
-        (b"abc", None, 2, Answer::Moved(2), 0),
-        (b"abc", None, 0, Answer::Nothing, 2),
-        (b"", None, 0, Answer::Moved(0), 0),
-        (b"abc", Some(ErrorKind::WouldBlock), 0, Answer::Paused, 2),
-        (b"abc", Some(ErrorKind::BrokenPipe), 0, Answer::Failed, 2),
-    ];
-    for (row, (bytes, kind, most, answer, failures)) in rows.into_iter().enumerate() {
-        let mut writer = Counted::new(Always { kind, most });
-        for _ in 0..2 {
-            let wrote = writer.write_some(bytes);
-            assert_eq!(rt; answer_of(&wrote, bytes.len()), answer, "row {row}");
-        }
-        assert_eq!(rt; writer.failures(), failures, "row {row}");
+    for (row, (bytes, kind, most, wanted, failures)) in ROWS.iter().enumerate() {
+        let mut writer = Counted::new(Always {
+            kind: *kind,
+            most: *most,
+        });
+        let answers = [answer(&mut writer, bytes), answer(&mut writer, bytes)];
+        assert_eq!(rt; answers, [*wanted, *wanted], "row {row}");
+        assert_eq!(rt; writer.failures(), *failures, "row {row}");
     }
 }

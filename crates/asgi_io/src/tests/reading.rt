@@ -104,32 +104,40 @@ fn bytes_come_as_they_are(rt: HostRuntime) {
     assert_eq!(rt; reader.reader.len(), 0);
 }
 
-#[test]
-fn only_two_faults_pass(rt: HostRuntime) {
-    let rows = [
-        (ErrorKind::Interrupted, true),
-        (ErrorKind::WouldBlock, true),
-        (ErrorKind::TimedOut, false),
-        (ErrorKind::BrokenPipe, false),
-        (ErrorKind::UnexpectedEof, false),
-        (ErrorKind::OutOfMemory, false),
-    ];
-    for (row, (kind, passes)) in rows.into_iter().enumerate() {
-        let e: io::Error = kind.into();
-        assert_eq!(rt; is_passing(&e), passes, "row {row}");
-    }
+/// A fault, and whether it passes.
+const FAULTS: &[(ErrorKind, bool)] = &[
+    (ErrorKind::Interrupted, true),
+    (ErrorKind::WouldBlock, true),
+    (ErrorKind::TimedOut, false),
+    (ErrorKind::BrokenPipe, false),
+    (ErrorKind::UnexpectedEof, false),
+    (ErrorKind::OutOfMemory, false),
+];
+
+fn passes(kind: ErrorKind) -> bool {
+    let e: io::Error = kind.into();
+    is_passing(&e)
 }
 
 #[test]
+fn only_two_faults_pass(rt: HostRuntime) {
+    for (row, (kind, wanted)) in FAULTS.iter().enumerate() {
+        assert!(rt; passes(*kind) == *wanted, "row {row}");
+    }
+}
+
+/// An answer, and the turn that it makes.
+const TURNS: &[(Answer, Turn)] = &[
+    (Answer::Moved(1), Turn::Moved),
+    (Answer::Paused, Turn::Idle),
+    (Answer::Nothing, Turn::Last),
+    (Answer::Failed, Turn::Last),
+];
+
+#[test]
 fn a_turn_is_that_of_its_call(rt: HostRuntime) {
-    let rows = [
-        (Answer::Moved(1), Turn::Moved),
-        (Answer::Paused, Turn::Idle),
-        (Answer::Nothing, Turn::Last),
-        (Answer::Failed, Turn::Last),
-    ];
-    for (row, (answer, turn)) in rows.into_iter().enumerate() {
-        assert_eq!(rt; answer.turn(), turn, "row {row}");
+    for (row, (answer, turn)) in TURNS.iter().enumerate() {
+        assert_eq!(rt; answer.turn(), *turn, "row {row}");
     }
     assert_eq!(rt; answer_of(&Ok(0), 0), Answer::Moved(0));
 }

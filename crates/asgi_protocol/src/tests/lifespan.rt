@@ -1,35 +1,38 @@
 //! Lifespan: start and stop.
 
-use super::{Heard, PASS, Part, Step, judges, judges_hearing, refused};
+use super::{Heard, PASS, Part, Step, judges, judges_hearing};
 use crate::{Verdict, Violation};
 use asgi_types::Kind;
 use std::test::Fail;
 
+const COMPLETE: &[(Step, Verdict)] = &[
+    (Step::Stopped, Verdict::Refused(4)),
+    (Step::NotStopped, Verdict::Refused(4)),
+    (Step::Start(200, ""), Verdict::Refused(3)),
+    (Step::Started, PASS),
+    (Step::Started, Verdict::Refused(4)),
+    (Step::NotStarted, Verdict::Refused(4)),
+    (Step::Stopped, PASS),
+    (Step::NotStopped, Verdict::Refused(1)),
+];
+
+const FAILED_START: &[(Step, Verdict)] = &[
+    (Step::NotStarted, PASS),
+    (Step::Started, Verdict::Refused(1)),
+    (Step::Send, Verdict::Refused(1)),
+];
+
+const NOT_STOPPED: &[(Step, Verdict)] = &[
+    (Step::Started, PASS),
+    (Step::NotStopped, PASS),
+    (Step::Stopped, Verdict::Refused(1)),
+];
+
 #[test]
 fn a_start_is_answered_and_then_a_stop(rt: HostRuntime) -> Result<(), Fail> {
-    let complete = [
-        (Step::Stopped, refused(4)),
-        (Step::NotStopped, refused(4)),
-        (Step::Start(200, ""), refused(3)),
-        (Step::Started, PASS),
-        (Step::Started, refused(4)),
-        (Step::NotStarted, refused(4)),
-        (Step::Stopped, PASS),
-        (Step::NotStopped, refused(1)),
-    ];
-    judges(&rt, Kind::Lifespan, "complete", &complete)?;
-    let failed = [
-        (Step::NotStarted, PASS),
-        (Step::Started, refused(1)),
-        (Step::Send, refused(1)),
-    ];
-    judges(&rt, Kind::Lifespan, "failed", &failed)?;
-    let not_stopped = [
-        (Step::Started, PASS),
-        (Step::NotStopped, PASS),
-        (Step::Stopped, refused(1)),
-    ];
-    judges(&rt, Kind::Lifespan, "not stopped", &not_stopped)
+    judges(&rt, Kind::Lifespan, "complete", COMPLETE)?;
+    judges(&rt, Kind::Lifespan, "failed", FAILED_START)?;
+    judges(&rt, Kind::Lifespan, "not stopped", NOT_STOPPED)
 }
 
 const STARTED: [Part; 2] = [
@@ -61,26 +64,27 @@ fn what_is_heard_is_no_disconnect(rt: HostRuntime) -> Result<(), Fail> {
     judges_hearing(&rt, Kind::Lifespan, &FAILED)
 }
 
+const NUMBERS: &[(Violation, u8)] = &[
+    (Violation::Closed, 1),
+    (Violation::Disconnected, 2),
+    (Violation::WrongScope, 3),
+    (Violation::OutOfOrder, 4),
+    (Violation::BadStatus, 5),
+    (Violation::BadHeader, 6),
+    (Violation::BadCode, 7),
+    (Violation::BadReason, 8),
+    (Violation::BadSubprotocol, 9),
+    (Violation::TooMuchBody, 10),
+    (Violation::TooLittleBody, 11),
+];
+
 #[test]
 fn refusals_are_numbered_from_1_to_11(rt: HostRuntime) {
-    let cases = [
-        (Violation::Closed, 1),
-        (Violation::Disconnected, 2),
-        (Violation::WrongScope, 3),
-        (Violation::OutOfOrder, 4),
-        (Violation::BadStatus, 5),
-        (Violation::BadHeader, 6),
-        (Violation::BadCode, 7),
-        (Violation::BadReason, 8),
-        (Violation::BadSubprotocol, 9),
-        (Violation::TooMuchBody, 10),
-        (Violation::TooLittleBody, 11),
-    ];
-    for (refusal, number) in cases {
-        assert_eq!(rt; refusal.number(), number, "{refusal:?}");
+    for (refusal, number) in NUMBERS {
+        assert_eq!(rt; refusal.number(), *number, "{refusal:?}");
         assert_eq!(rt;
-            Verdict::from(refusal),
-            Verdict::Refused(number),
+            Verdict::from(*refusal),
+            Verdict::Refused(*number),
             "{refusal:?}"
         );
     }

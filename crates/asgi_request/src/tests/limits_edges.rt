@@ -59,6 +59,17 @@ fn feed_all(
     Ok(words)
 }
 
+/// Whether the reader gives of the bytes, fed in pieces of so many, what the words name.
+fn are_words(
+    alloc: Global,
+    limits: Limits,
+    bytes: &[u8],
+    size: usize,
+    wanted: &str,
+) -> Result<bool, AllocError> {
+    Ok(words_of(alloc, limits, bytes, size)?.as_str() == wanted)
+}
+
 /// The bytes, fed whole, in two pieces and in many, give the results that the words name.
 fn gives(
     rt: &(impl Abort + AllocGlobal),
@@ -67,8 +78,8 @@ fn gives(
     wanted: &str,
 ) -> Result<(), Fail> {
     for size in [4_096, 65_534, 65_535, 1_048_576] {
-        let words = words_of(rt.alloc(), limits, bytes, size)?;
-        assert!(rt; words.as_str() == wanted, "{wanted} in pieces of {size}");
+        let is_so = are_words(rt.alloc(), limits, bytes, size, wanted)?;
+        assert!(rt; is_so, "{wanted} in pieces of {size}");
     }
     Ok(())
 }
@@ -93,8 +104,8 @@ fn a_head_has_65535_bytes_at_most(rt: HostRuntime) -> Result<(), Fail> {
 fn a_head_of_65535_bytes_may_come_byte_by_byte(rt: HostRuntime) -> Result<(), Fail> {
     for (letters, wanted) in [(65_503, SERVED), (65_504, " bad 431")] {
         let bytes = head(rt.alloc(), letters)?;
-        let words = words_of(rt.alloc(), greatest(16_384), &bytes, 1)?;
-        assert!(rt; words.as_str() == wanted, "{letters} letters");
+        let is_so = are_words(rt.alloc(), greatest(16_384), &bytes, 1, wanted)?;
+        assert!(rt; is_so, "{letters} letters");
     }
     Ok(())
 }
@@ -394,13 +405,17 @@ fn a_chunk_of_1_mib_is_given_in_blocks(rt: HostRuntime) -> Result<(), Fail> {
 /// Whether a body of 1 MiB that is fed at once behind its head comes back in blocks.
 fn is_given_behind_its_head(alloc: Global, reader: &mut RequestReader) -> Result<bool, AllocError> {
     let body = body_of(alloc, 1_048_576)?;
+    gives_behind_its_head(reader, &body)
+}
+
+fn gives_behind_its_head(reader: &mut RequestReader, body: &[u8]) -> Result<bool, AllocError> {
     put(
         reader,
         b"POST / HTTP/1.1\r\nHost: a\r\nContent-Length: 1048576\r\n\r\n",
     )?;
     let begins = gives_head(reader)? && of_given(take(reader), needs_more)?;
-    put(reader, &body)?;
-    Ok(begins && gives_blocks(reader, &body, 16_384, true)? && gives_end(reader)?)
+    put(reader, body)?;
+    Ok(begins && gives_blocks(reader, body, 16_384, true)? && gives_end(reader)?)
 }
 
 #[test]

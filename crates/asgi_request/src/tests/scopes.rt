@@ -2,7 +2,8 @@
 use super::{held, new_reader, of_given, put, take};
 use crate::{HeadFraming, HeadRecord, Next, RequestReader, framing_of, has_body};
 use asgi_types::{
-    Chars, Facts, Framing, HeaderError, Headers, HttpScope, HttpVersion, Limits, Octets, Scope,
+    Chars, Extensions, Facts, Framing, HeaderError, Headers, HttpScope, HttpVersion, Limits,
+    Octets, Scope,
 };
 use std::alloc::{AllocError, Global};
 use std::process::Abort;
@@ -204,16 +205,28 @@ fn has_facts_of_fields(next: &Next) -> bool {
 }
 
 fn is_scope_of_fields(scope: &HttpScope) -> bool {
+    says_so(scope) && knows_nothing(scope)
+}
+
+/// What the request says of itself.
+fn says_so(scope: &HttpScope) -> bool {
     scope.http_version == HttpVersion::V10
         && scope.method.as_str() == "GET"
         && scope.scheme.as_str() == "http"
         && scope.root_path.as_str() == ""
         && scope.asgi.spec_version() == "2.4"
-        && scope.client.is_none()
+}
+
+/// What only a connection can know is not there.
+fn knows_nothing(scope: &HttpScope) -> bool {
+    scope.client.is_none()
         && scope.server.is_none()
         && scope.state.get("").is_none()
-        && !scope.extensions.websocket_http_response
-        && !scope.extensions.http_response_trailers
+        && has_no_extensions(scope.extensions)
+}
+
+fn has_no_extensions(extensions: Extensions) -> bool {
+    !extensions.websocket_http_response && !extensions.http_response_trailers
 }
 
 fn are_facts_of_fields(facts: &Facts) -> bool {
@@ -320,26 +333,34 @@ fn fields_with(alloc: Global, name: &[u8], value: &[u8]) -> Result<Headers, Head
     Ok(headers)
 }
 
+/// A method, a field beside Host, and the framing of a record of these.
+type Framed = (&'static str, &'static str, &'static str, HeadFraming);
+
+const FRAMED: &[Framed] = &[
+    ("GET", "x", "a", HeadFraming::Length(0)),
+    ("POST", "content-length", "3", HeadFraming::Length(3)),
+    ("POST", "transfer-encoding", "chunked", HeadFraming::Chunked),
+    (
+        "POST",
+        "content-length",
+        "1048576",
+        HeadFraming::Length(1_048_576),
+    ),
+    ("POST", "content-length", "1048577", HeadFraming::Bad(413)),
+    ("GET", "host", "b", HeadFraming::Bad(400)),
+    ("POST", "transfer-encoding", "gzip", HeadFraming::Bad(501)),
+    ("CONNECT", "x", "a", HeadFraming::Bad(501)),
+];
+
+fn is_framed(alloc: Global, row: &Framed) -> Result<bool, Fail> {
+    Ok(framing_with(alloc, row.0, row.1, row.2)? == row.3)
+}
+
 #[test]
 fn a_record_has_a_framing(rt: HostRuntime) -> Result<(), Fail> {
-    let rows: [(&str, &str, &str, HeadFraming); 8] = [
-        ("GET", "x", "a", HeadFraming::Length(0)),
-        ("POST", "content-length", "3", HeadFraming::Length(3)),
-        ("POST", "transfer-encoding", "chunked", HeadFraming::Chunked),
-        (
-            "POST",
-            "content-length",
-            "1048576",
-            HeadFraming::Length(1_048_576),
-        ),
-        ("POST", "content-length", "1048577", HeadFraming::Bad(413)),
-        ("GET", "host", "b", HeadFraming::Bad(400)),
-        ("POST", "transfer-encoding", "gzip", HeadFraming::Bad(501)),
-        ("CONNECT", "x", "a", HeadFraming::Bad(501)),
-    ];
-    for (method, name, value, wanted) in rows {
-        let found = framing_with(rt.alloc(), method, name, value)?;
-        assert_eq!(rt; found, wanted, "{method} {name}: {value}");
+    for row in FRAMED {
+        let is_so = is_framed(rt.alloc(), row)?;
+        assert!(rt; is_so, "{} {}: {}", row.0, row.1, row.2);
     }
     Ok(())
 }

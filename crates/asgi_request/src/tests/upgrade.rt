@@ -83,86 +83,101 @@ fn asked(
     framing: HeadFraming,
     fields: &[Field],
 ) -> Result<String, HeaderError> {
-    let head = record(alloc, version, method, fields)?;
-    Ok(of_given(
-        check_upgrade(alloc, &head, &framing),
+    let head = record(alloc, version, method, fields);
+    Ok(of_given(head, |head| asked_of(alloc, head, framing))??)
+}
+
+fn asked_of(alloc: Global, head: &HeadRecord, framing: HeadFraming) -> Result<String, AllocError> {
+    of_given(
+        check_upgrade(alloc, head, &framing),
         |ask| words(alloc, ask),
-    )??)
+    )?
+}
+
+fn are(rt: &impl Abort, words: &str, wanted: &str, what: &str) {
+    assert_eq!(rt; words, wanted, "{what}");
 }
 
 fn ask(rt: &impl Abort, alloc: Global, version: HttpVersion, rows: &[Row]) -> Result<(), Fail> {
     for (what, method, framing, fields, wanted) in rows {
-        let words = asked(alloc, version, method, *framing, fields)?;
-        assert_eq!(rt; words.as_str(), *wanted, "{what}");
+        let words = asked(alloc, version, method, *framing, fields);
+        are(rt, words?.as_str(), wanted, what);
     }
     Ok(())
 }
 
+/// What is asked of a GET with no body.
+fn get(alloc: Global, fields: &[Field]) -> Result<String, HeaderError> {
+    asked(alloc, HttpVersion::V11, "GET", NONE, fields)
+}
+
+/// Each rule, and which comes first.
+const RULES: &[Row] = &[
+    (
+        "whole",
+        "GET",
+        NONE,
+        &[WS, UP, KEY, V13],
+        "dGhlIHNhbXBsZSBub25jZQ==",
+    ),
+    ("no upgrade", "GET", NONE, &[UP, KEY, V13], "plain"),
+    ("no connection", "GET", NONE, &[WS, KEY, V13], "plain"),
+    (
+        "another protocol",
+        "GET",
+        NONE,
+        &[("Upgrade", "h2c"), UP, KEY, V13],
+        "plain",
+    ),
+    ("nothing", "GET", NONE, &[], "plain"),
+    (
+        "plain, whatever else",
+        "POST",
+        HeadFraming::Chunked,
+        &[WS, SHORT],
+        "plain",
+    ),
+    ("another method", "POST", NONE, &[WS, UP, KEY, V13], "400"),
+    ("HEAD", "HEAD", NONE, &[WS, UP, KEY, V13], "400"),
+    (
+        "a body of 1",
+        "GET",
+        HeadFraming::Length(1),
+        &[WS, UP, KEY, V13],
+        "400",
+    ),
+    (
+        "a chunked body",
+        "GET",
+        HeadFraming::Chunked,
+        &[WS, UP, KEY, V13],
+        "400",
+    ),
+    ("no version", "GET", NONE, &[WS, UP, KEY], "426"),
+    ("no key", "GET", NONE, &[WS, UP, V13], "400"),
+    ("a short key", "GET", NONE, &[WS, UP, SHORT, V13], "400"),
+    ("two keys", "GET", NONE, &[WS, UP, KEY, KEY, V13], "400"),
+    ("method before version", "POST", NONE, &[WS, UP, KEY], "400"),
+    (
+        "body before version",
+        "GET",
+        HeadFraming::Length(1),
+        &[WS, UP, KEY],
+        "400",
+    ),
+    ("version before key", "GET", NONE, &[WS, UP, SHORT], "426"),
+    (
+        "a refused framing",
+        "GET",
+        HeadFraming::Bad(413),
+        &[WS, UP, KEY, V13],
+        "413",
+    ),
+];
+
 #[test]
 fn an_upgrade_is_judged_by_the_first_rule_that_holds(rt: HostRuntime) -> Result<(), Fail> {
-    let rows: &[Row] = &[
-        (
-            "whole",
-            "GET",
-            NONE,
-            &[WS, UP, KEY, V13],
-            "dGhlIHNhbXBsZSBub25jZQ==",
-        ),
-        ("no upgrade", "GET", NONE, &[UP, KEY, V13], "plain"),
-        ("no connection", "GET", NONE, &[WS, KEY, V13], "plain"),
-        (
-            "another protocol",
-            "GET",
-            NONE,
-            &[("Upgrade", "h2c"), UP, KEY, V13],
-            "plain",
-        ),
-        ("nothing", "GET", NONE, &[], "plain"),
-        (
-            "plain, whatever else",
-            "POST",
-            HeadFraming::Chunked,
-            &[WS, SHORT],
-            "plain",
-        ),
-        ("another method", "POST", NONE, &[WS, UP, KEY, V13], "400"),
-        ("HEAD", "HEAD", NONE, &[WS, UP, KEY, V13], "400"),
-        (
-            "a body of 1",
-            "GET",
-            HeadFraming::Length(1),
-            &[WS, UP, KEY, V13],
-            "400",
-        ),
-        (
-            "a chunked body",
-            "GET",
-            HeadFraming::Chunked,
-            &[WS, UP, KEY, V13],
-            "400",
-        ),
-        ("no version", "GET", NONE, &[WS, UP, KEY], "426"),
-        ("no key", "GET", NONE, &[WS, UP, V13], "400"),
-        ("a short key", "GET", NONE, &[WS, UP, SHORT, V13], "400"),
-        ("two keys", "GET", NONE, &[WS, UP, KEY, KEY, V13], "400"),
-        ("method before version", "POST", NONE, &[WS, UP, KEY], "400"),
-        (
-            "body before version",
-            "GET",
-            HeadFraming::Length(1),
-            &[WS, UP, KEY],
-            "400",
-        ),
-        ("version before key", "GET", NONE, &[WS, UP, SHORT], "426"),
-        (
-            "a refused framing",
-            "GET",
-            HeadFraming::Bad(413),
-            &[WS, UP, KEY, V13],
-            "413",
-        ),
-    ];
-    ask(&rt, rt.alloc(), HttpVersion::V11, rows)
+    ask(&rt, rt.alloc(), HttpVersion::V11, RULES)
 }
 
 #[test]
@@ -175,109 +190,116 @@ fn an_upgrade_of_http_10_is_ignored(rt: HostRuntime) -> Result<(), Fail> {
 fn only_version_13_is_served(rt: HostRuntime) -> Result<(), Fail> {
     for value in ["8", "13, 8", "8, 13", "013", "", "1", "+13"] {
         let version = ("Sec-WebSocket-Version", value);
-        let words = asked(
-            rt.alloc(),
-            HttpVersion::V11,
-            "GET",
-            NONE,
-            &[WS, UP, KEY, version],
-        )?;
-        assert_eq!(rt; words.as_str(), "426", "{value}");
+        let words = get(rt.alloc(), &[WS, UP, KEY, version]);
+        are(&rt, words?.as_str(), "426", value);
     }
-    let words = asked(
-        rt.alloc(),
-        HttpVersion::V11,
-        "GET",
-        NONE,
-        &[WS, UP, KEY, V13, V13],
-    )?;
-    assert_eq!(rt; words.as_str(), "426");
+    let words = get(rt.alloc(), &[WS, UP, KEY, V13, V13]);
+    are(&rt, words?.as_str(), "426", "two versions");
     Ok(())
+}
+
+/// What upgrade and connection list, and what is asked.
+const TOKENS: &[(&'static str, &'static str, &'static str)] = &[
+    (
+        "WebSocket",
+        "keep-alive, upgrade",
+        "dGhlIHNhbXBsZSBub25jZQ==",
+    ),
+    ("h2c, \twebsocket", "UPGRADE", "dGhlIHNhbXBsZSBub25jZQ=="),
+    (",, websocket ,", " ,upgrade", "dGhlIHNhbXBsZSBub25jZQ=="),
+    ("web socket", "upgrade", "plain"),
+    ("websocket/13", "upgrade", "plain"),
+    ("websocket", "upgraded", "plain"),
+    ("websocket", "keep-alive upgrade", "plain"),
+    ("websocket", "", "plain"),
+];
+
+fn get_with(
+    alloc: Global,
+    upgrade: &'static str,
+    connection: &'static str,
+) -> Result<String, HeaderError> {
+    let fields = [("upgrade", upgrade), ("connection", connection), KEY, V13];
+    get(alloc, &fields)
 }
 
 #[test]
 fn tokens_of_upgrade_and_connection_are_in_any_case(rt: HostRuntime) -> Result<(), Fail> {
-    let asks: [(&str, &str, &str); 8] = [
-        (
-            "WebSocket",
-            "keep-alive, upgrade",
-            "dGhlIHNhbXBsZSBub25jZQ==",
-        ),
-        ("h2c, \twebsocket", "UPGRADE", "dGhlIHNhbXBsZSBub25jZQ=="),
-        (",, websocket ,", " ,upgrade", "dGhlIHNhbXBsZSBub25jZQ=="),
-        ("web socket", "upgrade", "plain"),
-        ("websocket/13", "upgrade", "plain"),
-        ("websocket", "upgraded", "plain"),
-        ("websocket", "keep-alive upgrade", "plain"),
-        ("websocket", "", "plain"),
-    ];
-    for (upgrade, connection, wanted) in asks {
-        let fields = [("upgrade", upgrade), ("connection", connection), KEY, V13];
-        let words = asked(rt.alloc(), HttpVersion::V11, "GET", NONE, &fields)?;
-        assert_eq!(rt; words.as_str(), wanted, "{upgrade}; {connection}");
+    for (upgrade, connection, wanted) in TOKENS {
+        let words = get_with(rt.alloc(), upgrade, connection);
+        are(&rt, words?.as_str(), wanted, upgrade);
     }
     Ok(())
 }
+
+/// A text, and whether it is a key.
+const KEYS: &[(&'static str, bool)] = &[
+    ("dGhlIHNhbXBsZSBub25jZQ==", true),
+    ("AAAAAAAAAAAAAAAAAAAAAA==", true),
+    ("/////////////////////w==", true),
+    ("x3JJHMbDL1EzLkh9GBhXDw==", true),
+    ("dGhlIHNhbXBsZSBub25jZR==", false),
+    ("dGhlIHNhbXBsZSBub25jZQ=", false),
+    ("dGhlIHNhbXBsZSBub25jZQ", false),
+    ("dGhlIHNhbXBsZSBub25jZQ===", false),
+    ("dGhlIHNhbXBsZSBub25jZQA=", false),
+    ("dGhlIHNhbXBsZSBub25jZQAA", false),
+    ("dGhlIHNhbXBsZSBub25jZS0x", false),
+    ("_____________________w==", false),
+    ("dGhlIHNhbXBsZSBub25 ZQ==", false),
+    ("=GhlIHNhbXBsZSBub25jZQ==", false),
+    ("dGhlIHNhbXBsZSBub25j", false),
+    ("", false),
+];
 
 #[test]
 fn a_key_is_the_base64_of_16_bytes(rt: HostRuntime) -> Result<(), Fail> {
-    let keys: [(&str, bool); 16] = [
-        ("dGhlIHNhbXBsZSBub25jZQ==", true),
-        ("AAAAAAAAAAAAAAAAAAAAAA==", true),
-        ("/////////////////////w==", true),
-        ("x3JJHMbDL1EzLkh9GBhXDw==", true),
-        ("dGhlIHNhbXBsZSBub25jZR==", false),
-        ("dGhlIHNhbXBsZSBub25jZQ=", false),
-        ("dGhlIHNhbXBsZSBub25jZQ", false),
-        ("dGhlIHNhbXBsZSBub25jZQ===", false),
-        ("dGhlIHNhbXBsZSBub25jZQA=", false),
-        ("dGhlIHNhbXBsZSBub25jZQAA", false),
-        ("dGhlIHNhbXBsZSBub25jZS0x", false),
-        ("_____________________w==", false),
-        ("dGhlIHNhbXBsZSBub25 ZQ==", false),
-        ("=GhlIHNhbXBsZSBub25jZQ==", false),
-        ("dGhlIHNhbXBsZSBub25j", false),
-        ("", false),
-    ];
-    for (key, wanted) in keys {
-        assert_eq!(rt; is_key(key.as_bytes()), wanted, "{key}");
+    for (key, wanted) in KEYS {
+        assert!(rt; is_key(key.as_bytes()) == *wanted, "{key}");
     }
     Ok(())
 }
+
+/// What is asked of a handshake with these two fields around the others.
+fn get_offering(
+    alloc: Global,
+    first: &'static str,
+    second: &'static str,
+) -> Result<String, HeaderError> {
+    let before = ("sec-websocket-protocol", first);
+    let behind = ("Sec-WebSocket-Protocol", second);
+    get(alloc, &[before, WS, UP, KEY, V13, behind])
+}
+
+/// The words are the key of these handshakes and the names.
+fn are_names(rt: &impl Abort, words: &str, wanted: &str, what: &str) {
+    let names = words.strip_prefix("dGhlIHNhbXBsZSBub25jZQ==");
+    assert_eq!(rt; names, Some(wanted), "{what}");
+}
+
+/// What two fields offer, and the names.
+const OFFERS: &[(&'static str, &'static str, &'static str)] = &[
+    ("chat", "superchat", " chat superchat"),
+    ("chat, superchat", "v1.Bar", " chat superchat v1.Bar"),
+    (" \tB ,,\t, a,", "", " B a"),
+    ("chat chat, a/b, \"c\", d", "", " d"),
+    ("a, a", "a", " a a a"),
+    ("mqtt;v=5", "caf\u{e9}", ""),
+    ("!#$%&'*+-.^_`|~", "0", " !#$%&'*+-.^_`|~ 0"),
+    ("", ",", ""),
+];
 
 #[test]
 fn subprotocols_are_the_tokens_in_their_order(rt: HostRuntime) -> Result<(), Fail> {
-    let offers: [(&str, &str, &str); 8] = [
-        ("chat", "superchat", " chat superchat"),
-        ("chat, superchat", "v1.Bar", " chat superchat v1.Bar"),
-        (" \tB ,,\t, a,", "", " B a"),
-        ("chat chat, a/b, \"c\", d", "", " d"),
-        ("a, a", "a", " a a a"),
-        ("mqtt;v=5", "caf\u{e9}", ""),
-        ("!#$%&'*+-.^_`|~", "0", " !#$%&'*+-.^_`|~ 0"),
-        ("", ",", ""),
-    ];
-    for (first, second, wanted) in offers {
-        let protocols = [
-            ("sec-websocket-protocol", first),
-            ("Sec-WebSocket-Protocol", second),
-        ];
-        let fields = [protocols[0], WS, UP, KEY, V13, protocols[1]];
-        let words = asked(rt.alloc(), HttpVersion::V11, "GET", NONE, &fields)?;
-        let names = words.as_str().strip_prefix("dGhlIHNhbXBsZSBub25jZQ==");
-        assert_eq!(rt; names, Some(wanted), "{first}; {second}");
+    for (first, second, wanted) in OFFERS {
+        let words = get_offering(rt.alloc(), first, second);
+        are_names(&rt, words?.as_str(), wanted, first);
     }
     Ok(())
 }
 
-/// The record of a handshake that offers two subprotocols, made again where memory was refused.
-fn offering(alloc: Global) -> Result<HeadRecord, HeaderError> {
-    let fields = [WS, UP, KEY, V13, ("sec-websocket-protocol", "a, b")];
-    match record(alloc, HttpVersion::V11, "GET", &fields) {
-        Ok(head) => Ok(head),
-        Err(_) => record(alloc, HttpVersion::V11, "GET", &fields),
-    }
-}
+/// A handshake that offers two subprotocols.
+const OFFERING: &[Field] = &[WS, UP, KEY, V13, ("sec-websocket-protocol", "a, b")];
 
 /// Whether two subprotocols are offered.
 fn offers_two(ask: &UpgradeAsk) -> bool {
@@ -291,10 +313,26 @@ fn gives_two(alloc: Global, head: &HeadRecord) -> Result<bool, AllocError> {
     of_given(check_upgrade(alloc, head, &NONE), offers_two)
 }
 
+/// The same, asked again where memory was refused.
+fn gives_two_again(alloc: Global, head: &HeadRecord) -> Result<bool, AllocError> {
+    match gives_two(alloc, head) {
+        Ok(given) => Ok(given),
+        Err(_) => gives_two(alloc, head),
+    }
+}
+
+fn offers(alloc: Global) -> Result<bool, HeaderError> {
+    let head = record(alloc, HttpVersion::V11, "GET", OFFERING);
+    Ok(of_given(head, |head| gives_two_again(alloc, head))??)
+}
+
+/// Where memory was refused for the record, it is made again.
 #[test]
 fn memory_for_an_upgrade(rt: HostRuntime) -> Result<(), Fail> {
-    let head = offering(rt.alloc())?;
-    let given = gives_two(rt.alloc(), &head).or_else(|_| gives_two(rt.alloc(), &head))?;
+    let given = match offers(rt.alloc()) {
+        Ok(given) => given,
+        Err(_) => offers(rt.alloc())?,
+    };
     assert!(rt; given);
     Ok(())
 }
