@@ -14,7 +14,7 @@ use Rattle.asgi_request.specs.declared.refusal.Refusal.{Refusal}
 use Rattle.asgi_request.specs.BodyOf.{body_events, body_state}
 use Rattle.asgi_request.specs.ChunkedBody.{BodyState, partial, complete, faulty}
 use Rattle.asgi_request.specs.Opened.{HasOpened}
-use Rattle.asgi_request.specs.Reading.{Reading, StandsFor, AllGiven, IsRefused}
+use Rattle.asgi_request.specs.Reading.{Reading, StandsFor, AllGiven, IsRefused, GoesOn}
 use Rattle.asgi_request.specs.Refusals.{status_of}
 use Rattle.asgi_request.proofs.BodyOfLemmas.{body_is_read}
 use Rattle.asgi_request.proofs.DueLemmas.{events_are_due, whole_is_complete, bad_is_faulty, need_is_partial, no_head as none_inside}
@@ -117,10 +117,27 @@ module _ (reader : Reading) (read : List ℕ) (opened : List Next) (framing : Fr
   why_broken events (Refused status) end given breaks =
       let f = (bad_is_faulty reader.limits read opened framing arrived (body_events reader.limits framing arrived) (body_state reader.limits framing arrived) reader.place reader.held
       (opened_at reader.limits read opened framing arrived x) (body_is_read reader.limits framing arrived) events status given).1 in
-      inr (ap is_faulty f.1.0)
+      inr (ap is_faulty f.1)
 
   pub no_head : (events : List Incoming) (scope : Scope) (facts : Facts) → StandsFor reader read ((opened ++ map next.Event events) ++ next.Head scope facts ∷ []) → ⊥
   no_head events scope facts stands =
       none_inside reader.limits read opened framing arrived (body_events reader.limits framing arrived) (body_state reader.limits framing arrived) reader.place reader.held
       (opened_at reader.limits read opened framing arrived x) (body_is_read reader.limits framing arrived) events scope facts
       (subst (λ (l : List Next). StandsFor reader read l) (append_assoc opened (map next.Event events) (next.Head scope facts ∷ [])) stands)
+
+-- ---- from what the reader says
+
+pub gave_next : (old new : Reading) (item : Next) (read : List ℕ) (opened : List Next) (framing : Framing) (arrived : List ℕ) (events : List Incoming)
+    → HasOpened old.limits read opened framing arrived → StandsFor old read (opened ++ map next.Event events)
+    → (item ≡ next.Need → (bytes : List ℕ) (given : List Next) → StandsFor old bytes given → StandsFor new bytes given × AllGiven new bytes given)
+    → (item ≢ next.Need → ((status : ℕ) → IsRefused old status → ⊥) → GoesOn old new item)
+    → GaveNext new read (opened ++ map next.Event events) item
+gave_next old new next.Need read opened framing arrived events x stands need given = need refl read (opened ++ map next.Event events) stands
+gave_next old new (next.Head scope facts) read opened framing arrived events x stands need given =
+    given (λ e. cc) (λ status. not_refused old read opened framing arrived events status x stands) read (opened ++ map next.Event events) stands
+gave_next old new (next.Event event) read opened framing arrived events x stands need given =
+    given (λ e. cc) (λ status. not_refused old read opened framing arrived events status x stands) read (opened ++ map next.Event events) stands
+gave_next old new next.Whole read opened framing arrived events x stands need given =
+    given (λ e. cc) (λ status. not_refused old read opened framing arrived events status x stands) read (opened ++ map next.Event events) stands
+gave_next old new (next.Bad status) read opened framing arrived events x stands need given =
+    given (λ e. cc) (λ status. not_refused old read opened framing arrived events status x stands) read (opened ++ map next.Event events) stands

@@ -20,6 +20,7 @@ pub mod TakenLemmas
 pub mod LineLemmas
 pub mod HalfBodyLemmas
 pub mod HalfLemmas
+pub mod HalfInLemmas
 pub mod LoopLemmas
 pub mod TaskEndLemmas
 pub mod ConversationExample

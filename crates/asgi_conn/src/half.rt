@@ -483,17 +483,23 @@ fn body_of(next: Next, input: InputEnd) -> Body
     ensures ends_where { EndsWhere result input }
 {
     match next {
-        Next::Need => {
-            if input.has_ended() {
-                return Body::BrokenOff;
-            }
-            Body::Open
-        }
+        Next::Need => unfinished(input),
         Next::Event(event) => Body::Waits(event),
         Next::Whole => Body::Whole,
         Next::Bad(status) => Body::Refused(status),
         Next::Head(_, _) => Body::Open,
     }
+}
+
+/// The body, where the reader needs more.
+fn unfinished(input: InputEnd) -> Body
+    ensures open { has_ended input ≡ false → result ≡ Body.Open }
+    ensures broken { has_ended input ≡ true → result ≡ Body.BrokenOff }
+{
+    if input.has_ended() {
+        return Body::BrokenOff;
+    }
+    Body::Open
 }
 
 /// Whether what follows the end of a task needs to know the rest of the body.

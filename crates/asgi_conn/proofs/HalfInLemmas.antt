@@ -1,0 +1,169 @@
+-- The steps of the connection's half on its input: it reads, and offers what is due.
+use Rattle.std.proofs.Common.{◌≡◌, ℕ, true, false, List, [], ◌∷◌, ◌++◌, map, refl, sym, ap, ◌∙◌, subst, inl, inr, append_assoc, Option, Some, None, Bool}
+use Rattle.std.specs.Prelude.{◌⊎◌, ⊤, is_some}
+use Rattle.std.proofs.lemmas.List.{append-nil, map-append}
+use mathlib.Core.List.{IsPrefix}
+use Rattle.asgi_types.specs.declared.facts.Framing.{Framing}
+use Rattle.asgi_types.specs.declared.incoming.Incoming.{Incoming}
+use Rattle.asgi_types.specs.declared.incoming.Incoming.TheVariants.{HttpDisconnect}
+use Rattle.asgi_types.specs.declared.limits.Limits.{Limits}
+use Rattle.asgi_request.specs.declared.next.Next.{Next}
+use Rattle.asgi_request.specs.declared.next.Next.TheVariants as next
+use Rattle.asgi_request.specs.BodyOf.{body_events, body_state}
+use Rattle.asgi_request.specs.Opened.{HasOpened}
+use Rattle.asgi_request.specs.Reading.{Reading, StandsFor}
+use Rattle.asgi_pipes.specs.declared.ends.ConnEnd as conn_end
+use Rattle.asgi_exchange.specs.Calls.{IsViewOf}
+use Rattle.asgi_exchange.specs.Halves.{IsOffered}
+use Rattle.asgi_exchange.specs.Http.{http}
+use Rattle.asgi_exchange.specs.Items.{end_of}
+use Rattle.asgi_exchange.specs.Steps.{is_by_input, is_by_cut}
+use Rattle.asgi_exchange.specs.Views.{Break, ByInput, ByCut, ConnView, taken_of}
+use Rattle.asgi_conn.specs.declared.half.Body.{Body}
+use Rattle.asgi_conn.specs.declared.half.Body.TheVariants.{Open, Waits, Whole, Refused, BrokenOff}
+use Rattle.asgi_conn.specs.declared.half.ConnHalf.{ConnHalf}
+use Rattle.asgi_conn.specs.declared.half.Stage.{Stage}
+use Rattle.asgi_conn.specs.declared.half.Stage.TheVariants.{Running, Ending, Cut, Over}
+use Rattle.asgi_conn.specs.declared.input.InputEnd.{InputEnd}
+use Rattle.asgi_conn.specs.declared.report.Outcome.TheVariants.{NoMemory}
+use Rattle.asgi_conn.specs.declared.wire.Wire.{Wire}
+use Rattle.asgi_conn.specs.Half.{Scene, Stands, Talks, IsRunning, IsCutShort, IsAt, HasGiven, EndsWhere, BreaksAt, known, state_in}
+use Rattle.asgi_conn.specs.HalfSteps.{KeepsBesidesBody, GivesBehind, ReadsAt}
+use Rattle.asgi_conn.specs.Lines.{LineState, HasMoved}
+use Rattle.asgi_conn.specs.TaskEnds.{has_ended, is_faulty}
+use Rattle.asgi_conn.proofs.HalfBodyLemmas.{unbroken, first_due, all_due, why_broken}
+use Rattle.asgi_conn.proofs.HalfLemmas.{running_of, unfailed, not_written, part_written}
+use Rattle.asgi_conn.proofs.LoopLemmas.{within_reads_more, end_seen_within}
+
+pub not_both : (b : Bool) → b ≡ false → b ≡ true → ⊥
+not_both b no yes = cc (no, yes)
+
+-- ---- want of memory
+
+module _ (scene : Scene) (now : LineState) (half : ConnHalf) (read : List ℕ) (view : ConnView ℕ ℕ) (x : Stands scene now half read view) (is : half.stage ≡ Running) where
+  r : IsRunning scene half read view
+  r = running_of scene now half read view x is
+
+  -- the connection is cut short, whatever the reader gave
+  pub short_of_memory : (later : ConnHalf) → KeepsBesidesBody half later → later.wire.requests.limits ≡ half.wire.requests.limits
+      → Stands scene now (record later { stage = Cut NoMemory }) read view
+  short_of_memory later same limits =
+      subst (λ (h : ConnHalf). Stands scene now (record h { stage = Cut NoMemory }) read view) (sym same)
+      (record {
+        moved = unfailed scene now half read view x Running is refl;
+        limits = limits ∙ x.limits;
+        within = x.within;
+        keeps = x.keeps;
+        breaks = x.breaks;
+        stage = (record { cut = refl; stops = λ n e. absurd (not_written n e) }, (running_of scene now half read view x is).unended);
+      })
+
+  -- the reader gave more, or needs more
+  pub pulled : (later : ConnHalf) → half.broke ≡ false → KeepsBesidesBody half later → later.wire.requests.limits ≡ half.wire.requests.limits → GivesBehind half later
+      → Stands scene now later read view
+  pulled later unbroke same limits gives =
+      let r = running_of scene now half read view x is in
+      let t = r.talks in
+      let opens = subst (λ (l : Limits). HasOpened l read scene.opened scene.facts.framing view.arrived) (sym x.limits) x.within.opens in
+      let on = gives read scene.opened scene.facts.framing view.arrived t.events opens t.given t.ends_where in
+      subst (λ (h : ConnHalf). Stands scene now h read view) (sym same)
+      (subst (λ (s : Stage). Stands scene now (record half { wire = record half.wire { requests = later.wire.requests }; body = later.body; stage = s }) read view) (sym is)
+      (record {
+        moved = unfailed scene now half read view x Running is refl;
+        limits = limits ∙ x.limits;
+        within = x.within;
+        keeps = x.keeps;
+        breaks = x.breaks;
+        stage = record {
+          talks = record {
+            uncut = t.uncut;
+            broke = t.broke;
+            settled = λ e. absurd (not_both half.broke unbroke e);
+            events = t.events;
+            given = on.0;
+            ends_where = on.1;
+            text = t.text;
+            written = t.written;
+            empty = t.empty;
+          };
+          unended = r.unended;
+          offered = r.offered;
+        };
+      }))
+
+  none_broke : half.broke ≡ false → view.broken ≡ None
+  none_broke unbroke = unbroken view.broken r.talks.uncut (sym r.talks.broke ∙ unbroke)
+
+  -- the event that waits is offered
+  pub offered_on : (event : Incoming) → half.broke ≡ false → half.body ≡ Waits event
+      → Stands scene now (record half { body = Open }) read (record view { offered = view.offered ++ event ∷ [] })
+  offered_on event unbroke waits =
+      let t = r.talks in
+      let given = subst (λ (b : Body). HasGiven half.wire.requests read scene.opened t.events b) waits t.given in
+      let opens = subst (λ (l : Limits). HasOpened l read scene.opened scene.facts.framing view.arrived) (sym x.limits) x.within.opens in
+      let all : view.offered ++ event ∷ [] ≡ t.events ++ event ∷ [] = ap (λ (l : List Incoming). l ++ event ∷ []) (r.offered unbroke) in
+      let due = first_due half.wire.requests read scene.opened scene.facts.framing view.arrived opens (t.events ++ event ∷ []) given in
+      let front = subst (λ (l : Limits). IsPrefix (t.events ++ event ∷ []) (body_events l scene.facts.framing view.arrived)) x.limits due in
+      subst (λ (s : Stage). Stands scene now (record half { body = Open; stage = s }) read (record view { offered = view.offered ++ event ∷ [] })) (sym is)
+      (record {
+        moved = unfailed scene now half read view x Running is refl;
+        limits = x.limits;
+        within = x.within;
+        keeps = record {
+          offered = subst (λ (b : Option Break). IsOffered (http half.wire.limits scene.facts) view.arrived (view.offered ++ event ∷ []) b) (sym (none_broke unbroke))
+              (subst (λ (l : List Incoming). IsPrefix l (body_events half.wire.limits scene.facts.framing view.arrived)) (sym all) front);
+          written = x.keeps.written;
+        };
+        breaks = x.breaks;
+        stage = record {
+          talks = record {
+            uncut = t.uncut;
+            broke = t.broke;
+            settled = λ e. absurd (not_both half.broke unbroke e);
+            events = t.events ++ event ∷ [];
+            given = given;
+            ends_where = tt;
+            text = t.text;
+            written = t.written;
+            empty = t.empty;
+          };
+          unended = r.unended;
+          offered = λ e. all;
+        };
+      })
+
+  -- the disconnect is offered
+  pub broken_off : half.broke ≡ false → BreaksAt half.body half.wire.input
+      → Stands scene now (record half { broke = true }) read (record view { offered = view.offered ++ HttpDisconnect ∷ []; broken = Some ByInput })
+  broken_off unbroke breaks =
+      let t = r.talks in
+      let opens = subst (λ (l : Limits). HasOpened l read scene.opened scene.facts.framing view.arrived) (sym x.limits) x.within.opens in
+      let all = all_due half.wire.requests read scene.opened scene.facts.framing view.arrived opens t.events half.body half.wire.input t.given breaks in
+      let due = subst (λ (l : Limits). t.events ≡ body_events l scene.facts.framing view.arrived) x.limits all in
+      let why = why_broken half.wire.requests read scene.opened scene.facts.framing view.arrived opens t.events half.body half.wire.input t.given breaks in
+      subst (λ (s : Stage). Stands scene now (record half { broke = true; stage = s }) read (record view { offered = view.offered ++ HttpDisconnect ∷ []; broken = Some ByInput })) (sym is)
+      (record {
+        moved = unfailed scene now half read view x Running is refl;
+        limits = x.limits;
+        within = x.within;
+        keeps = record {
+          offered = ap (λ (l : List Incoming). l ++ HttpDisconnect ∷ []) (r.offered unbroke ∙ due);
+          written = x.keeps.written;
+        };
+        breaks = λ e. subst (λ (l : Limits). (has_ended half.wire.input ≡ true) ⊎ (is_faulty (body_state l scene.facts.framing view.arrived) ≡ true)) x.limits why;
+        stage = record {
+          talks = record {
+            uncut = refl;
+            broke = refl;
+            settled = λ e. breaks;
+            events = t.events;
+            given = t.given;
+            ends_where = t.ends_where;
+            text = t.text;
+            written = t.written;
+            empty = t.empty;
+          };
+          unended = r.unended;
+          offered = λ e. cc;
+        };
+      })
