@@ -28,7 +28,7 @@ use Rattle.asgi_conn.specs.declared.input.InputEnd.{InputEnd}
 use Rattle.asgi_conn.specs.declared.report.Outcome.TheVariants.{NoMemory}
 use Rattle.asgi_conn.specs.declared.wire.Wire.{Wire}
 use Rattle.asgi_conn.specs.Half.{Scene, Stands, Talks, IsRunning, IsCutShort, IsAt, HasGiven, EndsWhere, BreaksAt, known, state_in}
-use Rattle.asgi_conn.specs.HalfSteps.{KeepsBesidesBody, GivesBehind, ReadsAt}
+use Rattle.asgi_conn.specs.HalfSteps.{KeepsBesidesBody, GivesBehind, ReadsAt, EndsAtInput}
 use Rattle.asgi_conn.specs.Lines.{LineState, HasMoved}
 use Rattle.asgi_conn.specs.TaskEnds.{has_ended, is_faulty}
 use Rattle.asgi_conn.proofs.HalfBodyLemmas.{unbroken, first_due, all_due, why_broken}
@@ -36,7 +36,7 @@ use Rattle.asgi_conn.proofs.HalfLemmas.{running_of, unfailed, not_written, part_
 use Rattle.asgi_conn.proofs.LoopLemmas.{within_reads_more, end_seen_within}
 
 pub not_both : (b : Bool) → b ≡ false → b ≡ true → ⊥
-not_both b no yes = cc (no, yes)
+not_both b is_false is_true = cc (is_false, is_true)
 
 -- ---- want of memory
 
@@ -91,7 +91,7 @@ module _ (scene : Scene) (now : LineState) (half : ConnHalf) (read : List ℕ) (
         };
       }))
 
-  none_broke : half.broke ≡ false → view.broken ≡ None
+  pub none_broke : half.broke ≡ false → view.broken ≡ None
   none_broke unbroke = unbroken view.broken r.talks.uncut (sym r.talks.broke ∙ unbroke)
 
   -- the event that waits is offered
@@ -132,6 +132,26 @@ module _ (scene : Scene) (now : LineState) (half : ConnHalf) (read : List ℕ) (
         };
       })
 
+  -- the same, with what the calls of the end say
+  pub offered_view : (E : Type 0) (C : conn_end.Ghosts E) (old new : E) (event : Incoming) → half.broke ≡ false → half.body ≡ Waits event → IsViewOf C old view
+      → C.offered new ≡ C.offered old ++ event ∷ [] → C.is_broken new ≡ C.is_broken old → C.got new ≡ C.got old
+      → (later : ConnView ℕ ℕ) × Stands scene now (record half { body = Open }) read later × IsViewOf C new later
+  offered_view E C old new event unbroke waits is_view offered broken got = (
+    record view { offered = view.offered ++ event ∷ [] },
+    offered_on event unbroke waits,
+    (ap (λ (l : List Incoming). l ++ event ∷ []) is_view.0 ∙ sym offered, is_view.1 ∙ sym broken, is_view.2 ∙ sym got),
+  )
+
+  -- it waits on
+  pub waits_view : (E : Type 0) (C : conn_end.Ghosts E) (old new : E) (event back : Incoming) → half.body ≡ Waits event → back ≡ event → IsViewOf C old view
+      → C.offered new ≡ C.offered old → C.is_broken new ≡ C.is_broken old → C.got new ≡ C.got old
+      → (later : ConnView ℕ ℕ) × Stands scene now (record half { body = Waits back }) read later × IsViewOf C new later
+  waits_view E C old new event back waits same is_view offered broken got = (
+    view,
+    subst (λ (b : Body). Stands scene now (record half { body = b }) read view) (waits ∙ ap (λ (e : Incoming). Waits e) (sym same)) x,
+    (is_view.0 ∙ sym offered, is_view.1 ∙ sym broken, is_view.2 ∙ sym got),
+  )
+
   -- the disconnect is offered
   pub broken_off : half.broke ≡ false → BreaksAt half.body half.wire.input
       → Stands scene now (record half { broke = true }) read (record view { offered = view.offered ++ HttpDisconnect ∷ []; broken = Some ByInput })
@@ -167,3 +187,10 @@ module _ (scene : Scene) (now : LineState) (half : ConnHalf) (read : List ℕ) (
           offered = λ e. cc;
         };
       })
+
+pub due_at_end : (body : Body) (end : InputEnd) → EndsAtInput body → has_ended end ≡ true → BreaksAt body end
+due_at_end Open end ends is = absurd ends
+due_at_end (Waits event) end ends is = absurd ends
+due_at_end Whole end ends is = is
+due_at_end (Refused status) end ends is = tt
+due_at_end BrokenOff end ends is = is

@@ -96,6 +96,12 @@ abbrev pub GaveNext : Reading → List ℕ → List Next → Next → Type 0
 GaveNext reader read given next.Need = StandsFor reader read given × AllGiven reader read given
 GaveNext reader read given item = StandsFor reader read (given ++ item ∷ [])
 
+-- the end of the input is what the disconnect waits for
+abbrev pub EndsAtInput : Body → Type 0
+EndsAtInput Whole = ⊤
+EndsAtInput BrokenOff = ⊤
+EndsAtInput _ = ⊥
+
 -- more is read: of the body, or behind it
 abbrev pub ReadsAt : Body → Type 0
 ReadsAt Open = ⊤

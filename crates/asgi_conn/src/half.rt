@@ -13,7 +13,7 @@ ghost use Rattle.asgi_response.specs.Standing as standing;
 ghost use Rattle.asgi_exchange.specs.Calls.{IsViewOf};
 ghost use Rattle.asgi_exchange.specs.Views.{ConnView, empty_conn};
 ghost use Rattle.asgi_conn.specs.Half.{Scene, Stands, Leads, HasGiven, EndsWhere, IsSettled, BreaksAt};
-ghost use Rattle.asgi_conn.specs.HalfSteps.{Opens, Pending, LeadsOut, LeadsIn, KeepsBesidesBody, GivesOn, GivesBehind, GaveNext, IsFree, ReadsAt, NeedsBody, known_input};
+ghost use Rattle.asgi_conn.specs.HalfSteps.{Opens, Pending, LeadsOut, LeadsIn, KeepsBesidesBody, GivesOn, GivesBehind, GaveNext, IsFree, ReadsAt, EndsAtInput, NeedsBody, known_input};
 ghost use Rattle.asgi_conn.specs.Lines.{state_of};
 ghost use Rattle.asgi_conn.specs.TaskEnds.{has_ended};
 
@@ -244,34 +244,26 @@ impl ConnHalf {
         ensures tag { (C.tag end.new ≡ C.tag end.old) × (C.ring end.new ≡ C.ring end.old) }
         ensures limits { self.new.wire.limits ≡ self.old.wire.limits }
     {
-        match mem::replace(&mut self.body, Body::Open) {
+        match self.body {
             Body::Open => false,
-            Body::Waits(event) => self.offer(event, end),
-            Body::Whole => {
-                self.body = Body::Whole;
-                if !self.wire.input.has_ended() {
-                    return false;
-                }
-                self.break_off(end)
-            }
-            Body::Refused(status) => {
-                self.body = Body::Refused(status);
-                self.break_off(end)
-            }
-            Body::BrokenOff => {
-                self.body = Body::BrokenOff;
-                self.break_off(end)
-            }
+            Body::Waits(_) => self.offer(end),
+            Body::Whole => self.break_at_end(end),
+            Body::Refused(_) => self.break_off(end),
+            Body::BrokenOff => self.break_at_end(end),
         }
     }
 
-    /// Offers the event that waited, which waits on where no place is free.
-    fn offer<C: ConnEnd>(&mut self, event: Incoming, end: &mut C) -> bool
-        requires { (self.old.stage ≡ Stage.Running) × ((self.old.broke ≡ false) × (self.old.body ≡ Body.Open)) }
-        ensures leads { LeadsIn (record self.old { body = Body.Waits event }) (IsViewOf C.ConnEnd end.old) self.new (IsViewOf C.ConnEnd end.new) }
+    /// Offers the event that waits, which waits on where no place is free.
+    fn offer<C: ConnEnd>(&mut self, end: &mut C) -> bool
+        requires running { (self.old.stage ≡ Stage.Running) × (self.old.broke ≡ false) }
+        requires waits { (event : Incoming) × (self.old.body ≡ Body.Waits event) }
+        ensures leads { LeadsIn self.old (IsViewOf C.ConnEnd end.old) self.new (IsViewOf C.ConnEnd end.new) }
         ensures tag { (C.tag end.new ≡ C.tag end.old) × (C.ring end.new ≡ C.ring end.old) }
         ensures limits { self.new.wire.limits ≡ self.old.wire.limits }
     {
+        let Body::Waits(event) = mem::replace(&mut self.body, Body::Open) else {
+            unreachable!()
+        };
         match end.offer(event) {
             Ok(()) => true,
             Err(back) => {
@@ -279,6 +271,20 @@ impl ConnHalf {
                 false
             }
         }
+    }
+
+    /// Offers the disconnect, where the input has ended.
+    fn break_at_end<C: ConnEnd>(&mut self, end: &mut C) -> bool
+        requires running { (self.old.stage ≡ Stage.Running) × (self.old.broke ≡ false) }
+        requires ends { EndsAtInput self.old.body }
+        ensures leads { LeadsIn self.old (IsViewOf C.ConnEnd end.old) self.new (IsViewOf C.ConnEnd end.new) }
+        ensures tag { (C.tag end.new ≡ C.tag end.old) × (C.ring end.new ≡ C.ring end.old) }
+        ensures limits { self.new.wire.limits ≡ self.old.wire.limits }
+    {
+        if !self.wire.input.has_ended() {
+            return false;
+        }
+        self.break_off(end)
     }
 
     /// Offers the disconnect.
