@@ -18,7 +18,9 @@ use Rattle.asgi_exchange.specs.Halves.{IsOffered}
 use Rattle.asgi_exchange.specs.Http.{http}
 use Rattle.asgi_exchange.specs.Items.{end_of}
 use Rattle.asgi_exchange.specs.Steps.{is_by_input, is_by_cut}
-use Rattle.asgi_exchange.specs.Views.{Break, ByInput, ByCut, ConnView, taken_of}
+use Rattle.asgi_exchange.specs.Views.{Break, ByInput, ByCut, ConnView, output, taken_of}
+use Rattle.asgi_exchange.proofs.HttpLemmas.{http_is_steady}
+use Rattle.asgi_exchange.proofs.ListLemmas.{prefix_trans}
 use Rattle.asgi_conn.specs.declared.half.Body.{Body}
 use Rattle.asgi_conn.specs.declared.half.Body.TheVariants.{Open, Waits, Whole, Refused, BrokenOff}
 use Rattle.asgi_conn.specs.declared.half.ConnHalf.{ConnHalf}
@@ -30,6 +32,7 @@ use Rattle.asgi_conn.specs.declared.wire.Wire.{Wire}
 use Rattle.asgi_conn.specs.Half.{Scene, Stands, Talks, IsRunning, IsCutShort, IsAt, HasGiven, EndsWhere, BreaksAt, known, state_in}
 use Rattle.asgi_conn.specs.HalfSteps.{KeepsBesidesBody, GivesBehind, ReadsAt, EndsAtInput}
 use Rattle.asgi_conn.specs.Lines.{LineState, HasMoved}
+use Rattle.asgi_conn.specs.SoFar.{Within}
 use Rattle.asgi_conn.specs.TaskEnds.{has_ended, is_faulty}
 use Rattle.asgi_conn.proofs.HalfBodyLemmas.{unbroken, first_due, all_due, why_broken}
 use Rattle.asgi_conn.proofs.HalfLemmas.{running_of, unfailed, not_written, part_written}
@@ -194,3 +197,102 @@ due_at_end (Waits event) end ends is = absurd ends
 due_at_end Whole end ends is = is
 due_at_end (Refused status) end ends is = tt
 due_at_end BrokenOff end ends is = is
+
+-- ---- a read
+
+reads_unbroken : (broke : Bool) (body : Body) (end : InputEnd) → ReadsAt body → has_ended end ≡ false → (broke ≡ true → BreaksAt body end) → broke ≡ false
+reads_unbroken false body end reads still settled = refl
+reads_unbroken true Open end reads still settled = absurd (settled refl)
+reads_unbroken true Whole end reads still settled = absurd (not_both (has_ended end) still (settled refl))
+reads_unbroken true (Waits event) end reads still settled = absurd reads
+reads_unbroken true (Refused status) end reads still settled = absurd reads
+reads_unbroken true BrokenOff end reads still settled = absurd reads
+
+given_fed : (old new : Reading) (read more : List ℕ) (opened : List Next) (events : List Incoming) (body : Body) → ReadsAt body
+    → ((bytes : List ℕ) (given : List Next) → StandsFor old bytes given → StandsFor new (bytes ++ more) given)
+    → HasGiven old read opened events body → HasGiven new (read ++ more) opened events body
+given_fed old new read more opened events Open reads fed given = fed read (opened ++ map next.Event events) given
+given_fed old new read more opened events Whole reads fed given = fed read (opened ++ (map next.Event events ++ next.Whole ∷ [])) given
+given_fed old new read more opened events (Waits event) reads fed given = absurd reads
+given_fed old new read more opened events (Refused status) reads fed given = absurd reads
+given_fed old new read more opened events BrokenOff reads fed given = absurd reads
+
+ends_anywhere : (body : Body) (end : InputEnd) → ReadsAt body → EndsWhere body end
+ends_anywhere Open end reads = tt
+ends_anywhere Whole end reads = tt
+ends_anywhere (Waits event) end reads = absurd reads
+ends_anywhere (Refused status) end reads = absurd reads
+ends_anywhere BrokenOff end reads = absurd reads
+
+module _ (scene : Scene) (was now : LineState) (half : ConnHalf) (read : List ℕ) (view : ConnView ℕ ℕ) (x : Stands scene was half read view) (is : half.stage ≡ Running)
+    (open_still : has_ended half.wire.input ≡ false) (reads : ReadsAt half.body) (more : List ℕ) (wire : Wire) (same : wire ≡ record half.wire { requests = wire.requests; input = wire.input })
+    (limits : wire.requests.limits ≡ half.wire.requests.limits)
+    (moved : HasMoved scene.start was half.wire.input read (scene.before ++ view.written) 0 → HasMoved scene.start now wire.input (read ++ more) (scene.before ++ view.written) 0) where
+  unbroke : half.broke ≡ false
+  unbroke = reads_unbroken half.broke half.body half.wire.input reads open_still (running_of scene was half read view x is).talks.settled
+
+  more_within : Within half.wire.limits wire.input (read ++ more) scene.opened scene.exchanges scene.before scene.scope scene.facts (view.arrived ++ more)
+  more_within =
+      end_seen_within half.wire.limits half.wire.input wire.input (read ++ more) scene.opened scene.exchanges scene.before scene.scope scene.facts (view.arrived ++ more)
+      (λ e. absurd (not_both (has_ended half.wire.input) open_still e))
+      (within_reads_more half.wire.limits half.wire.input read more scene.opened scene.exchanges scene.before scene.scope scene.facts view.arrived x.within)
+
+  offers_more : IsOffered (http half.wire.limits scene.facts) (view.arrived ++ more) view.offered view.broken
+  offers_more =
+      let none = none_broke scene was half read view x is unbroke in
+      let front = subst (λ (b : Option Break). IsOffered (http half.wire.limits scene.facts) view.arrived view.offered b) none x.keeps.offered in
+      subst (λ (b : Option Break). IsOffered (http half.wire.limits scene.facts) (view.arrived ++ more) view.offered b) (sym none)
+      (prefix_trans view.offered (body_events half.wire.limits scene.facts.framing view.arrived) (body_events half.wire.limits scene.facts.framing (view.arrived ++ more)) front
+      ((http_is_steady half.wire.limits scene.facts).due_grows view.arrived more))
+
+  no_break : is_by_input view.broken ≡ true → ⊥
+  no_break e = not_both half.broke unbroke ((running_of scene was half read view x is).talks.broke ∙ e)
+
+  written_more : IsPrefix view.written (output (http half.wire.limits scene.facts) (record view { arrived = view.arrived ++ more }))
+  written_more =
+      let r = running_of scene was half read view x is in
+      part_written half.wire.limits scene.facts (record view { arrived = view.arrived ++ more }) [] r.unended (append-nil view.written ∙ r.talks.written)
+
+  -- more arrives
+  pub read_more : ((bytes : List ℕ) (given : List Next) → StandsFor half.wire.requests bytes given → StandsFor wire.requests (bytes ++ more) given)
+      → Stands scene now (record half { wire = wire }) (read ++ more) (record view { arrived = view.arrived ++ more })
+  read_more fed =
+      let r = running_of scene was half read view x is in
+      let t = r.talks in
+      subst (λ (w : Wire). Stands scene now (record half { wire = w }) (read ++ more) (record view { arrived = view.arrived ++ more })) (sym same)
+      (subst (λ (s : Stage). Stands scene now (record half { wire = record half.wire { requests = wire.requests; input = wire.input }; stage = s }) (read ++ more) (record view { arrived = view.arrived ++ more })) (sym is)
+      (record {
+        moved = moved (unfailed scene was half read view x Running is refl);
+        limits = limits ∙ x.limits;
+        within = more_within;
+        keeps = record { offered = offers_more; written = written_more };
+        breaks = λ e. absurd (no_break e);
+        stage = record {
+          talks = record {
+            uncut = t.uncut;
+            broke = t.broke;
+            settled = λ e. absurd (not_both half.broke unbroke e);
+            events = t.events;
+            given = given_fed half.wire.requests wire.requests read more scene.opened t.events half.body reads fed t.given;
+            ends_where = ends_anywhere half.body wire.input reads;
+            text = t.text;
+            written = t.written;
+            empty = t.empty;
+          };
+          unended = r.unended;
+          offered = r.offered;
+        };
+      }))
+
+  -- there is no memory for it
+  pub read_short : Stands scene now (record half { wire = wire; stage = Cut NoMemory }) (read ++ more) (record view { arrived = view.arrived ++ more })
+  read_short =
+      subst (λ (w : Wire). Stands scene now (record half { wire = w; stage = Cut NoMemory }) (read ++ more) (record view { arrived = view.arrived ++ more })) (sym same)
+      (record {
+        moved = moved (unfailed scene was half read view x Running is refl);
+        limits = limits ∙ x.limits;
+        within = more_within;
+        keeps = record { offered = offers_more; written = written_more };
+        breaks = λ e. absurd (no_break e);
+        stage = (record { cut = refl; stops = λ n e. absurd (not_written n e) }, (running_of scene was half read view x is).unended);
+      })

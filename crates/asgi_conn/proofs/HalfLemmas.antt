@@ -17,7 +17,10 @@ use Rattle.asgi_response.specs.declared.refusal.Input.{Input}
 use Rattle.asgi_response.specs.declared.text.ResponseText.{ResponseText}
 use Rattle.asgi_response.specs.Response.{response_text}
 use Rattle.asgi_response.specs.Standing as standing
+use Rattle.asgi_pipes.specs.declared.ends.ConnEnd as conn_end
+use Rattle.asgi_pipes.specs.declared.items.OutItem.{OutItem}
 use Rattle.asgi_pipes.specs.declared.items.OutItem.TheVariants.{Event, Ended}
+use Rattle.asgi_exchange.specs.Calls.{IsViewOf}
 use Rattle.asgi_exchange.specs.Halves.{ConnKeeps, IsOffered}
 use Rattle.asgi_exchange.specs.Http.{http, input_of}
 use Rattle.asgi_exchange.specs.Items.{end_of}
@@ -248,3 +251,74 @@ begun_short scene now facts read arrived old wire text o = record {
   breaks = λ e. cc;
   stage = (record { cut = refl; stops = λ n e. absurd (not_written n e) }, refl);
 }
+
+-- ---- the end of the task is taken
+
+pub ended_taken : (scene : Scene) (now : LineState) (half : ConnHalf) (read : List ℕ) (view : ConnView ℕ ℕ) (kind : EndKind) → Stands scene now half read view → half.stage ≡ Running
+    → Stands scene now (record half { stage = Ending kind }) (read ++ []) (record view { got = view.got ++ Ended kind ∷ [] })
+ended_taken scene now half read view kind x is =
+    let r = running_of scene now half read view x is in
+    let t = r.talks in
+    let later = record view { got = view.got ++ Ended kind ∷ [] } in
+    let same : taken_of later ≡ taken_of view = events_append view.got (Ended kind ∷ []) ∙ append-nil (taken_of view) in
+    let out : view.written ≡ response_text scene.facts (taken_of later) = t.written ∙ ap (response_text scene.facts) (sym same) in
+    subst (λ (l : List ℕ). Stands scene now (record half { stage = Ending kind }) l later) (sym (append-nil read))
+    (record {
+      moved = unfailed scene now half read view x Running is refl;
+      limits = x.limits;
+      within = x.within;
+      keeps = record {
+        offered = x.keeps.offered;
+        written = (
+          added_by (http half.wire.limits scene.facts) (taken_of later) (end_of later.got) later.broken_first later.arrived,
+          ap (λ (l : List ℕ). l ++ added_by (http half.wire.limits scene.facts) (taken_of later) (end_of later.got) later.broken_first later.arrived) out,
+        );
+      };
+      breaks = x.breaks;
+      stage = (
+        record {
+          uncut = t.uncut;
+          broke = t.broke;
+          settled = t.settled;
+          events = t.events;
+          given = t.given;
+          ends_where = t.ends_where;
+          text = subst (λ (l : List Outgoing). standing.StandsFor half.text scene.facts l) (sym same) t.text;
+          written = out;
+          empty = t.empty;
+        },
+        end_ended view.got kind r.unended,
+      );
+    })
+
+-- ---- where nothing is done
+
+pub stands_still : (scene : Scene) (now : LineState) (half : ConnHalf) (read : List ℕ) (view : ConnView ℕ ℕ) → Stands scene now half read view → Stands scene now half (read ++ []) view
+stands_still scene now half read view x = subst (λ (l : List ℕ). Stands scene now half l view) (sym (append-nil read)) x
+
+module _ (E : Type 0) (C : conn_end.Ghosts E) (scene : Scene) (now : LineState) (half : ConnHalf) (read : List ℕ) (view : ConnView ℕ ℕ) (x : Stands scene now half read view) (old new : E) (is_view : IsViewOf C old view)
+    (offered : C.offered new ≡ C.offered old) (broken : C.is_broken new ≡ C.is_broken old) where
+  -- nothing was there to take
+  pub took_none : C.got new ≡ C.got old → (more : List ℕ) × (later : ConnView ℕ ℕ) × Stands scene now half (read ++ more) later × IsViewOf C new later
+  took_none got = ([], view, stands_still scene now half read view x, (is_view.0 ∙ sym offered, is_view.1 ∙ sym broken, is_view.2 ∙ sym got))
+
+  -- the end was
+  pub took_end : (kind : EndKind) → half.stage ≡ Running → C.got new ≡ C.got old ++ Ended kind ∷ []
+      → (more : List ℕ) × (later : ConnView ℕ ℕ) × Stands scene now (record half { stage = Ending kind }) (read ++ more) later × IsViewOf C new later
+  took_end kind is got = (
+      [],
+      record view { got = view.got ++ Ended kind ∷ [] },
+      ended_taken scene now half read view kind x is,
+      (is_view.0 ∙ sym offered, is_view.1 ∙ sym broken, ap (λ (l : List OutItem). l ++ Ended kind ∷ []) is_view.2 ∙ sym got),
+    )
+
+  -- an event was, and it is said
+  pub took_event : (event : Outgoing) (after : LineState) (later : ConnHalf) → C.got new ≡ C.got old ++ Event event ∷ []
+      → (written : List ℕ) × Stands scene after later read (record view { got = view.got ++ Event event ∷ []; written = written })
+      → (more : List ℕ) × (next : ConnView ℕ ℕ) × Stands scene after later (read ++ more) next × IsViewOf C new next
+  took_event event after later got said = (
+      [],
+      record view { got = view.got ++ Event event ∷ []; written = said.0 },
+      stands_still scene after later read (record view { got = view.got ++ Event event ∷ []; written = said.0 }) said.1,
+      (is_view.0 ∙ sym offered, is_view.1 ∙ sym broken, ap (λ (l : List OutItem). l ++ Event event ∷ []) is_view.2 ∙ sym got),
+    )
