@@ -19,6 +19,7 @@ pub mod OneConversationLemmas
 pub mod TakenLemmas
 pub mod LineLemmas
 pub mod HalfBodyLemmas
+pub mod LeadsLemmas
 pub mod HalfLemmas
 pub mod HalfInLemmas
 pub mod LoopLemmas

@@ -149,7 +149,10 @@ impl ConnHalf {
     {
         let mut took = false;
         for _item in 0..self.wire.limits.ring {
-            if self.stage != Stage::Running || !self.take_one(line, end) {
+            if self.stage != Stage::Running {
+                return took;
+            }
+            if !self.take_one(line, end) {
                 return took;
             }
             took = true;
@@ -211,7 +214,10 @@ impl ConnHalf {
     {
         let mut offered = false;
         for _event in 0..self.wire.limits.ring {
-            if self.stage != Stage::Running || !self.offer_one(end) {
+            if self.stage != Stage::Running {
+                return offered;
+            }
+            if !self.offer_one(end) {
                 return offered;
             }
             offered = true;

@@ -1,0 +1,30 @@
+use Rattle.asgi_exchange.specs.Calls.{IsViewOf}
+use Rattle.asgi_conn.specs.Lines.{state_of}
+use Rattle.asgi_conn.proofs.LeadsLemmas.{leads_then, leads_out, taken_and_offered}
+use Rattle.asgi_conn.proofs.half.ConnHalf.run.Goals as goal
+
+pub returns-then-ne-2-clause-leads : goal.returns-then-ne-2-clause-leads
+returns-then-ne-2-clause-leads g c =
+    taken_and_offered (state_of g.L.Reads g.L.Counts c.args.line.now) (state_of g.L.Reads g.L.Counts c.take_all-took.new.line)
+    c.args.self.now c.take_all-took.new.self c.offer_all-offered.new.self
+    (IsViewOf g.C.ConnEnd c.args.end.now) (IsViewOf g.C.ConnEnd c.take_all-took.new.end) (IsViewOf g.C.ConnEnd c.offer_all-offered.new.end)
+    c.take_all-took.ensures.leads c.offer_all-offered.ensures.leads
+
+pub returns-then-took-clause-leads : goal.returns-then-took-clause-leads
+returns-then-took-clause-leads g c =
+    taken_and_offered (state_of g.L.Reads g.L.Counts c.args.line.now) (state_of g.L.Reads g.L.Counts c.take_all-took.new.line)
+    c.args.self.now c.take_all-took.new.self c.offer_all-offered.new.self
+    (IsViewOf g.C.ConnEnd c.args.end.now) (IsViewOf g.C.ConnEnd c.take_all-took.new.end) (IsViewOf g.C.ConnEnd c.offer_all-offered.new.end)
+    c.take_all-took.ensures.leads c.offer_all-offered.ensures.leads
+
+pub returns-clause-leads : goal.returns-clause-leads
+returns-clause-leads g c =
+    let was = state_of g.L.Reads g.L.Counts c.args.line.now in
+    let mid = state_of g.L.Reads g.L.Counts c.take_all-took.new.line in
+    let now = state_of g.L.Reads g.L.Counts c.read.new.line in
+    let half = c.offer_all-offered.new.self in
+    let end = c.offer_all-offered.new.end in
+    leads_then was mid now c.args.self.now half c.read.new.self (IsViewOf g.C.ConnEnd c.args.end.now) (IsViewOf g.C.ConnEnd end) (IsViewOf g.C.ConnEnd end)
+    (taken_and_offered was mid c.args.self.now c.take_all-took.new.self half
+    (IsViewOf g.C.ConnEnd c.args.end.now) (IsViewOf g.C.ConnEnd c.take_all-took.new.end) (IsViewOf g.C.ConnEnd end) c.take_all-took.ensures.leads c.offer_all-offered.ensures.leads)
+    (leads_out _ g.C.ConnEnd end mid now half c.read.new.self c.read.ensures.leads)
