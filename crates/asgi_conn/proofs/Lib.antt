@@ -10,6 +10,7 @@ pub mod TakenLemmas
 pub mod LineLemmas
 pub mod HalfLemmas
 pub mod LoopLemmas
+pub mod HalfEndLemmas
 pub mod TaskEndLemmas
 pub mod ConversationExample
 pub mod BeginningLemmas
