@@ -23,6 +23,7 @@ pub mod LeadsLemmas
 pub mod HalfLemmas
 pub mod HalfInLemmas
 pub mod LoopLemmas
+pub mod HalfEndLemmas
 pub mod TaskEndLemmas
 pub mod ConversationExample
 pub mod BeginningLemmas

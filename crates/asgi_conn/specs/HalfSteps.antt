@@ -1,10 +1,11 @@
 -- What the steps of the connection's half tell each other: words of private functions. No promise is stated by them.
-use Rattle.std.specs.Prelude.{◌≡◌, ⊤, ℕ, Bool, true, false, List, [], ◌∷◌, ◌++◌, None, Some}
+use Rattle.std.specs.Prelude.{◌≡◌, ◌⊎◌, ⊤, ℕ, Bool, true, false, List, [], ◌∷◌, ◌++◌, None, Some}
 use Rattle.asgi_types.specs.declared.end_kind.EndKind.{EndKind}
 use Rattle.asgi_types.specs.declared.end_kind.EndKind.TheVariants as kind
 use Rattle.asgi_types.specs.declared.facts.Facts.{Facts}
 use Rattle.asgi_types.specs.declared.facts.Framing.{Framing}
 use Rattle.asgi_types.specs.declared.incoming.Incoming.{Incoming}
+use Rattle.asgi_types.specs.declared.incoming.Incoming.TheVariants.{HttpDisconnect}
 use Rattle.asgi_request.specs.declared.next.Next.{Next}
 use Rattle.asgi_request.specs.declared.next.Next.TheVariants as next
 use Rattle.asgi_request.specs.Opened.{HasOpened}
@@ -19,7 +20,7 @@ use Rattle.asgi_exchange.specs.Halves.{IsOffered}
 use Rattle.asgi_exchange.specs.Http.{http}
 use Rattle.asgi_exchange.specs.Items.{end_of}
 use Rattle.asgi_exchange.specs.Steps.{is_by_input, is_by_cut}
-use Rattle.asgi_exchange.specs.Views.{ConnView, taken_of}
+use Rattle.asgi_exchange.specs.Views.{ByCut, ConnView, taken_of}
 use Rattle.asgi_conn.specs.declared.half.Body.{Body}
 use Rattle.asgi_conn.specs.declared.half.Body.TheVariants.{Open, Waits, Whole, Refused, BrokenOff}
 use Rattle.asgi_conn.specs.declared.half.ConnHalf.{ConnHalf}
@@ -125,3 +126,8 @@ known_input _ = input.Broken
 abbrev pub IsFree : Body → Type 0
 IsFree (Waits event) = ⊥
 IsFree _ = ⊤
+
+-- the disconnect of a cut was offered, where none was before
+abbrev pub IsCutOff : ConnView ℕ ℕ → ConnView ℕ ℕ → Type 0
+IsCutOff view later =
+    (later ≡ view) ⊎ ((view.broken ≡ None) × (later ≡ record view { offered = view.offered ++ HttpDisconnect ∷ []; broken = Some ByCut }))

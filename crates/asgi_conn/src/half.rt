@@ -13,7 +13,7 @@ ghost use Rattle.asgi_response.specs.Standing as standing;
 ghost use Rattle.asgi_exchange.specs.Calls.{IsViewOf};
 ghost use Rattle.asgi_exchange.specs.Views.{ConnView, empty_conn};
 ghost use Rattle.asgi_conn.specs.Half.{Scene, Stands, Leads, HasGiven, EndsWhere, IsSettled, BreaksAt};
-ghost use Rattle.asgi_conn.specs.HalfSteps.{Opens, Pending, LeadsOut, LeadsIn, KeepsBesidesBody, GivesOn, GivesBehind, GaveNext, IsFree, ReadsAt, EndsAtInput, NeedsBody, known_input};
+ghost use Rattle.asgi_conn.specs.HalfSteps.{Opens, Pending, LeadsOut, LeadsIn, KeepsBesidesBody, GivesOn, GivesBehind, GaveNext, IsFree, ReadsAt, EndsAtInput, NeedsBody, IsCutOff, known_input};
 ghost use Rattle.asgi_conn.specs.Lines.{state_of};
 ghost use Rattle.asgi_conn.specs.TaskEnds.{has_ended};
 
@@ -362,19 +362,32 @@ impl ConnHalf {
         ensures limits { self.new.wire.limits ≡ self.old.wire.limits }
     {
         let progress = self.text.progress();
-        if needs_body(kind, progress, self.broke) {
-            if self.drop_rest().is_err() {
-                self.stage = Stage::Over(Following::ConnectionEnds(Outcome::NoMemory));
-                return Turn::Moved;
-            }
-            match self.body {
-                Body::Open => return self.read_rest(line),
-                Body::Waits(_) => return Turn::Moved,
-                Body::Whole | Body::Refused(_) | Body::BrokenOff => {}
-            }
+        if !needs_body(kind, progress, self.broke) {
+            return self.close(kind, progress, line);
         }
-        self.close(kind, progress, line);
-        Turn::Moved
+        match self.drop_rest() {
+            Err(_) => {
+                self.stage = Stage::Over(Following::ConnectionEnds(Outcome::NoMemory));
+                Turn::Moved
+            }
+            Ok(()) => self.settle(kind, progress, line),
+        }
+    }
+
+    /// Reads on in the rest of the body, or ends the exchange where nothing more is due.
+    fn settle<L: Line>(&mut self, kind: EndKind, progress: Progress, line: &mut L) -> Turn
+        requires ending { self.old.stage ≡ Stage.Ending kind }
+        requires progress { (facts : Facts) (said : List Outgoing) → standing.StandsFor self.old.text facts said → progress ≡ progress_of facts said }
+        ensures leads { LeadsOut (state_of L.Reads L.Counts line.old) self.old (state_of L.Reads L.Counts line.new) self.new }
+        ensures limits { self.new.wire.limits ≡ self.old.wire.limits }
+    {
+        match self.body {
+            Body::Open => self.read_rest(line),
+            Body::Waits(_) => Turn::Moved,
+            Body::Whole => self.close(kind, progress, line),
+            Body::Refused(_) => self.close(kind, progress, line),
+            Body::BrokenOff => self.close(kind, progress, line),
+        }
     }
 
     /// Drops the event that waits, where one does.
@@ -391,12 +404,16 @@ impl ConnHalf {
         false
     }
 
-    /// Drops events of the rest of the body, as many as one turn takes.
+    /// Drops events of the rest of the body, as many as one turn takes. Behind a disconnect none is left.
     fn drop_rest(&mut self) -> Result<(), AllocError>
         ensures same { KeepsBesidesBody self.old self.new }
         ensures gives { OnOk result (GivesOn self.old self.new) }
+        ensures broke { self.old.broke ≡ true → self.new.body ≡ self.old.body }
         ensures limits { self.new.wire.requests.limits ≡ self.old.wire.requests.limits }
     {
+        if self.broke {
+            return Ok(());
+        }
         self.pull()?;
         for _event in 0..self.wire.limits.ring {
             if !self.drop_one() {
@@ -410,6 +427,7 @@ impl ConnHalf {
     /// Reads on in the rest of the body.
     fn read_rest<L: Line>(&mut self, line: &mut L) -> Turn
         requires ending { (kind : EndKind) × (self.old.stage ≡ Stage.Ending kind) }
+        requires open { self.old.body ≡ Body.Open }
         ensures leads { LeadsOut (state_of L.Reads L.Counts line.old) self.old (state_of L.Reads L.Counts line.new) self.new }
         ensures limits { self.new.wire.limits ≡ self.old.wire.limits }
     {
@@ -426,7 +444,7 @@ impl ConnHalf {
     }
 
     /// Writes what the end of the task adds.
-    fn close<L: Line>(&mut self, kind: EndKind, progress: Progress, line: &mut L)
+    fn close<L: Line>(&mut self, kind: EndKind, progress: Progress, line: &mut L) -> Turn
         requires ending { self.old.stage ≡ Stage.Ending kind }
         requires progress { (facts : Facts) (said : List Outgoing) → standing.StandsFor self.old.text facts said → progress ≡ progress_of facts said }
         requires known { NeedsBody kind progress self.old.broke → IsSettled self.old.body }
@@ -435,18 +453,26 @@ impl ConnHalf {
     {
         let input = input_of(&self.body);
         let following = after_task(kind, progress, input, self.broke);
-        if kind == EndKind::Idle {
+        if let EndKind::Idle = kind {
             self.stage = Stage::Over(following);
-            return;
+            return Turn::Moved;
         }
-        if self.text.end(input, &mut self.wire.out).is_err() {
-            self.stage = Stage::Over(Following::ConnectionEnds(Outcome::NoMemory));
-            return;
+        match self.text.end(input, &mut self.wire.out) {
+            Err(_) => {
+                self.stage = Stage::Over(Following::ConnectionEnds(Outcome::NoMemory));
+                Turn::Moved
+            }
+            Ok(()) => match self.wire.put(line) {
+                None => {
+                    self.stage = Stage::Over(following);
+                    Turn::Moved
+                }
+                Some(n) => {
+                    self.stage = Stage::Over(Following::ConnectionEnds(Outcome::WriteFailed(n)));
+                    Turn::Moved
+                }
+            },
         }
-        self.stage = match self.wire.put(line) {
-            None => Stage::Over(following),
-            Some(n) => Stage::Over(Following::ConnectionEnds(Outcome::WriteFailed(n))),
-        };
     }
 
     /// Offers the disconnect of a connection that is cut short, and takes what is there next: the
@@ -476,12 +502,20 @@ impl ConnHalf {
         ensures limits { self.new.wire.limits ≡ self.old.wire.limits }
     {
         match self.stage {
-            Stage::Over(_) => return,
-            Stage::Cut(outcome) => self.stage = Stage::Over(Following::ConnectionEnds(outcome)),
-            Stage::Running | Stage::Ending(_) => {
-                self.stage = Stage::Over(Following::ConnectionEnds(Outcome::Idle));
-            }
+            Stage::Over(_) => {}
+            Stage::Cut(outcome) => self.stop(outcome, end),
+            Stage::Running => self.stop(Outcome::Idle, end),
+            Stage::Ending(_) => self.stop(Outcome::Idle, end),
         }
+    }
+
+    /// Ends the exchange here, and offers the disconnect.
+    fn stop<C: ConnEnd>(&mut self, outcome: Outcome, end: &mut C)
+        ensures half { self.new ≡ record self.old { stage = Stage.Over (Following.ConnectionEnds outcome) } }
+        ensures cuts { (view : ConnView ℕ ℕ) → IsViewOf C.ConnEnd end.old view → (later : ConnView ℕ ℕ) × IsCutOff view later × IsViewOf C.ConnEnd end.new later }
+        ensures tag { (C.tag end.new ≡ C.tag end.old) × (C.ring end.new ≡ C.ring end.old) }
+    {
+        self.stage = Stage::Over(Following::ConnectionEnds(outcome));
         let _first = end.offer_disconnect(Incoming::HttpDisconnect);
     }
 }
