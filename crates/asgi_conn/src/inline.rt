@@ -1,8 +1,16 @@
 //! Both halves of an exchange in one thread, turn by turn.
-ghost use Rattle.std.specs.Prelude.{◌≡◌, ◌≢◌, ◌<◌, ℕ, IsTrue};
-ghost use Rattle.asgi_io.specs.declared.turns.Turn.TheVariants as turn;
+ghost use Rattle.std.specs.Prelude.{◌≡◌, ◌≢◌, ◌<◌, ◌++◌, ℕ, List, IsTrue};
+ghost use Rattle.asgi_io.specs.declared.turns.Turn.{Turn};
+ghost use Rattle.asgi_io.specs.Turns.{CountsTurns};
+ghost use Rattle.asgi_types.specs.declared.scope.Kind.TheVariants.{Http};
 ghost use Rattle.asgi_pipes.specs.PlainPairs.{IsPlainPair};
-ghost use Rattle.asgi_conn.specs.Running.{OfEnd, MayRun, GoesOnAs, TagStays};
+ghost use Rattle.asgi_exchange.specs.Calls.{IsViewOf};
+ghost use Rattle.asgi_exchange.specs.Views.{ConnView};
+ghost use Rattle.asgi_conn.specs.declared.following.Following.{Following};
+ghost use Rattle.asgi_conn.specs.declared.half.Stage.TheVariants as stage;
+ghost use Rattle.asgi_conn.specs.Half.{Scene, Stands};
+ghost use Rattle.asgi_conn.specs.Lines.{state_of};
+ghost use Rattle.asgi_conn.specs.Running.{OfEnd, MayRun, HasRun, GoesOnAs, TagStays};
 
 use crate::half::ConnHalf;
 use crate::line::Line;
@@ -52,7 +60,20 @@ impl<'q> Runner for Inline<'q> {
         turns: &mut Turns,
         end: PlainConn,
         side: AppSide<T, PlainApp>,
-    ) -> EndKind {
+    ) -> EndKind
+        requires pair { OfEnd side (λ app. IsPlainPair end app) }
+        requires http { OfEnd side (λ app. ⟦<PlainApp as AppEnd>⟧.kind app ≡ Http) }
+        requires may { MayRun T.stands ⟦<PlainApp as AppEnd>⟧ side }
+        ensures runs { (scene : Scene) (read : List ℕ) (view : ConnView ℕ ℕ) → Stands scene (state_of L.Reads L.Counts line.old) half.old read view
+            → IsViewOf ⟦<PlainConn as ConnEnd>⟧ end view → OfEnd side (λ app. ⟦<PlainApp as AppEnd>⟧.facts app ≡ scene.facts)
+            → (more : List ℕ) × HasRun T.answers ⟦<PlainApp as AppEnd>⟧ half.old.wire.limits scene (state_of L.Reads L.Counts line.new) half.new (read ++ more) side result }
+        ensures over { (following : Following) × (half.new.stage ≡ stage.Over following) }
+        ensures limits { half.new.wire.limits ≡ half.old.wire.limits }
+        ensures counts { (turned : List Turn) (pauses : ℕ) → CountsTurns turns.old.turn_limit turns.old.idle_limit turned pauses (P.count pause.old) turns.old.turns turns.old.idle
+            → (more : List Turn) × CountsTurns turns.old.turn_limit turns.old.idle_limit (turned ++ more) pauses (P.count pause.new) turns.new.turns turns.new.idle }
+        ensures turn_limits { (turns.new.turn_limit ≡ turns.old.turn_limit) × (turns.new.idle_limit ≡ turns.old.idle_limit) }
+        ensures met { ◌≡◌ {A = ℕ} 0 0 }
+    {
         let mut conn = end;
         let mut side = side;
         while goes_on(half, turns) {
