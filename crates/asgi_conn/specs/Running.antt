@@ -53,7 +53,7 @@ IsOfRequest ends was is = (ends.kind is ≡ ends.kind was) × (ends.facts is ≡
 
 -- nothing more was heard or said
 abbrev pub SameLists : {E : Type 0} → Ghosts E → E → E → Type 0
-SameLists ends was is = (ends.pulled is ≡ ends.pulled was) × ((ends.heard is ≡ ends.heard was) × (ends.said is ≡ ends.said was))
+SameLists ends was is = (ends.pulled is ≡ ends.pulled was) × (ends.heard is ≡ ends.heard was) × (ends.said is ≡ ends.said was)
 
 -- From the application's side as it was to a later one: a task that runs may be polled, one that ended kept its promise, and
 -- one that had ended stays as it was.
@@ -61,13 +61,13 @@ abbrev pub GoesOnAs : {T E : Type 0} → (T → Kind → List Incoming → List 
     → Ghosts E → AppSide T E → AppSide T E → Type 0
 GoesOnAs stands answers ends (Runs old) (Runs new) =
     IsSomeAnd old.lent (λ was. IsSomeAnd new.lent (λ is.
-    MayGoOn stands ends is.task is.app_end × (IsWithin answers is.task was.task × IsOfRequest ends was.app_end is.app_end)))
+    MayGoOn stands ends is.task is.app_end × IsWithin answers is.task was.task × IsOfRequest ends was.app_end is.app_end))
 GoesOnAs stands answers ends (Runs old) (HasEnded app_end kind) =
     IsSomeAnd old.lent (λ was.
-    (ends.ended app_end ≡ Some kind) × (answers was.task (ends.heard app_end) (ends.said app_end) (own_end kind) × IsOfRequest ends was.app_end app_end))
+    (ends.ended app_end ≡ Some kind) × answers was.task (ends.heard app_end) (ends.said app_end) (own_end kind) × IsOfRequest ends was.app_end app_end)
 GoesOnAs stands answers ends (HasEnded was before) (Runs new) = ⊥
 GoesOnAs stands answers ends (HasEnded was before) (HasEnded app_end kind) =
-    (ends.ended app_end ≡ Some kind) × ((kind ≡ before) × (SameLists ends was app_end × IsOfRequest ends was app_end))
+    (ends.ended app_end ≡ Some kind) × (kind ≡ before) × SameLists ends was app_end × IsOfRequest ends was app_end
 
 -- it is still the end of that pair
 abbrev pub TagStays : {T E : Type 0} → Ghosts E → AppSide T E → AppSide T E → Type 0
