@@ -78,8 +78,8 @@ impl<'q> Runner for Inline<'q> {
         let mut side = side;
         while goes_on(half, turns) {
             let moved = half.turn(line, &mut conn);
-            side = carry(&mut conn, side);
-            let polled = poll(&mut self.cx, side);
+            let carried = carry(&mut conn, side);
+            let polled = poll(&mut self.cx, carried);
             side = carry(&mut conn, polled.side);
             turns.take(both(moved, polled.turn), pause);
         }
