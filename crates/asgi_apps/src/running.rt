@@ -87,7 +87,7 @@ impl<T: AppTask, E: AppEnd> Running<T, E> {
     }
 
     /// What the polls since this was last asked did.
-    fn moved(&mut self) -> Turn
+    pub fn moved(&mut self) -> Turn
         requires { IsSomeAnd self.old.lent (λ was. MayGoOn T.stands E.AppEnd was.task was.app_end) }
         ensures turn { IsSomeAnd self.old.lent (λ was. result ≡ turn_of (E.has_moved was.app_end)) }
         ensures same { IsSomeAnd self.old.lent (λ was. IsSomeAnd self.new.lent (λ is. (is.task ≡ was.task) × GoesOn E.AppEnd None was.app_end is.app_end)) }

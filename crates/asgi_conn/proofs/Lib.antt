@@ -27,3 +27,4 @@ pub mod HalfEndLemmas
 pub mod TaskEndLemmas
 pub mod ConversationExample
 pub mod BeginningLemmas
+pub mod InlineLemmas

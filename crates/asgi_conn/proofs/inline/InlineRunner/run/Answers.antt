@@ -1,0 +1,140 @@
+use Rattle.std.proofs.Common.{rules, ◌≡◌, ◌++◌, ◌∷◌, [], ℕ, List, refl, sym, ap, ◌∙◌, subst, append_assoc, arith}
+use Rattle.std.proofs.lemmas.List.{append-nil}
+use Rattle.asgi_io.specs.declared.turns.Turn.{Turn}
+use Rattle.asgi_io.specs.Turns.{CountsTurns}
+use Rattle.asgi_types.specs.declared.facts.Facts.{Facts}
+use Rattle.asgi_types.specs.declared.limits.Limits.{Limits}
+use Rattle.asgi_pipes.specs.Boxes.{carriage_from, carriage_to}
+use Rattle.asgi_pipes.specs.Pairs.{Carried, carried}
+use Rattle.asgi_pipes.specs.declared.plain_app.PlainApp.{PlainApp}
+use Rattle.asgi_pipes.specs.declared.plain_conn.PlainConn.{PlainConn}
+use Rattle.asgi_pipes.specs.contracts.plain_app.PlainAppAppEnd.TheImpl as app_end
+use Rattle.asgi_pipes.specs.contracts.plain_conn.PlainConnConnEnd.TheImpl as conn_end
+use Rattle.asgi_apps.proofs.PauseLemmas.{counts_more}
+use Rattle.asgi_exchange.specs.Calls.{IsViewOf, view_of}
+use Rattle.asgi_exchange.specs.Halves.{ConnKeeps}
+use Rattle.asgi_exchange.specs.Http.{http}
+use Rattle.asgi_exchange.specs.HttpExchange.{IsHttpExchange}
+use Rattle.asgi_exchange.specs.Views.{World}
+use Rattle.asgi_conn.specs.declared.runner.AppSide.TheVariants.{HasEnded}
+use Rattle.asgi_conn.specs.Lines.{state_of}
+use Rattle.asgi_conn.proofs.InlineLemmas as lemma
+use Rattle.asgi_conn.proofs.inline.InlineRunner.run.Goals as goal
+
+app_tag : PlainApp → Carried
+app_tag app = carried (carriage_to app.inn) (carriage_from app.out)
+
+conn_tag : PlainConn → Carried
+conn_tag conn = carried (carriage_from conn.out) (carriage_to conn.inn)
+
+pub loop-half-init : goal.loop-half-init
+loop-half-init g c = record {
+  pair = c.requires.pair;
+  goes_on = lemma.goes_nowhere g.T.AppTask.stands g.T.AppTask.answers app_end.ghosts c.args.side c.requires.may;
+  leads = lemma.leads_nowhere (state_of g.L.Reads g.L.Counts c.args.line.now) c.args.half.now (IsViewOf conn_end.ghosts c.args.end);
+  limits = refl;
+  turn_limit = refl;
+  idle_limit = refl;
+  counts = λ turned pauses counts. (
+    [],
+    subst (λ (l : List Turn). CountsTurns c.args.turns.now.turn_limit c.args.turns.now.idle_limit l pauses
+        (g.P.Pause.count c.args.pause.now) c.args.turns.now.turns c.args.turns.now.idle) (sym (append-nil turned)) counts,
+  );
+}
+
+pub carry-carried-requires-clause-pair : goal.carry-carried-requires-clause-pair
+unfolding app_tag conn_tag
+carry-carried-requires-clause-pair g c =
+    lemma.pair_stays app_tag c.loop-half.side (conn_tag c.loop-half.conn) (conn_tag c.turn-moved.new.end) c.loop-half.invariant.pair c.turn-moved.ensures.tag.0
+
+pub carry-carried-requires-clause-may : goal.carry-carried-requires-clause-may
+carry-carried-requires-clause-may g c = lemma.may_run g.T.AppTask.stands g.T.AppTask.answers app_end.ghosts c.args.side c.loop-half.side c.loop-half.invariant.goes_on
+
+pub poll-polled-requires : goal.poll-polled-requires
+poll-polled-requires g c = lemma.may_run g.T.AppTask.stands g.T.AppTask.answers app_end.ghosts c.loop-half.side c.carry-carried.result c.carry-carried.ensures.side
+
+pub carry-side-requires-clause-pair : goal.carry-side-requires-clause-pair
+unfolding app_tag conn_tag
+carry-side-requires-clause-pair g c =
+    lemma.pair_of app_tag c.carry-carried.result c.poll-polled.result.side (conn_tag c.carry-carried.new.conn) c.carry-carried.ensures.pair c.poll-polled.ensures.tag
+
+pub carry-side-requires-clause-may : goal.carry-side-requires-clause-may
+carry-side-requires-clause-may g c = lemma.may_run g.T.AppTask.stands g.T.AppTask.answers app_end.ghosts c.carry-carried.result c.poll-polled.result.side c.poll-polled.ensures.side
+
+pub loop-half-smaller : goal.loop-half-smaller
+loop-half-smaller g c = omega (arith, c.take.ensures.one, c.take.ensures.turn_limit, (c.goes_on.ensures c.loop-half-test.true).0)
+
+pub loop-half-preserved : goal.loop-half-preserved
+loop-half-preserved g c =
+    let inv = c.loop-half.invariant in
+    let stands = g.T.AppTask.stands in
+    let answers = g.T.AppTask.answers in
+    let carried_once = lemma.goes_further stands answers app_end.ghosts c.args.side c.loop-half.side c.carry-carried.result inv.goes_on c.carry-carried.ensures.side in
+    let polled = lemma.goes_further stands answers app_end.ghosts c.args.side c.carry-carried.result c.poll-polled.result.side carried_once c.poll-polled.ensures.side in
+    let carried_twice = lemma.goes_further stands answers app_end.ghosts c.args.side c.poll-polled.result.side c.carry-side.result polled c.carry-side.ensures.side in
+    record {
+      pair = c.carry-side.ensures.pair;
+      goes_on = carried_twice;
+      leads = λ scene read view s is.
+          let x = inv.leads scene read view s is in
+          let y = c.turn-moved.ensures.leads scene (read ++ x.0) x.1 x.2 x.3 in
+          let first = c.carry-carried.ensures.conn in
+          let second = c.carry-side.ensures.conn in (
+            x.0 ++ y.0,
+            y.1,
+            rw (sym (append_assoc read x.0 y.0)) y.2,
+            (y.3.0 ∙ sym (second.0 ∙ first.0), y.3.1 ∙ sym (second.2 ∙ first.2), y.3.2 ∙ sym (second.1 ∙ first.1)),
+          );
+      limits = c.turn-moved.ensures.limits ∙ inv.limits;
+      turn_limit = c.take.ensures.turn_limit ∙ inv.turn_limit;
+      idle_limit = c.take.ensures.idle_limit ∙ inv.idle_limit;
+      counts = λ turned pauses counts.
+          let x = inv.counts turned pauses counts in
+          let y = counts_more c.args.turns.now.turn_limit c.args.turns.now.idle_limit _ _ pauses _ _ _ _ _ _ (turned ++ x.0) c.both.result
+          inv.turn_limit inv.idle_limit x.1 c.take.ensures.counts in
+          (x.0 ++ c.both.result ∷ [], rw (sym (append_assoc turned x.0 (c.both.result ∷ []))) y);
+    }
+
+pub end_of-last-requires : goal.end_of-last-requires
+end_of-last-requires g c = lemma.may_run g.T.AppTask.stands g.T.AppTask.answers app_end.ghosts c.args.side c.loop-half.side c.loop-half.invariant.goes_on
+
+pub join-met-requires : goal.join-met-requires
+unfolding app_tag conn_tag
+join-met-requires g c =
+    let pair = lemma.pair_stays app_tag c.loop-half.side (conn_tag c.loop-half.conn) (conn_tag c.give_up.new.end) c.loop-half.invariant.pair c.give_up.ensures.tag.0 in
+    lemma.last_pair app_tag c.loop-half.side c.end_of-last.result.app_end (conn_tag c.give_up.new.end) pair c.end_of-last.ensures.tag
+
+pub returns-clause-runs : goal.returns-clause-runs
+returns-clause-runs g c scene read view s is facts =
+    let side = c.end_of-last.ensures.side in
+    let app = c.end_of-last.result.app_end in
+    let kind = c.end_of-last.result.kind in
+    let stands = g.T.AppTask.stands in
+    let answers = g.T.AppTask.answers in
+    let all = lemma.goes_further stands answers app_end.ghosts c.args.side c.loop-half.side (HasEnded app kind) c.loop-half.invariant.goes_on side in
+    let x = c.loop-half.invariant.leads scene read view s is in
+    let y = c.give_up.ensures.leads scene (state_of g.L.Reads g.L.Counts c.loop-half.line) (read ++ x.0) x.1 x.2 x.3 in
+    let limits : c.give_up.new.self.wire.limits ≡ c.args.half.now.wire.limits = c.give_up.ensures.limits ∙ c.loop-half.invariant.limits in
+    let is_facts = lemma.of_facts stands answers app_end.ghosts scene.facts c.args.side app kind all facts in
+    let by_limits = subst (λ (l : Limits). ConnKeeps (http l scene.facts) y.0) limits y.1.keeps in
+    let keeps = subst (λ (f : Facts). ConnKeeps (http c.args.half.now.wire.limits f) y.0) (sym is_facts) by_limits in
+    let w : World ℕ ℕ = record { conn = y.0; app = view_of app_end.ghosts app } in
+    let joined = c.join-met.ensures.http c.args.half.now.wire.limits y.0 (lemma.of_http stands answers app_end.ghosts c.args.side app kind all c.requires.http) keeps y.2.0 y.2.2 in (
+      x.0,
+      record {
+        world = w;
+        stands = y.1;
+        exchange = subst (λ (f : Facts). IsHttpExchange c.args.half.now.wire.limits f w) is_facts joined;
+        ended = lemma.ended_as stands answers app_end.ghosts c.args.side app kind all;
+        answers_for = lemma.answered stands answers app_end.ghosts c.args.side app kind c.requires.may all;
+      },
+    )
+
+pub returns-clause-limits : goal.returns-clause-limits
+returns-clause-limits g c = c.give_up.ensures.limits ∙ c.loop-half.invariant.limits
+
+pub returns-clause-counts : goal.returns-clause-counts
+returns-clause-counts g c = c.loop-half.invariant.counts
+
+pub returns-clause-turn_limits : goal.returns-clause-turn_limits
+returns-clause-turn_limits g c = (c.loop-half.invariant.turn_limit, c.loop-half.invariant.idle_limit)

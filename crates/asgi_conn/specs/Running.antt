@@ -1,0 +1,74 @@
+-- The two halves of one exchange, run until it is over.
+use Rattle.std.specs.Prelude.{◌≡◌, ℕ, List, Option, Some, None, IsSomeAnd}
+use Rattle.asgi_types.specs.declared.end_kind.EndKind.{EndKind}
+use Rattle.asgi_types.specs.declared.incoming.Incoming.{Incoming}
+use Rattle.asgi_types.specs.declared.limits.Limits.{Limits}
+use Rattle.asgi_types.specs.declared.outgoing.Outgoing.{Outgoing}
+use Rattle.asgi_types.specs.declared.scope.Kind.{Kind}
+use Rattle.asgi_pipes.specs.declared.ends.AppEnd.{Ghosts}
+use Rattle.asgi_apps.specs.Ends.{IsWithin, MayGoOn, own_end}
+use Rattle.asgi_exchange.specs.Calls.{view_of}
+use Rattle.asgi_exchange.specs.HttpExchange.{IsHttpExchange}
+use Rattle.asgi_exchange.specs.Items.{end_of}
+use Rattle.asgi_exchange.specs.Views.{AppView, World, said_of}
+use Rattle.asgi_conn.specs.declared.half.ConnHalf.{ConnHalf}
+use Rattle.asgi_conn.specs.declared.runner.AppSide.{AppSide}
+use Rattle.asgi_conn.specs.declared.runner.AppSide.TheVariants.{Runs, HasEnded}
+use Rattle.asgi_conn.specs.Half.{Scene, Stands}
+use Rattle.asgi_conn.specs.Lines.{LineState}
+
+-- ---- the application's side
+
+-- this holds of its end
+abbrev pub OfEnd : {T E : Type 0} → AppSide T E → (E → Type 0) → Type 0
+OfEnd (Runs running) P = IsSomeAnd running.lent (λ lent. P lent.app_end)
+OfEnd (HasEnded app_end kind) P = P app_end
+
+-- its task may be polled, or has ended so
+abbrev pub MayRun : {T E : Type 0} → (T → Kind → List Incoming → List Outgoing → Type 0) → Ghosts E → AppSide T E → Type 0
+MayRun stands ends (Runs running) = IsSomeAnd running.lent (λ lent. MayGoOn stands ends lent.task lent.app_end)
+MayRun stands ends (HasEnded app_end kind) = ends.ended app_end ≡ Some kind
+
+-- In the end this was heard and said: a task kept its promise, and behind a task that had ended nothing was.
+abbrev pub Answers : {T E : Type 0} → (T → List Incoming → List Outgoing → Option EndKind → Type 0) → Ghosts E → AppSide T E → AppView → EndKind → Type 0
+Answers answers ends (Runs running) app kind = IsSomeAnd running.lent (λ lent. answers lent.task app.heard (said_of app) (own_end kind))
+Answers answers ends (HasEnded app_end ended) app kind = app ≡ view_of ends app_end
+
+-- ---- the exchange
+
+-- Both halves ran: the connection stands behind it, the two halves make one HTTP exchange, and its task ended so.
+pub record HasRun {T E : Type 0} (answers : T → List Incoming → List Outgoing → Option EndKind → Type 0) (ends : Ghosts E)
+    (limits : Limits) (scene : Scene) (now : LineState) (half : ConnHalf) (read : List ℕ) (side : AppSide T E) (kind : EndKind) : Type 0 where
+  pub world : World ℕ ℕ
+  pub stands : Stands scene now half read world.conn
+  pub exchange : IsHttpExchange limits scene.facts world
+  pub ended : end_of world.app.put ≡ Some kind
+  pub answers_for : Answers answers ends side world.app kind
+
+-- ---- the steps of a runner: words of private functions
+
+-- it is still the end of that request
+abbrev pub IsOfRequest : {E : Type 0} → Ghosts E → E → E → Type 0
+IsOfRequest ends was is = (ends.kind is ≡ ends.kind was) × (ends.facts is ≡ ends.facts was)
+
+-- nothing more was heard or said
+abbrev pub SameLists : {E : Type 0} → Ghosts E → E → E → Type 0
+SameLists ends was is = (ends.pulled is ≡ ends.pulled was) × (ends.heard is ≡ ends.heard was) × (ends.said is ≡ ends.said was)
+
+-- From the application's side as it was to a later one: a task that runs may be polled, one that ended kept its promise, and
+-- one that had ended stays as it was.
+abbrev pub GoesOnAs : {T E : Type 0} → (T → Kind → List Incoming → List Outgoing → Type 0) → (T → List Incoming → List Outgoing → Option EndKind → Type 0)
+    → Ghosts E → AppSide T E → AppSide T E → Type 0
+GoesOnAs stands answers ends (Runs old) (Runs new) =
+    IsSomeAnd old.lent (λ was. IsSomeAnd new.lent (λ is.
+    MayGoOn stands ends is.task is.app_end × IsWithin answers is.task was.task × IsOfRequest ends was.app_end is.app_end))
+GoesOnAs stands answers ends (Runs old) (HasEnded app_end kind) =
+    IsSomeAnd old.lent (λ was.
+    (ends.ended app_end ≡ Some kind) × answers was.task (ends.heard app_end) (ends.said app_end) (own_end kind) × IsOfRequest ends was.app_end app_end)
+GoesOnAs stands answers ends (HasEnded was before) (Runs new) = ⊥
+GoesOnAs stands answers ends (HasEnded was before) (HasEnded app_end kind) =
+    (ends.ended app_end ≡ Some kind) × (kind ≡ before) × SameLists ends was app_end × IsOfRequest ends was app_end
+
+-- it is still the end of that pair
+abbrev pub TagStays : {T E : Type 0} → Ghosts E → AppSide T E → AppSide T E → Type 0
+TagStays ends old new = OfEnd old (λ was. OfEnd new (λ is. ends.tag is ≡ ends.tag was))

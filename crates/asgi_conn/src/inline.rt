@@ -1,0 +1,227 @@
+//! Both halves of an exchange in one thread, turn by turn.
+ghost use Rattle.std.specs.Prelude.{◌≡◌, ◌≢◌, ◌<◌, ◌++◌, ℕ, List, IsTrue};
+ghost use Rattle.asgi_io.specs.declared.turns.Turn.{Turn};
+ghost use Rattle.asgi_io.specs.Turns.{CountsTurns};
+ghost use Rattle.asgi_types.specs.declared.scope.Kind.TheVariants.{Http};
+ghost use Rattle.asgi_pipes.specs.PlainPairs.{IsPlainPair};
+ghost use Rattle.asgi_exchange.specs.Calls.{IsViewOf};
+ghost use Rattle.asgi_exchange.specs.Views.{ConnView};
+ghost use Rattle.asgi_conn.specs.declared.following.Following.{Following};
+ghost use Rattle.asgi_conn.specs.declared.half.Stage.TheVariants as stage;
+ghost use Rattle.asgi_conn.specs.Half.{Scene, Stands};
+ghost use Rattle.asgi_conn.specs.Lines.{state_of};
+ghost use Rattle.asgi_conn.specs.Running.{OfEnd, MayRun, HasRun, GoesOnAs, TagStays};
+
+use crate::half::ConnHalf;
+use crate::line::Line;
+use crate::runner::{AppSide, Runner};
+use asgi_apps::{AppTask, Ended, Lent, Running};
+use asgi_exchange::join;
+use asgi_io::{Pause, Turn, Turns};
+use asgi_pipes::{AppEnd, ConnEnd, EndKind, Plain, PlainApp, PlainConn};
+use futures::task::{Context, Poll};
+
+/// Runs both halves in the caller's thread, each for a turn: the task is polled by this context.
+pub struct Inline<'q> {
+    cx: Context<'q>,
+}
+
+impl<'q> Inline<'q> {
+    /// Polls tasks by this context.
+    pub fn new(cx: Context<'q>) -> Self {
+        Inline { cx }
+    }
+
+    /// Ends the task of the context: no exchange is run any more.
+    pub fn end(self) {
+        let Inline { cx } = self;
+        cx.cancel();
+    }
+}
+
+impl<'q> Runner for Inline<'q> {
+    type Pipes = Plain;
+
+    ghost not_met = { λ _. 0 };
+
+    ghost pauses = { λ _. 0 };
+
+    ghost driven = { λ _. 0 };
+
+    fn pipes(&self) -> Plain {
+        Plain
+    }
+
+    fn run<L: Line, P: Pause, T: AppTask>(
+        &mut self,
+        half: &mut ConnHalf,
+        line: &mut L,
+        pause: &mut P,
+        turns: &mut Turns,
+        end: PlainConn,
+        side: AppSide<T, PlainApp>,
+    ) -> EndKind
+        requires pair { OfEnd side (λ app. IsPlainPair end app) }
+        requires http { OfEnd side (λ app. ⟦<PlainApp as AppEnd>⟧.kind app ≡ Http) }
+        requires may { MayRun T.stands ⟦<PlainApp as AppEnd>⟧ side }
+        ensures runs { (scene : Scene) (read : List ℕ) (view : ConnView ℕ ℕ) → Stands scene (state_of L.Reads L.Counts line.old) half.old read view
+            → IsViewOf ⟦<PlainConn as ConnEnd>⟧ end view → OfEnd side (λ app. ⟦<PlainApp as AppEnd>⟧.facts app ≡ scene.facts)
+            → (more : List ℕ) × HasRun T.answers ⟦<PlainApp as AppEnd>⟧ half.old.wire.limits scene (state_of L.Reads L.Counts line.new) half.new (read ++ more) side result }
+        ensures over { (following : Following) × (half.new.stage ≡ stage.Over following) }
+        ensures limits { half.new.wire.limits ≡ half.old.wire.limits }
+        ensures counts { (turned : List Turn) (pauses : ℕ) → CountsTurns turns.old.turn_limit turns.old.idle_limit turned pauses (P.count pause.old) turns.old.turns turns.old.idle
+            → (more : List Turn) × CountsTurns turns.old.turn_limit turns.old.idle_limit (turned ++ more) pauses (P.count pause.new) turns.new.turns turns.new.idle }
+        ensures turn_limits { (turns.new.turn_limit ≡ turns.old.turn_limit) × (turns.new.idle_limit ≡ turns.old.idle_limit) }
+        ensures met { ◌≡◌ {A = ℕ} 0 0 }
+    {
+        let mut conn = end;
+        let mut side = side;
+        while goes_on(half, turns) {
+            let moved = half.turn(line, &mut conn);
+            let carried = carry(&mut conn, side);
+            let polled = poll(&mut self.cx, carried);
+            side = carry(&mut conn, polled.side);
+            turns.take(both(moved, polled.turn), pause);
+        }
+        half.give_up(&mut conn);
+        let last = end_of(side);
+        let _met = join::<Plain>(conn, last.app_end);
+        last.kind
+    }
+
+    fn unmet(&self) -> u64 {
+        0
+    }
+
+    fn paused(&self) -> u64 {
+        0
+    }
+
+    fn turned(&self) -> u64 {
+        0
+    }
+}
+
+/// Whether one more turn is taken.
+fn goes_on(half: &ConnHalf, turns: &Turns) -> bool
+    ensures { IsTrue result → (turns.now.turns < turns.now.turn_limit) × (turns.now.idle < turns.now.idle_limit) }
+{
+    !half.is_over() && !turns.is_over()
+}
+
+/// What both halves did in a turn: it is idle where neither moved anything.
+fn both(half: Turn, app: Turn) -> Turn
+    ensures idle { result ≡ Turn.Idle → (half ≡ Turn.Idle) × (app ≢ Turn.Moved) }
+{
+    if app == Turn::Moved {
+        return Turn::Moved;
+    }
+    half
+}
+
+/// Moves what was put at each end on to the other one.
+fn carry<T: AppTask>(conn: &mut PlainConn, side: AppSide<T, PlainApp>) -> AppSide<T, PlainApp>
+    requires pair { OfEnd side (λ app. IsPlainPair conn.old app) }
+    requires may { MayRun T.stands ⟦<PlainApp as AppEnd>⟧ side }
+    ensures pair { OfEnd result (λ app. IsPlainPair conn.new app) }
+    ensures conn { let End = ⟦<PlainConn as ConnEnd>⟧ in (End.offered conn.new ≡ End.offered conn.old)
+        × (End.got conn.new ≡ End.got conn.old)
+        × (End.is_broken conn.new ≡ End.is_broken conn.old) }
+    ensures side { GoesOnAs T.stands T.answers ⟦<PlainApp as AppEnd>⟧ side result }
+{
+    match side {
+        AppSide::HasEnded { mut app_end, kind } => {
+            Plain::carry(conn, &mut app_end);
+            AppSide::HasEnded { app_end, kind }
+        }
+        AppSide::Runs(mut running) => {
+            let Some(lent) = running.lent.take() else {
+                unreachable!()
+            };
+            let Lent { task, mut app_end } = lent;
+            Plain::carry(conn, &mut app_end);
+            running.lent = Some(Lent { task, app_end });
+            AppSide::Runs(running)
+        }
+    }
+}
+
+/// The application's side behind a turn, and what that turn did.
+#[derive(Drop)]
+struct Polled<T, E> {
+    side: AppSide<T, E>,
+    turn: Turn,
+}
+
+/// Polls the task once, where it still runs.
+fn poll<T: AppTask, E: AppEnd>(cx: &mut Context<'_>, side: AppSide<T, E>) -> Polled<T, E>
+    requires { MayRun T.stands E.AppEnd side }
+    ensures side { GoesOnAs T.stands T.answers E.AppEnd side result.side }
+    ensures tag { TagStays E.AppEnd side result.side }
+{
+    match side {
+        AppSide::HasEnded { app_end, kind } => Polled {
+            side: AppSide::HasEnded { app_end, kind },
+            turn: Turn::Idle,
+        },
+        AppSide::Runs(running) => poll_running(cx, running),
+    }
+}
+
+/// Polls the task once, which moved something where it ended.
+fn poll_running<T: AppTask, E: AppEnd>(cx: &mut Context<'_>, running: Running<T, E>) -> Polled<T, E>
+    requires { MayRun T.stands E.AppEnd (AppSide.Runs running) }
+    ensures side { GoesOnAs T.stands T.answers E.AppEnd (AppSide.Runs running) result.side }
+    ensures tag { TagStays E.AppEnd (AppSide.Runs running) result.side }
+{
+    let mut running = running;
+    if let Poll::Ready(ended) = running.turn(cx) {
+        let Ended {
+            task: _,
+            app_end,
+            kind,
+            turns: _,
+        } = ended;
+        return Polled {
+            side: AppSide::HasEnded { app_end, kind },
+            turn: Turn::Moved,
+        };
+    }
+    let turn = running.moved();
+    Polled {
+        side: AppSide::Runs(running),
+        turn,
+    }
+}
+
+/// The application's end in the end, and how its task ended.
+#[derive(Drop)]
+struct Last<E> {
+    app_end: E,
+    kind: EndKind,
+}
+
+/// Ends a task that still runs.
+fn end_of<T: AppTask, E: AppEnd>(side: AppSide<T, E>) -> Last<E>
+    requires { MayRun T.stands E.AppEnd side }
+    ensures side { GoesOnAs T.stands T.answers E.AppEnd side (AppSide.HasEnded result.app_end result.kind) }
+    ensures tag { OfEnd side (λ was. E.tag result.app_end ≡ E.tag was) }
+{
+    match side {
+        AppSide::HasEnded { app_end, kind } => Last { app_end, kind },
+        AppSide::Runs(running) => {
+            let Some(lent) = running.lent else {
+                unreachable!()
+            };
+            let Lent {
+                task: _,
+                mut app_end,
+            } = lent;
+            let _first = app_end.finish(EndKind::Idle);
+            Last {
+                app_end,
+                kind: EndKind::Idle,
+            }
+        }
+    }
+}

@@ -1,0 +1,83 @@
+//! What runs the two halves of an exchange.
+ghost use Rattle.std.specs.Prelude.{◌≡◌, ◌++◌, ℕ, List};
+ghost use Rattle.asgi_io.specs.declared.turns.Turn.{Turn};
+ghost use Rattle.asgi_io.specs.Turns.{CountsTurns};
+ghost use Rattle.asgi_types.specs.declared.scope.Kind.TheVariants.{Http};
+ghost use Rattle.asgi_exchange.specs.Calls.{IsViewOf};
+ghost use Rattle.asgi_exchange.specs.Views.{ConnView};
+ghost use Rattle.asgi_conn.specs.declared.following.Following.{Following};
+ghost use Rattle.asgi_conn.specs.declared.half.Stage.TheVariants as stage;
+ghost use Rattle.asgi_conn.specs.Half.{Scene, Stands};
+ghost use Rattle.asgi_conn.specs.Lines.{state_of};
+ghost use Rattle.asgi_conn.specs.Running.{OfEnd, MayRun, HasRun};
+
+use crate::half::ConnHalf;
+use crate::line::Line;
+use asgi_apps::{AppTask, Running};
+use asgi_io::{Pause, Turns};
+use asgi_pipes::{EndKind, Pipes};
+
+/// The application's side of an exchange.
+#[derive(Drop)]
+pub enum AppSide<T, E> {
+    /// Its task runs, with the end that it is lent.
+    Runs(Running<T, E>),
+    /// Its task has ended like this, or its call faulted, and `finish` was called on its end.
+    HasEnded { app_end: E, kind: EndKind },
+}
+
+/// Runs the two halves of an exchange.
+pub trait Runner {
+    /// The pairs of ends between them.
+    type Pipes: Pipes;
+
+    // The exchanges whose ends did not meet.
+    ghost not_met: { Self → ℕ };
+
+    // How often it paused by itself.
+    ghost pauses: { Self → ℕ };
+
+    // The turns of the last task that it drove by itself.
+    ghost driven: { Self → ℕ };
+
+    /// What makes those pairs.
+    fn pipes(&self) -> Self::Pipes;
+
+    /// Runs both halves of an HTTP exchange until it is over, or a limit on turns is reached, where it
+    /// is given up, and a task that still runs is ended as idle. The answer says how the task ended.
+    fn run<L: Line, P: Pause, T: AppTask>(
+        &mut self,
+        half: &mut ConnHalf,
+        line: &mut L,
+        pause: &mut P,
+        turns: &mut Turns,
+        end: <Self::Pipes as Pipes>::Conn,
+        side: AppSide<T, <Self::Pipes as Pipes>::App>,
+    ) -> EndKind
+        requires pair { OfEnd side (λ app. Self.Pipes.is_pair end app) }
+        requires http { OfEnd side (λ app. Self.Pipes.App.kind app ≡ Http) }
+        requires may { MayRun T.stands Self.Pipes.App.AppEnd side }
+        // Wherever the connection stood in the request of these ends, it stands behind the exchange.
+        ensures runs { (scene : Scene) (read : List ℕ) (view : ConnView ℕ ℕ) → Stands scene (state_of L.Reads L.Counts line.old) half.old read view
+            → IsViewOf Self.Pipes.Conn.ConnEnd end view → OfEnd side (λ app. Self.Pipes.App.facts app ≡ scene.facts)
+            → (more : List ℕ) × HasRun T.answers Self.Pipes.App.AppEnd half.old.wire.limits scene (state_of L.Reads L.Counts line.new) half.new (read ++ more) side result }
+        ensures over { (following : Following) × (half.new.stage ≡ stage.Over following) }
+        ensures limits { half.new.wire.limits ≡ half.old.wire.limits }
+        ensures counts { (turned : List Turn) (pauses : ℕ) → CountsTurns turns.old.turn_limit turns.old.idle_limit turned pauses (P.count pause.old) turns.old.turns turns.old.idle
+            → (more : List Turn) × CountsTurns turns.old.turn_limit turns.old.idle_limit (turned ++ more) pauses (P.count pause.new) turns.new.turns turns.new.idle }
+        ensures turn_limits { (turns.new.turn_limit ≡ turns.old.turn_limit) × (turns.new.idle_limit ≡ turns.old.idle_limit) }
+        // The ends of a pair always meet.
+        ensures met { not_met self.new ≡ not_met self.old };
+
+    /// How many exchanges there were whose ends did not meet.
+    fn unmet(&self) -> u64
+        ensures { result ≡ not_met self.now };
+
+    /// How often it paused by itself.
+    fn paused(&self) -> u64
+        ensures { result ≡ pauses self.now };
+
+    /// How many turns the last task took that it drove by itself.
+    fn turned(&self) -> u64
+        ensures { result ≡ driven self.now };
+}
