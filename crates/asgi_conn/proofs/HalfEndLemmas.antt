@@ -57,7 +57,7 @@ use Rattle.asgi_conn.specs.declared.input.InputEnd.{InputEnd}
 use Rattle.asgi_conn.specs.declared.report.Outcome.{Outcome}
 use Rattle.asgi_conn.specs.declared.report.Outcome.TheVariants as outcome
 use Rattle.asgi_conn.specs.declared.wire.Wire.{Wire}
-use Rattle.asgi_conn.specs.Half.{Scene, Stands, Talks, IsRunning, IsCutShort, EndsByTask, KeepsOn, Leaves, IsAt, HasGiven, EndsWhere, IsSettled, failures_at, failures_of, known, state_in, alone}
+use Rattle.asgi_conn.specs.Half.{BreaksAt, Scene, Stands, Talks, IsRunning, IsCutShort, EndsByTask, KeepsOn, Leaves, IsAt, HasGiven, EndsWhere, IsSettled, failures_at, failures_of, known, state_in, alone}
 use Rattle.asgi_conn.specs.HalfSteps.{KeepsBesidesBody, GivesOn, GivesBehind, NeedsBody, IsFree, IsCutOff, known_input}
 use Rattle.asgi_conn.specs.Lines.{LineState, HasMoved}
 use Rattle.asgi_conn.specs.Persistence.{InHand, Beginning, Saying, Ending, StopsWithin}
@@ -154,7 +154,7 @@ module _ (scene : Scene) (now : LineState) (half : ConnHalf) (read : List ℕ) (
               (record {
             uncut = t.uncut;
             broke = t.broke;
-            settled = λ b. subst IsSettled (sym (broke b)) (t.settled b);
+            settled = λ b. subst (λ (y : Body). BreaksAt y half.wire.input) (sym (broke b)) (t.settled b);
             events = g.0;
             given = g.1;
             ends_where = g.2;
@@ -183,7 +183,7 @@ module _ (scene : Scene) (now : LineState) (half : ConnHalf) (read : List ℕ) (
     module _ (is_open : half.body ≡ Open) (line : LineState) (new : Wire) (more : List ℕ) (same : new ≡ record half.wire { requests = new.requests; input = new.input })
         (limits : new.requests.limits ≡ half.wire.requests.limits) (still : has_ended half.wire.input ≡ false) where
       not_broken : is_by_input view.broken ≡ false
-      not_broken = let t = at_end.0 in sym t.broke ∙ not_true half.broke (λ b. subst IsSettled is_open (t.settled b))
+      not_broken = let t = at_end.0 in sym t.broke ∙ not_true half.broke (λ b. subst (λ (y : Body). BreaksAt y half.wire.input) is_open (t.settled b))
 
       abbrev pub longer : ConnView ℕ ℕ
       longer = record view { arrived = view.arrived ++ more }
