@@ -366,6 +366,9 @@ module _ (scene : Scene) (was : LineState) (half : ConnHalf) (read : List ℕ) (
   ending : Talks scene half read view × (end_of view.got ≡ Some kind)
   ending = subst (λ (s : Stage). IsAt s scene half read view) is x.stage
 
+  pub taken_text : standing.StandsFor half.text scene.facts (taken_of view)
+  taken_text = let t = ending.0 in t.text
+
   -- what is known of the body, by what the reader gave
   known_as : (b : Body) → HasGiven half.wire.requests read scene.opened (let t = ending.0 in t.events) b
       → (state : BodyState) × (input_of state ≡ known_input b) × (IsSettled b → state_in scene half view ≡ state)
@@ -412,8 +415,8 @@ module _ (scene : Scene) (was : LineState) (half : ConnHalf) (read : List ℕ) (
         (cut_here scene was half read view x outcome.Idle (ap failures_at is) refl refl (λ n e. cc e))
 
     -- there is no memory for its text
-    pub ends_short : (out : List ℕ) (wire : Wire) → wire ≡ record half.wire { out = wire.out } → Stands scene was (record half { wire = wire; stage = stage.Over (ConnectionEnds outcome.NoMemory) }) read view
-    ends_short out wire same =
+    pub ends_short : (wire : Wire) → wire ≡ record half.wire { out = wire.out } → Stands scene was (record half { wire = wire; stage = stage.Over (ConnectionEnds outcome.NoMemory) }) read view
+    ends_short wire same =
         subst (λ (w : Wire). Stands scene was (record half { wire = w; stage = stage.Over (ConnectionEnds outcome.NoMemory) }) read view) (sym same)
         (record {
           moved = unfailed scene was half read view x (stage.Ending kind) is refl;
