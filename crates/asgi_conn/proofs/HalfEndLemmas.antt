@@ -224,7 +224,7 @@ module _ (scene : Scene) (now : LineState) (half : ConnHalf) (read : List ℕ) (
                 (record {
               uncut = t.uncut;
               broke = t.broke;
-              settled = t.settled;
+              settled = λ b. absurd (subst (λ (y : Body). BreaksAt y half.wire.input) is_open (t.settled b));
               events = t.events;
               given = subst (λ (b : Body). HasGiven new.requests (read ++ more) scene.opened t.events b) (sym is_open)
                   (fed read (scene.opened ++ map next.Event t.events) (subst (λ (b : Body). HasGiven half.wire.requests read scene.opened t.events b) is_open t.given));
