@@ -1,19 +1,21 @@
 //! Text that a contract sees as the list of its bytes.
 ghost use Rattle.std.specs.Prelude.{◌≡◌, ℕ, List, IfOk, string_bytes};
+ghost use Rattle.std.specs.Cow.{cow_str_bytes};
 
 use std::alloc::{AllocError, Global};
+use std::borrow::CowStr;
 use std::marker::Model;
 
 /// A text, such as a path or a message. Its bytes are UTF-8.
 #[derive(Debug, Drop)]
 pub struct Chars {
-    text: String,
+    text: CowStr<'static, Global>,
 }
 
 impl Model for Chars {
     ghost Value = { List ℕ };
 
-    ghost view = { λ c. string_bytes c.text };
+    ghost view = { λ c. cow_str_bytes c.text };
 }
 
 impl Chars {
@@ -21,7 +23,20 @@ impl Chars {
     pub fn new(text: String) -> Self
         ensures { result ≡ string_bytes text }
     {
-        Chars { text }
+        Chars {
+            text: CowStr::Owned(text),
+        }
+    }
+
+    /// A text that the program itself holds. It takes no memory, and neither does its copy. It is for the crates of this
+    /// repository only.
+    #[doc(hidden)]
+    pub fn fixed(text: &'static str) -> Self
+        ensures { result ≡ text.now }
+    {
+        Chars {
+            text: CowStr::Borrowed(text),
+        }
     }
 
     /// The text in its place.
@@ -35,7 +50,9 @@ impl Chars {
     pub fn copy(&self, alloc: Global) -> Result<Self, AllocError>
         ensures { IfOk result (λ copied. copied ≡ self.now) }
     {
-        let text = String::from_str(alloc, self.text.as_str())?;
-        Ok(Chars { text })
+        match &self.text {
+            CowStr::Borrowed(text) => Ok(Chars::fixed(text)),
+            CowStr::Owned(text) => Ok(Chars::new(String::from_str(alloc, text.as_str())?)),
+        }
     }
 }
