@@ -4,7 +4,7 @@ use Rattle.asgi_request.specs.Reading.{Reading}
 use Rattle.asgi_request.specs.Searches.{Resumes}
 use Rattle.asgi_request.proofs.ReaderLemmas.{feed_stands, held_fed}
 use Rattle.asgi_request.proofs.SearchLemmas.{Resumes-append}
-use Rattle.asgi_request.proofs.reader.RequestReader.feed.Goals as goal
+use Rattle.asgi_request.proofs.reader.RequestReader.feed_crowded.Goals as goal
 
 pub returns-clause-fed : goal.returns-clause-fed
 returns-clause-fed c =
