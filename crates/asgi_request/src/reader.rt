@@ -76,6 +76,7 @@ impl RequestReader {
         ensures err { OnErr result (self.new ≡ self.old) }
         ensures full { OnErr result (LacksRoom self.old.capacity (length self.old.held) piece.now) }
     {
+        self.compact();
         if self.feed_within(piece) {
             return Ok(());
         }
@@ -108,7 +109,6 @@ impl RequestReader {
         ensures err { OnErr result (self.new ≡ self.old) }
         ensures full { OnErr result (LacksRoom self.old.capacity (length self.old.held) piece.now) }
     {
-        self.compact();
         make_room(&mut self.bytes, &mut self.start, piece.len())?;
         // The room is there, so this never fails: only its type says that it may.
         self.bytes.extend_from_slice(piece)?;
