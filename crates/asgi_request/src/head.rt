@@ -1,5 +1,5 @@
 //! The record of a head.
-ghost use Rattle.std.specs.Prelude.{◌≡◌, ◌<◌, ◌≤◌, length, map, take, All, IfOk, IfSome, IsUtf8};
+ghost use Rattle.std.specs.Prelude.{◌≡◌, ◌<◌, ◌≤◌, length, map, take, All, IfOk, IsUtf8};
 ghost use Rattle.std.specs.Char.{to_ascii_uppercase};
 ghost use Rattle.httparse.specs.Grammar.{RequestHead};
 ghost use Rattle.httparse.specs.Spans.{span_bytes, IsHeaderWithin, IsRequestWithin, IsRequestAt};
@@ -109,30 +109,13 @@ fn record_of(
     })
 }
 
-/// The text in upper case. A usual method takes no memory.
+/// The text in upper case.
 fn upper_case(alloc: Global, text: &[u8]) -> Result<Chars, AllocError>
     requires { All (λ b. b < 128) text.now }
     ensures { IfOk result (λ upper. upper ≡ map to_ascii_uppercase text.now) }
 {
-    if let Some(method) = usual_method(text) {
-        return Ok(Chars::fixed(method));
-    }
     let bytes = upper_bytes(alloc, text)?;
     Ok(text_of(bytes))
-}
-
-/// The same text, where it is a usual method.
-fn usual_method(text: &[u8]) -> Option<&'static str>
-    ensures { IfSome result (λ method. method.now ≡ map to_ascii_uppercase text.now) }
-{
-    match text {
-        b"GET" => Some("GET"),
-        b"HEAD" => Some("HEAD"),
-        b"POST" => Some("POST"),
-        b"PUT" => Some("PUT"),
-        b"PATCH" => Some("PATCH"),
-        _ => None,
-    }
 }
 
 fn upper_bytes(alloc: Global, text: &[u8]) -> Result<Vec<u8>, AllocError>

@@ -28,12 +28,13 @@ pub fn scope_of(alloc: Global, head: HeadRecord) -> Result<Scope, AllocError>
 {
     let path = decoded(alloc, path_of(head.target.bytes()))?;
     let query_string = Octets::new(Vec::from_slice(alloc, query_of(head.target.bytes()))?);
+    let scheme = Chars::new(String::from_str(alloc, "http")?);
     let raw_path = raw_path_of(alloc, head.target)?;
     Ok(Scope::Http(HttpScope {
         asgi: Asgi::of(Kind::Http),
         http_version: head.version,
         method: head.method,
-        scheme: Chars::fixed("http"),
+        scheme,
         path,
         raw_path,
         query_string,

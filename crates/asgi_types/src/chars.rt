@@ -1,21 +1,19 @@
 //! Text that a contract sees as the list of its bytes.
 ghost use Rattle.std.specs.Prelude.{◌≡◌, ℕ, List, IfOk, string_bytes};
-ghost use Rattle.std.specs.Cow.{cow_str_bytes};
 
 use std::alloc::{AllocError, Global};
-use std::borrow::CowStr;
 use std::marker::Model;
 
 /// A text, such as a path or a message. Its bytes are UTF-8.
 #[derive(Debug, Drop)]
 pub struct Chars {
-    text: CowStr<'static, Global>,
+    text: String,
 }
 
 impl Model for Chars {
     ghost Value = { List ℕ };
 
-    ghost view = { λ c. cow_str_bytes c.text };
+    ghost view = { λ c. string_bytes c.text };
 }
 
 impl Chars {
@@ -23,20 +21,7 @@ impl Chars {
     pub fn new(text: String) -> Self
         ensures { result ≡ string_bytes text }
     {
-        Chars {
-            text: CowStr::Owned(text),
-        }
-    }
-
-    /// A text that the program itself holds. It takes no memory, and neither does its copy. It is for the crates of this
-    /// repository only.
-    #[doc(hidden)]
-    pub fn fixed(text: &'static str) -> Self
-        ensures { result ≡ text.now }
-    {
-        Chars {
-            text: CowStr::Borrowed(text),
-        }
+        Chars { text }
     }
 
     /// The text in its place.
@@ -50,9 +35,7 @@ impl Chars {
     pub fn copy(&self, alloc: Global) -> Result<Self, AllocError>
         ensures { IfOk result (λ copied. copied ≡ self.now) }
     {
-        match &self.text {
-            CowStr::Borrowed(text) => Ok(Chars::fixed(text)),
-            CowStr::Owned(text) => Ok(Chars::new(String::from_str(alloc, text.as_str())?)),
-        }
+        let text = String::from_str(alloc, self.text.as_str())?;
+        Ok(Chars { text })
     }
 }
