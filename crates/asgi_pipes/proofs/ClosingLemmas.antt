@@ -14,8 +14,10 @@ use Rattle.asgi_protocol.specs.declared.verdict.Verdict.TheVariants.{Pass}
 use Rattle.asgi_protocol.specs.Shapes.{is_of, is_closed, is_word, begins_word, is_row, begins_row, is_empty, is_part, is_last_part, is_message, is_close, is_denial_part, is_last_denial_part}
 use Rattle.asgi_protocol.specs.Verdicts.{verdict_on, lines_on}
 use Rattle.asgi_protocol.proofs.PassLemmas.{no_line}
-use Rattle.asgi_pipes.specs.Disconnects.{first_disconnect, has_disconnect, is_accept, is_accepted, last_of, code_of, answer_at_once}
-use Rattle.asgi_pipes.specs.Closings.{closing_of}
+use Rattle.asgi_pipes.specs.Disconnects.{first_disconnect, has_disconnect, is_accept, is_accepted, last_of, code_of, answer_at_once, event_of}
+use Rattle.asgi_pipes.specs.Closings.{closing_of, is_closing}
+use Rattle.asgi_pipes.specs.declared.disconnect.Disconnect.{Disconnect}
+use Rattle.std.specs.Option.{option_map}
 use Rattle.asgi_pipes.specs.Items.{items_of}
 use Rattle.asgi_pipes.specs.declared.items.OutItem.{OutItem}
 use Rattle.asgi_pipes.specs.declared.items.OutItem.TheVariants.{Event, Ended}
@@ -79,13 +81,6 @@ last-append [] e = refl
 last-append (x ∷ []) e = refl
 last-append (x ∷ y ∷ xs) e = last-append (y ∷ xs) e
 
--- whether an event is the last of its word
-abbrev is_closing : Outgoing → Bool
-is_closing (ResponseBody body more_body) = not more_body
-is_closing (WsClose code reason) = true
-is_closing (DenialBody body more_body) = not more_body
-is_closing _ = false
-
 http_closes : (said : List Outgoing) (e : Outgoing) → is_of Http e ≡ true → begins_word Http (said ++ e ∷ []) ≡ true → is_word Http (said ++ e ∷ []) ≡ is_closing e
 http_closes [] (ResponseStart status headers) of begins = refl
 http_closes [] _ of begins = absurd (cc)
@@ -138,7 +133,7 @@ http_closing open_is (ResponseBody body false) of is = refl
 http_closing open_is (ResponseBody body true) of is = absurd (cc)
 http_closing open_is _ of is = absurd (cc)
 
-not_closing : (open_is : Bool) (e : Outgoing) → is_closing e ≡ false → None ≡ closing_of open_is e
+pub not_closing : (open_is : Bool) (e : Outgoing) → is_closing e ≡ false → None ≡ closing_of open_is e
 not_closing open_is (ResponseStart status headers) is = refl
 not_closing open_is (ResponseBody body true) is = refl
 not_closing open_is (ResponseBody body false) is = absurd (cc)
@@ -180,6 +175,17 @@ pub passed : (kind : Kind) (facts : Facts) (said : List Outgoing) (heard : List 
 passed kind facts said heard e pass =
     let l = no_line kind (lines_on kind facts said (has_disconnect heard) e) pass in
     record { open_is = l.closed; none = none_of (first_disconnect heard) l.disconnected; of = not_not _ l.wrong_scope; begins = not_not _ l.out_of_order }
+
+-- nothing is heard at once in front of a passed event
+pub nothing_at_once : (kind : Kind) (said : List Outgoing) (heard : List Incoming) (e : Outgoing) → Passed kind said heard e
+    → answer_at_once kind said heard ≡ None
+nothing_at_once Http said heard e p = rw (p.open_is, p.none) refl
+nothing_at_once WebSocket said heard e p = rw (p.open_is, p.none) refl
+nothing_at_once Lifespan said heard e p = refl
+
+pub nothing_kept : (kept : Option Disconnect) → option_map event_of kept ≡ None → kept ≡ None
+nothing_kept None e = refl
+nothing_kept (Some disconnect) e = absurd (cc)
 
 -- what is heard at once behind a passed event
 pub answer_behind : (kind : Kind) (said : List Outgoing) (heard : List Incoming) (e : Outgoing) → Passed kind said heard e

@@ -1,8 +1,8 @@
 //! Disconnects, which an application hears again and again.
-ghost use Rattle.std.specs.Prelude.{◌≡◌, []};
+ghost use Rattle.std.specs.Prelude.{◌≡◌, [], None};
 ghost use Rattle.std.specs.Option.{option_map};
 ghost use Rattle.asgi_pipes.specs.Disconnects.{event_of, disconnect_in, is_accept as is_accept_event};
-ghost use Rattle.asgi_pipes.specs.Closings.{closing_of};
+ghost use Rattle.asgi_pipes.specs.Closings.{closing_of, is_closing as is_closing_event};
 
 use asgi_types::{Incoming, Outgoing, Reason};
 
@@ -35,6 +35,18 @@ impl Disconnect {
                 reason: *reason,
             }),
             _ => None,
+        }
+    }
+
+    /// Keeps what is heard from then on behind the event, which passed: before it nothing was kept. Most events close
+    /// nothing, and then nothing is moved.
+    #[tactic(auto, using(crate::proofs::ClosingLemmas::not_closing))]
+    pub fn keep_behind(kept: &mut Option<Disconnect>, is_open: bool, event: &Outgoing)
+        requires { kept.old ≡ None }
+        ensures { option_map event_of kept.new ≡ closing_of is_open event.now }
+    {
+        if is_closing(event) {
+            *kept = Disconnect::behind(is_open, event);
         }
     }
 
@@ -78,6 +90,18 @@ fn of_session(code: u16) -> Disconnect
     match Reason::new("") {
         Some(reason) => Disconnect::WebSocket { code, reason },
         None => unreachable!(),
+    }
+}
+
+/// The event is the last of its scope.
+fn is_closing(event: &Outgoing) -> bool
+    ensures { result ≡ is_closing_event event.now }
+{
+    match event {
+        Outgoing::ResponseBody { more_body, .. } => !*more_body,
+        Outgoing::DenialBody { more_body, .. } => !*more_body,
+        Outgoing::WsClose { .. } => true,
+        _ => false,
     }
 }
 

@@ -110,7 +110,7 @@ impl AppEnd for PlainApp {
         }
         if 2 <= self.out.free() {
             self.judge = judge;
-            self.disconnect = Disconnect::behind(self.is_open, &event);
+            Disconnect::keep_behind(&mut self.disconnect, self.is_open, &event);
             self.is_open = opens(self.is_open, &event);
             self.said = History::with(&self.said, &event);
             self.out.put(OutItem::Event(event));

@@ -38,3 +38,4 @@ pub mod StartLemmas
 pub mod HeadExamples
 pub mod KeyLemmas
 pub mod SubprotocolLemmas
+pub mod TargetLemmas

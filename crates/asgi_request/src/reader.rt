@@ -1,5 +1,5 @@
 //! Requests out of bytes that come in any pieces.
-ghost use Rattle.std.specs.Prelude.{◌≡◌, ◌≢◌, ◌+◌, ◌<◌, ◌≤◌, ◌++◌, ◌∷◌, [], ℕ, List, length, take, drop, OnOk, OnErr, IfOk, IsOk, true, false, Some};
+ghost use Rattle.std.specs.Prelude.{◌≡◌, ◌≢◌, ◌+◌, ◌<◌, ◌≤◌, ◌++◌, ◌∷◌, [], ℕ, List, length, take, drop, OnOk, OnErr, IfOk, IsOk, IsTrue, IsFalse, true, false, Some};
 ghost use Rattle.std.specs.Vec.{vec_len, vec_capacity};
 ghost use Rattle.asgi_types.specs.Room.{LacksRoom};
 ghost use Rattle.asgi_request.specs.declared.next.Next.{Next};
@@ -77,6 +77,38 @@ impl RequestReader {
         ensures full { OnErr result (LacksRoom self.old.capacity (length self.old.held) piece.now) }
     {
         self.compact();
+        if self.feed_within(piece) {
+            return Ok(());
+        }
+        self.feed_crowded(piece)
+    }
+
+    /// Takes the next piece where there is room for it, and says whether there was.
+    fn feed_within(&mut self, piece: &[u8]) -> bool
+        ensures fed { IsTrue result → (bytes : List ℕ) (given : List Next) → StandsFor self.old bytes given → StandsFor self.new (bytes ++ piece.now) given }
+        ensures place { (self.new.place ≡ self.old.place) × (self.new.limits ≡ self.old.limits) }
+        ensures capacity { self.old.capacity ≤ self.new.capacity }
+        ensures kept { IsFalse result → self.new ≡ self.old }
+    {
+        if self.bytes.capacity() - self.bytes.len() < piece.len() {
+            return false;
+        }
+        match self.bytes.extend_from_slice(piece) {
+            Ok(()) => true,
+            Err(_) => unreachable!(),
+        }
+    }
+
+    /// Takes the next piece where room is made first. It stays out of line, since most pieces have room.
+    #[cold]
+    #[inline(never)]
+    fn feed_crowded(&mut self, piece: &[u8]) -> Result<(), AllocError>
+        ensures fed { OnOk result ((bytes : List ℕ) (given : List Next) → StandsFor self.old bytes given → StandsFor self.new (bytes ++ piece.now) given) }
+        ensures place { (self.new.place ≡ self.old.place) × (self.new.limits ≡ self.old.limits) }
+        ensures capacity { self.old.capacity ≤ self.new.capacity }
+        ensures err { OnErr result (self.new ≡ self.old) }
+        ensures full { OnErr result (LacksRoom self.old.capacity (length self.old.held) piece.now) }
+    {
         make_room(&mut self.bytes, &mut self.start, piece.len())?;
         // The room is there, so this never fails: only its type says that it may.
         self.bytes.extend_from_slice(piece)?;
@@ -348,5 +380,9 @@ fn drop_front(bytes: &mut Vec<u8>, count: usize)
     ensures items { bytes.new.items ≡ drop count bytes.old.items }
     ensures capacity { vec_capacity bytes.new ≡ vec_capacity bytes.old }
 {
+    if count == bytes.len() {
+        bytes.clear();
+        return;
+    }
     let _front = bytes.drain(..count);
 }

@@ -1,9 +1,10 @@
 //! The scope and the facts of a request.
-ghost use Rattle.std.specs.Prelude.{◌≡◌, IfOk};
+ghost use Rattle.std.specs.Prelude.{◌≡◌, ◌≤◌, length, take, IfOk};
 ghost use Rattle.asgi_request.specs.Scopes as spec;
+ghost use Rattle.asgi_request.specs.Target as target_parts;
 
 use crate::head::HeadRecord;
-use crate::target::{path_of, query_of};
+use crate::target::{path_in_front, path_of, query_of};
 use asgi_types::{
     Asgi, Chars, Extensions, Facts, Framing, HttpScope, HttpVersion, Kind, Names, Octets, Scope,
     State,
@@ -26,9 +27,9 @@ pub fn scope_of(alloc: Global, head: HeadRecord) -> Result<Scope, AllocError>
     ensures { IfOk result (λ scope. scope ≡ spec.scope_of head) }
 {
     let path = decoded(alloc, path_of(head.target.bytes()))?;
-    let raw_path = Octets::new(Vec::from_slice(alloc, path_of(head.target.bytes()))?);
     let query_string = Octets::new(Vec::from_slice(alloc, query_of(head.target.bytes()))?);
     let scheme = Chars::new(String::from_str(alloc, "http")?);
+    let raw_path = raw_path_of(alloc, head.target)?;
     Ok(Scope::Http(HttpScope {
         asgi: Asgi::of(Kind::Http),
         http_version: head.version,
@@ -47,6 +48,27 @@ pub fn scope_of(alloc: Global, head: HeadRecord) -> Result<Scope, AllocError>
             http_response_trailers: false,
         },
     }))
+}
+
+/// The path as it was received. Where it stands in front of the target, it stays in that memory.
+fn raw_path_of(alloc: Global, target: Octets) -> Result<Octets, AllocError>
+    ensures { IfOk result (λ path. path ≡ target_parts.path_of target) }
+{
+    if let Some(n) = path_in_front(target.bytes()) {
+        return Ok(front(target, n));
+    }
+    let path = Vec::from_slice(alloc, path_of(target.bytes()))?;
+    Ok(Octets::new(path))
+}
+
+/// The first bytes, in the same memory.
+fn front(bytes: Octets, n: usize) -> Octets
+    requires { n ≤ length bytes }
+    ensures { result ≡ take n bytes }
+{
+    let mut bytes = bytes.into_vec();
+    bytes.truncate(n);
+    Octets::new(bytes)
 }
 
 /// The path, percent-decoded, with U+FFFD for what is not UTF-8.

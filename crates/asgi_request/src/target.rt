@@ -1,5 +1,5 @@
 //! The target of a request.
-ghost use Rattle.std.specs.Prelude.{◌≡◌, ◌||◌, ◌≤◌, length, drop};
+ghost use Rattle.std.specs.Prelude.{◌≡◌, ◌||◌, ◌≤◌, length, take, drop, IfSome};
 ghost use Rattle.asgi_request.specs.Target as spec;
 
 const OPTIONS: &[u8] = b"OPTIONS";
@@ -43,6 +43,21 @@ pub fn path_of(target: &[u8]) -> &[u8]
     ensures { result.now ≡ spec.path_of target.now }
 {
     or_root(before_query(path_and_query(target)))
+}
+
+/// How many bytes the path has, where the target begins with it.
+#[tactic(auto, using(crate::proofs::TargetLemmas::path_in_front))]
+pub fn path_in_front(target: &[u8]) -> Option<usize>
+    ensures { IfSome result (λ n. (n ≤ length target.now) × (spec.path_of target.now ≡ take n target.now)) }
+{
+    if is_absolute(target) {
+        return None;
+    }
+    let n = before_query(target).len();
+    if n == 0 {
+        return None;
+    }
+    Some(n)
 }
 
 /// The path, or that of the root where it is empty.

@@ -106,6 +106,8 @@ impl Headers {
         ensures ok { OnOk result (self.new ≡ self.old ++ field_of name.now value.now ∷ []) }
         ensures err { OnErr result (self.new ≡ self.old) }
     {
+        // One piece of memory for both.
+        self.text.reserve(name.len().saturating_add(value.len()))?;
         append(&mut self.text, &mut self.spans, name, value)?;
         Ok(())
     }

@@ -5,7 +5,7 @@ use Rattle.asgi_pipes.specs.Closings.{closing_of}
 use Rattle.asgi_pipes.specs.Disconnects.{is_accept, has_disconnect}
 use Rattle.asgi_pipes.specs.Items.{items_of}
 use Rattle.asgi_pipes.specs.declared.items.OutItem.TheVariants.{Event}
-use Rattle.asgi_pipes.proofs.ClosingLemmas.{accepted-append, passed, answer_behind, items_event}
+use Rattle.asgi_pipes.proofs.ClosingLemmas.{accepted-append, passed, answer_behind, items_event, nothing_at_once, nothing_kept}
 use Rattle.asgi_pipes.proofs.DisconnectLemmas.{hears_said}
 use Rattle.asgi_pipes.proofs.JudgedLemmas.{passes}
 use Rattle.asgi_pipes.proofs.plain_app.PlainAppAppEnd.poll_send.Goals as goal
@@ -32,7 +32,7 @@ invariant_of-self-clause-at_once c =
     let s = c.args.self.now in
     let pass = sym (c.judge_event-verdict.ensures.verdict s.kind s.said.items (has_disconnect s.heard.items) s.judged) ∙ passes _ c.in_default.not-Ignored c.in_default-verdict.not-Refused in
     rw c.with.ensures
-    (c.behind-self.ensures ∙ ap (λ b. closing_of b c.args.event) s.opened
+    (c.keep_behind.ensures ∙ ap (λ b. closing_of b c.args.event) s.opened
     ∙ sym (answer_behind s.kind s.said.items s.heard.items c.args.event (passed s.kind s.facts s.said.items s.heard.items c.args.event pass)))
 
 pub invariant_of-self-clause-hears_is : goal.invariant_of-self-clause-hears_is
@@ -41,3 +41,9 @@ invariant_of-self-clause-hears_is c =
     let pass = sym (c.judge_event-verdict.ensures.verdict s.kind s.said.items (has_disconnect s.heard.items) s.judged) ∙ passes _ c.in_default.not-Ignored c.in_default-verdict.not-Refused in
     let p = passed s.kind s.facts s.said.items s.heard.items c.args.event pass in
     rw c.with.ensures (∥∥₁_map s.hears_is (hears_said s.kind s.said.items (s.said.items ++ c.args.event ∷ []) s.inn.taken.items s.heard.items p.open_is p.none))
+
+pub keep_behind-requires : goal.keep_behind-requires
+keep_behind-requires c =
+    let s = c.args.self.now in
+    let pass = sym (c.judge_event-verdict.ensures.verdict s.kind s.said.items (has_disconnect s.heard.items) s.judged) ∙ passes _ c.in_default.not-Ignored c.in_default-verdict.not-Refused in
+    nothing_kept s.disconnect (s.at_once ∙ nothing_at_once s.kind s.said.items s.heard.items c.args.event (passed s.kind s.facts s.said.items s.heard.items c.args.event pass))

@@ -1,4 +1,4 @@
-use Rattle.std.proofs.Common.{ap, sym, ◌∙◌, subst, Some, None}
+use Rattle.std.proofs.Common.{ap, sym, ◌∙◌, subst, Some}
 use Rattle.asgi_request.specs.declared.next.Next.TheVariants.{Bad}
 use Rattle.asgi_request.specs.Refusals.{status_of}
 use Rattle.asgi_request.specs.Reading.{Reading, Keeps}

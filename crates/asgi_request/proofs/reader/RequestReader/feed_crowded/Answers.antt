@@ -4,7 +4,7 @@ use Rattle.asgi_request.specs.Reading.{Reading}
 use Rattle.asgi_request.specs.Searches.{Resumes}
 use Rattle.asgi_request.proofs.ReaderLemmas.{feed_stands, held_fed}
 use Rattle.asgi_request.proofs.SearchLemmas.{Resumes-append}
-use Rattle.asgi_request.proofs.reader.RequestReader.feed.Goals as goal
+use Rattle.asgi_request.proofs.reader.RequestReader.feed_crowded.Goals as goal
 
 pub returns-clause-fed : goal.returns-clause-fed
 returns-clause-fed c =
@@ -14,7 +14,7 @@ returns-clause-fed c =
     let from = c.make_room.new.start in
     let grown = c.extend_from_slice.new.self.items in
     let seen : Reading = record { limits = c.self.inside.limits; place = c.self.inside.place; held = drop start bytes; capacity = vec_capacity c.self.inside.bytes } in
-    feed_stands c.args.self.now seen c.args.piece.now (drop from grown) (c.self.view_is ∙ c.compact.ensures)
+    feed_stands c.args.self.now seen c.args.piece.now (drop from grown) c.self.view_is
     (held_fed bytes made c.args.piece.now grown start from c.make_room.ensures.inside c.in_ok-extend_from_slice.ensures.items c.make_room.ensures.held)
 
 pub invariant_of-self-2 : goal.invariant_of-self-2
