@@ -57,7 +57,7 @@ use Rattle.asgi_conn.specs.declared.input.InputEnd.{InputEnd}
 use Rattle.asgi_conn.specs.declared.report.Outcome.{Outcome}
 use Rattle.asgi_conn.specs.declared.report.Outcome.TheVariants as outcome
 use Rattle.asgi_conn.specs.declared.wire.Wire.{Wire}
-use Rattle.asgi_conn.specs.Half.{BreaksAt, Scene, Stands, Talks, IsRunning, IsCutShort, EndsByTask, KeepsOn, Leaves, IsAt, HasGiven, EndsWhere, IsSettled, failures_at, failures_of, known, state_in, alone}
+use Rattle.asgi_conn.specs.Half.{BreaksAt, EndsByTask, EndsWhere, Exchanged, HasGiven, IsAt, IsCutShort, IsRunning, IsSettled, KeepsOn, Leaves, Scene, Stands, Talks, alone, failures_at, failures_of, known, state_in}
 use Rattle.asgi_conn.specs.HalfSteps.{KeepsBesidesBody, GivesOn, GivesBehind, NeedsBody, IsFree, IsCutOff, known_input}
 use Rattle.asgi_conn.specs.Lines.{LineState, HasMoved}
 use Rattle.asgi_conn.specs.Persistence.{InHand, Beginning, Saying, Ending, StopsWithin}
@@ -566,21 +566,136 @@ short_by scene half view out short none = record {
       subst (λ (b : Bool). StopsWithin n (record (known scene view) { broke = b }) (input_of (state_in scene half view)) view.written) (ap is_by_input none) (short.stops n e);
 }
 
--- one that ends so may be cut off
-pub over_is_off : (scene : Scene) (line : LineState) (half : ConnHalf) (read : List ℕ) (view later : ConnView ℕ ℕ) (out : Outcome)
-    → Stands scene line half read view → half.stage ≡ stage.Over (ConnectionEnds out) → IsCutShort scene half view out → IsCutOff view later → Stands scene line half read later × IsCutShort scene half later out
-over_is_off scene line half read view later out x is short (inl e) =
-    (subst (λ (v : ConnView ℕ ℕ). Stands scene line half read v) (sym e) x, subst (λ (v : ConnView ℕ ℕ). IsCutShort scene half v out) (sym e) short)
-over_is_off scene line half read view later out x is short (inr (none, e)) =
+short_on : (scene : Scene) (half : ConnHalf) (view : ConnView ℕ ℕ) (out : Outcome) (s : Stage) → IsCutShort scene half view out → IsCutShort scene (record half { stage = s }) view out
+short_on scene half view out s short = record { cut = short.cut; stops = short.stops }
+
+-- one that is cut short where it stands may be cut off
+is_off : (scene : Scene) (line : LineState) (half : ConnHalf) (read : List ℕ) (view later : ConnView ℕ ℕ) (out : Outcome) → Stands scene line half read view
+    → ((v : ConnView ℕ ℕ) → IsCutShort scene half v out → v.got ≡ view.got → IsAt half.stage scene half read v) → IsCutShort scene half view out → IsCutOff view later
+    → Stands scene line half read later
+is_off scene line half read view later out x at short (inl e) = subst (λ (v : ConnView ℕ ℕ). Stands scene line half read v) (sym e) x
+is_off scene line half read view later out x at short (inr (none, e)) =
     let off : ConnView ℕ ℕ = record view { offered = view.offered ++ HttpDisconnect ∷ []; broken = Some ByCut } in
     let offers : IsOffered (http half.wire.limits scene.facts) view.arrived view.offered None = subst (λ (b : Option Break). IsOffered (http half.wire.limits scene.facts) view.arrived view.offered b) none x.keeps.offered in
-    let short_off = short_by scene half view out short none in
-    (subst (λ (v : ConnView ℕ ℕ). Stands scene line half read v) (sym e)
+    subst (λ (v : ConnView ℕ ℕ). Stands scene line half read v) (sym e)
     (record {
       moved = x.moved;
       limits = x.limits;
       within = x.within;
       keeps = record { offered = (view.offered, offers, refl); written = x.keeps.written };
       breaks = λ b. cc;
-      stage = subst (λ (s : Stage). IsAt s scene half read off) (sym is) (inr short_off);
-    }), subst (λ (v : ConnView ℕ ℕ). IsCutShort scene half v out) (sym e) short_off)
+      stage = at off (short_by scene half view out short none) refl;
+    })
+
+-- any stage is left for the end of the connection
+pub stops_here : (scene : Scene) (now : LineState) (half : ConnHalf) (read : List ℕ) (view later : ConnView ℕ ℕ) → Stands scene now half read view → failures_at half.stage ≡ 0 → IsCutOff view later
+    → Stands scene now (record half { stage = stage.Over (ConnectionEnds outcome.Idle) }) read later
+stops_here scene now half read view later x none off =
+    is_off scene now (record half { stage = stage.Over (ConnectionEnds outcome.Idle) }) read view later outcome.Idle
+    (cut_here scene now half read view x outcome.Idle none refl refl (λ n e. cc e)) (λ v s e. inr s) (record { cut = refl; stops = λ n e. absurd (idle_writes n e) }) off
+  where
+    idle_writes : (n : ℕ) → outcome.Idle ≡ outcome.WriteFailed n → ⊥
+    idle_writes n e = cc e
+
+module _ (scene : Scene) (now : LineState) (half : ConnHalf) (read : List ℕ) (view : ConnView ℕ ℕ) (out : Outcome) (x : Stands scene now half read view) (is : half.stage ≡ stage.Cut out) where
+  pub cut_over : Stands scene now (record half { stage = stage.Over (ConnectionEnds out) }) read view
+  cut_over = record {
+    moved = subst (λ (n : ℕ). HasMoved scene.start now half.wire.input read (scene.before ++ view.written) n) (ap failures_at is) x.moved;
+    limits = x.limits;
+    within = x.within;
+    keeps = x.keeps;
+    breaks = x.breaks;
+    stage = inr (short_on scene half view out (stage.Over (ConnectionEnds out)) (unended scene now half read view x out is).0);
+  }
+
+  pub cut_stops : (later : ConnView ℕ ℕ) → IsCutOff view later → Stands scene now (record half { stage = stage.Over (ConnectionEnds out) }) read later
+  cut_stops later off =
+      is_off scene now (record half { stage = stage.Over (ConnectionEnds out) }) read view later out cut_over (λ v s e. inr s)
+      (short_on scene half view out (stage.Over (ConnectionEnds out)) (unended scene now half read view x out is).0) off
+
+  -- the disconnect is offered, and the end of the task is awaited
+  pub cut_waits : (later : ConnView ℕ ℕ) → IsCutOff view later → Stands scene now half read later
+  cut_waits later off =
+      let u = unended scene now half read view x out is in
+      is_off scene now half read view later out x (λ v s e. subst (λ (t : Stage). IsAt t scene half read v) (sym is) (s, ap end_of e ∙ u.1)) u.0 off
+
+  -- ---- what is taken is dropped
+
+  hand_on : (y : Exchanged) (said more : List Outgoing) (ended : Option EndKind) (i : Input) (front text : List ℕ) → InHand (record y { said = said; ended = None }) i front text
+      → InHand (record y { said = said ++ more; ended = ended }) i front text
+  hand_on y said more ended i front text (Beginning a b) = Beginning a b
+  hand_on y said more ended i front text (Saying before after event e o t) =
+      Saying before (after ++ more) event (ap (λ (l : List Outgoing). l ++ more) e ∙ append_assoc before (event ∷ after) more) o t
+  hand_on y said more ended i front text (Ending k e o t) = cc
+
+  stops_on : (n : ℕ) (item : OutItem) (i : Input) → StopsWithin n (known scene view) i view.written → StopsWithin n (known scene (record view { got = view.got ++ item ∷ [] })) i view.written
+  stops_on n item i s =
+      let none = (unended scene now half read view x out is).1 in
+      let last = end_of (view.got ++ item ∷ []) in
+      subst (λ (l : List Outgoing). StopsWithin n (record (known scene view) { said = l; ended = last }) i view.written) (sym (events_append view.got (item ∷ [])))
+      (record {
+        out = s.out;
+        text = s.text;
+        in_hand = hand_on (known scene view) (events_of view.got) (events_of (item ∷ [])) last i s.out s.text
+            (subst (λ (o : Option EndKind). InHand (record (known scene view) { ended = o }) i s.out s.text) none s.in_hand);
+        within = s.within;
+        written_is = s.written_is;
+      })
+
+  written_on : (item : OutItem) → IsPrefix view.written (output (http half.wire.limits scene.facts) (record view { got = view.got ++ item ∷ [] }))
+  written_on item =
+      let none = (unended scene now half read view x out is).1 in
+      let p = x.keeps.written in
+      let said = taken_of view in
+      let all = taken_of (record view { got = view.got ++ item ∷ [] }) in
+      let f = text_front scene.facts said all (events_of (item ∷ []), sym (events_append view.got (item ∷ []))) in
+      let a = added_by (http half.wire.limits scene.facts) all (end_of (view.got ++ item ∷ [])) view.broken_first view.arrived in
+      let whole : view.written ++ p.0 ≡ response_text scene.facts said =
+      p.1 ∙ (ap (λ (o : Option EndKind). response_text scene.facts said ++ added_by (http half.wire.limits scene.facts) said o view.broken_first view.arrived) none ∙ append-nil (response_text scene.facts said)) in
+      let more : view.written ++ (p.0 ++ f.0) ≡ response_text scene.facts all = sym (append_assoc view.written p.0 f.0) ∙ (ap (λ (l : List ℕ). l ++ f.0) whole ∙ f.1) in
+      ((p.0 ++ f.0) ++ a, sym (append_assoc view.written (p.0 ++ f.0) a) ∙ ap (λ (l : List ℕ). l ++ a) more)
+
+  short_after : (item : OutItem) (s : Stage) → IsCutShort scene (record half { stage = s }) (record view { got = view.got ++ item ∷ [] }) out
+  short_after item s =
+      let short = (unended scene now half read view x out is).0 in
+      record { cut = short.cut; stops = λ n e. stops_on n item (input_of (state_in scene half view)) (short.stops n e) }
+
+  pub took_event : (event : Outgoing) → Stands scene now half read (record view { got = view.got ++ Event event ∷ [] })
+  took_event event = record {
+    moved = x.moved;
+    limits = x.limits;
+    within = x.within;
+    keeps = record { offered = x.keeps.offered; written = written_on (Event event) };
+    breaks = x.breaks;
+    stage = subst (λ (s : Stage). IsAt s scene half read (record view { got = view.got ++ Event event ∷ [] })) (sym is)
+        (let s = short_after (Event event) half.stage in record { cut = s.cut; stops = s.stops }, end_event view.got event ∙ (unended scene now half read view x out is).1);
+  }
+
+  pub took_end : (kind : EndKind) → Stands scene now (record half { stage = stage.Over (ConnectionEnds out) }) read (record view { got = view.got ++ Ended kind ∷ [] })
+  took_end kind = record {
+    moved = subst (λ (n : ℕ). HasMoved scene.start now half.wire.input read (scene.before ++ view.written) n) (ap failures_at is) x.moved;
+    limits = x.limits;
+    within = x.within;
+    keeps = record { offered = x.keeps.offered; written = written_on (Ended kind) };
+    breaks = x.breaks;
+    stage = inr (short_after (Ended kind) (stage.Over (ConnectionEnds out)));
+  }
+
+-- the end of a connection that is cut off, by what offering the disconnect answers
+pub offers_cut : {C : Type 0} (E : conn_end.Ghosts C) (old new : C) (view : ConnView ℕ ℕ) (first : Bool) → IsViewOf E old view → first ≡ not (E.is_broken old)
+    → (IsTrue first → E.offered new ≡ E.offered old ++ HttpDisconnect ∷ []) → (IsFalse first → new ≡ old) → E.is_broken new ≡ true → E.got new ≡ E.got old
+    → (later : ConnView ℕ ℕ) × IsCutOff view later × IsViewOf E new later
+offers_cut {C = C} E old new view true v is yes same broken got =
+    (record view { offered = view.offered ++ HttpDisconnect ∷ []; broken = Some ByCut },
+    inr (none_of view.broken (v.1 ∙ not_not (E.is_broken old) is), refl),
+    (ap (λ (l : List Incoming). l ++ HttpDisconnect ∷ []) v.0 ∙ sym (yes refl), sym broken, v.2 ∙ sym got))
+  where
+    not_not : (b : Bool) → true ≡ not b → b ≡ false
+    not_not false e = refl
+    not_not true e = cc
+
+    none_of : (b : Option Break) → is_some b ≡ false → b ≡ None
+    none_of None e = refl
+    none_of (Some b) e = cc
+offers_cut {C = C} E old new view false v is yes same broken got =
+    (view, inl refl, subst (λ (c : C). IsViewOf E c view) (sym (same refl)) v)
