@@ -57,7 +57,8 @@ use Rattle.asgi_conn.specs.declared.input.InputEnd.{InputEnd}
 use Rattle.asgi_conn.specs.declared.report.Outcome.{Outcome}
 use Rattle.asgi_conn.specs.declared.report.Outcome.TheVariants as outcome
 use Rattle.asgi_conn.specs.declared.wire.Wire.{Wire}
-use Rattle.asgi_conn.specs.Half.{BreaksAt, EndsByTask, EndsWhere, Exchanged, HasGiven, IsAt, IsCutShort, IsRunning, IsSettled, KeepsOn, Leaves, Scene, Stands, Talks, alone, failures_at, failures_of, known, state_in}
+use Rattle.asgi_conn.specs.Exchanges.{Exchanged}
+use Rattle.asgi_conn.specs.Half.{BreaksAt, EndsByTask, EndsWhere, HasGiven, IsAt, IsCutShort, IsRunning, IsSettled, KeepsOn, Leaves, Scene, Stands, Talks, alone, failures_at, failures_of, known, state_in}
 use Rattle.asgi_conn.specs.HalfSteps.{KeepsBesidesBody, GivesOn, GivesBehind, NeedsBody, IsFree, IsCutOff, known_input}
 use Rattle.asgi_conn.specs.Lines.{LineState, HasMoved}
 use Rattle.asgi_conn.specs.Persistence.{InHand, Beginning, Saying, Ending, StopsWithin}
