@@ -63,7 +63,6 @@ failed_at _ = 0
 
 module _ (scene : Scene) (was now : LineState) (half : ConnHalf) (read : List ℕ) (view : ConnView ℕ ℕ) (p : Pending scene was half read view)
     (same_left : now.left ≡ was.left) (same_reads : now.reads ≡ was.reads) where
-
   -- all of the text in hand went out
   put_whole : (wire : Wire) → wire ≡ record half.wire { out = wire.out } → wire.out.items ≡ [] → Appends was.written now.written half.wire.out.items → RoseBy 0 was.failed now.failed
       → Stands scene now (record half { wire = record half.wire { out = wire.out }; stage = Running }) read (record view { written = view.written ++ half.wire.out.items })
