@@ -151,18 +151,20 @@ module _ (scene : Scene) (now : LineState) (half : ConnHalf) (read : List ℕ) (
           within = x.within;
           keeps = x.keeps;
           breaks = x.breaks;
-          stage = subst (λ (s : Stage). IsAt s scene (record half { body = new.body; wire = record half.wire { requests = new.wire.requests } }) read view) (sym is)
-              (record {
-            uncut = t.uncut;
-            broke = t.broke;
-            settled = λ b. subst (λ (y : Body). BreaksAt y half.wire.input) (sym (broke b)) (t.settled b);
-            events = g.0;
-            given = g.1;
-            ends_where = g.2;
-            text = t.text;
-            written = t.written;
-            empty = t.empty;
-          }, at_end.1);
+          stage = subst (λ (s : Stage). IsAt s scene (record half { body = new.body; wire = record half.wire { requests = new.wire.requests } }) read view) (sym is) (
+            record {
+              uncut = t.uncut;
+              broke = t.broke;
+              settled = λ b. subst (λ (y : Body). BreaksAt y half.wire.input) (sym (broke b)) (t.settled b);
+              events = g.0;
+              given = g.1;
+              ends_where = g.2;
+              text = t.text;
+              written = t.written;
+              empty = t.empty;
+            },
+            at_end.1,
+          );
         })
 
     -- there is no memory for the rest
@@ -199,8 +201,10 @@ module _ (scene : Scene) (now : LineState) (half : ConnHalf) (read : List ℕ) (
       keeps_on : ConnKeeps (http half.wire.limits scene.facts) longer
       keeps_on = let t = at_end.0 in record {
         offered = due_on view.broken refl (unbroken view.broken t.uncut not_broken);
-        written = (added_by (http half.wire.limits scene.facts) (taken_of view) (end_of view.got) view.broken_first (view.arrived ++ more),
-            ap (λ (l : List ℕ). l ++ added_by (http half.wire.limits scene.facts) (taken_of view) (end_of view.got) view.broken_first (view.arrived ++ more)) t.written);
+        written = (
+          added_by (http half.wire.limits scene.facts) (taken_of view) (end_of view.got) view.broken_first (view.arrived ++ more),
+          ap (λ (l : List ℕ). l ++ added_by (http half.wire.limits scene.facts) (taken_of view) (end_of view.got) view.broken_first (view.arrived ++ more)) t.written,
+        );
       }
 
       within_on : Within half.wire.limits new.input (read ++ more) scene.opened scene.exchanges scene.before scene.scope scene.facts (view.arrived ++ more)
@@ -221,19 +225,21 @@ module _ (scene : Scene) (now : LineState) (half : ConnHalf) (read : List ℕ) (
             within = within_on;
             keeps = keeps_on;
             breaks = λ b. cc (sym not_broken ∙ b);
-            stage = subst (λ (s : Stage). IsAt s scene (record half { wire = record half.wire { requests = new.requests; input = new.input } }) (read ++ more) longer) (sym is)
-                (record {
-              uncut = t.uncut;
-              broke = t.broke;
-              settled = λ b. absurd (subst (λ (y : Body). BreaksAt y half.wire.input) is_open (t.settled b));
-              events = t.events;
-              given = subst (λ (b : Body). HasGiven new.requests (read ++ more) scene.opened t.events b) (sym is_open)
-                  (fed read (scene.opened ++ map next.Event t.events) (subst (λ (b : Body). HasGiven half.wire.requests read scene.opened t.events b) is_open t.given));
-              ends_where = subst (λ (b : Body). EndsWhere b new.input) (sym is_open) tt;
-              text = t.text;
-              written = t.written;
-              empty = t.empty;
-            }, at_end.1);
+            stage = subst (λ (s : Stage). IsAt s scene (record half { wire = record half.wire { requests = new.requests; input = new.input } }) (read ++ more) longer) (sym is) (
+              record {
+                uncut = t.uncut;
+                broke = t.broke;
+                settled = λ b. absurd (subst (λ (y : Body). BreaksAt y half.wire.input) is_open (t.settled b));
+                events = t.events;
+                given = subst (λ (b : Body). HasGiven new.requests (read ++ more) scene.opened t.events b) (sym is_open)
+                    (fed read (scene.opened ++ map next.Event t.events) (subst (λ (b : Body). HasGiven half.wire.requests read scene.opened t.events b) is_open t.given));
+                ends_where = subst (λ (b : Body). EndsWhere b new.input) (sym is_open) tt;
+                text = t.text;
+                written = t.written;
+                empty = t.empty;
+              },
+              at_end.1,
+            );
           })
 
       pub rest_short : HasMoved scene.start line new.input (read ++ more) (scene.before ++ view.written) 0
@@ -686,10 +692,11 @@ module _ (scene : Scene) (now : LineState) (half : ConnHalf) (read : List ℕ) (
 pub offers_cut : {C : Type 0} (E : conn_end.Ghosts C) (old new : C) (view : ConnView ℕ ℕ) (first : Bool) → IsViewOf E old view → first ≡ not (E.is_broken old)
     → (IsTrue first → E.offered new ≡ E.offered old ++ HttpDisconnect ∷ []) → (IsFalse first → new ≡ old) → E.is_broken new ≡ true → E.got new ≡ E.got old
     → (later : ConnView ℕ ℕ) × IsCutOff view later × IsViewOf E new later
-offers_cut {C = C} E old new view true v is yes same broken got =
-    (record view { offered = view.offered ++ HttpDisconnect ∷ []; broken = Some ByCut },
-    inr (none_of view.broken (v.1 ∙ not_not (E.is_broken old) is), refl),
-    (ap (λ (l : List Incoming). l ++ HttpDisconnect ∷ []) v.0 ∙ sym (yes refl), sym broken, v.2 ∙ sym got))
+offers_cut {C = C} E old new view true v is on_first on_later broken got = (
+  record view { offered = view.offered ++ HttpDisconnect ∷ []; broken = Some ByCut },
+  inr (none_of view.broken (v.1 ∙ not_not (E.is_broken old) is), refl),
+  (ap (λ (l : List Incoming). l ++ HttpDisconnect ∷ []) v.0 ∙ sym (on_first refl), sym broken, v.2 ∙ sym got),
+)
   where
     not_not : (b : Bool) → true ≡ not b → b ≡ false
     not_not false e = refl
@@ -698,5 +705,5 @@ offers_cut {C = C} E old new view true v is yes same broken got =
     none_of : (b : Option Break) → is_some b ≡ false → b ≡ None
     none_of None e = refl
     none_of (Some b) e = cc
-offers_cut {C = C} E old new view false v is yes same broken got =
-    (view, inl refl, subst (λ (c : C). IsViewOf E c view) (sym (same refl)) v)
+offers_cut {C = C} E old new view false v is on_first on_later broken got =
+    (view, inl refl, subst (λ (c : C). IsViewOf E c view) (sym (on_later refl)) v)

@@ -18,10 +18,15 @@ returns-in-Some-Event-clause-leads g c scene line read view x v =
     let off = offers_cut g.C.ConnEnd c.args.end.now c.offer_disconnect-first.new.self view c.offer_disconnect-first.result v o.first o.yes o.no o.broken o.same.0 in
     let waits = cut_waits scene line c.args.self.now read view c.args.outcome x c.requires off.0 off.1 in
     let kept = c.take.ensures.same in
-    let item = c.in-Some-Event.field-0-0 in
-    (_, took_event scene line c.args.self.now read off.0 c.args.outcome waits c.requires item,
-    (off.2.0 ∙ sym kept.0, off.2.1 ∙ sym kept.1,
-    ap (λ (l : List OutItem). l ++ Event item ∷ []) off.2.2 ∙ sym (c.in-Some-Event.ensures.some.0 ∙ ap (λ (i : OutItem). g.C.ConnEnd.got c.offer_disconnect-first.new.self ++ i ∷ []) c.in-Some-Event.field-0-is)))
+    let item = c.in-Some-Event.field-0-0 in (
+      _,
+      took_event scene line c.args.self.now read off.0 c.args.outcome waits c.requires item,
+      (
+        off.2.0 ∙ sym kept.0,
+        off.2.1 ∙ sym kept.1,
+        ap (λ (l : List OutItem). l ++ Event item ∷ []) off.2.2 ∙ sym (c.in-Some-Event.ensures.some.0 ∙ ap (λ (i : OutItem). g.C.ConnEnd.got c.offer_disconnect-first.new.self ++ i ∷ []) c.in-Some-Event.field-0-is),
+      ),
+    )
 
 pub returns-clause-leads : goal.returns-clause-leads
 returns-clause-leads g c scene line read view x v =
@@ -29,7 +34,12 @@ returns-clause-leads g c scene line read view x v =
     let off = offers_cut g.C.ConnEnd c.args.end.now c.offer_disconnect-first.new.self view c.offer_disconnect-first.result v o.first o.yes o.no o.broken o.same.0 in
     let waits = cut_waits scene line c.args.self.now read view c.args.outcome x c.requires off.0 off.1 in
     let kept = c.take.ensures.same in
-    let item = c.in-Some-Ended.field-0-0 in
-    (_, took_end scene line c.args.self.now read off.0 c.args.outcome waits c.requires item,
-    (off.2.0 ∙ sym kept.0, off.2.1 ∙ sym kept.1,
-    ap (λ (l : List OutItem). l ++ Ended item ∷ []) off.2.2 ∙ sym (c.in-Some-Ended.ensures.some.0 ∙ ap (λ (i : OutItem). g.C.ConnEnd.got c.offer_disconnect-first.new.self ++ i ∷ []) c.in-Some-Ended.field-0-is)))
+    let item = c.in-Some-Ended.field-0-0 in (
+      _,
+      took_end scene line c.args.self.now read off.0 c.args.outcome waits c.requires item,
+      (
+        off.2.0 ∙ sym kept.0,
+        off.2.1 ∙ sym kept.1,
+        ap (λ (l : List OutItem). l ++ Ended item ∷ []) off.2.2 ∙ sym (c.in-Some-Ended.ensures.some.0 ∙ ap (λ (i : OutItem). g.C.ConnEnd.got c.offer_disconnect-first.new.self ++ i ∷ []) c.in-Some-Ended.field-0-is),
+      ),
+    )

@@ -9,17 +9,25 @@ use Rattle.asgi_conn.proofs.half.ConnHalf.close.Goals as goal
 
 pub returns-in-Idle-clause-leads : goal.returns-in-Idle-clause-leads
 returns-in-Idle-clause-leads g c scene read view x =
-    let line = state_of g.L.Reads g.L.Counts c.args.line.now in
-    ([], view.arrived, view.written, stays_there scene line _ read view
-    (ends_idle scene line c.args.self.now read view x c.args.kind c.requires.ending c.args.progress c.requires.progress c.requires.known c.after_task-following.result
-    (λ state e. c.after_task-following.ensures state (e ∙ sym c.input_of-input.ensures)) c.in-Idle.is))
+    let line = state_of g.L.Reads g.L.Counts c.args.line.now in (
+      [],
+      view.arrived,
+      view.written,
+      stays_there scene line _ read view
+          (ends_idle scene line c.args.self.now read view x c.args.kind c.requires.ending c.args.progress c.requires.progress c.requires.known c.after_task-following.result
+          (λ state e. c.after_task-following.ensures state (e ∙ sym c.input_of-input.ensures)) c.in-Idle.is),
+    )
 
 pub returns-in-Err-clause-leads : goal.returns-in-Err-clause-leads
 returns-in-Err-clause-leads g c scene read view x =
-    let line = state_of g.L.Reads g.L.Counts c.args.line.now in
-    ([], view.arrived, view.written, stays_there scene line _ read view
-    (ends_short scene line c.args.self.now read view x c.args.kind c.requires.ending c.args.progress c.requires.progress c.requires.known c.after_task-following.result
-    (λ state e. c.after_task-following.ensures state (e ∙ sym c.input_of-input.ensures)) (record c.args.self.now.wire { out = c.end.new.out }) refl))
+    let line = state_of g.L.Reads g.L.Counts c.args.line.now in (
+      [],
+      view.arrived,
+      view.written,
+      stays_there scene line _ read view
+          (ends_short scene line c.args.self.now read view x c.args.kind c.requires.ending c.args.progress c.requires.progress c.requires.known c.after_task-following.result
+          (λ state e. c.after_task-following.ensures state (e ∙ sym c.input_of-input.ensures)) (record c.args.self.now.wire { out = c.end.new.out }) refl),
+    )
 
 pub returns-in-None-clause-leads : goal.returns-in-None-clause-leads
 returns-in-None-clause-leads g c scene read view x =
@@ -28,11 +36,15 @@ returns-in-None-clause-leads g c scene read view x =
     let half = c.args.self.now in
     let wrote = c.in-None.ensures.none in
     let adds = c.in-Ok.ensures.ok scene.facts (taken_of view) (taken_text scene line half read view x c.args.kind c.requires.ending)
-    ∙ ap (λ (i : Input). half.wire.out.items ++ end_text scene.facts (taken_of view) i) c.input_of-input.ensures in
-    ([], view.arrived, _, stays_there scene now _ read _
-    (ends_written scene line half read view x c.args.kind c.requires.ending c.args.progress c.requires.progress c.requires.known c.after_task-following.result
-    (λ state e. c.after_task-following.ensures state (e ∙ sym c.input_of-input.ensures)) c.in_default.not-Idle c.end.new.out.items adds now c.put.new.self c.put.ensures.same c.put.ensures.empty
-    c.put.ensures.reads.0 c.put.ensures.reads.1 wrote.0 wrote.1))
+    ∙ ap (λ (i : Input). half.wire.out.items ++ end_text scene.facts (taken_of view) i) c.input_of-input.ensures in (
+      [],
+      view.arrived,
+      _,
+      stays_there scene now _ read _
+          (ends_written scene line half read view x c.args.kind c.requires.ending c.args.progress c.requires.progress c.requires.known c.after_task-following.result
+          (λ state e. c.after_task-following.ensures state (e ∙ sym c.input_of-input.ensures)) c.in_default.not-Idle c.end.new.out.items adds now c.put.new.self c.put.ensures.same c.put.ensures.empty
+          c.put.ensures.reads.0 c.put.ensures.reads.1 wrote.0 wrote.1),
+    )
 
 pub returns-in-Some-clause-leads : goal.returns-in-Some-clause-leads
 returns-in-Some-clause-leads g c scene read view x =
@@ -41,8 +53,12 @@ returns-in-Some-clause-leads g c scene read view x =
     let half = c.args.self.now in
     let wrote = c.in-Some.ensures.some in
     let adds = c.in-Ok.ensures.ok scene.facts (taken_of view) (taken_text scene line half read view x c.args.kind c.requires.ending)
-    ∙ ap (λ (i : Input). half.wire.out.items ++ end_text scene.facts (taken_of view) i) c.input_of-input.ensures in
-    ([], view.arrived, _, stays_there scene now _ read _
-    (ends_cut scene line half read view x c.args.kind c.requires.ending c.args.progress c.requires.progress c.requires.known c.after_task-following.result
-    (λ state e. c.after_task-following.ensures state (e ∙ sym c.input_of-input.ensures)) c.in_default.not-Idle c.end.new.out.items adds c.in-Some.n now c.put.new.self c.put.ensures.same
-    c.put.ensures.reads.0 c.put.ensures.reads.1 wrote.0 wrote.1 wrote.2))
+    ∙ ap (λ (i : Input). half.wire.out.items ++ end_text scene.facts (taken_of view) i) c.input_of-input.ensures in (
+      [],
+      view.arrived,
+      _,
+      stays_there scene now _ read _
+          (ends_cut scene line half read view x c.args.kind c.requires.ending c.args.progress c.requires.progress c.requires.known c.after_task-following.result
+          (λ state e. c.after_task-following.ensures state (e ∙ sym c.input_of-input.ensures)) c.in_default.not-Idle c.end.new.out.items adds c.in-Some.n now c.put.new.self c.put.ensures.same
+          c.put.ensures.reads.0 c.put.ensures.reads.1 wrote.0 wrote.1 wrote.2),
+    )

@@ -5,9 +5,13 @@ use Rattle.asgi_conn.proofs.half.ConnHalf.wind_up.Goals as goal
 
 pub returns-in-Err-clause-leads : goal.returns-in-Err-clause-leads
 returns-in-Err-clause-leads g c scene read view x =
-    let line = state_of g.L.Reads g.L.Counts c.args.line.now in
-    ([], view.arrived, view.written, stays_there scene line _ read view
-    (dropped_short scene line c.args.self.now read view x c.args.kind c.requires c.drop_rest.new.self c.drop_rest.ensures.same c.drop_rest.ensures.limits))
+    let line = state_of g.L.Reads g.L.Counts c.args.line.now in (
+      [],
+      view.arrived,
+      view.written,
+      stays_there scene line _ read view
+          (dropped_short scene line c.args.self.now read view x c.args.kind c.requires c.drop_rest.new.self c.drop_rest.ensures.same c.drop_rest.ensures.limits),
+    )
 
 pub returns-in-Ok-clause-leads : goal.returns-in-Ok-clause-leads
 returns-in-Ok-clause-leads g c scene read view x =
