@@ -306,19 +306,19 @@ module _ (E : Type 0) (C : conn_end.Ghosts E) (scene : Scene) (now : LineState) 
   pub took_end : (kind : EndKind) → half.stage ≡ Running → C.got new ≡ C.got old ++ Ended kind ∷ []
       → (more : List ℕ) × (later : ConnView ℕ ℕ) × Stands scene now (record half { stage = Ending kind }) (read ++ more) later × IsViewOf C new later
   took_end kind is got = (
-      [],
-      record view { got = view.got ++ Ended kind ∷ [] },
-      ended_taken scene now half read view kind x is,
-      (is_view.0 ∙ sym offered, is_view.1 ∙ sym broken, ap (λ (l : List OutItem). l ++ Ended kind ∷ []) is_view.2 ∙ sym got),
-    )
+    [],
+    record view { got = view.got ++ Ended kind ∷ [] },
+    ended_taken scene now half read view kind x is,
+    (is_view.0 ∙ sym offered, is_view.1 ∙ sym broken, ap (λ (l : List OutItem). l ++ Ended kind ∷ []) is_view.2 ∙ sym got),
+  )
 
   -- an event was, and it is said
   pub took_event : (event : Outgoing) (after : LineState) (later : ConnHalf) → C.got new ≡ C.got old ++ Event event ∷ []
       → (written : List ℕ) × Stands scene after later read (record view { got = view.got ++ Event event ∷ []; written = written })
       → (more : List ℕ) × (next : ConnView ℕ ℕ) × Stands scene after later (read ++ more) next × IsViewOf C new next
   took_event event after later got said = (
-      [],
-      record view { got = view.got ++ Event event ∷ []; written = said.0 },
-      stands_still scene after later read (record view { got = view.got ++ Event event ∷ []; written = said.0 }) said.1,
-      (is_view.0 ∙ sym offered, is_view.1 ∙ sym broken, ap (λ (l : List OutItem). l ++ Event event ∷ []) is_view.2 ∙ sym got),
-    )
+    [],
+    record view { got = view.got ++ Event event ∷ []; written = said.0 },
+    stands_still scene after later read (record view { got = view.got ++ Event event ∷ []; written = said.0 }) said.1,
+    (is_view.0 ∙ sym offered, is_view.1 ∙ sym broken, ap (λ (l : List OutItem). l ++ Event event ∷ []) is_view.2 ∙ sym got),
+  )
