@@ -24,10 +24,10 @@ use Rattle.asgi_exchange.specs.Views.{Break, ByInput, ByCut}
 use Rattle.asgi_exchange.specs.Steps.{is_by_input, is_by_cut}
 use Rattle.asgi_conn.specs.declared.half.Body.{Body}
 use Rattle.asgi_conn.specs.declared.half.Body.TheVariants.{Open, Waits, Whole, Refused, BrokenOff}
-use Rattle.asgi_conn.specs.declared.input.InputEnd.{InputEnd}
+use Rattle.asgi_conversation.specs.declared.input.InputEnd.{InputEnd}
 use Rattle.asgi_conn.specs.Half.{HasGiven, EndsWhere, BreaksAt}
 use Rattle.asgi_conn.specs.HalfSteps.{GaveNext}
-use Rattle.asgi_conn.specs.TaskEnds.{has_ended, is_faulty}
+use Rattle.asgi_conversation.specs.TaskEnds.{has_ended, is_faulty}
 
 -- ---- breaks
 

@@ -46,28 +46,28 @@ use Rattle.asgi_exchange.specs.Steps.{is_by_input, is_by_cut}
 use Rattle.asgi_exchange.specs.Views.{Break, ByInput, ByCut, ConnView, output, added_by, taken_of}
 use Rattle.asgi_exchange.proofs.EventLemmas.{events_append, end_event}
 use Rattle.asgi_exchange.proofs.HttpLemmas.{http_is_steady}
-use Rattle.asgi_conn.specs.declared.following.Following.{Following}
-use Rattle.asgi_conn.specs.declared.following.Following.TheVariants.{NextRequest, ConnectionEnds}
+use Rattle.asgi_conversation.specs.declared.following.Following.{Following}
+use Rattle.asgi_conversation.specs.declared.following.Following.TheVariants.{NextRequest, ConnectionEnds}
 use Rattle.asgi_conn.specs.declared.half.Body.{Body}
 use Rattle.asgi_conn.specs.declared.half.Body.TheVariants.{Open, Waits, Whole, Refused, BrokenOff}
 use Rattle.asgi_conn.specs.declared.half.ConnHalf.{ConnHalf}
 use Rattle.asgi_conn.specs.declared.half.Stage.{Stage}
 use Rattle.asgi_conn.specs.declared.half.Stage.TheVariants as stage
-use Rattle.asgi_conn.specs.declared.input.InputEnd.{InputEnd}
-use Rattle.asgi_conn.specs.declared.report.Outcome.{Outcome}
-use Rattle.asgi_conn.specs.declared.report.Outcome.TheVariants as outcome
+use Rattle.asgi_conversation.specs.declared.input.InputEnd.{InputEnd}
+use Rattle.asgi_conversation.specs.declared.report.Outcome.{Outcome}
+use Rattle.asgi_conversation.specs.declared.report.Outcome.TheVariants as outcome
 use Rattle.asgi_conn.specs.declared.wire.Wire.{Wire}
-use Rattle.asgi_conn.specs.Exchanges.{Exchanged}
+use Rattle.asgi_conversation.specs.Exchanges.{Exchanged}
 use Rattle.asgi_conn.specs.Half.{BreaksAt, EndsByTask, EndsWhere, HasGiven, IsAt, IsCutShort, IsRunning, IsSettled, KeepsOn, Leaves, Scene, Stands, Talks, alone, failures_at, failures_of, known, state_in}
 use Rattle.asgi_conn.specs.HalfSteps.{KeepsBesidesBody, GivesOn, GivesBehind, NeedsBody, IsFree, IsCutOff, known_input}
 use Rattle.asgi_conn.specs.Lines.{LineState, HasMoved}
-use Rattle.asgi_conn.specs.Persistence.{InHand, Beginning, Saying, Ending, StopsWithin}
-use Rattle.asgi_conn.specs.SoFar.{HasBrokenIn, TaskIsOver, Within}
-use Rattle.asgi_conn.specs.TaskEnds.{has_ended, is_faulty, is_cut, unanswered, incomplete, kept, after_response, after_task}
+use Rattle.asgi_conversation.specs.Persistence.{InHand, Beginning, Saying, Ending, StopsWithin}
+use Rattle.asgi_conversation.specs.SoFar.{HasBrokenIn, TaskIsOver, Within}
+use Rattle.asgi_conversation.specs.TaskEnds.{has_ended, is_faulty, is_cut, unanswered, incomplete, kept, after_response, after_task}
 use Rattle.asgi_conn.proofs.HalfLemmas.{not_written, unfailed}
 use Rattle.asgi_conn.proofs.LineLemmas.{moved_by_write}
-use Rattle.asgi_conn.proofs.LoopLemmas.{within_reads_more, end_seen_within}
-use Rattle.asgi_conn.proofs.SoFarLemmas.{text_front}
+use Rattle.asgi_conversation.proofs.LoopLemmas.{within_reads_more, end_seen_within}
+use Rattle.asgi_conversation.proofs.SoFarLemmas.{text_front}
 
 -- ---- what is dropped
 

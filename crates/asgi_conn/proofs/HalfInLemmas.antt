@@ -26,17 +26,17 @@ use Rattle.asgi_conn.specs.declared.half.Body.TheVariants.{Open, Waits, Whole, R
 use Rattle.asgi_conn.specs.declared.half.ConnHalf.{ConnHalf}
 use Rattle.asgi_conn.specs.declared.half.Stage.{Stage}
 use Rattle.asgi_conn.specs.declared.half.Stage.TheVariants.{Running, Ending, Cut, Over}
-use Rattle.asgi_conn.specs.declared.input.InputEnd.{InputEnd}
-use Rattle.asgi_conn.specs.declared.report.Outcome.TheVariants.{NoMemory}
+use Rattle.asgi_conversation.specs.declared.input.InputEnd.{InputEnd}
+use Rattle.asgi_conversation.specs.declared.report.Outcome.TheVariants.{NoMemory}
 use Rattle.asgi_conn.specs.declared.wire.Wire.{Wire}
 use Rattle.asgi_conn.specs.Half.{Scene, Stands, Talks, IsRunning, IsCutShort, IsAt, HasGiven, EndsWhere, BreaksAt, known, state_in}
 use Rattle.asgi_conn.specs.HalfSteps.{KeepsBesidesBody, GivesBehind, ReadsAt, EndsAtInput}
 use Rattle.asgi_conn.specs.Lines.{LineState, HasMoved}
-use Rattle.asgi_conn.specs.SoFar.{Within}
-use Rattle.asgi_conn.specs.TaskEnds.{has_ended, is_faulty}
+use Rattle.asgi_conversation.specs.SoFar.{Within}
+use Rattle.asgi_conversation.specs.TaskEnds.{has_ended, is_faulty}
 use Rattle.asgi_conn.proofs.HalfBodyLemmas.{unbroken, first_due, all_due, why_broken}
 use Rattle.asgi_conn.proofs.HalfLemmas.{running_of, unfailed, not_written, part_written}
-use Rattle.asgi_conn.proofs.LoopLemmas.{within_reads_more, end_seen_within}
+use Rattle.asgi_conversation.proofs.LoopLemmas.{within_reads_more, end_seen_within}
 
 pub not_both : (b : Bool) → b ≡ false → b ≡ true → ⊥
 not_both b is_false is_true = cc (is_false, is_true)

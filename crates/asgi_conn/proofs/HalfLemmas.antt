@@ -31,15 +31,15 @@ use Rattle.asgi_conn.specs.declared.half.Body.TheVariants.{Open, Waits, Whole, B
 use Rattle.asgi_conn.specs.declared.half.ConnHalf.{ConnHalf}
 use Rattle.asgi_conn.specs.declared.half.Stage.{Stage}
 use Rattle.asgi_conn.specs.declared.half.Stage.TheVariants.{Running, Ending, Cut, Over}
-use Rattle.asgi_conn.specs.declared.report.Outcome.{Outcome}
-use Rattle.asgi_conn.specs.declared.report.Outcome.TheVariants.{Finished, Refused, InputBroke, WriteFailed, Idle, NoMemory}
+use Rattle.asgi_conversation.specs.declared.report.Outcome.{Outcome}
+use Rattle.asgi_conversation.specs.declared.report.Outcome.TheVariants.{Finished, Refused, InputBroke, WriteFailed, Idle, NoMemory}
 use Rattle.asgi_conn.specs.declared.wire.Wire.{Wire}
 use Rattle.asgi_conn.specs.Half.{Scene, Stands, Talks, IsRunning, IsCutShort, IsAt, failures_at, known, state_in}
 use Rattle.asgi_conn.specs.HalfSteps.{Opens, Pending}
 use Rattle.asgi_conn.specs.Lines.{LineState, HasMoved}
-use Rattle.asgi_conn.specs.Persistence.{InHand, Beginning, Saying, StopsWithin}
+use Rattle.asgi_conversation.specs.Persistence.{InHand, Beginning, Saying, StopsWithin}
 use Rattle.asgi_conn.proofs.LineLemmas.{moved_by_write}
-use Rattle.asgi_conn.proofs.SoFarLemmas.{text_front}
+use Rattle.asgi_conversation.proofs.SoFarLemmas.{text_front}
 
 -- ---- what is written
 

@@ -15,11 +15,10 @@ use Rattle.asgi_io.specs.Counting.{RoseBy}
 use Rattle.asgi_io.proofs.BytesLemmas.{Appends-then, Consumes-nothing, Consumes-then}
 use Rattle.asgi_io.proofs.CountLemmas.{rose_after}
 use Rattle.asgi_io.proofs.WriteLemmas.{moved_some, moved_none, paused, failed}
-use Rattle.asgi_conn.specs.declared.input.InputEnd.{InputEnd}
-use Rattle.asgi_conn.specs.declared.input.InputEnd.TheVariants.{OpenStill, AtEnd, Failed}
-use Rattle.asgi_conn.specs.Lines.{LineState, HasMoved, EndsAs, input_behind}
-use Rattle.asgi_conn.specs.Reads.{piece_size, GoesOn}
-use Rattle.asgi_conn.specs.TaskEnds.{has_ended}
+use Rattle.asgi_conversation.specs.declared.input.InputEnd.{InputEnd}
+use Rattle.asgi_conversation.specs.declared.input.InputEnd.TheVariants.{OpenStill, AtEnd, Failed}
+use Rattle.asgi_conn.specs.Lines.{LineState, HasMoved, EndsAs, GoesOn, input_behind, piece_size}
+use Rattle.asgi_conversation.specs.TaskEnds.{has_ended}
 
 -- ---- one read
 

@@ -21,21 +21,21 @@ use Rattle.asgi_exchange.specs.HttpExchange.{text_of}
 use Rattle.asgi_exchange.specs.Items.{end_of}
 use Rattle.asgi_exchange.specs.Steps.{is_by_input, is_by_cut}
 use Rattle.asgi_exchange.specs.Views.{ConnView, World, empty_app, taken_of}
-use Rattle.asgi_conn.specs.declared.following.Following.{Following}
-use Rattle.asgi_conn.specs.declared.following.Following.TheVariants.{NextRequest, ConnectionEnds}
+use Rattle.asgi_conversation.specs.declared.following.Following.{Following}
+use Rattle.asgi_conversation.specs.declared.following.Following.TheVariants.{NextRequest, ConnectionEnds}
 use Rattle.asgi_conn.specs.declared.half.Body.{Body}
 use Rattle.asgi_conn.specs.declared.half.Body.TheVariants.{Open, Waits, Whole, Refused, BrokenOff}
 use Rattle.asgi_conn.specs.declared.half.ConnHalf.{ConnHalf}
 use Rattle.asgi_conn.specs.declared.half.Stage.{Stage}
 use Rattle.asgi_conn.specs.declared.half.Stage.TheVariants.{Running, Ending, Cut, Over}
-use Rattle.asgi_conn.specs.declared.input.InputEnd.{InputEnd}
-use Rattle.asgi_conn.specs.declared.report.Outcome.{Outcome}
-use Rattle.asgi_conn.specs.declared.report.Outcome.TheVariants.{InputBroke, WriteFailed}
-use Rattle.asgi_conn.specs.Exchanges.{Exchanged}
+use Rattle.asgi_conversation.specs.declared.input.InputEnd.{InputEnd}
+use Rattle.asgi_conversation.specs.declared.report.Outcome.{Outcome}
+use Rattle.asgi_conversation.specs.declared.report.Outcome.TheVariants.{InputBroke, WriteFailed}
+use Rattle.asgi_conversation.specs.Exchanges.{Exchanged}
 use Rattle.asgi_conn.specs.Lines.{LineState, HasMoved}
-use Rattle.asgi_conn.specs.Persistence.{InHand, StopsWithin}
-use Rattle.asgi_conn.specs.SoFar.{Within, HasBrokenIn, TaskIsOver, exchanged}
-use Rattle.asgi_conn.specs.TaskEnds.{has_ended, is_faulty, is_cut, after_task}
+use Rattle.asgi_conversation.specs.Persistence.{InHand, StopsWithin}
+use Rattle.asgi_conversation.specs.SoFar.{Within, HasBrokenIn, TaskIsOver, exchanged}
+use Rattle.asgi_conversation.specs.TaskEnds.{has_ended, is_faulty, is_cut, after_task}
 
 -- What stays the same in one exchange: what was known of the line when the connection began, the exchanges before this one and
 -- what was written for them, the request, and the results of the reader up to its head.

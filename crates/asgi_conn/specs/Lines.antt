@@ -1,5 +1,5 @@
 -- What a connection read from its line and wrote to it, since it began.
-use Rattle.std.specs.Prelude.{◌≡◌, ℕ, List, ◌∷◌, ◌++◌, [], length, All, Option}
+use Rattle.std.specs.Prelude.{◌≡◌, ◌<◌, ◌≤◌, ℕ, List, ◌∷◌, ◌++◌, [], length, All, Option}
 use Rattle.std.specs.Io.KnownBytes.{Appends, Consumes, IsAtEnd}
 use Rattle.asgi_io.specs.declared.answer.Answer.{Answer}
 use Rattle.asgi_io.specs.declared.answer.Answer.TheVariants as answer
@@ -7,9 +7,8 @@ use Rattle.asgi_io.specs.declared.counts.Counts as counts
 use Rattle.asgi_io.specs.declared.reads.Reads as reads
 use Rattle.asgi_io.specs.Answers.{moved}
 use Rattle.asgi_io.specs.Counting.{RoseBy}
-use Rattle.asgi_conn.specs.declared.input.InputEnd.{InputEnd}
-use Rattle.asgi_conn.specs.declared.input.InputEnd.TheVariants.{OpenStill, AtEnd, Failed}
-use Rattle.asgi_conn.specs.Reads.{IsPiece, GoesOn}
+use Rattle.asgi_conversation.specs.declared.input.InputEnd.{InputEnd}
+use Rattle.asgi_conversation.specs.declared.input.InputEnd.TheVariants.{OpenStill, AtEnd, Failed}
 
 -- What is known of a line at one time.
 pub record LineState : Type 0 where
@@ -22,6 +21,17 @@ pub record LineState : Type 0 where
 
 abbrev pub state_of : {L : Type 0} → reads.Ghosts L → counts.Ghosts L → L → LineState
 state_of R W line = record { left = R.remaining line; reads = R.answers line; written = W.written line; failed = W.failed line }
+
+-- the most bytes that one turn reads
+abbrev pub piece_size : ℕ
+piece_size = 4096
+
+-- a read behind which another may come: it gave a piece, or paused
+abbrev pub GoesOn : Answer → Type 0
+GoesOn (answer.Moved n) = (0 < n) × (n ≤ piece_size)
+GoesOn answer.Nothing = ⊥
+GoesOn answer.Paused = Unit {0}
+GoesOn answer.Failed = ⊥
 
 -- how far the input has come behind a read that was answered so
 abbrev pub input_behind : InputEnd → Answer → InputEnd

@@ -1,6 +1,7 @@
 -- The two halves of one exchange, run until it is over.
-use Rattle.std.specs.Prelude.{◌≡◌, ℕ, List, Option, Some, None, IsSomeAnd}
+use Rattle.std.specs.Prelude.{◌≡◌, ℕ, List, [], Option, Some, None, IsSomeAnd}
 use Rattle.asgi_types.specs.declared.end_kind.EndKind.{EndKind}
+use Rattle.asgi_types.specs.declared.end_kind.EndKind.TheVariants.{Faulted}
 use Rattle.asgi_types.specs.declared.incoming.Incoming.{Incoming}
 use Rattle.asgi_types.specs.declared.limits.Limits.{Limits}
 use Rattle.asgi_types.specs.declared.outgoing.Outgoing.{Outgoing}
@@ -34,6 +35,24 @@ abbrev pub Answers : {T E : Type 0} → (T → List Incoming → List Outgoing �
 Answers answers ends (Runs running) app kind = IsSomeAnd running.lent (λ lent. answers lent.task app.heard (said_of app) (own_end kind))
 Answers answers ends (HasEnded app_end ended) app kind = app ≡ view_of ends app_end
 
+-- it is still the end of that request
+abbrev pub IsOfRequest : {E : Type 0} → Ghosts E → E → E → Type 0
+IsOfRequest ends was is = (ends.kind is ≡ ends.kind was) × (ends.facts is ≡ ends.facts was)
+
+-- nothing more was heard or said
+abbrev pub SameLists : {E : Type 0} → Ghosts E → E → E → Type 0
+SameLists ends was is = (ends.pulled is ≡ ends.pulled was) × (ends.heard is ≡ ends.heard was) × (ends.said is ≡ ends.said was)
+
+-- What a call opened over this end: a task that makes the promise, or none, where the call faulted and nothing was heard or said.
+abbrev pub IsOpened : {T E : Type 0} → (promise : List Incoming → List Outgoing → Option EndKind → Type 0) → (T → List Incoming → List Outgoing → Option EndKind → Type 0)
+    → Ghosts E → E → AppSide T E → Type 0
+IsOpened promise answers ends was (Runs running) =
+    IsSomeAnd running.lent (λ lent. (lent.app_end ≡ was)
+    × ((heard : List Incoming) (said : List Outgoing) (ended : Option EndKind) → answers lent.task heard said ended → promise heard said ended))
+IsOpened promise answers ends was (HasEnded app_end kind) =
+    (kind ≡ Faulted) × promise [] [] (Some Faulted) × (ends.ended app_end ≡ Some Faulted) × SameLists ends was app_end × IsOfRequest ends was app_end
+    × (ends.tag app_end ≡ ends.tag was)
+
 -- ---- the exchange
 
 -- Both halves ran: the connection stands behind it, the two halves make one HTTP exchange, and its task ended so.
@@ -46,14 +65,6 @@ pub record HasRun {T E : Type 0} (answers : T → List Incoming → List Outgoin
   pub answers_for : Answers answers ends side world.app kind
 
 -- ---- the steps of a runner: words of private functions
-
--- it is still the end of that request
-abbrev pub IsOfRequest : {E : Type 0} → Ghosts E → E → E → Type 0
-IsOfRequest ends was is = (ends.kind is ≡ ends.kind was) × (ends.facts is ≡ ends.facts was)
-
--- nothing more was heard or said
-abbrev pub SameLists : {E : Type 0} → Ghosts E → E → E → Type 0
-SameLists ends was is = (ends.pulled is ≡ ends.pulled was) × (ends.heard is ≡ ends.heard was) × (ends.said is ≡ ends.said was)
 
 -- From the application's side as it was to a later one: a task that runs may be polled, one that ended kept its promise, and
 -- one that had ended stays as it was.

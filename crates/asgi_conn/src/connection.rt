@@ -1,159 +1,336 @@
 //! One connection from its first byte to its last.
-ghost use Rattle.std.specs.Prelude.{◌≡◌, ◌≢◌, ◌+◌, ℕ, List, IsTrue};
+ghost use Rattle.std.specs.Prelude.{◌≡◌, ◌≢◌, ◌+◌, ◌<◌, ◌≤◌, ◌^◌, ◌⊎◌, ◌↔◌, ◌++◌, ◌∷◌, [], ℕ, List, Option, Some, true, IsTrue, IfOk, IfNone, IfSome, take, length};
+ghost use Rattle.std.specs.Io.KnownBytes.{Appends};
+ghost use Rattle.asgi_types.specs.declared.facts.Facts.{Facts};
 ghost use Rattle.asgi_types.specs.declared.limits.Limits.{Limits};
-ghost use Rattle.asgi_io.specs.declared.answer.Answer.{Answer};
-ghost use Rattle.asgi_io.specs.Counting.{RoseExactly};
+ghost use Rattle.asgi_types.specs.declared.scope.Kind.TheVariants.{Http};
+ghost use Rattle.asgi_types.specs.declared.scope.Peer.{Peer};
+ghost use Rattle.asgi_types.specs.declared.scope.Scope.{Scope};
+ghost use Rattle.asgi_types.specs.declared.state.StateValue.{StateValue};
+ghost use Rattle.asgi_types.specs.Scopes.{scope_with};
+ghost use Rattle.asgi_io.specs.declared.turns.Turn.{Turn};
+ghost use Rattle.asgi_io.specs.Counting.{RoseBy};
+ghost use Rattle.asgi_io.specs.Turns.{CountsTurns};
+ghost use Rattle.asgi_request.specs.declared.next.Next.{Next};
+ghost use Rattle.asgi_request.specs.Reading.{Reading, StandsFor, AllGiven};
+ghost use Rattle.asgi_response.specs.Exchange.{refusal_text};
 ghost use Rattle.asgi_response.specs.Refusals.{is_refusal};
-ghost use Rattle.asgi_conn.specs.Conversation.{refusal, due_to};
-ghost use Rattle.asgi_conn.specs.Endings.{HasText, StopsAs, StopsAt};
-ghost use Rattle.asgi_conn.specs.Sending.{Output, EndsWell, Puts, SendsAnswer, TellsFailure};
-ghost use Rattle.asgi_conn.specs.Serving.{IsCause, Outside, Serves};
+ghost use Rattle.asgi_apps.specs.Scopes.{kind_of};
+ghost use Rattle.asgi_conversation.specs.declared.following.Following.{Following};
+ghost use Rattle.asgi_conversation.specs.Behind.{IsBlank};
+ghost use Rattle.asgi_conversation.specs.Exchanges.{Exchanged, fault_of};
+ghost use Rattle.asgi_conversation.specs.Promised.{ArePromised};
+ghost use Rattle.asgi_conversation.specs.TaskEnds.{has_ended};
+ghost use Rattle.asgi_conn.specs.Half.{Scene};
+ghost use Rattle.asgi_conn.specs.HalfSteps.{Opens};
+ghost use Rattle.asgi_conn.specs.Lines.{LineState, state_of};
+ghost use Rattle.asgi_conn.specs.Loop.{Rests, EndsSo, IsAt, IsTallied, Serving, IsBetween, IsLeft, HasRoom};
+ghost use Rattle.asgi_conn.specs.Running.{OfEnd, MayRun, IsOpened};
+ghost use Rattle.asgi_conn.specs.Serving.{Serves};
 
-use crate::exchange::exchange_text;
-use crate::hello::Greets;
-use crate::reading::{Ending, read_request};
-use crate::report::{Outcome, Report};
-use asgi_io::{Counts, Pause, Reads, Wrote, write_out};
-use asgi_request::has_body;
-use asgi_response::refusal_text;
-use asgi_types::{Facts, Limits};
-use std::alloc::Global;
+use crate::half::{ConnHalf, Stage};
+use crate::line::Line;
+use crate::runner::{AppSide, Runner};
+use crate::wire::{Wire, write};
+use asgi_apps::{AppTask, Application, Running};
+use asgi_conversation::{Following, InputEnd, Outcome, Report};
+use asgi_io::{Pause, Turns};
+use asgi_pipes::{AppEnd, EndKind, Pipes};
+use asgi_request::Next;
+use asgi_response::{ResponseText, refusal_text};
+use asgi_types::{Facts, Kind, Limits, Peer, Scope, State};
+use std::alloc::{AllocError, Global};
 
-/// The status of a request that announces a body.
-const NOT_IMPLEMENTED: u16 = 501;
-
-/// The exchanges and the outcome of a connection.
-#[derive(Clone, Copy, Debug, PartialEq, Eq)]
-struct End {
-    exchanges: u64,
-    outcome: Outcome,
+/// Where a connection stands from request to request.
+#[derive(Drop)]
+enum Place {
+    /// Between two requests, or before the first one.
+    Between(Wire),
+    /// It has ended.
+    Ended(Outcome),
 }
 
-/// Serves the first request of a connection, and reports how it went.
+impl Place {
+    /// Whether the connection goes on.
+    fn goes_on(&self) -> bool
+        ensures { IsTrue result ↔ IsBetween self.now }
+    {
+        match self {
+            Place::Between(_) => true,
+            Place::Ended(_) => false,
+        }
+    }
+
+    /// How the connection has ended.
+    fn outcome(&self) -> Outcome
+        requires { ¬ (IsBetween self.now) }
+        ensures { self.now ≡ Place.Ended result }
+    {
+        match self {
+            Place::Between(_) => unreachable!(),
+            Place::Ended(outcome) => *outcome,
+        }
+    }
+}
+
+/// What is counted of a connection.
+#[derive(Clone, Copy, Debug, PartialEq, Eq)]
+struct Tally {
+    exchanges: u64,
+    faults: u64,
+    turns: Turns,
+    ghost in_exchanges: { faults ≤ exchanges },
+}
+
+impl Tally {
+    /// Counts an exchange whose task ended so.
+    fn count(&mut self, kind: EndKind)
+        requires { self.old.exchanges ≤ 2 ^ 48 }
+        ensures exchanges { self.new.exchanges ≡ self.old.exchanges + 1 }
+        ensures faults { self.new.faults ≡ self.old.faults + fault_of (Some kind) }
+        ensures turns { self.new.turns ≡ self.old.turns }
+    {
+        self.exchanges += 1;
+        if let EndKind::Faulted = kind {
+            self.faults += 1;
+        }
+    }
+}
+
+/// Serves one connection to its end, request by request, and reports how it went.
 ///
-/// The answer is written as soon as the head is whole. A head that is none, too long, or not served
-/// gets the text of a refusal. The connection ends after its answer; the caller closes it.
-pub fn serve_connection<H: AllocGlobal, A: Greets, R: Reads, W: Counts, P: Pause>(
+/// Each scope has this client and server, and a state equal to this one. The runner runs each
+/// exchange; where nothing moves in a turn the pause is called. The caller closes the line.
+pub fn serve_connection<H: AllocGlobal, A: Application, L: Line, U: Runner, P: Pause>(
     rt: &H,
     limits: &Limits,
-    app: &mut A,
-    reader: &mut R,
-    writer: &mut W,
+    client: &Option<Peer>,
+    server: &Option<Peer>,
+    state: &State,
+    app: &A,
+    line: &mut L,
+    runner: &mut U,
     pause: &mut P,
 ) -> Report
-    ensures { let before : Outside = record {
-      left = R.remaining reader.old;
-      written = W.written writer.old;
-      reads = R.answers reader.old;
-      writes = W.answers writer.old;
-      failed = W.failed writer.old;
-      pauses = P.count pause.old;
-      asked = A.asked app.old;
-    } in
-        let after : Outside = record {
-          left = R.remaining reader.new;
-          written = W.written writer.new;
-          reads = R.answers reader.new;
-          writes = W.answers writer.new;
-          failed = W.failed writer.new;
-          pauses = P.count pause.new;
-          asked = A.asked app.new;
-        } in
-        Serves limits.now before after result }
+    ensures { Serves (A.answers app.now) limits.now client.now server.now state.now
+        (state_of L.Reads L.Counts line.old) (state_of L.Reads L.Counts line.new) (P.count pause.old) (P.count pause.new) result }
 {
-    let alloc = rt.alloc();
-    let reading = read_request(alloc, limits, reader, pause);
-    let end = finish(alloc, app, &reading.ending, writer);
-    Report {
-        exchanges: end.exchanges,
+    let mut tally = Tally {
+        exchanges: 0,
         faults: 0,
-        turns: reading.turns,
-        idle: reading.idle,
-        outcome: end.outcome,
-    }
-}
-
-/// Ends the connection once reading has stopped.
-fn finish<A: Greets, W: Counts>(alloc: Global, app: &mut A, ending: &Ending, writer: &mut W) -> End
-    requires { HasText ending.now }
-    ensures agrees { (limits : Limits) (read : List ℕ) → StopsAs ending.now limits read →
-        EndsWell limits read record { written = W.written writer.old; writes = W.answers writer.old }
-        record { written = W.written writer.new; writes = W.answers writer.new } result }
-    ensures cause { (limits : Limits) (read : List ℕ) (last : Answer) (turns idle : ℕ) → StopsAt ending.now limits read last turns idle →
-        IsCause result.outcome result.exchanges turns idle limits read last }
-    ensures asked { RoseExactly result.exchanges (A.asked app.old) (A.asked app.new) }
-    ensures write_failed { TellsFailure (W.failed writer.old) (W.failed writer.new) result }
-{
-    match ending {
-        Ending::Head(facts) => reply(alloc, app, facts, writer),
-        Ending::Refused(status) => refuse(*status, writer),
-        Ending::Blank => silent(Outcome::Finished),
-        Ending::InputBroke => silent(Outcome::InputBroke),
-        Ending::Idle => silent(Outcome::Idle),
-        Ending::NoMemory => silent(Outcome::NoMemory),
-    }
-}
-
-fn silent(outcome: Outcome) -> End
-    ensures outcome { result.outcome ≡ outcome }
-    ensures exchanges { result.exchanges ≡ 0 }
-{
-    End {
-        exchanges: 0,
-        outcome,
-    }
-}
-
-/// Answers a request as the application says, or refuses one that announces a body.
-fn reply<A: Greets, W: Counts>(alloc: Global, app: &mut A, facts: &Facts, writer: &mut W) -> End
-    ensures answers { SendsAnswer (due_to facts.now) record { written = W.written writer.old; writes = W.answers writer.old }
-        record { written = W.written writer.new; writes = W.answers writer.new } result }
-    ensures asked { RoseExactly result.exchanges (A.asked app.old) (A.asked app.new) }
-    ensures write_failed { TellsFailure (W.failed writer.old) (W.failed writer.new) result }
-{
-    if has_body(facts.framing) {
-        return refuse(NOT_IMPLEMENTED, writer);
-    }
-    let Ok(text) = exchange_text(alloc, app, facts) else {
-        return End {
-            exchanges: 1,
-            outcome: Outcome::NoMemory,
-        };
+        turns: Turns::new(limits.turns, limits.idle_turns),
     };
-    let served = End {
-        exchanges: 1,
-        outcome: Outcome::Finished,
-    };
-    put(&text, writer, served)
+    let mut place = Place::Between(Wire::new(rt.alloc(), *limits));
+    while place.goes_on() {
+        place = step(place, client, server, state, app, line, runner, pause, &mut tally);
+    }
+    Report {
+        exchanges: tally.exchanges,
+        faults: tally.faults,
+        turns: tally.turns.turns,
+        idle: tally.turns.idle,
+        outcome: place.outcome(),
+    }
 }
 
-/// Writes the text of a refusal.
-fn refuse<W: Counts>(status: u16, writer: &mut W) -> End
+/// Asks the reader what comes next, and does what is due to it.
+fn step<A: Application, L: Line, U: Runner, P: Pause>(
+    place: Place,
+    client: &Option<Peer>,
+    server: &Option<Peer>,
+    state: &State,
+    app: &A,
+    line: &mut L,
+    runner: &mut U,
+    pause: &mut P,
+    tally: &mut Tally,
+) -> Place
+    requires between { IsBetween place }
+    requires room { HasRoom tally.old }
+    ensures serves { (limits : Limits) (start : LineState) → Serving (A.answers app.now) limits client.now server.now state.now start (state_of L.Reads L.Counts line.old) tally.old place
+        → Serving (A.answers app.now) limits client.now server.now state.now start (state_of L.Reads L.Counts line.new) tally.new result }
+    ensures room { IsBetween result → HasRoom tally.new }
+    ensures takes { IsBetween result → tally.old.turns.turns < tally.new.turns.turns }
+    ensures counts { (turned : List Turn) (pauses : ℕ) → CountsTurns tally.old.turns.turn_limit tally.old.turns.idle_limit turned pauses (P.count pause.old) tally.old.turns.turns tally.old.turns.idle
+        → (more : List Turn) × CountsTurns tally.old.turns.turn_limit tally.old.turns.idle_limit (turned ++ more) pauses (P.count pause.new) tally.new.turns.turns tally.new.turns.idle }
+    ensures turn_limits { (tally.new.turns.turn_limit ≡ tally.old.turns.turn_limit) × (tally.new.turns.idle_limit ≡ tally.old.turns.idle_limit) }
+{
+    let Place::Between(mut wire) = place else {
+        unreachable!()
+    };
+    match wire.requests.next() {
+        Err(_) => Place::Ended(Outcome::NoMemory),
+        Ok(Next::Need) => wait(wire, line, pause, &mut tally.turns),
+        Ok(Next::Bad(status)) => refuse(status, line),
+        Ok(Next::Head(scope, facts)) => {
+            let Ok(scope) = scope_of(wire.alloc, scope, client, server, state) else {
+                return Place::Ended(Outcome::NoMemory);
+            };
+            answer(wire, &scope, facts, app, line, runner, pause, tally)
+        }
+        Ok(Next::Event(_)) => unreachable!(),
+        Ok(Next::Whole) => unreachable!(),
+    }
+}
+
+/// The scope with what the connection knows, in memory of its own.
+fn scope_of(
+    alloc: Global,
+    scope: Scope,
+    client: &Option<Peer>,
+    server: &Option<Peer>,
+    state: &State,
+) -> Result<Scope, AllocError>
+    ensures { IfOk result (λ whole. whole ≡ scope_with scope client.now server.now state.now) }
+{
+    let client = copy_of(client, alloc)?;
+    let server = copy_of(server, alloc)?;
+    Ok(scope.with(client, server, state.copy(alloc)?))
+}
+
+fn copy_of(peer: &Option<Peer>, alloc: Global) -> Result<Option<Peer>, AllocError>
+    ensures { IfOk result (λ copied. copied ≡ peer.now) }
+{
+    match peer {
+        None => Ok(None),
+        Some(peer) => Ok(Some(peer.copy(alloc)?)),
+    }
+}
+
+// ---- between two requests
+
+/// Reads on where no result is there, or ends the connection at the end of the input or at a limit.
+fn wait<L: Line, P: Pause>(wire: Wire, line: &mut L, pause: &mut P, turns: &mut Turns) -> Place
+    ensures waits { (limits : Limits) (start : LineState) (read : List ℕ) (given : List Next) (exchanges : List Exchanged) (behind written : List ℕ)
+        → Rests limits start (state_of L.Reads L.Counts line.old) wire read given exchanges behind written → AllGiven wire.requests read given
+        → (more : List ℕ) × IsAt result limits start (state_of L.Reads L.Counts line.new) (read ++ more) exchanges written }
+    ensures takes { IsBetween result → turns.new.turns ≡ turns.old.turns + 1 }
+    ensures counts { (turned : List Turn) (pauses : ℕ) → CountsTurns turns.old.turn_limit turns.old.idle_limit turned pauses (P.count pause.old) turns.old.turns turns.old.idle
+        → (more : List Turn) × CountsTurns turns.old.turn_limit turns.old.idle_limit (turned ++ more) pauses (P.count pause.new) turns.new.turns turns.new.idle }
+    ensures turn_limits { (turns.new.turn_limit ≡ turns.old.turn_limit) × (turns.new.idle_limit ≡ turns.old.idle_limit) }
+{
+    if wire.input.has_ended() {
+        return Place::Ended(at_end(&wire));
+    }
+    if turns.is_over() {
+        return Place::Ended(Outcome::Idle);
+    }
+    let mut wire = wire;
+    let Ok(turn) = wire.read(line) else {
+        return Place::Ended(Outcome::NoMemory);
+    };
+    turns.take(turn, pause);
+    Place::Between(wire)
+}
+
+/// How the connection ends at the end of the input, where nothing is due.
+fn at_end(wire: &Wire) -> Outcome
+    requires { has_ended wire.now.input ≡ true }
+    ensures { (limits : Limits) (start now : LineState) (read : List ℕ) (given : List Next) (exchanges : List Exchanged) (behind written : List ℕ)
+        → Rests limits start now wire.now read given exchanges behind written → AllGiven wire.now.requests read given
+        → EndsSo limits start now read exchanges written result }
+{
+    match wire.input {
+        InputEnd::OpenStill => unreachable!(),
+        InputEnd::Failed => Outcome::InputBroke,
+        InputEnd::AtEnd => {
+            if is_blank(wire.requests.held()) {
+                Outcome::Finished
+            } else {
+                Outcome::InputBroke
+            }
+        }
+    }
+}
+
+/// Whether the bytes are only empty lines.
+fn is_blank(bytes: &[u8]) -> bool
+    ensures { IsTrue result ↔ IsBlank bytes.now }
+{
+    bytes.iter().all(|b| *b == b'\r' || *b == b'\n')
+}
+
+/// Writes the text of a refusal, behind which the connection ends.
+fn refuse<L: Line>(status: u16, line: &mut L) -> Place
     requires { IsTrue (is_refusal status) }
-    ensures answers { SendsAnswer (refusal status) record { written = W.written writer.old; writes = W.answers writer.old }
-        record { written = W.written writer.new; writes = W.answers writer.new } result }
-    ensures exchanges { result.exchanges ≡ 0 }
-    ensures write_failed { TellsFailure (W.failed writer.old) (W.failed writer.new) result }
+    ensures refuses { (limits : Limits) (start : LineState) (wire : Wire) (read : List ℕ) (given : List Next) (exchanges : List Exchanged) (behind written : List ℕ)
+        → Rests limits start (state_of L.Reads L.Counts line.old) wire read given exchanges behind written
+        → (reader : Reading) → StandsFor reader read (given ++ Next.Bad status ∷ []) → reader.limits ≡ limits
+        → (text : List ℕ) × IsAt result limits start (state_of L.Reads L.Counts line.new) read exchanges (written ++ text) }
+    ensures ends { ¬ (IsBetween result) }
 {
-    let refused = End {
-        exchanges: 0,
-        outcome: Outcome::Refused(status),
-    };
-    put(refusal_text(status), writer, refused)
+    match write(line, refusal_text(status)) {
+        None => Place::Ended(Outcome::Refused(status)),
+        Some(n) => Place::Ended(Outcome::WriteFailed(n)),
+    }
 }
 
-/// Writes a text, and says how the connection ends: as given where all of it is out.
-fn put<W: Counts>(text: &[u8], writer: &mut W, whole: End) -> End
-    ensures puts { Puts text.now whole record { written = W.written writer.old; writes = W.answers writer.old }
-        record { written = W.written writer.new; writes = W.answers writer.new } result }
-    ensures exchanges { result.exchanges ≡ whole.exchanges }
-    ensures write_failed { ((n : ℕ) → whole.outcome ≢ Outcome.WriteFailed n) → TellsFailure (W.failed writer.old) (W.failed writer.new) result }
+// ---- one exchange
+
+/// Answers a request: the application is called, and both halves of the exchange run to its end.
+fn answer<A: Application, L: Line, U: Runner, P: Pause>(
+    wire: Wire,
+    scope: &Scope,
+    facts: Facts,
+    app: &A,
+    line: &mut L,
+    runner: &mut U,
+    pause: &mut P,
+    tally: &mut Tally,
+) -> Place
+    requires room { HasRoom tally.old }
+    requires http { kind_of scope.now ≡ Http }
+    ensures serves { (scene : Scene) (client server : Option Peer) (state : List (List ℕ × StateValue)) (read arrived : List ℕ)
+        → scope.now ≡ scope_with scene.scope client server state → Opens scene (state_of L.Reads L.Counts line.old) wire facts read arrived
+        → ArePromised (A.answers app.now) client server state scene.exchanges → IsTallied tally.old scene.exchanges
+        → Serving (A.answers app.now) wire.limits client server state scene.start (state_of L.Reads L.Counts line.new) tally.new result }
+    ensures room { IsBetween result → HasRoom tally.new }
+    ensures takes { IsBetween result → tally.old.turns.turns < tally.new.turns.turns }
+    ensures counts { (turned : List Turn) (pauses : ℕ) → CountsTurns tally.old.turns.turn_limit tally.old.turns.idle_limit turned pauses (P.count pause.old) tally.old.turns.turns tally.old.turns.idle
+        → (more : List Turn) × CountsTurns tally.old.turns.turn_limit tally.old.turns.idle_limit (turned ++ more) pauses (P.count pause.new) tally.new.turns.turns tally.new.turns.idle }
+    ensures turn_limits { (tally.new.turns.turn_limit ≡ tally.old.turns.turn_limit) × (tally.new.turns.idle_limit ≡ tally.old.turns.idle_limit) }
 {
-    match write_out(writer, text) {
-        Wrote::Done => whole,
-        Wrote::Failed(n) => End {
-            exchanges: whole.exchanges,
-            outcome: Outcome::WriteFailed(n),
-        },
+    let text = ResponseText::new(wire.alloc, &facts);
+    let Ok((end, app_end)) = runner.pipes().make(wire.alloc, Kind::Http, facts, wire.limits.ring) else {
+        return Place::Ended(Outcome::NoMemory);
+    };
+    let side = call(wire.alloc, app, scope, app_end);
+    let mut half = ConnHalf::begin(wire, text, line);
+    let kind = runner.run(&mut half, line, pause, &mut tally.turns, end, side);
+    tally.count(kind);
+    leave(half)
+}
+
+/// Calls the application. Where the call faults, that is the end of its task.
+fn call<A: Application, E: AppEnd>(alloc: Global, app: &A, scope: &Scope, app_end: E) -> AppSide<A::Task, E>
+    requires fresh { (E.heard app_end ≡ []) × (E.said app_end ≡ []) × (E.ended app_end ≡ None) }
+    requires kind { E.kind app_end ≡ kind_of scope.now }
+    ensures may { MayRun A.Task.stands E.AppEnd result }
+    ensures opens { IsOpened (A.answers app.now scope.now) A.Task.answers E.AppEnd app_end result }
+{
+    match app.call(alloc, scope) {
+        Ok(task) => AppSide::Runs(Running::new(task, app_end)),
+        Err(_) => {
+            let mut app_end = app_end;
+            let _first = app_end.finish(EndKind::Faulted);
+            AppSide::HasEnded {
+                app_end,
+                kind: EndKind::Faulted,
+            }
+        }
+    }
+}
+
+/// Where the half of an exchange that is over leaves the connection.
+fn leave(half: ConnHalf) -> Place
+    requires { (following : Following) × (half.stage ≡ Stage.Over following) }
+    ensures { IsLeft half result }
+{
+    match half.stage {
+        Stage::Over(Following::NextRequest) => Place::Between(half.wire),
+        Stage::Over(Following::ConnectionEnds(outcome)) => Place::Ended(outcome),
+        Stage::Running => unreachable!(),
+        Stage::Ending(_) => unreachable!(),
+        Stage::Cut(_) => unreachable!(),
     }
 }

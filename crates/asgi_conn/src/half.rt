@@ -15,13 +15,11 @@ ghost use Rattle.asgi_exchange.specs.Views.{ConnView, empty_conn};
 ghost use Rattle.asgi_conn.specs.Half.{Scene, Stands, Leads, HasGiven, EndsWhere, IsSettled, BreaksAt};
 ghost use Rattle.asgi_conn.specs.HalfSteps.{Opens, Pending, LeadsOut, LeadsIn, KeepsBesidesBody, GivesOn, GivesBehind, GaveNext, IsFree, ReadsAt, EndsAtInput, NeedsBody, IsCutOff, known_input};
 ghost use Rattle.asgi_conn.specs.Lines.{state_of};
-ghost use Rattle.asgi_conn.specs.TaskEnds.{has_ended};
+ghost use Rattle.asgi_conversation.specs.TaskEnds.{has_ended};
 
-use crate::following::{Following, after_task};
-use crate::input::InputEnd;
 use crate::line::Line;
-use crate::report::Outcome;
 use crate::wire::Wire;
+use asgi_conversation::{Following, InputEnd, Outcome, after_task};
 use asgi_io::Turn;
 use asgi_pipes::{ConnEnd, EndKind, OutItem};
 use asgi_request::Next;
@@ -74,12 +72,12 @@ pub struct ConnHalf {
 
 impl ConnHalf {
     /// Begins an exchange: a client that waits for `100 Continue` is told to go on.
-    pub fn begin<L: Line>(wire: Wire, facts: &Facts, line: &mut L) -> ConnHalf
-        ensures begins { (scene : Scene) (read arrived : List ℕ) → Opens scene (state_of L.Reads L.Counts line.old) wire facts.now read arrived
+    pub fn begin<L: Line>(wire: Wire, text: ResponseText, line: &mut L) -> ConnHalf
+        ensures begins { (scene : Scene) (facts : Facts) (read arrived : List ℕ) → Opens scene (state_of L.Reads L.Counts line.old) wire facts read arrived → standing.StandsFor text facts []
             → (written : List ℕ) × Stands scene (state_of L.Reads L.Counts line.new) result read (record empty_conn { arrived = arrived; written = written }) }
         ensures limits { result.wire.limits ≡ wire.limits }
+        ensures open { (following : Following) → result.stage ≢ Stage.Over following }
     {
-        let text = ResponseText::new(wire.alloc, facts);
         let mut half = ConnHalf {
             wire,
             body: Body::Open,

@@ -1,12 +1,13 @@
 //! Both halves of an exchange in one thread, turn by turn.
-ghost use Rattle.std.specs.Prelude.{◌≡◌, ◌≢◌, ◌<◌, ◌++◌, ℕ, List, IsTrue};
+ghost use Rattle.std.specs.Prelude.{◌≡◌, ◌≢◌, ◌<◌, ◌⊎◌, ◌++◌, ℕ, List, IsTrue};
 ghost use Rattle.asgi_io.specs.declared.turns.Turn.{Turn};
 ghost use Rattle.asgi_io.specs.Turns.{CountsTurns};
 ghost use Rattle.asgi_types.specs.declared.scope.Kind.TheVariants.{Http};
 ghost use Rattle.asgi_pipes.specs.PlainPairs.{IsPlainPair};
 ghost use Rattle.asgi_exchange.specs.Calls.{IsViewOf};
 ghost use Rattle.asgi_exchange.specs.Views.{ConnView};
-ghost use Rattle.asgi_conn.specs.declared.following.Following.{Following};
+ghost use Rattle.asgi_conversation.specs.declared.following.Following.{Following};
+ghost use Rattle.asgi_conversation.specs.declared.following.Following.TheVariants.{NextRequest};
 ghost use Rattle.asgi_conn.specs.declared.half.Stage.TheVariants as stage;
 ghost use Rattle.asgi_conn.specs.Half.{Scene, Stands};
 ghost use Rattle.asgi_conn.specs.Lines.{state_of};
@@ -72,6 +73,7 @@ impl<'q> Runner for Inline<'q> {
         ensures counts { (turned : List Turn) (pauses : ℕ) → CountsTurns turns.old.turn_limit turns.old.idle_limit turned pauses (P.count pause.old) turns.old.turns turns.old.idle
             → (more : List Turn) × CountsTurns turns.old.turn_limit turns.old.idle_limit (turned ++ more) pauses (P.count pause.new) turns.new.turns turns.new.idle }
         ensures turn_limits { (turns.new.turn_limit ≡ turns.old.turn_limit) × (turns.new.idle_limit ≡ turns.old.idle_limit) }
+        ensures takes_a_turn { half.new.stage ≡ stage.Over NextRequest → (half.old.stage ≡ stage.Over NextRequest) ⊎ (turns.old.turns < turns.new.turns) }
         ensures met { ◌≡◌ {A = ℕ} 0 0 }
     {
         let mut conn = end;

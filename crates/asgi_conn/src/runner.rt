@@ -1,11 +1,12 @@
 //! What runs the two halves of an exchange.
-ghost use Rattle.std.specs.Prelude.{◌≡◌, ◌++◌, ℕ, List};
+ghost use Rattle.std.specs.Prelude.{◌≡◌, ◌<◌, ◌⊎◌, ◌++◌, ℕ, List};
 ghost use Rattle.asgi_io.specs.declared.turns.Turn.{Turn};
 ghost use Rattle.asgi_io.specs.Turns.{CountsTurns};
 ghost use Rattle.asgi_types.specs.declared.scope.Kind.TheVariants.{Http};
 ghost use Rattle.asgi_exchange.specs.Calls.{IsViewOf};
 ghost use Rattle.asgi_exchange.specs.Views.{ConnView};
-ghost use Rattle.asgi_conn.specs.declared.following.Following.{Following};
+ghost use Rattle.asgi_conversation.specs.declared.following.Following.{Following};
+ghost use Rattle.asgi_conversation.specs.declared.following.Following.TheVariants.{NextRequest};
 ghost use Rattle.asgi_conn.specs.declared.half.Stage.TheVariants as stage;
 ghost use Rattle.asgi_conn.specs.Half.{Scene, Stands};
 ghost use Rattle.asgi_conn.specs.Lines.{state_of};
@@ -66,6 +67,7 @@ pub trait Runner {
         ensures counts { (turned : List Turn) (pauses : ℕ) → CountsTurns turns.old.turn_limit turns.old.idle_limit turned pauses (P.count pause.old) turns.old.turns turns.old.idle
             → (more : List Turn) × CountsTurns turns.old.turn_limit turns.old.idle_limit (turned ++ more) pauses (P.count pause.new) turns.new.turns turns.new.idle }
         ensures turn_limits { (turns.new.turn_limit ≡ turns.old.turn_limit) × (turns.new.idle_limit ≡ turns.old.idle_limit) }
+        ensures takes_a_turn { half.new.stage ≡ stage.Over NextRequest → (half.old.stage ≡ stage.Over NextRequest) ⊎ (turns.old.turns < turns.new.turns) }
         // The ends of a pair always meet.
         ensures met { not_met self.new ≡ not_met self.old };
 

@@ -6,10 +6,10 @@ ghost use Rattle.asgi_io.specs.Counting.{RoseBy};
 ghost use Rattle.asgi_request.specs.declared.next.Next.{Next};
 ghost use Rattle.asgi_request.specs.Reading.{StandsFor};
 ghost use Rattle.asgi_conn.specs.Lines.{LineState, HasMoved, input_behind, state_of};
-ghost use Rattle.asgi_conn.specs.TaskEnds.{has_ended};
+ghost use Rattle.asgi_conversation.specs.TaskEnds.{has_ended};
 
-use crate::input::InputEnd;
 use crate::line::Line;
+use asgi_conversation::InputEnd;
 use asgi_io::{Answer, Turn, Wrote, answer_of, write_out};
 use asgi_request::RequestReader;
 use asgi_types::Limits;
@@ -30,6 +30,21 @@ pub struct Wire {
 }
 
 impl Wire {
+    /// Nothing was read or written yet. It takes no memory.
+    pub fn new(alloc: Global, limits: Limits) -> Wire
+        ensures limits { (result.limits ≡ limits) × (result.requests.limits ≡ limits) }
+        ensures unread { StandsFor result.requests [] [] × (result.input ≡ InputEnd.OpenStill) }
+        ensures empty { result.out.items ≡ [] }
+    {
+        Wire {
+            alloc,
+            limits,
+            requests: RequestReader::new(alloc, limits),
+            input: InputEnd::OpenStill,
+            out: Vec::new(alloc),
+        }
+    }
+
     /// Reads once, and feeds what came to the reader of requests.
     pub fn read<L: Line>(&mut self, line: &mut L) -> Result<Turn, AllocError>
         requires { has_ended self.old.input ≡ false }
@@ -80,11 +95,20 @@ impl Wire {
         ensures same { self.new ≡ record self.old { out = self.new.out } }
         ensures empty { self.new.out.items ≡ [] }
     {
-        let wrote = write_out(line, &self.out);
+        let cut = write(line, &self.out);
         self.out.clear();
-        match wrote {
-            Wrote::Done => None,
-            Wrote::Failed(n) => Some(n),
-        }
+        cut
+    }
+}
+
+/// Writes a text, and answers how much of it went out where a write failed.
+pub fn write<L: Line>(line: &mut L, text: &[u8]) -> Option<usize>
+    ensures none { IfNone result (Appends (L.written line.old) (L.written line.new) text.now × RoseBy 0 (L.failed line.old) (L.failed line.new)) }
+    ensures some { IfSome result (λ n. (n < length text.now) × Appends (L.written line.old) (L.written line.new) (take n text.now) × RoseBy 1 (L.failed line.old) (L.failed line.new)) }
+    ensures reads { (L.remaining line.new ≡ L.remaining line.old) × (L.Reads.answers line.new ≡ L.Reads.answers line.old) }
+{
+    match write_out(line, text) {
+        Wrote::Done => None,
+        Wrote::Failed(n) => Some(n),
     }
 }

@@ -1,6 +1,6 @@
 -- One connection was served, with a pause and an application that begin at none.
 use Rattle.std.proofs.Common.{◌≡◌, ℕ, subst}
-use Rattle.asgi_conn.specs.declared.report.Report.{Report}
+use Rattle.asgi_conversation.specs.declared.report.Report.{Report}
 use Rattle.asgi_conn.specs.Serving.{Serves}
 use Rattle.asgi_types.specs.declared.limits.Limits.{Limits}
 use Rattle.asgi_types.specs.Ranges.{AreLimits}

@@ -1,7 +1,7 @@
 -- What is told of an outcome, by its status.
 use Rattle.std.proofs.Common.{◌≡◌, ℕ, List, subst, refl}
-use Rattle.asgi_conn.specs.declared.report.Outcome.{Outcome}
-use Rattle.asgi_conn.specs.declared.report.Outcome.TheVariants.{Finished, Refused, InputBroke, WriteFailed, Idle, NoMemory}
+use Rattle.asgi_conversation.specs.declared.report.Outcome.{Outcome}
+use Rattle.asgi_conversation.specs.declared.report.Outcome.TheVariants.{Finished, Refused, InputBroke, WriteFailed, Idle, NoMemory}
 use Rattle.asgi_demo.specs.Command.{exit_status}
 use Rattle.asgi_demo.specs.Telling.{Writer, Tells, TellsOf, of_outcome, stopped}
 

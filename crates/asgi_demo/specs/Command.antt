@@ -1,9 +1,9 @@
 -- What the program does with its words.
 use Rattle.std.specs.Prelude.{◌≡◌, ℕ, List, [], ◌∷◌, codes, Option}
 use Rattle.asgi_io.specs.declared.answer.Answer.{Answer}
-use Rattle.asgi_conn.specs.declared.report.Outcome.{Outcome}
-use Rattle.asgi_conn.specs.declared.report.Outcome.TheVariants.{Finished, Refused, InputBroke, WriteFailed, Idle, NoMemory}
-use Rattle.asgi_conn.specs.declared.report.Report.{Report}
+use Rattle.asgi_conversation.specs.declared.report.Outcome.{Outcome}
+use Rattle.asgi_conversation.specs.declared.report.Outcome.TheVariants.{Finished, Refused, InputBroke, WriteFailed, Idle, NoMemory}
+use Rattle.asgi_conversation.specs.declared.report.Report.{Report}
 use Rattle.asgi_conn.specs.Serving.{Outside, Serves}
 use Rattle.asgi_demo.specs.Telling.{Writer, TellsOf, of_outcome}
 use Rattle.asgi_types.specs.declared.limits.Limits.{Limits}

@@ -3,9 +3,9 @@ use Rattle.std.specs.Prelude.{◌≡◌, ℕ, List, ◌++◌, codes, Option, Som
 use Rattle.asgi_io.specs.declared.answer.Answer.{Answer}
 use Rattle.asgi_io.specs.declared.write.Wrote.{Wrote}
 use Rattle.asgi_io.specs.Writing.{WritesOut, TriesWrites, out_of}
-use Rattle.asgi_conn.specs.declared.report.Outcome.{Outcome}
-use Rattle.asgi_conn.specs.declared.report.Outcome.TheVariants.{Finished, Refused, InputBroke, WriteFailed, Idle, NoMemory}
-use Rattle.asgi_conn.specs.OutcomeWords.{outcome_words}
+use Rattle.asgi_conversation.specs.declared.report.Outcome.{Outcome}
+use Rattle.asgi_conversation.specs.declared.report.Outcome.TheVariants.{Finished, Refused, InputBroke, WriteFailed, Idle, NoMemory}
+use Rattle.asgi_conversation.specs.OutcomeWords.{outcome_words}
 
 -- the texts, each a line
 abbrev pub usage : List ℕ

@@ -1,6 +1,6 @@
 use Rattle.std.proofs.Common.{List, ℕ, ◌++◌, take, arith, subst, sym}
 use Rattle.asgi_io.specs.Answers.{bytes_of}
-use Rattle.asgi_conn.specs.declared.input.InputEnd.{InputEnd}
+use Rattle.asgi_conversation.specs.declared.input.InputEnd.{InputEnd}
 use Rattle.asgi_conn.specs.Lines.{HasMoved, state_of}
 use Rattle.asgi_conn.proofs.LineLemmas.{gave, told_as, moved_by_open_read}
 use Rattle.asgi_conn.proofs.wire.Wire.read.Goals as goal

@@ -1,0 +1,157 @@
+-- What a loop over a reader carries from one exchange to the next, and how it ends between two of them.
+use Rattle.std.proofs.Common.{◌≡◌, ℕ, true, false, List, [], ◌∷◌, ◌++◌, ◌⊎◌, inl, map, refl, sym, ap, ◌∙◌, append-nil, subst}
+use Rattle.std.specs.Prelude.{◌≢◌, ◌<◌, length, take}
+use Rattle.asgi_types.specs.declared.end_kind.EndKind.{EndKind}
+use Rattle.asgi_types.specs.declared.facts.Facts.{Facts}
+use Rattle.asgi_types.specs.declared.incoming.Incoming.{Incoming}
+use Rattle.asgi_types.specs.declared.limits.Limits.{Limits}
+use Rattle.asgi_types.specs.declared.scope.Scope.{Scope}
+use Rattle.asgi_request.specs.BodyOf.{body_events, body_state}
+use Rattle.asgi_request.specs.ChunkedBody.{BodyState, complete}
+use Rattle.asgi_request.specs.RequestEvents.{ReadsBody}
+use Rattle.asgi_request.specs.Results.{GivesResults}
+use Rattle.asgi_request.specs.declared.next.Next.{Next}
+use Rattle.asgi_request.specs.declared.next.Next.TheVariants.{Head, Event, Whole, Bad}
+use Rattle.asgi_request.specs.declared.place.Place.{Place}
+use Rattle.asgi_request.specs.declared.place.Place.TheVariants.{Start}
+use Rattle.asgi_request.specs.Places.{Reaches}
+use Rattle.asgi_request.proofs.BodyOfLemmas.{body_is_read}
+use Rattle.asgi_request.proofs.DueLemmas.{whole_is_complete}
+use Rattle.asgi_request.proofs.OpenedLemmas.{closed_at, has_closed, closed_stays, opened_at, opened_stays, next_opens, whole_closes, closed_is_one}
+use Rattle.asgi_request.proofs.StartLemmas.{next_refusal, head_is_open}
+use Rattle.asgi_response.specs.Exchange.{refusal_text}
+use Rattle.asgi_response.specs.Progress.{progress_of}
+use Rattle.asgi_response.specs.Response.{response_text}
+use Rattle.asgi_response.specs.declared.progress.Progress.TheVariants.{Nothing, Complete}
+use Rattle.asgi_exchange.specs.HttpExchange.{IsHttpExchange}
+use Rattle.asgi_exchange.specs.Steps.{is_by_input}
+use Rattle.asgi_exchange.specs.Views.{World, taken_of}
+use Rattle.asgi_conversation.specs.declared.report.Outcome.{Outcome}
+use Rattle.asgi_conversation.specs.declared.report.Outcome.TheVariants.{Finished, Refused, InputBroke, WriteFailed, Idle, NoMemory}
+use Rattle.asgi_conversation.specs.declared.report.Report.{Report}
+use Rattle.asgi_conversation.specs.Behind.{NothingIsDue, IsBlank}
+use Rattle.asgi_conversation.specs.declared.following.Following.TheVariants.{NextRequest}
+use Rattle.asgi_conversation.specs.declared.input.InputEnd.{InputEnd}
+use Rattle.asgi_conversation.specs.declared.input.InputEnd.TheVariants.{AtEnd, Failed}
+use Rattle.asgi_conversation.specs.TaskEnds.{has_ended}
+use Rattle.asgi_conversation.specs.Exchanges.{Exchanged}
+use Rattle.asgi_conversation.specs.Persistence.{EndsBetween, CountsExchanges, Converses}
+use Rattle.asgi_conversation.specs.SoFar.{exchanged, Between, Within, TaskIsOver}
+use Rattle.asgi_conversation.proofs.RequestLemmas.{nothing_due, none_closed}
+use Rattle.asgi_conversation.proofs.SoFarLemmas.{start, grows, sees_end, one_grows, one_more, ends_between}
+use Rattle.asgi_conversation.proofs.TakenLemmas.{follows, begun_is_out}
+
+-- ---- from one to the next
+
+pub starts : (limits : Limits) (end : InputEnd) → Between limits end [] [] [] [] []
+starts limits end = record { so_far = start limits end; closed = none_closed limits [] }
+
+pub reads_more : (limits : Limits) (end : InputEnd) (read more : List ℕ) (given : List Next) (exchanges : List Exchanged) (behind written : List ℕ)
+    → Between limits end read given exchanges behind written → Between limits end (read ++ more) given exchanges (behind ++ more) written
+reads_more limits end read more given exchanges behind written b =
+    record { so_far = grows limits end read more exchanges behind written b.so_far; closed = closed_stays limits read more given behind b.closed }
+
+pub within_reads_more : (limits : Limits) (end : InputEnd) (read more : List ℕ) (opened : List Next) (exchanges : List Exchanged) (written : List ℕ) (scope : Scope) (facts : Facts) (arrived : List ℕ)
+    → Within limits end read opened exchanges written scope facts arrived → Within limits end (read ++ more) opened exchanges written scope facts (arrived ++ more)
+within_reads_more limits end read more opened exchanges written scope facts arrived x =
+    record { one = one_grows limits end read more exchanges written scope facts arrived x.one; opens = opened_stays limits read more opened facts.framing arrived x.opens }
+
+pub end_seen : (limits : Limits) (old new : InputEnd) (read : List ℕ) (given : List Next) (exchanges : List Exchanged) (behind written : List ℕ) → (has_ended old ≡ true → has_ended new ≡ true)
+    → Between limits old read given exchanges behind written → Between limits new read given exchanges behind written
+end_seen limits old new read given exchanges behind written on b = record { so_far = sees_end limits old new read exchanges behind written on b.so_far; closed = b.closed }
+
+pub end_seen_within : (limits : Limits) (old new : InputEnd) (read : List ℕ) (opened : List Next) (exchanges : List Exchanged) (written : List ℕ) (scope : Scope) (facts : Facts) (arrived : List ℕ)
+    → (has_ended old ≡ true → has_ended new ≡ true)
+    → Within limits old read opened exchanges written scope facts arrived → Within limits new read opened exchanges written scope facts arrived
+end_seen_within limits old new read opened exchanges written scope facts arrived on x =
+    let o = x.one in
+    record {
+      one = record { behind = o.behind; so_far = sees_end limits old new read exchanges o.behind written on o.so_far; head = o.head };
+      opens = x.opens;
+    }
+
+pub begins : (limits : Limits) (end : InputEnd) (read : List ℕ) (given more : List Next) (exchanges : List Exchanged) (behind written : List ℕ) (place : Place) (held : List ℕ) (scope : Scope) (facts : Facts)
+    → Between limits end read given exchanges behind written → Reaches limits read (given ++ Head scope facts ∷ more) place held
+    → (arrived : List ℕ) × Within limits end read (given ++ Head scope facts ∷ []) exchanges written scope facts arrived
+begins limits end read given more exchanges behind written place held scope facts b r =
+    let n = next_opens limits read given behind place held scope facts more b.closed r in
+    (n.0, record { one = record { behind = behind; so_far = b.so_far; head = n.1 }; opens = n.2 })
+
+kept_is_begun : (facts : Facts) (w : World ℕ ℕ) → progress_of facts (taken_of w.conn) ≡ Complete false → progress_of facts (taken_of w.conn) ≢ Nothing
+kept_is_begun facts w p n = cc (sym p ∙ n)
+
+pub keeps_on : (limits : Limits) (end : InputEnd) (read : List ℕ) (opened : List Next) (exchanges : List Exchanged) (written : List ℕ) (scope : Scope) (facts : Facts) (w : World ℕ ℕ) (k : EndKind)
+    (events : List Incoming) (place : Place) (held : List ℕ)
+    → Within limits end read opened exchanges written scope facts w.conn.arrived → IsHttpExchange limits facts w → TaskIsOver w k
+    → progress_of facts (taken_of w.conn) ≡ Complete false → (is_by_input w.conn.broken ≡ true → has_ended end ≡ true)
+    → w.conn.written ≡ response_text facts (taken_of w.conn)
+    → Reaches limits read (opened ++ (map Event events ++ Whole ∷ [])) place held
+    → (behind : List ℕ) × Between limits end read (opened ++ (map Event events ++ Whole ∷ [])) (exchanges ++ exchanged scope facts w ∷ []) behind (written ++ w.conn.written)
+keeps_on limits end read opened exchanges written scope facts w k events place held x i t p broke out r =
+    let due = body_events limits facts.framing w.conn.arrived in
+    let state = body_state limits facts.framing w.conn.arrived in
+    let known = whole_is_complete limits read opened facts.framing w.conn.arrived due state place held
+    (opened_at limits read opened facts.framing w.conn.arrived x.opens) (body_is_read limits facts.framing w.conn.arrived) events r in
+    let behind = known.1.0 in
+    let E : List Incoming → Type 0 = λ l. ReadsBody limits facts.framing w.conn.arrived l (complete behind) in
+    let S : BodyState → Type 0 = λ s. ReadsBody limits facts.framing w.conn.arrived due s in
+    let body = subst E (sym known.0) (subst S known.1.1 (body_is_read limits facts.framing w.conn.arrived)) in (
+      behind,
+      record {
+        so_far = one_more limits end read exchanges written scope facts w k events behind x.one i t.taken body (λ b. inl (broke b)) (λ b. absurd (t.uncut b))
+            (follows limits scope facts w k (complete behind) t (Complete false) NextRequest i p refl)
+            (begun_is_out limits scope facts w k (complete behind) t (kept_is_begun facts w p) out);
+        closed = whole_closes limits read opened facts.framing w.conn.arrived events behind x.opens body;
+      },
+    )
+
+-- the bytes behind the last request are those that the reader holds
+pub behind_is_held : (limits : Limits) (end : InputEnd) (read : List ℕ) (given : List Next) (exchanges : List Exchanged) (behind written held : List ℕ)
+    → Between limits end read given exchanges behind written → Reaches limits read given Start held → behind ≡ held
+behind_is_held limits end read given exchanges behind written held b r = closed_is_one limits read given behind held b.closed (has_closed limits read given held r)
+
+-- ---- the ends between two exchanges
+
+ends_as : (limits : Limits) (end : InputEnd) (read : List ℕ) (exchanges : List Exchanged) (behind written text : List ℕ) (given : List Next) (outcome : Outcome) (report : Report)
+    → Between limits end read given exchanges behind written → report.outcome ≡ outcome → EndsBetween outcome limits end behind text → CountsExchanges report exchanges
+    → Converses limits end read exchanges (written ++ text) report
+ends_as limits end read exchanges behind written text given outcome report b e ends c =
+    ends_between limits end read exchanges behind written text report b.so_far (subst (λ (o : Outcome). EndsBetween o limits end behind text) (sym e) ends) c
+
+ends_silent : (limits : Limits) (end : InputEnd) (read : List ℕ) (exchanges : List Exchanged) (behind written : List ℕ) (given : List Next) (outcome : Outcome) (report : Report)
+    → Between limits end read given exchanges behind written → report.outcome ≡ outcome → EndsBetween outcome limits end behind [] → CountsExchanges report exchanges
+    → Converses limits end read exchanges written report
+ends_silent limits end read exchanges behind written given outcome report b e ends c =
+    subst (λ (l : List ℕ). Converses limits end read exchanges l report) (append-nil written)
+    (ends_as limits end read exchanges behind written [] given outcome report b e ends c)
+
+module _ (limits : Limits) (end : InputEnd) (read : List ℕ) (given : List Next) (exchanges : List Exchanged) (behind written : List ℕ) (report : Report)
+    (b : Between limits end read given exchanges behind written) (c : CountsExchanges report exchanges) where
+  pub refused : (place : Place) (held : List ℕ) (status : ℕ) → Reaches limits read (given ++ Bad status ∷ []) place held → report.outcome ≡ Refused status
+      → Converses limits end read exchanges (written ++ refusal_text status) report
+  refused place held status r e =
+      let why = next_refusal limits read given behind place held status (closed_at limits read given behind b.closed) r in
+      ends_as limits end read exchanges behind written (refusal_text status) given (Refused status) report b e (why.0, why.1, why.2, refl) c
+
+  pub refusal_failed : (place : Place) (held : List ℕ) (status n : ℕ) → Reaches limits read (given ++ Bad status ∷ []) place held → n < length (refusal_text status)
+      → report.outcome ≡ WriteFailed n → Converses limits end read exchanges (written ++ take n (refusal_text status)) report
+  refusal_failed place held status n r h e =
+      let why = next_refusal limits read given behind place held status (closed_at limits read given behind b.closed) r in
+      ends_as limits end read exchanges behind written (take n (refusal_text status)) given (WriteFailed n) report b e
+      (why.0, why.1, subst (λ (s : ℕ). n < length (refusal_text s)) why.2 h, ap (λ (s : ℕ). take n (refusal_text s)) why.2) c
+
+  none_due : (rest : List ℕ) → GivesResults limits read given rest → NothingIsDue limits behind
+  none_due rest g = nothing_due limits behind (head_is_open limits read given behind rest (closed_at limits read given behind b.closed) g)
+
+  pub finished : (rest : List ℕ) → GivesResults limits read given rest → end ≡ AtEnd → IsBlank behind → report.outcome ≡ Finished → Converses limits end read exchanges written report
+  finished rest g e blank o = ends_silent limits end read exchanges behind written given Finished report b o (refl, none_due rest g, e, blank) c
+
+  pub input_broke : (rest : List ℕ) → GivesResults limits read given rest → (end ≡ Failed) ⊎ ((end ≡ AtEnd) × ¬ (IsBlank behind)) → report.outcome ≡ InputBroke
+      → Converses limits end read exchanges written report
+  input_broke rest g e o = ends_silent limits end read exchanges behind written given InputBroke report b o (refl, none_due rest g, e) c
+
+  pub idle : (rest : List ℕ) → GivesResults limits read given rest → report.outcome ≡ Idle → Converses limits end read exchanges written report
+  idle rest g o = ends_silent limits end read exchanges behind written given Idle report b o (refl, none_due rest g) c
+
+  pub no_memory : report.outcome ≡ NoMemory → Converses limits end read exchanges written report
+  no_memory o = ends_silent limits end read exchanges behind written given NoMemory report b o refl c

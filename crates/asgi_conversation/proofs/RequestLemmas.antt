@@ -1,0 +1,127 @@
+-- The requests of a conversation are the first heads among the results of the bytes read.
+use Rattle.std.proofs.Common.{◌≡◌, ℕ, List, [], ◌∷◌, ◌++◌, inl, map, refl, sym, ap, ◌∙◌, append_assoc, append-nil, subst, Option, Some, None}
+use mathlib.Core.List.{IsPrefix}
+use Rattle.asgi_types.specs.declared.facts.Facts.{Facts}
+use Rattle.asgi_types.specs.declared.incoming.Incoming.{Incoming}
+use Rattle.asgi_types.specs.declared.limits.Limits.{Limits}
+use Rattle.asgi_types.specs.declared.scope.Scope.{Scope}
+use Rattle.asgi_request.specs.declared.next.Next.{Next}
+use Rattle.asgi_request.specs.declared.next.Next.TheVariants.{Need, Head, Event, Whole, Bad}
+use Rattle.asgi_request.specs.declared.place.Place.{Place}
+use Rattle.asgi_request.specs.declared.place.Place.TheVariants.{Start}
+use Rattle.asgi_request.specs.HeadText.{EndsAsHead}
+use Rattle.asgi_request.specs.Opened.{HasClosed}
+use Rattle.asgi_request.specs.Texts.{IsUnfinished}
+use Rattle.asgi_request.specs.Results.{GivesResults}
+use Rattle.asgi_request.specs.Fronts.{head_len}
+use Rattle.asgi_request.specs.Places.{body_place, Reaches, ResultsOf}
+use Rattle.asgi_request.proofs.OpenedLemmas.{closed_at, opens_behind, opened_at, whole_closes}
+use Rattle.asgi_request.proofs.ResultsLemmas.{results_of}
+use Rattle.asgi_request.proofs.StartLemmas.{head_is_open}
+use Rattle.asgi_request.proofs.TextLemmas.{open_front, head_search_for}
+use Rattle.asgi_request.proofs.UniqueLemmas.{results_same, reached_begin}
+use Rattle.asgi_conversation.specs.declared.report.Report.{Report}
+use Rattle.asgi_conversation.specs.Behind.{NothingIsDue}
+use Rattle.asgi_conversation.specs.declared.input.InputEnd.{InputEnd}
+use Rattle.asgi_conversation.specs.Exchanges.{Exchanged, AreAnswered, requests_of}
+use Rattle.asgi_conversation.specs.Persistence.{Ends, listed, Converses, heads_of}
+use Rattle.asgi_conversation.specs.SoFar.{SoFar}
+
+-- ---- no further request
+
+pub nothing_due : (limits : Limits) (bytes : List ℕ) → IsUnfinished EndsAsHead limits.max_head bytes → NothingIsDue limits bytes
+nothing_due limits bytes open_ = (bytes, record { requests = []; begun = []; whole = refl; goes_on = inl (open_, refl); results_are = refl })
+
+pub none_closed : (limits : Limits) (bytes : List ℕ) → HasClosed limits bytes [] bytes
+none_closed limits bytes = ([], refl, refl)
+
+unfinished_head : (limits : Limits) (bytes : List ℕ) → NothingIsDue limits bytes → IsUnfinished EndsAsHead limits.max_head bytes
+unfinished_head limits bytes n = head_is_open limits bytes [] bytes n.0 (closed_at limits bytes [] bytes (none_closed limits bytes)) n.1
+
+-- ---- heads of lists
+
+heads_join : (a b : List Next) → heads_of (a ++ b) ≡ heads_of a ++ heads_of b
+heads_join [] b = refl
+heads_join (Head scope facts ∷ a) b = ap (λ (l : List (Scope × Facts)). (scope, facts) ∷ l) (heads_join a b)
+heads_join (Need ∷ a) b = heads_join a b
+heads_join (Event event ∷ a) b = heads_join a b
+heads_join (Whole ∷ a) b = heads_join a b
+heads_join (Bad status ∷ a) b = heads_join a b
+
+no_heads : (events : List Incoming) (behind : List Next) → heads_of ((map Event events ++ Whole ∷ []) ++ behind) ≡ heads_of behind
+no_heads [] behind = refl
+no_heads (event ∷ events) behind = no_heads events behind
+
+requests_join : (a b : List Exchanged) → requests_of (a ++ b) ≡ requests_of a ++ requests_of b
+requests_join [] b = refl
+requests_join (x ∷ a) b = ap (λ (l : List (Scope × Facts)). (x.scope, x.facts) ∷ l) (requests_join a b)
+
+-- ---- the results of answered requests
+
+record Answered (limits : Limits) (bytes : List ℕ) (given : List Next) (exchanges : List Exchanged) (behind : List ℕ) : Type 0 where
+  pub results : List Next
+  pub closed : HasClosed limits bytes (given ++ results) behind
+  pub heads : heads_of results ≡ requests_of exchanges
+
+answered_close : (limits : Limits) (end : InputEnd) (bytes : List ℕ) (given : List Next) (middle : List ℕ) (exchanges : List Exchanged) (behind : List ℕ)
+    → HasClosed limits bytes given middle → AreAnswered limits end middle exchanges behind → Answered limits bytes given exchanges behind
+answered_close limits end bytes given middle [] behind x a = record {
+  results = [];
+  closed =
+      let R : List ℕ → Type 0 = λ l. HasClosed limits bytes (given ++ []) l in
+      let G : List Next → Type 0 = λ g. HasClosed limits bytes g middle in
+      subst R a (subst G (sym (append-nil given)) x);
+  heads = refl;
+}
+answered_close limits end bytes given middle (y ∷ exchanges) behind x a =
+    let s = a.1 in
+    let h = Head y.scope y.facts in
+    let t : List Next = map Event s.events ++ Whole ∷ [] in
+    let opened = opens_behind limits bytes given middle y.scope y.facts s.arrived x s.head in
+    let whole = whole_closes limits bytes (given ++ h ∷ []) y.facts.framing s.arrived s.events a.0 opened s.body in
+    let rest = answered_close limits end bytes ((given ++ h ∷ []) ++ t) a.0 exchanges behind whole a.3 in
+    record {
+      results = h ∷ (t ++ rest.results);
+      closed = subst (λ (g : List Next). HasClosed limits bytes g behind) (append_assoc (given ++ h ∷ []) t rest.results ∙ append_assoc given (h ∷ []) (t ++ rest.results)) rest.closed;
+      heads = ap (λ (l : List (Scope × Facts)). (y.scope, y.facts) ∷ l) (no_heads s.events rest.results ∙ rest.heads);
+    }
+
+-- ---- the requests of a conversation
+
+pub heads_are : (limits : Limits) (end : InputEnd) (read : List ℕ) (exchanges : List Exchanged) (written : List ℕ) (report : Report) (results : List Next) (rest : List ℕ)
+    → Converses limits end read exchanges written report → GivesResults limits read results rest → IsPrefix (requests_of exchanges) (heads_of results)
+heads_are limits end read exchanges written report results rest c g =
+    subst (λ (l : List Exchanged). IsPrefix (requests_of l) (heads_of results)) (sym c.in_order) (by c.last c.ends)
+  where
+    a : Answered limits read [] c.answered c.behind
+    a = answered_close limits end read [] read c.answered c.behind (none_closed limits read) c.each
+
+    from : (first : List Next) (place : Place) (held : List ℕ) → Reaches limits read first place held → IsPrefix (heads_of first) (heads_of results)
+    from first place held x =
+        let f = reached_begin limits read first place held results x (results_of limits limits.block_in_range.0 read results rest g) in
+        (heads_of f.0, sym (heads_join first f.0) ∙ ap heads_of (sym f.1))
+
+    by : (last : Option Exchanged) → Ends report.outcome limits end c.behind last c.text → IsPrefix (requests_of (c.answered ++ listed last)) (heads_of results)
+    by None e =
+        subst (λ (l : List (Scope × Facts)). IsPrefix l (heads_of results)) (a.heads ∙ ap requests_of (sym (append-nil c.answered)))
+        (from a.results Start c.behind (closed_at limits read a.results c.behind a.closed))
+    by (Some x) e =
+        let s = e.1 in
+        let first = a.results ++ Head x.scope x.facts ∷ [] in
+        let o = opened_at limits read first x.facts.framing s.arrived (opens_behind limits read a.results c.behind x.scope x.facts s.arrived a.closed s.head) in
+        subst (λ (l : List (Scope × Facts)). IsPrefix l (heads_of results))
+        (heads_join a.results (Head x.scope x.facts ∷ []) ∙ ap (λ (l : List (Scope × Facts)). l ++ (x.scope, x.facts) ∷ []) a.heads ∙ sym (requests_join c.answered (x ∷ [])))
+        (from first (body_place x.facts.framing) s.arrived o)
+
+-- where nothing more is due, all heads were answered
+pub all_heads : (limits : Limits) (end : InputEnd) (read : List ℕ) (exchanges : List Exchanged) (behind written : List ℕ) (results : List Next) (rest : List ℕ)
+    → SoFar limits end read exchanges behind written → NothingIsDue limits behind → GivesResults limits read results rest → requests_of exchanges ≡ heads_of results
+all_heads limits end read exchanges behind written results rest s none g =
+    let a = answered_close limits end read [] read exchanges behind (none_closed limits read) s.each in
+    let mine : ResultsOf limits read a.results = record {
+      place = Start;
+      rest = behind;
+      reaches = closed_at limits read a.results behind a.closed;
+      waits = open_front EndsAsHead head_len head_search_for limits.max_head behind (unfinished_head limits behind none);
+    } in
+    sym a.heads ∙ ap heads_of (results_same limits read a.results results mine (results_of limits limits.block_in_range.0 read results rest g))

@@ -1,0 +1,20 @@
+use Rattle.asgi_conversation.proofs.laws.a_reader_ends_a_conversation.Goals as goal
+use Rattle.asgi_conversation.proofs.LoopLemmas as lemma
+
+pub returns-clause-refused : goal.returns-clause-refused
+returns-clause-refused c reader end read given exchanges behind written report status b n r o = lemma.refused reader.limits end read given exchanges behind written report b n reader.place reader.held status r o
+
+pub returns-clause-refusal_unsent : goal.returns-clause-refusal_unsent
+returns-clause-refusal_unsent c reader end read given exchanges behind written report status k b n r h o = lemma.refusal_failed reader.limits end read given exchanges behind written report b n reader.place reader.held status k r h o
+
+pub returns-clause-finished : goal.returns-clause-finished
+returns-clause-finished c reader end read given exchanges behind written report b n g e blank o = lemma.finished reader.limits end read given exchanges behind written report b n g.0 g.1 e blank o
+
+pub returns-clause-input_broke : goal.returns-clause-input_broke
+returns-clause-input_broke c reader end read given exchanges behind written report b n g e o = lemma.input_broke reader.limits end read given exchanges behind written report b n g.0 g.1 e o
+
+pub returns-clause-idle : goal.returns-clause-idle
+returns-clause-idle c reader end read given exchanges behind written report b n g o = lemma.idle reader.limits end read given exchanges behind written report b n g.0 g.1 o
+
+pub returns-clause-no_memory : goal.returns-clause-no_memory
+returns-clause-no_memory c limits end read given exchanges behind written report b n o = lemma.no_memory limits end read given exchanges behind written report b n o
