@@ -11,6 +11,10 @@ stands on, and each such crate. An edit is checked over a clone of that work, so
 what another edit changed. What is not refused so is tried once more from nothing, and so is each edit of a crate that
 is not proved over its kept work afterwards.
 
+The prover takes each function by itself, by the contracts of what it calls. So edits within the bodies of different
+functions are tried in one check, where each function must be refused for its own edit and no other function at all. Where
+such a check says anything else, each of its edits is tried alone.
+
 --all: the edits crates/NAME/must-fail/*.edit too, which `rt ci` tries.
 --read: only sees that each edit can be applied and says what refuses it, those of crates/NAME/must-fail too.
 --warm: begins with what the crates' own checks left in out/. For use while you write, not for the gate.
@@ -28,11 +32,13 @@ import tempfile
 import threading
 import time
 
-from toolchain import ONE_JOB, clone, copied, crates_in, load_rt, refused_in
+from toolchain import ONE_JOB, clone, copied, crates_in, load_rt, refused_by_function, refused_in
 
 TOP = os.path.dirname(os.path.dirname(os.path.realpath(__file__)))
 # What the check of an edit takes over kept work: bytes of memory, and seconds.
 MEMORY, SECONDS = 2_000_000_000, 12
+# The most edits that are tried in one check.
+AT_ONCE = 12
 
 
 def part_of(text):
@@ -68,6 +74,66 @@ def kept_promise(edit, log):
     if clause and clause not in clauses:
         return f"the prover did not name the clause {clause}: {', '.join(sorted(clauses)) or 'none'}"
     return None
+
+
+def is_refusal_of(edits, log):
+    """Returns whether the prover refused the functions of these edits, each with the clause that its edit names, and no other one."""
+    refused = refused_by_function(log)
+    for edit in edits:
+        function, clause = promised(edit)
+        own = [it for it in refused if f"::{it}".endswith(f"::{function}")]
+        if len(own) != 1 or clause and clause not in refused[own[0]]:
+            return False
+        del refused[own[0]]
+    return not refused
+
+
+def body_at(text, at):
+    """Returns the name of the function within which this place of a source stands, or None."""
+    found = None
+    for it in re.finditer(r"^( *)(?:pub(?:\([^)]*\))? )?(?:const )?fn (\w+)", text[:at], re.M):
+        end = re.compile(rf"^{it[1]}}}", re.M).search(text, it.end())
+        found = it[2] if end and at < end.start() else found
+    return found
+
+
+def change_of(edit, folder):
+    """Returns the file, the place, the old and the new text of an edit within the body of the function that it says is refused, or None."""
+    with open(edit, encoding="utf-8", errors="replace") as it:
+        found = re.fullmatch(r"refused by: ([\w:+]+)(?:, clause \w+)?\nfile: (src/\S+)\nold: (.*)\nnew: ?(.*)\n*", it.read())
+    if not found:
+        return None
+    function, file, old, new = found.groups()
+    with open(f"{folder}/{file}", encoding="utf-8") as it:
+        text = it.read()
+    at = text.find(old)
+    return (file, at, old, new) if body_at(text, at) == function.split("::")[-1] else None
+
+
+def groups_of(edits, folder):
+    """Returns the edits in groups: those of a group change bodies of different functions, and one that can't be told so stands alone."""
+    alone, groups = [], []
+    for edit in edits:
+        if not change_of(edit, folder):
+            alone.append([edit])
+            continue
+        function = promised(edit)[0]
+        group = next((it for it in groups if len(it) < AT_ONCE and function not in {promised(other)[0] for other in it}), None)
+        if group is None:
+            groups.append(group := [])
+        group.append(edit)
+    return groups + alone
+
+
+def texts_of(edits, folder):
+    """Returns the texts of the files that these edits change, by their path in the crate."""
+    texts, changes = {}, [change_of(it, folder) for it in edits]
+    for file, at, old, new in sorted(changes, key=lambda it: (it[0], -it[1])):
+        if file not in texts:
+            with open(f"{folder}/{file}", encoding="utf-8") as it:
+                texts[file] = it.read()
+        texts[file] = texts[file][:at] + new + texts[file][at + len(old) :]
+    return texts
 
 
 class Edits:
@@ -163,6 +229,24 @@ class Trial:
         print(f"{text} ({time.time() - began:.0f} s)", flush=True)
         return refused, text
 
+    def attempt_all(self, crate, edits, given):
+        """Tries a group of edits. Returns, edit by edit, whether it is refused as it says, and what to say."""
+        kept = given[crate.name, "kept"]
+        if kept and len(edits) > 1:
+            began, over = time.time(), f"{kept}.{os.path.basename(edits[0])}"
+            clone(kept, over)
+            texts = texts_of(edits, crate.folder)
+            ran = self.rt.checked(crate, texts, ONE_JOB, over)
+            shutil.rmtree(over)
+            lines = ran.stdout.rstrip("\n").split("\n")
+            is_read = not any(self.rt.unread(it, texts) for it in lines) and not self.rt.rtlib.STALE.search(ran.stdout)
+            if ran.returncode == 1 and is_read and lines[-1].startswith("logic=not-proved") and is_refusal_of(edits, ran.stdout):
+                each = (time.time() - began) / len(edits)
+                for edit in edits:
+                    print(f"must-fail {crate.name}/{os.path.basename(edit)}: refused, as it must be, with {len(edits) - 1} others ({each:.0f} s)", flush=True)
+                return [(True, "")] * len(edits)
+        return [self.attempt(crate, it, given) for it in edits]
+
     def is_sound(self, crate, given):
         """Returns whether the crate as it is is proved over the kept work, now that its edits are tried."""
         kept = given[crate.name, "kept"]
@@ -186,10 +270,10 @@ class Trial:
             call = lambda given, jobs, it=crate: self.keep(it, given, jobs)
             tasks[crate.name, "kept"] = (waits, seconds, needs, call)
             # rt gives each task named edits one processor.
-            tried = [(crate.name, "edits", it) for it in wanted[crate]]
+            tried = [(crate.name, "edits", *it) for it in groups_of(wanted[crate], crate.folder)]
             for key in tried:
-                call = lambda given, jobs, it=crate, edit=key[2]: self.attempt(it, edit, given)
-                tasks[key] = ([(crate.name, "kept")], SECONDS, MEMORY, call)
+                call = lambda given, jobs, it=crate, edits=key[2:]: self.attempt_all(it, edits, given)
+                tasks[key] = ([(crate.name, "kept")], SECONDS * len(key[2:]), MEMORY, call)
             call = lambda given, jobs, it=crate: self.is_sound(it, given)
             tasks[crate.name, "edits"] = (tried, SECONDS, MEMORY, call)
         return tasks
@@ -200,8 +284,9 @@ class Trial:
         given = self.rt.in_lanes(self.tasks(wanted))
         passed, failed = 0, []
         for crate, edits in wanted.items():
+            of_edit = {edit: it for key, its in given.items() if key[:2] == (crate.name, "edits") and key[2:] for edit, it in zip(key[2:], its)}
             for edit in edits:
-                refused, text = given[crate.name, "edits", edit]
+                refused, text = of_edit[edit]
                 if refused and not given[crate.name, "edits"]:
                     refused, text = self.rt.must_fail(crate, edit, ONE_JOB)
                 passed += refused

@@ -56,3 +56,22 @@ def refused_in(log):
     said = re.findall(r"^fn (\S+): (?:not proved|no proof|could not tell)(: it calls)?", log, re.M)
     functions = {name for name, only_calls in said if not only_calls}
     return functions, {*re.findall(r"-clause-(\w+)", log)}
+
+
+def refused_by_function(log):
+    """Returns the functions that the prover itself refused in the log of a check, each with the clauses named for it: in its own line, in the notes before
+    it, and in what is said of its proof files."""
+    refused, before = {}, ""
+    for line in log.split("\n"):
+        found = re.match(r"fn (\S+): (not proved|no proof|could not tell)?(: it calls)?", line)
+        if not found:
+            before += line + "\n"
+            continue
+        if found[2] and not found[3]:
+            refused[found[1]] = {*re.findall(r"-clause-(\w+)", before + line)}
+        before = ""
+    for function, clauses in refused.items():
+        folder = "/".join(function.split("::")[1:])
+        for line in re.findall(rf"^\./proofs/{re.escape(folder)}/.*", log, re.M):
+            clauses |= {*re.findall(r"-clause-(\w+)", line)}
+    return refused

@@ -1,5 +1,4 @@
--- The exchanges of one HTTP connection, each with the request that it answers (RFC 9112, section 9.3). serve_connection does
--- not keep these words yet: it answers one request.
+-- The exchanges of one HTTP connection, each with the request that it answers (RFC 9112, section 9.3).
 use Rattle.std.specs.Prelude.{◌≡◌, ℕ, ◌+◌, ◌⊎◌, Bool, true, false, List, [], ◌∷◌, ◌++◌, map, replicate, Option, Some}
 use Rattle.std.specs.List.{flat_map}
 use mathlib.Core.List.{IsPrefix}

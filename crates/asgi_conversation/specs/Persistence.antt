@@ -1,6 +1,5 @@
 -- The conversation of many exchanges over one HTTP connection: what the bytes read, the exchanges, the bytes written and the
 -- report say of each other (RFC 9112, sections 2.1 and 9.3). Whole lists alone: no sentence names a read, a queue or a write.
--- serve_connection does not keep it yet: it answers one request, as Conversation says.
 use Rattle.std.specs.Prelude.{◌≡◌, ℕ, ◌<◌, ◌⊎◌, true, List, [], ◌∷◌, ◌++◌, length, take, Option, Some, None}
 use mathlib.Core.List.{IsPrefix}
 use Rattle.asgi_types.specs.declared.end_kind.EndKind.{EndKind}

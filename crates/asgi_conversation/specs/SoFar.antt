@@ -1,4 +1,4 @@
--- A connection between two exchanges, and in one: what a loop over many exchanges knows. serve_connection has no such loop yet.
+-- A connection between two exchanges, and in one: what a loop over many exchanges knows.
 use Rattle.std.specs.Prelude.{◌≡◌, ◌≢◌, ◌⊎◌, ℕ, true, Bool, List, [], ◌∷◌, ◌++◌, Some}
 use Rattle.asgi_types.specs.declared.end_kind.EndKind.{EndKind}
 use Rattle.asgi_types.specs.declared.end_kind.EndKind.TheVariants.{Idle}

@@ -1,5 +1,4 @@
--- What the end of a task makes of its HTTP exchange and of the connection (RFC 9112, sections 9.3 to 9.6). serve_connection
--- does not keep these words yet: it answers one request.
+-- What the end of a task makes of its HTTP exchange and of the connection (RFC 9112, sections 9.3 to 9.6).
 use Rattle.std.specs.Prelude.{Bool, true, false, if◌then◌else◌}
 use Rattle.asgi_types.specs.declared.end_kind.EndKind.{EndKind}
 use Rattle.asgi_types.specs.declared.end_kind.EndKind.TheVariants as kind

@@ -78,7 +78,7 @@ pub struct Report {
     pub exchanges: u64,
     /// How many exchanges ended with a fault of the application.
     pub faults: u64,
-    /// How many turns were taken. One turn is one read.
+    /// How many turns were taken.
     pub turns: u64,
     /// How many turns in a row were idle at the end.
     pub idle: u32,
