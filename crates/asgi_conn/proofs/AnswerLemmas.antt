@@ -53,7 +53,7 @@ module _ {T E : Type 0} (promise : List Incoming → List Outgoing → Option En
   -- what holds of the end that was made, and of each end of its pair, holds of this one
   pub of_pair : (side : AppSide T E) → IsOpened promise answers ends was side → ((app : E) → ends.tag app ≡ ends.tag was → P app) → OfEnd side P
   of_pair (Runs running) opened on = of_lent running.lent opened
-  of_pair (HasEnded app_end kind) opened on = on app_end opened.7
+  of_pair (HasEnded app_end kind) opened on = on app_end opened.5
 
   -- the same of each end of its request
   pub of_request : (side : AppSide T E) → IsOpened promise answers ends was side → ((app : E) → ends.facts app ≡ ends.facts was → P app) → OfEnd side P
@@ -65,10 +65,10 @@ module _ {T E : Type 0} (promise : List Incoming → List Outgoing → Option En
 module _ {T E : Type 0} (promise : Scope → List Incoming → List Outgoing → Option EndKind → Type 0) (answers : T → List Incoming → List Outgoing → Option EndKind → Type 0) (ends : Ghosts E)
     (limits : Limits) (client server : Option Peer) (state : List (List ℕ × StateValue)) (scene : Scene) (now : LineState) (half : ConnHalf) (read : List ℕ)
     (side : AppSide T E) (kind : EndKind) (run : HasRun answers ends half.wire.limits scene now half read side kind) (lim : half.wire.limits ≡ limits) where
-  one : Exchanged
+  abbrev one : Exchanged
   one = exchanged scene.scope scene.facts run.world
 
-  out : List ℕ
+  abbrev out : List ℕ
   out = scene.before ++ run.world.conn.written
 
   -- it is as the application promises it

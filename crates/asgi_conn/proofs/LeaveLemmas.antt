@@ -43,10 +43,10 @@ use Rattle.asgi_conn.specs.Loop.{Rests, EndsSo}
 
 module _ (limits : Limits) (scene : Scene) (now : LineState) (half : ConnHalf) (read : List ℕ) (w : World ℕ ℕ) (s : Stands scene now half read w.conn)
     (i : IsHttpExchange half.wire.limits scene.facts w) (lim : half.wire.limits ≡ limits) where
-  after : List Exchanged
+  abbrev pub after : List Exchanged
   after = scene.exchanges ++ exchanged scene.scope scene.facts w ∷ []
 
-  out : List ℕ
+  abbrev pub out : List ℕ
   out = scene.before ++ w.conn.written
 
   pub left_resting : half.stage ≡ Over NextRequest → (given : List Next) × (behind : List ℕ) × Rests limits scene.start now half.wire read given after behind out
@@ -71,7 +71,7 @@ module _ (limits : Limits) (scene : Scene) (now : LineState) (half : ConnHalf) (
 
   -- ---- the connection ends
 
-  state : BodyState
+  abbrev pub state : BodyState
   state = state_in scene half w.conn
 
   uncut_by : is_by_cut w.conn.broken ≡ false → IsCutBy false w

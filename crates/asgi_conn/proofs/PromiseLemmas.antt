@@ -1,6 +1,7 @@
 -- What a call opened, and the runner ran to its end, is as the application promised it; and one more exchange is counted.
 use Rattle.std.proofs.Common.{◌≡◌, ℕ, ◌+◌, List, [], ◌∷◌, ◌++◌, refl, sym, ap, ◌∙◌, append_assoc, subst, Option, Some, None, IsSomeAnd, arith}
 use Rattle.std.specs.Prelude.{All, length}
+use Rattle.std.proofs.lemmas.List.Elements.{All-nil, All-cons, All-append}
 use Rattle.asgi_types.specs.declared.end_kind.EndKind.{EndKind}
 use Rattle.asgi_types.specs.declared.end_kind.EndKind.TheVariants.{Faulted}
 use Rattle.asgi_types.specs.declared.incoming.Incoming.{Incoming}
@@ -46,8 +47,7 @@ module _ {T E : Type 0} (promise : List Incoming → List Outgoing → Option En
 -- ---- one more
 
 pub all_more : (P : Exchanged → Type 0) (exchanges : List Exchanged) (x : Exchanged) → All P exchanges → P x → All P (exchanges ++ x ∷ [])
-all_more P [] x all p = (p, tt)
-all_more P (e ∷ exchanges) x all p = (all.0, all_more P exchanges x all.1 p)
+all_more P exchanges x all p = All-append P exchanges (x ∷ []) all (All-cons P x [] p (All-nil P))
 
 pub length_more : (exchanges : List Exchanged) (x : Exchanged) → length (exchanges ++ x ∷ []) ≡ length exchanges + 1
 length_more [] x = refl

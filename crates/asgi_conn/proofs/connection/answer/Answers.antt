@@ -23,7 +23,7 @@ run-kind-requires-clause-pair g c =
     let was = c.in-Ok.app_end in
     let end = c.in-Ok.end in
     lemma.of_pair (g.A.Application.answers c.args.app.now c.args.scope.now) g.A.Task.AppTask.answers g.U.Pipes.App.AppEnd was (λ app. g.U.Pipes.Pipes.is_pair end app) c.in-Ok.ensures.pair
-    c.call-side.result c.call-side.ensures.opens (λ app tag. g.met.U.Pipes.stays_pair end end was app refl tag c.in-Ok.ensures.pair)
+    c.call-side.result c.call-side.ensures.opens (λ app tag. g.met.U.Pipes.Pipes.stays_pair end end was app refl tag c.in-Ok.ensures.pair)
 
 pub returns-clause-serves : goal.returns-clause-serves
 returns-clause-serves g c scene client server state read arrived scope opens promised tallied =
