@@ -1,5 +1,5 @@
 -- One request is answered: its exchange is behind those before it, and the connection rests or has ended.
-use Rattle.std.proofs.Common.{◌≡◌, ℕ, ◌+◌, List, [], ◌∷◌, ◌++◌, ◌⊎◌, inl, inr, refl, sym, ap, ◌∙◌, append-nil, subst, Option, Some, None, IsSomeAnd}
+use Rattle.std.proofs.Common.{◌≡◌, ℕ, ◌+◌, List, [], ◌∷◌, ◌++◌, inl, inr, refl, sym, ap, ◌∙◌, append-nil, subst, Option, Some, None, IsSomeAnd}
 use Rattle.asgi_types.specs.declared.end_kind.EndKind.{EndKind}
 use Rattle.asgi_types.specs.declared.facts.Facts.{Facts}
 use Rattle.asgi_types.specs.declared.incoming.Incoming.{Incoming}
@@ -12,22 +12,17 @@ use Rattle.asgi_types.specs.Scopes.{scope_with}
 use Rattle.asgi_pipes.specs.declared.ends.AppEnd.{Ghosts}
 use Rattle.asgi_apps.specs.declared.running.Lent.{Lent}
 use Rattle.asgi_apps.specs.Ends.{own_end}
-use Rattle.asgi_exchange.specs.HttpExchange.{IsHttpExchange}
-use Rattle.asgi_exchange.specs.Items.{end_of}
-use Rattle.asgi_exchange.specs.Views.{World, said_of}
-use Rattle.asgi_conversation.specs.declared.following.Following.TheVariants.{NextRequest, ConnectionEnds}
+use Rattle.asgi_exchange.specs.Views.{said_of}
 use Rattle.asgi_conversation.specs.declared.report.Outcome.{Outcome}
 use Rattle.asgi_conversation.specs.declared.report.Outcome.TheVariants.{NoMemory}
-use Rattle.asgi_conversation.specs.declared.report.Report.{Report}
 use Rattle.asgi_conversation.specs.Exchanges.{Exchanged, fault_of, fault_count}
-use Rattle.asgi_conversation.specs.Persistence.{CountsExchanges, Converses, EndsBetween}
+use Rattle.asgi_conversation.specs.Persistence.{Converses, EndsBetween}
 use Rattle.asgi_conversation.specs.Promised.{IsPromised, ArePromised, task_end}
 use Rattle.asgi_conversation.specs.SoFar.{exchanged}
 use Rattle.asgi_conversation.proofs.SoFarLemmas.{ends_between}
 use Rattle.asgi_conn.specs.declared.connection.Place.{Place}
-use Rattle.asgi_conn.specs.declared.connection.Place.TheVariants.{Between, Ended}
+use Rattle.asgi_conn.specs.declared.connection.Place.TheVariants.{Ended}
 use Rattle.asgi_conn.specs.declared.half.ConnHalf.{ConnHalf}
-use Rattle.asgi_conn.specs.declared.half.Stage.TheVariants.{Over}
 use Rattle.asgi_conn.specs.declared.runner.AppSide.{AppSide}
 use Rattle.asgi_conn.specs.declared.runner.AppSide.TheVariants.{Runs, HasEnded}
 use Rattle.asgi_conn.specs.declared.tally.Tally.{Tally}
@@ -35,7 +30,7 @@ use Rattle.asgi_conn.specs.declared.wire.Wire.{Wire}
 use Rattle.asgi_conn.specs.Half.{Scene}
 use Rattle.asgi_conn.specs.HalfSteps.{Opens}
 use Rattle.asgi_conn.specs.Lines.{LineState}
-use Rattle.asgi_conn.specs.Loop.{IsAt, IsTallied, Serving, IsLeft, EndsSo}
+use Rattle.asgi_conn.specs.Loop.{IsAt, IsTallied, Serving, IsLeft}
 use Rattle.asgi_conn.specs.Running.{OfEnd, IsOpened, HasRun}
 use Rattle.asgi_conn.proofs.LeaveLemmas.{left_resting, left_ended}
 use Rattle.asgi_conn.proofs.PromiseLemmas.{is_kept, all_more, length_more, faults_more}
@@ -84,7 +79,7 @@ module _ {T E : Type 0} (promise : Scope → List Incoming → List Outgoing →
   counted_one old new t exchanges faults = (
     exchanges ∙ ap (λ (n : ℕ). n + 1) t.0 ∙ sym (length_more scene.exchanges one),
     faults ∙ ap (λ (n : ℕ). n + fault_of (Some kind)) t.1 ∙ ap (λ (o : Option EndKind). fault_count scene.exchanges + fault_of o) (sym run.ended)
-    ∙ sym (faults_more scene.exchanges one),
+        ∙ sym (faults_more scene.exchanges one),
   )
 
   stands_at : (at : Place) → IsLeft half at → IsAt at limits scene.start now read (scene.exchanges ++ one ∷ []) out

@@ -1,5 +1,5 @@
 -- What a call opened, and the runner ran to its end, is as the application promised it; and one more exchange is counted.
-use Rattle.std.proofs.Common.{◌≡◌, ℕ, ◌+◌, List, [], ◌∷◌, ◌++◌, refl, sym, ap, ◌∙◌, append_assoc, subst, Option, Some, None, IsSomeAnd, arith}
+use Rattle.std.proofs.Common.{◌≡◌, ◌+◌, List, [], ◌∷◌, ◌++◌, refl, sym, ap, ◌∙◌, subst, Option, Some, None, IsSomeAnd, arith}
 use Rattle.std.specs.Prelude.{All, length}
 use Rattle.std.proofs.lemmas.List.Elements.{All-nil, All-cons, All-append}
 use Rattle.asgi_types.specs.declared.end_kind.EndKind.{EndKind}
@@ -10,7 +10,6 @@ use Rattle.asgi_pipes.specs.declared.ends.AppEnd.{Ghosts}
 use Rattle.asgi_pipes.specs.Items.{items_of}
 use Rattle.asgi_apps.specs.declared.running.Lent.{Lent}
 use Rattle.asgi_apps.specs.Ends.{own_end}
-use Rattle.asgi_exchange.specs.Calls.{view_of}
 use Rattle.asgi_exchange.specs.Items.{end_of, events_of}
 use Rattle.asgi_exchange.specs.Views.{AppView, said_of}
 use Rattle.asgi_exchange.proofs.EventLemmas.{events_are}

@@ -1,4 +1,4 @@
-use Rattle.std.proofs.Common.{rules, ◌≡◌, ◌++◌, [], ℕ, List, refl, sym, ◌∙◌, append-nil, subst}
+use Rattle.std.proofs.Common.{◌≡◌, ◌++◌, [], ℕ, List, refl, sym, ◌∙◌, append-nil, subst}
 use Rattle.asgi_io.specs.declared.turns.Turn.{Turn}
 use Rattle.asgi_io.specs.Turns.{CountsTurns}
 use Rattle.asgi_exchange.specs.Views.{ConnView, empty_conn}
@@ -43,6 +43,6 @@ returns-clause-serves g c scene client server state read arrived scope opens pro
     let run = c.run-kind.ensures.runs scene read view begun.1 (sym made.inward.0, sym made.inward.1, sym made.outward.2) facts in
     lemma.serves_one promise answers ends c.args.wire.limits client server state scene line half (read ++ run.0) side c.run-kind.result
     (lemma.run_in answers ends c.begin-half.result.wire.limits half.wire.limits scene line half (read ++ run.0) side c.run-kind.result c.run-kind.ensures.limits run.1)
-    (c.run-kind.ensures.limits ∙ c.begin-half.ensures.limits)
+    (◌∙◌ {a = c.run-kind.new.half.wire.limits} c.run-kind.ensures.limits c.begin-half.ensures.limits)
     c.args.scope.now was c.args.tally.now c.count.new.self c.leave.result scope opened made.inward.2 made.outward.0 promised tallied
     c.count.ensures.exchanges c.count.ensures.faults c.leave.ensures
