@@ -1,0 +1,40 @@
+//! Applications of one's own, and a program that serves one connection by one of them, from standard
+//! input to standard output.
+#![tactic(auto)]
+
+mod no_content;
+mod paths;
+
+use asgi_conn::{CountingPause, Inline, Joined, serve_connection};
+use asgi_io::{Counted, CountedReader};
+use asgi_types::{Limits, State};
+use futures::task::{Doorbell, Solo};
+use paths::Paths;
+use std::process::ExitCode;
+
+fn main(rt: HostRuntime) -> ExitCode {
+    let Ok(solo) = Solo::new(&rt, Doorbell::spinning()) else {
+        return ExitCode::from(5);
+    };
+    let mut line = Joined {
+        reader: CountedReader::new(rt.stdin()),
+        writer: Counted::new(rt.stdout()),
+    };
+    let mut runner = Inline::new(solo.begin());
+    let mut pause = CountingPause::new();
+    let limits = Limits::usual();
+    let state = State::new(rt.alloc());
+    let _report = serve_connection(
+        &rt,
+        &limits,
+        &None,
+        &None,
+        &state,
+        &Paths,
+        &mut line,
+        &mut runner,
+        &mut pause,
+    );
+    runner.end();
+    ExitCode::from(0)
+}
