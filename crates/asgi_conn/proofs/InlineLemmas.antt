@@ -24,7 +24,11 @@ use Rattle.asgi_exchange.specs.Items.{events_of, end_of}
 use Rattle.asgi_exchange.specs.Views.{ConnView, AppView, World, said_of}
 use Rattle.asgi_exchange.proofs.EventLemmas.{events_are}
 use Rattle.asgi_exchange.proofs.CallLemmas.{end_is}
-use Rattle.asgi_conversation.specs.declared.following.Following.TheVariants.{NextRequest}
+use Rattle.asgi_io.specs.declared.turns.Turns.{Turns}
+use Rattle.asgi_conversation.specs.declared.following.Following.{Following}
+use Rattle.asgi_conversation.specs.declared.following.Following.TheVariants.{NextRequest, ConnectionEnds}
+use Rattle.asgi_conversation.specs.declared.report.Outcome.TheVariants.{Idle}
+use Rattle.asgi_conn.specs.Limits.{IsAtLimit, IsOverIdle, IsSettled}
 use Rattle.asgi_conn.specs.declared.half.ConnHalf.{ConnHalf}
 use Rattle.asgi_conn.specs.declared.half.Stage.TheVariants.{Over}
 use Rattle.asgi_conn.specs.declared.runner.AppSide.{AppSide}
@@ -186,3 +190,13 @@ pub stays_or_turned : (old new : ConnHalf) (first last : ℕ) → ((new.stage �
     → (old.stage ≡ Over NextRequest) ⊎ (first < last)
 stays_or_turned old new first last (inl x) next = inl (sym x.0 ∙ next)
 stays_or_turned old new first last (inr x) next = inr x
+
+-- where the exchange is over as idle, a limit was reached
+pub idle_at : (old new : ConnHalf) (turns : Turns) → IsAtLimit turns ⊎ IsSettled old → ((following : Following) → old.stage ≡ Over following → new ≡ old) → IsOverIdle new → IsAtLimit turns
+idle_at old new turns (inl at) stays over = at
+idle_at old new turns (inr x) stays over =
+    let same : Over x.0 ≡ Over (ConnectionEnds Idle) = sym x.1 ∙ sym (ap (λ (h : ConnHalf). h.stage) (stays x.0 x.1)) ∙ over in
+    absurd (x.2 (following_of x.0 (ConnectionEnds Idle) same))
+  where
+    following_of : (a b : Following) → Over a ≡ Over b → a ≡ b
+    following_of a b e = cc

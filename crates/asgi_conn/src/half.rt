@@ -14,6 +14,7 @@ ghost use Rattle.asgi_exchange.specs.Calls.{IsViewOf};
 ghost use Rattle.asgi_exchange.specs.Views.{ConnView, empty_conn};
 ghost use Rattle.asgi_conn.specs.Half.{Scene, Stands, Leads, HasGiven, EndsWhere, IsSettled, BreaksAt};
 ghost use Rattle.asgi_conn.specs.HalfSteps.{Opens, Pending, LeadsOut, LeadsIn, KeepsBesidesBody, GivesOn, GivesBehind, GaveNext, IsFree, ReadsAt, EndsAtInput, NeedsBody, IsCutOff, known_input};
+ghost use Rattle.asgi_conn.specs.Limits as turn_limits;
 ghost use Rattle.asgi_conn.specs.Lines.{state_of};
 ghost use Rattle.asgi_conversation.specs.declared.following.Following.{Following};
 ghost use Rattle.asgi_conversation.specs.declared.following.Following.TheVariants.{NextRequest};
@@ -108,11 +109,12 @@ impl ConnHalf {
         }
     }
 
-    /// Nothing more is done.
-    pub fn is_over(&self) -> bool
-        ensures { IsTrue result ↔ ((following : Following) × (self.now.stage ≡ Stage.Over following)) }
+    /// Nothing more is done, and not for a limit on turns.
+    pub fn is_settled(&self) -> bool
+        ensures { IsTrue result → turn_limits.IsSettled self.now }
     {
         match self.stage {
+            Stage::Over(Following::ConnectionEnds(Outcome::Idle)) => false,
             Stage::Over(_) => true,
             _ => false,
         }
@@ -499,6 +501,7 @@ impl ConnHalf {
     pub fn give_up<C: ConnEnd>(&mut self, end: &mut C)
         ensures leads { LeadsIn self.old (IsViewOf C.ConnEnd end.old) self.new (IsViewOf C.ConnEnd end.new) }
         ensures over { (following : Following) × (self.new.stage ≡ Stage.Over following) }
+        ensures stays { (following : Following) → self.old.stage ≡ Stage.Over following → self.new ≡ self.old }
         ensures follows { self.new.stage ≡ Stage.Over NextRequest → self.old.stage ≡ Stage.Over NextRequest }
         ensures tag { (C.tag end.new ≡ C.tag end.old) × (C.ring end.new ≡ C.ring end.old) }
         ensures limits { self.new.wire.limits ≡ self.old.wire.limits }

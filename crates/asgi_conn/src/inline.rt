@@ -1,5 +1,5 @@
 //! Both halves of an exchange in one thread, turn by turn.
-ghost use Rattle.std.specs.Prelude.{◌≡◌, ◌≢◌, ◌<◌, ◌⊎◌, ◌++◌, ℕ, List, IsTrue};
+ghost use Rattle.std.specs.Prelude.{◌≡◌, ◌≢◌, ◌<◌, ◌⊎◌, ◌++◌, ℕ, List, IsTrue, IsFalse};
 ghost use Rattle.asgi_io.specs.declared.turns.Turn.{Turn};
 ghost use Rattle.asgi_io.specs.Turns.{CountsTurns};
 ghost use Rattle.asgi_types.specs.declared.scope.Kind.TheVariants.{Http};
@@ -10,6 +10,7 @@ ghost use Rattle.asgi_conversation.specs.declared.following.Following.{Following
 ghost use Rattle.asgi_conversation.specs.declared.following.Following.TheVariants.{NextRequest};
 ghost use Rattle.asgi_conn.specs.declared.half.Stage.TheVariants as stage;
 ghost use Rattle.asgi_conn.specs.Half.{Scene, Stands};
+ghost use Rattle.asgi_conn.specs.Limits.{IsAtLimit, IsOverIdle, IsSettled};
 ghost use Rattle.asgi_conn.specs.Lines.{state_of};
 ghost use Rattle.asgi_conn.specs.Running.{OfEnd, MayRun, HasRun, GoesOnAs, TagStays};
 
@@ -74,6 +75,7 @@ impl<'q> Runner for Inline<'q> {
             → (more : List Turn) × CountsTurns turns.old.turn_limit turns.old.idle_limit (turned ++ more) pauses (P.count pause.new) turns.new.turns turns.new.idle }
         ensures turn_limits { (turns.new.turn_limit ≡ turns.old.turn_limit) × (turns.new.idle_limit ≡ turns.old.idle_limit) }
         ensures takes_a_turn { half.new.stage ≡ stage.Over NextRequest → (half.old.stage ≡ stage.Over NextRequest) ⊎ (turns.old.turns < turns.new.turns) }
+        ensures idle { IsOverIdle half.new → IsAtLimit turns.new }
         ensures met { ◌≡◌ {A = ℕ} 0 0 }
     {
         let mut conn = end;
@@ -104,11 +106,13 @@ impl<'q> Runner for Inline<'q> {
     }
 }
 
-/// Whether one more turn is taken.
+/// Whether one more turn is taken: until the exchange is over, or a limit is reached. One that is over
+/// as idle waits for the limit.
 fn goes_on(half: &ConnHalf, turns: &Turns) -> bool
-    ensures { IsTrue result → (turns.now.turns < turns.now.turn_limit) × (turns.now.idle < turns.now.idle_limit) }
+    ensures yes { IsTrue result → (turns.now.turns < turns.now.turn_limit) × (turns.now.idle < turns.now.idle_limit) }
+    ensures over { IsFalse result → IsAtLimit turns.now ⊎ IsSettled half.now }
 {
-    !half.is_over() && !turns.is_over()
+    !turns.is_over() && !half.is_settled()
 }
 
 /// What both halves did in a turn: it is idle where neither moved anything.

@@ -9,6 +9,7 @@ ghost use Rattle.asgi_conversation.specs.declared.following.Following.{Following
 ghost use Rattle.asgi_conversation.specs.declared.following.Following.TheVariants.{NextRequest};
 ghost use Rattle.asgi_conn.specs.declared.half.Stage.TheVariants as stage;
 ghost use Rattle.asgi_conn.specs.Half.{Scene, Stands};
+ghost use Rattle.asgi_conn.specs.Limits.{IsAtLimit, IsOverIdle};
 ghost use Rattle.asgi_conn.specs.Lines.{state_of};
 ghost use Rattle.asgi_conn.specs.Running.{OfEnd, MayRun, HasRun};
 
@@ -68,6 +69,8 @@ pub trait Runner {
             → (more : List Turn) × CountsTurns turns.old.turn_limit turns.old.idle_limit (turned ++ more) pauses (P.count pause.new) turns.new.turns turns.new.idle }
         ensures turn_limits { (turns.new.turn_limit ≡ turns.old.turn_limit) × (turns.new.idle_limit ≡ turns.old.idle_limit) }
         ensures takes_a_turn { half.new.stage ≡ stage.Over NextRequest → (half.old.stage ≡ stage.Over NextRequest) ⊎ (turns.old.turns < turns.new.turns) }
+        // It is over as idle only at a limit.
+        ensures idle { IsOverIdle half.new → IsAtLimit turns.new }
         // The ends of a pair always meet.
         ensures met { not_met self.new ≡ not_met self.old };
 

@@ -63,7 +63,7 @@ pub carry-side-requires-clause-may : goal.carry-side-requires-clause-may
 carry-side-requires-clause-may g c = lemma.may_run g.T.AppTask.stands g.T.AppTask.answers app_end.ghosts c.carry-carried.result c.poll-polled.result.side c.poll-polled.ensures.side
 
 pub loop-half-smaller : goal.loop-half-smaller
-loop-half-smaller g c = omega (arith, c.take.ensures.one, c.take.ensures.turn_limit, (c.goes_on.ensures c.loop-half-test.true).0)
+loop-half-smaller g c = omega (arith, c.take.ensures.one, c.take.ensures.turn_limit, (c.goes_on.ensures.yes c.loop-half-test.true).0)
 
 pub loop-half-preserved : goal.loop-half-preserved
 loop-half-preserved g c =
@@ -143,3 +143,6 @@ returns-clause-turn_limits g c = (c.loop-half.invariant.turn_limit, c.loop-half.
 
 pub returns-clause-takes_a_turn : goal.returns-clause-takes_a_turn
 returns-clause-takes_a_turn g c next = lemma.stays_or_turned c.args.half.now c.loop-half.half c.args.turns.now.turns c.loop-half.turns.turns c.loop-half.invariant.turned (c.give_up.ensures.follows next)
+
+pub returns-clause-idle : goal.returns-clause-idle
+returns-clause-idle g c over = lemma.idle_at c.loop-half.half c.give_up.new.self c.loop-half.turns (c.goes_on.ensures.over c.loop-half-test.false) c.give_up.ensures.stays over
