@@ -124,6 +124,16 @@ module _ (limits : Limits) (start now : LineState) (wire : Wire) (read : List �
   pub no_event : (reader : Reading) (item : Next) → reader.limits ≡ limits → StandsFor reader read (given ++ item ∷ []) → Opens item
   no_event reader item same stands = opens_next limits read given behind reader.place reader.held item x.between.closed (reaches reader (given ++ item ∷ []) same stands)
 
+  -- the bytes that the reader holds stand behind the requests
+  pub rests_whole : EndsWhole given
+  rests_whole = ends_whole wire.requests.limits read given behind closes
+
+  pub rests_blank : (held : List ℕ) → WholeGiven wire.requests read given held → IsBlank held → IsBlank behind
+  rests_blank held whole blank = subst IsBlank (sym (behind_is wire.requests read given behind closes x.stands held whole)) blank
+
+  pub rests_unblank : (held : List ℕ) → WholeGiven wire.requests read given held → (IsBlank held → ⊥) → IsBlank behind → ⊥
+  rests_unblank held whole unblank blank = unblank (subst IsBlank (behind_is wire.requests read given behind closes x.stands held whole) blank)
+
   -- another reader that gave no more
   pub asked : (later : Reading) → later.limits ≡ limits → StandsFor later read given → Rests limits start now (record wire { requests = later }) read given exchanges behind written
   asked later same stands = record { moved = x.moved; limits_are = (x.limits_are.0, same); between = x.between; stands = stands; empty = x.empty }
@@ -131,7 +141,7 @@ module _ (limits : Limits) (start now : LineState) (wire : Wire) (read : List �
   -- ---- the end without a text
 
   -- these are all the results, by any limits
-  AllOf : Limits → Type 0
+  abbrev AllOf : Limits → Type 0
   AllOf l = (rest : List ℕ) × GivesResults l read given rest
 
   pub ends_idle : AllGiven wire.requests read given → EndsSo limits start now read exchanges written Idle
