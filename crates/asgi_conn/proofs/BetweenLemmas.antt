@@ -110,6 +110,11 @@ refusal_known why status e = subst (λ (k : ℕ). IsTrue (is_refusal k)) (sym e)
 
 -- ---- with what the connection keeps
 
+-- nothing more was read
+pub as_read : (limits : Limits) (start now : LineState) (read : List ℕ) (exchanges : List Exchanged) (written : List ℕ) (outcome : Outcome)
+    → EndsSo limits start now read exchanges written outcome → (more : List ℕ) × EndsSo limits start now (read ++ more) exchanges written outcome
+as_read limits start now read exchanges written outcome x = ([], subst (λ (l : List ℕ). EndsSo limits start now l exchanges written outcome) (sym (append-nil read)) x)
+
 module _ (limits : Limits) (start now : LineState) (wire : Wire) (read : List ℕ) (given : List Next) (exchanges : List Exchanged) (behind written : List ℕ)
     (x : Rests limits start now wire read given exchanges behind written) where
   closes : HasClosed wire.requests.limits read given behind
