@@ -43,6 +43,7 @@ use Rattle.asgi_conversation.proofs.LoopLemmas as loop
 use Rattle.asgi_conn.specs.declared.wire.Wire.{Wire}
 use Rattle.asgi_conn.specs.Lines.{LineState, HasMoved}
 use Rattle.asgi_conn.specs.Loop.{Rests, EndsSo}
+use Rattle.asgi_conn.proofs.LineLemmas.{moved_by_write}
 
 -- ---- what the reader gives there
 
@@ -166,6 +167,38 @@ module _ (limits : Limits) (start now : LineState) (wire : Wire) (read : List �
   ends_broken all why =
       let g = subst (λ (l : Limits). AllOf l) x.limits_are.1 all in
       record { end = wire.input; moved = x.moved; converses = λ report o c. loop.input_broke limits wire.input read given exchanges behind written report x.between c g.0 g.1 why o }
+
+  -- ---- the end with the text of a refusal
+
+  module _ (next : LineState) (reader : Reading) (status : ℕ) (stands : StandsFor reader read (given ++ Bad status ∷ [])) (same : reader.limits ≡ limits)
+      (text : List ℕ) (text_is : text ≡ refusal_text status) (left : next.left ≡ now.left) (reads : next.reads ≡ now.reads) where
+    refused_at : Reaches limits read (given ++ Bad status ∷ []) reader.place reader.held
+    refused_at = reaches reader (given ++ Bad status ∷ []) same stands
+
+    pub ends_refused : Appends now.written next.written text → RoseBy 0 now.failed next.failed
+        → (more : List ℕ) × EndsSo limits start next read exchanges (written ++ more) (Refused status)
+    ends_refused appends rose = (
+      refusal_text status,
+      record {
+        end = wire.input;
+        moved = moved_by_write start now next wire.input read written (refusal_text status) 0 x.moved left reads
+            (subst (λ (l : List ℕ). Appends now.written next.written l) text_is appends) rose;
+        converses = λ report o c. loop.refused limits wire.input read given exchanges behind written report x.between c reader.place reader.held status refused_at o;
+      },
+    )
+
+    pub ends_unwritten : (n : ℕ) → n < length text → Appends now.written next.written (take n text) → RoseBy 1 now.failed next.failed
+        → (more : List ℕ) × EndsSo limits start next read exchanges (written ++ more) (WriteFailed n)
+    ends_unwritten n within appends rose = (
+      take n (refusal_text status),
+      record {
+        end = wire.input;
+        moved = moved_by_write start now next wire.input read written (take n (refusal_text status)) 1 x.moved left reads
+            (subst (λ (l : List ℕ). Appends now.written next.written (take n l)) text_is appends) rose;
+        converses = λ report o c. loop.refusal_failed limits wire.input read given exchanges behind written report x.between c reader.place reader.held status n refused_at
+            (subst (λ (l : List ℕ). n < length l) text_is within) o;
+      },
+    )
 
   -- ---- more is read
 
