@@ -8,3 +8,4 @@ pub mod InlineLemmas
 pub mod LeaveLemmas
 pub mod PromiseLemmas
 pub mod BetweenLemmas
+pub mod ServeLemmas
