@@ -269,7 +269,10 @@ fn answer<A: Application, L: Line, U: Runner, P: Pause>(
     ensures turn_limits { (tally.new.turns.turn_limit ≡ tally.old.turns.turn_limit) × (tally.new.turns.idle_limit ≡ tally.old.turns.idle_limit) }
 {
     let text = ResponseText::new(wire.alloc, &facts);
-    let Ok((end, app_end)) = runner.pipes().make(wire.alloc, Kind::Http, facts, wire.limits.ring) else {
+    let Ok((end, app_end)) = runner
+        .pipes()
+        .make(wire.alloc, Kind::Http, facts, wire.limits.ring)
+    else {
         return Place::Ended(Outcome::NoMemory);
     };
     let side = call(wire.alloc, app, scope, app_end);
@@ -280,7 +283,12 @@ fn answer<A: Application, L: Line, U: Runner, P: Pause>(
 }
 
 /// Calls the application. Where the call faults, that is the end of its task.
-fn call<A: Application, E: AppEnd>(alloc: Global, app: &A, scope: &Scope, app_end: E) -> AppSide<A::Task, E>
+fn call<A: Application, E: AppEnd>(
+    alloc: Global,
+    app: &A,
+    scope: &Scope,
+    app_end: E,
+) -> AppSide<A::Task, E>
     requires fresh { (E.heard app_end ≡ []) × (E.said app_end ≡ []) × (E.ended app_end ≡ None) }
     requires kind { E.kind app_end ≡ kind_of scope.now }
     ensures may { MayRun A.Task.stands E.AppEnd result }
