@@ -1,35 +1,19 @@
-use Rattle.std.proofs.Common.{◌≡◌, ◌≢◌, ◌+◌, ◌<◌, ◌≤◌, ◌^◌, ◌⊎◌, ◌↔◌, ◌++◌, ◌∷◌, [], ℕ, List, Option, Some, true, IsTrue, IfOk, IfNone, IfSome, take, length, ◌-◌, ◌*◌}
-use Rattle.std.specs.Io.KnownBytes.{Appends}
-use Rattle.asgi_types.specs.declared.facts.Facts.{Facts}
-use Rattle.asgi_types.specs.declared.limits.Limits.{Limits}
-use Rattle.asgi_types.specs.declared.scope.Kind.TheVariants.{Http}
-use Rattle.asgi_types.specs.declared.scope.Peer.{Peer}
-use Rattle.asgi_types.specs.declared.scope.Scope.{Scope}
-use Rattle.asgi_types.specs.declared.state.StateValue.{StateValue}
-use Rattle.asgi_types.specs.Scopes.{scope_with}
+use Rattle.std.proofs.Common.{◌≡◌, List}
 use Rattle.asgi_io.specs.declared.turns.Turn.{Turn}
-use Rattle.asgi_io.specs.Counting.{RoseBy}
 use Rattle.asgi_io.specs.Turns.{CountsTurns}
-use Rattle.asgi_request.specs.declared.next.Next.{Next}
-use Rattle.asgi_request.specs.Reading.{Reading, StandsFor, AllGiven}
-use Rattle.asgi_response.specs.Exchange.{refusal_text}
-use Rattle.asgi_response.specs.Refusals.{is_refusal}
-use Rattle.asgi_apps.specs.Scopes.{kind_of}
-use Rattle.asgi_conversation.specs.declared.following.Following.{Following}
-use Rattle.asgi_conversation.specs.Behind.{IsBlank}
-use Rattle.asgi_conversation.specs.Exchanges.{Exchanged}
-use Rattle.asgi_conversation.specs.Promised.{ArePromised}
-use Rattle.asgi_conversation.specs.TaskEnds.{has_ended}
-use Rattle.asgi_conn.specs.Half.{Scene}
-use Rattle.asgi_conn.specs.HalfSteps.{Opens}
-use Rattle.asgi_conn.specs.Lines.{LineState, state_of}
-use Rattle.asgi_conn.specs.Loop.{Rests, EndsSo, IsAt, IsTallied, Serving, IsBetween, IsLeft, HasRoom}
-use Rattle.asgi_conn.specs.Running.{OfEnd, MayRun, IsOpened}
-use Rattle.asgi_conn.specs.Serving.{Serves}
+use Rattle.asgi_conn.specs.Lines.{state_of}
+use Rattle.asgi_conn.specs.Loop.{Serving, IsBetween, HasRoom}
+use Rattle.asgi_conn.proofs.ServeLemmas.{turns_left}
 use Rattle.asgi_conn.proofs.connection.serve_connection.Given as goal
 
 abbrev pub invariant-loop-place : goal.invariant-loop-place
-invariant-loop-place g l = ?
+invariant-loop-place g l = record {
+  stands : Serving (g.A.Application.answers l.fn.app) l.fn.limits l.fn.client l.fn.server l.fn.state (state_of g.L.Reads g.L.Counts l.fn.line) (state_of g.L.Reads g.L.Counts l.line) l.tally l.place;
+  room : IsBetween l.place → HasRoom l.tally;
+  turn_limit : l.tally.turns.turn_limit ≡ l.fn.limits.turns;
+  idle_limit : l.tally.turns.idle_limit ≡ l.fn.limits.idle_turns;
+  counts : (turned : List Turn) × CountsTurns l.fn.limits.turns l.fn.limits.idle_turns turned (g.P.Pause.count l.fn.pause) (g.P.Pause.count l.pause) l.tally.turns.turns l.tally.turns.idle;
+}
 
 abbrev pub decreases-loop-place : goal.decreases-loop-place
-decreases-loop-place g l = ?
+decreases-loop-place g l = turns_left l.place l.tally

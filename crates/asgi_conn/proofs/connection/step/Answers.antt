@@ -26,24 +26,48 @@ use Rattle.asgi_conn.specs.Lines.{LineState, state_of}
 use Rattle.asgi_conn.specs.Loop.{Rests, EndsSo, IsAt, IsTallied, Serving, IsBetween, IsLeft, HasRoom}
 use Rattle.asgi_conn.specs.Running.{OfEnd, MayRun, IsOpened}
 use Rattle.asgi_conn.specs.Serving.{Serves}
-use Rattle.asgi_conn.proofs.connection.serve_connection.Goals as goal
+use Rattle.asgi_conn.proofs.connection.step.Goals as goal
 
--- src/connection.rt:101:5
-pub loop-place-init : goal.loop-place-init
-loop-place-init g c = ?
+-- src/connection.rt:145:17
+pub returns-in_default-scope_of-clause-serves : goal.returns-in_default-scope_of-clause-serves
+returns-in_default-scope_of-clause-serves g c = ?
 
--- src/connection.rt:102:9
-pub step-place-requires-clause-room : goal.step-place-requires-clause-room
-step-place-requires-clause-room g c = ?
+-- src/connection.rt:145:17
+pub returns-in_default-scope_of-clause-counts : goal.returns-in_default-scope_of-clause-counts
+returns-in_default-scope_of-clause-counts g c = ?
 
--- src/connection.rt:101:5
-pub loop-place-smaller : goal.loop-place-smaller
-loop-place-smaller g c = ?
+-- src/connection.rt:147:13
+pub answer-requires-clause-http : goal.answer-requires-clause-http
+answer-requires-clause-http g c = ?
 
--- src/connection.rt:101:5
-pub loop-place-preserved : goal.loop-place-preserved
-loop-place-preserved g c = ?
+-- src/connection.rt:149:31
+pub unreachable-requires-in-Ok-Event : goal.unreachable-requires-in-Ok-Event
+unreachable-requires-in-Ok-Event g c = ?
 
--- src/connection.rt:81:1
-pub returns : goal.returns
-returns g c = ?
+-- src/connection.rt:150:28
+pub unreachable-requires-in-Ok-Whole : goal.unreachable-requires-in-Ok-Whole
+unreachable-requires-in-Ok-Whole g c = ?
+
+-- src/connection.rt:114:1
+pub returns-in-Err-clause-serves : goal.returns-in-Err-clause-serves
+returns-in-Err-clause-serves g c = ?
+
+-- src/connection.rt:114:1
+pub returns-in-Err-clause-counts : goal.returns-in-Err-clause-counts
+returns-in-Err-clause-counts g c = ?
+
+-- src/connection.rt:114:1
+pub returns-in-Ok-Need-clause-serves : goal.returns-in-Ok-Need-clause-serves
+returns-in-Ok-Need-clause-serves g c = ?
+
+-- src/connection.rt:114:1
+pub returns-in-Ok-Bad-clause-serves : goal.returns-in-Ok-Bad-clause-serves
+returns-in-Ok-Bad-clause-serves g c = ?
+
+-- src/connection.rt:114:1
+pub returns-in-Ok-Bad-clause-counts : goal.returns-in-Ok-Bad-clause-counts
+returns-in-Ok-Bad-clause-counts g c = ?
+
+-- src/connection.rt:114:1
+pub returns-in-Ok-clause-serves : goal.returns-in-Ok-clause-serves
+returns-in-Ok-clause-serves g c = ?
