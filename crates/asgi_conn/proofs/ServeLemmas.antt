@@ -69,6 +69,19 @@ counts_on turn_limit idle_limit turn_held idle_held before now after turns idle 
           (subst (λ (k : ℕ). CountsTurns turn_held k (turned ++ x.0) before after turns_then idle_then) q x.1),
     )
 
+-- no turn was taken
+pub counts_still : (turn_limit idle_limit : ℕ) (turned : List Turn) (before after turns idle : ℕ) → CountsTurns turn_limit idle_limit turned before after turns idle
+    → (more : List Turn) × CountsTurns turn_limit idle_limit (turned ++ more) before after turns idle
+counts_still turn_limit idle_limit turned before after turns idle counts =
+    ([], subst (λ (l : List Turn). CountsTurns turn_limit idle_limit l before after turns idle) (sym (append-nil turned)) counts)
+
+-- ---- what the reader gave
+
+-- it is known as this
+pub given_as : (old new : Reading) (item is : Next) → item ≡ is → is ≢ Need → (item ≢ Need → ((status : ℕ) → IsRefused old status → ⊥) → GoesOn old new item)
+    → ((status : ℕ) → IsRefused old status → ⊥) → GoesOn old new is
+given_as old new item is e some gives free = subst (λ (n : Next). GoesOn old new n) e (gives (λ none. some (sym e ∙ none)) free)
+
 -- ---- the beginning
 
 -- nothing was read or written yet
@@ -126,6 +139,10 @@ module _ (answers : Scope → List Incoming → List Outgoing → Option EndKind
       }
 
   -- ---- one step
+
+  pub rested : (start now : LineState) (tally : Tally) (at : Place) (wire : Wire) → at ≡ place.Between wire → Serving answers limits client server state start now tally at
+      → Serving answers limits client server state start now tally (place.Between wire)
+  rested start now tally at wire is s = subst (λ (p : Place). Serving answers limits client server state start now tally p) is s
 
   module _ (start now : LineState) (tally : Tally) (wire : Wire) (s : Serving answers limits client server state start now tally (place.Between wire)) where
     x : Rests limits start now wire s.read s.stands.0 s.exchanges s.stands.1 s.written
