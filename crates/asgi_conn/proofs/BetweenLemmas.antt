@@ -43,6 +43,7 @@ use Rattle.asgi_conversation.proofs.LoopLemmas as loop
 use Rattle.asgi_conn.specs.declared.wire.Wire.{Wire}
 use Rattle.asgi_conn.specs.Lines.{LineState, HasMoved}
 use Rattle.asgi_conn.specs.Loop.{Rests, EndsSo}
+use Rattle.asgi_conn.proofs.LineLemmas.{moved_by_write}
 
 -- ---- what the reader gives there
 
@@ -110,6 +111,11 @@ refusal_known why status e = subst (λ (k : ℕ). IsTrue (is_refusal k)) (sym e)
 
 -- ---- with what the connection keeps
 
+-- nothing more was read
+pub as_read : (limits : Limits) (start now : LineState) (read : List ℕ) (exchanges : List Exchanged) (written : List ℕ) (outcome : Outcome)
+    → EndsSo limits start now read exchanges written outcome → (more : List ℕ) × EndsSo limits start now (read ++ more) exchanges written outcome
+as_read limits start now read exchanges written outcome x = ([], subst (λ (l : List ℕ). EndsSo limits start now l exchanges written outcome) (sym (append-nil read)) x)
+
 module _ (limits : Limits) (start now : LineState) (wire : Wire) (read : List ℕ) (given : List Next) (exchanges : List Exchanged) (behind written : List ℕ)
     (x : Rests limits start now wire read given exchanges behind written) where
   closes : HasClosed wire.requests.limits read given behind
@@ -124,6 +130,16 @@ module _ (limits : Limits) (start now : LineState) (wire : Wire) (read : List �
   pub no_event : (reader : Reading) (item : Next) → reader.limits ≡ limits → StandsFor reader read (given ++ item ∷ []) → Opens item
   no_event reader item same stands = opens_next limits read given behind reader.place reader.held item x.between.closed (reaches reader (given ++ item ∷ []) same stands)
 
+  -- the bytes that the reader holds stand behind the requests
+  pub rests_whole : EndsWhole given
+  rests_whole = ends_whole wire.requests.limits read given behind closes
+
+  pub rests_blank : (held : List ℕ) → WholeGiven wire.requests read given held → IsBlank held → IsBlank behind
+  rests_blank held whole blank = subst IsBlank (sym (behind_is wire.requests read given behind closes x.stands held whole)) blank
+
+  pub rests_unblank : (held : List ℕ) → WholeGiven wire.requests read given held → (IsBlank held → ⊥) → IsBlank behind → ⊥
+  rests_unblank held whole unblank blank = unblank (subst IsBlank (behind_is wire.requests read given behind closes x.stands held whole) blank)
+
   -- another reader that gave no more
   pub asked : (later : Reading) → later.limits ≡ limits → StandsFor later read given → Rests limits start now (record wire { requests = later }) read given exchanges behind written
   asked later same stands = record { moved = x.moved; limits_are = (x.limits_are.0, same); between = x.between; stands = stands; empty = x.empty }
@@ -131,7 +147,7 @@ module _ (limits : Limits) (start now : LineState) (wire : Wire) (read : List �
   -- ---- the end without a text
 
   -- these are all the results, by any limits
-  AllOf : Limits → Type 0
+  abbrev AllOf : Limits → Type 0
   AllOf l = (rest : List ℕ) × GivesResults l read given rest
 
   pub ends_idle : AllGiven wire.requests read given → EndsSo limits start now read exchanges written Idle
@@ -151,6 +167,38 @@ module _ (limits : Limits) (start now : LineState) (wire : Wire) (read : List �
   ends_broken all why =
       let g = subst (λ (l : Limits). AllOf l) x.limits_are.1 all in
       record { end = wire.input; moved = x.moved; converses = λ report o c. loop.input_broke limits wire.input read given exchanges behind written report x.between c g.0 g.1 why o }
+
+  -- ---- the end with the text of a refusal
+
+  module _ (next : LineState) (reader : Reading) (status : ℕ) (stands : StandsFor reader read (given ++ Bad status ∷ [])) (same : reader.limits ≡ limits)
+      (text : List ℕ) (text_is : text ≡ refusal_text status) (left : next.left ≡ now.left) (reads : next.reads ≡ now.reads) where
+    refused_at : Reaches limits read (given ++ Bad status ∷ []) reader.place reader.held
+    refused_at = reaches reader (given ++ Bad status ∷ []) same stands
+
+    pub ends_refused : Appends now.written next.written text → RoseBy 0 now.failed next.failed
+        → (more : List ℕ) × EndsSo limits start next read exchanges (written ++ more) (Refused status)
+    ends_refused appends rose = (
+      refusal_text status,
+      record {
+        end = wire.input;
+        moved = moved_by_write start now next wire.input read written (refusal_text status) 0 x.moved left reads
+            (subst (λ (l : List ℕ). Appends now.written next.written l) text_is appends) rose;
+        converses = λ report o c. loop.refused limits wire.input read given exchanges behind written report x.between c reader.place reader.held status refused_at o;
+      },
+    )
+
+    pub ends_unwritten : (n : ℕ) → n < length text → Appends now.written next.written (take n text) → RoseBy 1 now.failed next.failed
+        → (more : List ℕ) × EndsSo limits start next read exchanges (written ++ more) (WriteFailed n)
+    ends_unwritten n within appends rose = (
+      take n (refusal_text status),
+      record {
+        end = wire.input;
+        moved = moved_by_write start now next wire.input read written (take n (refusal_text status)) 1 x.moved left reads
+            (subst (λ (l : List ℕ). Appends now.written next.written (take n l)) text_is appends) rose;
+        converses = λ report o c. loop.refusal_failed limits wire.input read given exchanges behind written report x.between c reader.place reader.held status n refused_at
+            (subst (λ (l : List ℕ). n < length l) text_is within) o;
+      },
+    )
 
   -- ---- more is read
 

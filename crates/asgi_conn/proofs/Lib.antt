@@ -9,3 +9,4 @@ pub mod LeaveLemmas
 pub mod PromiseLemmas
 pub mod AnswerLemmas
 pub mod BetweenLemmas
+pub mod ServeLemmas

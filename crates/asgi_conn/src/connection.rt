@@ -123,6 +123,7 @@ fn step<A: Application, L: Line, U: Runner, P: Pause>(
     tally: &mut Tally,
 ) -> Place
     requires between { IsBetween place }
+    requires stands { (limits : Limits) × (start : LineState) × Serving (A.answers app.now) limits client.now server.now state.now start (state_of L.Reads L.Counts line.old) tally.old place }
     requires room { HasRoom tally.old }
     ensures serves { (limits : Limits) (start : LineState) → Serving (A.answers app.now) limits client.now server.now state.now start (state_of L.Reads L.Counts line.old) tally.old place
         → Serving (A.answers app.now) limits client.now server.now state.now start (state_of L.Reads L.Counts line.new) tally.new result }
