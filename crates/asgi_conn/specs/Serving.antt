@@ -1,6 +1,6 @@
 -- What `serve_connection` promises, whole: what was read, the exchanges, what was written and the report make a conversation,
 -- and the turns and pauses are counted.
-use Rattle.std.specs.Prelude.{◌≡◌, ℕ, List, Option}
+use Rattle.std.specs.Prelude.{◌≡◌, ◌⊎◌, ℕ, List, Option}
 use Rattle.asgi_types.specs.declared.end_kind.EndKind.{EndKind}
 use Rattle.asgi_types.specs.declared.incoming.Incoming.{Incoming}
 use Rattle.asgi_types.specs.declared.limits.Limits.{Limits}
@@ -11,6 +11,7 @@ use Rattle.asgi_types.specs.declared.state.StateValue.{StateValue}
 use Rattle.asgi_io.specs.declared.turns.Turn.{Turn}
 use Rattle.asgi_io.specs.Turns.{CountsTurns}
 use Rattle.asgi_conversation.specs.declared.input.InputEnd.{InputEnd}
+use Rattle.asgi_conversation.specs.declared.report.Outcome.TheVariants.{Idle}
 use Rattle.asgi_conversation.specs.declared.report.Report.{Report}
 use Rattle.asgi_conversation.specs.Exchanges.{Exchanged}
 use Rattle.asgi_conversation.specs.Persistence.{Converses}
@@ -35,3 +36,5 @@ pub record Serves (answers : Scope → List Incoming → List Outgoing → Optio
   -- the turns that the report tells, and a pause for each idle one
   pub turned : List Turn
   pub counts : CountsTurns limits.turns limits.idle_turns turned pauses_old pauses_new report.turns report.idle
+  -- it is given up as idle only where a limit on turns was reached
+  pub idle : report.outcome ≡ Idle → (report.turns ≡ limits.turns) ⊎ (report.idle ≡ limits.idle_turns)

@@ -23,6 +23,7 @@ ghost use Rattle.asgi_conversation.specs.Promised.{ArePromised};
 ghost use Rattle.asgi_conversation.specs.TaskEnds.{has_ended};
 ghost use Rattle.asgi_conn.specs.Half.{Scene};
 ghost use Rattle.asgi_conn.specs.HalfSteps.{Opens};
+ghost use Rattle.asgi_conn.specs.Limits.{IsAtLimit};
 ghost use Rattle.asgi_conn.specs.Lines.{LineState, state_of};
 ghost use Rattle.asgi_conn.specs.Loop.{Rests, EndsSo, IsAt, IsTallied, Serving, IsBetween, IsLeft, HasRoom};
 ghost use Rattle.asgi_conn.specs.Running.{OfEnd, MayRun, IsOpened};
@@ -129,6 +130,7 @@ fn step<A: Application, L: Line, U: Runner, P: Pause>(
         → Serving (A.answers app.now) limits client.now server.now state.now start (state_of L.Reads L.Counts line.new) tally.new result }
     ensures room { IsBetween result → HasRoom tally.new }
     ensures takes { IsBetween result → tally.old.turns.turns < tally.new.turns.turns }
+    ensures idle { result ≡ Place.Ended Outcome.Idle → IsAtLimit tally.new.turns }
     ensures counts { (turned : List Turn) (pauses : ℕ) → CountsTurns tally.old.turns.turn_limit tally.old.turns.idle_limit turned pauses (P.count pause.old) tally.old.turns.turns tally.old.turns.idle
         → (more : List Turn) × CountsTurns tally.old.turns.turn_limit tally.old.turns.idle_limit (turned ++ more) pauses (P.count pause.new) tally.new.turns.turns tally.new.turns.idle }
     ensures turn_limits { (tally.new.turns.turn_limit ≡ tally.old.turns.turn_limit) × (tally.new.turns.idle_limit ≡ tally.old.turns.idle_limit) }
@@ -183,6 +185,7 @@ fn wait<L: Line, P: Pause>(wire: Wire, line: &mut L, pause: &mut P, turns: &mut 
         → Rests limits start (state_of L.Reads L.Counts line.old) wire read given exchanges behind written → AllGiven wire.requests read given
         → (more : List ℕ) × IsAt result limits start (state_of L.Reads L.Counts line.new) (read ++ more) exchanges written }
     ensures takes { IsBetween result → turns.new.turns ≡ turns.old.turns + 1 }
+    ensures idle { result ≡ Place.Ended Outcome.Idle → IsAtLimit turns.new }
     ensures counts { (turned : List Turn) (pauses : ℕ) → CountsTurns turns.old.turn_limit turns.old.idle_limit turned pauses (P.count pause.old) turns.old.turns turns.old.idle
         → (more : List Turn) × CountsTurns turns.old.turn_limit turns.old.idle_limit (turned ++ more) pauses (P.count pause.new) turns.new.turns turns.new.idle }
     ensures turn_limits { (turns.new.turn_limit ≡ turns.old.turn_limit) × (turns.new.idle_limit ≡ turns.old.idle_limit) }
@@ -204,9 +207,10 @@ fn wait<L: Line, P: Pause>(wire: Wire, line: &mut L, pause: &mut P, turns: &mut 
 /// How the connection ends at the end of the input, where nothing is due.
 fn at_end(wire: &Wire) -> Outcome
     requires { has_ended wire.now.input ≡ true }
-    ensures { (limits : Limits) (start now : LineState) (read : List ℕ) (given : List Next) (exchanges : List Exchanged) (behind written : List ℕ)
+    ensures ends { (limits : Limits) (start now : LineState) (read : List ℕ) (given : List Next) (exchanges : List Exchanged) (behind written : List ℕ)
         → Rests limits start now wire.now read given exchanges behind written → AllGiven wire.now.requests read given
         → EndsSo limits start now read exchanges written result }
+    ensures not_idle { result ≢ Outcome.Idle }
 {
     match wire.input {
         InputEnd::OpenStill => unreachable!(),
@@ -236,6 +240,7 @@ fn refuse<L: Line>(status: u16, line: &mut L) -> Place
         → (reader : Reading) → StandsFor reader read (given ++ Next.Bad status ∷ []) → reader.limits ≡ limits
         → (text : List ℕ) × IsAt result limits start (state_of L.Reads L.Counts line.new) read exchanges (written ++ text) }
     ensures ends { ¬ (IsBetween result) }
+    ensures not_idle { result ≢ Place.Ended Outcome.Idle }
 {
     match write(line, refusal_text(status)) {
         None => Place::Ended(Outcome::Refused(status)),
@@ -264,6 +269,7 @@ fn answer<A: Application, L: Line, U: Runner, P: Pause>(
         → Serving (A.answers app.now) wire.limits client server state scene.start (state_of L.Reads L.Counts line.new) tally.new result }
     ensures room { IsBetween result → HasRoom tally.new }
     ensures takes { IsBetween result → tally.old.turns.turns < tally.new.turns.turns }
+    ensures idle { result ≡ Place.Ended Outcome.Idle → IsAtLimit tally.new.turns }
     ensures counts { (turned : List Turn) (pauses : ℕ) → CountsTurns tally.old.turns.turn_limit tally.old.turns.idle_limit turned pauses (P.count pause.old) tally.old.turns.turns tally.old.turns.idle
         → (more : List Turn) × CountsTurns tally.old.turns.turn_limit tally.old.turns.idle_limit (turned ++ more) pauses (P.count pause.new) tally.new.turns.turns tally.new.turns.idle }
     ensures turn_limits { (tally.new.turns.turn_limit ≡ tally.old.turns.turn_limit) × (tally.new.turns.idle_limit ≡ tally.old.turns.idle_limit) }

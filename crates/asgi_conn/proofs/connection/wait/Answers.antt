@@ -8,7 +8,7 @@ use Rattle.asgi_conn.proofs.connection.wait.Goals as goal
 pub returns-then-has_ended-clause-waits : goal.returns-then-has_ended-clause-waits
 returns-then-has_ended-clause-waits g c limits start read given exchanges behind written x all =
     let now = state_of g.L.Reads g.L.Counts c.args.line.now in
-    as_read limits start now read exchanges written c.at_end.result (c.at_end.ensures limits start now read given exchanges behind written x all)
+    as_read limits start now read exchanges written c.at_end.result (c.at_end.ensures.ends limits start now read given exchanges behind written x all)
 
 pub returns-then-is_over-clause-waits : goal.returns-then-is_over-clause-waits
 returns-then-is_over-clause-waits g c limits start read given exchanges behind written x all =
