@@ -1,22 +1,19 @@
 -- Between two requests: the next result is a head or a refusal, more is read, and the connection ends.
-use Rattle.std.proofs.Common.{◌≡◌, ◌≢◌, ℕ, true, false, List, [], ◌∷◌, ◌++◌, ◌⊎◌, inl, inr, map, refl, sym, ap, ◌∙◌, append-nil, append_assoc, subst, Option, Some, None, flat_map, IsTrue}
+use Rattle.std.proofs.Common.{◌≡◌, ℕ, true, List, [], ◌∷◌, ◌++◌, ◌⊎◌, inl, inr, map, refl, sym, ap, ◌∙◌, append-nil, append_assoc, subst, Option, flat_map, IsTrue}
 use Rattle.std.specs.Prelude.{◌<◌, length, take}
 use Rattle.std.specs.Io.KnownBytes.{Appends}
-use Rattle.asgi_types.specs.declared.facts.Facts.{Facts}
 use Rattle.asgi_types.specs.declared.limits.Limits.{Limits}
-use Rattle.asgi_types.specs.declared.scope.Scope.{Scope}
 use Rattle.asgi_io.specs.Counting.{RoseBy}
 use Rattle.asgi_request.specs.declared.next.Next.{Next}
-use Rattle.asgi_request.specs.declared.next.Next.TheVariants.{Need, Head, Event, Whole, Bad}
+use Rattle.asgi_request.specs.declared.next.Next.TheVariants.{Head, Event, Whole, Bad}
 use Rattle.asgi_request.specs.declared.place.Place.{Place}
 use Rattle.asgi_request.specs.declared.place.Place.TheVariants.{Start, Stopped}
 use Rattle.asgi_request.specs.declared.refusal.Refusal.{Refusal}
 use Rattle.asgi_request.specs.declared.refusal.Refusal.TheVariants.{BadRequest, ContentTooLarge, HeaderFieldsTooLarge, UpgradeRequired, NotImplemented}
-use Rattle.asgi_request.specs.ChunkedBody.{complete}
 use Rattle.asgi_request.specs.Head.{record_of}
 use Rattle.asgi_request.specs.Opened.{HasClosed}
 use Rattle.asgi_request.specs.Places.{Reads, shown, Reaches}
-use Rattle.asgi_request.specs.Reading.{Reading, StandsFor, AllGiven, EndsWhole, WholeGiven, IsRefused, GoesOn}
+use Rattle.asgi_request.specs.Reading.{Reading, StandsFor, AllGiven, EndsWhole, WholeGiven, IsRefused}
 use Rattle.asgi_request.specs.Refusals.{status_of}
 use Rattle.asgi_request.specs.Results.{AreRequests, GivesResults, Opens}
 use Rattle.asgi_request.specs.Scopes.{scope_of, facts_of}
@@ -24,17 +21,14 @@ use Rattle.asgi_request.proofs.BodyGrowthLemmas.{Further}
 use Rattle.asgi_request.proofs.DueLemmas.{ClosesAt, runs_compare, same_behind}
 use Rattle.asgi_request.proofs.FirstLemmas.{first_of}
 use Rattle.asgi_request.proofs.HeldLemmas.{between}
-use Rattle.asgi_request.proofs.NextLemmas.{some_item}
 use Rattle.asgi_request.proofs.OpenedLemmas.{closed_at, closed_is_one}
 use Rattle.asgi_request.proofs.OpeningLemmas.{first_opens}
 use Rattle.asgi_request.proofs.UniqueLemmas.{shown-append}
 use Rattle.asgi_response.specs.Exchange.{refusal_text}
 use Rattle.asgi_response.specs.Refusals.{is_refusal}
-use Rattle.asgi_conversation.specs.declared.input.InputEnd.{InputEnd}
-use Rattle.asgi_conversation.specs.declared.input.InputEnd.TheVariants.{OpenStill, AtEnd, Failed}
+use Rattle.asgi_conversation.specs.declared.input.InputEnd.TheVariants.{AtEnd, Failed}
 use Rattle.asgi_conversation.specs.declared.report.Outcome.{Outcome}
 use Rattle.asgi_conversation.specs.declared.report.Outcome.TheVariants.{Finished, Refused, InputBroke, WriteFailed, Idle, NoMemory}
-use Rattle.asgi_conversation.specs.declared.report.Report.{Report}
 use Rattle.asgi_conversation.specs.Behind.{IsBlank}
 use Rattle.asgi_conversation.specs.Exchanges.{Exchanged}
 use Rattle.asgi_conversation.specs.SoFar.{Between}
@@ -212,15 +206,15 @@ module _ (limits : Limits) (start now : LineState) (wire : Wire) (read : List �
     further = loop.end_seen limits wire.input later.input (read ++ more) given exchanges (behind ++ more) written on
         (loop.reads_more limits wire.input read more given exchanges behind written x.between)
 
-    pub rests_on : later.limits ≡ wire.limits → later.requests.limits ≡ wire.requests.limits → later.out.items ≡ wire.out.items
+    pub rests_on : later ≡ record wire { requests = later.requests; input = later.input } → later.requests.limits ≡ wire.requests.limits
         → ((bytes : List ℕ) (given : List Next) → StandsFor wire.requests bytes given → StandsFor later.requests (bytes ++ more) given)
         → Rests limits start next later (read ++ more) given exchanges (behind ++ more) written
-    rests_on same reader out fed = record {
+    rests_on same reader fed = record {
       moved = moved;
-      limits_are = (same ∙ x.limits_are.0, reader ∙ x.limits_are.1);
+      limits_are = (ap (λ (w : Wire). w.limits) same ∙ x.limits_are.0, reader ∙ x.limits_are.1);
       between = further;
       stands = fed read given x.stands;
-      empty = out ∙ x.empty;
+      empty = ap (λ (w : Wire). w.out.items) same ∙ x.empty;
     }
 
     pub ends_fed_short : EndsSo limits start next (read ++ more) exchanges written NoMemory

@@ -1,6 +1,6 @@
 -- A connection from its beginning to its report, and what one step of it does.
-use Rattle.std.proofs.Common.{◌≡◌, ◌≢◌, ℕ, List, [], ◌∷◌, ◌++◌, ◌-◌, refl, sym, ap, ◌∙◌, append-nil, subst, Option, arith}
-use Rattle.std.specs.Prelude.{◌+◌, ◌<◌, ◌≤◌, length}
+use Rattle.std.proofs.Common.{◌≡◌, ◌≢◌, ℕ, List, [], ◌∷◌, ◌++◌, ◌-◌, refl, sym, ◌∙◌, append-nil, subst, Option}
+use Rattle.std.specs.Prelude.{◌+◌}
 use Rattle.std.proofs.lemmas.List.Elements.{All-nil}
 use Rattle.asgi_types.specs.declared.end_kind.EndKind.{EndKind}
 use Rattle.asgi_types.specs.declared.facts.Facts.{Facts}
@@ -18,15 +18,12 @@ use Rattle.asgi_io.proofs.BytesLemmas.{Appends-nothing, Consumes-nothing, Keeps-
 use Rattle.asgi_io.proofs.CountLemmas.{never_fell}
 use Rattle.asgi_apps.specs.Scopes.{kind_of}
 use Rattle.asgi_request.specs.declared.next.Next.{Next}
-use Rattle.asgi_request.specs.declared.next.Next.TheVariants.{Need, Head, Event, Whole, Bad}
-use Rattle.asgi_request.specs.Opened.{BeginsWith}
+use Rattle.asgi_request.specs.declared.next.Next.TheVariants.{Need, Head, Bad}
 use Rattle.asgi_request.specs.Reading.{Reading, StandsFor, AllGiven, IsRefused, GoesOn}
 use Rattle.asgi_request.specs.Results.{Opens}
 use Rattle.asgi_conversation.specs.declared.input.InputEnd.{InputEnd}
 use Rattle.asgi_conversation.specs.declared.input.InputEnd.TheVariants.{OpenStill}
-use Rattle.asgi_conversation.specs.declared.report.Outcome.{Outcome}
 use Rattle.asgi_conversation.specs.declared.report.Outcome.TheVariants.{NoMemory}
-use Rattle.asgi_conversation.specs.declared.report.Report.{Report}
 use Rattle.asgi_conversation.specs.Exchanges.{Exchanged}
 use Rattle.asgi_conversation.specs.Promised.{IsPromised, ArePromised}
 use Rattle.asgi_conversation.specs.SoFar.{Within}
@@ -39,8 +36,7 @@ use Rattle.asgi_conn.specs.Half.{Scene}
 use Rattle.asgi_conn.specs.HalfSteps as half
 use Rattle.asgi_conn.specs.Lines as lines
 use Rattle.asgi_conn.specs.Lines.{LineState, HasMoved}
-use Rattle.asgi_conn.specs.Loop.{Rests, EndsSo, IsAt, IsTallied, Serving, IsBetween}
-use Rattle.asgi_conn.specs.Serving.{Serves}
+use Rattle.asgi_conn.specs.Loop.{Rests, IsAt, IsTallied, Serving}
 use Rattle.asgi_conn.proofs.BetweenLemmas as between
 
 -- ---- the turns that are left
@@ -48,12 +44,6 @@ use Rattle.asgi_conn.proofs.BetweenLemmas as between
 abbrev pub turns_left : Place → Tally → ℕ
 turns_left (place.Between wire) tally = tally.turns.turn_limit - tally.turns.turns + 1
 turns_left (place.Ended outcome) tally = 0
-
-pub fewer_left : (old new : Place) (was is : Tally) → IsBetween old → (IsBetween new → was.turns.turns < is.turns.turns) → is.turns.turn_limit ≡ was.turns.turn_limit
-    → is.turns.turns ≤ is.turns.turn_limit → turns_left new is < turns_left old was
-fewer_left (place.Between wire) (place.Between later) was is b more same within = omega (arith, more tt, same, within)
-fewer_left (place.Between wire) (place.Ended outcome) was is b more same within = omega arith
-fewer_left (place.Ended outcome) new was is b more same within = absurd b
 
 -- the turns are counted on, by limits that are known under two names
 pub counts_on : (turn_limit idle_limit turn_held idle_held before now after turns idle turns_then idle_then : ℕ) (turned : List Turn)
@@ -117,26 +107,6 @@ module _ (answers : Scope → List Incoming → List Outgoing → Option EndKind
       },
     );
   }
-
-  -- ---- the end
-
-  pub served : (old new : LineState) (tally : Tally) (at : Place) (report : Report) (before after : ℕ) → Serving answers limits client server state old new tally at
-      → at ≡ place.Ended report.outcome → report.exchanges ≡ tally.exchanges → report.faults ≡ tally.faults
-      → (turned : List Turn) × CountsTurns limits.turns limits.idle_turns turned before after report.turns report.idle
-      → Serves answers limits client server state old new before after report
-  served old new tally at report before after s is exchanges faults counts =
-      let e = subst (λ (p : Place). IsAt p limits old new s.read s.exchanges s.written) is s.stands in
-      record {
-        read = s.read;
-        end = e.end;
-        written = s.written;
-        moved = e.moved;
-        exchanges = s.exchanges;
-        converses = e.converses report refl (record { exchanges_are = exchanges ∙ s.counted.0; faults_are = faults ∙ s.counted.1 });
-        promised = s.promised;
-        turned = counts.0;
-        counts = counts.1;
-      }
 
   -- ---- one step
 

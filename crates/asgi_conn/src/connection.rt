@@ -100,7 +100,9 @@ pub fn serve_connection<H: AllocGlobal, A: Application, L: Line, U: Runner, P: P
     };
     let mut place = Place::Between(Wire::new(rt.alloc(), *limits));
     while place.goes_on() {
-        place = step(place, client, server, state, app, line, runner, pause, &mut tally);
+        place = step(
+            place, client, server, state, app, line, runner, pause, &mut tally,
+        );
     }
     Report {
         exchanges: tally.exchanges,

@@ -1,6 +1,4 @@
-use Rattle.std.proofs.Common.{◌≡◌, ◌++◌, [], refl, ap, true}
-use Rattle.asgi_conversation.specs.TaskEnds.{has_ended}
-use Rattle.asgi_conn.specs.declared.wire.Wire.{Wire}
+use Rattle.std.proofs.Common.{◌++◌}
 use Rattle.asgi_conn.specs.Lines.{state_of}
 use Rattle.asgi_conn.proofs.BetweenLemmas.{as_read, ends_idle, ends_fed_short, rests_on}
 use Rattle.asgi_conn.proofs.connection.wait.Goals as goal
@@ -25,14 +23,13 @@ returns-in_default-clause-waits g c limits start read given exchanges behind wri
 
 pub returns-clause-waits : goal.returns-clause-waits
 returns-clause-waits g c limits start read given exchanges behind written x all =
-    let more = c.in-Ok.ensures.moved.0 in
-    let same = c.read.ensures.same in (
+    let more = c.in-Ok.ensures.moved.0 in (
       more,
       (
         given,
         behind ++ more,
         rests_on limits start (state_of g.L.Reads g.L.Counts c.args.line.now) c.args.wire read given exchanges behind written x
             (state_of g.L.Reads g.L.Counts c.read.new.line) c.read.new.self more c.in-Ok.ensures.moved.1 (λ ended. let never = c.if-has_ended.false in cc)
-            (ap (λ (w : Wire). w.limits) same) c.read.ensures.limits (ap (λ (w : Wire). w.out.items) same) c.in-Ok.ensures.moved.2,
+            c.read.ensures.same c.read.ensures.limits c.in-Ok.ensures.moved.2,
       ),
     )
