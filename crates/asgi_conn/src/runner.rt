@@ -30,7 +30,7 @@ pub enum AppSide<T, E> {
 /// Runs the two halves of an exchange.
 pub trait Runner {
     /// The pairs of ends between them.
-    type Pipes: Pipes;
+    type Pipes: Pipes + Drop;
 
     // The exchanges whose ends did not meet.
     ghost not_met: { Self → ℕ };
