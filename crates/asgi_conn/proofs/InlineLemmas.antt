@@ -1,5 +1,6 @@
 -- Turn after turn, the connection's half leads on, and the application's side goes on.
-use Rattle.std.proofs.Common.{◌≡◌, ℕ, List, [], ◌∷◌, ◌++◌, Option, Some, None, IsSomeAnd, refl, sym, ap, ◌∙◌, subst, append_assoc}
+use Rattle.std.proofs.Common.{◌≡◌, ℕ, ◌+◌, ◌⊎◌, inl, inr, arith, List, [], ◌∷◌, ◌++◌, Option, Some, None, IsSomeAnd, refl, sym, ap, ◌∙◌, subst, append_assoc}
+use Rattle.std.specs.Prelude.{◌<◌}
 use Rattle.std.proofs.lemmas.List.{append-nil}
 use Rattle.asgi_io.specs.declared.turns.Turn.{Turn}
 use Rattle.asgi_io.specs.Turns.{CountsTurns}
@@ -23,7 +24,9 @@ use Rattle.asgi_exchange.specs.Items.{events_of, end_of}
 use Rattle.asgi_exchange.specs.Views.{ConnView, AppView, World, said_of}
 use Rattle.asgi_exchange.proofs.EventLemmas.{events_are}
 use Rattle.asgi_exchange.proofs.CallLemmas.{end_is}
+use Rattle.asgi_conversation.specs.declared.following.Following.TheVariants.{NextRequest}
 use Rattle.asgi_conn.specs.declared.half.ConnHalf.{ConnHalf}
+use Rattle.asgi_conn.specs.declared.half.Stage.TheVariants.{Over}
 use Rattle.asgi_conn.specs.declared.runner.AppSide.{AppSide}
 use Rattle.asgi_conn.specs.declared.runner.AppSide.TheVariants.{Runs, HasEnded}
 use Rattle.asgi_conn.specs.Half.{Scene, Stands, Leads}
@@ -172,3 +175,14 @@ module _ {T E Tag : Type 0} (tag : E → Tag) where
       let both = some_both running.lent (λ was. conn ≡ tag was.app_end) (λ was. tag app_end ≡ tag was.app_end) (λ was. conn ≡ tag app_end) pair same (λ was x y. x ∙ sym y) in
       some_gives running.lent (λ was. conn ≡ tag app_end) (conn ≡ tag app_end) both (λ was x. x)
   last_pair (HasEnded was before) app_end conn pair same = pair ∙ sym same
+
+-- ---- the turns
+
+pub later_turn : (first before after : ℕ) (P : Type 0) → (P × (before ≡ first)) ⊎ (first < before) → after ≡ before + 1 → first < after
+later_turn first before after P (inl x) one = let same = x.1 in omega (arith, same, one)
+later_turn first before after P (inr x) one = omega (arith, x, one)
+
+pub stays_or_turned : (old new : ConnHalf) (first last : ℕ) → ((new.stage ≡ old.stage) × (last ≡ first)) ⊎ (first < last) → new.stage ≡ Over NextRequest
+    → (old.stage ≡ Over NextRequest) ⊎ (first < last)
+stays_or_turned old new first last (inl x) next = inl (sym x.0 ∙ next)
+stays_or_turned old new first last (inr x) next = inr x

@@ -5,3 +5,6 @@ pub mod HalfLemmas
 pub mod HalfInLemmas
 pub mod HalfEndLemmas
 pub mod InlineLemmas
+pub mod LeaveLemmas
+pub mod PromiseLemmas
+pub mod BetweenLemmas

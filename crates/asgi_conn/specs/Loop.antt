@@ -1,5 +1,5 @@
 -- Where a connection stands from request to request: words of private functions. No promise is stated by them.
-use Rattle.std.specs.Prelude.{◌≡◌, ◌⊎◌, ℕ, ◌<◌, ◌≤◌, ⊤, List, [], ◌∷◌, ◌++◌, length, Option, Some}
+use Rattle.std.specs.Prelude.{◌≡◌, ◌⊎◌, ℕ, ◌≤◌, ◌^◌, ⊤, List, length, Option}
 use Rattle.asgi_types.specs.declared.end_kind.EndKind.{EndKind}
 use Rattle.asgi_types.specs.declared.incoming.Incoming.{Incoming}
 use Rattle.asgi_types.specs.declared.limits.Limits.{Limits}
@@ -19,7 +19,7 @@ use Rattle.asgi_conversation.specs.Promised.{ArePromised}
 use Rattle.asgi_conversation.specs.SoFar.{Between}
 use Rattle.asgi_conn.specs.declared.connection.Place.{Place}
 use Rattle.asgi_conn.specs.declared.connection.Place.TheVariants as place
-use Rattle.asgi_conn.specs.declared.connection.Tally.{Tally}
+use Rattle.asgi_conn.specs.declared.tally.Tally.{Tally}
 use Rattle.asgi_conn.specs.declared.half.ConnHalf.{ConnHalf}
 use Rattle.asgi_conn.specs.declared.half.Stage.TheVariants.{Over}
 use Rattle.asgi_conn.specs.declared.wire.Wire.{Wire}

@@ -18,7 +18,7 @@ ghost use Rattle.asgi_response.specs.Refusals.{is_refusal};
 ghost use Rattle.asgi_apps.specs.Scopes.{kind_of};
 ghost use Rattle.asgi_conversation.specs.declared.following.Following.{Following};
 ghost use Rattle.asgi_conversation.specs.Behind.{IsBlank};
-ghost use Rattle.asgi_conversation.specs.Exchanges.{Exchanged, fault_of};
+ghost use Rattle.asgi_conversation.specs.Exchanges.{Exchanged};
 ghost use Rattle.asgi_conversation.specs.Promised.{ArePromised};
 ghost use Rattle.asgi_conversation.specs.TaskEnds.{has_ended};
 ghost use Rattle.asgi_conn.specs.Half.{Scene};
@@ -31,6 +31,7 @@ ghost use Rattle.asgi_conn.specs.Serving.{Serves};
 use crate::half::{ConnHalf, Stage};
 use crate::line::Line;
 use crate::runner::{AppSide, Runner};
+use crate::tally::Tally;
 use crate::wire::{Wire, write};
 use asgi_apps::{AppTask, Application, Running};
 use asgi_conversation::{Following, InputEnd, Outcome, Report};
@@ -69,30 +70,6 @@ impl Place {
         match self {
             Place::Between(_) => unreachable!(),
             Place::Ended(outcome) => *outcome,
-        }
-    }
-}
-
-/// What is counted of a connection.
-#[derive(Clone, Copy, Debug, PartialEq, Eq)]
-struct Tally {
-    exchanges: u64,
-    faults: u64,
-    turns: Turns,
-    ghost in_exchanges: { faults ≤ exchanges },
-}
-
-impl Tally {
-    /// Counts an exchange whose task ended so.
-    fn count(&mut self, kind: EndKind)
-        requires { self.old.exchanges ≤ 2 ^ 48 }
-        ensures exchanges { self.new.exchanges ≡ self.old.exchanges + 1 }
-        ensures faults { self.new.faults ≡ self.old.faults + fault_of (Some kind) }
-        ensures turns { self.new.turns ≡ self.old.turns }
-    {
-        self.exchanges += 1;
-        if let EndKind::Faulted = kind {
-            self.faults += 1;
         }
     }
 }

@@ -1,6 +1,6 @@
 //! The connection's half of an exchange: it reads, offers what is due, takes what is said, and
 //! writes. It knows its own end of the pair alone, whatever thread the application runs in.
-ghost use Rattle.std.specs.Prelude.{◌≡◌, ◌↔◌, ◌⊎◌, true, false, [], ◌∷◌, ◌++◌, map, List, ℕ, IsTrue, IsFalse, OnOk};
+ghost use Rattle.std.specs.Prelude.{◌≡◌, ◌≢◌, ◌↔◌, ◌⊎◌, true, false, [], ◌∷◌, ◌++◌, map, List, ℕ, IsTrue, IsFalse, OnOk};
 ghost use Rattle.asgi_types.specs.declared.facts.Facts.{Facts};
 ghost use Rattle.asgi_types.specs.declared.facts.Framing.{Framing};
 ghost use Rattle.asgi_types.specs.declared.incoming.Incoming.{Incoming};
@@ -15,6 +15,8 @@ ghost use Rattle.asgi_exchange.specs.Views.{ConnView, empty_conn};
 ghost use Rattle.asgi_conn.specs.Half.{Scene, Stands, Leads, HasGiven, EndsWhere, IsSettled, BreaksAt};
 ghost use Rattle.asgi_conn.specs.HalfSteps.{Opens, Pending, LeadsOut, LeadsIn, KeepsBesidesBody, GivesOn, GivesBehind, GaveNext, IsFree, ReadsAt, EndsAtInput, NeedsBody, IsCutOff, known_input};
 ghost use Rattle.asgi_conn.specs.Lines.{state_of};
+ghost use Rattle.asgi_conversation.specs.declared.following.Following.{Following};
+ghost use Rattle.asgi_conversation.specs.declared.following.Following.TheVariants.{NextRequest};
 ghost use Rattle.asgi_conversation.specs.TaskEnds.{has_ended};
 
 use crate::line::Line;
@@ -196,6 +198,7 @@ impl ConnHalf {
         ensures puts { (scene : Scene) (read : List ℕ) (view : ConnView ℕ ℕ) → Pending scene (state_of L.Reads L.Counts line.old) self.old read view
             → (written : List ℕ) × Stands scene (state_of L.Reads L.Counts line.new) self.new read (record view { written = written }) }
         ensures limits { self.new.wire.limits ≡ self.old.wire.limits }
+        ensures open { (following : Following) → self.new.stage ≡ Stage.Over following → self.old.stage ≡ Stage.Over following }
     {
         if let Some(n) = self.wire.put(line) {
             self.stage = Stage::Cut(Outcome::WriteFailed(n));
@@ -496,6 +499,7 @@ impl ConnHalf {
     pub fn give_up<C: ConnEnd>(&mut self, end: &mut C)
         ensures leads { LeadsIn self.old (IsViewOf C.ConnEnd end.old) self.new (IsViewOf C.ConnEnd end.new) }
         ensures over { (following : Following) × (self.new.stage ≡ Stage.Over following) }
+        ensures follows { self.new.stage ≡ Stage.Over NextRequest → self.old.stage ≡ Stage.Over NextRequest }
         ensures tag { (C.tag end.new ≡ C.tag end.old) × (C.ring end.new ≡ C.ring end.old) }
         ensures limits { self.new.wire.limits ≡ self.old.wire.limits }
     {

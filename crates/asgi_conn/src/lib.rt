@@ -7,6 +7,7 @@ mod inline;
 pub mod laws;
 mod line;
 mod runner;
+mod tally;
 mod wire;
 
 pub use asgi_conversation::{Following, InputEnd, Outcome, Report};

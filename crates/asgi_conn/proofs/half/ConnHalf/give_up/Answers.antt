@@ -1,4 +1,4 @@
-use Rattle.std.proofs.Common.{refl, sym, ap, subst}
+use Rattle.std.proofs.Common.{refl, sym, ap, ◌∙◌, subst}
 use Rattle.asgi_conn.specs.declared.half.ConnHalf.{ConnHalf}
 use Rattle.asgi_conn.specs.Half.{Stands, failures_at}
 use Rattle.asgi_conn.proofs.HalfEndLemmas.{stops_here, cut_stops}
@@ -27,3 +27,12 @@ returns-in-Ending-clause-leads g c scene line read view x v =
 
 pub returns-in-Ending-clause-over : goal.returns-in-Ending-clause-over
 returns-in-Ending-clause-over g c = (_, ap (λ (h : ConnHalf). h.stage) c.stop-in-Ending.ensures.half)
+
+pub returns-in-Cut-clause-follows : goal.returns-in-Cut-clause-follows
+returns-in-Cut-clause-follows g c next = let never = sym (ap (λ (h : ConnHalf). h.stage) c.stop.ensures.half) ∙ next in cc
+
+pub returns-in-Running-clause-follows : goal.returns-in-Running-clause-follows
+returns-in-Running-clause-follows g c next = let never = sym (ap (λ (h : ConnHalf). h.stage) c.stop-in-Running.ensures.half) ∙ next in cc
+
+pub returns-in-Ending-clause-follows : goal.returns-in-Ending-clause-follows
+returns-in-Ending-clause-follows g c next = let never = sym (ap (λ (h : ConnHalf). h.stage) c.stop-in-Ending.ensures.half) ∙ next in cc

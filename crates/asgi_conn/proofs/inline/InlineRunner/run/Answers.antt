@@ -1,4 +1,4 @@
-use Rattle.std.proofs.Common.{rules, ◌≡◌, ◌++◌, ◌∷◌, [], ℕ, List, refl, sym, ap, ◌∙◌, subst, append_assoc, arith}
+use Rattle.std.proofs.Common.{rules, ◌≡◌, ◌++◌, ◌∷◌, [], ℕ, List, refl, sym, ap, ◌∙◌, inl, inr, subst, append_assoc, arith}
 use Rattle.std.proofs.lemmas.List.{append-nil}
 use Rattle.asgi_io.specs.declared.turns.Turn.{Turn}
 use Rattle.asgi_io.specs.Turns.{CountsTurns}
@@ -35,6 +35,7 @@ loop-half-init g c = record {
   limits = refl;
   turn_limit = refl;
   idle_limit = refl;
+  turned = inl (refl, refl);
   counts = λ turned pauses counts. (
     [],
     subst (λ (l : List Turn). CountsTurns c.args.turns.now.turn_limit c.args.turns.now.idle_limit l pauses
@@ -88,6 +89,7 @@ loop-half-preserved g c =
       limits = c.turn-moved.ensures.limits ∙ inv.limits;
       turn_limit = c.take.ensures.turn_limit ∙ inv.turn_limit;
       idle_limit = c.take.ensures.idle_limit ∙ inv.idle_limit;
+      turned = inr (lemma.later_turn c.args.turns.now.turns c.loop-half.turns.turns c.take.new.self.turns _ inv.turned c.take.ensures.one);
       counts = λ turned pauses counts.
           let x = inv.counts turned pauses counts in
           let y = counts_more c.args.turns.now.turn_limit c.args.turns.now.idle_limit _ _ pauses _ _ _ _ _ _ (turned ++ x.0) c.both.result
@@ -138,3 +140,6 @@ returns-clause-counts g c = c.loop-half.invariant.counts
 
 pub returns-clause-turn_limits : goal.returns-clause-turn_limits
 returns-clause-turn_limits g c = (c.loop-half.invariant.turn_limit, c.loop-half.invariant.idle_limit)
+
+pub returns-clause-takes_a_turn : goal.returns-clause-takes_a_turn
+returns-clause-takes_a_turn g c next = lemma.stays_or_turned c.args.half.now c.loop-half.half c.args.turns.now.turns c.loop-half.turns.turns c.loop-half.invariant.turned (c.give_up.ensures.follows next)

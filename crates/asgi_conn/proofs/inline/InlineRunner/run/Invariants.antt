@@ -1,4 +1,5 @@
-use Rattle.std.proofs.Common.{◌≡◌, ◌++◌, ◌-◌, ℕ, List}
+use Rattle.std.proofs.Common.{◌≡◌, ◌++◌, ◌-◌, ◌⊎◌, ℕ, List}
+use Rattle.std.specs.Prelude.{◌<◌}
 use Rattle.asgi_io.specs.declared.turns.Turn.{Turn}
 use Rattle.asgi_io.specs.Turns.{CountsTurns}
 use Rattle.asgi_pipes.specs.PlainPairs.{IsPlainPair}
@@ -18,6 +19,7 @@ invariant-loop-half g l = record {
   limits : l.half.wire.limits ≡ l.fn.half.wire.limits;
   turn_limit : l.turns.turn_limit ≡ l.fn.turns.turn_limit;
   idle_limit : l.turns.idle_limit ≡ l.fn.turns.idle_limit;
+  turned : ((l.half.stage ≡ l.fn.half.stage) × (l.turns.turns ≡ l.fn.turns.turns)) ⊎ (l.fn.turns.turns < l.turns.turns);
   counts : (turned : List Turn) (pauses : ℕ)
       → CountsTurns l.fn.turns.turn_limit l.fn.turns.idle_limit turned pauses (g.P.Pause.count l.fn.pause) l.fn.turns.turns l.fn.turns.idle
       → (more : List Turn) × CountsTurns l.fn.turns.turn_limit l.fn.turns.idle_limit (turned ++ more) pauses (g.P.Pause.count l.pause) l.turns.turns l.turns.idle;

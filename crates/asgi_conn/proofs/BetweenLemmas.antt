@@ -1,0 +1,183 @@
+-- Between two requests: the next result is a head or a refusal, more is read, and the connection ends.
+use Rattle.std.proofs.Common.{◌≡◌, ◌≢◌, ℕ, true, false, List, [], ◌∷◌, ◌++◌, ◌⊎◌, inl, inr, map, refl, sym, ap, ◌∙◌, append-nil, append_assoc, subst, Option, Some, None, flat_map, IsTrue}
+use Rattle.std.specs.Prelude.{◌<◌, length, take}
+use Rattle.std.specs.Io.KnownBytes.{Appends}
+use Rattle.asgi_types.specs.declared.facts.Facts.{Facts}
+use Rattle.asgi_types.specs.declared.limits.Limits.{Limits}
+use Rattle.asgi_types.specs.declared.scope.Scope.{Scope}
+use Rattle.asgi_io.specs.Counting.{RoseBy}
+use Rattle.asgi_request.specs.declared.next.Next.{Next}
+use Rattle.asgi_request.specs.declared.next.Next.TheVariants.{Need, Head, Event, Whole, Bad}
+use Rattle.asgi_request.specs.declared.place.Place.{Place}
+use Rattle.asgi_request.specs.declared.place.Place.TheVariants.{Start, Stopped}
+use Rattle.asgi_request.specs.declared.refusal.Refusal.{Refusal}
+use Rattle.asgi_request.specs.declared.refusal.Refusal.TheVariants.{BadRequest, ContentTooLarge, HeaderFieldsTooLarge, UpgradeRequired, NotImplemented}
+use Rattle.asgi_request.specs.ChunkedBody.{complete}
+use Rattle.asgi_request.specs.Head.{record_of}
+use Rattle.asgi_request.specs.Opened.{HasClosed}
+use Rattle.asgi_request.specs.Places.{Reads, shown, Reaches}
+use Rattle.asgi_request.specs.Reading.{Reading, StandsFor, AllGiven, EndsWhole, WholeGiven, IsRefused, GoesOn}
+use Rattle.asgi_request.specs.Refusals.{status_of}
+use Rattle.asgi_request.specs.Results.{AreRequests, GivesResults, Opens}
+use Rattle.asgi_request.specs.Scopes.{scope_of, facts_of}
+use Rattle.asgi_request.proofs.BodyGrowthLemmas.{Further}
+use Rattle.asgi_request.proofs.DueLemmas.{ClosesAt, runs_compare, same_behind}
+use Rattle.asgi_request.proofs.FirstLemmas.{first_of}
+use Rattle.asgi_request.proofs.HeldLemmas.{between}
+use Rattle.asgi_request.proofs.NextLemmas.{some_item}
+use Rattle.asgi_request.proofs.OpenedLemmas.{closed_at, closed_is_one}
+use Rattle.asgi_request.proofs.OpeningLemmas.{first_opens}
+use Rattle.asgi_request.proofs.UniqueLemmas.{shown-append}
+use Rattle.asgi_response.specs.Exchange.{refusal_text}
+use Rattle.asgi_response.specs.Refusals.{is_refusal}
+use Rattle.asgi_conversation.specs.declared.input.InputEnd.{InputEnd}
+use Rattle.asgi_conversation.specs.declared.input.InputEnd.TheVariants.{OpenStill, AtEnd, Failed}
+use Rattle.asgi_conversation.specs.declared.report.Outcome.{Outcome}
+use Rattle.asgi_conversation.specs.declared.report.Outcome.TheVariants.{Finished, Refused, InputBroke, WriteFailed, Idle, NoMemory}
+use Rattle.asgi_conversation.specs.declared.report.Report.{Report}
+use Rattle.asgi_conversation.specs.Behind.{IsBlank}
+use Rattle.asgi_conversation.specs.Exchanges.{Exchanged}
+use Rattle.asgi_conversation.specs.SoFar.{Between}
+use Rattle.asgi_conversation.specs.TaskEnds.{has_ended}
+use Rattle.asgi_conversation.proofs.LoopLemmas as loop
+use Rattle.asgi_conn.specs.declared.wire.Wire.{Wire}
+use Rattle.asgi_conn.specs.Lines.{LineState, HasMoved}
+use Rattle.asgi_conn.specs.Loop.{Rests, EndsSo}
+
+-- ---- what the reader gives there
+
+all_whole : (limits : Limits) (bytes : List ℕ) (requests : List (List Next)) (rest : List ℕ) → AreRequests limits bytes requests rest → EndsWhole (flat_map (λ request. request) requests)
+all_whole limits bytes [] rest are = inl refl
+all_whole limits bytes (results ∷ requests) rest are = by (all_whole limits are.0 requests rest are.2)
+  where
+    later : List Next
+    later = flat_map (λ request. request) requests
+
+    by : EndsWhole later → EndsWhole (results ++ later)
+    by (inl none) =
+        let x = are.1 in
+        inr (
+          Head (scope_of (record_of x.head)) (facts_of (record_of x.head) x.framing) ∷ map Event x.events,
+          ap (λ (l : List Next). results ++ l) none ∙ append-nil results ∙ x.results_are,
+        )
+    by (inr some) = inr (results ++ some.0, ap (λ (l : List Next). results ++ l) some.1 ∙ sym (append_assoc results some.0 (Whole ∷ [])))
+
+pub ends_whole : (limits : Limits) (bytes : List ℕ) (given : List Next) (behind : List ℕ) → HasClosed limits bytes given behind → EndsWhole given
+ends_whole limits bytes given behind x = subst EndsWhole (sym x.2) (all_whole limits bytes x.0 behind x.1)
+
+module _ (reader : Reading) (bytes : List ℕ) (given : List Next) (behind : List ℕ) (x : HasClosed reader.limits bytes given behind) (stands : StandsFor reader bytes given) where
+  at_start : reader.place ≡ Start
+  at_start = between reader.limits bytes given reader.place reader.held stands (ends_whole reader.limits bytes given behind x)
+
+  pub unrefused : (status : ℕ) → IsRefused reader status → ⊥
+  unrefused status refused = let never : Start ≡ Stopped refused.0 = sym at_start ∙ refused.1 in cc
+
+  -- the bytes that it holds stand behind the requests
+  pub behind_is : (held : List ℕ) → WholeGiven reader bytes given held → behind ≡ held
+  behind_is held whole = closed_is_one reader.limits bytes given behind held x whole
+
+-- it is a head or a refusal
+pub opens_next : (limits : Limits) (bytes : List ℕ) (closed : List Next) (behind : List ℕ) (place : Place) (held : List ℕ) (item : Next)
+    → HasClosed limits bytes closed behind → Reaches limits bytes (closed ++ item ∷ []) place held → Opens item
+opens_next limits bytes closed behind place held item closes r = by (runs_compare limits Start bytes x.steps Start behind r.steps place held x.reads r.reads)
+  where
+    x : ClosesAt limits bytes closed behind
+    x = closed_at limits bytes closed behind closes
+
+    on : (items : List (Option Next)) → Reads limits Start behind items place held → item ∷ [] ≡ shown items → Opens item
+    on items q e = first_opens limits behind item [] (first_of limits behind (item ∷ []) place held (record { steps = items; reads = q; shows = sym e }))
+
+    by : Further limits x.steps Start behind r.steps place held ⊎ Further limits r.steps place held x.steps Start behind → Opens item
+    by (inl f) =
+        on f.items_behind f.reads (same_behind closed (item ∷ []) (shown f.items_behind)
+        (sym r.shows ∙ ap shown f.splits ∙ shown-append x.steps f.items_behind ∙ ap (λ (l : List Next). l ++ shown f.items_behind) x.shows))
+    by (inr f) = absurd (
+        let e : [] ≡ item ∷ ([] ++ shown f.items_behind) =
+        same_behind closed [] (item ∷ ([] ++ shown f.items_behind))
+        (append-nil closed ∙ sym x.shows ∙ ap shown f.splits ∙ shown-append r.steps f.items_behind ∙ ap (λ (l : List Next). l ++ shown f.items_behind) r.shows
+        ∙ append_assoc closed (item ∷ []) (shown f.items_behind)) in
+        cc)
+
+pub refusal_known : (why : Refusal) (status : ℕ) → status ≡ status_of why → IsTrue (is_refusal status)
+refusal_known why status e = subst (λ (k : ℕ). IsTrue (is_refusal k)) (sym e) (known why)
+  where
+    known : (w : Refusal) → IsTrue (is_refusal (status_of w))
+    known BadRequest = refl
+    known ContentTooLarge = refl
+    known HeaderFieldsTooLarge = refl
+    known UpgradeRequired = refl
+    known NotImplemented = refl
+
+-- ---- with what the connection keeps
+
+module _ (limits : Limits) (start now : LineState) (wire : Wire) (read : List ℕ) (given : List Next) (exchanges : List Exchanged) (behind written : List ℕ)
+    (x : Rests limits start now wire read given exchanges behind written) where
+  closes : HasClosed wire.requests.limits read given behind
+  closes = subst (λ (l : Limits). HasClosed l read given behind) (sym x.limits_are.1) x.between.closed
+
+  pub no_refusal : (status : ℕ) → IsRefused wire.requests status → ⊥
+  no_refusal = unrefused wire.requests read given behind closes x.stands
+
+  reaches : (reader : Reading) (given : List Next) → reader.limits ≡ limits → StandsFor reader read given → Reaches limits read given reader.place reader.held
+  reaches reader list same stands = subst (λ (l : Limits). Reaches l read list reader.place reader.held) same stands
+
+  pub no_event : (reader : Reading) (item : Next) → reader.limits ≡ limits → StandsFor reader read (given ++ item ∷ []) → Opens item
+  no_event reader item same stands = opens_next limits read given behind reader.place reader.held item x.between.closed (reaches reader (given ++ item ∷ []) same stands)
+
+  -- another reader that gave no more
+  pub asked : (later : Reading) → later.limits ≡ limits → StandsFor later read given → Rests limits start now (record wire { requests = later }) read given exchanges behind written
+  asked later same stands = record { moved = x.moved; limits_are = (x.limits_are.0, same); between = x.between; stands = stands; empty = x.empty }
+
+  -- ---- the end without a text
+
+  -- these are all the results, by any limits
+  AllOf : Limits → Type 0
+  AllOf l = (rest : List ℕ) × GivesResults l read given rest
+
+  pub ends_idle : AllGiven wire.requests read given → EndsSo limits start now read exchanges written Idle
+  ends_idle all =
+      let g = subst (λ (l : Limits). AllOf l) x.limits_are.1 all in
+      record { end = wire.input; moved = x.moved; converses = λ report o c. loop.idle limits wire.input read given exchanges behind written report x.between c g.0 g.1 o }
+
+  pub ends_short : EndsSo limits start now read exchanges written NoMemory
+  ends_short = record { end = wire.input; moved = x.moved; converses = λ report o c. loop.no_memory limits wire.input read given exchanges behind written report x.between c o }
+
+  pub ends_finished : AllGiven wire.requests read given → wire.input ≡ AtEnd → IsBlank behind → EndsSo limits start now read exchanges written Finished
+  ends_finished all at blank =
+      let g = subst (λ (l : Limits). AllOf l) x.limits_are.1 all in
+      record { end = wire.input; moved = x.moved; converses = λ report o c. loop.finished limits wire.input read given exchanges behind written report x.between c g.0 g.1 at blank o }
+
+  pub ends_broken : AllGiven wire.requests read given → (wire.input ≡ Failed) ⊎ ((wire.input ≡ AtEnd) × (IsBlank behind → ⊥)) → EndsSo limits start now read exchanges written InputBroke
+  ends_broken all why =
+      let g = subst (λ (l : Limits). AllOf l) x.limits_are.1 all in
+      record { end = wire.input; moved = x.moved; converses = λ report o c. loop.input_broke limits wire.input read given exchanges behind written report x.between c g.0 g.1 why o }
+
+  -- ---- more is read
+
+  module _ (next : LineState) (later : Wire) (more : List ℕ)
+      (moves : (start : LineState) (read written : List ℕ) (failures : ℕ) → HasMoved start now wire.input read written failures → HasMoved start next later.input (read ++ more) written failures)
+      (on : has_ended wire.input ≡ true → has_ended later.input ≡ true) where
+    moved : HasMoved start next later.input (read ++ more) written 0
+    moved = moves start read written 0 x.moved
+
+    further : Between limits later.input (read ++ more) given exchanges (behind ++ more) written
+    further = loop.end_seen limits wire.input later.input (read ++ more) given exchanges (behind ++ more) written on
+        (loop.reads_more limits wire.input read more given exchanges behind written x.between)
+
+    pub rests_on : later.limits ≡ wire.limits → later.requests.limits ≡ wire.requests.limits → later.out.items ≡ wire.out.items
+        → ((bytes : List ℕ) (given : List Next) → StandsFor wire.requests bytes given → StandsFor later.requests (bytes ++ more) given)
+        → Rests limits start next later (read ++ more) given exchanges (behind ++ more) written
+    rests_on same reader out fed = record {
+      moved = moved;
+      limits_are = (same ∙ x.limits_are.0, reader ∙ x.limits_are.1);
+      between = further;
+      stands = fed read given x.stands;
+      empty = out ∙ x.empty;
+    }
+
+    pub ends_fed_short : EndsSo limits start next (read ++ more) exchanges written NoMemory
+    ends_fed_short = record {
+      end = later.input;
+      moved = moved;
+      converses = λ report o c. loop.no_memory limits later.input (read ++ more) given exchanges (behind ++ more) written report further c o;
+    }

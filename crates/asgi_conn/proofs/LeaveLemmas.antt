@@ -1,0 +1,135 @@
+-- Where an exchange leaves its connection: between two requests, or at its end.
+use Rattle.std.proofs.Common.{◌≡◌, ℕ, true, false, List, [], ◌∷◌, ◌++◌, ◌⊎◌, inl, inr, map, refl, sym, ap, ◌∙◌, append_assoc, subst, Option, Some, None}
+use Rattle.std.specs.Prelude.{IsSomeAnd}
+use Rattle.asgi_types.specs.declared.end_kind.EndKind.{EndKind}
+use Rattle.asgi_types.specs.declared.end_kind.EndKind.TheVariants.{Faulted}
+use Rattle.asgi_types.specs.declared.incoming.Incoming.{Incoming}
+use Rattle.asgi_types.specs.declared.limits.Limits.{Limits}
+use Rattle.asgi_types.specs.declared.outgoing.Outgoing.{Outgoing}
+use Rattle.asgi_request.specs.declared.next.Next.{Next}
+use Rattle.asgi_request.specs.declared.next.Next.TheVariants as next
+use Rattle.asgi_request.specs.BodyOf.{body_events, body_state}
+use Rattle.asgi_request.specs.ChunkedBody.{BodyState}
+use Rattle.asgi_request.specs.Places.{Reaches}
+use Rattle.asgi_request.proofs.BodyOfLemmas.{body_is_read}
+use Rattle.asgi_response.specs.declared.refusal.Input.{Input}
+use Rattle.asgi_response.specs.Exchange.{added_by_end}
+use Rattle.asgi_response.specs.Progress.{progress_of}
+use Rattle.asgi_response.specs.Response.{response_text}
+use Rattle.asgi_exchange.specs.Http.{input_of}
+use Rattle.asgi_exchange.specs.HttpExchange.{IsHttpExchange}
+use Rattle.asgi_exchange.specs.Items.{end_of}
+use Rattle.asgi_exchange.specs.Steps.{is_by_input, is_by_cut}
+use Rattle.asgi_exchange.specs.Views.{World, said_of, taken_of}
+use Rattle.asgi_conversation.specs.declared.following.Following.{Following}
+use Rattle.asgi_conversation.specs.declared.following.Following.TheVariants.{NextRequest, ConnectionEnds}
+use Rattle.asgi_conversation.specs.declared.report.Outcome.{Outcome}
+use Rattle.asgi_conversation.specs.declared.report.Outcome.TheVariants.{InputBroke, WriteFailed}
+use Rattle.asgi_conversation.specs.declared.report.Report.{Report}
+use Rattle.asgi_conversation.specs.Exchanges.{Exchanged, IsFollowed}
+use Rattle.asgi_conversation.specs.Persistence.{CountsExchanges, Converses, InHand, Beginning, Saying, Ending, StopsWithin}
+use Rattle.asgi_conversation.specs.SoFar.{exchanged, Between, TaskIsOver, IsCutBy}
+use Rattle.asgi_conversation.specs.TaskEnds.{has_ended, is_faulty, is_cut, after_task}
+use Rattle.asgi_conversation.proofs.LoopLemmas.{keeps_on}
+use Rattle.asgi_conversation.proofs.SoFarLemmas.{taken_whole, end_put, ends_by_task, ends_cut}
+use Rattle.asgi_conn.specs.declared.half.ConnHalf.{ConnHalf}
+use Rattle.asgi_conn.specs.declared.half.Stage.{Stage}
+use Rattle.asgi_conn.specs.declared.half.Stage.TheVariants.{Over}
+use Rattle.asgi_conn.specs.Half.{Scene, Stands, IsAt, KeepsOn, EndsByTask, IsCutShort, known, state_in, failures_at}
+use Rattle.asgi_conn.specs.Lines.{LineState, HasMoved}
+use Rattle.asgi_conn.specs.Loop.{Rests, EndsSo}
+
+-- ---- the next request follows
+
+module _ (limits : Limits) (scene : Scene) (now : LineState) (half : ConnHalf) (read : List ℕ) (w : World ℕ ℕ) (s : Stands scene now half read w.conn)
+    (i : IsHttpExchange half.wire.limits scene.facts w) (lim : half.wire.limits ≡ limits) where
+  after : List Exchanged
+  after = scene.exchanges ++ exchanged scene.scope scene.facts w ∷ []
+
+  out : List ℕ
+  out = scene.before ++ w.conn.written
+
+  pub left_resting : half.stage ≡ Over NextRequest → (given : List Next) × (behind : List ℕ) × Rests limits scene.start now half.wire read given after behind out
+  left_resting e =
+      let k : KeepsOn scene half read w.conn = subst (λ (st : Stage). IsAt st scene half read w.conn) e s.stage in
+      let given = scene.opened ++ (map next.Event k.events ++ next.Whole ∷ []) in
+      let over : TaskIsOver w k.kind = record { taken = k.over.taken; no_limit = k.over.no_limit; uncut = k.over.uncut } in
+      let r = half.wire.requests in
+      let reaches = subst (λ (l : Limits). Reaches l read given r.place r.held) s.limits k.given in
+      let on = keeps_on half.wire.limits half.wire.input read scene.opened scene.exchanges scene.before scene.scope scene.facts w k.kind k.events r.place r.held
+      s.within i over k.complete k.broke k.written reaches in (
+        given,
+        on.0,
+        record {
+          moved = subst (λ (st : Stage). HasMoved scene.start now half.wire.input read out (failures_at st)) e s.moved;
+          limits_are = (lim, s.limits ∙ lim);
+          between = subst (λ (l : Limits). Between l half.wire.input read given after on.0 out) lim on.1;
+          stands = k.given;
+          empty = k.empty;
+        },
+      )
+
+  -- ---- the connection ends
+
+  state : BodyState
+  state = state_in scene half w.conn
+
+  uncut_by : is_by_cut w.conn.broken ≡ false → IsCutBy false w
+  uncut_by u b = sym u ∙ ap is_by_cut b
+
+  followed : (kind : EndKind) (outcome : Outcome) → end_of w.conn.got ≡ Some kind
+      → after_task kind (progress_of scene.facts (taken_of w.conn)) state (is_by_input w.conn.broken) ≡ ConnectionEnds outcome
+      → IsFollowed (exchanged scene.scope scene.facts w) state (ConnectionEnds outcome)
+  followed kind outcome taken follows = (
+    kind,
+    end_put half.wire.limits scene.facts w kind i taken,
+    subst (λ (l : List Outgoing). after_task kind (progress_of scene.facts l) state (is_by_input w.conn.broken) ≡ ConnectionEnds outcome)
+    (taken_whole half.wire.limits scene.facts w kind i taken) follows,
+  )
+
+  by_task : (outcome : Outcome) → EndsByTask scene half w.conn outcome → (report : Report) → report.outcome ≡ outcome → CountsExchanges report after
+      → Converses half.wire.limits half.wire.input read after out report
+  by_task outcome t report o c =
+      let back = sym o in
+      ends_by_task half.wire.limits half.wire.input read scene.exchanges scene.before scene.scope scene.facts w t.kind
+      (body_events half.wire.limits scene.facts.framing w.conn.arrived) state report s.within.one i t.taken
+      (body_is_read half.wire.limits scene.facts.framing w.conn.arrived) s.breaks (uncut_by t.uncut)
+      (subst (λ (q : Outcome). IsFollowed (exchanged scene.scope scene.facts w) state (ConnectionEnds q)) back (followed t.kind outcome t.taken t.follows))
+      t.out (subst (λ (q : Outcome). is_cut q ≡ false) back t.whole) (λ b. t.input_broke (back ∙ b)) c
+
+  -- the text in hand is one of the exchange, whatever else the task said
+  hand : (input : Input) (written text : List ℕ) → InHand (known scene w.conn) input written text → InHand (exchanged scene.scope scene.facts w) input written text
+  hand input written text (Beginning none is) = Beginning none is
+  hand input written text (Saying before behind event said is grows) =
+      let p = i.taken in
+      Saying before (behind ++ p.0) event (sym p.1 ∙ ap (λ (l : List Outgoing). l ++ p.0) said ∙ append_assoc before (event ∷ behind) p.0) is grows
+  hand input written text (Ending kind ended is adds) =
+      let all = taken_whole half.wire.limits scene.facts w kind i ended in
+      Ending kind (end_put half.wire.limits scene.facts w kind i ended) (is ∙ ap (response_text scene.facts) all)
+      (adds ∙ ap (λ (l : List Outgoing). added_by_end scene.facts l kind input) all)
+
+  stops_within : (n : ℕ) (input : Input) (written : List ℕ) → StopsWithin n (known scene w.conn) input written → StopsWithin n (exchanged scene.scope scene.facts w) input written
+  stops_within n input written x = record { out = x.out; text = x.text; in_hand = hand input x.out x.text x.in_hand; within = x.within; written_is = x.written_is }
+
+  by_cut : (outcome : Outcome) → IsCutShort scene half w.conn outcome → (report : Report) → report.outcome ≡ outcome → CountsExchanges report after
+      → Converses half.wire.limits half.wire.input read after out report
+  by_cut outcome t report o c =
+      let back = sym o in
+      ends_cut half.wire.limits half.wire.input read scene.exchanges scene.before scene.scope scene.facts w
+      (body_events half.wire.limits scene.facts.framing w.conn.arrived) state report s.within.one i
+      (body_is_read half.wire.limits scene.facts.framing w.conn.arrived) s.breaks (subst (λ (q : Outcome). is_cut q ≡ true) back t.cut)
+      (λ n e. stops_within n (input_of state) w.conn.written (t.stops n (back ∙ e))) c
+
+  ended : (outcome : Outcome) → EndsByTask scene half w.conn outcome ⊎ IsCutShort scene half w.conn outcome → (report : Report) → report.outcome ≡ outcome → CountsExchanges report after
+      → Converses half.wire.limits half.wire.input read after out report
+  ended outcome (inl t) = by_task outcome t
+  ended outcome (inr t) = by_cut outcome t
+
+  pub left_ended : (outcome : Outcome) → half.stage ≡ Over (ConnectionEnds outcome) → EndsSo limits scene.start now read after out outcome
+  left_ended outcome e = record {
+    end = half.wire.input;
+    moved = subst (λ (st : Stage). HasMoved scene.start now half.wire.input read out (failures_at st)) e s.moved;
+    converses = λ report o c.
+        subst (λ (l : Limits). Converses l half.wire.input read after out report) lim
+        (ended outcome (subst (λ (st : Stage). IsAt st scene half read w.conn) e s.stage) report o c);
+  }

@@ -1,0 +1,30 @@
+//! What is counted of a connection.
+ghost use Rattle.std.specs.Prelude.{◌≡◌, ◌+◌, ◌≤◌, ◌^◌, Some};
+ghost use Rattle.asgi_conversation.specs.Exchanges.{fault_of};
+
+use asgi_io::Turns;
+use asgi_types::EndKind;
+
+/// What is counted of a connection.
+#[derive(Clone, Copy, Debug, PartialEq, Eq)]
+pub struct Tally {
+    pub exchanges: u64,
+    pub faults: u64,
+    pub turns: Turns,
+    pub ghost in_exchanges: { faults ≤ exchanges },
+}
+
+impl Tally {
+    /// Counts an exchange whose task ended so.
+    pub fn count(&mut self, kind: EndKind)
+        requires { self.old.exchanges ≤ 2 ^ 48 }
+        ensures exchanges { self.new.exchanges ≡ self.old.exchanges + 1 }
+        ensures faults { self.new.faults ≡ self.old.faults + fault_of (Some kind) }
+        ensures turns { self.new.turns ≡ self.old.turns }
+    {
+        self.exchanges += 1;
+        if let EndKind::Faulted = kind {
+            self.faults += 1;
+        }
+    }
+}
