@@ -116,8 +116,7 @@ fn once<H: RandomSource + AllocGlobal, A: Application, L: Line, E: Counts>(
     line: &mut L,
     errors: &mut E,
 ) -> u8
-    ensures {
-        let before = streams (state_of L.Reads L.Counts line.old) (writer (E.written errors.old) (E.answers errors.old) (E.failed errors.old)) in
+    ensures { let before = streams (state_of L.Reads L.Counts line.old) (writer (E.written errors.old) (E.answers errors.old) (E.failed errors.old)) in
         let after = streams (state_of L.Reads L.Counts line.new) (writer (E.written errors.new) (E.answers errors.new) (E.failed errors.new)) in
         (ServesOnce (A.answers app.now) before after result) ⊎ (BeginsNone before after result) }
 {

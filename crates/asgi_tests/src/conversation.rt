@@ -70,11 +70,17 @@ fn check<H: Abort + RandomSource + AllocGlobal>(rt: &H, rows: &[Row]) -> Result<
         let wanted = joined(rt.alloc(), row.3)?;
         for size in [4_096, 1, 7, 11] {
             let pieces = Pieces::new(&input, size, size);
-            assert!(rt; is_served(rt, row, pieces, &wanted)?, "row {place}, pieces of {size}");
+            assert!(rt;
+                is_served(rt, row, pieces, &wanted)?,
+                "row {place}, pieces of {size}"
+            );
         }
         let mut slow = Pieces::new(&input, 1, 1);
         slow.before = Some(ErrorKind::WouldBlock);
-        assert!(rt; is_served(rt, row, slow, &wanted)?, "row {place}, with waits");
+        assert!(rt;
+            is_served(rt, row, slow, &wanted)?,
+            "row {place}, with waits"
+        );
     }
     Ok(())
 }
@@ -86,7 +92,10 @@ fn check_halves<H: Abort + RandomSource + AllocGlobal>(rt: &H, rows: &[Row]) -> 
         let wanted = joined(rt.alloc(), row.3)?;
         for cut in 1..input.len() {
             let two = Pieces::new(&input, cut, 4_096);
-            assert!(rt; is_served(rt, row, two, &wanted)?, "row {place}, cut at {cut}");
+            assert!(rt;
+                is_served(rt, row, two, &wanted)?,
+                "row {place}, cut at {cut}"
+            );
         }
     }
     Ok(())
@@ -458,9 +467,7 @@ const PIPELINED: &[Row] = &[
     (
         Under::Blocks(4),
         App::Echo,
-        &[
-            POST, CHUNKED, END, TWO_CHUNKS, POST, LENGTH_4, END, b"abcd",
-        ],
+        &[POST, CHUNKED, END, TWO_CHUNKS, POST, LENGTH_4, END, b"abcd"],
         &[
             ECHO_HEAD,
             b"4\r\nabcd\r\n4\r\nefgh\r\n1\r\ni\r\n",

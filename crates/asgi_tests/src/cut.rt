@@ -89,7 +89,11 @@ fn a_read_that_fails_behind_a_request_leaves_its_answer(rt: HostRuntime) -> Resu
         let mut line = line_of(&rt, pieces)?;
         let (report, _) = serve(&rt, &Limits::usual(), &Hello, &mut line)?;
         assert_eq!(rt;
-            (line.writer.writer.as_slice(), report.outcome, report.exchanges),
+            (
+                line.writer.writer.as_slice(),
+                report.outcome,
+                report.exchanges
+            ),
             (HELLO, outcome, 1),
             "read {failing}"
         );

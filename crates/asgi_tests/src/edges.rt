@@ -201,7 +201,10 @@ fn a_body_of_1_mib_is_echoed(rt: HostRuntime) -> Result<(), Fail> {
     for piece in [4_096, 1_000] {
         let mut line = line_of(&rt, Pieces::new(&input, piece, piece))?;
         let (report, _) = serve_by(&rt, &Limits::usual(), App::Echo, &mut line)?;
-        assert!(rt; line.writer.writer.as_slice() == wanted.as_slice(), "pieces of {piece}");
+        assert!(rt;
+            line.writer.writer.as_slice() == wanted.as_slice(),
+            "pieces of {piece}"
+        );
         let ended = (report.outcome, report.exchanges, report.faults);
         assert_eq!(rt; ended, (Outcome::Finished, 2, 0), "pieces of {piece}");
     }

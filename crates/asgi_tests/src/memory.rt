@@ -64,7 +64,10 @@ fn is_served<H: Abort + RandomSource + AllocGlobal>(rt: &H, row: &Row) -> bool {
         assert!(rt; is_cut_off(written, wanted, report.outcome));
         return false;
     }
-    assert_eq!(rt; (written, report.exchanges, report.faults), (wanted, exchanges, 0));
+    assert_eq!(rt;
+        (written, report.exchanges, report.faults),
+        (wanted, exchanges, 0)
+    );
     true
 }
 

@@ -50,7 +50,10 @@ fn idles<H: Abort + RandomSource + AllocGlobal, R: Read + Drop>(
 ) -> Result<(u64, u32, u64), Fail> {
     let mut line = line_of(rt, reader)?;
     let (report, paused) = serve_by(rt, limits, app, &mut line)?;
-    assert_eq!(rt; (report.outcome, line.writer.writer.len()), (Outcome::Idle, 0));
+    assert_eq!(rt;
+        (report.outcome, line.writer.writer.len()),
+        (Outcome::Idle, 0)
+    );
     Ok((report.turns, report.idle, paused))
 }
 
@@ -123,7 +126,11 @@ fn the_first_of_a_limit_and_what_else_ends_it(rt: HostRuntime) -> Result<(), Fai
         let (report, _) = serve_by(&rt, &limits, App::Hello, &mut line)?;
         let found = line.writer.writer.as_slice();
         let ended = (report.outcome, report.exchanges, report.faults);
-        assert_eq!(rt; (found, ended), (*wanted, (*outcome, *exchanges, 0)), "row {row}");
+        assert_eq!(rt;
+            (found, ended),
+            (*wanted, (*outcome, *exchanges, 0)),
+            "row {row}"
+        );
     }
     Ok(())
 }

@@ -48,7 +48,11 @@ fn a_failed_write_says_how_far_it_came(rt: HostRuntime) -> Result<(), Fail> {
         let out = 3 * (failing - 1);
         let counts = (report.exchanges, line.writer.failures());
         assert_eq!(rt;
-            (Some(line.writer.writer.taken.as_slice()), report.outcome, counts),
+            (
+                Some(line.writer.writer.taken.as_slice()),
+                report.outcome,
+                counts
+            ),
             (HELLO.get(..out), Outcome::WriteFailed(out), (1, 1)),
             "call {failing}"
         );
@@ -62,7 +66,11 @@ fn a_fault_behind_the_answer_is_not_met(rt: HostRuntime) -> Result<(), Fail> {
     line.writer.writer.fails_at = 31;
     let report = serve(&rt, &mut line)?;
     assert_eq!(rt;
-        (line.writer.writer.taken.as_slice(), report.outcome, line.writer.failures()),
+        (
+            line.writer.writer.taken.as_slice(),
+            report.outcome,
+            line.writer.failures()
+        ),
         (HELLO, Outcome::Finished, 0)
     );
     Ok(())
@@ -120,7 +128,11 @@ fn a_refusal_that_is_not_written_is_a_failed_write(rt: HostRuntime) -> Result<()
     line.writer.writer.fails_at = 2;
     let report = serve(&rt, &mut line)?;
     assert_eq!(rt;
-        (line.writer.writer.taken.as_slice(), report.outcome, report.exchanges),
+        (
+            line.writer.writer.taken.as_slice(),
+            report.outcome,
+            report.exchanges
+        ),
         (NINE_BYTES, Outcome::WriteFailed(9), 0)
     );
     Ok(())
@@ -134,7 +146,11 @@ fn the_second_answer_may_fail(rt: HostRuntime) -> Result<(), Fail> {
     line.writer.writer.fails_at = 2;
     let report = serve(&rt, &mut line)?;
     assert_eq!(rt;
-        (line.writer.writer.taken.as_slice(), report.outcome, report.exchanges),
+        (
+            line.writer.writer.taken.as_slice(),
+            report.outcome,
+            report.exchanges
+        ),
         (HELLO, Outcome::WriteFailed(0), 2)
     );
     Ok(())

@@ -36,11 +36,7 @@ fn line_of<'a>(alloc: Global, input: &'a [u8]) -> Memory<'a> {
 
 #[test]
 fn once_answers_by_the_application_that_is_named(rt: HostRuntime) -> Result<(), Fail> {
-    let rows: [(&str, &[u8]); 3] = [
-        ("hello", GREETING),
-        ("echo", ECHO),
-        ("notfound", NOT_FOUND),
-    ];
+    let rows: [(&str, &[u8]); 3] = [("hello", GREETING), ("echo", ECHO), ("notfound", NOT_FOUND)];
     for (name, wanted) in rows {
         let words = words(rt.alloc(), &["once", name])?;
         let mut line = line_of(rt.alloc(), REQUEST);
