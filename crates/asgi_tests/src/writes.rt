@@ -13,10 +13,10 @@ use std::test::Fail;
 /// What a writer of nine bytes takes first.
 const NINE_BYTES: &[u8] = b"HTTP/1.1 ";
 
-type SinkLine<'a> = Joined<CountedReader<Pieces<'a>>, Counted<Sink>>;
+type SinkLine = Joined<CountedReader<Pieces<'static>>, Counted<Sink>>;
 
 /// A line of these bytes, whose writer takes so many at a time.
-fn line_to<'a, H: AllocGlobal>(rt: &H, input: &'a [u8], most: usize) -> Result<SinkLine<'a>, Fail> {
+fn line_to<H: AllocGlobal>(rt: &H, input: &'static [u8], most: usize) -> Result<SinkLine, Fail> {
     let taken = Vec::with_capacity(rt.alloc(), 256)?;
     Ok(Joined {
         reader: CountedReader::new(Pieces::new(input, 4_096, 4_096)),
@@ -33,7 +33,7 @@ fn line_to<'a, H: AllocGlobal>(rt: &H, input: &'a [u8], most: usize) -> Result<S
 }
 
 /// Serves one connection by `Hello`.
-fn serve<H: RandomSource + AllocGlobal>(rt: &H, line: &mut SinkLine<'_>) -> Result<Report, Fail> {
+fn serve<H: RandomSource + AllocGlobal>(rt: &H, line: &mut SinkLine) -> Result<Report, Fail> {
     let (report, _) = serve_by(rt, &Limits::usual(), App::Hello, line)?;
     Ok(report)
 }
@@ -92,13 +92,15 @@ const PART_AND_FAULT: App = App::Scripted(&[
 
 const PART_OF_A_BODY: &[u8] = b"POST / HTTP/1.1\r\nHost: a\r\nContent-Length: 10\r\n\r\nabcd";
 
+const TWO_REQUESTS: &[u8] = b"GET / HTTP/1.1\r\nHost: a\r\n\r\nGET / HTTP/1.1\r\nHost: a\r\n\r\n";
+
 const BAD_BODY: &[u8] = b"POST / HTTP/1.1\r\nHost: a\r\nTransfer-Encoding: chunked\r\n\r\nx\r\n";
 
 #[test]
 fn nine_bytes_and_then_a_fault(rt: HostRuntime) -> Result<(), Fail> {
     // The application, the input, the tasks that faulted, and the reads that did: the second one fails, where it is made.
     // An input that breaks inside of a body ends no connection while the application may answer.
-    let rows: [(App, &[u8], u64, u64); 6] = [
+    let rows: [(App, &'static [u8], u64, u64); 6] = [
         (App::Hello, GET, 0, 0),
         (GREETS_AND_HEARS, GET, 0, 0),
         (PART_AND_FAULT, GET, 1, 0),
@@ -140,9 +142,7 @@ fn a_refusal_that_is_not_written_is_a_failed_write(rt: HostRuntime) -> Result<()
 
 #[test]
 fn the_second_answer_may_fail(rt: HostRuntime) -> Result<(), Fail> {
-    let mut input = Vec::from_slice(rt.alloc(), GET)?;
-    input.extend_from_slice(GET)?;
-    let mut line = line_to(&rt, &input, 89)?;
+    let mut line = line_to(&rt, TWO_REQUESTS, 89)?;
     line.writer.writer.fails_at = 2;
     let report = serve(&rt, &mut line)?;
     assert_eq!(rt;
@@ -169,24 +169,26 @@ fn a_writer_that_takes_nothing_has_failed(rt: HostRuntime) -> Result<(), Fail> {
     Ok(())
 }
 
+/// What is taken, and the outcome, where so many calls answer this fault first.
+fn retried<H: RandomSource + AllocGlobal>(
+    rt: &H,
+    fault: ErrorKind,
+    faults: u64,
+) -> Result<(Vec<u8>, Outcome), Fail> {
+    let mut line = line_to(rt, GET, 100)?;
+    line.writer.writer.fault = fault;
+    line.writer.writer.faults = faults;
+    let report = serve(rt, &mut line)?;
+    Ok((line.writer.writer.taken, report.outcome))
+}
+
 #[test]
 fn a_thousand_retries_and_no_more(rt: HostRuntime) -> Result<(), Fail> {
-    let rows: [(ErrorKind, u64, &[u8], Outcome); 4] = [
-        (ErrorKind::WouldBlock, 1_000, HELLO, Outcome::Finished),
-        (ErrorKind::WouldBlock, 1_001, b"", Outcome::WriteFailed(0)),
-        (ErrorKind::Interrupted, 1_000, HELLO, Outcome::Finished),
-        (ErrorKind::Interrupted, 1_001, b"", Outcome::WriteFailed(0)),
-    ];
-    for (row, (fault, faults, taken, outcome)) in rows.iter().enumerate() {
-        let mut line = line_to(&rt, GET, 100)?;
-        line.writer.writer.fault = *fault;
-        line.writer.writer.faults = *faults;
-        let report = serve(&rt, &mut line)?;
-        assert_eq!(rt;
-            (line.writer.writer.taken.as_slice(), report.outcome),
-            (*taken, *outcome),
-            "row {row}"
-        );
+    for fault in [ErrorKind::WouldBlock, ErrorKind::Interrupted] {
+        let (taken, outcome) = retried(&rt, fault, 1_000)?;
+        assert_eq!(rt; (taken.as_slice(), outcome), (HELLO, Outcome::Finished));
+        let (taken, outcome) = retried(&rt, fault, 1_001)?;
+        assert_eq!(rt; (taken.len(), outcome), (0, Outcome::WriteFailed(0)));
     }
     Ok(())
 }
