@@ -17,6 +17,16 @@ type SinkLine = Joined<CountedReader<Pieces<'static>>, Counted<Sink>>;
 
 /// A line of these bytes, whose writer takes so many at a time.
 fn line_to<H: AllocGlobal>(rt: &H, input: &'static [u8], most: usize) -> Result<SinkLine, Fail> {
+    line_with(rt, input, most, ErrorKind::WouldBlock)
+}
+
+/// A line whose writer has this fault.
+fn line_with<H: AllocGlobal>(
+    rt: &H,
+    input: &'static [u8],
+    most: usize,
+    fault: ErrorKind,
+) -> Result<SinkLine, Fail> {
     let taken = Vec::with_capacity(rt.alloc(), 256)?;
     Ok(Joined {
         reader: CountedReader::new(Pieces::new(input, 4_096, 4_096)),
@@ -26,7 +36,7 @@ fn line_to<H: AllocGlobal>(rt: &H, input: &'static [u8], most: usize) -> Result<
             fails_at: 0,
             faults: 0,
             again: 0,
-            fault: ErrorKind::WouldBlock,
+            fault,
             calls: 0,
         }),
     })
@@ -175,8 +185,7 @@ fn retried<H: RandomSource + AllocGlobal>(
     fault: ErrorKind,
     faults: u64,
 ) -> Result<(Vec<u8>, Outcome), Fail> {
-    let mut line = line_to(rt, GET, 100)?;
-    line.writer.writer.fault = fault;
+    let mut line = line_with(rt, GET, 100, fault)?;
     line.writer.writer.faults = faults;
     let report = serve(rt, &mut line)?;
     Ok((line.writer.writer.taken, report.outcome))
