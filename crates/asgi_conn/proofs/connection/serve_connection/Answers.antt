@@ -10,6 +10,7 @@ loop-place-init g c = record {
   room = λ between. (omega arith, subst (λ (n : ℕ). n ≤ 2 ^ 48) (sym c.new.ensures.turn_limit) c.args.limits.now.turns_in_range.1);
   turn_limit = c.new.ensures.turn_limit;
   idle_limit = c.new.ensures.idle_limit;
+  at_limit = λ never. cc;
   counts = ([], c.new.ensures.none (g.P.Pause.count c.args.pause.now));
 }
 
@@ -21,6 +22,7 @@ loop-place-preserved g c =
       room = c.step-place.ensures.room;
       turn_limit = c.step-place.ensures.turn_limits.0 ∙ inv.turn_limit;
       idle_limit = c.step-place.ensures.turn_limits.1 ∙ inv.idle_limit;
+      at_limit = c.step-place.ensures.idle;
       counts = lemma.counts_on c.args.limits.now.turns c.args.limits.now.idle_turns c.loop-place.tally.turns.turn_limit c.loop-place.tally.turns.idle_limit _ _ _ _ _ _ _
           inv.counts.0 inv.turn_limit inv.idle_limit inv.counts.1 c.step-place.ensures.counts;
     }

@@ -1,6 +1,9 @@
 use Rattle.std.proofs.Common.{◌≡◌, List}
 use Rattle.asgi_io.specs.declared.turns.Turn.{Turn}
 use Rattle.asgi_io.specs.Turns.{CountsTurns}
+use Rattle.asgi_conversation.specs.declared.report.Outcome.TheVariants.{Idle}
+use Rattle.asgi_conn.specs.declared.connection.Place.TheVariants.{Ended}
+use Rattle.asgi_conn.specs.Limits.{IsAtLimit}
 use Rattle.asgi_conn.specs.Lines.{state_of}
 use Rattle.asgi_conn.specs.Loop.{Serving, IsBetween, HasRoom}
 use Rattle.asgi_conn.proofs.ServeLemmas.{turns_left}
@@ -12,6 +15,7 @@ invariant-loop-place g l = record {
   room : IsBetween l.place → HasRoom l.tally;
   turn_limit : l.tally.turns.turn_limit ≡ l.fn.limits.turns;
   idle_limit : l.tally.turns.idle_limit ≡ l.fn.limits.idle_turns;
+  at_limit : l.place ≡ Ended Idle → IsAtLimit l.tally.turns;
   counts : (turned : List Turn) × CountsTurns l.fn.limits.turns l.fn.limits.idle_turns turned (g.P.Pause.count l.fn.pause) (g.P.Pause.count l.pause) l.tally.turns.turns l.tally.turns.idle;
 }
 
