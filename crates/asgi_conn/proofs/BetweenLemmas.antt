@@ -1,22 +1,19 @@
 -- Between two requests: the next result is a head or a refusal, more is read, and the connection ends.
-use Rattle.std.proofs.Common.{◌≡◌, ◌≢◌, ℕ, true, false, List, [], ◌∷◌, ◌++◌, ◌⊎◌, inl, inr, map, refl, sym, ap, ◌∙◌, append-nil, append_assoc, subst, Option, Some, None, flat_map, IsTrue}
+use Rattle.std.proofs.Common.{◌≡◌, ℕ, true, List, [], ◌∷◌, ◌++◌, ◌⊎◌, inl, inr, map, refl, sym, ap, ◌∙◌, append-nil, append_assoc, subst, Option, flat_map, IsTrue}
 use Rattle.std.specs.Prelude.{◌<◌, length, take}
 use Rattle.std.specs.Io.KnownBytes.{Appends}
-use Rattle.asgi_types.specs.declared.facts.Facts.{Facts}
 use Rattle.asgi_types.specs.declared.limits.Limits.{Limits}
-use Rattle.asgi_types.specs.declared.scope.Scope.{Scope}
 use Rattle.asgi_io.specs.Counting.{RoseBy}
 use Rattle.asgi_request.specs.declared.next.Next.{Next}
-use Rattle.asgi_request.specs.declared.next.Next.TheVariants.{Need, Head, Event, Whole, Bad}
+use Rattle.asgi_request.specs.declared.next.Next.TheVariants.{Head, Event, Whole, Bad}
 use Rattle.asgi_request.specs.declared.place.Place.{Place}
 use Rattle.asgi_request.specs.declared.place.Place.TheVariants.{Start, Stopped}
 use Rattle.asgi_request.specs.declared.refusal.Refusal.{Refusal}
 use Rattle.asgi_request.specs.declared.refusal.Refusal.TheVariants.{BadRequest, ContentTooLarge, HeaderFieldsTooLarge, UpgradeRequired, NotImplemented}
-use Rattle.asgi_request.specs.ChunkedBody.{complete}
 use Rattle.asgi_request.specs.Head.{record_of}
 use Rattle.asgi_request.specs.Opened.{HasClosed}
 use Rattle.asgi_request.specs.Places.{Reads, shown, Reaches}
-use Rattle.asgi_request.specs.Reading.{Reading, StandsFor, AllGiven, EndsWhole, WholeGiven, IsRefused, GoesOn}
+use Rattle.asgi_request.specs.Reading.{Reading, StandsFor, AllGiven, EndsWhole, WholeGiven, IsRefused}
 use Rattle.asgi_request.specs.Refusals.{status_of}
 use Rattle.asgi_request.specs.Results.{AreRequests, GivesResults, Opens}
 use Rattle.asgi_request.specs.Scopes.{scope_of, facts_of}
@@ -24,17 +21,14 @@ use Rattle.asgi_request.proofs.BodyGrowthLemmas.{Further}
 use Rattle.asgi_request.proofs.DueLemmas.{ClosesAt, runs_compare, same_behind}
 use Rattle.asgi_request.proofs.FirstLemmas.{first_of}
 use Rattle.asgi_request.proofs.HeldLemmas.{between}
-use Rattle.asgi_request.proofs.NextLemmas.{some_item}
 use Rattle.asgi_request.proofs.OpenedLemmas.{closed_at, closed_is_one}
 use Rattle.asgi_request.proofs.OpeningLemmas.{first_opens}
 use Rattle.asgi_request.proofs.UniqueLemmas.{shown-append}
 use Rattle.asgi_response.specs.Exchange.{refusal_text}
 use Rattle.asgi_response.specs.Refusals.{is_refusal}
-use Rattle.asgi_conversation.specs.declared.input.InputEnd.{InputEnd}
-use Rattle.asgi_conversation.specs.declared.input.InputEnd.TheVariants.{OpenStill, AtEnd, Failed}
+use Rattle.asgi_conversation.specs.declared.input.InputEnd.TheVariants.{AtEnd, Failed}
 use Rattle.asgi_conversation.specs.declared.report.Outcome.{Outcome}
 use Rattle.asgi_conversation.specs.declared.report.Outcome.TheVariants.{Finished, Refused, InputBroke, WriteFailed, Idle, NoMemory}
-use Rattle.asgi_conversation.specs.declared.report.Report.{Report}
 use Rattle.asgi_conversation.specs.Behind.{IsBlank}
 use Rattle.asgi_conversation.specs.Exchanges.{Exchanged}
 use Rattle.asgi_conversation.specs.SoFar.{Between}
@@ -43,6 +37,7 @@ use Rattle.asgi_conversation.proofs.LoopLemmas as loop
 use Rattle.asgi_conn.specs.declared.wire.Wire.{Wire}
 use Rattle.asgi_conn.specs.Lines.{LineState, HasMoved}
 use Rattle.asgi_conn.specs.Loop.{Rests, EndsSo}
+use Rattle.asgi_conn.proofs.LineLemmas.{moved_by_write}
 
 -- ---- what the reader gives there
 
@@ -110,6 +105,11 @@ refusal_known why status e = subst (λ (k : ℕ). IsTrue (is_refusal k)) (sym e)
 
 -- ---- with what the connection keeps
 
+-- nothing more was read
+pub as_read : (limits : Limits) (start now : LineState) (read : List ℕ) (exchanges : List Exchanged) (written : List ℕ) (outcome : Outcome)
+    → EndsSo limits start now read exchanges written outcome → (more : List ℕ) × EndsSo limits start now (read ++ more) exchanges written outcome
+as_read limits start now read exchanges written outcome x = ([], subst (λ (l : List ℕ). EndsSo limits start now l exchanges written outcome) (sym (append-nil read)) x)
+
 module _ (limits : Limits) (start now : LineState) (wire : Wire) (read : List ℕ) (given : List Next) (exchanges : List Exchanged) (behind written : List ℕ)
     (x : Rests limits start now wire read given exchanges behind written) where
   closes : HasClosed wire.requests.limits read given behind
@@ -124,6 +124,16 @@ module _ (limits : Limits) (start now : LineState) (wire : Wire) (read : List �
   pub no_event : (reader : Reading) (item : Next) → reader.limits ≡ limits → StandsFor reader read (given ++ item ∷ []) → Opens item
   no_event reader item same stands = opens_next limits read given behind reader.place reader.held item x.between.closed (reaches reader (given ++ item ∷ []) same stands)
 
+  -- the bytes that the reader holds stand behind the requests
+  pub rests_whole : EndsWhole given
+  rests_whole = ends_whole wire.requests.limits read given behind closes
+
+  pub rests_blank : (held : List ℕ) → WholeGiven wire.requests read given held → IsBlank held → IsBlank behind
+  rests_blank held whole blank = subst IsBlank (sym (behind_is wire.requests read given behind closes x.stands held whole)) blank
+
+  pub rests_unblank : (held : List ℕ) → WholeGiven wire.requests read given held → (IsBlank held → ⊥) → IsBlank behind → ⊥
+  rests_unblank held whole unblank blank = unblank (subst IsBlank (behind_is wire.requests read given behind closes x.stands held whole) blank)
+
   -- another reader that gave no more
   pub asked : (later : Reading) → later.limits ≡ limits → StandsFor later read given → Rests limits start now (record wire { requests = later }) read given exchanges behind written
   asked later same stands = record { moved = x.moved; limits_are = (x.limits_are.0, same); between = x.between; stands = stands; empty = x.empty }
@@ -131,7 +141,7 @@ module _ (limits : Limits) (start now : LineState) (wire : Wire) (read : List �
   -- ---- the end without a text
 
   -- these are all the results, by any limits
-  AllOf : Limits → Type 0
+  abbrev AllOf : Limits → Type 0
   AllOf l = (rest : List ℕ) × GivesResults l read given rest
 
   pub ends_idle : AllGiven wire.requests read given → EndsSo limits start now read exchanges written Idle
@@ -152,6 +162,38 @@ module _ (limits : Limits) (start now : LineState) (wire : Wire) (read : List �
       let g = subst (λ (l : Limits). AllOf l) x.limits_are.1 all in
       record { end = wire.input; moved = x.moved; converses = λ report o c. loop.input_broke limits wire.input read given exchanges behind written report x.between c g.0 g.1 why o }
 
+  -- ---- the end with the text of a refusal
+
+  module _ (next : LineState) (reader : Reading) (status : ℕ) (stands : StandsFor reader read (given ++ Bad status ∷ [])) (same : reader.limits ≡ limits)
+      (text : List ℕ) (text_is : text ≡ refusal_text status) (left : next.left ≡ now.left) (reads : next.reads ≡ now.reads) where
+    refused_at : Reaches limits read (given ++ Bad status ∷ []) reader.place reader.held
+    refused_at = reaches reader (given ++ Bad status ∷ []) same stands
+
+    pub ends_refused : Appends now.written next.written text → RoseBy 0 now.failed next.failed
+        → (more : List ℕ) × EndsSo limits start next read exchanges (written ++ more) (Refused status)
+    ends_refused appends rose = (
+      refusal_text status,
+      record {
+        end = wire.input;
+        moved = moved_by_write start now next wire.input read written (refusal_text status) 0 x.moved left reads
+            (subst (λ (l : List ℕ). Appends now.written next.written l) text_is appends) rose;
+        converses = λ report o c. loop.refused limits wire.input read given exchanges behind written report x.between c reader.place reader.held status refused_at o;
+      },
+    )
+
+    pub ends_unwritten : (n : ℕ) → n < length text → Appends now.written next.written (take n text) → RoseBy 1 now.failed next.failed
+        → (more : List ℕ) × EndsSo limits start next read exchanges (written ++ more) (WriteFailed n)
+    ends_unwritten n within appends rose = (
+      take n (refusal_text status),
+      record {
+        end = wire.input;
+        moved = moved_by_write start now next wire.input read written (take n (refusal_text status)) 1 x.moved left reads
+            (subst (λ (l : List ℕ). Appends now.written next.written (take n l)) text_is appends) rose;
+        converses = λ report o c. loop.refusal_failed limits wire.input read given exchanges behind written report x.between c reader.place reader.held status n refused_at
+            (subst (λ (l : List ℕ). n < length l) text_is within) o;
+      },
+    )
+
   -- ---- more is read
 
   module _ (next : LineState) (later : Wire) (more : List ℕ)
@@ -164,15 +206,15 @@ module _ (limits : Limits) (start now : LineState) (wire : Wire) (read : List �
     further = loop.end_seen limits wire.input later.input (read ++ more) given exchanges (behind ++ more) written on
         (loop.reads_more limits wire.input read more given exchanges behind written x.between)
 
-    pub rests_on : later.limits ≡ wire.limits → later.requests.limits ≡ wire.requests.limits → later.out.items ≡ wire.out.items
+    pub rests_on : later ≡ record wire { requests = later.requests; input = later.input } → later.requests.limits ≡ wire.requests.limits
         → ((bytes : List ℕ) (given : List Next) → StandsFor wire.requests bytes given → StandsFor later.requests (bytes ++ more) given)
         → Rests limits start next later (read ++ more) given exchanges (behind ++ more) written
-    rests_on same reader out fed = record {
+    rests_on same reader fed = record {
       moved = moved;
-      limits_are = (same ∙ x.limits_are.0, reader ∙ x.limits_are.1);
+      limits_are = (ap (λ (w : Wire). w.limits) same ∙ x.limits_are.0, reader ∙ x.limits_are.1);
       between = further;
       stands = fed read given x.stands;
-      empty = out ∙ x.empty;
+      empty = ap (λ (w : Wire). w.out.items) same ∙ x.empty;
     }
 
     pub ends_fed_short : EndsSo limits start next (read ++ more) exchanges written NoMemory

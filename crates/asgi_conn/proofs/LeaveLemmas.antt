@@ -1,14 +1,11 @@
 -- Where an exchange leaves its connection: between two requests, or at its end.
-use Rattle.std.proofs.Common.{◌≡◌, ℕ, true, false, List, [], ◌∷◌, ◌++◌, ◌⊎◌, inl, inr, map, refl, sym, ap, ◌∙◌, append_assoc, subst, Option, Some, None}
-use Rattle.std.specs.Prelude.{IsSomeAnd}
+use Rattle.std.proofs.Common.{◌≡◌, ℕ, true, false, List, [], ◌∷◌, ◌++◌, ◌⊎◌, inl, inr, map, sym, ap, ◌∙◌, append_assoc, subst, Some}
 use Rattle.asgi_types.specs.declared.end_kind.EndKind.{EndKind}
-use Rattle.asgi_types.specs.declared.end_kind.EndKind.TheVariants.{Faulted}
-use Rattle.asgi_types.specs.declared.incoming.Incoming.{Incoming}
 use Rattle.asgi_types.specs.declared.limits.Limits.{Limits}
 use Rattle.asgi_types.specs.declared.outgoing.Outgoing.{Outgoing}
 use Rattle.asgi_request.specs.declared.next.Next.{Next}
 use Rattle.asgi_request.specs.declared.next.Next.TheVariants as next
-use Rattle.asgi_request.specs.BodyOf.{body_events, body_state}
+use Rattle.asgi_request.specs.BodyOf.{body_events}
 use Rattle.asgi_request.specs.ChunkedBody.{BodyState}
 use Rattle.asgi_request.specs.Places.{Reaches}
 use Rattle.asgi_request.proofs.BodyOfLemmas.{body_is_read}
@@ -20,16 +17,14 @@ use Rattle.asgi_exchange.specs.Http.{input_of}
 use Rattle.asgi_exchange.specs.HttpExchange.{IsHttpExchange}
 use Rattle.asgi_exchange.specs.Items.{end_of}
 use Rattle.asgi_exchange.specs.Steps.{is_by_input, is_by_cut}
-use Rattle.asgi_exchange.specs.Views.{World, said_of, taken_of}
-use Rattle.asgi_conversation.specs.declared.following.Following.{Following}
+use Rattle.asgi_exchange.specs.Views.{World, taken_of}
 use Rattle.asgi_conversation.specs.declared.following.Following.TheVariants.{NextRequest, ConnectionEnds}
 use Rattle.asgi_conversation.specs.declared.report.Outcome.{Outcome}
-use Rattle.asgi_conversation.specs.declared.report.Outcome.TheVariants.{InputBroke, WriteFailed}
 use Rattle.asgi_conversation.specs.declared.report.Report.{Report}
 use Rattle.asgi_conversation.specs.Exchanges.{Exchanged, IsFollowed}
 use Rattle.asgi_conversation.specs.Persistence.{CountsExchanges, Converses, InHand, Beginning, Saying, Ending, StopsWithin}
 use Rattle.asgi_conversation.specs.SoFar.{exchanged, Between, TaskIsOver, IsCutBy}
-use Rattle.asgi_conversation.specs.TaskEnds.{has_ended, is_faulty, is_cut, after_task}
+use Rattle.asgi_conversation.specs.TaskEnds.{is_cut, after_task}
 use Rattle.asgi_conversation.proofs.LoopLemmas.{keeps_on}
 use Rattle.asgi_conversation.proofs.SoFarLemmas.{taken_whole, end_put, ends_by_task, ends_cut}
 use Rattle.asgi_conn.specs.declared.half.ConnHalf.{ConnHalf}
@@ -43,10 +38,10 @@ use Rattle.asgi_conn.specs.Loop.{Rests, EndsSo}
 
 module _ (limits : Limits) (scene : Scene) (now : LineState) (half : ConnHalf) (read : List ℕ) (w : World ℕ ℕ) (s : Stands scene now half read w.conn)
     (i : IsHttpExchange half.wire.limits scene.facts w) (lim : half.wire.limits ≡ limits) where
-  after : List Exchanged
+  abbrev pub after : List Exchanged
   after = scene.exchanges ++ exchanged scene.scope scene.facts w ∷ []
 
-  out : List ℕ
+  abbrev pub out : List ℕ
   out = scene.before ++ w.conn.written
 
   pub left_resting : half.stage ≡ Over NextRequest → (given : List Next) × (behind : List ℕ) × Rests limits scene.start now half.wire read given after behind out
@@ -71,7 +66,7 @@ module _ (limits : Limits) (scene : Scene) (now : LineState) (half : ConnHalf) (
 
   -- ---- the connection ends
 
-  state : BodyState
+  abbrev pub state : BodyState
   state = state_in scene half w.conn
 
   uncut_by : is_by_cut w.conn.broken ≡ false → IsCutBy false w
@@ -84,7 +79,7 @@ module _ (limits : Limits) (scene : Scene) (now : LineState) (half : ConnHalf) (
     kind,
     end_put half.wire.limits scene.facts w kind i taken,
     subst (λ (l : List Outgoing). after_task kind (progress_of scene.facts l) state (is_by_input w.conn.broken) ≡ ConnectionEnds outcome)
-    (taken_whole half.wire.limits scene.facts w kind i taken) follows,
+        (taken_whole half.wire.limits scene.facts w kind i taken) follows,
   )
 
   by_task : (outcome : Outcome) → EndsByTask scene half w.conn outcome → (report : Report) → report.outcome ≡ outcome → CountsExchanges report after

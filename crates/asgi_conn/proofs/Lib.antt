@@ -7,4 +7,6 @@ pub mod HalfEndLemmas
 pub mod InlineLemmas
 pub mod LeaveLemmas
 pub mod PromiseLemmas
+pub mod AnswerLemmas
 pub mod BetweenLemmas
+pub mod ServeLemmas

@@ -1,6 +1,7 @@
 -- What a call opened, and the runner ran to its end, is as the application promised it; and one more exchange is counted.
-use Rattle.std.proofs.Common.{◌≡◌, ℕ, ◌+◌, List, [], ◌∷◌, ◌++◌, refl, sym, ap, ◌∙◌, append_assoc, subst, Option, Some, None, IsSomeAnd, arith}
+use Rattle.std.proofs.Common.{◌≡◌, ◌+◌, List, [], ◌∷◌, ◌++◌, refl, sym, ap, ◌∙◌, subst, Option, Some, None, IsSomeAnd, arith}
 use Rattle.std.specs.Prelude.{All, length}
+use Rattle.std.proofs.lemmas.List.Elements.{All-nil, All-cons, All-append}
 use Rattle.asgi_types.specs.declared.end_kind.EndKind.{EndKind}
 use Rattle.asgi_types.specs.declared.end_kind.EndKind.TheVariants.{Faulted}
 use Rattle.asgi_types.specs.declared.incoming.Incoming.{Incoming}
@@ -9,7 +10,6 @@ use Rattle.asgi_pipes.specs.declared.ends.AppEnd.{Ghosts}
 use Rattle.asgi_pipes.specs.Items.{items_of}
 use Rattle.asgi_apps.specs.declared.running.Lent.{Lent}
 use Rattle.asgi_apps.specs.Ends.{own_end}
-use Rattle.asgi_exchange.specs.Calls.{view_of}
 use Rattle.asgi_exchange.specs.Items.{end_of, events_of}
 use Rattle.asgi_exchange.specs.Views.{AppView, said_of}
 use Rattle.asgi_exchange.proofs.EventLemmas.{events_are}
@@ -46,8 +46,7 @@ module _ {T E : Type 0} (promise : List Incoming → List Outgoing → Option En
 -- ---- one more
 
 pub all_more : (P : Exchanged → Type 0) (exchanges : List Exchanged) (x : Exchanged) → All P exchanges → P x → All P (exchanges ++ x ∷ [])
-all_more P [] x all p = (p, tt)
-all_more P (e ∷ exchanges) x all p = (all.0, all_more P exchanges x all.1 p)
+all_more P exchanges x all p = All-append P exchanges (x ∷ []) all (All-cons P x [] p (All-nil P))
 
 pub length_more : (exchanges : List Exchanged) (x : Exchanged) → length (exchanges ++ x ∷ []) ≡ length exchanges + 1
 length_more [] x = refl

@@ -99,7 +99,9 @@ pub fn serve_connection<H: AllocGlobal, A: Application, L: Line, U: Runner, P: P
     };
     let mut place = Place::Between(Wire::new(rt.alloc(), *limits));
     while place.goes_on() {
-        place = step(place, client, server, state, app, line, runner, pause, &mut tally);
+        place = step(
+            place, client, server, state, app, line, runner, pause, &mut tally,
+        );
     }
     Report {
         exchanges: tally.exchanges,
@@ -123,6 +125,7 @@ fn step<A: Application, L: Line, U: Runner, P: Pause>(
     tally: &mut Tally,
 ) -> Place
     requires between { IsBetween place }
+    requires stands { (limits : Limits) × (start : LineState) × Serving (A.answers app.now) limits client.now server.now state.now start (state_of L.Reads L.Counts line.old) tally.old place }
     requires room { HasRoom tally.old }
     ensures serves { (limits : Limits) (start : LineState) → Serving (A.answers app.now) limits client.now server.now state.now start (state_of L.Reads L.Counts line.old) tally.old place
         → Serving (A.answers app.now) limits client.now server.now state.now start (state_of L.Reads L.Counts line.new) tally.new result }
@@ -160,9 +163,39 @@ fn scope_of(
 ) -> Result<Scope, AllocError>
     ensures { IfOk result (λ whole. whole ≡ scope_with scope client.now server.now state.now) }
 {
+    let Known {
+        client,
+        server,
+        state,
+    } = known_of(alloc, client, server, state)?;
+    Ok(scope.with(client, server, state))
+}
+
+/// What the connection knows beside a request.
+#[derive(Drop)]
+struct Known {
+    client: Option<Peer>,
+    server: Option<Peer>,
+    state: State,
+}
+
+/// The copies are made before the scope is at hand: a refusal of memory among them drops no scope.
+fn known_of(
+    alloc: Global,
+    client: &Option<Peer>,
+    server: &Option<Peer>,
+    state: &State,
+) -> Result<Known, AllocError>
+    ensures { IfOk result (λ known. (known.client ≡ client.now) × (known.server ≡ server.now) × (known.state ≡ state.now)) }
+{
     let client = copy_of(client, alloc)?;
     let server = copy_of(server, alloc)?;
-    Ok(scope.with(client, server, state.copy(alloc)?))
+    let state = state.copy(alloc)?;
+    Ok(Known {
+        client,
+        server,
+        state,
+    })
 }
 
 fn copy_of(peer: &Option<Peer>, alloc: Global) -> Result<Option<Peer>, AllocError>
@@ -268,7 +301,10 @@ fn answer<A: Application, L: Line, U: Runner, P: Pause>(
     ensures turn_limits { (tally.new.turns.turn_limit ≡ tally.old.turns.turn_limit) × (tally.new.turns.idle_limit ≡ tally.old.turns.idle_limit) }
 {
     let text = ResponseText::new(wire.alloc, &facts);
-    let Ok((end, app_end)) = runner.pipes().make(wire.alloc, Kind::Http, facts, wire.limits.ring) else {
+    let Ok((end, app_end)) = runner
+        .pipes()
+        .make(wire.alloc, Kind::Http, facts, wire.limits.ring)
+    else {
         return Place::Ended(Outcome::NoMemory);
     };
     let side = call(wire.alloc, app, scope, app_end);
@@ -279,7 +315,12 @@ fn answer<A: Application, L: Line, U: Runner, P: Pause>(
 }
 
 /// Calls the application. Where the call faults, that is the end of its task.
-fn call<A: Application, E: AppEnd>(alloc: Global, app: &A, scope: &Scope, app_end: E) -> AppSide<A::Task, E>
+fn call<A: Application, E: AppEnd>(
+    alloc: Global,
+    app: &A,
+    scope: &Scope,
+    app_end: E,
+) -> AppSide<A::Task, E>
     requires fresh { (E.heard app_end ≡ []) × (E.said app_end ≡ []) × (E.ended app_end ≡ None) }
     requires kind { E.kind app_end ≡ kind_of scope.now }
     ensures may { MayRun A.Task.stands E.AppEnd result }

@@ -1,0 +1,217 @@
+-- A connection from its beginning to its report, and what one step of it does.
+use Rattle.std.proofs.Common.{◌≡◌, ◌≢◌, ℕ, List, [], ◌∷◌, ◌++◌, ◌-◌, refl, sym, ◌∙◌, append-nil, subst, Option}
+use Rattle.std.specs.Prelude.{◌+◌}
+use Rattle.std.proofs.lemmas.List.Elements.{All-nil}
+use Rattle.asgi_types.specs.declared.end_kind.EndKind.{EndKind}
+use Rattle.asgi_types.specs.declared.facts.Facts.{Facts}
+use Rattle.asgi_types.specs.declared.incoming.Incoming.{Incoming}
+use Rattle.asgi_types.specs.declared.limits.Limits.{Limits}
+use Rattle.asgi_types.specs.declared.outgoing.Outgoing.{Outgoing}
+use Rattle.asgi_types.specs.declared.scope.Kind.TheVariants.{Http}
+use Rattle.asgi_types.specs.declared.scope.Peer.{Peer}
+use Rattle.asgi_types.specs.declared.scope.Scope.{Scope}
+use Rattle.asgi_types.specs.declared.state.StateValue.{StateValue}
+use Rattle.asgi_types.specs.Scopes.{scope_with}
+use Rattle.asgi_io.specs.declared.turns.Turn.{Turn}
+use Rattle.asgi_io.specs.Turns.{CountsTurns}
+use Rattle.asgi_io.proofs.BytesLemmas.{Appends-nothing, Consumes-nothing, Keeps-same}
+use Rattle.asgi_io.proofs.CountLemmas.{never_fell}
+use Rattle.asgi_apps.specs.Scopes.{kind_of}
+use Rattle.asgi_request.specs.declared.next.Next.{Next}
+use Rattle.asgi_request.specs.declared.next.Next.TheVariants.{Need, Head, Bad}
+use Rattle.asgi_request.specs.Reading.{Reading, StandsFor, AllGiven, IsRefused, GoesOn}
+use Rattle.asgi_request.specs.Results.{Opens}
+use Rattle.asgi_conversation.specs.declared.input.InputEnd.{InputEnd}
+use Rattle.asgi_conversation.specs.declared.input.InputEnd.TheVariants.{OpenStill}
+use Rattle.asgi_conversation.specs.declared.report.Outcome.TheVariants.{NoMemory}
+use Rattle.asgi_conversation.specs.Exchanges.{Exchanged}
+use Rattle.asgi_conversation.specs.Promised.{IsPromised, ArePromised}
+use Rattle.asgi_conversation.specs.SoFar.{Within}
+use Rattle.asgi_conversation.proofs.LoopLemmas as loop
+use Rattle.asgi_conn.specs.declared.connection.Place.{Place}
+use Rattle.asgi_conn.specs.declared.connection.Place.TheVariants as place
+use Rattle.asgi_conn.specs.declared.tally.Tally.{Tally}
+use Rattle.asgi_conn.specs.declared.wire.Wire.{Wire}
+use Rattle.asgi_conn.specs.Half.{Scene}
+use Rattle.asgi_conn.specs.HalfSteps as half
+use Rattle.asgi_conn.specs.Lines as lines
+use Rattle.asgi_conn.specs.Lines.{LineState, HasMoved}
+use Rattle.asgi_conn.specs.Loop.{Rests, IsAt, IsTallied, Serving}
+use Rattle.asgi_conn.proofs.BetweenLemmas as between
+
+-- ---- the turns that are left
+
+abbrev pub turns_left : Place → Tally → ℕ
+turns_left (place.Between wire) tally = tally.turns.turn_limit - tally.turns.turns + 1
+turns_left (place.Ended outcome) tally = 0
+
+-- the turns are counted on, by limits that are known under two names
+pub counts_on : (turn_limit idle_limit turn_held idle_held before now after turns idle turns_then idle_then : ℕ) (turned : List Turn)
+    → turn_held ≡ turn_limit → idle_held ≡ idle_limit → CountsTurns turn_limit idle_limit turned before now turns idle
+    → ((turned : List Turn) (pauses : ℕ) → CountsTurns turn_held idle_held turned pauses now turns idle
+    → (more : List Turn) × CountsTurns turn_held idle_held (turned ++ more) pauses after turns_then idle_then)
+    → (all : List Turn) × CountsTurns turn_limit idle_limit all before after turns_then idle_then
+counts_on turn_limit idle_limit turn_held idle_held before now after turns idle turns_then idle_then turned p q counts on =
+    let held = subst (λ (k : ℕ). CountsTurns turn_held k turned before now turns idle) (sym q) (subst (λ (k : ℕ). CountsTurns k idle_limit turned before now turns idle) (sym p) counts) in
+    let x = on turned before held in (
+      turned ++ x.0,
+      subst (λ (k : ℕ). CountsTurns k idle_limit (turned ++ x.0) before after turns_then idle_then) p
+          (subst (λ (k : ℕ). CountsTurns turn_held k (turned ++ x.0) before after turns_then idle_then) q x.1),
+    )
+
+-- no turn was taken
+pub counts_still : (turn_limit idle_limit : ℕ) (turned : List Turn) (before after turns idle : ℕ) → CountsTurns turn_limit idle_limit turned before after turns idle
+    → (more : List Turn) × CountsTurns turn_limit idle_limit (turned ++ more) before after turns idle
+counts_still turn_limit idle_limit turned before after turns idle counts =
+    ([], subst (λ (l : List Turn). CountsTurns turn_limit idle_limit l before after turns idle) (sym (append-nil turned)) counts)
+
+-- ---- what the reader gave
+
+-- it is known as this
+pub given_as : (old new : Reading) (item is : Next) → item ≡ is → is ≢ Need → (item ≢ Need → ((status : ℕ) → IsRefused old status → ⊥) → GoesOn old new item)
+    → ((status : ℕ) → IsRefused old status → ⊥) → GoesOn old new is
+given_as old new item is e some gives free = subst (λ (n : Next). GoesOn old new n) e (gives (λ none. some (sym e ∙ none)) free)
+
+-- ---- the beginning
+
+-- nothing was read or written yet
+pub moved_nothing : (start : LineState) (end : InputEnd) → end ≡ OpenStill → HasMoved start start end [] [] 0
+moved_nothing start end still = subst (λ (e : InputEnd). HasMoved start start e [] [] 0) (sym still) (record {
+  consumes = Consumes-nothing start.left start.left (Keeps-same start.left);
+  appends = Appends-nothing start.written start.written (Keeps-same start.written);
+  answers = [];
+  told = sym (append-nil start.reads);
+  sum = refl;
+  ends = All-nil lines.GoesOn;
+  failed = never_fell start.failed;
+})
+
+module _ (answers : Scope → List Incoming → List Outgoing → Option EndKind → Type 0) (limits : Limits) (client server : Option Peer) (state : List (List ℕ × StateValue)) where
+  pub begins : (start : LineState) (wire : Wire) (tally : Tally) → (wire.limits ≡ limits) × (wire.requests.limits ≡ limits) → StandsFor wire.requests [] [] × (wire.input ≡ OpenStill)
+      → wire.out.items ≡ [] → tally.exchanges ≡ 0 → tally.faults ≡ 0 → Serving answers limits client server state start start tally (place.Between wire)
+  begins start wire tally limits_are unread empty none no_faults = record {
+    read = [];
+    written = [];
+    exchanges = [];
+    promised = All-nil (IsPromised answers client server state);
+    counted = (none, no_faults);
+    stands = (
+      [],
+      [],
+      record {
+        moved = moved_nothing start wire.input unread.1;
+        limits_are = limits_are;
+        between = loop.starts limits wire.input;
+        stands = unread.0;
+        empty = empty;
+      },
+    );
+  }
+
+  -- ---- one step
+
+  pub rested : (start now : LineState) (tally : Tally) (at : Place) (wire : Wire) → at ≡ place.Between wire → Serving answers limits client server state start now tally at
+      → Serving answers limits client server state start now tally (place.Between wire)
+  rested start now tally at wire is s = subst (λ (p : Place). Serving answers limits client server state start now tally p) is s
+
+  module _ (start now : LineState) (tally : Tally) (wire : Wire) (s : Serving answers limits client server state start now tally (place.Between wire)) where
+    x : Rests limits start now wire s.read s.stands.0 s.exchanges s.stands.1 s.written
+    x = s.stands.2
+
+    -- memory was refused
+    pub short : Serving answers limits client server state start now tally (place.Ended NoMemory)
+    short = record {
+      read = s.read;
+      written = s.written;
+      exchanges = s.exchanges;
+      promised = s.promised;
+      counted = s.counted;
+      stands = between.ends_short limits start now wire s.read s.stands.0 s.exchanges s.stands.1 s.written x;
+    }
+
+    module _ (later : Reading) (same : later.limits ≡ wire.requests.limits) where
+      limits_stay : later.limits ≡ limits
+      limits_stay = same ∙ x.limits_are.1
+
+      -- no result is there
+      pub waited : (next : LineState) (is : Tally) (result : Place) → is.exchanges ≡ tally.exchanges → is.faults ≡ tally.faults
+          → ((bytes : List ℕ) (given : List Next) → StandsFor wire.requests bytes given → StandsFor later bytes given × AllGiven later bytes given)
+          → ((limits : Limits) (start : LineState) (read : List ℕ) (given : List Next) (exchanges : List Exchanged) (behind written : List ℕ)
+          → Rests limits start now (record wire { requests = later }) read given exchanges behind written → AllGiven later read given
+          → (more : List ℕ) × IsAt result limits start next (read ++ more) exchanges written)
+          → Serving answers limits client server state start next is result
+      waited next is result exchanges faults need waits =
+          let n = need s.read s.stands.0 x.stands in
+          let y = waits limits start s.read s.stands.0 s.exchanges s.stands.1 s.written
+          (between.asked limits start now wire s.read s.stands.0 s.exchanges s.stands.1 s.written x later limits_stay n.0) n.1 in
+          record {
+            read = s.read ++ y.0;
+            written = s.written;
+            exchanges = s.exchanges;
+            promised = s.promised;
+            counted = (exchanges ∙ s.counted.0, faults ∙ s.counted.1);
+            stands = y.1;
+          }
+
+      module _ (item : Next) (goes_on : ((status : ℕ) → IsRefused wire.requests status → ⊥) → GoesOn wire.requests later item) where
+        gave : StandsFor later s.read (s.stands.0 ++ item ∷ [])
+        gave = goes_on (between.no_refusal limits start now wire s.read s.stands.0 s.exchanges s.stands.1 s.written x) s.read s.stands.0 x.stands
+
+        -- it is a head or a refusal
+        pub opens : Opens item
+        opens = between.no_event limits start now wire s.read s.stands.0 s.exchanges s.stands.1 s.written x later item limits_stay gave
+
+      -- a refusal
+      pub refused : (next : LineState) (result : Place) (status : ℕ) → (((status : ℕ) → IsRefused wire.requests status → ⊥) → GoesOn wire.requests later (Bad status))
+          → ((limits : Limits) (start : LineState) (wire : Wire) (read : List ℕ) (given : List Next) (exchanges : List Exchanged) (behind written : List ℕ)
+          → Rests limits start now wire read given exchanges behind written
+          → (reader : Reading) → StandsFor reader read (given ++ Bad status ∷ []) → reader.limits ≡ limits
+          → (text : List ℕ) × IsAt result limits start next read exchanges (written ++ text))
+          → Serving answers limits client server state start next tally result
+      refused next result status goes_on refuses =
+          let y = refuses limits start wire s.read s.stands.0 s.exchanges s.stands.1 s.written x later (gave (Bad status) goes_on) limits_stay in
+          record {
+            read = s.read;
+            written = s.written ++ y.0;
+            exchanges = s.exchanges;
+            promised = s.promised;
+            counted = s.counted;
+            stands = y.1;
+          }
+
+      -- a head
+      module _ (scope : Scope) (facts : Facts) (goes_on : ((status : ℕ) → IsRefused wire.requests status → ⊥) → GoesOn wire.requests later (Head scope facts)) where
+        in_one : (arrived : List ℕ) × Within limits wire.input s.read (s.stands.0 ++ Head scope facts ∷ []) s.exchanges s.written scope facts arrived
+        in_one = loop.begins limits wire.input s.read s.stands.0 [] s.exchanges s.stands.1 s.written later.place later.held scope facts x.between
+            (subst (λ (l : Limits). StandsFor (record later { limits = l }) s.read (s.stands.0 ++ Head scope facts ∷ [])) limits_stay (gave (Head scope facts) goes_on))
+
+        pub is_http : (whole : Scope) → whole ≡ scope_with scope client server state → kind_of whole ≡ Http
+        is_http whole is = subst (λ (w : Scope). kind_of w ≡ Http) (sym is)
+            (subst (λ (w : Scope). kind_of (scope_with w client server state) ≡ Http) (sym in_one.1.one.head.scope_is) refl)
+
+        scene : Scene
+        scene = record {
+          start = start;
+          exchanges = s.exchanges;
+          before = s.written;
+          scope = scope;
+          facts = facts;
+          opened = s.stands.0 ++ Head scope facts ∷ [];
+        }
+
+        pub answered : (whole : Scope) (next : LineState) (is : Tally) (result : Place) → whole ≡ scope_with scope client server state
+            → ((scene : Scene) (client server : Option Peer) (state : List (List ℕ × StateValue)) (read arrived : List ℕ) → whole ≡ scope_with scene.scope client server state
+            → half.Opens scene now (record wire { requests = later }) facts read arrived → ArePromised answers client server state scene.exchanges → IsTallied tally scene.exchanges
+            → Serving answers wire.limits client server state scene.start next is result)
+            → Serving answers limits client server state start next is result
+        unfolding scene
+        answered whole next is result whole_is serves =
+            subst (λ (l : Limits). Serving answers l client server state start next is result) x.limits_are.0
+            (serves scene client server state s.read in_one.0 whole_is (record {
+              facts_are = refl;
+              moved = x.moved;
+              limits = limits_stay ∙ sym x.limits_are.0;
+              within = subst (λ (l : Limits). Within l wire.input s.read (s.stands.0 ++ Head scope facts ∷ []) s.exchanges s.written scope facts in_one.0) (sym x.limits_are.0) in_one.1;
+              given = gave (Head scope facts) goes_on;
+              empty = x.empty;
+            }) s.promised s.counted)
