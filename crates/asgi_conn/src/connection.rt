@@ -165,9 +165,39 @@ fn scope_of(
 ) -> Result<Scope, AllocError>
     ensures { IfOk result (λ whole. whole ≡ scope_with scope client.now server.now state.now) }
 {
+    let Known {
+        client,
+        server,
+        state,
+    } = known_of(alloc, client, server, state)?;
+    Ok(scope.with(client, server, state))
+}
+
+/// What the connection knows beside a request.
+#[derive(Drop)]
+struct Known {
+    client: Option<Peer>,
+    server: Option<Peer>,
+    state: State,
+}
+
+/// The copies are made before the scope is at hand: a refusal of memory among them drops no scope.
+fn known_of(
+    alloc: Global,
+    client: &Option<Peer>,
+    server: &Option<Peer>,
+    state: &State,
+) -> Result<Known, AllocError>
+    ensures { IfOk result (λ known. (known.client ≡ client.now) × (known.server ≡ server.now) × (known.state ≡ state.now)) }
+{
     let client = copy_of(client, alloc)?;
     let server = copy_of(server, alloc)?;
-    Ok(scope.with(client, server, state.copy(alloc)?))
+    let state = state.copy(alloc)?;
+    Ok(Known {
+        client,
+        server,
+        state,
+    })
 }
 
 fn copy_of(peer: &Option<Peer>, alloc: Global) -> Result<Option<Peer>, AllocError>
