@@ -1,5 +1,5 @@
 -- Between two requests: the next result is a head or a refusal, more is read, and the connection ends.
-use Rattle.std.proofs.Common.{◌≡◌, ℕ, true, List, [], ◌∷◌, ◌++◌, ◌⊎◌, inl, inr, map, refl, sym, ap, ◌∙◌, append-nil, append_assoc, subst, Option, flat_map, IsTrue}
+use Rattle.std.proofs.Common.{◌≡◌, ℕ, true, List, [], ◌∷◌, ◌++◌, ◌⊎◌, inl, inr, map, refl, sym, ap, ◌∙◌, append-nil, append_assoc, subst, Option, flat_map}
 use Rattle.std.specs.Prelude.{◌<◌, length, take}
 use Rattle.std.specs.Io.KnownBytes.{Appends}
 use Rattle.asgi_types.specs.declared.limits.Limits.{Limits}
@@ -8,13 +8,10 @@ use Rattle.asgi_request.specs.declared.next.Next.{Next}
 use Rattle.asgi_request.specs.declared.next.Next.TheVariants.{Head, Event, Whole, Bad}
 use Rattle.asgi_request.specs.declared.place.Place.{Place}
 use Rattle.asgi_request.specs.declared.place.Place.TheVariants.{Start, Stopped}
-use Rattle.asgi_request.specs.declared.refusal.Refusal.{Refusal}
-use Rattle.asgi_request.specs.declared.refusal.Refusal.TheVariants.{BadRequest, ContentTooLarge, HeaderFieldsTooLarge, UpgradeRequired, NotImplemented}
 use Rattle.asgi_request.specs.Head.{record_of}
 use Rattle.asgi_request.specs.Opened.{HasClosed}
 use Rattle.asgi_request.specs.Places.{Reads, shown, Reaches}
 use Rattle.asgi_request.specs.Reading.{Reading, StandsFor, AllGiven, EndsWhole, WholeGiven, IsRefused}
-use Rattle.asgi_request.specs.Refusals.{status_of}
 use Rattle.asgi_request.specs.Results.{AreRequests, GivesResults, Opens}
 use Rattle.asgi_request.specs.Scopes.{scope_of, facts_of}
 use Rattle.asgi_request.proofs.BodyGrowthLemmas.{Further}
@@ -25,7 +22,6 @@ use Rattle.asgi_request.proofs.OpenedLemmas.{closed_at, closed_is_one}
 use Rattle.asgi_request.proofs.OpeningLemmas.{first_opens}
 use Rattle.asgi_request.proofs.UniqueLemmas.{shown-append}
 use Rattle.asgi_response.specs.Exchange.{refusal_text}
-use Rattle.asgi_response.specs.Refusals.{is_refusal}
 use Rattle.asgi_conversation.specs.declared.input.InputEnd.TheVariants.{AtEnd, Failed}
 use Rattle.asgi_conversation.specs.declared.report.Outcome.{Outcome}
 use Rattle.asgi_conversation.specs.declared.report.Outcome.TheVariants.{Finished, Refused, InputBroke, WriteFailed, Idle, NoMemory}
@@ -92,16 +88,6 @@ opens_next limits bytes closed behind place held item closes r = by (runs_compar
         (append-nil closed ∙ sym x.shows ∙ ap shown f.splits ∙ shown-append r.steps f.items_behind ∙ ap (λ (l : List Next). l ++ shown f.items_behind) r.shows
         ∙ append_assoc closed (item ∷ []) (shown f.items_behind)) in
         cc)
-
-pub refusal_known : (why : Refusal) (status : ℕ) → status ≡ status_of why → IsTrue (is_refusal status)
-refusal_known why status e = subst (λ (k : ℕ). IsTrue (is_refusal k)) (sym e) (known why)
-  where
-    known : (w : Refusal) → IsTrue (is_refusal (status_of w))
-    known BadRequest = refl
-    known ContentTooLarge = refl
-    known HeaderFieldsTooLarge = refl
-    known UpgradeRequired = refl
-    known NotImplemented = refl
 
 -- ---- with what the connection keeps
 

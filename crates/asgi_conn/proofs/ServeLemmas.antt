@@ -1,4 +1,4 @@
--- A connection from its beginning to its report, and what one step of it does.
+-- A connection at its beginning, and what one step of it does.
 use Rattle.std.proofs.Common.{◌≡◌, ◌≢◌, ℕ, List, [], ◌∷◌, ◌++◌, ◌-◌, refl, sym, ◌∙◌, append-nil, subst, Option}
 use Rattle.std.specs.Prelude.{◌+◌}
 use Rattle.std.proofs.lemmas.List.Elements.{All-nil}

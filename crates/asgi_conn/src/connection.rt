@@ -181,7 +181,7 @@ struct Known {
     state: State,
 }
 
-/// The copies are made before the scope is at hand: a refusal of memory among them drops no scope.
+/// Copies of it, made apart from the scope, which only one refusal of memory then drops.
 fn known_of(
     alloc: Global,
     client: &Option<Peer>,
