@@ -8,19 +8,17 @@ use Rattle.asgi_io.specs.Counting.{RoseBy}
 use Rattle.asgi_types.specs.declared.end_kind.EndKind.{EndKind}
 use Rattle.asgi_types.specs.declared.end_kind.EndKind.TheVariants.{Returned, Faulted, Idle}
 use Rattle.asgi_types.specs.declared.facts.Facts.{Facts}
-use Rattle.asgi_types.specs.declared.facts.Framing.{Framing}
 use Rattle.asgi_types.specs.declared.incoming.Incoming.{Incoming}
 use Rattle.asgi_types.specs.declared.incoming.Incoming.TheVariants.{HttpDisconnect}
 use Rattle.asgi_types.specs.declared.limits.Limits.{Limits}
 use Rattle.asgi_types.specs.declared.outgoing.Outgoing.{Outgoing}
 use Rattle.asgi_request.specs.declared.next.Next.{Next}
 use Rattle.asgi_request.specs.declared.next.Next.TheVariants as next
-use Rattle.asgi_request.specs.BodyOf.{body_events, body_state}
+use Rattle.asgi_request.specs.BodyOf.{body_events}
 use Rattle.asgi_request.specs.ChunkedBody.{BodyState, partial, complete, faulty}
 use Rattle.asgi_request.specs.Opened.{HasOpened}
 use Rattle.asgi_request.specs.Places.{Reaches}
 use Rattle.asgi_request.specs.Reading as reading
-use Rattle.asgi_request.specs.Refusals.{status_of}
 use Rattle.asgi_request.specs.Results.{GivesResults}
 use Rattle.asgi_request.proofs.BodyOfLemmas.{body_is_read}
 use Rattle.asgi_request.proofs.DueLemmas.{whole_is_complete, bad_is_faulty, need_is_partial}
@@ -58,11 +56,11 @@ use Rattle.asgi_conversation.specs.declared.report.Outcome.{Outcome}
 use Rattle.asgi_conversation.specs.declared.report.Outcome.TheVariants as outcome
 use Rattle.asgi_conn.specs.declared.wire.Wire.{Wire}
 use Rattle.asgi_conversation.specs.Exchanges.{Exchanged}
-use Rattle.asgi_conn.specs.Half.{BreaksAt, EndsByTask, EndsWhere, HasGiven, IsAt, IsCutShort, IsRunning, IsSettled, KeepsOn, Leaves, Scene, Stands, Talks, alone, failures_at, failures_of, known, state_in}
+use Rattle.asgi_conn.specs.Half.{BreaksAt, EndsWhere, HasGiven, IsAt, IsCutShort, IsSettled, Leaves, Scene, Stands, Talks, failures_at, failures_of, known, state_in}
 use Rattle.asgi_conn.specs.HalfSteps.{KeepsBesidesBody, GivesOn, GivesBehind, NeedsBody, IsFree, IsCutOff, known_input}
 use Rattle.asgi_conn.specs.Lines.{LineState, HasMoved}
 use Rattle.asgi_conversation.specs.Persistence.{InHand, Beginning, Saying, Ending, StopsWithin}
-use Rattle.asgi_conversation.specs.SoFar.{HasBrokenIn, TaskIsOver, Within}
+use Rattle.asgi_conversation.specs.SoFar.{Within}
 use Rattle.asgi_conversation.specs.TaskEnds.{has_ended, is_faulty, is_cut, unanswered, incomplete, kept, after_response, after_task}
 use Rattle.asgi_conn.proofs.HalfLemmas.{not_written, unfailed}
 use Rattle.asgi_conn.proofs.LineLemmas.{moved_by_write}

@@ -1,9 +1,8 @@
 -- The steps of the connection's half on its input: it reads, and offers what is due.
-use Rattle.std.proofs.Common.{◌≡◌, ℕ, true, false, List, [], ◌∷◌, ◌++◌, map, refl, sym, ap, ◌∙◌, subst, inl, inr, append_assoc, Option, Some, None, Bool}
-use Rattle.std.specs.Prelude.{◌⊎◌, ⊤, is_some}
-use Rattle.std.proofs.lemmas.List.{append-nil, map-append}
+use Rattle.std.proofs.Common.{◌≡◌, ℕ, true, false, List, [], ◌∷◌, ◌++◌, map, refl, sym, ap, ◌∙◌, subst, Option, Some, None, Bool}
+use Rattle.std.specs.Prelude.{◌⊎◌}
+use Rattle.std.proofs.lemmas.List.{append-nil}
 use mathlib.Core.List.{IsPrefix}
-use Rattle.asgi_types.specs.declared.facts.Framing.{Framing}
 use Rattle.asgi_types.specs.declared.incoming.Incoming.{Incoming}
 use Rattle.asgi_types.specs.declared.incoming.Incoming.TheVariants.{HttpDisconnect}
 use Rattle.asgi_types.specs.declared.limits.Limits.{Limits}
@@ -16,20 +15,19 @@ use Rattle.asgi_pipes.specs.declared.ends.ConnEnd as conn_end
 use Rattle.asgi_exchange.specs.Calls.{IsViewOf}
 use Rattle.asgi_exchange.specs.Halves.{IsOffered}
 use Rattle.asgi_exchange.specs.Http.{http}
-use Rattle.asgi_exchange.specs.Items.{end_of}
-use Rattle.asgi_exchange.specs.Steps.{is_by_input, is_by_cut}
-use Rattle.asgi_exchange.specs.Views.{Break, ByInput, ByCut, ConnView, output, taken_of}
+use Rattle.asgi_exchange.specs.Steps.{is_by_input}
+use Rattle.asgi_exchange.specs.Views.{Break, ByInput, ConnView, output}
 use Rattle.asgi_exchange.proofs.HttpLemmas.{http_is_steady}
 use Rattle.asgi_exchange.proofs.ListLemmas.{prefix_trans}
 use Rattle.asgi_conn.specs.declared.half.Body.{Body}
 use Rattle.asgi_conn.specs.declared.half.Body.TheVariants.{Open, Waits, Whole, Refused, BrokenOff}
 use Rattle.asgi_conn.specs.declared.half.ConnHalf.{ConnHalf}
 use Rattle.asgi_conn.specs.declared.half.Stage.{Stage}
-use Rattle.asgi_conn.specs.declared.half.Stage.TheVariants.{Running, Ending, Cut, Over}
+use Rattle.asgi_conn.specs.declared.half.Stage.TheVariants.{Running, Cut}
 use Rattle.asgi_conversation.specs.declared.input.InputEnd.{InputEnd}
 use Rattle.asgi_conversation.specs.declared.report.Outcome.TheVariants.{NoMemory}
 use Rattle.asgi_conn.specs.declared.wire.Wire.{Wire}
-use Rattle.asgi_conn.specs.Half.{Scene, Stands, Talks, IsRunning, IsCutShort, IsAt, HasGiven, EndsWhere, BreaksAt, known, state_in}
+use Rattle.asgi_conn.specs.Half.{Scene, Stands, IsRunning, HasGiven, EndsWhere, BreaksAt}
 use Rattle.asgi_conn.specs.HalfSteps.{KeepsBesidesBody, GivesBehind, ReadsAt, EndsAtInput}
 use Rattle.asgi_conn.specs.Lines.{LineState, HasMoved}
 use Rattle.asgi_conversation.specs.SoFar.{Within}

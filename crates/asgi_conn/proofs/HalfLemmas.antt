@@ -1,19 +1,16 @@
 -- The steps of the connection's half: wherever it stood, it stands again.
-use Rattle.std.proofs.Common.{◌≡◌, ◌≢◌, ℕ, true, false, ◌<◌, List, [], ◌∷◌, ◌++◌, length, take, drop, map, refl, sym, ap, ◌∙◌, subst, inl, inr, append_assoc, Option, Some, None, Bool, arith}
-use Rattle.std.specs.Prelude.{◌⊎◌, ⊤}
+use Rattle.std.proofs.Common.{◌≡◌, ℕ, false, ◌<◌, List, [], ◌∷◌, ◌++◌, length, take, drop, refl, sym, ap, ◌∙◌, subst, append_assoc, Option, None}
 use Rattle.std.specs.Io.KnownBytes.{Appends}
 use Rattle.std.proofs.lemmas.List.{append-nil, take-append-drop}
 use mathlib.Core.List.{IsPrefix}
 use Rattle.asgi_io.specs.Counting.{RoseBy}
 use Rattle.asgi_types.specs.declared.end_kind.EndKind.{EndKind}
 use Rattle.asgi_types.specs.declared.facts.Facts.{Facts}
-use Rattle.asgi_types.specs.declared.incoming.Incoming.{Incoming}
 use Rattle.asgi_types.specs.declared.limits.Limits.{Limits}
 use Rattle.asgi_types.specs.declared.outgoing.Outgoing.{Outgoing}
 use Rattle.asgi_request.specs.declared.next.Next.{Next}
-use Rattle.asgi_request.specs.BodyOf.{body_events, body_state}
+use Rattle.asgi_request.specs.BodyOf.{body_events}
 use Rattle.asgi_request.specs.Reading as reading
-use Rattle.asgi_response.specs.declared.refusal.Input.{Input}
 use Rattle.asgi_response.specs.declared.text.ResponseText.{ResponseText}
 use Rattle.asgi_response.specs.Response.{response_text}
 use Rattle.asgi_response.specs.Standing as standing
@@ -21,23 +18,21 @@ use Rattle.asgi_pipes.specs.declared.ends.ConnEnd as conn_end
 use Rattle.asgi_pipes.specs.declared.items.OutItem.{OutItem}
 use Rattle.asgi_pipes.specs.declared.items.OutItem.TheVariants.{Event, Ended}
 use Rattle.asgi_exchange.specs.Calls.{IsViewOf}
-use Rattle.asgi_exchange.specs.Halves.{ConnKeeps, IsOffered}
 use Rattle.asgi_exchange.specs.Http.{http, input_of}
 use Rattle.asgi_exchange.specs.Items.{end_of}
 use Rattle.asgi_exchange.specs.Views.{ConnView, empty_conn, output, added_by, taken_of}
 use Rattle.asgi_exchange.proofs.EventLemmas.{events_append, end_event, end_ended}
-use Rattle.asgi_conn.specs.declared.half.Body.{Body}
-use Rattle.asgi_conn.specs.declared.half.Body.TheVariants.{Open, Waits, Whole, BrokenOff}
+use Rattle.asgi_conn.specs.declared.half.Body.TheVariants.{Open}
 use Rattle.asgi_conn.specs.declared.half.ConnHalf.{ConnHalf}
 use Rattle.asgi_conn.specs.declared.half.Stage.{Stage}
-use Rattle.asgi_conn.specs.declared.half.Stage.TheVariants.{Running, Ending, Cut, Over}
+use Rattle.asgi_conn.specs.declared.half.Stage.TheVariants.{Running, Ending, Cut}
 use Rattle.asgi_conversation.specs.declared.report.Outcome.{Outcome}
-use Rattle.asgi_conversation.specs.declared.report.Outcome.TheVariants.{Finished, Refused, InputBroke, WriteFailed, Idle, NoMemory}
+use Rattle.asgi_conversation.specs.declared.report.Outcome.TheVariants.{WriteFailed, NoMemory}
 use Rattle.asgi_conn.specs.declared.wire.Wire.{Wire}
-use Rattle.asgi_conn.specs.Half.{Scene, Stands, Talks, IsRunning, IsCutShort, IsAt, failures_at, known, state_in}
+use Rattle.asgi_conn.specs.Half.{Scene, Stands, IsRunning, IsAt, failures_at, known, state_in}
 use Rattle.asgi_conn.specs.HalfSteps.{Opens, Pending}
 use Rattle.asgi_conn.specs.Lines.{LineState, HasMoved}
-use Rattle.asgi_conversation.specs.Persistence.{InHand, Beginning, Saying, StopsWithin}
+use Rattle.asgi_conversation.specs.Persistence.{Beginning, Saying, StopsWithin}
 use Rattle.asgi_conn.proofs.LineLemmas.{moved_by_write}
 use Rattle.asgi_conversation.proofs.SoFarLemmas.{text_front}
 

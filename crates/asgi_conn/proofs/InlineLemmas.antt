@@ -1,27 +1,20 @@
 -- Turn after turn, the connection's half leads on, and the application's side goes on.
-use Rattle.std.proofs.Common.{◌≡◌, ℕ, ◌+◌, ◌⊎◌, inl, inr, arith, List, [], ◌∷◌, ◌++◌, Option, Some, None, IsSomeAnd, refl, sym, ap, ◌∙◌, subst, append_assoc}
+use Rattle.std.proofs.Common.{◌≡◌, ℕ, ◌+◌, ◌⊎◌, inl, inr, arith, List, [], ◌++◌, Option, Some, None, IsSomeAnd, refl, sym, ap, ◌∙◌, subst, append_assoc}
 use Rattle.std.specs.Prelude.{◌<◌}
 use Rattle.std.proofs.lemmas.List.{append-nil}
-use Rattle.asgi_io.specs.declared.turns.Turn.{Turn}
-use Rattle.asgi_io.specs.Turns.{CountsTurns}
 use Rattle.asgi_types.specs.declared.end_kind.EndKind.{EndKind}
 use Rattle.asgi_types.specs.declared.facts.Facts.{Facts}
 use Rattle.asgi_types.specs.declared.incoming.Incoming.{Incoming}
-use Rattle.asgi_types.specs.declared.limits.Limits.{Limits}
 use Rattle.asgi_types.specs.declared.outgoing.Outgoing.{Outgoing}
 use Rattle.asgi_types.specs.declared.scope.Kind.{Kind}
 use Rattle.asgi_types.specs.declared.scope.Kind.TheVariants.{Http}
 use Rattle.asgi_pipes.specs.declared.ends.AppEnd.{Ghosts}
 use Rattle.asgi_pipes.specs.Items.{items_of}
 use Rattle.asgi_apps.specs.declared.running.Lent.{Lent}
-use Rattle.asgi_apps.specs.declared.running.Running.{Running}
 use Rattle.asgi_apps.specs.Ends.{MayGoOn, IsWithin, own_end}
 use Rattle.asgi_exchange.specs.Calls.{view_of}
-use Rattle.asgi_exchange.specs.Halves.{ConnKeeps}
-use Rattle.asgi_exchange.specs.Http.{http}
-use Rattle.asgi_exchange.specs.HttpExchange.{IsHttpExchange}
 use Rattle.asgi_exchange.specs.Items.{events_of, end_of}
-use Rattle.asgi_exchange.specs.Views.{ConnView, AppView, World, said_of}
+use Rattle.asgi_exchange.specs.Views.{ConnView}
 use Rattle.asgi_exchange.proofs.EventLemmas.{events_are}
 use Rattle.asgi_exchange.proofs.CallLemmas.{end_is}
 use Rattle.asgi_io.specs.declared.turns.Turns.{Turns}
@@ -33,10 +26,9 @@ use Rattle.asgi_conn.specs.declared.half.ConnHalf.{ConnHalf}
 use Rattle.asgi_conn.specs.declared.half.Stage.TheVariants.{Over}
 use Rattle.asgi_conn.specs.declared.runner.AppSide.{AppSide}
 use Rattle.asgi_conn.specs.declared.runner.AppSide.TheVariants.{Runs, HasEnded}
-use Rattle.asgi_conn.specs.Half.{Scene, Stands, Leads}
-use Rattle.asgi_conn.specs.HalfSteps.{LeadsIn}
+use Rattle.asgi_conn.specs.Half.{Stands, Leads}
 use Rattle.asgi_conn.specs.Lines.{LineState}
-use Rattle.asgi_conn.specs.Running.{OfEnd, MayRun, Answers, HasRun, IsOfRequest, SameLists, GoesOnAs, TagStays}
+use Rattle.asgi_conn.specs.Running.{OfEnd, MayRun, Answers, IsOfRequest, SameLists, GoesOnAs}
 
 -- ---- the connection's half
 

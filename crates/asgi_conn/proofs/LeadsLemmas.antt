@@ -1,11 +1,11 @@
 -- Steps of the connection's half, one behind the other.
-use Rattle.std.proofs.Common.{◌≡◌, ℕ, List, [], ◌++◌, sym, subst, append_assoc}
+use Rattle.std.proofs.Common.{ℕ, List, [], ◌++◌, sym, subst, append_assoc}
 use Rattle.std.proofs.lemmas.List.{append-nil}
 use Rattle.asgi_pipes.specs.declared.ends.ConnEnd as conn_end
 use Rattle.asgi_exchange.specs.Calls.{IsViewOf}
 use Rattle.asgi_exchange.specs.Views.{ConnView}
 use Rattle.asgi_conn.specs.declared.half.ConnHalf.{ConnHalf}
-use Rattle.asgi_conn.specs.Half.{Scene, Stands, Leads}
+use Rattle.asgi_conn.specs.Half.{Stands, Leads}
 use Rattle.asgi_conn.specs.HalfSteps.{LeadsIn, LeadsOut}
 use Rattle.asgi_conn.specs.Lines.{LineState}
 

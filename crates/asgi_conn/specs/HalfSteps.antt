@@ -25,13 +25,11 @@ use Rattle.asgi_conn.specs.declared.half.Body.{Body}
 use Rattle.asgi_conn.specs.declared.half.Body.TheVariants.{Open, Waits, Whole, Refused, BrokenOff}
 use Rattle.asgi_conn.specs.declared.half.ConnHalf.{ConnHalf}
 use Rattle.asgi_conn.specs.declared.half.Stage.TheVariants.{Running}
-use Rattle.asgi_conversation.specs.declared.input.InputEnd.{InputEnd}
 use Rattle.asgi_conn.specs.declared.wire.Wire.{Wire}
 use Rattle.asgi_conn.specs.Half.{Scene, Stands, HasGiven, EndsWhere, BreaksAt, alone, known}
 use Rattle.asgi_conn.specs.Lines.{LineState, HasMoved}
 use Rattle.asgi_conversation.specs.Persistence.{InHand}
 use Rattle.asgi_conversation.specs.SoFar.{Within, HasBrokenIn}
-use Rattle.asgi_conversation.specs.TaskEnds.{has_ended}
 
 -- An exchange may begin: its head is the last result that the reader gave.
 pub record Opens (scene : Scene) (now : LineState) (wire : Wire) (facts : Facts) (read arrived : List ℕ) : Type 0 where

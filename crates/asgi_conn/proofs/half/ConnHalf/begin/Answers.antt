@@ -1,4 +1,4 @@
-use Rattle.std.proofs.Common.{[], refl}
+use Rattle.std.proofs.Common.{[]}
 use Rattle.asgi_conn.specs.Lines.{state_of}
 use Rattle.asgi_conn.proofs.HalfLemmas.{begun_pending, begun_short}
 use Rattle.asgi_conn.proofs.half.ConnHalf.begin.Goals as goal

@@ -1,8 +1,7 @@
-use Rattle.std.proofs.Common.{[], ◌∙◌, ap, sym, refl, ◌++◌, List, ℕ, subst}
+use Rattle.std.proofs.Common.{[], ◌∙◌, ap, sym, refl, ◌++◌}
 use Rattle.asgi_response.specs.Exchange.{end_text}
 use Rattle.asgi_response.specs.declared.refusal.Input.{Input}
 use Rattle.asgi_exchange.specs.Views.{taken_of}
-use Rattle.asgi_conn.specs.Half.{Stands}
 use Rattle.asgi_conn.specs.Lines.{state_of}
 use Rattle.asgi_conn.proofs.HalfEndLemmas.{stays_there, taken_text, ends_idle, ends_short, ends_written, ends_cut}
 use Rattle.asgi_conn.proofs.half.ConnHalf.close.Goals as goal

@@ -1,6 +1,6 @@
 use Rattle.std.proofs.Common.{ap}
 use Rattle.asgi_request.specs.Reading.{Reading}
-use Rattle.asgi_conn.proofs.HalfEndLemmas.{Dropped, dropped_then, pulled}
+use Rattle.asgi_conn.proofs.HalfEndLemmas.{dropped_then, pulled}
 use Rattle.asgi_conn.proofs.half.ConnHalf.drop_rest.Goals as goal
 
 pub loop-event-init : goal.loop-event-init

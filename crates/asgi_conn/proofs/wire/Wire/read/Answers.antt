@@ -1,4 +1,4 @@
-use Rattle.std.proofs.Common.{List, ℕ, ◌++◌, take, arith, subst, sym}
+use Rattle.std.proofs.Common.{◌++◌, take, arith, subst, sym}
 use Rattle.asgi_io.specs.Answers.{bytes_of}
 use Rattle.asgi_conversation.specs.declared.input.InputEnd.{InputEnd}
 use Rattle.asgi_conn.specs.Lines.{HasMoved, state_of}
