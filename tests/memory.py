@@ -30,6 +30,13 @@ HELLO = (
     b"HTTP/1.1 200 OK\r\ncontent-type: text/plain\r\ntransfer-encoding: chunked\r\n\r\n"
     b"6\r\nhello\n\r\n0\r\n\r\n"
 )
+ECHO_HEAD = b"HTTP/1.1 200 OK\r\ncontent-type: application/octet-stream\r\ntransfer-encoding: chunked\r\n\r\n"
+POST = (
+    b"POST / HTTP/1.1\r\nHost: a\r\nExpect: 100-continue\r\nTransfer-Encoding: chunked\r\n\r\n"
+    b"2\r\nab\r\n0\r\n\r\n"
+)
+ECHOED = b"HTTP/1.1 100 Continue\r\n\r\n" + ECHO_HEAD + b"2\r\nab\r\n0\r\n\r\n" + ECHO_HEAD + b"0\r\n\r\n"
+NOT_FOUND = b"HTTP/1.1 404 Not Found\r\ncontent-length: 0\r\n\r\n"
 REFUSED = b"HTTP/1.1 400 Bad Request\r\ncontent-length: 0\r\nconnection: close\r\n\r\n"
 USAGE = b"usage: asgi_demo once APP | asgi_demo serve PORT COUNT APP\n"
 FIELDS = b"".join(b"x-%d: %s\r\n" % (number, b"v" * 100) for number in range(40))
@@ -39,11 +46,15 @@ RUNS = [
     (["once", "hello"], GET.replace(b"\r\n\r\n", b"\r\n" + FIELDS + b"\r\n"), (0, HELLO, b"")),
     (["once", "hello"], b"GET / HTTP/1.1\r\n\r\n", (0, REFUSED, b"")),
     (["once", "hello"], b"", (0, b"", b"")),
+    (["once", "echo"], POST + GET, (0, ECHOED, b"")),
+    (["once", "notfound"], GET + GET, (0, NOT_FOUND + NOT_FOUND, b"")),
     (["once", "nothing"], b"", (2, b"", USAGE)),
     (["serve", "8000", "1", "hello"], GET, (2, b"", USAGE)),
 ]
 # What is said of want of memory: on the connection, and before there is one.
 LACKING = [b"stopped: no-memory\n", b"device fault\n"]
+# What a request gets whose application lacks memory, so that its call faults.
+FAULTED = b"HTTP/1.1 500 Internal Server Error\r\ncontent-length: 0\r\nconnection: close\r\n\r\n"
 
 
 def preloaded(room):
@@ -109,13 +120,18 @@ def wrong_test(_refused, status, output, errors):
 
 
 def wrong_answer(wanted):
-    """The program gives its whole answer, or lacks memory, which it says behind a beginning of the output."""
+    """The program gives its whole answer, or a beginning of it behind which it says that memory is lacking.
+
+    Where the application lacks it, the connection says so to the client."""
 
     def wrong(refused, status, output, errors):
         if (status, output, errors) == wanted:
             return None
         if refused and status == 5 and errors in LACKING and wanted[1].startswith(output):
             return None
+        if refused and (status, errors) == (0, b"") and output.endswith(FAULTED):
+            if wanted[1].startswith(output[: -len(FAULTED)]):
+                return None
         return f"status {status}, output {output!r}, errors {errors!r}"
 
     return wrong

@@ -7,6 +7,7 @@ Every expected text is written out here, from the documentation of the program.
 import array
 import fcntl
 import os
+import select
 import subprocess
 import sys
 import tempfile
@@ -21,6 +22,11 @@ HELLO = (
     b"HTTP/1.1 200 OK\r\ncontent-type: text/plain\r\ntransfer-encoding: chunked\r\n\r\n"
     b"6\r\nhello\n\r\n0\r\n\r\n"
 )
+HELLO_HEAD = HELLO.partition(b"6\r\n")[0]
+ECHO_HEAD = b"HTTP/1.1 200 OK\r\ncontent-type: application/octet-stream\r\ntransfer-encoding: chunked\r\n\r\n"
+LAST_CHUNK = b"0\r\n\r\n"
+CONTINUE = b"HTTP/1.1 100 Continue\r\n\r\n"
+NOT_FOUND = b"HTTP/1.1 404 Not Found\r\ncontent-length: 0\r\n\r\n"
 USAGE = b"usage: asgi_demo once APP | asgi_demo serve PORT COUNT APP\n"
 
 
@@ -37,6 +43,51 @@ def run(words, given=b"", **options):
     return done.returncode, done.stdout, done.stderr
 
 
+def post(fields, body=b""):
+    """A request with these fields and this body."""
+    return b"POST / HTTP/1.1\r\nHost: a\r\n" + fields + b"\r\n" + body
+
+
+def echoed(body):
+    """What `echo` answers to a body that comes in one piece."""
+    return ECHO_HEAD + (b"%x\r\n%s\r\n" % (len(body), body) if body else b"") + LAST_CHUNK
+
+
+class Talk:
+    """The program, with a client that writes and reads by turns."""
+
+    def __init__(self, app):
+        kinds = {"stdin": subprocess.PIPE, "stdout": subprocess.PIPE, "stderr": subprocess.PIPE}
+        self.program = subprocess.Popen([PROGRAM, "once", app], **kinds)
+
+    def __enter__(self):
+        return self
+
+    def __exit__(self, *_):
+        self.program.kill()
+        self.program.communicate()
+
+    def write(self, given):
+        os.write(self.program.stdin.fileno(), given)
+
+    def read(self, length):
+        """Reads so many bytes, and no more of what is there."""
+        pipe, found = self.program.stdout.fileno(), b""
+        while len(found) < length:
+            if not select.select([pipe], [], [], 30)[0]:
+                raise TimeoutError(f"only {found!r} was answered")
+            more = os.read(pipe, length - len(found))
+            if not more:
+                return found
+            found += more
+        return found
+
+    def end(self):
+        """Ends the input, and gives the status, the rest of the output and the errors."""
+        output, errors = self.program.communicate(timeout=60)
+        return self.program.returncode, output, errors
+
+
 def wait_until_read(pipe):
     """Waits until the program has read all that was written to its input."""
     waiting = array.array("i", [1])
@@ -48,26 +99,33 @@ def wait_until_read(pipe):
 
 
 class Once(unittest.TestCase):
-    """`once hello`."""
+    """`once`, with each application."""
 
     def test_answers_each_form_of_a_request(self):
         close = HELLO.replace(b"chunked\r\n\r\n6", b"chunked\r\nconnection: close\r\n\r\n6")
         rows = [
             (GET, HELLO),
             (b"\r\n" + GET, HELLO),
-            (GET + GET, HELLO),
+            (GET + GET, HELLO + HELLO),
+            (GET + b"\r\n" + GET + b"\r\n", HELLO + HELLO),
+            (GET + b"GE", HELLO),
+            (GET + b"GET / HTTP/1.1\r\n\r\n" + GET, HELLO + refusal(b"400 Bad Request")),
             (b"GET / HTTP/1.1\nHost: a\n\n", HELLO),
             (b"OPTIONS * HTTP/1.1\r\nHost: a\r\n\r\n", HELLO),
             (b"GET / HTTP/1.1\r\nHost: a\r\nConnection: close\r\n\r\n", close),
+            (b"GET / HTTP/1.1\r\nHost: a\r\nConnection: close\r\n\r\n" + GET, close),
             (b"GET / HTTP/1.1\r\n\r\n", refusal(b"400 Bad Request")),
             (b"GET / HTTP/1.1\r\nHost: a\r\nHost: a\r\n\r\n", refusal(b"400 Bad Request")),
             (b"GET * HTTP/1.1\r\nHost: a\r\n\r\n", refusal(b"400 Bad Request")),
             (b"CONNECT a:1 HTTP/1.1\r\nHost: a\r\n\r\n", refusal(b"501 Not Implemented")),
             (b"GET / HTTP/1.0\r\n\r\n", b"HTTP/1.1 200 OK\r\ncontent-type: text/plain\r\nconnection: close\r\n\r\nhello\n"),
-            (b"HEAD / HTTP/1.1\r\nHost: a\r\n\r\n", HELLO.partition(b"6\r\n")[0]),
+            (b"HEAD / HTTP/1.1\r\nHost: a\r\n\r\n" + GET, HELLO_HEAD + HELLO),
             (b"GET / HTTP/1.1\r\nHost: a\r\nContent-Length: 0\r\n\r\n", HELLO),
-            (b"POST / HTTP/1.1\r\nHost: a\r\nContent-Length: 3\r\n\r\nabc", refusal(b"501 Not Implemented")),
-            (b"POST / HTTP/1.1\r\nHost: a\r\nContent-Length: 2000000\r\n\r\n", refusal(b"413 Content Too Large")),
+            (post(b"Content-Length: 5\r\n", b"abcde") + GET, HELLO + HELLO),
+            (post(b"Content-Length: 5\r\n", b"abcd"), HELLO),
+            (post(b"Expect: 100-continue\r\nContent-Length: 3\r\n", b"abc") + GET, CONTINUE + HELLO + HELLO),
+            (post(b"Transfer-Encoding: chunked\r\n", b"3\r\nabc\r\n" + LAST_CHUNK) + GET, HELLO + HELLO),
+            (post(b"Content-Length: 2000000\r\n"), refusal(b"413 Content Too Large")),
             (b"A" * 16384, refusal(b"431 Request Header Fields Too Large")),
             (b"", b""),
             (b"\r\n", b""),
@@ -77,22 +135,106 @@ class Once(unittest.TestCase):
             with self.subTest(given=given[:60]):
                 self.assertEqual(run(["once", "hello"], given), (0, wanted, b""))
 
+    def test_answers_by_the_application_that_is_named(self):
+        chunks = b"4\r\nabcd\r\n5\r\nefghi\r\n"
+        large = b"x" * 16_384
+        rows = [
+            ("notfound", GET + GET, NOT_FOUND + NOT_FOUND),
+            ("notfound", post(b"Content-Length: 3\r\n", b"abc") + GET, NOT_FOUND + NOT_FOUND),
+            ("echo", GET, echoed(b"")),
+            ("echo", post(b"Content-Length: 0\r\n"), echoed(b"")),
+            ("echo", post(b"Content-Length: 3\r\n", b"abc") + GET, echoed(b"abc") + echoed(b"")),
+            ("echo", post(b"Content-Length: 10\r\n", b"abcd"), b""),
+            (
+                "echo",
+                post(b"Transfer-Encoding: chunked\r\n", chunks + b"0\r\nx: y\r\n\r\n") + GET,
+                ECHO_HEAD + chunks + LAST_CHUNK + echoed(b""),
+            ),
+            ("echo", post(b"Transfer-Encoding: chunked\r\n", b"x\r\n") + GET, refusal(b"400 Bad Request")),
+            (
+                "echo",
+                post(b"Expect: 100-continue\r\nContent-Length: 3\r\n", b"abc") + GET,
+                CONTINUE + echoed(b"abc") + echoed(b""),
+            ),
+            (
+                "echo",
+                b"POST / HTTP/1.0\r\nExpect: 100-continue\r\nContent-Length: 3\r\n\r\nabc",
+                b"HTTP/1.1 200 OK\r\ncontent-type: application/octet-stream\r\nconnection: close\r\n\r\nabc",
+            ),
+            (
+                "echo",
+                post(b"Content-Length: 32768\r\n", large + large) + GET,
+                ECHO_HEAD + 2 * (b"4000\r\n" + large + b"\r\n") + LAST_CHUNK + echoed(b""),
+            ),
+        ]
+        for app, given, wanted in rows:
+            with self.subTest(app=app, given=given[:80]):
+                self.assertEqual(run(["once", app], given), (0, wanted, b""))
+
     def test_answers_a_request_that_comes_byte_by_byte(self):
-        with subprocess.Popen(
-            [PROGRAM, "once", "hello"],
-            stdin=subprocess.PIPE,
-            stdout=subprocess.PIPE,
-            stderr=subprocess.PIPE,
-        ) as program:
+        with Talk("hello") as talk:
             for place in range(len(GET)):
-                os.write(program.stdin.fileno(), GET[place : place + 1])
+                talk.write(GET[place : place + 1])
                 if place + 1 < len(GET):
-                    wait_until_read(program.stdin.fileno())
-                    self.assertIsNone(program.poll())
+                    wait_until_read(talk.program.stdin.fileno())
+                    self.assertIsNone(talk.program.poll())
             # The input stays open: an answer waits for no more of it.
-            self.assertEqual(program.stdout.read(), HELLO)
-            self.assertEqual(program.stderr.read(), b"")
-            self.assertEqual(program.wait(timeout=60), 0)
+            self.assertEqual(talk.read(len(HELLO)), HELLO)
+            self.assertEqual(talk.end(), (0, b"", b""))
+
+    def test_keeps_a_connection_alive(self):
+        with Talk("hello") as talk:
+            for _ in range(5):
+                talk.write(GET)
+                self.assertEqual(talk.read(len(HELLO)), HELLO)
+            self.assertEqual(talk.end(), (0, b"", b""))
+
+    def test_ends_behind_an_answer_that_closes(self):
+        with Talk("hello") as talk:
+            talk.write(GET.replace(b"\r\n\r\n", b"\r\nConnection: close\r\n\r\n"))
+            close = HELLO.replace(b"chunked\r\n\r\n6", b"chunked\r\nconnection: close\r\n\r\n6")
+            self.assertEqual(talk.read(len(close) + 1), close)
+            # It has ended though its input is open.
+            self.assertEqual(talk.program.wait(timeout=60), 0)
+
+    def test_tells_a_client_that_waits_to_go_on(self):
+        with Talk("echo") as talk:
+            talk.write(post(b"Expect: 100-continue\r\nContent-Length: 3\r\n"))
+            self.assertEqual(talk.read(len(CONTINUE)), CONTINUE)
+            talk.write(b"abc")
+            self.assertEqual(talk.read(len(echoed(b"abc"))), echoed(b"abc"))
+            self.assertEqual(talk.end(), (0, b"", b""))
+
+    def test_answers_a_piece_before_the_next_one_comes(self):
+        with Talk("echo") as talk:
+            talk.write(post(b"Transfer-Encoding: chunked\r\n", b"1\r\na\r\n"))
+            wanted = ECHO_HEAD + b"1\r\na\r\n"
+            self.assertEqual(talk.read(len(wanted)), wanted)
+            for letter in (b"b", b"c", b"d"):
+                chunk = b"1\r\n" + letter + b"\r\n"
+                talk.write(chunk)
+                self.assertEqual(talk.read(len(chunk)), chunk)
+            talk.write(LAST_CHUNK)
+            self.assertEqual(talk.read(len(LAST_CHUNK)), LAST_CHUNK)
+            self.assertEqual(talk.end(), (0, b"", b""))
+
+    def test_an_answer_comes_before_the_body_that_it_does_not_need(self):
+        with Talk("hello") as talk:
+            talk.write(post(b"Content-Length: 4\r\n", b"ab"))
+            self.assertEqual(talk.read(len(HELLO)), HELLO)
+            talk.write(b"cd" + GET)
+            self.assertEqual(talk.read(len(HELLO)), HELLO)
+            self.assertEqual(talk.end(), (0, b"", b""))
+
+    def test_a_client_that_reads_no_more_stops_it(self):
+        with Talk("hello") as talk:
+            talk.write(GET)
+            self.assertEqual(talk.read(len(HELLO)), HELLO)
+            talk.program.stdout.close()
+            talk.write(GET)
+            # The input is open still.
+            self.assertEqual(talk.program.wait(timeout=60), 5)
+            self.assertEqual(talk.program.stderr.read(), b"stopped: write-failed 0\n")
 
     def test_says_that_a_write_failed(self):
         wanted = (5, b"stopped: write-failed 0\n")
@@ -122,7 +264,8 @@ class Usage(unittest.TestCase):
             ["once"],
             ["hello"],
             ["once", "nothing"],
-            ["once", "echo"],
+            ["once", "Echo"],
+            ["once", "wsecho"],
             ["ONCE", "hello"],
             ["once", "hello", "hello"],
             ["once", "hello", ""],

@@ -1,17 +1,41 @@
 -- What the program does with its words.
-use Rattle.std.specs.Prelude.{◌≡◌, ℕ, List, [], ◌∷◌, codes, Option}
-use Rattle.asgi_io.specs.declared.answer.Answer.{Answer}
+use Rattle.std.specs.Prelude.{◌≡◌, ℕ, List, [], ◌∷◌, codes, Option, None}
+use Rattle.asgi_types.specs.declared.end_kind.EndKind.{EndKind}
+use Rattle.asgi_types.specs.declared.incoming.Incoming.{Incoming}
+use Rattle.asgi_types.specs.declared.limits.Limits.{Limits}
+use Rattle.asgi_types.specs.declared.outgoing.Outgoing.{Outgoing}
+use Rattle.asgi_types.specs.declared.scope.Scope.{Scope}
+use Rattle.asgi_types.specs.Ranges.{AreLimits}
+use Rattle.asgi_apps.specs.Answers.{Answers, not_found_answer}
 use Rattle.asgi_conversation.specs.declared.report.Outcome.{Outcome}
 use Rattle.asgi_conversation.specs.declared.report.Outcome.TheVariants.{Finished, Refused, InputBroke, WriteFailed, Idle, NoMemory}
 use Rattle.asgi_conversation.specs.declared.report.Report.{Report}
-use Rattle.asgi_conn.specs.Serving.{Outside, Serves}
-use Rattle.asgi_demo.specs.Telling.{Writer, TellsOf, of_outcome}
-use Rattle.asgi_types.specs.declared.limits.Limits.{Limits}
-use Rattle.asgi_types.specs.Ranges.{AreLimits}
+use Rattle.asgi_conversation.specs.Promised.{echo_promise, hello_promise}
+use Rattle.asgi_conn.specs.Lines.{LineState}
+use Rattle.asgi_conn.specs.Serving.{Serves}
+use Rattle.asgi_demo.specs.declared.command.App.{App}
+use Rattle.asgi_demo.specs.declared.command.App.TheVariants as app
+use Rattle.asgi_demo.specs.Telling.{Writer, Tells, TellsOf, device_fault, of_outcome}
 
--- the words are `once hello`
-abbrev pub IsOnceHello : List (List ℕ) → Type 0
-IsOnceHello words = words ≡ codes "once" ∷ codes "hello" ∷ []
+-- the word that names an application
+abbrev pub word_of : App → List ℕ
+word_of app.Hello = codes "hello"
+word_of app.Echo = codes "echo"
+word_of app.NotFound = codes "notfound"
+
+-- the words are `once` and that of this application
+abbrev pub IsOnce : List (List ℕ) → App → Type 0
+IsOnce words named = words ≡ codes "once" ∷ word_of named ∷ []
+
+-- what an application promises in a scope
+abbrev pub Promise : Type 1
+Promise = Scope → List Incoming → List Outgoing → Option EndKind → Type 0
+
+-- the promise of the application that is named
+abbrev pub promise : App → Promise
+promise app.Hello = hello_promise
+promise app.Echo = echo_promise
+promise app.NotFound = λ scope. Answers (not_found_answer scope)
 
 -- the exit status of `once`
 abbrev pub exit_status : Outcome → ℕ
@@ -22,25 +46,31 @@ exit_status (WriteFailed n) = 5
 exit_status Idle = 5
 exit_status NoMemory = 5
 
--- what is known of the input, the output and standard error at one time, as in `Outside`
+-- what is known of the line and of standard error at one time
 pub record Streams : Type 0 where
-  pub left : Option (List ℕ)
-  pub reads : List Answer
-  pub output : Writer
+  pub line : LineState
   pub errors : Writer
 
--- with a pause and an application of the program's own
-abbrev pub outside_of : Streams → ℕ → ℕ → Outside
-outside_of s pauses asked =
-    record { left = s.left; written = s.output.written; reads = s.reads; writes = s.output.writes; failed = s.output.failed; pauses = pauses; asked = asked }
+abbrev pub streams : LineState → Writer → Streams
+streams line errors = record { line = line; errors = errors }
 
--- One connection was served with the usual limits, as `serve_connection` promises; its outcome was told, and the status is that of it.
-pub record ServesOnce (old new : Streams) (status : ℕ) : Type 0 where
+-- One connection was served with the usual limits, with no client, no server and an empty state, as `serve_connection` promises:
+-- by an application of this promise, and with a pause of the program's own.
+pub record ServesWhole (answers : Promise) (old new : LineState) (report : Report) : Type 0 where
   pub limits : Limits
   pub usual : AreLimits limits 16384 64 1048576 16384 16 30000 1099511627776
-  pub report : Report
   pub pauses : ℕ
-  pub asked : ℕ
-  pub serves : Serves limits (outside_of old 0 0) (outside_of new pauses asked) report
+  pub serves : Serves answers limits None None [] old new 0 pauses report
+
+-- One connection was served; its outcome was told, and the status is that of it.
+pub record ServesOnce (answers : Promise) (old new : Streams) (status : ℕ) : Type 0 where
+  pub report : Report
+  pub serves : ServesWhole answers old.line new.line report
   pub tells : TellsOf (of_outcome report.outcome) old.errors new.errors
   pub status_is : status ≡ exit_status report.outcome
+
+-- Nothing can run a task, so that no connection was begun; this was told, and the status is that of it.
+pub record BeginsNone (old new : Streams) (status : ℕ) : Type 0 where
+  pub line_is : new.line ≡ old.line
+  pub tells : Tells device_fault old.errors new.errors
+  pub status_is : status ≡ 5

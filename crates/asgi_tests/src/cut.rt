@@ -1,11 +1,14 @@
 //! The same answer however the input is cut.
-use crate::fakes::{Pieces, serve};
-use crate::texts::{BAD_REQUEST, GET, HELLO, HELLO_AND_CLOSE, NOT_IMPLEMENTED};
+use crate::fakes::{Pieces, line_of, serve};
+use crate::texts::{BAD_REQUEST, GET, HELLO, HELLO_AND_CLOSE};
+use asgi_apps::Hello;
 use asgi_conn::Outcome;
-use asgi_io::{CountedReader, Reads};
+use asgi_io::Reads;
 use asgi_types::Limits;
+use std::alloc::AllocGlobal;
 use std::io::ErrorKind;
 use std::process::Abort;
+use std::random::RandomSource;
 use std::test::Fail;
 
 const CLOSE: &[u8] = b"\r\nGET / HTTP/1.1\r\nHost: a\r\nConnection: close\r\n\r\n";
@@ -17,17 +20,17 @@ const NO_HOST: &[u8] = b"GET / HTTP/1.1\r\n\r\n";
 const LENGTH: &[u8] = b"POST / HTTP/1.1\r\nHost: a\r\nContent-Length: 3\r\n\r\nabc";
 
 /// Serves the input cut so, and compares with the answer to the whole.
-fn check<H: Abort + AllocGlobal>(
+fn check<H: Abort + RandomSource + AllocGlobal>(
     rt: &H,
     reader: Pieces,
     wanted: &[u8],
     outcome: Outcome,
     place: usize,
 ) -> Result<(), Fail> {
-    let mut reader = CountedReader::new(reader);
-    let (report, written, _) = serve(rt, &Limits::usual(), &mut reader)?;
+    let mut line = line_of(rt, reader)?;
+    let (report, _) = serve(rt, &Limits::usual(), &Hello, &mut line)?;
     assert_eq!(rt;
-        (written.as_slice(), report.outcome),
+        (line.writer.writer.as_slice(), report.outcome),
         (wanted, outcome),
         "cut at {place}"
     );
@@ -41,7 +44,7 @@ fn cuts_change_nothing(rt: HostRuntime) -> Result<(), Fail> {
         (CLOSE, HELLO_AND_CLOSE, Outcome::Finished),
         (MIXED, HELLO, Outcome::Finished),
         (NO_HOST, BAD_REQUEST, Outcome::Refused(400)),
-        (LENGTH, NOT_IMPLEMENTED, Outcome::Refused(501)),
+        (LENGTH, HELLO, Outcome::Finished),
     ];
     for (input, wanted, outcome) in rows {
         for place in 1..input.len() {
@@ -65,19 +68,31 @@ fn a_read_that_fails_gets_no_answer(rt: HostRuntime) -> Result<(), Fail> {
     for failing in 1..=27 {
         let mut pieces = Pieces::new(GET, 1, 1);
         pieces.fails_at = failing;
-        let mut reader = CountedReader::new(pieces);
-        let (report, written, _) = serve(&rt, &Limits::usual(), &mut reader)?;
-        assert_eq!(rt; written.len(), 0, "read {failing}");
-        assert_eq!(rt; report.outcome, Outcome::InputBroke, "read {failing}");
-        assert_eq!(rt; report.exchanges, 0, "read {failing}");
-        assert_eq!(rt; report.turns, failing, "read {failing}");
-        assert_eq!(rt; reader.faults(), 1, "read {failing}");
+        let mut line = line_of(&rt, pieces)?;
+        let (report, _) = serve(&rt, &Limits::usual(), &Hello, &mut line)?;
+        let counts = (report.exchanges, report.turns, line.reader.faults());
+        assert_eq!(rt;
+            (line.writer.writer.len(), report.outcome, counts),
+            (0, Outcome::InputBroke, (0, failing, 1)),
+            "read {failing}"
+        );
     }
-    let mut pieces = Pieces::new(GET, 1, 1);
-    pieces.fails_at = 28;
-    let mut reader = CountedReader::new(pieces);
-    let (report, written, _) = serve(&rt, &Limits::usual(), &mut reader)?;
-    assert_eq!(rt; written.as_slice(), HELLO);
-    assert_eq!(rt; report.outcome, Outcome::Finished);
+    Ok(())
+}
+
+#[test]
+fn a_read_that_fails_behind_a_request_leaves_its_answer(rt: HostRuntime) -> Result<(), Fail> {
+    // The read behind the request, and one more, which is not made.
+    for (failing, outcome) in [(28, Outcome::InputBroke), (29, Outcome::Finished)] {
+        let mut pieces = Pieces::new(GET, 1, 1);
+        pieces.fails_at = failing;
+        let mut line = line_of(&rt, pieces)?;
+        let (report, _) = serve(&rt, &Limits::usual(), &Hello, &mut line)?;
+        assert_eq!(rt;
+            (line.writer.writer.as_slice(), report.outcome, report.exchanges),
+            (HELLO, outcome, 1),
+            "read {failing}"
+        );
+    }
     Ok(())
 }

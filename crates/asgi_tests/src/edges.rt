@@ -1,14 +1,14 @@
-//! The greatest heads that a connection takes, and the largest responses. With ample memory each is served whole.
-use crate::fakes::{Pieces, serve};
-use crate::texts::{BAD_REQUEST, GET, HELLO, TOO_LARGE};
+//! The greatest heads and bodies that a connection takes, and the largest responses. With ample memory each is served whole.
+use crate::fakes::{App, Pieces, line_of, serve_by};
+use crate::texts::{BAD_REQUEST, ECHO_HEAD, GET, HELLO, LAST_CHUNK, POST, TOO_LARGE};
 use asgi_conn::{Outcome, Report};
-use asgi_io::CountedReader;
 use asgi_response::ResponseText;
 use asgi_types::{
     Facts, Framing, HeaderError, Headers, HttpVersion, Limits, Names, Octets, Outgoing,
 };
-use std::alloc::{AllocError, Global};
+use std::alloc::{AllocError, AllocGlobal, Global};
 use std::process::Abort;
+use std::random::RandomSource;
 use std::test::Fail;
 
 /// A head of so many bytes, its last field filled up with letters.
@@ -47,33 +47,37 @@ fn head_with(alloc: Global, others: usize) -> Result<Vec<u8>, AllocError> {
     Ok(head)
 }
 
-/// What is read at a time, what is written, how the connection ends, and how many reads there are.
+/// What is read at a time, what is written, how the connection ends, how many reads there are, and how many turns.
 #[derive(Clone, Copy)]
 struct Served {
     piece: usize,
     wanted: &'static [u8],
     outcome: Outcome,
     exchanges: u64,
+    reads: u64,
     turns: u64,
 }
 
-const fn hello(piece: usize, turns: u64) -> Served {
+/// The last read finds the end of the input. The greeting takes four turns that read nothing.
+const fn hello(piece: usize, reads: u64) -> Served {
     Served {
         piece,
         wanted: HELLO,
         outcome: Outcome::Finished,
         exchanges: 1,
-        turns,
+        reads,
+        turns: reads + 4,
     }
 }
 
-const fn refused(wanted: &'static [u8], status: u16, turns: u64) -> Served {
+const fn refused(wanted: &'static [u8], status: u16, reads: u64) -> Served {
     Served {
         piece: 4_096,
         wanted,
         outcome: Outcome::Refused(status),
         exchanges: 0,
-        turns,
+        reads,
+        turns: reads,
     }
 }
 
@@ -86,21 +90,25 @@ fn is_report(report: &Report, served: Served) -> bool {
 }
 
 /// Whether the input is served so, under the greatest limits on heads.
-fn is_served<H: Abort + AllocGlobal>(rt: &H, input: &[u8], served: Served) -> Result<bool, Fail> {
+fn is_served<H: Abort + RandomSource + AllocGlobal>(
+    rt: &H,
+    input: &[u8],
+    served: Served,
+) -> Result<bool, Fail> {
     let limits = Limits::new(65_535, 128, 0, 1, 2, 1, 100_000)?;
-    let mut reader = CountedReader::new(Pieces::new(input, served.piece, served.piece));
-    let (report, written, pauses) = serve(rt, &limits, &mut reader)?;
-    let is_so = is_report(&report, served) && reader.reader.reads == served.turns;
-    Ok(is_so && written.as_slice() == served.wanted && pauses == 0)
+    let mut line = line_of(rt, Pieces::new(input, served.piece, served.piece))?;
+    let (report, pauses) = serve_by(rt, &limits, App::Hello, &mut line)?;
+    let is_so = is_report(&report, served) && line.reader.reader.reads == served.reads;
+    Ok(is_so && line.writer.writer.as_slice() == served.wanted && pauses == 0)
 }
 
 #[test]
 fn a_head_of_65535_bytes_is_served(rt: HostRuntime) -> Result<(), Fail> {
     // Sixteen pieces of 4,096 are 65,536 bytes.
     let rows = [
-        (65_534, hello(4_096, 16)),
-        (65_535, hello(4_096, 16)),
-        (65_535, hello(1, 65_535)),
+        (65_534, hello(4_096, 17)),
+        (65_535, hello(4_096, 17)),
+        (65_535, hello(1, 65_536)),
         (65_536, refused(TOO_LARGE, 431, 16)),
         (70_000, refused(TOO_LARGE, 431, 16)),
     ];
@@ -115,8 +123,8 @@ fn a_head_of_65535_bytes_is_served(rt: HostRuntime) -> Result<(), Fail> {
 fn a_head_of_128_fields_is_served(rt: HostRuntime) -> Result<(), Fail> {
     // 127 lines of 12 bytes, with 27 bytes around them, come in one piece.
     let rows = [
-        (126, hello(4_096, 1)),
-        (127, hello(4_096, 1)),
+        (126, hello(4_096, 2)),
+        (127, hello(4_096, 2)),
         (128, refused(BAD_REQUEST, 400, 1)),
     ];
     for (others, served) in rows {
@@ -126,7 +134,10 @@ fn a_head_of_128_fields_is_served(rt: HostRuntime) -> Result<(), Fail> {
     Ok(())
 }
 
-/// A request and 1 MiB behind it.
+const HELLO_AND_TOO_LARGE: &[u8] =
+    b"HTTP/1.1 200 OK\r\ncontent-type: text/plain\r\ntransfer-encoding: chunked\r\n\r\n6\r\nhello\n\r\n0\r\n\r\nHTTP/1.1 431 Request Header Fields Too Large\r\ncontent-length: 0\r\nconnection: close\r\n\r\n";
+
+/// A request and 1 MiB of letters behind it.
 fn long_input(alloc: Global) -> Result<Vec<u8>, AllocError> {
     let mut input = Vec::from_slice(alloc, GET)?;
     for _ in 0..1_048_576 {
@@ -136,9 +147,64 @@ fn long_input(alloc: Global) -> Result<Vec<u8>, AllocError> {
 }
 
 #[test]
-fn an_answer_waits_for_nothing_of_1_mib(rt: HostRuntime) -> Result<(), Fail> {
+fn of_1_mib_behind_a_request_a_head_is_read(rt: HostRuntime) -> Result<(), Fail> {
     let input = long_input(rt.alloc())?;
-    assert!(rt; is_served(&rt, &input, hello(1_048_576, 1))?);
+    // With 27 bytes of the request, 65,535 letters come in 17 pieces.
+    let served = Served {
+        piece: 1_048_576,
+        wanted: HELLO_AND_TOO_LARGE,
+        outcome: Outcome::Refused(431),
+        exchanges: 1,
+        reads: 17,
+        turns: 21,
+    };
+    assert!(rt; is_served(&rt, &input, served)?);
+    Ok(())
+}
+
+/// Adds a chunk of so many letters, whose size in hexadecimal is this.
+fn add_chunk(text: &mut Vec<u8>, size: &[u8], letters: usize) -> Result<(), AllocError> {
+    text.extend_from_slice(size)?;
+    text.extend_from_slice(b"\r\n")?;
+    for _ in 0..letters {
+        text.push(b'a')?;
+    }
+    text.extend_from_slice(b"\r\n")
+}
+
+/// A request whose body is one chunk of 1 MiB, with another request behind it.
+fn long_request(alloc: Global) -> Result<Vec<u8>, AllocError> {
+    let mut input = Vec::from_slice(alloc, POST)?;
+    input.extend_from_slice(b"Transfer-Encoding: chunked\r\n\r\n")?;
+    add_chunk(&mut input, b"100000", 1_048_576)?;
+    input.extend_from_slice(LAST_CHUNK)?;
+    input.extend_from_slice(GET)?;
+    Ok(input)
+}
+
+/// What `Echo` answers to it: 64 blocks of 16 KiB, and nothing.
+fn long_answer(alloc: Global) -> Result<Vec<u8>, AllocError> {
+    let mut text = Vec::from_slice(alloc, ECHO_HEAD)?;
+    for _ in 0..64 {
+        add_chunk(&mut text, b"4000", 16_384)?;
+    }
+    text.extend_from_slice(LAST_CHUNK)?;
+    text.extend_from_slice(ECHO_HEAD)?;
+    text.extend_from_slice(LAST_CHUNK)?;
+    Ok(text)
+}
+
+#[test]
+fn a_body_of_1_mib_is_echoed(rt: HostRuntime) -> Result<(), Fail> {
+    let input = long_request(rt.alloc())?;
+    let wanted = long_answer(rt.alloc())?;
+    for piece in [4_096, 1_000] {
+        let mut line = line_of(&rt, Pieces::new(&input, piece, piece))?;
+        let (report, _) = serve_by(&rt, &Limits::usual(), App::Echo, &mut line)?;
+        assert!(rt; line.writer.writer.as_slice() == wanted.as_slice(), "pieces of {piece}");
+        let ended = (report.outcome, report.exchanges, report.faults);
+        assert_eq!(rt; ended, (Outcome::Finished, 2, 0), "pieces of {piece}");
+    }
     Ok(())
 }
 

@@ -1,11 +1,15 @@
-//! Readers, writers and a pause whose every step a test sets.
+//! Readers and writers whose every step a test sets, and a connection over them.
 ghost use Rattle.std.specs.Prelude.{◌≤◌, length};
 
-use asgi_conn::{CountedHello, Hello, Report, serve_connection};
+use crate::apps::{Refuses, Scripted, Step, Targets};
+use asgi_apps::{Application, Echo, Hello, NotFound};
+use asgi_conn::{Inline, Joined, Line, Report, serve_connection};
 use asgi_io::{Counted, CountedReader, CountingPause, Pause};
-use asgi_types::Limits;
-use std::alloc::AllocError;
+use asgi_types::{Limits, State};
+use futures::task::{Doorbell, Solo};
+use std::alloc::{AllocError, AllocGlobal};
 use std::io::{self, ErrorKind, Read, Write};
+use std::random::RandomSource;
 
 /// A reader that gives its bytes in pieces.
 #[derive(Drop)]
@@ -117,15 +121,78 @@ impl Write for Sink {
     }
 }
 
-/// Serves one connection, and gives the report, the bytes written and the pauses made.
-pub fn serve<H: AllocGlobal, R: Read>(
+/// A line of a reader, and of a writer that keeps what it takes.
+pub type Memory<R> = Joined<CountedReader<R>, Counted<Vec<u8>>>;
+
+/// Nothing was read or written yet.
+pub fn line_of<H: AllocGlobal, R: Read + Drop>(rt: &H, reader: R) -> Result<Memory<R>, AllocError> {
+    let writer = Vec::with_capacity(rt.alloc(), 256)?;
+    Ok(Joined {
+        reader: CountedReader::new(reader),
+        writer: Counted::new(writer),
+    })
+}
+
+/// Serves one connection with no client, no server and an empty state, and gives the report and the pauses made.
+pub fn serve<H: RandomSource + AllocGlobal, A: Application, L: Line>(
     rt: &H,
     limits: &Limits,
-    reader: &mut CountedReader<R>,
-) -> Result<(Report, Vec<u8>, u64), AllocError> {
-    let mut writer = Counted::new(Vec::with_capacity(rt.alloc(), 256)?);
-    let mut app = CountedHello::new(Hello);
+    app: &A,
+    line: &mut L,
+) -> io::Result<(Report, u64)> {
+    let solo = Solo::new(rt, Doorbell::spinning())?;
+    Ok(serve_in(rt, &solo, limits, app, line))
+}
+
+fn serve_in<H: AllocGlobal, A: Application, L: Line>(
+    rt: &H,
+    solo: &Solo,
+    limits: &Limits,
+    app: &A,
+    line: &mut L,
+) -> (Report, u64) {
+    let state = State::new(rt.alloc());
+    let mut runner = Inline::new(solo.begin());
     let mut pause = CountingPause::new();
-    let report = serve_connection(rt, limits, &mut app, reader, &mut writer, &mut pause);
-    Ok((report, writer.writer, pause.paused()))
+    let report = serve_connection(
+        rt,
+        limits,
+        &None,
+        &None,
+        &state,
+        app,
+        line,
+        &mut runner,
+        &mut pause,
+    );
+    runner.end();
+    (report, pause.paused())
+}
+
+/// The application of a row.
+#[derive(Clone, Copy)]
+pub enum App {
+    Hello,
+    Echo,
+    NotFound,
+    Targets,
+    Refuses,
+    Scripted(&'static [Step]),
+}
+
+/// Serves one connection by the application of a row.
+pub fn serve_by<H: RandomSource + AllocGlobal, L: Line>(
+    rt: &H,
+    limits: &Limits,
+    app: App,
+    line: &mut L,
+) -> io::Result<(Report, u64)> {
+    match app {
+        App::Hello => serve(rt, limits, &Hello, line),
+        App::Echo => serve(rt, limits, &Echo, line),
+        App::NotFound => serve(rt, limits, &NotFound, line),
+        App::Targets => serve(rt, limits, &Targets, line),
+        App::Refuses => serve(rt, limits, &Refuses, line),
+        App::Scripted(steps) => serve(rt, limits, &Scripted(steps), line),
+    }
 }

@@ -2,6 +2,10 @@
 #![tactic(auto)]
 
 #[cfg(test)]
+mod apps;
+#[cfg(test)]
+mod conversation;
+#[cfg(test)]
 mod cut;
 #[cfg(test)]
 mod edges;

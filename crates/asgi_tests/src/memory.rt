@@ -1,11 +1,12 @@
 //! Memory refused to a connection. `tests/memory.py` runs this with each allocation refused in turn; with ample memory
 //! none is refused.
-use crate::fakes::{Pieces, serve};
-use crate::texts::{BAD_REQUEST, GET, HELLO, HELLO_HEAD, NOT_IMPLEMENTED};
+use crate::fakes::{App, Pieces, line_of, serve_by};
+use crate::texts::{BAD_REQUEST, GET, HELLO, HELLO_HEAD, SERVER_ERROR};
 use asgi_conn::Outcome;
-use asgi_io::CountedReader;
 use asgi_types::Limits;
+use std::alloc::AllocGlobal;
 use std::process::Abort;
+use std::random::RandomSource;
 use std::test::Fail;
 
 const HEAD: &[u8] = b"HEAD /a%20b?c HTTP/1.1\r\nHost: a\r\nX: y\r\nX: z\r\n\r\n";
@@ -17,42 +18,62 @@ const LENGTH: &[u8] = b"POST / HTTP/1.1\r\nHost: a\r\nContent-Length: 3\r\n\r\na
 
 const NO_HOST: &[u8] = b"GET / HTTP/1.1\r\nX: y\r\n\r\n";
 
-/// Serves a request that comes in two pieces, and compares with its answer. False where memory was refused, and then
-/// nothing was written.
-fn is_served<H: Abort + AllocGlobal>(
-    rt: &H,
-    input: &[u8],
-    wanted: &[u8],
-    outcome: Outcome,
-    exchanges: u64,
-) -> bool {
-    let mut reader = CountedReader::new(Pieces::new(input, 9, 4_096));
-    let Ok((report, written, _)) = serve(rt, &Limits::usual(), &mut reader) else {
-        return false;
-    };
-    if report.outcome == Outcome::NoMemory {
-        assert_eq!(rt; written.len(), 0);
+const PIPELINED: &[u8] =
+    b"POST / HTTP/1.1\r\nHost: a\r\nExpect: 100-continue\r\nTransfer-Encoding: chunked\r\n\r\n2\r\nab\r\n0\r\n\r\nGET / HTTP/1.1\r\nHost: a\r\n\r\n";
+
+const ECHOED: &[u8] =
+    b"HTTP/1.1 100 Continue\r\n\r\nHTTP/1.1 200 OK\r\ncontent-type: application/octet-stream\r\ntransfer-encoding: chunked\r\n\r\n2\r\nab\r\n0\r\n\r\nHTTP/1.1 200 OK\r\ncontent-type: application/octet-stream\r\ntransfer-encoding: chunked\r\n\r\n0\r\n\r\n";
+
+/// A row: the application, the input, what is written, and the outcome and the exchanges.
+type Row = (App, &'static [u8], &'static [u8], Outcome, u64);
+
+const ROWS: &[Row] = &[
+    (App::Hello, GET, HELLO, Outcome::Finished, 1),
+    (App::Hello, HEAD, HELLO_HEAD, Outcome::Finished, 1),
+    (App::Hello, UPGRADE, HELLO, Outcome::Finished, 1),
+    (App::Hello, LENGTH, HELLO, Outcome::Finished, 1),
+    (App::Hello, NO_HOST, BAD_REQUEST, Outcome::Refused(400), 0),
+    (App::Echo, PIPELINED, ECHOED, Outcome::Finished, 2),
+];
+
+/// Behind a beginning of what is due, either nothing more, or the refusal of a request whose application had no memory.
+fn is_cut_off(written: &[u8], wanted: &[u8], outcome: Outcome) -> bool {
+    if outcome == Outcome::NoMemory {
+        return wanted.starts_with(written);
+    }
+    if outcome != Outcome::Refused(500) {
         return false;
     }
-    let ended = (report.outcome, report.exchanges);
-    assert_eq!(rt; (written.as_slice(), ended), (wanted, (outcome, exchanges)));
+    match written.strip_suffix(SERVER_ERROR) {
+        Some(front) => wanted.starts_with(front),
+        None => false,
+    }
+}
+
+/// Serves a connection that comes in two pieces, and compares with its answer. False where memory was refused.
+fn is_served<H: Abort + RandomSource + AllocGlobal>(rt: &H, row: &Row) -> bool {
+    let (app, input, wanted, outcome, exchanges) = *row;
+    let Ok(mut line) = line_of(rt, Pieces::new(input, 9, 4_096)) else {
+        return false;
+    };
+    let Ok((report, _)) = serve_by(rt, &Limits::usual(), app, &mut line) else {
+        return false;
+    };
+    let written = line.writer.writer.as_slice();
+    if report.outcome != outcome {
+        assert!(rt; is_cut_off(written, wanted, report.outcome));
+        return false;
+    }
+    assert_eq!(rt; (written, report.exchanges, report.faults), (wanted, exchanges, 0));
     true
 }
 
 /// Only one allocation is refused, so of two connections one is served.
 #[test]
 fn memory_for_a_connection(rt: HostRuntime) -> Result<(), Fail> {
-    let rows: [(&[u8], &[u8], Outcome, u64); 5] = [
-        (GET, HELLO, Outcome::Finished, 1),
-        (HEAD, HELLO_HEAD, Outcome::Finished, 1),
-        (UPGRADE, HELLO, Outcome::Finished, 1),
-        (LENGTH, NOT_IMPLEMENTED, Outcome::Refused(501), 0),
-        (NO_HOST, BAD_REQUEST, Outcome::Refused(400), 0),
-    ];
-    for (row, (input, wanted, outcome, exchanges)) in rows.iter().enumerate() {
-        let first = is_served(&rt, input, wanted, *outcome, *exchanges);
-        let served = first || is_served(&rt, input, wanted, *outcome, *exchanges);
-        assert!(rt; served, "row {row}");
+    for (place, row) in ROWS.iter().enumerate() {
+        let served = is_served(&rt, row) || is_served(&rt, row);
+        assert!(rt; served, "row {place}");
     }
     Ok(())
 }

@@ -1,17 +1,19 @@
 //! What is answered to each form of a head, given whole.
-use crate::fakes::{Pieces, serve};
+use crate::fakes::{Pieces, line_of, serve};
 use crate::texts::{
     BAD_REQUEST, GET, HELLO, HELLO_AND_CLOSE, HELLO_HEAD, NOT_IMPLEMENTED, OLD_HELLO,
     OLD_HELLO_HEAD, TOO_LARGE, TOO_LARGE_CONTENT,
 };
+use asgi_apps::Hello;
 use asgi_conn::Outcome;
-use asgi_io::CountedReader;
 use asgi_types::Limits;
+use std::alloc::AllocGlobal;
 use std::process::Abort;
+use std::random::RandomSource;
 use std::test::Fail;
 
 /// Serves each input whole, and compares what is written, the outcome and the exchanges.
-fn check<H: Abort + AllocGlobal>(
+fn check<H: Abort + RandomSource + AllocGlobal>(
     rt: &H,
     inputs: &[&[u8]],
     limits: &Limits,
@@ -20,11 +22,11 @@ fn check<H: Abort + AllocGlobal>(
     exchanges: u64,
 ) -> Result<(), Fail> {
     for (row, input) in inputs.iter().enumerate() {
-        let mut reader = CountedReader::new(Pieces::new(input, 4_096, 4_096));
-        let (report, written, _) = serve(rt, limits, &mut reader)?;
+        let mut line = line_of(rt, Pieces::new(input, 4_096, 4_096))?;
+        let (report, _) = serve(rt, limits, &Hello, &mut line)?;
         let ended = (report.outcome, report.exchanges, report.faults);
         assert_eq!(rt;
-            (written.as_slice(), ended),
+            (line.writer.writer.as_slice(), ended),
             (wanted, (outcome, exchanges, 0)),
             "input {row}"
         );
@@ -34,7 +36,7 @@ fn check<H: Abort + AllocGlobal>(
 
 #[test]
 fn a_request_is_answered(rt: HostRuntime) -> Result<(), Fail> {
-    let inputs: [&[u8]; 9] = [
+    let inputs: [&[u8]; 8] = [
         GET,
         b"get / HTTP/1.1\r\nHost: a\r\n\r\n",
         b"POST /x HTTP/1.1\r\nHost:\r\n\r\n",
@@ -42,7 +44,6 @@ fn a_request_is_answered(rt: HostRuntime) -> Result<(), Fail> {
         b"GET / HTTP/1.1\nHost: a\n\n",
         b"GET / HTTP/1.1\r\nHOST: a\r\nX-Empty:\r\nX-Tab: a\tb\r\n\r\n",
         b"GET / HTTP/1.1\r\nHost: a\r\nConnection: keep-alive, x-close\r\nX-Close: close\r\n\r\n",
-        b"GET / HTTP/1.1\r\nHost: a\r\n\r\nGET / HTTP/1.1\r\nHost: a\r\n\r\n",
         b"GET /c HTTP/1.1\r\nHost: a\r\nUpgrade: websocket\r\nConnection: Upgrade\r\nSec-WebSocket-Key: dGhlIHNhbXBsZSBub25jZQ==\r\nSec-WebSocket-Version: 13\r\n\r\n",
     ];
     check(&rt, &inputs, &Limits::usual(), HELLO, Outcome::Finished, 1)
@@ -163,22 +164,24 @@ fn an_old_version_and_head_are_answered(rt: HostRuntime) -> Result<(), Fail> {
 }
 
 #[test]
-fn what_is_not_served_yet_is_said_so(rt: HostRuntime) -> Result<(), Fail> {
-    let inputs: [&[u8]; 5] = [
+fn a_body_that_is_not_heard_is_dropped(rt: HostRuntime) -> Result<(), Fail> {
+    let limits = Limits::usual();
+    let whole: [&[u8]; 3] = [
         b"POST / HTTP/1.1\r\nHost: a\r\nContent-Length: 3\r\n\r\nabc",
-        b"POST / HTTP/1.1\r\nHost: a\r\nExpect: 100-continue\r\nContent-Length: 3\r\n\r\n",
-        b"POST / HTTP/1.0\r\nContent-Length: 3\r\n\r\nabc",
-        b"HEAD / HTTP/1.1\r\nHost: a\r\nContent-Length: 1\r\n\r\n",
         b"POST / HTTP/1.1\r\nHost: a\r\nTransfer-Encoding: chunked\r\n\r\n0\r\n\r\n",
+        b"POST / HTTP/1.1\r\nHost: a\r\nTransfer-Encoding: Chunked\r\n\r\n2\r\nab\r\n0\r\nX: y\r\n\r\n",
     ];
-    check(
-        &rt,
-        &inputs,
-        &Limits::usual(),
-        NOT_IMPLEMENTED,
-        Outcome::Refused(501),
-        0,
-    )
+    check(&rt, &whole, &limits, HELLO, Outcome::Finished, 1)?;
+    let head: [&[u8]; 1] = [b"HEAD / HTTP/1.1\r\nHost: a\r\nContent-Length: 1\r\n\r\na"];
+    check(&rt, &head, &limits, HELLO_HEAD, Outcome::Finished, 1)?;
+    // The response closes the connection, so the rest of the body is not waited for.
+    let old: [&[u8]; 2] = [
+        b"POST / HTTP/1.0\r\nContent-Length: 3\r\n\r\nabc",
+        b"POST / HTTP/1.0\r\nContent-Length: 3\r\n\r\n",
+    ];
+    check(&rt, &old, &limits, OLD_HELLO, Outcome::Finished, 1)?;
+    let part: [&[u8]; 1] = [b"POST / HTTP/1.1\r\nHost: a\r\nContent-Length: 3\r\n\r\nab"];
+    check(&rt, &part, &limits, HELLO, Outcome::InputBroke, 1)
 }
 
 #[test]

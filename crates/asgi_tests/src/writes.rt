@@ -1,88 +1,152 @@
 //! Writers that take little, fail, or would block.
-use crate::fakes::Sink;
+use crate::apps::{Heard, Said, Step};
+use crate::fakes::{App, Pieces, Sink, serve_by};
 use crate::texts::{GET, HELLO};
-use asgi_conn::{CountedHello, Hello, Outcome, Report, serve_connection};
-use asgi_io::{Counted, CountedReader, CountingPause, Counts};
-use asgi_types::{Limits, Outgoing};
+use asgi_conn::{Joined, Outcome, Report};
+use asgi_io::{Counted, CountedReader, Counts, Reads};
+use asgi_types::Limits;
+use std::alloc::AllocGlobal;
 use std::io::ErrorKind;
+use std::random::RandomSource;
 use std::test::Fail;
 
 /// What a writer of nine bytes takes first.
 const NINE_BYTES: &[u8] = b"HTTP/1.1 ";
 
-fn sink<H: AllocGlobal>(rt: &H, most: usize) -> Result<Counted<Sink>, Fail> {
-    Ok(Counted::new(Sink {
-        taken: Vec::with_capacity(rt.alloc(), 256)?,
-        most,
-        fails_at: 0,
-        faults: 0,
-        again: 0,
-        fault: ErrorKind::WouldBlock,
-        calls: 0,
-    }))
+type SinkLine<'a> = Joined<CountedReader<Pieces<'a>>, Counted<Sink>>;
+
+/// A line of these bytes, whose writer takes so many at a time.
+fn line_to<'a, H: AllocGlobal>(rt: &H, input: &'a [u8], most: usize) -> Result<SinkLine<'a>, Fail> {
+    let taken = Vec::with_capacity(rt.alloc(), 256)?;
+    Ok(Joined {
+        reader: CountedReader::new(Pieces::new(input, 4_096, 4_096)),
+        writer: Counted::new(Sink {
+            taken,
+            most,
+            fails_at: 0,
+            faults: 0,
+            again: 0,
+            fault: ErrorKind::WouldBlock,
+            calls: 0,
+        }),
+    })
 }
 
-/// Serves one request, whose answer goes to the writer.
-fn serve_get<H: AllocGlobal>(rt: &H, writer: &mut Counted<Sink>) -> Report {
-    let mut app = CountedHello::new(Hello);
-    let mut reader = CountedReader::new(GET);
-    let mut pause = CountingPause::new();
-    serve_connection(
-        rt,
-        &Limits::usual(),
-        &mut app,
-        &mut reader,
-        writer,
-        &mut pause,
-    )
+/// Serves one connection by `Hello`.
+fn serve<H: RandomSource + AllocGlobal>(rt: &H, line: &mut SinkLine<'_>) -> Result<Report, Fail> {
+    let (report, _) = serve_by(rt, &Limits::usual(), App::Hello, line)?;
+    Ok(report)
 }
 
 #[test]
 fn a_failed_write_says_how_far_it_came(rt: HostRuntime) -> Result<(), Fail> {
     assert_eq!(rt; HELLO.len(), 89);
     for failing in 1..=30usize {
-        let mut writer = sink(&rt, 3)?;
-        writer.writer.fails_at = failing as u64;
-        let report = serve_get(&rt, &mut writer);
+        let mut line = line_to(&rt, GET, 3)?;
+        line.writer.writer.fails_at = failing as u64;
+        let report = serve(&rt, &mut line)?;
         let out = 3 * (failing - 1);
+        let counts = (report.exchanges, line.writer.failures());
         assert_eq!(rt;
-            Some(writer.writer.taken.as_slice()),
-            HELLO.get(..out),
+            (Some(line.writer.writer.taken.as_slice()), report.outcome, counts),
+            (HELLO.get(..out), Outcome::WriteFailed(out), (1, 1)),
             "call {failing}"
         );
-        assert_eq!(rt; report.outcome, Outcome::WriteFailed(out), "call {failing}");
-        assert_eq!(rt; writer.failures(), 1, "call {failing}");
-        assert_eq!(rt; report.exchanges, 1, "call {failing}");
     }
-    let mut writer = sink(&rt, 3)?;
-    writer.writer.fails_at = 31;
-    let report = serve_get(&rt, &mut writer);
-    assert_eq!(rt; writer.writer.taken.as_slice(), HELLO);
-    assert_eq!(rt; report.outcome, Outcome::Finished);
-    assert_eq!(rt; writer.failures(), 0);
     Ok(())
 }
 
 #[test]
-fn nine_bytes_and_then_a_fault(rt: HostRuntime) -> Result<(), Fail> {
-    let mut writer = sink(&rt, 9)?;
-    writer.writer.fails_at = 2;
-    let report = serve_get(&rt, &mut writer);
-    let taken = writer.writer.taken.as_slice();
+fn a_fault_behind_the_answer_is_not_met(rt: HostRuntime) -> Result<(), Fail> {
+    let mut line = line_to(&rt, GET, 3)?;
+    line.writer.writer.fails_at = 31;
+    let report = serve(&rt, &mut line)?;
     assert_eq!(rt;
-        (taken, report.outcome),
-        (NINE_BYTES, Outcome::WriteFailed(9))
+        (line.writer.writer.taken.as_slice(), report.outcome, line.writer.failures()),
+        (HELLO, Outcome::Finished, 0)
+    );
+    Ok(())
+}
+
+/// Answers as `Hello`, and then hears that the client is gone.
+const GREETS_AND_HEARS: App = App::Scripted(&[
+    Step::Says(Said::Start(200, &[("content-type", "text/plain")])),
+    Step::Says(Said::Last("hello\n")),
+    Step::Hears(Heard::Disconnect),
+]);
+
+/// Says a part, and faults.
+const PART_AND_FAULT: App = App::Scripted(&[
+    Step::Says(Said::Start(200, &[])),
+    Step::Says(Said::Part("x")),
+    Step::Faults,
+]);
+
+const PART_OF_A_BODY: &[u8] = b"POST / HTTP/1.1\r\nHost: a\r\nContent-Length: 10\r\n\r\nabcd";
+
+const BAD_BODY: &[u8] = b"POST / HTTP/1.1\r\nHost: a\r\nTransfer-Encoding: chunked\r\n\r\nx\r\n";
+
+#[test]
+fn nine_bytes_and_then_a_fault(rt: HostRuntime) -> Result<(), Fail> {
+    // The application, the input, the tasks that faulted, and the reads that did: the second one fails, where it is made.
+    // An input that breaks inside of a body ends no connection while the application may answer.
+    let rows: [(App, &[u8], u64, u64); 6] = [
+        (App::Hello, GET, 0, 0),
+        (GREETS_AND_HEARS, GET, 0, 0),
+        (PART_AND_FAULT, GET, 1, 0),
+        (App::Hello, PART_OF_A_BODY, 0, 1),
+        (App::Hello, BAD_BODY, 0, 0),
+        (App::Refuses, GET, 1, 0),
+    ];
+    for (row, (app, input, faults, reads)) in rows.iter().enumerate() {
+        let mut line = line_to(&rt, input, 9)?;
+        line.writer.writer.fails_at = 2;
+        line.reader.reader.fails_at = 2;
+        let (report, _) = serve_by(&rt, &Limits::usual(), *app, &mut line)?;
+        let found = (line.writer.writer.taken.as_slice(), report.outcome);
+        let counts = (report.exchanges, report.faults, line.reader.faults());
+        assert_eq!(rt;
+            (found, counts),
+            ((NINE_BYTES, Outcome::WriteFailed(9)), (1, *faults, *reads)),
+            "row {row}"
+        );
+    }
+    Ok(())
+}
+
+#[test]
+fn a_refusal_that_is_not_written_is_a_failed_write(rt: HostRuntime) -> Result<(), Fail> {
+    let mut line = line_to(&rt, b"GET / HTTP/1.1\r\n\r\n", 9)?;
+    line.writer.writer.fails_at = 2;
+    let report = serve(&rt, &mut line)?;
+    assert_eq!(rt;
+        (line.writer.writer.taken.as_slice(), report.outcome, report.exchanges),
+        (NINE_BYTES, Outcome::WriteFailed(9), 0)
+    );
+    Ok(())
+}
+
+#[test]
+fn the_second_answer_may_fail(rt: HostRuntime) -> Result<(), Fail> {
+    let mut input = Vec::from_slice(rt.alloc(), GET)?;
+    input.extend_from_slice(GET)?;
+    let mut line = line_to(&rt, &input, 89)?;
+    line.writer.writer.fails_at = 2;
+    let report = serve(&rt, &mut line)?;
+    assert_eq!(rt;
+        (line.writer.writer.taken.as_slice(), report.outcome, report.exchanges),
+        (HELLO, Outcome::WriteFailed(0), 2)
     );
     Ok(())
 }
 
 #[test]
 fn a_writer_that_takes_nothing_has_failed(rt: HostRuntime) -> Result<(), Fail> {
-    let mut writer = sink(&rt, 0)?;
-    let report = serve_get(&rt, &mut writer);
+    let mut line = line_to(&rt, GET, 0)?;
+    let report = serve(&rt, &mut line)?;
     let found = (
-        writer.writer.taken.len(),
-        writer.writer.calls,
+        line.writer.writer.taken.len(),
+        line.writer.writer.calls,
         report.outcome,
     );
     assert_eq!(rt; found, (0, 1, Outcome::WriteFailed(0)));
@@ -98,12 +162,12 @@ fn a_thousand_retries_and_no_more(rt: HostRuntime) -> Result<(), Fail> {
         (ErrorKind::Interrupted, 1_001, b"", Outcome::WriteFailed(0)),
     ];
     for (row, (fault, faults, taken, outcome)) in rows.iter().enumerate() {
-        let mut writer = sink(&rt, 100)?;
-        writer.writer.fault = *fault;
-        writer.writer.faults = *faults;
-        let report = serve_get(&rt, &mut writer);
+        let mut line = line_to(&rt, GET, 100)?;
+        line.writer.writer.fault = *fault;
+        line.writer.writer.faults = *faults;
+        let report = serve(&rt, &mut line)?;
         assert_eq!(rt;
-            (writer.writer.taken.as_slice(), report.outcome),
+            (line.writer.writer.taken.as_slice(), report.outcome),
             (*taken, *outcome),
             "row {row}"
         );
@@ -118,58 +182,15 @@ fn each_byte_that_goes_out_ends_a_row_of_retries(rt: HostRuntime) -> Result<(), 
         (1_001, NINE_BYTES, Outcome::WriteFailed(9)),
     ];
     for (again, taken, outcome) in rows {
-        let mut writer = sink(&rt, 9)?;
-        writer.writer.faults = 1_000;
-        writer.writer.again = again;
-        let report = serve_get(&rt, &mut writer);
+        let mut line = line_to(&rt, GET, 9)?;
+        line.writer.writer.faults = 1_000;
+        line.writer.writer.again = again;
+        let report = serve(&rt, &mut line)?;
         assert_eq!(rt;
-            (writer.writer.taken.as_slice(), report.outcome),
+            (line.writer.writer.taken.as_slice(), report.outcome),
             (taken, outcome),
             "{again} again"
         );
     }
-    Ok(())
-}
-
-/// The start of a greeting: its status, the count of its fields, and the first of them.
-fn start(event: &Outgoing) -> Option<(u16, usize, &[u8], &[u8])> {
-    let Outgoing::ResponseStart { status, headers } = event else {
-        return None;
-    };
-    let (name, value) = headers.at(0)?;
-    Some((*status, headers.len(), name, value))
-}
-
-/// A part of a body, and whether more follows.
-fn part(event: &Outgoing) -> Option<(&[u8], bool)> {
-    let Outgoing::ResponseBody { body, more_body } = event else {
-        return None;
-    };
-    Some((body.bytes(), *more_body))
-}
-
-/// They are the two events of the greeting.
-fn is_greeting(said: &[Outgoing]) -> bool {
-    let [first, second] = said else {
-        return false;
-    };
-    start(first) == Some((200, 1, b"content-type", b"text/plain"))
-        && part(second) == Some((b"hello\n", false))
-}
-
-#[test]
-fn hello_says_its_two_events(rt: HostRuntime) -> Result<(), Fail> {
-    let said = Hello.said(rt.alloc())?;
-    assert!(rt; is_greeting(&said));
-    Ok(())
-}
-
-#[test]
-fn memory_for_the_events_of_hello(rt: HostRuntime) -> Result<(), Fail> {
-    let said = match Hello.said(rt.alloc()) {
-        Ok(said) => said,
-        Err(_) => Hello.said(rt.alloc())?,
-    };
-    assert!(rt; is_greeting(&said));
     Ok(())
 }

@@ -1,4 +1,5 @@
 use super::*;
+use asgi_conn::Joined;
 use asgi_io::{Counted, CountedReader};
 use std::alloc::Global;
 use std::io::{Read, Write};
@@ -6,8 +7,13 @@ use std::test::Fail;
 
 const REQUEST: &[u8] = b"GET / HTTP/1.1\r\nHost: a\r\n\r\n";
 
-const ANSWER: &[u8] =
+const GREETING: &[u8] =
     b"HTTP/1.1 200 OK\r\ncontent-type: text/plain\r\ntransfer-encoding: chunked\r\n\r\n6\r\nhello\n\r\n0\r\n\r\n";
+
+const ECHO: &[u8] =
+    b"HTTP/1.1 200 OK\r\ncontent-type: application/octet-stream\r\ntransfer-encoding: chunked\r\n\r\n0\r\n\r\n";
+
+const NOT_FOUND: &[u8] = b"HTTP/1.1 404 Not Found\r\ncontent-length: 0\r\n\r\n";
 
 const USAGE_TEXT: &[u8] = b"usage: asgi_demo once APP | asgi_demo serve PORT COUNT APP\n";
 
@@ -19,39 +25,55 @@ fn words(alloc: Global, texts: &[&str]) -> Result<Vec<String>, Fail> {
     Ok(words)
 }
 
+type Memory<'a> = Joined<CountedReader<&'a [u8]>, Counted<Vec<u8>>>;
+
+fn line_of<'a>(alloc: Global, input: &'a [u8]) -> Memory<'a> {
+    Joined {
+        reader: CountedReader::new(input),
+        writer: Counted::new(Vec::new(alloc)),
+    }
+}
+
 #[test]
-fn once_hello_answers(rt: HostRuntime) -> Result<(), Fail> {
-    let words = words(rt.alloc(), &["once", "hello"])?;
-    let mut input = CountedReader::new(REQUEST);
-    let mut output = Counted::new(Vec::new(rt.alloc()));
-    let mut errors = Counted::new(Vec::new(rt.alloc()));
-    let status = command(&rt, &words, &mut input, &mut output, &mut errors);
-    assert_eq!(rt;
-        (status, output.writer.as_slice(), errors.writer.len()),
-        (0, ANSWER, 0)
-    );
+fn once_answers_by_the_application_that_is_named(rt: HostRuntime) -> Result<(), Fail> {
+    let rows: [(&str, &[u8]); 3] = [
+        ("hello", GREETING),
+        ("echo", ECHO),
+        ("notfound", NOT_FOUND),
+    ];
+    for (name, wanted) in rows {
+        let words = words(rt.alloc(), &["once", name])?;
+        let mut line = line_of(rt.alloc(), REQUEST);
+        let mut errors = Counted::new(Vec::new(rt.alloc()));
+        let status = command(&rt, &words, &mut line, &mut errors);
+        assert_eq!(rt;
+            (status, line.writer.writer.as_slice(), errors.writer.len()),
+            (0, wanted, 0),
+            "{name}"
+        );
+    }
     Ok(())
 }
 
 #[test]
 fn any_other_words_give_the_usage(rt: HostRuntime) -> Result<(), Fail> {
-    let wrong: [&[&str]; 8] = [
+    let wrong: [&[&str]; 9] = [
         &[],
         &["once"],
         &["hello", "once"],
         &["once", "nothing"],
-        &["once", "echo"],
+        &["once", "Echo"],
         &["Once", "hello"],
         &["once", "hello", "hello"],
+        &["once", "notfound", ""],
         &["serve", "8000", "1", "hello"],
     ];
     for (row, texts) in wrong.iter().enumerate() {
         let words = words(rt.alloc(), texts)?;
-        let mut input = CountedReader::new(REQUEST);
-        let mut output = Counted::new(Vec::new(rt.alloc()));
+        let mut line = line_of(rt.alloc(), REQUEST);
         let mut errors = Counted::new(Vec::new(rt.alloc()));
-        let status = command(&rt, &words, &mut input, &mut output, &mut errors);
-        let kept = (input.reader.len(), output.writer.len());
+        let status = command(&rt, &words, &mut line, &mut errors);
+        let kept = (line.reader.reader.len(), line.writer.writer.len());
         assert_eq!(rt;
             (status, kept, errors.writer.as_slice()),
             (2, (REQUEST.len(), 0), USAGE_TEXT),
@@ -84,36 +106,44 @@ impl Write for Stuck {
 }
 
 #[test]
-fn a_connection_that_stops_is_said_so(rt: HostRuntime) -> Result<(), Fail> {
+fn an_answer_that_is_not_written_is_said_so(rt: HostRuntime) -> Result<(), Fail> {
     let words = words(rt.alloc(), &["once", "hello"])?;
     let mut errors = Counted::new(Vec::new(rt.alloc()));
-    let mut input = CountedReader::new(REQUEST);
-    let mut output = Counted::new(Stuck {
-        kind: ErrorKind::BrokenPipe,
-    });
-    let status = command(&rt, &words, &mut input, &mut output, &mut errors);
-    assert_eq!(rt; status, 5);
+    let mut line = Joined {
+        reader: CountedReader::new(REQUEST),
+        writer: Counted::new(Stuck {
+            kind: ErrorKind::BrokenPipe,
+        }),
+    };
+    let status = command(&rt, &words, &mut line, &mut errors);
     assert_eq!(rt;
-        errors.writer.as_slice(),
-        b"stopped: write-failed 0\n".as_slice()
+        (status, errors.writer.as_slice()),
+        (5, b"stopped: write-failed 0\n".as_slice())
     );
+    Ok(())
+}
 
-    let mut errors = Counted::new(Vec::new(rt.alloc()));
-    let mut input = CountedReader::new(Stuck {
-        kind: ErrorKind::WouldBlock,
-    });
-    let mut output = Counted::new(Vec::new(rt.alloc()));
-    let status = command(&rt, &words, &mut input, &mut output, &mut errors);
-    assert_eq!(rt; status, 5);
-    assert_eq!(rt; errors.writer.as_slice(), b"stopped: idle\n".as_slice());
-
-    let mut errors = Counted::new(Vec::new(rt.alloc()));
-    let mut input = CountedReader::new(Stuck {
-        kind: ErrorKind::ConnectionReset,
-    });
-    let status = command(&rt, &words, &mut input, &mut output, &mut errors);
-    assert_eq!(rt; status, 0);
-    assert_eq!(rt; errors.writer.len(), 0);
+#[test]
+fn an_input_that_gives_nothing_is_said_so(rt: HostRuntime) -> Result<(), Fail> {
+    // One that would block reaches a limit; one that fails is no fault of the program.
+    let rows: [(ErrorKind, u8, &[u8]); 2] = [
+        (ErrorKind::WouldBlock, 5, b"stopped: idle\n"),
+        (ErrorKind::ConnectionReset, 0, b""),
+    ];
+    let words = words(rt.alloc(), &["once", "hello"])?;
+    for (row, (kind, status, text)) in rows.iter().enumerate() {
+        let mut errors = Counted::new(Vec::new(rt.alloc()));
+        let mut line = Joined {
+            reader: CountedReader::new(Stuck { kind: *kind }),
+            writer: Counted::new(Vec::new(rt.alloc())),
+        };
+        let gave = command(&rt, &words, &mut line, &mut errors);
+        assert_eq!(rt;
+            (gave, errors.writer.as_slice()),
+            (*status, *text),
+            "row {row}"
+        );
+    }
     Ok(())
 }
 
@@ -141,15 +171,17 @@ fn a_text_that_cannot_be_told_changes_no_status(rt: HostRuntime) -> Result<(), F
     let mut errors = Counted::new(Stuck {
         kind: ErrorKind::BrokenPipe,
     });
-    let mut input = CountedReader::new(REQUEST);
-    let mut output = Counted::new(Stuck {
-        kind: ErrorKind::BrokenPipe,
-    });
+    let mut line = Joined {
+        reader: CountedReader::new(REQUEST),
+        writer: Counted::new(Stuck {
+            kind: ErrorKind::BrokenPipe,
+        }),
+    };
     let none = words(rt.alloc(), &[])?;
     let once = words(rt.alloc(), &["once", "hello"])?;
     let statuses = [
-        command(&rt, &none, &mut input, &mut output, &mut errors),
-        command(&rt, &once, &mut input, &mut output, &mut errors),
+        command(&rt, &none, &mut line, &mut errors),
+        command(&rt, &once, &mut line, &mut errors),
         without_words(&io::Error::from(ErrorKind::OutOfMemory), &mut errors),
     ];
     assert_eq!(rt; (statuses, errors.failures()), ([2, 5, 5], 3));

@@ -1,0 +1,593 @@
+//! Whole conversations: what is written, the outcome, the exchanges and the faults, however the input is cut.
+use crate::apps::{Heard, Said, Step};
+use crate::fakes::{App, Pieces, line_of, serve_by};
+use crate::texts::{
+    BAD_REQUEST, CONTINUE, ECHO_HEAD, END, GET, GET_AND_CLOSE, HELLO, HELLO_AND_CLOSE, HELLO_HEAD,
+    LAST_CHUNK, NOT_IMPLEMENTED, OLD_HELLO, PLAIN_HEAD, POST, SERVER_ERROR, TOO_LARGE,
+    TOO_LARGE_CONTENT,
+};
+use asgi_conn::Outcome;
+use asgi_types::{BadLimit, Limits};
+use std::alloc::{AllocError, AllocGlobal, Global};
+use std::io::ErrorKind;
+use std::process::Abort;
+use std::random::RandomSource;
+use std::test::Fail;
+
+/// The limits of a row.
+#[derive(Clone, Copy)]
+enum Under {
+    Usual,
+    /// Blocks of so many bytes.
+    Blocks(usize),
+    /// Heads of at most so many bytes.
+    Heads(usize),
+    /// Bodies of at most so many bytes.
+    Bodies(u64),
+}
+
+fn limits_of(under: Under) -> Result<Limits, BadLimit> {
+    match under {
+        Under::Usual => Ok(Limits::usual()),
+        Under::Blocks(block) => Limits::new(16_384, 64, 1_048_576, block, 16, 30_000, 1_000_000),
+        Under::Heads(max) => Limits::new(max, 64, 1_048_576, 16_384, 16, 30_000, 1_000_000),
+        Under::Bodies(max) => Limits::new(16_384, 64, max, 16_384, 16, 30_000, 1_000_000),
+    }
+}
+
+type Parts = &'static [&'static [u8]];
+
+/// The limits, the application, the input, what is written, and the outcome, the exchanges and the faults.
+type Row = (Under, App, Parts, Parts, (Outcome, u64, u64));
+
+fn joined(alloc: Global, parts: &[&[u8]]) -> Result<Vec<u8>, AllocError> {
+    let mut bytes = Vec::new(alloc);
+    for part in parts {
+        bytes.extend_from_slice(part)?;
+    }
+    Ok(bytes)
+}
+
+/// Serves the input in such pieces, and compares.
+fn is_served<H: Abort + RandomSource + AllocGlobal>(
+    rt: &H,
+    row: &Row,
+    pieces: Pieces,
+    wanted: &[u8],
+) -> Result<bool, Fail> {
+    let (under, app, _, _, end) = *row;
+    let limits = limits_of(under)?;
+    let mut line = line_of(rt, pieces)?;
+    let (report, _) = serve_by(rt, &limits, app, &mut line)?;
+    let ended = (report.outcome, report.exchanges, report.faults);
+    Ok(ended == end && line.writer.writer.as_slice() == wanted)
+}
+
+/// Each row, whole and in pieces of three sizes, and byte by byte with a read that would block before each.
+fn check<H: Abort + RandomSource + AllocGlobal>(rt: &H, rows: &[Row]) -> Result<(), Fail> {
+    for (place, row) in rows.iter().enumerate() {
+        let input = joined(rt.alloc(), row.2)?;
+        let wanted = joined(rt.alloc(), row.3)?;
+        for size in [4_096, 1, 7, 11] {
+            let pieces = Pieces::new(&input, size, size);
+            assert!(rt; is_served(rt, row, pieces, &wanted)?, "row {place}, pieces of {size}");
+        }
+        let mut slow = Pieces::new(&input, 1, 1);
+        slow.before = Some(ErrorKind::WouldBlock);
+        assert!(rt; is_served(rt, row, slow, &wanted)?, "row {place}, with waits");
+    }
+    Ok(())
+}
+
+/// Each row, cut in two at each place.
+fn check_halves<H: Abort + RandomSource + AllocGlobal>(rt: &H, rows: &[Row]) -> Result<(), Fail> {
+    for (place, row) in rows.iter().enumerate() {
+        let input = joined(rt.alloc(), row.2)?;
+        let wanted = joined(rt.alloc(), row.3)?;
+        for cut in 1..input.len() {
+            let two = Pieces::new(&input, cut, 4_096);
+            assert!(rt; is_served(rt, row, two, &wanted)?, "row {place}, cut at {cut}");
+        }
+    }
+    Ok(())
+}
+
+const LENGTH_0: &[u8] = b"Content-Length: 0\r\n";
+
+const LENGTH_3: &[u8] = b"Content-Length: 3\r\n";
+
+const LENGTH_4: &[u8] = b"Content-Length: 4\r\n";
+
+const LENGTH_5: &[u8] = b"Content-Length: 5\r\n";
+
+const LENGTH_8: &[u8] = b"Content-Length: 8\r\n";
+
+const LENGTH_10: &[u8] = b"Content-Length: 10\r\n";
+
+const CHUNKED: &[u8] = b"Transfer-Encoding: chunked\r\n";
+
+const EXPECT: &[u8] = b"Expect: 100-continue\r\n";
+
+const TWO_CHUNKS: &[u8] = b"4\r\nabcd\r\n5\r\nefghi\r\n0\r\nx: y\r\n\r\n";
+
+/// The answer `ok` to a request that was heard as it should be.
+const OK: &[u8] = b"2\r\nok\r\n0\r\n\r\n";
+
+const SAYS_START: Step = Step::Says(Said::Start(200, &[]));
+
+const SAYS_OK: Step = Step::Says(Said::Last("ok"));
+
+/// Requests with no body.
+const HEADS: &[Row] = &[
+    (
+        Under::Usual,
+        App::Hello,
+        &[GET],
+        &[HELLO],
+        (Outcome::Finished, 1, 0),
+    ),
+    (
+        Under::Usual,
+        App::Hello,
+        &[b"GET / HTTP/1.0\r\n\r\n"],
+        &[OLD_HELLO],
+        (Outcome::Finished, 1, 0),
+    ),
+    (
+        Under::Usual,
+        App::Hello,
+        &[b"HEAD / HTTP/1.1\r\nHost: a\r\n\r\n"],
+        &[HELLO_HEAD],
+        (Outcome::Finished, 1, 0),
+    ),
+    (
+        Under::Usual,
+        App::NotFound,
+        &[GET],
+        &[b"HTTP/1.1 404 Not Found\r\ncontent-length: 0\r\n\r\n"],
+        (Outcome::Finished, 1, 0),
+    ),
+    (
+        Under::Heads(64),
+        App::Hello,
+        &[
+            b"GET / HTTP/1.1\r\nHost: a\r\nX: ",
+            b"aaaaaaaaaaaaaaaaaaaaaaaaaaaaaaaa\r\n\r\n",
+        ],
+        &[HELLO],
+        (Outcome::Finished, 1, 0),
+    ),
+    (
+        Under::Heads(64),
+        App::Hello,
+        &[
+            b"GET / HTTP/1.1\r\nHost: a\r\nX: ",
+            b"aaaaaaaaaaaaaaaaaaaaaaaaaaaaaaaaa\r\n\r\n",
+        ],
+        &[TOO_LARGE],
+        (Outcome::Refused(431), 0, 0),
+    ),
+    (
+        Under::Usual,
+        App::Hello,
+        &[b"GET / HTTP/1.1\r\n\r\n"],
+        &[BAD_REQUEST],
+        (Outcome::Refused(400), 0, 0),
+    ),
+    (
+        Under::Usual,
+        App::Hello,
+        &[b"CONNECT a:1 HTTP/1.1\r\nHost: a\r\n\r\n"],
+        &[NOT_IMPLEMENTED],
+        (Outcome::Refused(501), 0, 0),
+    ),
+    (
+        Under::Usual,
+        App::Targets,
+        &[b"GET http://a/x?y HTTP/1.1\r\nHost: a\r\n\r\n"],
+        &[PLAIN_HEAD, b"b\r\n[/x][/x][y]\r\n", LAST_CHUNK],
+        (Outcome::Finished, 1, 0),
+    ),
+    (
+        Under::Usual,
+        App::Targets,
+        &[b"OPTIONS * HTTP/1.1\r\nHost: a\r\n\r\n"],
+        &[PLAIN_HEAD, b"8\r\n[*][*][]\r\n", LAST_CHUNK],
+        (Outcome::Finished, 1, 0),
+    ),
+    (
+        Under::Usual,
+        App::Hello,
+        &[],
+        &[],
+        (Outcome::Finished, 0, 0),
+    ),
+    (
+        Under::Usual,
+        App::Hello,
+        &[b"\r\n"],
+        &[],
+        (Outcome::Finished, 0, 0),
+    ),
+    (
+        Under::Usual,
+        App::Hello,
+        &[b"GE"],
+        &[],
+        (Outcome::InputBroke, 0, 0),
+    ),
+];
+
+#[test]
+fn a_request_with_no_body(rt: HostRuntime) -> Result<(), Fail> {
+    check(&rt, HEADS)?;
+    check_halves(&rt, HEADS)
+}
+
+/// Requests with a body, each alone.
+const BODIES: &[Row] = &[
+    (
+        Under::Usual,
+        App::Echo,
+        &[POST, LENGTH_0, END],
+        &[ECHO_HEAD, LAST_CHUNK],
+        (Outcome::Finished, 1, 0),
+    ),
+    (
+        Under::Usual,
+        App::Scripted(&[Step::Hears(Heard::Last("")), SAYS_START, SAYS_OK]),
+        &[POST, LENGTH_0, END],
+        &[PLAIN_HEAD, OK],
+        (Outcome::Finished, 1, 0),
+    ),
+    (
+        Under::Blocks(4),
+        App::Echo,
+        &[POST, LENGTH_8, END, b"abcdefgh"],
+        &[ECHO_HEAD, b"4\r\nabcd\r\n4\r\nefgh\r\n", LAST_CHUNK],
+        (Outcome::Finished, 1, 0),
+    ),
+    (
+        Under::Blocks(4),
+        App::Scripted(&[
+            Step::Hears(Heard::Part("abcd")),
+            Step::Hears(Heard::Last("efgh")),
+            SAYS_START,
+            SAYS_OK,
+        ]),
+        &[POST, LENGTH_8, END, b"abcdefgh"],
+        &[PLAIN_HEAD, OK],
+        (Outcome::Finished, 1, 0),
+    ),
+    (
+        Under::Blocks(4),
+        App::Echo,
+        &[POST, CHUNKED, END, TWO_CHUNKS],
+        &[
+            ECHO_HEAD,
+            b"4\r\nabcd\r\n4\r\nefgh\r\n1\r\ni\r\n",
+            LAST_CHUNK,
+        ],
+        (Outcome::Finished, 1, 0),
+    ),
+    (
+        Under::Blocks(4),
+        App::Scripted(&[
+            Step::Hears(Heard::Part("abcd")),
+            Step::Hears(Heard::Part("efgh")),
+            Step::Hears(Heard::Part("i")),
+            Step::Hears(Heard::Last("")),
+            SAYS_START,
+            SAYS_OK,
+        ]),
+        &[POST, CHUNKED, END, TWO_CHUNKS],
+        &[PLAIN_HEAD, OK],
+        (Outcome::Finished, 1, 0),
+    ),
+    (
+        Under::Usual,
+        App::Hello,
+        &[POST, EXPECT, LENGTH_3, END, b"abc"],
+        &[CONTINUE, HELLO],
+        (Outcome::Finished, 1, 0),
+    ),
+    (
+        Under::Usual,
+        App::Echo,
+        &[b"POST / HTTP/1.0\r\nExpect: 100-continue\r\nContent-Length: 3\r\n\r\nabc"],
+        &[
+            b"HTTP/1.1 200 OK\r\ncontent-type: application/octet-stream\r\nconnection: close\r\n\r\n",
+            b"abc",
+        ],
+        (Outcome::Finished, 1, 0),
+    ),
+    (
+        Under::Bodies(4),
+        App::Echo,
+        &[POST, LENGTH_4, END, b"abcd"],
+        &[ECHO_HEAD, b"4\r\nabcd\r\n", LAST_CHUNK],
+        (Outcome::Finished, 1, 0),
+    ),
+];
+
+#[test]
+fn a_request_with_a_body(rt: HostRuntime) -> Result<(), Fail> {
+    check(&rt, BODIES)?;
+    check_halves(&rt, BODIES)
+}
+
+/// Bodies that are refused, or end early.
+const BROKEN: &[Row] = &[
+    (
+        Under::Usual,
+        App::Hello,
+        &[POST, LENGTH_3, CHUNKED, END, LAST_CHUNK, GET],
+        &[BAD_REQUEST],
+        (Outcome::Refused(400), 0, 0),
+    ),
+    (
+        Under::Usual,
+        App::Echo,
+        &[POST, LENGTH_10, END, b"abcd"],
+        &[],
+        (Outcome::InputBroke, 1, 0),
+    ),
+    (
+        Under::Usual,
+        App::Scripted(&[Step::Hears(Heard::Disconnect)]),
+        &[POST, LENGTH_10, END, b"abcd"],
+        &[],
+        (Outcome::InputBroke, 1, 0),
+    ),
+    (
+        Under::Bodies(4),
+        App::Echo,
+        &[POST, LENGTH_5, END],
+        &[TOO_LARGE_CONTENT],
+        (Outcome::Refused(413), 0, 0),
+    ),
+    (
+        Under::Bodies(4),
+        App::Echo,
+        &[POST, CHUNKED, END, b"5\r\nabcde\r\n0\r\n\r\n"],
+        &[TOO_LARGE_CONTENT],
+        (Outcome::Refused(413), 1, 0),
+    ),
+    (
+        Under::Bodies(4),
+        App::Scripted(&[Step::Hears(Heard::Disconnect)]),
+        &[POST, CHUNKED, END, b"5\r\nabcde\r\n0\r\n\r\n"],
+        &[TOO_LARGE_CONTENT],
+        (Outcome::Refused(413), 1, 0),
+    ),
+    (
+        Under::Usual,
+        App::Echo,
+        &[POST, CHUNKED, END, b"x\r\n"],
+        &[BAD_REQUEST],
+        (Outcome::Refused(400), 1, 0),
+    ),
+    // The answer was whole before the rest of the body was known: nothing is written behind it.
+    (
+        Under::Usual,
+        App::Hello,
+        &[POST, LENGTH_10, END, b"abcd"],
+        &[HELLO],
+        (Outcome::InputBroke, 1, 0),
+    ),
+    (
+        Under::Usual,
+        App::Hello,
+        &[POST, CHUNKED, END, b"x\r\n", GET],
+        &[HELLO],
+        (Outcome::InputBroke, 1, 0),
+    ),
+];
+
+#[test]
+fn a_body_that_breaks(rt: HostRuntime) -> Result<(), Fail> {
+    check(&rt, BROKEN)?;
+    check_halves(&rt, BROKEN)
+}
+
+/// One request behind another.
+const PIPELINED: &[Row] = &[
+    (
+        Under::Usual,
+        App::Echo,
+        &[POST, EXPECT, LENGTH_3, END, b"abc", GET],
+        &[
+            CONTINUE,
+            ECHO_HEAD,
+            b"3\r\nabc\r\n",
+            LAST_CHUNK,
+            ECHO_HEAD,
+            LAST_CHUNK,
+        ],
+        (Outcome::Finished, 2, 0),
+    ),
+    (
+        Under::Usual,
+        App::Hello,
+        &[POST, LENGTH_5, END, b"abcde", GET],
+        &[HELLO, HELLO],
+        (Outcome::Finished, 2, 0),
+    ),
+    (
+        Under::Usual,
+        App::Hello,
+        &[GET_AND_CLOSE, GET],
+        &[HELLO_AND_CLOSE],
+        (Outcome::Finished, 1, 0),
+    ),
+    (
+        Under::Usual,
+        App::Hello,
+        &[b"GET / HTTP/1.0\r\n\r\n", GET],
+        &[OLD_HELLO],
+        (Outcome::Finished, 1, 0),
+    ),
+    (
+        Under::Usual,
+        App::Hello,
+        &[GET, b"\r\n", GET, b"\r\n\r\n"],
+        &[HELLO, HELLO],
+        (Outcome::Finished, 2, 0),
+    ),
+    (
+        Under::Usual,
+        App::Hello,
+        &[GET, GET, GET, GET],
+        &[HELLO, HELLO, HELLO, HELLO],
+        (Outcome::Finished, 4, 0),
+    ),
+    (
+        Under::Usual,
+        App::Hello,
+        &[GET, b"GE"],
+        &[HELLO],
+        (Outcome::InputBroke, 1, 0),
+    ),
+    (
+        Under::Usual,
+        App::Hello,
+        &[GET, b"GET / HTTP/1.1\r\n\r\n", GET],
+        &[HELLO, BAD_REQUEST],
+        (Outcome::Refused(400), 1, 0),
+    ),
+    (
+        Under::Blocks(4),
+        App::Echo,
+        &[
+            POST, CHUNKED, END, TWO_CHUNKS, POST, LENGTH_4, END, b"abcd",
+        ],
+        &[
+            ECHO_HEAD,
+            b"4\r\nabcd\r\n4\r\nefgh\r\n1\r\ni\r\n",
+            LAST_CHUNK,
+            ECHO_HEAD,
+            b"4\r\nabcd\r\n",
+            LAST_CHUNK,
+        ],
+        (Outcome::Finished, 2, 0),
+    ),
+];
+
+#[test]
+fn one_request_behind_another(rt: HostRuntime) -> Result<(), Fail> {
+    check(&rt, PIPELINED)?;
+    check_halves(&rt, PIPELINED)
+}
+
+const PART_AND_FAULT: &[Step] = &[SAYS_START, Step::Says(Said::Part("x")), Step::Faults];
+
+/// Applications that fault, or end before their answer is whole.
+const FAULTS: &[Row] = &[
+    (
+        Under::Usual,
+        App::Refuses,
+        &[GET],
+        &[SERVER_ERROR],
+        (Outcome::Refused(500), 1, 1),
+    ),
+    (
+        Under::Usual,
+        App::Scripted(&[Step::Faults]),
+        &[GET],
+        &[SERVER_ERROR],
+        (Outcome::Refused(500), 1, 1),
+    ),
+    (
+        Under::Usual,
+        App::Scripted(&[]),
+        &[GET],
+        &[SERVER_ERROR],
+        (Outcome::Refused(500), 1, 0),
+    ),
+    (
+        Under::Usual,
+        App::Scripted(&[SAYS_START, Step::Faults]),
+        &[GET],
+        &[SERVER_ERROR],
+        (Outcome::Refused(500), 1, 1),
+    ),
+    (
+        Under::Usual,
+        App::Scripted(PART_AND_FAULT),
+        &[GET],
+        &[PLAIN_HEAD, b"1\r\nx\r\n"],
+        (Outcome::Finished, 1, 1),
+    ),
+    (
+        Under::Usual,
+        App::Scripted(&[SAYS_START, SAYS_OK, Step::Faults]),
+        &[GET, GET],
+        &[PLAIN_HEAD, OK, PLAIN_HEAD, OK],
+        (Outcome::Finished, 2, 2),
+    ),
+    // The rest of the body is read first, and what is behind it is not answered.
+    (
+        Under::Usual,
+        App::Refuses,
+        &[POST, LENGTH_3, END, b"abc", GET],
+        &[SERVER_ERROR],
+        (Outcome::Refused(500), 1, 1),
+    ),
+    (
+        Under::Usual,
+        App::Refuses,
+        &[POST, EXPECT, LENGTH_3, END, b"abc"],
+        &[CONTINUE, SERVER_ERROR],
+        (Outcome::Refused(500), 1, 1),
+    ),
+    // A body that breaks off, or is refused, is told in place of the fault.
+    (
+        Under::Usual,
+        App::Refuses,
+        &[POST, LENGTH_10, END, b"abcd"],
+        &[],
+        (Outcome::InputBroke, 1, 1),
+    ),
+    (
+        Under::Usual,
+        App::Refuses,
+        &[POST, CHUNKED, END, b"x\r\n", GET],
+        &[BAD_REQUEST],
+        (Outcome::Refused(400), 1, 1),
+    ),
+];
+
+#[test]
+fn an_application_that_faults(rt: HostRuntime) -> Result<(), Fail> {
+    check(&rt, FAULTS)?;
+    check_halves(&rt, FAULTS)
+}
+
+/// The texts of some statuses.
+const STATUSES: &[Row] = &[
+    (
+        Under::Usual,
+        App::Scripted(&[
+            Step::Says(Said::Start(299, &[("content-length", "0")])),
+            Step::Says(Said::Last("")),
+        ]),
+        &[GET],
+        &[b"HTTP/1.1 299 \r\ncontent-length: 0\r\n\r\n"],
+        (Outcome::Finished, 1, 0),
+    ),
+    (
+        Under::Usual,
+        App::Scripted(&[
+            Step::Says(Said::Start(204, &[("content-length", "3")])),
+            Step::Says(Said::Last("abc")),
+        ]),
+        &[GET],
+        &[b"HTTP/1.1 204 No Content\r\n\r\n"],
+        (Outcome::Finished, 1, 0),
+    ),
+];
+
+#[test]
+fn a_status_of_the_application(rt: HostRuntime) -> Result<(), Fail> {
+    check(&rt, STATUSES)
+}
