@@ -157,7 +157,7 @@ fn of_1_mib_behind_a_request_a_head_is_read(rt: HostRuntime) -> Result<(), Fail>
         outcome: Outcome::Refused(431),
         exchanges: 1,
         reads: 17,
-        turns: 21,
+        more: 4,
     };
     assert!(rt; is_served(&rt, &input, served)?);
     Ok(())
