@@ -95,14 +95,15 @@ impl ConnHalf {
         half
     }
 
-    /// One turn: what it did is told where it counts as idle or not.
-    pub fn turn<L: Line, C: ConnEnd>(&mut self, line: &mut L, end: &mut C) -> Turn
+    /// One turn: what it did is told where it counts as idle or not. While the application goes on,
+    /// nothing is read: a line whose reads wait would keep its answer back.
+    pub fn turn<L: Line, C: ConnEnd>(&mut self, line: &mut L, end: &mut C, app_goes_on: bool) -> Turn
         ensures leads { Leads (state_of L.Reads L.Counts line.old) self.old (IsViewOf C.ConnEnd end.old) (state_of L.Reads L.Counts line.new) self.new (IsViewOf C.ConnEnd end.new) }
         ensures tag { (C.tag end.new ≡ C.tag end.old) × (C.ring end.new ≡ C.ring end.old) }
         ensures limits { self.new.wire.limits ≡ self.old.wire.limits }
     {
         match self.stage {
-            Stage::Running => self.run(line, end),
+            Stage::Running => self.run(line, end, app_goes_on),
             Stage::Ending(kind) => self.wind_up(kind, line),
             Stage::Cut(outcome) => self.clear(outcome, end),
             Stage::Over(_) => Turn::Last,
@@ -120,8 +121,9 @@ impl ConnHalf {
         }
     }
 
-    /// Takes all that is there and writes it, offers what is due, and reads where it did neither.
-    fn run<L: Line, C: ConnEnd>(&mut self, line: &mut L, end: &mut C) -> Turn
+    /// Takes all that is there and writes it, offers what is due, and reads where it did neither and the
+    /// application does not go on.
+    fn run<L: Line, C: ConnEnd>(&mut self, line: &mut L, end: &mut C, app_goes_on: bool) -> Turn
         requires { self.old.stage ≡ Stage.Running }
         ensures leads { Leads (state_of L.Reads L.Counts line.old) self.old (IsViewOf C.ConnEnd end.old) (state_of L.Reads L.Counts line.new) self.new (IsViewOf C.ConnEnd end.new) }
         ensures tag { (C.tag end.new ≡ C.tag end.old) × (C.ring end.new ≡ C.ring end.old) }
@@ -135,7 +137,7 @@ impl ConnHalf {
         if self.stage != Stage::Running {
             return Turn::Moved;
         }
-        if took || offered {
+        if took || offered || app_goes_on {
             return Turn::Moved;
         }
         self.read(line)

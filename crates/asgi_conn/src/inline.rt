@@ -80,11 +80,13 @@ impl<'q> Runner for Inline<'q> {
     {
         let mut conn = end;
         let mut side = side;
+        let mut app_goes_on = true;
         while goes_on(half, turns) {
-            let moved = half.turn(line, &mut conn);
+            let moved = half.turn(line, &mut conn, app_goes_on);
             let carried = carry(&mut conn, side);
             let polled = poll(&mut self.cx, carried);
             side = carry(&mut conn, polled.side);
+            app_goes_on = polled.turn == Turn::Moved;
             turns.take(both(moved, polled.turn), pause);
         }
         half.give_up(&mut conn);
