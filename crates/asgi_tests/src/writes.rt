@@ -108,13 +108,13 @@ const BAD_BODY: &[u8] = b"POST / HTTP/1.1\r\nHost: a\r\nTransfer-Encoding: chunk
 
 #[test]
 fn nine_bytes_and_then_a_fault(rt: HostRuntime) -> Result<(), Fail> {
-    // The application, the input, the tasks that faulted, and the reads that did: the second one fails, where it is made.
-    // An input that breaks inside of a body ends no connection while the application may answer.
+    // The application, the input, the tasks that faulted, and the reads that did. The second one would fail: it is not
+    // made, since nothing is read while the application goes on.
     let rows: [(App, &'static [u8], u64, u64); 6] = [
         (App::Hello, GET, 0, 0),
         (GREETS_AND_HEARS, GET, 0, 0),
         (PART_AND_FAULT, GET, 1, 0),
-        (App::Hello, PART_OF_A_BODY, 0, 1),
+        (App::Hello, PART_OF_A_BODY, 0, 0),
         (App::Hello, BAD_BODY, 0, 0),
         (App::Refuses, GET, 1, 0),
     ];
