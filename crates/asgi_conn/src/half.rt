@@ -97,7 +97,12 @@ impl ConnHalf {
 
     /// One turn: what it did is told where it counts as idle or not. While the application goes on,
     /// nothing is read: a line whose reads wait would keep its answer back.
-    pub fn turn<L: Line, C: ConnEnd>(&mut self, line: &mut L, end: &mut C, app_goes_on: bool) -> Turn
+    pub fn turn<L: Line, C: ConnEnd>(
+        &mut self,
+        line: &mut L,
+        end: &mut C,
+        app_goes_on: bool,
+    ) -> Turn
         ensures leads { Leads (state_of L.Reads L.Counts line.old) self.old (IsViewOf C.ConnEnd end.old) (state_of L.Reads L.Counts line.new) self.new (IsViewOf C.ConnEnd end.new) }
         ensures tag { (C.tag end.new ≡ C.tag end.old) × (C.ring end.new ≡ C.ring end.old) }
         ensures limits { self.new.wire.limits ≡ self.old.wire.limits }

@@ -5,8 +5,8 @@ ghost use Rattle.asgi_exchange.specs.Http.{input_of};
 ghost use Rattle.asgi_conversation.specs.TaskEnds as spec;
 
 use crate::report::Outcome;
-use asgi_types::EndKind;
 use asgi_response::{Input, Progress};
+use asgi_types::EndKind;
 
 /// What follows the end of a task.
 #[derive(Clone, Copy, Debug, PartialEq, Eq)]
