@@ -1,10 +1,10 @@
 //! Requests out of bytes that come in any pieces.
-ghost use Rattle.std.specs.Prelude.{◌≡◌, ◌≢◌, ◌+◌, ◌<◌, ◌≤◌, ◌++◌, ◌∷◌, [], ℕ, List, length, take, drop, OnOk, OnErr, IfOk, IsOk, IsTrue, IsFalse, true, false, Some};
+ghost use Rattle.std.specs.Prelude.{◌≡◌, ◌≢◌, ◌↔◌, ◌+◌, ◌<◌, ◌≤◌, ◌++◌, ◌∷◌, [], ℕ, List, length, take, drop, OnOk, OnErr, IfOk, IsOk, IsTrue, IsFalse, true, false, Some};
 ghost use Rattle.std.specs.Vec.{vec_len, vec_capacity};
 ghost use Rattle.asgi_types.specs.Room.{LacksRoom};
 ghost use Rattle.asgi_request.specs.declared.next.Next.{Next};
 ghost use Rattle.asgi_request.specs.declared.place.Place.TheVariants.{Start};
-ghost use Rattle.asgi_request.specs.Reading.{StandsFor, EndsWhole, AllGiven, WholeGiven, IsRefused, Keeps, GoesOn};
+ghost use Rattle.asgi_request.specs.Reading.{StandsFor, EndsWhole, AllGiven, WholeGiven, IsWaiting, IsRefused, Keeps, GoesOn};
 ghost use Rattle.asgi_request.specs.Fronts.{too_long};
 ghost use Rattle.asgi_request.specs.Places as places;
 ghost use Rattle.asgi_request.specs.Places.{front};
@@ -143,6 +143,18 @@ impl RequestReader {
             Advance::Waits => Ok(Next::Need),
             Advance::Refuses(refusal) => Ok(Next::Bad(refusal.status())),
             Advance::Gives(n) => self.give(n),
+        }
+    }
+
+    /// Whether more bytes are needed before anything else comes of those fed. It takes no memory.
+    pub fn is_waiting(&mut self) -> bool
+        ensures waits { IsTrue result ↔ IsWaiting self.old }
+        ensures all { IsTrue result → (bytes : List ℕ) (given : List Next) → StandsFor self.old bytes given → AllGiven self.old bytes given }
+        ensures same { self.new ≡ self.old }
+    {
+        match self.arrive() {
+            Arrival::Partial => true,
+            Arrival::TooLong | Arrival::Text(_) => false,
         }
     }
 
