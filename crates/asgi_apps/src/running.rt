@@ -68,22 +68,14 @@ impl<T: AppTask, E: AppEnd> Running<T, E> {
         ensures armed { OnPending result (IsArmed cx.new) }
         ensures kept { Keeps cx.old cx.new }
     {
-        let Some(lent) = self.lent.take() else {
+        self.turns = self.turns.saturating_add(1);
+        let Some(lent) = &mut self.lent else {
             unreachable!()
         };
-        let Lent {
-            mut task,
-            mut app_end,
-        } = lent;
-        let turns = self.turns.saturating_add(1);
-        match task.poll(cx, &mut app_end) {
-            Poll::Pending => {
-                self.lent = Some(Lent { task, app_end });
-                self.turns = turns;
-                Poll::Pending
-            }
-            Poll::Ready(answer) => Poll::Ready(finish(task, app_end, kind_of(answer), turns)),
-        }
+        let Poll::Ready(answer) = lent.task.poll(cx, &mut lent.app_end) else {
+            return Poll::Pending;
+        };
+        Poll::Ready(self.end(kind_of(answer)))
     }
 
     /// What the polls since this was last asked did.
@@ -94,13 +86,18 @@ impl<T: AppTask, E: AppEnd> Running<T, E> {
         ensures again { IsSomeAnd self.new.lent (λ is. MayGoOn T.stands E.AppEnd is.task is.app_end) }
         ensures turns { self.new.turns ≡ self.old.turns }
     {
-        let Some(lent) = self.lent.take() else {
+        let Some(lent) = &mut self.lent else {
             unreachable!()
         };
-        let Lent { task, mut app_end } = lent;
-        let moved = app_end.moved();
-        self.lent = Some(Lent { task, app_end });
-        if moved { Turn::Moved } else { Turn::Idle }
+        if lent.app_end.moved() { Turn::Moved } else { Turn::Idle }
+    }
+
+    fn end(&mut self, kind: EndKind) -> Ended<T, E>
+    {
+        let Some(Lent { task, app_end }) = self.lent.take() else {
+            unreachable!()
+        };
+        finish(task, app_end, kind, self.turns)
     }
 }
 
