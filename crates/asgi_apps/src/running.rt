@@ -56,7 +56,7 @@ impl<T: AppTask, E: AppEnd> Running<T, E> {
     }
 
     /// Polls the task once. Where it ended, `finish` is called, and nothing runs any more.
-    pub fn turn(&mut self, cx: &mut Context<'_>) -> Poll<Ended<T, E>>
+    pub fn turn(&mut self, cx: &mut Context<'_>) -> Poll<EndKind>
         requires { IsSomeAnd self.old.lent (λ was. MayGoOn T.stands E.AppEnd was.task was.app_end) }
         ensures ready { IfReady result (λ ended. IsSomeAnd self.old.lent (λ was. GoesOn E.AppEnd (Some ended.kind) was.app_end ended.app_end)) }
         ensures answers { IfReady result (λ ended. IsSomeAnd self.old.lent (λ was. T.answers was.task (E.heard ended.app_end) (E.said ended.app_end) (own_end ended.kind))) }
@@ -75,7 +75,9 @@ impl<T: AppTask, E: AppEnd> Running<T, E> {
         let Poll::Ready(answer) = lent.task.poll(cx, &mut lent.app_end) else {
             return Poll::Pending;
         };
-        Poll::Ready(self.end(kind_of(answer)))
+        let kind = kind_of(answer);
+        let _first = lent.app_end.finish(kind);
+        Poll::Ready(kind)
     }
 
     /// What the polls since this was last asked did.
@@ -92,12 +94,13 @@ impl<T: AppTask, E: AppEnd> Running<T, E> {
         if lent.app_end.moved() { Turn::Moved } else { Turn::Idle }
     }
 
-    fn end(&mut self, kind: EndKind) -> Ended<T, E>
+    /// What it gives back once it has ended.
+    pub fn into_ended(&mut self, kind: EndKind) -> Ended<T, E>
     {
         let Some(Lent { task, app_end }) = self.lent.take() else {
             unreachable!()
         };
-        finish(task, app_end, kind, self.turns)
+        Ended { task, app_end, kind, turns: self.turns }
     }
 }
 
@@ -137,7 +140,10 @@ impl<T: AppTask, E: AppEnd> Future for Running<T, E> {
     ghost gives = { λ running ended. IsSomeAnd running.lent (λ was. GoesOn E.AppEnd (Some ended.kind) was.app_end ended.app_end × T.answers was.task (E.heard ended.app_end) (E.said ended.app_end) (own_end ended.kind)) };
 
     fn poll(&mut self, cx: &mut Context<'_>) -> Poll<Ended<T, E>> {
-        self.turn(cx)
+        match self.turn(cx) {
+            Poll::Pending => Poll::Pending,
+            Poll::Ready(kind) => Poll::Ready(self.into_ended(kind)),
+        }
     }
 }
 
@@ -161,9 +167,9 @@ pub fn drive<T: AppTask, E: AppEnd, P: Pause>(
     let mut running = running;
     let mut taken = Turns::new(turns, idle_turns);
     while !taken.is_over() {
-        if let Poll::Ready(ended) = running.turn(cx) {
+        if let Poll::Ready(kind) = running.turn(cx) {
             taken.take(Turn::Last, pause);
-            return counted_as(ended, taken.turns);
+            return counted_as(running.into_ended(kind), taken.turns);
         }
         taken.take(running.moved(), pause);
     }

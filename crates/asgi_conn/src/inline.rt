@@ -159,10 +159,13 @@ fn poll<T: AppTask, E: AppEnd>(cx: &mut Context<'_>, side: &mut AppSide<T, E>) -
     };
     match running.turn(cx) {
         Poll::Pending => running.moved(),
-        Poll::Ready(ended) => {
+        Poll::Ready(kind) => {
+            let Some(lent) = running.lent.take() else {
+                unreachable!()
+            };
             *side = AppSide::HasEnded {
-                app_end: ended.app_end,
-                kind: ended.kind,
+                app_end: lent.app_end,
+                kind,
             };
             Turn::Moved
         }
