@@ -84,7 +84,7 @@ impl<'q> Runner for Inline<'q> {
         while goes_on(half, turns) {
             let moved = half.turn(line, &mut conn, app_goes_on);
             carry(&mut conn, &mut side);
-            let polled = poll(&mut self.cx, &mut side);
+            let polled = poll_on(&mut self.cx, &mut side, half.wire.limits.ring);
             carry(&mut conn, &mut side);
             app_goes_on = polled == Turn::Moved;
             turns.take(both(moved, polled), pause);
@@ -146,6 +146,19 @@ fn carry<T: AppTask>(conn: &mut PlainConn, side: &mut AppSide<T, PlainApp>)
             Plain::carry(conn, &mut lent.app_end);
         }
     }
+}
+
+/// Polls the task while it goes on, at most so often.
+fn poll_on<T: AppTask, E: AppEnd>(cx: &mut Context<'_>, side: &mut AppSide<T, E>, most: usize) -> Turn
+{
+    let mut turn = Turn::Idle;
+    for _poll in 0..most {
+        if poll(cx, side) != Turn::Moved {
+            return turn;
+        }
+        turn = Turn::Moved;
+    }
+    turn
 }
 
 /// Polls the task once, where it still runs. It moved something where it ended.
