@@ -56,7 +56,7 @@ impl<T: AppTask, E: AppEnd> Running<T, E> {
     }
 
     /// Polls the task once. Where it ended, `finish` is called, and nothing runs any more.
-    pub fn turn(&mut self, cx: &mut Context<'_>) -> Poll<Ended<T, E>>
+    pub fn turn(&mut self, cx: &mut Context<'_>) -> Poll<EndKind>
         requires { IsSomeAnd self.old.lent (λ was. MayGoOn T.stands E.AppEnd was.task was.app_end) }
         ensures ready { IfReady result (λ ended. IsSomeAnd self.old.lent (λ was. GoesOn E.AppEnd (Some ended.kind) was.app_end ended.app_end)) }
         ensures answers { IfReady result (λ ended. IsSomeAnd self.old.lent (λ was. T.answers was.task (E.heard ended.app_end) (E.said ended.app_end) (own_end ended.kind))) }
@@ -68,22 +68,16 @@ impl<T: AppTask, E: AppEnd> Running<T, E> {
         ensures armed { OnPending result (IsArmed cx.new) }
         ensures kept { Keeps cx.old cx.new }
     {
-        let Some(lent) = self.lent.take() else {
+        self.turns = self.turns.saturating_add(1);
+        let Some(lent) = &mut self.lent else {
             unreachable!()
         };
-        let Lent {
-            mut task,
-            mut app_end,
-        } = lent;
-        let turns = self.turns.saturating_add(1);
-        match task.poll(cx, &mut app_end) {
-            Poll::Pending => {
-                self.lent = Some(Lent { task, app_end });
-                self.turns = turns;
-                Poll::Pending
-            }
-            Poll::Ready(answer) => Poll::Ready(finish(task, app_end, kind_of(answer), turns)),
-        }
+        let Poll::Ready(answer) = lent.task.poll(cx, &mut lent.app_end) else {
+            return Poll::Pending;
+        };
+        let kind = kind_of(answer);
+        let _first = lent.app_end.finish(kind);
+        Poll::Ready(kind)
     }
 
     /// What the polls since this was last asked did.
@@ -94,13 +88,19 @@ impl<T: AppTask, E: AppEnd> Running<T, E> {
         ensures again { IsSomeAnd self.new.lent (λ is. MayGoOn T.stands E.AppEnd is.task is.app_end) }
         ensures turns { self.new.turns ≡ self.old.turns }
     {
-        let Some(lent) = self.lent.take() else {
+        let Some(lent) = &mut self.lent else {
             unreachable!()
         };
-        let Lent { task, mut app_end } = lent;
-        let moved = app_end.moved();
-        self.lent = Some(Lent { task, app_end });
-        if moved { Turn::Moved } else { Turn::Idle }
+        if lent.app_end.moved() { Turn::Moved } else { Turn::Idle }
+    }
+
+    /// What it gives back once it has ended.
+    pub fn into_ended(&mut self, kind: EndKind) -> Ended<T, E>
+    {
+        let Some(Lent { task, app_end }) = self.lent.take() else {
+            unreachable!()
+        };
+        Ended { task, app_end, kind, turns: self.turns }
     }
 }
 
@@ -140,7 +140,10 @@ impl<T: AppTask, E: AppEnd> Future for Running<T, E> {
     ghost gives = { λ running ended. IsSomeAnd running.lent (λ was. GoesOn E.AppEnd (Some ended.kind) was.app_end ended.app_end × T.answers was.task (E.heard ended.app_end) (E.said ended.app_end) (own_end ended.kind)) };
 
     fn poll(&mut self, cx: &mut Context<'_>) -> Poll<Ended<T, E>> {
-        self.turn(cx)
+        match self.turn(cx) {
+            Poll::Pending => Poll::Pending,
+            Poll::Ready(kind) => Poll::Ready(self.into_ended(kind)),
+        }
     }
 }
 
@@ -164,9 +167,9 @@ pub fn drive<T: AppTask, E: AppEnd, P: Pause>(
     let mut running = running;
     let mut taken = Turns::new(turns, idle_turns);
     while !taken.is_over() {
-        if let Poll::Ready(ended) = running.turn(cx) {
+        if let Poll::Ready(kind) = running.turn(cx) {
             taken.take(Turn::Last, pause);
-            return counted_as(ended, taken.turns);
+            return counted_as(running.into_ended(kind), taken.turns);
         }
         taken.take(running.moved(), pause);
     }

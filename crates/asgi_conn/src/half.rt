@@ -135,8 +135,10 @@ impl ConnHalf {
         ensures limits { self.new.wire.limits ≡ self.old.wire.limits }
     {
         let took = self.take_all(line, end);
-        if self.stage != Stage::Running {
-            return Turn::Moved;
+        match self.stage {
+            Stage::Running => {}
+            Stage::Ending(kind) => return self.wind_up(kind, line),
+            _ => return Turn::Moved,
         }
         let offered = self.offer_all(end);
         if self.stage != Stage::Running {

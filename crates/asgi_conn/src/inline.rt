@@ -17,7 +17,7 @@ ghost use Rattle.asgi_conn.specs.Running.{OfEnd, MayRun, HasRun, GoesOnAs, TagSt
 use crate::half::ConnHalf;
 use crate::line::Line;
 use crate::runner::{AppSide, Runner};
-use asgi_apps::{AppTask, Ended, Lent, Running};
+use asgi_apps::{AppTask, Lent};
 use asgi_exchange::join;
 use asgi_io::{Pause, Turn, Turns};
 use asgi_pipes::{AppEnd, ConnEnd, EndKind, Plain, PlainApp, PlainConn};
@@ -83,11 +83,11 @@ impl<'q> Runner for Inline<'q> {
         let mut app_goes_on = true;
         while goes_on(half, turns) {
             let moved = half.turn(line, &mut conn, app_goes_on);
-            let carried = carry(&mut conn, side);
-            let polled = poll(&mut self.cx, carried);
-            side = carry(&mut conn, polled.side);
-            app_goes_on = polled.turn == Turn::Moved;
-            turns.take(both(moved, polled.turn), pause);
+            carry(&mut conn, &mut side);
+            let polled = poll_on(&mut self.cx, &mut side, half.wire.limits.ring);
+            carry(&mut conn, &mut side);
+            app_goes_on = polled == Turn::Moved;
+            turns.take(both(moved, polled), pause);
         }
         half.give_up(&mut conn);
         let last = end_of(side);
@@ -128,77 +128,60 @@ fn both(half: Turn, app: Turn) -> Turn
 }
 
 /// Moves what was put at each end on to the other one.
-fn carry<T: AppTask>(conn: &mut PlainConn, side: AppSide<T, PlainApp>) -> AppSide<T, PlainApp>
-    requires pair { OfEnd side (λ app. IsPlainPair conn.old app) }
-    requires may { MayRun T.stands ⟦<PlainApp as AppEnd>⟧ side }
-    ensures pair { OfEnd result (λ app. IsPlainPair conn.new app) }
+fn carry<T: AppTask>(conn: &mut PlainConn, side: &mut AppSide<T, PlainApp>)
+    requires pair { OfEnd side.old (λ app. IsPlainPair conn.old app) }
+    requires may { MayRun T.stands ⟦<PlainApp as AppEnd>⟧ side.old }
+    ensures pair { OfEnd side.new (λ app. IsPlainPair conn.new app) }
     ensures conn { let End = ⟦<PlainConn as ConnEnd>⟧ in (End.offered conn.new ≡ End.offered conn.old)
         × (End.got conn.new ≡ End.got conn.old)
         × (End.is_broken conn.new ≡ End.is_broken conn.old) }
-    ensures side { GoesOnAs T.stands T.answers ⟦<PlainApp as AppEnd>⟧ side result }
+    ensures side { GoesOnAs T.stands T.answers ⟦<PlainApp as AppEnd>⟧ side.old side.new }
 {
     match side {
-        AppSide::HasEnded { mut app_end, kind } => {
-            Plain::carry(conn, &mut app_end);
-            AppSide::HasEnded { app_end, kind }
+        AppSide::HasEnded { app_end, kind: _ } => Plain::carry(conn, app_end),
+        AppSide::Runs(running) => {
+            let Some(lent) = &mut running.lent else {
+                unreachable!()
+            };
+            Plain::carry(conn, &mut lent.app_end);
         }
-        AppSide::Runs(mut running) => {
+    }
+}
+
+/// Polls the task while it goes on, at most so often.
+fn poll_on<T: AppTask, E: AppEnd>(cx: &mut Context<'_>, side: &mut AppSide<T, E>, most: usize) -> Turn
+{
+    let mut turn = Turn::Idle;
+    for _poll in 0..most {
+        if poll(cx, side) != Turn::Moved {
+            return turn;
+        }
+        turn = Turn::Moved;
+    }
+    turn
+}
+
+/// Polls the task once, where it still runs. It moved something where it ended.
+fn poll<T: AppTask, E: AppEnd>(cx: &mut Context<'_>, side: &mut AppSide<T, E>) -> Turn
+    requires { MayRun T.stands E.AppEnd side.old }
+    ensures side { GoesOnAs T.stands T.answers E.AppEnd side.old side.new }
+    ensures tag { TagStays E.AppEnd side.old side.new }
+{
+    let AppSide::Runs(running) = side else {
+        return Turn::Idle;
+    };
+    match running.turn(cx) {
+        Poll::Pending => running.moved(),
+        Poll::Ready(kind) => {
             let Some(lent) = running.lent.take() else {
                 unreachable!()
             };
-            let Lent { task, mut app_end } = lent;
-            Plain::carry(conn, &mut app_end);
-            running.lent = Some(Lent { task, app_end });
-            AppSide::Runs(running)
+            *side = AppSide::HasEnded {
+                app_end: lent.app_end,
+                kind,
+            };
+            Turn::Moved
         }
-    }
-}
-
-/// The application's side behind a turn, and what that turn did.
-#[derive(Drop)]
-struct Polled<T, E> {
-    side: AppSide<T, E>,
-    turn: Turn,
-}
-
-/// Polls the task once, where it still runs.
-fn poll<T: AppTask, E: AppEnd>(cx: &mut Context<'_>, side: AppSide<T, E>) -> Polled<T, E>
-    requires { MayRun T.stands E.AppEnd side }
-    ensures side { GoesOnAs T.stands T.answers E.AppEnd side result.side }
-    ensures tag { TagStays E.AppEnd side result.side }
-{
-    match side {
-        AppSide::HasEnded { app_end, kind } => Polled {
-            side: AppSide::HasEnded { app_end, kind },
-            turn: Turn::Idle,
-        },
-        AppSide::Runs(running) => poll_running(cx, running),
-    }
-}
-
-/// Polls the task once, which moved something where it ended.
-fn poll_running<T: AppTask, E: AppEnd>(cx: &mut Context<'_>, running: Running<T, E>) -> Polled<T, E>
-    requires { MayRun T.stands E.AppEnd (AppSide.Runs running) }
-    ensures side { GoesOnAs T.stands T.answers E.AppEnd (AppSide.Runs running) result.side }
-    ensures tag { TagStays E.AppEnd (AppSide.Runs running) result.side }
-{
-    let mut running = running;
-    if let Poll::Ready(ended) = running.turn(cx) {
-        let Ended {
-            task: _,
-            app_end,
-            kind,
-            turns: _,
-        } = ended;
-        return Polled {
-            side: AppSide::HasEnded { app_end, kind },
-            turn: Turn::Moved,
-        };
-    }
-    let turn = running.moved();
-    Polled {
-        side: AppSide::Runs(running),
-        turn,
     }
 }
 
