@@ -222,18 +222,22 @@ fn wait<L: Line, P: Pause>(wire: Wire, line: &mut L, pause: &mut P, turns: &mut 
         → (more : List Turn) × CountsTurns turns.old.turn_limit turns.old.idle_limit (turned ++ more) pauses (P.count pause.new) turns.new.turns turns.new.idle }
     ensures turn_limits { (turns.new.turn_limit ≡ turns.old.turn_limit) × (turns.new.idle_limit ≡ turns.old.idle_limit) }
 {
-    if wire.input.has_ended() {
-        return Place::Ended(at_end(&wire));
-    }
-    if turns.is_over() {
-        return Place::Ended(Outcome::Idle);
-    }
     let mut wire = wire;
-    let Ok(turn) = wire.read(line) else {
-        return Place::Ended(Outcome::NoMemory);
-    };
-    turns.take(turn, pause);
-    Place::Between(wire)
+    loop {
+        if wire.input.has_ended() {
+            return Place::Ended(at_end(&wire));
+        }
+        if turns.is_over() {
+            return Place::Ended(Outcome::Idle);
+        }
+        let Ok(turn) = wire.read(line) else {
+            return Place::Ended(Outcome::NoMemory);
+        };
+        turns.take(turn, pause);
+        if !wire.requests.is_waiting() {
+            return Place::Between(wire);
+        }
+    }
 }
 
 /// How the connection ends at the end of the input, where nothing is due.

@@ -27,6 +27,8 @@ pub struct Wire {
     pub input: InputEnd,
     /// The text in hand, empty between two.
     pub out: Vec<u8>,
+    /// Where a read puts its bytes: empty, or as long as one turn may read.
+    pub piece: Vec<u8>,
 }
 
 impl Wire {
@@ -42,6 +44,7 @@ impl Wire {
             requests: RequestReader::new(alloc, limits),
             input: InputEnd::OpenStill,
             out: Vec::new(alloc),
+            piece: Vec::new(alloc),
         }
     }
 
@@ -55,17 +58,19 @@ impl Wire {
         ensures same { self.new ≡ record self.old { requests = self.new.requests; input = self.new.input } }
         ensures limits { self.new.requests.limits ≡ self.old.requests.limits }
     {
-        let mut piece = [0; PIECE];
-        let read = line.read_some(&mut piece);
+        if self.piece.is_empty() {
+            self.piece.resize(PIECE, 0)?;
+        }
+        let read = line.read_some(&mut self.piece);
         let answer = answer_of(&read, PIECE);
-        match self.take_in(answer, &piece) {
+        match self.take_in(answer) {
             Ok(()) => Ok(answer.turn()),
             Err(e) => Err(e),
         }
     }
 
     /// Takes what a read gave, whose answer tells how much of the piece it is.
-    fn take_in(&mut self, answer: Answer, piece: &[u8]) -> Result<(), AllocError>
+    fn take_in(&mut self, answer: Answer) -> Result<(), AllocError>
         requires { bytes_of answer ≤ length piece.now }
         ensures fed { OnOk result ((bytes : List ℕ) (given : List Next) → StandsFor self.old.requests bytes given
             → StandsFor self.new.requests (bytes ++ take (bytes_of answer) piece.now) given) }
@@ -74,7 +79,7 @@ impl Wire {
         ensures limits { self.new.requests.limits ≡ self.old.requests.limits }
     {
         match answer {
-            Answer::Moved(n) => self.requests.feed(&piece[..n]),
+            Answer::Moved(n) => self.requests.feed(&self.piece[..n]),
             Answer::Nothing => {
                 self.input = InputEnd::AtEnd;
                 Ok(())
