@@ -3,7 +3,9 @@ use Rattle.std.proofs.Common.{◌≡◌, ℕ, true, List, [], ◌∷◌, ◌++�
 use Rattle.std.specs.Prelude.{◌<◌, length, take}
 use Rattle.std.specs.Io.KnownBytes.{Appends}
 use Rattle.asgi_types.specs.declared.limits.Limits.{Limits}
+use Rattle.asgi_io.specs.declared.write.Wrote.TheVariants as wrote
 use Rattle.asgi_io.specs.Counting.{RoseBy}
+use Rattle.asgi_io.specs.Writing.{TriesWrites}
 use Rattle.asgi_request.specs.declared.next.Next.{Next}
 use Rattle.asgi_request.specs.declared.next.Next.TheVariants.{Head, Event, Whole, Bad}
 use Rattle.asgi_request.specs.declared.place.Place.{Place}
@@ -33,7 +35,7 @@ use Rattle.asgi_conversation.proofs.LoopLemmas as loop
 use Rattle.asgi_conn.specs.declared.wire.Wire.{Wire}
 use Rattle.asgi_conn.specs.Lines.{LineState, HasMoved}
 use Rattle.asgi_conn.specs.Loop.{Rests, EndsSo}
-use Rattle.asgi_conn.proofs.LineLemmas.{moved_by_write}
+use Rattle.asgi_conn.proofs.LineLemmas.{moved_by_write, tries_front}
 
 -- ---- what the reader gives there
 
@@ -155,26 +157,28 @@ module _ (limits : Limits) (start now : LineState) (wire : Wire) (read : List �
     refused_at : Reaches limits read (given ++ Bad status ∷ []) reader.place reader.held
     refused_at = reaches reader (given ++ Bad status ∷ []) same stands
 
-    pub ends_refused : Appends now.written next.written text → RoseBy 0 now.failed next.failed
+    pub ends_refused : Appends now.written next.written text → RoseBy 0 now.failed next.failed → TriesWrites now.writes next.writes (length text) wrote.Done
         → (more : List ℕ) × EndsSo limits start next read exchanges (written ++ more) (Refused status)
-    ends_refused appends rose = (
+    ends_refused appends rose tries = (
       refusal_text status,
       record {
         end = wire.input;
         moved = moved_by_write start now next wire.input read written (refusal_text status) 0 x.moved left reads
-            (subst (λ (l : List ℕ). Appends now.written next.written l) text_is appends) rose;
+            (subst (λ (l : List ℕ). Appends now.written next.written l) text_is appends) rose
+            (subst (λ (l : List ℕ). TriesWrites now.writes next.writes (length l) wrote.Done) text_is tries);
         converses = λ report o c. loop.refused limits wire.input read given exchanges behind written report x.between c reader.place reader.held status refused_at o;
       },
     )
 
-    pub ends_unwritten : (n : ℕ) → n < length text → Appends now.written next.written (take n text) → RoseBy 1 now.failed next.failed
+    pub ends_unwritten : (n : ℕ) → n < length text → Appends now.written next.written (take n text) → RoseBy 1 now.failed next.failed → TriesWrites now.writes next.writes n (wrote.Failed n)
         → (more : List ℕ) × EndsSo limits start next read exchanges (written ++ more) (WriteFailed n)
-    ends_unwritten n within appends rose = (
+    ends_unwritten n within appends rose tries = (
       take n (refusal_text status),
       record {
         end = wire.input;
         moved = moved_by_write start now next wire.input read written (take n (refusal_text status)) 1 x.moved left reads
-            (subst (λ (l : List ℕ). Appends now.written next.written (take n l)) text_is appends) rose;
+            (subst (λ (l : List ℕ). Appends now.written next.written (take n l)) text_is appends) rose
+            (tries_front now.writes next.writes n (refusal_text status) (subst (λ (l : List ℕ). n < length l) text_is within) tries);
         converses = λ report o c. loop.refusal_failed limits wire.input read given exchanges behind written report x.between c reader.place reader.held status n refused_at
             (subst (λ (l : List ℕ). n < length l) text_is within) o;
       },

@@ -4,7 +4,9 @@ use Rattle.std.specs.Prelude.{◌⊎◌, ⊤, not, is_some, IsTrue, IsFalse}
 use Rattle.std.specs.Io.KnownBytes.{Appends}
 use Rattle.std.proofs.lemmas.List.{take-append-drop}
 use mathlib.Core.List.{IsPrefix}
+use Rattle.asgi_io.specs.declared.write.Wrote.TheVariants as wrote
 use Rattle.asgi_io.specs.Counting.{RoseBy}
+use Rattle.asgi_io.specs.Writing.{TriesWrites}
 use Rattle.asgi_types.specs.declared.end_kind.EndKind.{EndKind}
 use Rattle.asgi_types.specs.declared.end_kind.EndKind.TheVariants.{Returned, Faulted, Idle}
 use Rattle.asgi_types.specs.declared.facts.Facts.{Facts}
@@ -58,12 +60,12 @@ use Rattle.asgi_conn.specs.declared.wire.Wire.{Wire}
 use Rattle.asgi_conversation.specs.Exchanges.{Exchanged}
 use Rattle.asgi_conn.specs.Half.{BreaksAt, EndsWhere, HasGiven, IsAt, IsCutShort, IsSettled, Leaves, Scene, Stands, Talks, failures_at, failures_of, known, state_in}
 use Rattle.asgi_conn.specs.HalfSteps.{KeepsBesidesBody, GivesOn, GivesBehind, NeedsBody, IsFree, IsCutOff, known_input}
-use Rattle.asgi_conn.specs.Lines.{LineState, HasMoved}
+use Rattle.asgi_conn.specs.Lines.{LineState, HasMoved, how_wrote}
 use Rattle.asgi_conversation.specs.Persistence.{InHand, Beginning, Saying, Ending, StopsWithin}
 use Rattle.asgi_conversation.specs.SoFar.{Within}
 use Rattle.asgi_conversation.specs.TaskEnds.{has_ended, is_faulty, is_cut, unanswered, incomplete, kept, after_response, after_task}
 use Rattle.asgi_conn.proofs.HalfLemmas.{not_written, unfailed}
-use Rattle.asgi_conn.proofs.LineLemmas.{moved_by_write}
+use Rattle.asgi_conn.proofs.LineLemmas.{moved_by_write, tries_front}
 use Rattle.asgi_conversation.proofs.LoopLemmas.{within_reads_more, end_seen_within}
 use Rattle.asgi_conversation.proofs.SoFarLemmas.{text_front}
 
@@ -471,10 +473,12 @@ module _ (scene : Scene) (was : LineState) (half : ConnHalf) (read : List ℕ) (
           ∙ sym (ap (λ (o : Option EndKind). response_text scene.facts (taken_of view) ++ added_by (http half.wire.limits scene.facts) (taken_of view) o view.broken_first view.arrived) ending.1))
 
       moves : (now : LineState) (part : List ℕ) (failures : ℕ) → now.left ≡ was.left → now.reads ≡ was.reads → Appends was.written now.written part → RoseBy failures was.failed now.failed
+          → TriesWrites was.writes now.writes (length part) (how_wrote failures (length part))
           → HasMoved scene.start now half.wire.input read (scene.before ++ (view.written ++ part)) failures
-      moves now part failures same_left same_reads appends rose =
+      moves now part failures same_left same_reads appends rose tries =
           subst (λ (l : List ℕ). HasMoved scene.start now half.wire.input read l failures) (append_assoc scene.before view.written part)
-          (moved_by_write scene.start was now half.wire.input read (scene.before ++ view.written) part failures (unfailed scene was half read view x (stage.Ending kind) is refl) same_left same_reads appends rose)
+          (moved_by_write scene.start was now half.wire.input read (scene.before ++ view.written) part failures (unfailed scene was half read view x (stage.Ending kind) is refl) same_left same_reads appends rose
+          tries)
 
       leaves : (f : Following) → following ≡ f → (wire : Wire) → wire.out.items ≡ []
           → Leaves f scene (record half { wire = record half.wire { out = wire.out }; stage = stage.Over following }) read (record view { written = view.written ++ text })
@@ -519,13 +523,13 @@ module _ (scene : Scene) (was : LineState) (half : ConnHalf) (read : List ℕ) (
 
       -- all of it went out
       pub ends_written : (now : LineState) (wire : Wire) → wire ≡ record half.wire { out = wire.out } → wire.out.items ≡ [] → now.left ≡ was.left → now.reads ≡ was.reads
-          → Appends was.written now.written text → RoseBy 0 was.failed now.failed
+          → Appends was.written now.written text → RoseBy 0 was.failed now.failed → TriesWrites was.writes now.writes (length text) wrote.Done
           → Stands scene now (record half { wire = wire; stage = stage.Over following }) read (record view { written = view.written ++ text })
-      ends_written now wire same empty same_left same_reads appends rose =
+      ends_written now wire same empty same_left same_reads appends rose tries =
           subst (λ (w : Wire). Stands scene now (record half { wire = w; stage = stage.Over following }) read (record view { written = view.written ++ text })) (sym same)
           (record {
             moved = subst (λ (k : ℕ). HasMoved scene.start now half.wire.input read (scene.before ++ (view.written ++ text)) k)
-                (sym (ap (λ (f : Following). failures_at (stage.Over f)) real_row ∙ (uncut p real half.broke).1)) (moves now text 0 same_left same_reads appends rose);
+                (sym (ap (λ (f : Following). failures_at (stage.Over f)) real_row ∙ (uncut p real half.broke).1)) (moves now text 0 same_left same_reads appends rose tries);
             limits = x.limits;
             within = x.within;
             keeps = record { offered = x.keeps.offered; written = ([], append-nil (view.written ++ text) ∙ all_output) };
@@ -535,13 +539,13 @@ module _ (scene : Scene) (was : LineState) (half : ConnHalf) (read : List ℕ) (
 
       -- its first m bytes did
       pub ends_cut : (m : ℕ) (now : LineState) (wire : Wire) → wire ≡ record half.wire { out = wire.out } → now.left ≡ was.left → now.reads ≡ was.reads → m < length text
-          → Appends was.written now.written (take m text) → RoseBy 1 was.failed now.failed
+          → Appends was.written now.written (take m text) → RoseBy 1 was.failed now.failed → TriesWrites was.writes now.writes m (wrote.Failed m)
           → Stands scene now (record half { wire = wire; stage = stage.Over (ConnectionEnds (outcome.WriteFailed m)) }) read (record view { written = view.written ++ take m text })
-      ends_cut m now wire same same_left same_reads less appends rose =
+      ends_cut m now wire same same_left same_reads less appends rose tries =
           let t = ending.0 in
           subst (λ (w : Wire). Stands scene now (record half { wire = w; stage = stage.Over (ConnectionEnds (outcome.WriteFailed m)) }) read (record view { written = view.written ++ take m text })) (sym same)
           (record {
-            moved = moves now (take m text) 1 same_left same_reads appends rose;
+            moved = moves now (take m text) 1 same_left same_reads appends rose (tries_front was.writes now.writes m text less tries);
             limits = x.limits;
             within = x.within;
             keeps = record {

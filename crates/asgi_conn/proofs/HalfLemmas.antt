@@ -3,7 +3,9 @@ use Rattle.std.proofs.Common.{◌≡◌, ℕ, false, ◌<◌, List, [], ◌∷�
 use Rattle.std.specs.Io.KnownBytes.{Appends}
 use Rattle.std.proofs.lemmas.List.{append-nil, take-append-drop}
 use mathlib.Core.List.{IsPrefix}
+use Rattle.asgi_io.specs.declared.write.Wrote.TheVariants as wrote
 use Rattle.asgi_io.specs.Counting.{RoseBy}
+use Rattle.asgi_io.specs.Writing.{TriesWrites}
 use Rattle.asgi_types.specs.declared.end_kind.EndKind.{EndKind}
 use Rattle.asgi_types.specs.declared.facts.Facts.{Facts}
 use Rattle.asgi_types.specs.declared.limits.Limits.{Limits}
@@ -31,9 +33,9 @@ use Rattle.asgi_conversation.specs.declared.report.Outcome.TheVariants.{WriteFai
 use Rattle.asgi_conn.specs.declared.wire.Wire.{Wire}
 use Rattle.asgi_conn.specs.Half.{Scene, Stands, IsRunning, IsAt, failures_at, known, state_in}
 use Rattle.asgi_conn.specs.HalfSteps.{Opens, Pending}
-use Rattle.asgi_conn.specs.Lines.{LineState, HasMoved}
+use Rattle.asgi_conn.specs.Lines.{LineState, HasMoved, how_wrote}
 use Rattle.asgi_conversation.specs.Persistence.{Beginning, Saying, StopsWithin}
-use Rattle.asgi_conn.proofs.LineLemmas.{moved_by_write}
+use Rattle.asgi_conn.proofs.LineLemmas.{moved_by_write, tries_front}
 use Rattle.asgi_conversation.proofs.SoFarLemmas.{text_front}
 
 -- ---- what is written
@@ -50,10 +52,11 @@ part_written limits facts view rest unended is = (rest, is ∙ sym (output_open 
 
 moved_on : (scene : Scene) (was now : LineState) (half : ConnHalf) (read written text : List ℕ) (failures : ℕ)
     → HasMoved scene.start was half.wire.input read (scene.before ++ written) 0 → now.left ≡ was.left → now.reads ≡ was.reads → Appends was.written now.written text
-    → RoseBy failures was.failed now.failed → HasMoved scene.start now half.wire.input read (scene.before ++ (written ++ text)) failures
-moved_on scene was now half read written text failures moved same_left same_reads appends rose =
+    → RoseBy failures was.failed now.failed → TriesWrites was.writes now.writes (length text) (how_wrote failures (length text))
+    → HasMoved scene.start now half.wire.input read (scene.before ++ (written ++ text)) failures
+moved_on scene was now half read written text failures moved same_left same_reads appends rose tries =
     subst (λ (l : List ℕ). HasMoved scene.start now half.wire.input read l failures) (append_assoc scene.before written text)
-    (moved_by_write scene.start was now half.wire.input read (scene.before ++ written) text failures moved same_left same_reads appends rose)
+    (moved_by_write scene.start was now half.wire.input read (scene.before ++ written) text failures moved same_left same_reads appends rose tries)
 
 abbrev failed_at : Outcome → ℕ
 failed_at (WriteFailed n) = n
@@ -63,9 +66,10 @@ module _ (scene : Scene) (was now : LineState) (half : ConnHalf) (read : List �
     (same_left : now.left ≡ was.left) (same_reads : now.reads ≡ was.reads) where
   -- all of the text in hand went out
   put_whole : (wire : Wire) → wire ≡ record half.wire { out = wire.out } → wire.out.items ≡ [] → Appends was.written now.written half.wire.out.items → RoseBy 0 was.failed now.failed
+      → TriesWrites was.writes now.writes (length half.wire.out.items) wrote.Done
       → Stands scene now (record half { wire = record half.wire { out = wire.out }; stage = Running }) read (record view { written = view.written ++ half.wire.out.items })
-  put_whole wire same empty appends rose = record {
-    moved = moved_on scene was now half read view.written half.wire.out.items 0 p.moved same_left same_reads appends rose;
+  put_whole wire same empty appends rose tries = record {
+    moved = moved_on scene was now half read view.written half.wire.out.items 0 p.moved same_left same_reads appends rose tries;
     limits = p.limits;
     within = p.within;
     keeps = record {
@@ -92,9 +96,11 @@ module _ (scene : Scene) (was now : LineState) (half : ConnHalf) (read : List �
 
   -- its first n bytes did
   put_part : (n : ℕ) (wire : Wire) → n < length half.wire.out.items → Appends was.written now.written (take n half.wire.out.items) → RoseBy 1 was.failed now.failed
+      → TriesWrites was.writes now.writes n (wrote.Failed n)
       → Stands scene now (record half { wire = record half.wire { out = wire.out }; stage = Cut (WriteFailed n) }) read (record view { written = view.written ++ take n half.wire.out.items })
-  put_part n wire less appends rose = record {
-    moved = moved_on scene was now half read view.written (take n half.wire.out.items) 1 p.moved same_left same_reads appends rose;
+  put_part n wire less appends rose tries = record {
+    moved = moved_on scene was now half read view.written (take n half.wire.out.items) 1 p.moved same_left same_reads appends rose
+        (tries_front was.writes now.writes n half.wire.out.items less tries);
     limits = p.limits;
     within = p.within;
     keeps = record {
@@ -122,18 +128,19 @@ module _ (scene : Scene) (was now : LineState) (half : ConnHalf) (read : List �
   }
 
   pub put_done : (wire : Wire) → wire ≡ record half.wire { out = wire.out } → wire.out.items ≡ [] → Appends was.written now.written half.wire.out.items → RoseBy 0 was.failed now.failed
+      → TriesWrites was.writes now.writes (length half.wire.out.items) wrote.Done
       → Stands scene now (record half { wire = wire }) read (record view { written = view.written ++ half.wire.out.items })
-  put_done wire same empty appends rose =
+  put_done wire same empty appends rose tries =
       subst (λ (w : Wire). Stands scene now (record half { wire = w }) read (record view { written = view.written ++ half.wire.out.items })) (sym same)
       (subst (λ (s : Stage). Stands scene now (record half { wire = record half.wire { out = wire.out }; stage = s }) read (record view { written = view.written ++ half.wire.out.items }))
-      (sym p.running) (put_whole wire same empty appends rose))
+      (sym p.running) (put_whole wire same empty appends rose tries))
 
   pub put_cut : (n : ℕ) (wire : Wire) → wire ≡ record half.wire { out = wire.out } → n < length half.wire.out.items → Appends was.written now.written (take n half.wire.out.items)
-      → RoseBy 1 was.failed now.failed
+      → RoseBy 1 was.failed now.failed → TriesWrites was.writes now.writes n (wrote.Failed n)
       → Stands scene now (record half { wire = wire; stage = Cut (WriteFailed n) }) read (record view { written = view.written ++ take n half.wire.out.items })
-  put_cut n wire same less appends rose =
+  put_cut n wire same less appends rose tries =
       subst (λ (w : Wire). Stands scene now (record half { wire = w; stage = Cut (WriteFailed n) }) read (record view { written = view.written ++ take n half.wire.out.items })) (sym same)
-      (put_part n wire less appends rose)
+      (put_part n wire less appends rose tries)
 
 -- ---- an event is said
 

@@ -1,23 +1,25 @@
 -- What is known of a line behind a read and behind a write.
-use Rattle.std.proofs.Common.{◌≡◌, ℕ, zero, suc, true, false, ◌<◌, ◌≤◌, List, [], ◌∷◌, ◌++◌, length, take, refl, sym, ap, ◌∙◌, subst, append_assoc, Option, Result, Ok, Err, Bool, arith}
-use Rattle.std.specs.Prelude.{All}
+use Rattle.std.proofs.Common.{◌≡◌, ℕ, zero, suc, ◌+◌, true, false, ◌<◌, ◌≤◌, List, [], ◌∷◌, ◌++◌, length, take, refl, sym, ap, ◌∙◌, subst, append_assoc, Option, Result, Ok, Err, Bool, arith}
+use Rattle.std.specs.Prelude.{All, replicate}
 use Rattle.std.specs.Io.{ReadsAtMost}
 use Rattle.std.specs.Io.KnownBytes.{Appends, Consumes, IsAtEnd, ReadConsumes}
 use Rattle.std.specs.IoError.{error_kind}
 use Rattle.std.specs.declared.io.Error.{Error}
-use Rattle.std.proofs.lemmas.List.{length-append, length-take}
+use Rattle.std.proofs.lemmas.List.{append-nil, length-append, length-take}
 use Rattle.std.proofs.lemmas.List.Elements.{All-append, All-cons, All-nil}
 use Rattle.std.proofs.lemmas.List.Sums.{sum_by-append}
 use Rattle.asgi_io.specs.declared.answer.Answer.{Answer}
 use Rattle.asgi_io.specs.declared.answer.Answer.TheVariants as answer
 use Rattle.asgi_io.specs.Answers.{answer_of, passes, bytes_of, moved}
+use Rattle.asgi_io.specs.declared.write.Wrote.TheVariants as wrote
 use Rattle.asgi_io.specs.Counting.{RoseBy}
+use Rattle.asgi_io.specs.Writing.{IsEnd, IsPart, Part, TriesWrites, part_answers}
 use Rattle.asgi_io.proofs.BytesLemmas.{Appends-then, Consumes-nothing, Consumes-then}
 use Rattle.asgi_io.proofs.CountLemmas.{rose_after}
 use Rattle.asgi_io.proofs.WriteLemmas.{moved_some, moved_none, paused, failed}
 use Rattle.asgi_conversation.specs.declared.input.InputEnd.{InputEnd}
 use Rattle.asgi_conversation.specs.declared.input.InputEnd.TheVariants.{OpenStill, AtEnd, Failed}
-use Rattle.asgi_conn.specs.Lines.{LineState, HasMoved, EndsAs, GoesOn, input_behind, piece_size}
+use Rattle.asgi_conn.specs.Lines.{LineState, HasMoved, EndsAs, GoesOn, how_wrote, input_behind, piece_size}
 use Rattle.asgi_conversation.specs.TaskEnds.{has_ended}
 
 -- ---- one read
@@ -93,42 +95,79 @@ sum_more answers a read piece sum size = omega (arith, sum_by-append bytes_of an
 -- the input is still open: one more read
 pub moved_by_read : (start : LineState) (old new : LineState) (read written : List ℕ) (failures : ℕ) (buffer : List ℕ) (a : Answer)
     → HasMoved start old OpenStill read written failures → Gave old.left new.left buffer a → new.reads ≡ old.reads ++ a ∷ []
-    → new.written ≡ old.written → new.failed ≡ old.failed
+    → new.written ≡ old.written → new.writes ≡ old.writes → new.failed ≡ old.failed
     → HasMoved start new (input_behind OpenStill a) (read ++ take (bytes_of a) buffer) written failures
-moved_by_read start old new read written failures buffer a x y told same_written same_failed = record {
+moved_by_read start old new read written failures buffer a x y told same_written same_writes same_failed = record {
   consumes = Consumes-then start.left old.left new.left read (take (bytes_of a) buffer) x.consumes y.consumes;
   appends = subst (λ (w : Option (List ℕ)). Appends start.written w written) (sym same_written) x.appends;
   answers = x.answers ++ a ∷ [];
   told = told ∙ (ap (λ (l : List Answer). l ++ a ∷ []) x.told ∙ append_assoc start.reads x.answers (a ∷ []));
   sum = sum_more x.answers a read (take (bytes_of a) buffer) x.sum (gave_length buffer a y.fits);
   ends = ends_more x.answers a old.left new.left x.ends y.ends;
+  tries = subst (λ (l : List Answer). TriesWrites start.writes l (length written) (how_wrote failures (length written))) (sym same_writes) x.tries;
   failed = subst (λ (n : ℕ). RoseBy failures start.failed n) (sym same_failed) x.failed;
 }
 
 -- the same, where the input is told by a test
 pub moved_by_open_read : (start : LineState) (old new : LineState) (end : InputEnd) (read written : List ℕ) (failures : ℕ) (buffer : List ℕ) (a : Answer) → has_ended end ≡ false
     → HasMoved start old end read written failures → Gave old.left new.left buffer a → new.reads ≡ old.reads ++ a ∷ []
-    → new.written ≡ old.written → new.failed ≡ old.failed
+    → new.written ≡ old.written → new.writes ≡ old.writes → new.failed ≡ old.failed
     → HasMoved start new (input_behind end a) (read ++ take (bytes_of a) buffer) written failures
-moved_by_open_read start old new OpenStill read written failures buffer a still x y told same_written same_failed =
-    moved_by_read start old new read written failures buffer a x y told same_written same_failed
-moved_by_open_read start old new AtEnd read written failures buffer a still x y told same_written same_failed = cc
-moved_by_open_read start old new Failed read written failures buffer a still x y told same_written same_failed = cc
+moved_by_open_read start old new OpenStill read written failures buffer a still x y told same_written same_writes same_failed =
+    moved_by_read start old new read written failures buffer a x y told same_written same_writes same_failed
+moved_by_open_read start old new AtEnd read written failures buffer a still x y told same_written same_writes same_failed = cc
+moved_by_open_read start old new Failed read written failures buffer a still x y told same_written same_writes same_failed = cc
 
 -- ---- a write
+
+parts_append : (parts more : List Part) → part_answers (parts ++ more) ≡ part_answers parts ++ part_answers more
+parts_append [] more = refl
+parts_append (p ∷ parts) more =
+    ap (λ (l : List Answer). replicate p.pauses answer.Paused ++ answer.Moved p.bytes ∷ l) (parts_append parts more)
+    ∙ sym (append_assoc (replicate p.pauses answer.Paused) (answer.Moved p.bytes ∷ part_answers parts) (part_answers more))
+
+-- the answers at the end are those of any other count of bytes
+same_end : (failures out more : ℕ) (end : List Answer) → IsEnd (how_wrote failures out) end → IsEnd (how_wrote failures more) end
+same_end zero out more end x = x
+same_end (suc failures) out more end x = x
+
+-- one text behind another that went out whole
+tries_then : (before mid after : List Answer) (out more failures : ℕ) → TriesWrites before mid out wrote.Done → TriesWrites mid after more (how_wrote failures more)
+    → TriesWrites before after (out + more) (how_wrote failures (out + more))
+tries_then before mid after out more failures x y =
+    let whole : mid ≡ before ++ part_answers x.parts = x.told ∙ (ap (λ (l : List Answer). before ++ part_answers x.parts ++ l) x.ends ∙ append-nil (before ++ part_answers x.parts)) in
+    record {
+      parts = x.parts ++ y.parts;
+      end = y.end;
+      each = All-append IsPart x.parts y.parts x.each y.each;
+      sum = omega (arith, sum_by-append (λ (p : Part). p.bytes) x.parts y.parts, x.sum, y.sum);
+      ends = same_end failures more (out + more) y.end y.ends;
+      told = y.told ∙ ap (λ (l : List Answer). l ++ part_answers y.parts ++ y.end) whole
+          ∙ ap (λ (l : List Answer). l ++ y.end) (append_assoc before (part_answers x.parts) (part_answers y.parts) ∙ ap (λ (l : List Answer). before ++ l) (sym (parts_append x.parts y.parts)));
+    }
+
+-- the first n bytes of a text, counted
+pub tries_front : (before after : List Answer) (n : ℕ) (text : List ℕ) → n < length text → TriesWrites before after n (wrote.Failed n)
+    → TriesWrites before after (length (take n text)) (how_wrote 1 (length (take n text)))
+tries_front before after n text less x =
+    let counted : n ≡ length (take n text) = omega (arith, length-take n text, less) in
+    subst (λ (k : ℕ). TriesWrites before after k (wrote.Failed k)) counted x
 
 ends_with : (end : InputEnd) (answers : List Answer) (left next : Option (List ℕ)) → next ≡ left → EndsAs end answers left → EndsAs end answers next
 ends_with end answers left next same x = subst (λ (l : Option (List ℕ)). EndsAs end answers l) (sym same) x
 
 pub moved_by_write : (start : LineState) (old new : LineState) (end : InputEnd) (read written text : List ℕ) (failures : ℕ)
     → HasMoved start old end read written 0 → new.left ≡ old.left → new.reads ≡ old.reads → Appends old.written new.written text → RoseBy failures old.failed new.failed
+    → TriesWrites old.writes new.writes (length text) (how_wrote failures (length text))
     → HasMoved start new end read (written ++ text) failures
-moved_by_write start old new end read written text failures x same_left same_reads appends rose = record {
+moved_by_write start old new end read written text failures x same_left same_reads appends rose tries = record {
   consumes = subst (λ (l : Option (List ℕ)). Consumes start.left l read) (sym same_left) x.consumes;
   appends = Appends-then start.written old.written new.written written text x.appends appends;
   answers = x.answers;
   told = same_reads ∙ x.told;
   sum = x.sum;
   ends = ends_with end x.answers old.left new.left same_left x.ends;
+  tries = subst (λ (k : ℕ). TriesWrites start.writes new.writes k (how_wrote failures k)) (sym (length-append written text))
+      (tries_then start.writes old.writes new.writes (length written) (length text) failures x.tries tries);
   failed = rose_after failures start.failed old.failed new.failed x.failed rose;
 }

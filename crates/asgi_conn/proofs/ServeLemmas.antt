@@ -16,6 +16,7 @@ use Rattle.asgi_io.specs.declared.turns.Turn.{Turn}
 use Rattle.asgi_io.specs.Turns.{CountsTurns}
 use Rattle.asgi_io.proofs.BytesLemmas.{Appends-nothing, Consumes-nothing, Keeps-same}
 use Rattle.asgi_io.proofs.CountLemmas.{never_fell}
+use Rattle.asgi_io.proofs.WriteLemmas.{no_parts, tries_all}
 use Rattle.asgi_apps.specs.Scopes.{kind_of}
 use Rattle.asgi_request.specs.declared.next.Next.{Next}
 use Rattle.asgi_request.specs.declared.next.Next.TheVariants.{Need, Head, Bad}
@@ -83,6 +84,7 @@ moved_nothing start end still = subst (λ (e : InputEnd). HasMoved start start e
   told = sym (append-nil start.reads);
   sum = refl;
   ends = All-nil lines.GoesOn;
+  tries = tries_all start.writes start.writes 0 (no_parts start.writes);
   failed = never_fell start.failed;
 })
 

@@ -1,12 +1,15 @@
 -- What a connection read from its line and wrote to it, since it began.
-use Rattle.std.specs.Prelude.{◌≡◌, ◌<◌, ◌≤◌, ℕ, List, ◌∷◌, ◌++◌, [], length, All, Option}
+use Rattle.std.specs.Prelude.{◌≡◌, ◌<◌, ◌≤◌, ℕ, zero, suc, List, ◌∷◌, ◌++◌, [], length, All, Option, None, Some}
 use Rattle.std.specs.Io.KnownBytes.{Appends, Consumes, IsAtEnd}
 use Rattle.asgi_io.specs.declared.answer.Answer.{Answer}
 use Rattle.asgi_io.specs.declared.answer.Answer.TheVariants as answer
 use Rattle.asgi_io.specs.declared.counts.Counts as counts
 use Rattle.asgi_io.specs.declared.reads.Reads as reads
+use Rattle.asgi_io.specs.declared.write.Wrote.{Wrote}
+use Rattle.asgi_io.specs.declared.write.Wrote.TheVariants as wrote
 use Rattle.asgi_io.specs.Answers.{moved}
 use Rattle.asgi_io.specs.Counting.{RoseBy}
+use Rattle.asgi_io.specs.Writing.{TriesWrites}
 use Rattle.asgi_conversation.specs.declared.input.InputEnd.{InputEnd}
 use Rattle.asgi_conversation.specs.declared.input.InputEnd.TheVariants.{OpenStill, AtEnd, Failed}
 
@@ -15,12 +18,13 @@ pub record LineState : Type 0 where
   -- the bytes that are still to be read, and how each read was answered
   pub left : Option (List ℕ)
   pub reads : List Answer
-  -- the bytes that it holds, and how many writes failed
+  -- the bytes that it holds, how each write was answered, and how many failed
   pub written : Option (List ℕ)
+  pub writes : List Answer
   pub failed : ℕ
 
 abbrev pub state_of : {L : Type 0} → reads.Ghosts L → counts.Ghosts L → L → LineState
-state_of R W line = record { left = R.remaining line; reads = R.answers line; written = W.written line; failed = W.failed line }
+state_of R W line = record { left = R.remaining line; reads = R.answers line; written = W.written line; writes = W.answers line; failed = W.failed line }
 
 -- the most bytes that one turn reads
 abbrev pub piece_size : ℕ
@@ -46,6 +50,11 @@ EndsAs OpenStill answers left = All GoesOn answers
 EndsAs AtEnd answers left = (before : List Answer) × (answers ≡ before ++ answer.Nothing ∷ []) × All GoesOn before × IsAtEnd left
 EndsAs Failed answers left = (before : List Answer) × (answers ≡ before ++ answer.Failed ∷ []) × All GoesOn before
 
+-- how writing ended, behind so many bytes: where a write failed it stopped there
+abbrev pub how_wrote : ℕ → ℕ → Wrote
+how_wrote zero out = wrote.Done
+how_wrote (suc failures) out = wrote.Failed out
+
 -- So much was read and written, and so many writes failed or more.
 pub record HasMoved (start now : LineState) (end : InputEnd) (read written : List ℕ) (failures : ℕ) : Type 0 where
   pub consumes : Consumes start.left now.left read
@@ -55,4 +64,13 @@ pub record HasMoved (start now : LineState) (end : InputEnd) (read written : Lis
   pub told : now.reads ≡ start.reads ++ answers
   pub sum : moved answers ≡ length read
   pub ends : EndsAs end answers now.left
+  -- the writes that took these bytes: part by part, each behind at most 1,000 pauses in a row, and none behind one that failed
+  pub tries : TriesWrites start.writes now.writes (length written) (how_wrote failures (length written))
   pub failed : RoseBy failures start.failed now.failed
+
+-- ---- what the private functions of writing tell: no promise is stated by it
+
+-- how a text was written, of which so much went out where a write failed
+abbrev pub how_put : Option ℕ → Wrote
+how_put None = wrote.Done
+how_put (Some n) = wrote.Failed n

@@ -3,9 +3,10 @@ ghost use Rattle.std.specs.Prelude.{◌≡◌, ◌<◌, ◌≤◌, ◌++◌, [],
 ghost use Rattle.std.specs.Io.KnownBytes.{Appends};
 ghost use Rattle.asgi_io.specs.Answers.{bytes_of};
 ghost use Rattle.asgi_io.specs.Counting.{RoseBy};
+ghost use Rattle.asgi_io.specs.Writing.{TriesWrites, out_of};
 ghost use Rattle.asgi_request.specs.declared.next.Next.{Next};
 ghost use Rattle.asgi_request.specs.Reading.{StandsFor};
-ghost use Rattle.asgi_conn.specs.Lines.{LineState, HasMoved, input_behind, state_of};
+ghost use Rattle.asgi_conn.specs.Lines.{LineState, HasMoved, how_put, input_behind, state_of};
 ghost use Rattle.asgi_conversation.specs.TaskEnds.{has_ended};
 
 use crate::line::Line;
@@ -96,6 +97,7 @@ impl Wire {
     pub fn put<L: Line>(&mut self, line: &mut L) -> Option<usize>
         ensures none { IfNone result (Appends (L.written line.old) (L.written line.new) self.old.out.items × RoseBy 0 (L.failed line.old) (L.failed line.new)) }
         ensures some { IfSome result (λ n. (n < length self.old.out.items) × Appends (L.written line.old) (L.written line.new) (take n self.old.out.items) × RoseBy 1 (L.failed line.old) (L.failed line.new)) }
+        ensures tries { TriesWrites (L.Counts.answers line.old) (L.Counts.answers line.new) (out_of self.old.out.items (how_put result)) (how_put result) }
         ensures reads { (L.remaining line.new ≡ L.remaining line.old) × (L.Reads.answers line.new ≡ L.Reads.answers line.old) }
         ensures same { self.new ≡ record self.old { out = self.new.out } }
         ensures empty { self.new.out.items ≡ [] }
@@ -110,6 +112,7 @@ impl Wire {
 pub fn write<L: Line>(line: &mut L, text: &[u8]) -> Option<usize>
     ensures none { IfNone result (Appends (L.written line.old) (L.written line.new) text.now × RoseBy 0 (L.failed line.old) (L.failed line.new)) }
     ensures some { IfSome result (λ n. (n < length text.now) × Appends (L.written line.old) (L.written line.new) (take n text.now) × RoseBy 1 (L.failed line.old) (L.failed line.new)) }
+    ensures tries { TriesWrites (L.Counts.answers line.old) (L.Counts.answers line.new) (out_of text.now (how_put result)) (how_put result) }
     ensures reads { (L.remaining line.new ≡ L.remaining line.old) × (L.Reads.answers line.new ≡ L.Reads.answers line.old) }
 {
     match write_out(line, text) {

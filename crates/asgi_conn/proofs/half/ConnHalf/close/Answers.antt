@@ -42,7 +42,7 @@ returns-in-None-clause-leads g c scene read view x =
       stays_there scene now _ read _
           (ends_written scene line half read view x c.args.kind c.requires.ending c.args.progress c.requires.progress c.requires.known c.after_task-following.result
           (λ state e. c.after_task-following.ensures state (e ∙ sym c.input_of-input.ensures)) c.in_default.not-Idle c.end.new.out.items adds now c.put.new.self c.put.ensures.same c.put.ensures.empty
-          c.put.ensures.reads.0 c.put.ensures.reads.1 wrote.0 wrote.1),
+          c.put.ensures.reads.0 c.put.ensures.reads.1 wrote.0 wrote.1 c.in-None.ensures.tries),
     )
 
 pub returns-in-Some-clause-leads : goal.returns-in-Some-clause-leads
@@ -59,5 +59,5 @@ returns-in-Some-clause-leads g c scene read view x =
       stays_there scene now _ read _
           (ends_cut scene line half read view x c.args.kind c.requires.ending c.args.progress c.requires.progress c.requires.known c.after_task-following.result
           (λ state e. c.after_task-following.ensures state (e ∙ sym c.input_of-input.ensures)) c.in_default.not-Idle c.end.new.out.items adds c.in-Some.n now c.put.new.self c.put.ensures.same
-          c.put.ensures.reads.0 c.put.ensures.reads.1 wrote.0 wrote.1 wrote.2),
+          c.put.ensures.reads.0 c.put.ensures.reads.1 wrote.0 wrote.1 wrote.2 c.in-Some.ensures.tries),
     )

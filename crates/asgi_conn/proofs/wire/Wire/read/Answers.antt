@@ -16,7 +16,7 @@ returns-in-Ok-clause-moved g c =
           subst (λ (end : InputEnd). HasMoved start (state_of g.L.Reads g.L.Counts c.read_some-read.new.self) end (read ++ take (bytes_of a) buffer) written failures)
           (sym c.take_in.ensures.input)
           (moved_by_open_read start (state_of g.L.Reads g.L.Counts c.args.line.now) _ c.args.self.now.input read written failures buffer a c.requires moved x
-          (told_as _ _ buffer c.read_some-read.result a c.read_some-read.ensures.told (omega (arith, c.read_some-read.auto.buf)) c.answer_of-answer.ensures) stay.0 stay.1.0),
+          (told_as _ _ buffer c.read_some-read.result a c.read_some-read.ensures.told (omega (arith, c.read_some-read.auto.buf)) c.answer_of-answer.ensures) stay.0 stay.1.1 stay.1.0),
       c.in-Ok.ensures.fed,
     )
 
@@ -31,6 +31,6 @@ returns-in-Err-clause-moved g c =
           subst (λ (end : InputEnd). HasMoved start (state_of g.L.Reads g.L.Counts c.read_some-read.new.self) end (read ++ take (bytes_of a) buffer) written failures)
           (sym c.take_in.ensures.input)
           (moved_by_open_read start (state_of g.L.Reads g.L.Counts c.args.line.now) _ c.args.self.now.input read written failures buffer a c.requires moved x
-          (told_as _ _ buffer c.read_some-read.result a c.read_some-read.ensures.told (omega (arith, c.read_some-read.auto.buf)) c.answer_of-answer.ensures) stay.0 stay.1.0),
+          (told_as _ _ buffer c.read_some-read.result a c.read_some-read.ensures.told (omega (arith, c.read_some-read.auto.buf)) c.answer_of-answer.ensures) stay.0 stay.1.1 stay.1.0),
       tt,
     )
