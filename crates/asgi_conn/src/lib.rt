@@ -6,6 +6,7 @@ mod half;
 mod inline;
 pub mod laws;
 mod line;
+mod piece;
 mod runner;
 mod tally;
 mod wire;

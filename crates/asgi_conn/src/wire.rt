@@ -10,14 +10,12 @@ ghost use Rattle.asgi_conn.specs.Lines.{LineState, HasMoved, how_put, input_behi
 ghost use Rattle.asgi_conversation.specs.TaskEnds.{has_ended};
 
 use crate::line::Line;
+use crate::piece::{PIECE, Piece};
 use asgi_conversation::InputEnd;
 use asgi_io::{Answer, Turn, Wrote, answer_of, write_out};
 use asgi_request::RequestReader;
 use asgi_types::Limits;
 use std::alloc::{AllocError, Global};
-
-/// The most bytes that one turn reads.
-pub const PIECE: usize = 4_096;
 
 /// What a connection keeps from its first byte to its last.
 #[derive(Drop)]
@@ -28,8 +26,7 @@ pub struct Wire {
     pub input: InputEnd,
     /// The text in hand, empty between two.
     pub out: Vec<u8>,
-    /// Where a read puts its bytes: empty, or as long as one turn may read.
-    pub piece: Vec<u8>,
+    pub piece: Piece,
 }
 
 impl Wire {
@@ -45,7 +42,7 @@ impl Wire {
             requests: RequestReader::new(alloc, limits),
             input: InputEnd::OpenStill,
             out: Vec::new(alloc),
-            piece: Vec::new(alloc),
+            piece: Piece::new(alloc),
         }
     }
 
@@ -59,19 +56,19 @@ impl Wire {
         ensures same { self.new ≡ record self.old { requests = self.new.requests; input = self.new.input } }
         ensures limits { self.new.requests.limits ≡ self.old.requests.limits }
     {
-        if self.piece.is_empty() {
-            self.piece.resize(PIECE, 0)?;
-        }
-        let read = line.read_some(&mut self.piece);
+        let mut piece = self.piece.lend(self.alloc)?;
+        let read = line.read_some(piece.as_mut_slice());
         let answer = answer_of(&read, PIECE);
-        match self.take_in(answer) {
+        let taken = self.take_in(answer, piece.as_slice());
+        self.piece.take_back(piece);
+        match taken {
             Ok(()) => Ok(answer.turn()),
             Err(e) => Err(e),
         }
     }
 
     /// Takes what a read gave, whose answer tells how much of the piece it is.
-    fn take_in(&mut self, answer: Answer) -> Result<(), AllocError>
+    fn take_in(&mut self, answer: Answer, piece: &[u8]) -> Result<(), AllocError>
         requires { bytes_of answer ≤ length piece.now }
         ensures fed { OnOk result ((bytes : List ℕ) (given : List Next) → StandsFor self.old.requests bytes given
             → StandsFor self.new.requests (bytes ++ take (bytes_of answer) piece.now) given) }
@@ -80,7 +77,7 @@ impl Wire {
         ensures limits { self.new.requests.limits ≡ self.old.requests.limits }
     {
         match answer {
-            Answer::Moved(n) => self.requests.feed(&self.piece[..n]),
+            Answer::Moved(n) => self.requests.feed(&piece[..n]),
             Answer::Nothing => {
                 self.input = InputEnd::AtEnd;
                 Ok(())
