@@ -1,5 +1,5 @@
 -- What a task does to its end, poll after poll, and what it promises meanwhile.
-use Rattle.std.proofs.Common.{◌≡◌, List, [], ◌∷◌, ◌++◌, Option, Some, None, IsSomeAnd, refl, sym, ap, ◌∙◌, subst, append_assoc}
+use Rattle.std.proofs.Common.{◌≡◌, List, [], ◌++◌, Option, Some, None, IsSomeAnd, refl, sym, ap, ◌∙◌, subst, append_assoc}
 use Rattle.std.proofs.lemmas.List.{append-nil}
 use mathlib.Core.List.{IsPrefix}
 use Rattle.asgi_types.specs.declared.scope.Kind.{Kind}
@@ -87,6 +87,13 @@ module _ {E : Type 0} (ends : Ghosts E) where
     }
     asked (Some a) None may same = absurd may
     asked None new may same = absurd same
+
+    -- what holds of the end that a task left holds of the one that is given back
+    pub given_back : (old mid : Option (Lent T E)) (end : E) (P : Lent T E → E → Type 0) → IsSomeAnd old (λ was. IsSomeAnd mid (λ is. P was is.app_end))
+        → IsSomeAnd mid (λ is. end ≡ is.app_end) → IsSomeAnd old (λ was. P was end)
+    given_back (Some a) (Some b) end P x same = subst (P a) (sym same) x
+    given_back (Some a) None end P x same = absurd x
+    given_back None mid end P x same = absurd x
 
     -- how a task ended that was polled before
     pub ended_further : (old mid : Option (Lent T E)) (last : Option EndKind) (end : E) → Polled old mid → IsSomeAnd mid (λ is. GoesOn ends last is.app_end end)

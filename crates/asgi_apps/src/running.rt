@@ -1,5 +1,5 @@
 //! A task with the end that it is lent: as a future, and driven by hand.
-ghost use Rattle.std.specs.Prelude.{◌≡◌, ◌≢◌, ◌≤◌, ◌⊎◌, ◌+◌, ℕ, List, Option, Some, None, IsSomeAnd};
+ghost use Rattle.std.specs.Prelude.{◌≡◌, ◌≢◌, ◌≤◌, ◌⊎◌, ◌+◌, ℕ, List, Option, Some, None, IsSome, IsSomeAnd};
 ghost use Rattle.futures.specs.Poll.{IfReady, OnPending};
 ghost use Rattle.futures.specs.Task.{IsArmed, Keeps};
 ghost use Rattle.asgi_io.specs.Counting.{RoseBy, counted};
@@ -25,7 +25,7 @@ pub struct Lent<T, E> {
 /// A task that runs, as a future that gives it back when it ended.
 #[derive(Drop)]
 pub struct Running<T, E> {
-    /// None once the task ended.
+    /// None once the task has ended and was given back.
     pub lent: Option<Lent<T, E>>,
     /// The polls that were made.
     pub turns: u64,
@@ -39,6 +39,41 @@ pub struct Ended<T, E> {
     pub kind: EndKind,
     /// The polls that were made.
     pub turns: u64,
+}
+
+impl<T: AppTask, E: AppEnd> Lent<T, E> {
+    /// Polls the task once. Where it ended, its end is put behind all that it said.
+    fn turn(&mut self, cx: &mut Context<'_>) -> Poll<EndKind>
+        requires { MayGoOn T.stands E.AppEnd self.old.task self.old.app_end }
+        ensures ready { IfReady result (λ kind. GoesOn E.AppEnd (Some kind) self.old.app_end self.new.app_end) }
+        ensures answers { IfReady result (λ kind. T.answers self.old.task (E.heard self.new.app_end) (E.said self.new.app_end) (own_end kind)) }
+        ensures not_idle { IfReady result (λ kind. kind ≢ EndKind.Idle) }
+        ensures pending { OnPending result (GoesOn E.AppEnd None self.old.app_end self.new.app_end) }
+        ensures same { OnPending result (IsWithin T.answers self.new.task self.old.task) }
+        ensures again { OnPending result (MayGoOn T.stands E.AppEnd self.new.task self.new.app_end) }
+        ensures armed { OnPending result (IsArmed cx.new) }
+        ensures kept { Keeps cx.old cx.new }
+    {
+        let Poll::Ready(answer) = self.task.poll(cx, &mut self.app_end) else {
+            return Poll::Pending;
+        };
+        let kind = kind_of(answer);
+        finish(&mut self.app_end, kind);
+        Poll::Ready(kind)
+    }
+
+    /// What the polls since this was last asked did.
+    fn moved(&mut self) -> Turn
+        requires { MayGoOn T.stands E.AppEnd self.old.task self.old.app_end }
+        ensures turn { result ≡ turn_of (E.has_moved self.old.app_end) }
+        ensures same { (self.new.task ≡ self.old.task) × GoesOn E.AppEnd None self.old.app_end self.new.app_end }
+        ensures again { MayGoOn T.stands E.AppEnd self.new.task self.new.app_end }
+    {
+        if self.app_end.moved() {
+            return Turn::Moved;
+        }
+        Turn::Idle
+    }
 }
 
 impl<T: AppTask, E: AppEnd> Running<T, E> {
@@ -55,16 +90,16 @@ impl<T: AppTask, E: AppEnd> Running<T, E> {
         }
     }
 
-    /// Polls the task once. Where it ended, `finish` is called, and nothing runs any more.
+    /// Polls the task once. Where it ended, `finish` was called on its end, and it may be polled no more.
     pub fn turn(&mut self, cx: &mut Context<'_>) -> Poll<EndKind>
         requires { IsSomeAnd self.old.lent (λ was. MayGoOn T.stands E.AppEnd was.task was.app_end) }
-        ensures ready { IfReady result (λ ended. IsSomeAnd self.old.lent (λ was. GoesOn E.AppEnd (Some ended.kind) was.app_end ended.app_end)) }
-        ensures answers { IfReady result (λ ended. IsSomeAnd self.old.lent (λ was. T.answers was.task (E.heard ended.app_end) (E.said ended.app_end) (own_end ended.kind))) }
-        ensures not_idle { IfReady result (λ ended. (ended.kind ≢ EndKind.Idle) × (ended.turns ≡ counted (self.old.turns + 1))) }
+        ensures ready { IfReady result (λ kind. IsSomeAnd self.old.lent (λ was. IsSomeAnd self.new.lent (λ is. GoesOn E.AppEnd (Some kind) was.app_end is.app_end))) }
+        ensures answers { IfReady result (λ kind. IsSomeAnd self.old.lent (λ was. IsSomeAnd self.new.lent (λ is. T.answers was.task (E.heard is.app_end) (E.said is.app_end) (own_end kind)))) }
+        ensures not_idle { IfReady result (λ kind. kind ≢ EndKind.Idle) }
         ensures pending { OnPending result (IsSomeAnd self.old.lent (λ was. IsSomeAnd self.new.lent (λ is. GoesOn E.AppEnd None was.app_end is.app_end))) }
         ensures same { OnPending result (IsSomeAnd self.old.lent (λ was. IsSomeAnd self.new.lent (λ is. IsWithin T.answers is.task was.task))) }
         ensures again { OnPending result (IsSomeAnd self.new.lent (λ is. MayGoOn T.stands E.AppEnd is.task is.app_end)) }
-        ensures turns { OnPending result (self.new.turns ≡ counted (self.old.turns + 1)) }
+        ensures turns { self.new.turns ≡ counted (self.old.turns + 1) }
         ensures armed { OnPending result (IsArmed cx.new) }
         ensures kept { Keeps cx.old cx.new }
     {
@@ -72,12 +107,7 @@ impl<T: AppTask, E: AppEnd> Running<T, E> {
         let Some(lent) = &mut self.lent else {
             unreachable!()
         };
-        let Poll::Ready(answer) = lent.task.poll(cx, &mut lent.app_end) else {
-            return Poll::Pending;
-        };
-        let kind = kind_of(answer);
-        let _first = lent.app_end.finish(kind);
-        Poll::Ready(kind)
+        lent.turn(cx)
     }
 
     /// What the polls since this was last asked did.
@@ -91,16 +121,39 @@ impl<T: AppTask, E: AppEnd> Running<T, E> {
         let Some(lent) = &mut self.lent else {
             unreachable!()
         };
-        if lent.app_end.moved() { Turn::Moved } else { Turn::Idle }
+        lent.moved()
     }
 
-    /// What it gives back once it has ended.
-    pub fn into_ended(&mut self, kind: EndKind) -> Ended<T, E>
+    /// Gives back the task and its end, behind so many polls.
+    fn give_back(&mut self, kind: EndKind, turns: u64) -> Ended<T, E>
+        requires { IsSome self.old.lent }
+        ensures task { IsSomeAnd self.old.lent (λ was. result.task ≡ was.task) }
+        ensures end { IsSomeAnd self.old.lent (λ was. result.app_end ≡ was.app_end) }
+        ensures kind { (result.kind ≡ kind) × (result.turns ≡ turns) }
     {
-        let Some(Lent { task, app_end }) = self.lent.take() else {
+        let Some(lent) = self.lent.take() else {
             unreachable!()
         };
-        Ended { task, app_end, kind, turns: self.turns }
+        let Lent { task, app_end } = lent;
+        Ended {
+            task,
+            app_end,
+            kind,
+            turns,
+        }
+    }
+
+    /// Ends a task that a limit stops.
+    fn stop(&mut self, turns: u64) -> Ended<T, E>
+        requires { IsSomeAnd self.old.lent (λ was. E.ended was.app_end ≡ None) }
+        ensures end { IsSomeAnd self.old.lent (λ was. GoesOn E.AppEnd (Some EndKind.Idle) was.app_end result.app_end) }
+        ensures lists { IsSomeAnd self.old.lent (λ was. (E.heard result.app_end ≡ E.heard was.app_end) × (E.said result.app_end ≡ E.said was.app_end)) }
+        ensures task { IsSomeAnd self.old.lent (λ was. result.task ≡ was.task) }
+        ensures kind { (result.kind ≡ EndKind.Idle) × (result.turns ≡ turns) }
+    {
+        let mut ended = self.give_back(EndKind::Idle, turns);
+        finish(&mut ended.app_end, EndKind::Idle);
+        ended
     }
 }
 
@@ -116,20 +169,12 @@ fn kind_of(answer: Result<(), AppFault>) -> EndKind
 }
 
 /// Puts the end of the task behind all that it said.
-fn finish<T, E: AppEnd>(task: T, end: E, kind: EndKind, turns: u64) -> Ended<T, E>
-    requires { E.ended end ≡ None }
-    ensures end { GoesOn E.AppEnd (Some kind) end result.app_end }
-    ensures lists { (E.heard result.app_end ≡ E.heard end) × (E.said result.app_end ≡ E.said end) }
-    ensures same { (result.task ≡ task) × (result.kind ≡ kind) × (result.turns ≡ turns) }
+fn finish<E: AppEnd>(end: &mut E, kind: EndKind)
+    requires { E.ended end.old ≡ None }
+    ensures end { GoesOn E.AppEnd (Some kind) end.old end.new }
+    ensures lists { (E.heard end.new ≡ E.heard end.old) × (E.said end.new ≡ E.said end.old) }
 {
-    let mut app_end = end;
-    let _first = app_end.finish(kind);
-    Ended {
-        task,
-        app_end,
-        kind,
-        turns,
-    }
+    let _first = end.finish(kind);
 }
 
 impl<T: AppTask, E: AppEnd> Future for Running<T, E> {
@@ -142,7 +187,7 @@ impl<T: AppTask, E: AppEnd> Future for Running<T, E> {
     fn poll(&mut self, cx: &mut Context<'_>) -> Poll<Ended<T, E>> {
         match self.turn(cx) {
             Poll::Pending => Poll::Pending,
-            Poll::Ready(kind) => Poll::Ready(self.into_ended(kind)),
+            Poll::Ready(kind) => Poll::Ready(self.give_back(kind, self.turns)),
         }
     }
 }
@@ -169,31 +214,9 @@ pub fn drive<T: AppTask, E: AppEnd, P: Pause>(
     while !taken.is_over() {
         if let Poll::Ready(kind) = running.turn(cx) {
             taken.take(Turn::Last, pause);
-            return counted_as(running.into_ended(kind), taken.turns);
+            return running.give_back(kind, taken.turns);
         }
         taken.take(running.moved(), pause);
     }
-    stop(running, taken.turns)
-}
-
-/// The same end, behind so many polls.
-fn counted_as<T, E>(ended: Ended<T, E>, turns: u64) -> Ended<T, E>
-    ensures same { (result.task ≡ ended.task) × (result.app_end ≡ ended.app_end) × (result.kind ≡ ended.kind) }
-    ensures turns { result.turns ≡ turns }
-{
-    Ended { turns, ..ended }
-}
-
-/// Ends a task that a limit stops.
-fn stop<T: AppTask, E: AppEnd>(running: Running<T, E>, turns: u64) -> Ended<T, E>
-    requires { IsSomeAnd running.lent (λ was. E.ended was.app_end ≡ None) }
-    ensures end { IsSomeAnd running.lent (λ was. GoesOn E.AppEnd (Some EndKind.Idle) was.app_end result.app_end) }
-    ensures lists { IsSomeAnd running.lent (λ was. (E.heard result.app_end ≡ E.heard was.app_end) × (E.said result.app_end ≡ E.said was.app_end)) }
-    ensures task { IsSomeAnd running.lent (λ was. result.task ≡ was.task) }
-    ensures kind { (result.kind ≡ EndKind.Idle) × (result.turns ≡ turns) }
-{
-    let Running { lent, turns: _ } = running;
-    let Some(lent) = lent else { unreachable!() };
-    let Lent { task, app_end } = lent;
-    finish(task, app_end, EndKind::Idle, turns)
+    running.stop(taken.turns)
 }

@@ -28,7 +28,7 @@ use Rattle.asgi_conn.specs.declared.runner.AppSide.{AppSide}
 use Rattle.asgi_conn.specs.declared.runner.AppSide.TheVariants.{Runs, HasEnded}
 use Rattle.asgi_conn.specs.Half.{Stands, Leads}
 use Rattle.asgi_conn.specs.Lines.{LineState}
-use Rattle.asgi_conn.specs.Running.{OfEnd, MayRun, Answers, IsOfRequest, SameLists, GoesOnAs}
+use Rattle.asgi_conn.specs.Running.{OfEnd, MayRun, Answers, IsOfRequest, SameLists, GoesOnAs, EndsIn, TagStays}
 
 -- ---- the connection's half
 
@@ -59,7 +59,27 @@ some_both : {A : Type 0} (o : Option A) (P Q R : A → Type 0) → IsSomeAnd o P
 some_both (Some x) P Q R p q f = f x p q
 some_both None P Q R p q f = absurd p
 
+of_end_then : {T E : Type 0} (side : AppSide T E) (P Q : E → Type 0) → OfEnd side P → ((e : E) → P e → Q e) → OfEnd side Q
+of_end_then (Runs running) P Q p f = some_then running.lent (λ l. P l.app_end) (λ l. Q l.app_end) p (λ l x. f l.app_end x)
+of_end_then (HasEnded app_end kind) P Q p f = f app_end p
+
+of_end_gives : {T E : Type 0} (side : AppSide T E) (P Q : E → Type 0) (R : Type 0) → OfEnd side P → OfEnd side Q → ((e : E) → P e → Q e → R) → R
+of_end_gives (Runs running) P Q R p q f =
+    some_gives running.lent (λ l. R) R (some_both running.lent (λ l. P l.app_end) (λ l. Q l.app_end) (λ l. R) p q (λ l x y. f l.app_end x y)) (λ l x. x)
+of_end_gives (HasEnded app_end kind) P Q R p q f = f app_end p q
+
 -- ---- the application's side
+
+-- a task that ended in between ended before a point between them, or behind it
+pub ended_by_then : {T E : Type 0} (a b c : AppSide T E) → EndsIn a c → EndsIn a b ⊎ EndsIn b c
+ended_by_then (Runs a) (Runs b) (Runs c) ends = absurd ends
+ended_by_then (Runs a) (Runs b) (HasEnded c kind) ends = inr tt
+ended_by_then (Runs a) (HasEnded b kind) c ends = inl tt
+ended_by_then (HasEnded a kind) b c ends = absurd ends
+
+pub ends_nowhere : {T E : Type 0} (side : AppSide T E) (R : Type 0) → EndsIn side side → R
+ends_nowhere (Runs running) R ends = absurd ends
+ends_nowhere (HasEnded app_end kind) R ends = absurd ends
 
 module _ {T E : Type 0} (stands : T → Kind → List Incoming → List Outgoing → Type 0) (answers : T → List Incoming → List Outgoing → Option EndKind → Type 0) (ends : Ghosts E) where
   -- a running task may be polled, by another one before
@@ -119,6 +139,20 @@ module _ {T E : Type 0} (stands : T → Kind → List Incoming → List Outgoing
   goes_further (HasEnded a before) (HasEnded b kind) (Runs c) x y = absurd y
   goes_further (HasEnded a before) (HasEnded b kind) (HasEnded c last) x y =
       (y.0, y.1 ∙ x.1, (y.2.0 ∙ x.2.0, y.2.1 ∙ x.2.1, y.2.2 ∙ x.2.2), same_request a b c x.3 y.3)
+
+  tag_of : (lent : Option (Lent T E)) → IsSomeAnd lent (λ is. MayGoOn stands ends is.task is.app_end) → IsSomeAnd lent (λ was. IsSomeAnd lent (λ is. ends.tag is.app_end ≡ ends.tag was.app_end))
+  tag_of (Some is) may = refl
+  tag_of None may = absurd may
+
+  pub tag_nowhere : (side : AppSide T E) → MayRun stands ends side → TagStays ends side side
+  tag_nowhere (Runs running) may = tag_of running.lent may
+  tag_nowhere (HasEnded app_end kind) may = refl
+
+  pub tag_further : (a b c : AppSide T E) → TagStays ends a b → TagStays ends b c → TagStays ends a c
+  tag_further a b c x y =
+      of_end_then a (λ was. OfEnd b (λ is. ends.tag is ≡ ends.tag was)) (λ was. OfEnd c (λ now. ends.tag now ≡ ends.tag was)) x
+      (λ was p. of_end_gives b (λ is. ends.tag is ≡ ends.tag was) (λ is. OfEnd c (λ now. ends.tag now ≡ ends.tag is)) (OfEnd c (λ now. ends.tag now ≡ ends.tag was)) p y
+      (λ is u v. of_end_then c (λ now. ends.tag now ≡ ends.tag is) (λ now. ends.tag now ≡ ends.tag was) v (λ now w. w ∙ u)))
 
   -- ---- in the end
 

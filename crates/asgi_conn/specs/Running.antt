@@ -1,5 +1,5 @@
 -- The two halves of one exchange, run until it is over.
-use Rattle.std.specs.Prelude.{◌≡◌, ℕ, List, [], Option, Some, IsSomeAnd}
+use Rattle.std.specs.Prelude.{◌≡◌, ℕ, List, [], ◌++◌, Option, Some, IsSomeAnd, ⊤}
 use Rattle.asgi_types.specs.declared.end_kind.EndKind.{EndKind}
 use Rattle.asgi_types.specs.declared.end_kind.EndKind.TheVariants.{Faulted}
 use Rattle.asgi_types.specs.declared.incoming.Incoming.{Incoming}
@@ -7,6 +7,8 @@ use Rattle.asgi_types.specs.declared.limits.Limits.{Limits}
 use Rattle.asgi_types.specs.declared.outgoing.Outgoing.{Outgoing}
 use Rattle.asgi_types.specs.declared.scope.Kind.{Kind}
 use Rattle.asgi_pipes.specs.declared.ends.AppEnd.{Ghosts}
+use Rattle.asgi_pipes.specs.declared.ends.ConnEnd as conn_end
+use Rattle.asgi_pipes.specs.Items.{items_of}
 use Rattle.asgi_apps.specs.Ends.{IsWithin, MayGoOn, own_end}
 use Rattle.asgi_exchange.specs.Calls.{view_of}
 use Rattle.asgi_exchange.specs.HttpExchange.{IsHttpExchange}
@@ -79,6 +81,16 @@ GoesOnAs stands answers ends (Runs old) (HasEnded app_end kind) =
 GoesOnAs stands answers ends (HasEnded was before) (Runs new) = ⊥
 GoesOnAs stands answers ends (HasEnded was before) (HasEnded app_end kind) =
     (ends.ended app_end ≡ Some kind) × (kind ≡ before) × SameLists ends was app_end × IsOfRequest ends was app_end
+
+-- its task ended in between
+abbrev pub EndsIn : {T E : Type 0} → AppSide T E → AppSide T E → Type 0
+EndsIn (Runs old) (Runs new) = ⊥
+EndsIn (Runs old) (HasEnded app_end kind) = ⊤
+EndsIn (HasEnded was before) new = ⊥
+
+-- all that was put at each end is at the other one: what that has taken, and what it sees to wait
+abbrev pub HasPassed : {C E : Type 0} → conn_end.Ghosts C → Ghosts E → C → E → Type 0
+HasPassed conns ends conn app = (conns.offered conn ≡ ends.pulled app ++ ends.seen app) × (items_of (ends.said app) (ends.ended app) ≡ conns.got conn ++ conns.seen conn)
 
 -- it is still the end of that pair
 abbrev pub TagStays : {T E : Type 0} → Ghosts E → AppSide T E → AppSide T E → Type 0

@@ -127,7 +127,7 @@ impl ConnHalf {
     }
 
     /// Takes all that is there and writes it, offers what is due, and reads where it did neither and the
-    /// application does not go on.
+    /// application does not go on. Where it takes the end of the task it winds up in the same turn.
     fn run<L: Line, C: ConnEnd>(&mut self, line: &mut L, end: &mut C, app_goes_on: bool) -> Turn
         requires { self.old.stage ≡ Stage.Running }
         ensures leads { Leads (state_of L.Reads L.Counts line.old) self.old (IsViewOf C.ConnEnd end.old) (state_of L.Reads L.Counts line.new) self.new (IsViewOf C.ConnEnd end.new) }
@@ -135,10 +135,11 @@ impl ConnHalf {
         ensures limits { self.new.wire.limits ≡ self.old.wire.limits }
     {
         let took = self.take_all(line, end);
-        match self.stage {
-            Stage::Running => {}
-            Stage::Ending(kind) => return self.wind_up(kind, line),
-            _ => return Turn::Moved,
+        if let Stage::Ending(kind) = self.stage {
+            return self.wind_up(kind, line);
+        }
+        if self.stage != Stage::Running {
+            return Turn::Moved;
         }
         let offered = self.offer_all(end);
         if self.stage != Stage::Running {

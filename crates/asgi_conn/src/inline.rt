@@ -12,7 +12,7 @@ ghost use Rattle.asgi_conn.specs.declared.half.Stage.TheVariants as stage;
 ghost use Rattle.asgi_conn.specs.Half.{Scene, Stands};
 ghost use Rattle.asgi_conn.specs.Limits.{IsAtLimit, IsOverIdle, IsSettled};
 ghost use Rattle.asgi_conn.specs.Lines.{state_of};
-ghost use Rattle.asgi_conn.specs.Running.{OfEnd, MayRun, HasRun, GoesOnAs, TagStays};
+ghost use Rattle.asgi_conn.specs.Running.{OfEnd, MayRun, HasRun, HasPassed, EndsIn, GoesOnAs, TagStays};
 
 use crate::half::ConnHalf;
 use crate::line::Line;
@@ -23,7 +23,8 @@ use asgi_io::{Pause, Turn, Turns};
 use asgi_pipes::{AppEnd, ConnEnd, EndKind, Plain, PlainApp, PlainConn};
 use futures::task::{Context, Poll};
 
-/// Runs both halves in the caller's thread, each for a turn: the task is polled by this context.
+/// Runs both halves in the caller's thread, turn by turn. In a turn the connection's half takes one, and then
+/// the task is polled, by this context, while each poll moves something, at most as often as the ring has places.
 pub struct Inline<'q> {
     cx: Context<'q>,
 }
@@ -136,6 +137,7 @@ fn carry<T: AppTask>(conn: &mut PlainConn, side: &mut AppSide<T, PlainApp>)
         × (End.got conn.new ≡ End.got conn.old)
         × (End.is_broken conn.new ≡ End.is_broken conn.old) }
     ensures side { GoesOnAs T.stands T.answers ⟦<PlainApp as AppEnd>⟧ side.old side.new }
+    ensures passed { OfEnd side.new (λ app. HasPassed ⟦<PlainConn as ConnEnd>⟧ ⟦<PlainApp as AppEnd>⟧ conn.new app) }
 {
     match side {
         AppSide::HasEnded { app_end, kind: _ } => Plain::carry(conn, app_end),
@@ -148,8 +150,16 @@ fn carry<T: AppTask>(conn: &mut PlainConn, side: &mut AppSide<T, PlainApp>)
     }
 }
 
-/// Polls the task while it goes on, at most so often.
-fn poll_on<T: AppTask, E: AppEnd>(cx: &mut Context<'_>, side: &mut AppSide<T, E>, most: usize) -> Turn
+/// Polls the task while each poll moves something, at most so often.
+fn poll_on<T: AppTask, E: AppEnd>(
+    cx: &mut Context<'_>,
+    side: &mut AppSide<T, E>,
+    most: usize,
+) -> Turn
+    requires { MayRun T.stands E.AppEnd side.old }
+    ensures side { GoesOnAs T.stands T.answers E.AppEnd side.old side.new }
+    ensures tag { TagStays E.AppEnd side.old side.new }
+    ensures ends { EndsIn side.old side.new → result ≡ Turn.Moved }
 {
     let mut turn = Turn::Idle;
     for _poll in 0..most {
@@ -166,6 +176,7 @@ fn poll<T: AppTask, E: AppEnd>(cx: &mut Context<'_>, side: &mut AppSide<T, E>) -
     requires { MayRun T.stands E.AppEnd side.old }
     ensures side { GoesOnAs T.stands T.answers E.AppEnd side.old side.new }
     ensures tag { TagStays E.AppEnd side.old side.new }
+    ensures ends { EndsIn side.old side.new → result ≡ Turn.Moved }
 {
     let AppSide::Runs(running) = side else {
         return Turn::Idle;

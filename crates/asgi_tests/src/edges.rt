@@ -59,7 +59,7 @@ struct Served {
     more: u64,
 }
 
-/// The last read finds the end of the input. The greeting takes four turns that read nothing.
+/// The last read finds the end of the input. The greeting takes two turns that read nothing.
 const fn hello(piece: usize, reads: u64) -> Served {
     Served {
         piece,
@@ -67,7 +67,7 @@ const fn hello(piece: usize, reads: u64) -> Served {
         outcome: Outcome::Finished,
         exchanges: 1,
         reads,
-        more: 4,
+        more: 2,
     }
 }
 
@@ -157,7 +157,7 @@ fn of_1_mib_behind_a_request_a_head_is_read(rt: HostRuntime) -> Result<(), Fail>
         outcome: Outcome::Refused(431),
         exchanges: 1,
         reads: 17,
-        more: 4,
+        more: 2,
     };
     assert!(rt; is_served(&rt, &input, served)?);
     Ok(())

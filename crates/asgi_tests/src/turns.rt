@@ -13,13 +13,13 @@ use std::test::Fail;
 #[test]
 fn turns_are_counted(rt: HostRuntime) -> Result<(), Fail> {
     // The input, the bytes of a read, whether each read would block first, and the turns, the pauses and the idle
-    // turns at the end. The greeting takes four turns: its request is offered, its start is taken, its body and the
-    // end of the task are taken, and the exchange ends. The last turn finds the end of the input: it is not idle, nor
-    // does it end the row of those that are.
+    // turns at the end. The greeting takes two turns: in the first its request is offered, and its task says all that it
+    // has to say and returns; in the second all of that is taken, and the exchange ends. The last turn finds the end of
+    // the input: it is not idle, nor does it end the row of those that are.
     let rows: [(&[u8], usize, bool, u64, u64, u32); 6] = [
-        (GET, 4_096, false, 6, 0, 0),
-        (GET, 1, false, 32, 0, 0),
-        (GET, 1, true, 60, 28, 1),
+        (GET, 4_096, false, 4, 0, 0),
+        (GET, 1, false, 30, 0, 0),
+        (GET, 1, true, 58, 28, 1),
         (b"", 1, false, 1, 0, 0),
         (b"GE", 1, false, 3, 0, 0),
         (b"\r\n", 2, true, 4, 2, 1),
@@ -98,13 +98,13 @@ fn the_first_of_a_limit_and_what_else_ends_it(rt: HostRuntime) -> Result<(), Fai
     let two = two_requests(rt.alloc())?;
     let both: &[u8] = &two;
     // The input, the limit on turns, what is written, the outcome, and the exchanges.
-    let rows: [(&[u8], u64, &[u8], Outcome, u64); 11] = [
+    let rows: [(&[u8], u64, &[u8], Outcome, u64); 10] = [
         // The end of the input, at the last turn and behind it.
         (b"", 1, b"", Outcome::Finished, 0),
         (b"GE", 2, b"", Outcome::InputBroke, 0),
         (b"GE", 1, b"", Outcome::Idle, 0),
-        (GET, 6, HELLO, Outcome::Finished, 1),
-        (GET, 5, HELLO, Outcome::Idle, 1),
+        (GET, 4, HELLO, Outcome::Finished, 1),
+        (GET, 3, HELLO, Outcome::Idle, 1),
         // A refusal takes no turn.
         (
             b"GET / HTTP/1.1\r\n\r\n",
@@ -116,9 +116,8 @@ fn the_first_of_a_limit_and_what_else_ends_it(rt: HostRuntime) -> Result<(), Fai
         // A head that waits at the limit is a request, and is not answered.
         (GET, 1, b"", Outcome::Idle, 1),
         (GET, 2, b"", Outcome::Idle, 1),
-        (GET, 3, b"", Outcome::Idle, 1),
-        (both, 5, HELLO, Outcome::Idle, 2),
-        (both, 6, HELLO, Outcome::Idle, 2),
+        (both, 3, HELLO, Outcome::Idle, 2),
+        (both, 4, HELLO, Outcome::Idle, 2),
     ];
     for (row, (input, turns, wanted, outcome, exchanges)) in rows.iter().enumerate() {
         let limits = limits_with(*turns)?;

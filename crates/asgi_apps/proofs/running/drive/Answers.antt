@@ -1,8 +1,8 @@
-use Rattle.std.proofs.Common.{rules, ◌≡◌, [], ◌∷◌, ◌++◌, ℕ, List, Some, None, IsSomeAnd, inl, inr, refl, sym, subst, ◌∙◌}
-use Rattle.asgi_io.specs.Turns.{CountsTurns}
+use Rattle.std.proofs.Common.{rules, [], ◌∷◌, ◌++◌, Some, inl, inr, ◌∙◌}
+use Rattle.asgi_io.specs.declared.turns.Turn.TheVariants.{Last}
 use Rattle.asgi_types.specs.declared.end_kind.EndKind.TheVariants.{Idle}
-use Rattle.asgi_apps.specs.Ends.{own_end}
-use Rattle.asgi_apps.proofs.EndLemmas.{not_polled, polled_again, asked, ended_further, answered_further, so_far}
+use Rattle.asgi_apps.specs.Ends.{GoesOn, own_end}
+use Rattle.asgi_apps.proofs.EndLemmas.{not_polled, polled_again, asked, ended_further, answered_further, given_back, so_far}
 use Rattle.asgi_apps.proofs.PauseLemmas.{counts_more, paused_for_each}
 use Rattle.asgi_apps.proofs.running.drive.Goals as goal
 
@@ -18,9 +18,29 @@ loop-running-init g c = record {
 
 pub returns-in-Ready-clause-end : goal.returns-in-Ready-clause-end
 returns-in-Ready-clause-end g c =
-    rw (c.counted_as.ensures.same.1, c.counted_as.ensures.same.2)
-    (ended_further g.E.AppEnd g.T.AppTask.stands g.T.AppTask.answers c.args.running.lent c.loop-running.running.lent _ c.in-Ready.ended.app_end
-    c.loop-running.invariant.polled c.in-Ready.ensures.ready)
+    rw c.give_back.ensures.kind.0
+    (ended_further g.E.AppEnd g.T.AppTask.stands g.T.AppTask.answers c.args.running.lent c.loop-running.running.lent (Some c.in-Ready.kind) c.give_back.result.app_end
+    c.loop-running.invariant.polled
+    (given_back g.E.AppEnd g.T.AppTask.stands g.T.AppTask.answers c.loop-running.running.lent c.turn.new.self.lent c.give_back.result.app_end
+    (λ was end. GoesOn g.E.AppEnd (Some c.in-Ready.kind) was.app_end end) c.in-Ready.ensures.ready c.give_back.ensures.end))
+
+pub returns-in-Ready-clause-answers : goal.returns-in-Ready-clause-answers
+returns-in-Ready-clause-answers g c =
+    rw c.give_back.ensures.kind.0
+    (answered_further g.E.AppEnd g.T.AppTask.stands g.T.AppTask.answers c.args.running.lent c.loop-running.running.lent _ _ (own_end c.in-Ready.kind)
+    c.loop-running.invariant.polled
+    (given_back g.E.AppEnd g.T.AppTask.stands g.T.AppTask.answers c.loop-running.running.lent c.turn.new.self.lent c.give_back.result.app_end
+    (λ was end. g.T.AppTask.answers was.task (g.E.AppEnd.heard end) (g.E.AppEnd.said end) (own_end c.in-Ready.kind)) c.in-Ready.ensures.answers c.give_back.ensures.end))
+
+pub returns-in-Ready-clause-turns : goal.returns-in-Ready-clause-turns
+returns-in-Ready-clause-turns g c =
+    let inv = c.loop-running.invariant in
+    rw (c.give_back.ensures.kind.0, c.give_back.ensures.kind.1) (record {
+      turned = inv.turned ++ Last ∷ [];
+      idle = c.take.new.self.idle;
+      counts = counts_more c.args.turns c.args.idle_turns _ _ _ _ _ _ _ _ _ inv.turned Last inv.turn_limit inv.idle_limit inv.counts c.take.ensures.counts;
+      stopped = λ idle. absurd (c.in-Ready.ensures.not_idle idle);
+    })
 
 pub loop-running-preserved : goal.loop-running-preserved
 loop-running-preserved g c =

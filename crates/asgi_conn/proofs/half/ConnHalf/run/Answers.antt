@@ -3,6 +3,16 @@ use Rattle.asgi_conn.specs.Lines.{state_of}
 use Rattle.asgi_conn.proofs.LeadsLemmas.{leads_then, leads_out, taken_and_offered}
 use Rattle.asgi_conn.proofs.half.ConnHalf.run.Goals as goal
 
+pub returns-in-Ending-clause-leads : goal.returns-in-Ending-clause-leads
+returns-in-Ending-clause-leads g c =
+    let was = state_of g.L.Reads g.L.Counts c.args.line.now in
+    let mid = state_of g.L.Reads g.L.Counts c.take_all-took.new.line in
+    let now = state_of g.L.Reads g.L.Counts c.wind_up.new.line in
+    let half = c.take_all-took.new.self in
+    let end = c.take_all-took.new.end in
+    leads_then was mid now c.args.self.now half c.wind_up.new.self (IsViewOf g.C.ConnEnd c.args.end.now) (IsViewOf g.C.ConnEnd end) (IsViewOf g.C.ConnEnd end)
+    c.take_all-took.ensures.leads (leads_out _ g.C.ConnEnd end mid now half c.wind_up.new.self c.wind_up.ensures.leads)
+
 pub returns-then-ne-2-clause-leads : goal.returns-then-ne-2-clause-leads
 returns-then-ne-2-clause-leads g c =
     taken_and_offered (state_of g.L.Reads g.L.Counts c.args.line.now) (state_of g.L.Reads g.L.Counts c.take_all-took.new.line)

@@ -43,24 +43,24 @@ loop-half-init g c = record {
   );
 }
 
-pub carry-carried-requires-clause-pair : goal.carry-carried-requires-clause-pair
+pub carry-requires-clause-pair : goal.carry-requires-clause-pair
 unfolding app_tag conn_tag
-carry-carried-requires-clause-pair g c =
+carry-requires-clause-pair g c =
     lemma.pair_stays app_tag c.loop-half.side (conn_tag c.loop-half.conn) (conn_tag c.turn-moved.new.end) c.loop-half.invariant.pair c.turn-moved.ensures.tag.0
 
-pub carry-carried-requires-clause-may : goal.carry-carried-requires-clause-may
-carry-carried-requires-clause-may g c = lemma.may_run g.T.AppTask.stands g.T.AppTask.answers app_end.ghosts c.args.side c.loop-half.side c.loop-half.invariant.goes_on
+pub carry-requires-clause-may : goal.carry-requires-clause-may
+carry-requires-clause-may g c = lemma.may_run g.T.AppTask.stands g.T.AppTask.answers app_end.ghosts c.args.side c.loop-half.side c.loop-half.invariant.goes_on
 
-pub poll-polled-requires : goal.poll-polled-requires
-poll-polled-requires g c = lemma.may_run g.T.AppTask.stands g.T.AppTask.answers app_end.ghosts c.loop-half.side c.carry-carried.result c.carry-carried.ensures.side
+pub poll_on-polled-requires : goal.poll_on-polled-requires
+poll_on-polled-requires g c = lemma.may_run g.T.AppTask.stands g.T.AppTask.answers app_end.ghosts c.loop-half.side c.carry.new.side c.carry.ensures.side
 
-pub carry-side-requires-clause-pair : goal.carry-side-requires-clause-pair
+pub carry-2-requires-clause-pair : goal.carry-2-requires-clause-pair
 unfolding app_tag conn_tag
-carry-side-requires-clause-pair g c =
-    lemma.pair_of app_tag c.carry-carried.result c.poll-polled.result.side (conn_tag c.carry-carried.new.conn) c.carry-carried.ensures.pair c.poll-polled.ensures.tag
+carry-2-requires-clause-pair g c =
+    lemma.pair_of app_tag c.carry.new.side c.poll_on-polled.new.side (conn_tag c.carry.new.conn) c.carry.ensures.pair c.poll_on-polled.ensures.tag
 
-pub carry-side-requires-clause-may : goal.carry-side-requires-clause-may
-carry-side-requires-clause-may g c = lemma.may_run g.T.AppTask.stands g.T.AppTask.answers app_end.ghosts c.carry-carried.result c.poll-polled.result.side c.poll-polled.ensures.side
+pub carry-2-requires-clause-may : goal.carry-2-requires-clause-may
+carry-2-requires-clause-may g c = lemma.may_run g.T.AppTask.stands g.T.AppTask.answers app_end.ghosts c.carry.new.side c.poll_on-polled.new.side c.poll_on-polled.ensures.side
 
 pub loop-half-smaller : goal.loop-half-smaller
 loop-half-smaller g c = omega (arith, c.take.ensures.one, c.take.ensures.turn_limit, (c.goes_on.ensures.yes c.loop-half-test.true).0)
@@ -70,17 +70,17 @@ loop-half-preserved g c =
     let inv = c.loop-half.invariant in
     let stands = g.T.AppTask.stands in
     let answers = g.T.AppTask.answers in
-    let carried_once = lemma.goes_further stands answers app_end.ghosts c.args.side c.loop-half.side c.carry-carried.result inv.goes_on c.carry-carried.ensures.side in
-    let polled = lemma.goes_further stands answers app_end.ghosts c.args.side c.carry-carried.result c.poll-polled.result.side carried_once c.poll-polled.ensures.side in
-    let carried_twice = lemma.goes_further stands answers app_end.ghosts c.args.side c.poll-polled.result.side c.carry-side.result polled c.carry-side.ensures.side in
+    let carried_once = lemma.goes_further stands answers app_end.ghosts c.args.side c.loop-half.side c.carry.new.side inv.goes_on c.carry.ensures.side in
+    let polled = lemma.goes_further stands answers app_end.ghosts c.args.side c.carry.new.side c.poll_on-polled.new.side carried_once c.poll_on-polled.ensures.side in
+    let carried_twice = lemma.goes_further stands answers app_end.ghosts c.args.side c.poll_on-polled.new.side c.carry-2.new.side polled c.carry-2.ensures.side in
     record {
-      pair = c.carry-side.ensures.pair;
+      pair = c.carry-2.ensures.pair;
       goes_on = carried_twice;
       leads = λ scene read view s is.
           let x = inv.leads scene read view s is in
           let y = c.turn-moved.ensures.leads scene (read ++ x.0) x.1 x.2 x.3 in
-          let first = c.carry-carried.ensures.conn in
-          let second = c.carry-side.ensures.conn in (
+          let first = c.carry.ensures.conn in
+          let second = c.carry-2.ensures.conn in (
             x.0 ++ y.0,
             y.1,
             rw (sym (append_assoc read x.0 y.0)) y.2,
