@@ -1,5 +1,5 @@
 //! Applications of a user's own, which promise nothing, so that nothing is to be proved of them.
-use crate::tests::{SILENCE, check};
+use crate::tests::{Row, SILENCE, check};
 use crate::{AppFault, AppTask, Application, Says};
 use asgi_pipes::{AppEnd, Sent};
 use asgi_types::{Headers, Kind, Octets, Outgoing, Scope};
@@ -7,28 +7,35 @@ use futures::task::{Context, Poll};
 use std::alloc::{AllocError, Global};
 use std::test::Fail;
 
-/// Answers each request with its own path.
+/// Answers each request with its method, and with its path behind it, a body each.
 #[derive(Clone, Copy, Debug)]
-struct Paths;
+struct Repeats;
 
-impl Application for Paths {
+impl Application for Repeats {
     type Task = Says;
 
     fn call(&self, alloc: Global, scope: &Scope) -> Result<Says, AppFault> {
         let Scope::Http(scope) = scope else {
             return Err(AppFault::Failed);
         };
-        let mut says = Says::with_room(alloc, Kind::Http, 2)?;
-        says.add(Outgoing::ResponseStart {
-            status: 200,
-            headers: Headers::new(alloc),
-        })?;
-        says.add(Outgoing::ResponseBody {
-            body: Octets::new(Vec::from_slice(alloc, scope.path.as_str().as_bytes())?),
-            more_body: false,
-        })?;
+        let mut says = Says::with_room(alloc, Kind::Http, 3)?;
+        says.add(start(alloc))?;
+        says.add(body(alloc, scope.method.as_str(), true)?)?;
+        says.add(body(alloc, scope.path.as_str(), false)?)?;
         Ok(says)
     }
+}
+
+fn start(alloc: Global) -> Outgoing {
+    Outgoing::ResponseStart {
+        status: 200,
+        headers: Headers::new(alloc),
+    }
+}
+
+fn body(alloc: Global, text: &str, more_body: bool) -> Result<Outgoing, AllocError> {
+    let body = Octets::new(Vec::from_slice(alloc, text.as_bytes())?);
+    Ok(Outgoing::ResponseBody { body, more_body })
 }
 
 /// Answers each request with as many letters, one a body.
@@ -58,15 +65,9 @@ impl CountsTask {
     /// The event that comes next.
     fn next(&self) -> Result<Outgoing, AllocError> {
         if !self.is_started {
-            return Ok(Outgoing::ResponseStart {
-                status: 200,
-                headers: Headers::new(self.alloc),
-            });
+            return Ok(start(self.alloc));
         }
-        Ok(Outgoing::ResponseBody {
-            body: Octets::new(Vec::from_slice(self.alloc, b"x")?),
-            more_body: 1 < self.left,
-        })
+        body(self.alloc, "x", 1 < self.left)
     }
 }
 
@@ -90,20 +91,23 @@ impl AppTask for CountsTask {
     ghost keeps = { λ _ _ _ _ _. tt };
 }
 
+const REPEATS: &[Row] = &[
+    (
+        Kind::Http,
+        SILENCE,
+        "start 200|part POST|last /a/b|returned",
+    ),
+    (Kind::WebSocket, SILENCE, "faulted"),
+];
+
+const COUNTS: &[Row] = &[(
+    Kind::Http,
+    SILENCE,
+    "start 200|part x|part x|last x|returned",
+)];
+
 #[test]
 fn an_application_of_ones_own_needs_no_proof(rt: HostRuntime) -> Result<(), Fail> {
-    check(
-        &rt,
-        Paths,
-        &[(Kind::Http, SILENCE, "start 200|last /a/b|returned")],
-    )?;
-    check(
-        &rt,
-        Counts(3),
-        &[(
-            Kind::Http,
-            SILENCE,
-            "start 200|part x|part x|last x|returned",
-        )],
-    )
+    check(&rt, Repeats, REPEATS)?;
+    check(&rt, Counts(3), COUNTS)
 }

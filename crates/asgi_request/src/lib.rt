@@ -26,8 +26,3 @@ pub use next::Next;
 pub use reader::RequestReader;
 pub use scope::has_body;
 pub use upgrade::{UpgradeAsk, check_upgrade};
-
-#[cfg(test)]
-mod tests;
-#[cfg(test)]
-mod tests_memory;

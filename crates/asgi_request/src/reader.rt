@@ -392,9 +392,7 @@ fn drop_front(bytes: &mut Vec<u8>, count: usize)
     ensures items { bytes.new.items ≡ drop count bytes.old.items }
     ensures capacity { vec_capacity bytes.new ≡ vec_capacity bytes.old }
 {
-    if count == bytes.len() {
-        bytes.clear();
-        return;
-    }
-    let _front = bytes.drain(..count);
+    let rest = bytes.len() - count;
+    bytes.copy_within(count.., 0);
+    bytes.truncate(rest);
 }

@@ -1,36 +1,22 @@
 //! The fields of a scope, what is held behind a request, and the framing of a record.
-use super::{held, new_reader, of_given, put, take};
-use crate::{HeadFraming, HeadRecord, Next, RequestReader, framing_of, has_body};
-use asgi_types::{
-    Chars, Extensions, Facts, Framing, HeaderError, Headers, HttpScope, HttpVersion, Limits,
-    Octets, Scope,
-};
+use crate::calls::{held, new_reader, of_given, put, take, usual, waits};
+use crate::inputs::joined;
+use crate::records::{Field, record};
+use asgi_request::{HeadFraming, Next, RequestReader, framing_of, has_body};
+use asgi_types::{Extensions, Facts, Framing, HeaderError, Headers, HttpScope, HttpVersion, Scope};
 use std::alloc::{AllocError, Global};
 use std::process::Abort;
 use std::test::Fail;
 
-/// Whether what is given first of the bytes passes the test.
-fn is_first<F: FnOnce(&Next) -> bool>(
-    alloc: Global,
-    bytes: &[u8],
-    test: F,
-) -> Result<bool, AllocError>
-    requires { F.IsAlwaysCallable test }
-{
-    let mut reader = new_reader(alloc, Limits::usual());
-    is_next(&mut reader, bytes, test)
+/// What is given first of the bytes.
+fn first_of(alloc: Global, bytes: &[u8]) -> Result<Next, AllocError> {
+    next_behind(&mut new_reader(alloc, usual()), bytes)
 }
 
-/// Whether what is given behind this piece passes the test.
-fn is_next<F: FnOnce(&Next) -> bool>(
-    reader: &mut RequestReader,
-    piece: &[u8],
-    test: F,
-) -> Result<bool, AllocError>
-    requires { F.IsAlwaysCallable test }
-{
+/// What is given behind this piece.
+fn next_behind(reader: &mut RequestReader, piece: &[u8]) -> Result<Next, AllocError> {
     put(reader, piece)?;
-    of_given(take(reader), test)
+    take(reader)
 }
 
 /// The scope of a request's head.
@@ -49,14 +35,6 @@ fn facts_of(next: &Next) -> Option<&Facts> {
     }
 }
 
-/// A head with this target.
-fn head_for(alloc: Global, target: &str) -> Result<Vec<u8>, AllocError> {
-    let mut bytes = Vec::from_slice(alloc, b"OPTIONS ")?;
-    bytes.extend_from_slice(target.as_bytes())?;
-    bytes.extend_from_slice(b" HTTP/1.1\r\nHost: a\r\n\r\n")?;
-    Ok(bytes)
-}
-
 /// A target, and the path, the raw path and the query that it has.
 type Row = (&'static str, &'static str, &'static str, &'static str);
 
@@ -64,7 +42,14 @@ type Row = (&'static str, &'static str, &'static str, &'static str);
 /// each place.
 fn show(rt: &impl Abort, alloc: Global, rows: &[Row]) -> Result<(), Fail> {
     for row in rows {
-        let bytes = head_for(alloc, row.0)?;
+        let bytes = joined(
+            alloc,
+            &[
+                b"OPTIONS ",
+                row.0.as_bytes(),
+                b" HTTP/1.1\r\nHost: a\r\n\r\n",
+            ],
+        )?;
         shows_in_pieces(rt, alloc, &bytes, row)?;
         shows_in_two(rt, alloc, &bytes, row)?;
     }
@@ -90,8 +75,7 @@ fn shows_in_two(rt: &impl Abort, alloc: Global, bytes: &[u8], row: &Row) -> Resu
 /// Whether a reader gives these parts behind the last of the pieces of so many bytes, where one result is taken behind
 /// each of them.
 fn in_pieces(alloc: Global, bytes: &[u8], size: usize, row: &Row) -> Result<bool, AllocError> {
-    let mut reader = new_reader(alloc, Limits::usual());
-    behind_pieces(&mut reader, bytes, size, row)
+    behind_pieces(&mut new_reader(alloc, usual()), bytes, size, row)
 }
 
 fn behind_pieces(
@@ -115,24 +99,25 @@ fn behind_pieces(
 
 /// Whether a reader gives these parts behind the second part of the bytes, where one result is taken behind each.
 fn in_two(alloc: Global, bytes: &[u8], cut: usize, row: &Row) -> Result<bool, AllocError> {
-    let mut reader = new_reader(alloc, Limits::usual());
     let (front, behind) = bytes.split_at(cut.min(bytes.len()));
-    behind_cut(&mut reader, front, behind, row)
+    behind_parts(&mut new_reader(alloc, usual()), &[front, behind], row)
 }
 
-fn behind_cut(
+fn behind_parts(
     reader: &mut RequestReader,
-    front: &[u8],
-    behind: &[u8],
+    parts: &[&[u8]],
     row: &Row,
 ) -> Result<bool, AllocError> {
-    let _shown = is_behind(reader, front, row)?;
-    is_behind(reader, behind, row)
+    let mut shown = false;
+    for part in parts {
+        shown = is_behind(reader, part, row)?;
+    }
+    Ok(shown)
 }
 
 /// Whether the next result behind this piece has these parts.
 fn is_behind(reader: &mut RequestReader, piece: &[u8], row: &Row) -> Result<bool, AllocError> {
-    is_next(reader, piece, |next| has_parts(next, row))
+    of_given(next_behind(reader, piece), |next| has_parts(next, row))
 }
 
 fn has_parts(next: &Next, row: &Row) -> bool {
@@ -144,55 +129,59 @@ fn has_parts(next: &Next, row: &Row) -> bool {
         && scope.query_string.bytes() == row.3.as_bytes()
 }
 
+const TARGETS: &[Row] = &[
+    ("/", "/", "/", ""),
+    ("/?", "/", "/", ""),
+    ("/a#b", "/a#b", "/a#b", ""),
+    ("//a/b", "//a/b", "//a/b", ""),
+    ("*", "*", "*", ""),
+];
+
 #[test]
 fn a_target_has_a_path_and_a_query(rt: HostRuntime) -> Result<(), Fail> {
-    let rows: [Row; 5] = [
-        ("/", "/", "/", ""),
-        ("/?", "/", "/", ""),
-        ("/a#b", "/a#b", "/a#b", ""),
-        ("//a/b", "//a/b", "//a/b", ""),
-        ("*", "*", "*", ""),
-    ];
-    show(&rt, rt.alloc(), &rows)
+    show(&rt, rt.alloc(), TARGETS)
 }
+
+const AUTHORITIES: &[Row] = &[
+    ("http://a/x?y", "/x", "/x", "y"),
+    ("http://a", "/", "/", ""),
+    ("HTTPS://a:1?y?z", "/", "/", "y?z"),
+    ("http://a?", "/", "/", ""),
+];
 
 #[test]
 fn a_target_may_name_an_authority(rt: HostRuntime) -> Result<(), Fail> {
-    let rows: [Row; 4] = [
-        ("http://a/x?y", "/x", "/x", "y"),
-        ("http://a", "/", "/", ""),
-        ("HTTPS://a:1?y?z", "/", "/", "y?z"),
-        ("http://a?", "/", "/", ""),
-    ];
-    show(&rt, rt.alloc(), &rows)
+    show(&rt, rt.alloc(), AUTHORITIES)
 }
+
+const ENCODED: &[Row] = &[
+    ("/a/%ff?q=%20", "/a/\u{fffd}", "/a/%ff", "q=%20"),
+    ("/a%2Fb%2fc", "/a/b/c", "/a%2Fb%2fc", ""),
+    ("/%c3%a9%c3", "/\u{e9}\u{fffd}", "/%c3%a9%c3", ""),
+];
 
 #[test]
 fn a_path_is_percent_decoded(rt: HostRuntime) -> Result<(), Fail> {
-    let rows: [Row; 3] = [
-        ("/a/%ff?q=%20", "/a/\u{fffd}", "/a/%ff", "q=%20"),
-        ("/a%2Fb%2fc", "/a/b/c", "/a%2Fb%2fc", ""),
-        ("/%c3%a9%c3", "/\u{e9}\u{fffd}", "/%c3%a9%c3", ""),
-    ];
-    show(&rt, rt.alloc(), &rows)
+    show(&rt, rt.alloc(), ENCODED)
 }
+
+const STRAY: &[Row] = &[
+    ("/%", "/%", "/%", ""),
+    ("/%4", "/%4", "/%4", ""),
+    ("/%zz%41", "/%zzA", "/%zz%41", ""),
+];
 
 #[test]
 fn a_percent_sign_without_two_digits_stays(rt: HostRuntime) -> Result<(), Fail> {
-    let rows: [Row; 3] = [
-        ("/%", "/%", "/%", ""),
-        ("/%4", "/%4", "/%4", ""),
-        ("/%zz%41", "/%zzA", "/%zz%41", ""),
-    ];
-    show(&rt, rt.alloc(), &rows)
+    show(&rt, rt.alloc(), STRAY)
 }
 
 const FIELDS: &[u8] = b"get /x HTTP/1.0\r\nX-A: \t q  q \r\nhost:a\r\nX-A:\r\n\r\n";
 
 #[test]
 fn a_scope_has_the_fields_of_its_head(rt: HostRuntime) -> Result<(), Fail> {
-    assert!(rt; is_first(rt.alloc(), FIELDS, has_scope_of_fields)?);
-    assert!(rt; is_first(rt.alloc(), FIELDS, has_facts_of_fields)?);
+    assert!(rt; of_given(first_of(rt.alloc(), FIELDS), has_scope_of_fields)?);
+    assert!(rt; of_given(first_of(rt.alloc(), FIELDS), has_facts_of_fields)?);
     Ok(())
 }
 
@@ -240,7 +229,7 @@ fn are_facts_of_fields(facts: &Facts) -> bool {
 
 #[test]
 fn header_names_are_in_lower_case(rt: HostRuntime) -> Result<(), Fail> {
-    assert!(rt; is_first(rt.alloc(), FIELDS, has_fields)?);
+    assert!(rt; of_given(first_of(rt.alloc(), FIELDS), has_fields)?);
     Ok(())
 }
 
@@ -265,18 +254,19 @@ fn has_field(headers: &Headers, index: usize, name: &[u8], value: &[u8]) -> bool
 /// A piece, whether each result that is taken behind it is want of more bytes, and what is held then.
 type Step = (&'static [u8], &'static [bool], &'static [u8]);
 
+const STEPS: &[Step] = &[
+    (b"\r\n", &[], b"\r\n"),
+    (
+        b"GET / HTTP/1.1\r\nHost: a\r\n\r\n\r\nGE",
+        &[false, false, false],
+        b"\r\nGE",
+    ),
+    (b"T", &[true], b"\r\nGET"),
+];
+
 #[test]
 fn what_stands_behind_a_whole_request_is_held(rt: HostRuntime) -> Result<(), Fail> {
-    let steps: [Step; 3] = [
-        (b"\r\n", &[], b"\r\n"),
-        (
-            b"GET / HTTP/1.1\r\nHost: a\r\n\r\n\r\nGE",
-            &[false, false, false],
-            b"\r\nGE",
-        ),
-        (b"T", &[true], b"\r\nGET"),
-    ];
-    take_steps(&rt, &mut new_reader(rt.alloc(), Limits::usual()), &steps)
+    take_steps(&rt, &mut new_reader(rt.alloc(), usual()), STEPS)
 }
 
 fn take_steps(rt: &impl Abort, reader: &mut RequestReader, steps: &[Step]) -> Result<(), Fail> {
@@ -301,80 +291,58 @@ fn holds(reader: &RequestReader, behind: &[u8]) -> bool {
     held(reader) == behind
 }
 
-/// Whether the reader needs more bytes; it gives its next result away.
-fn waits(reader: &mut RequestReader) -> Result<bool, AllocError> {
-    of_given(take(reader), is_need)
-}
-
-fn is_need(next: &Next) -> bool {
-    matches!(next, Next::Need)
-}
-
-/// The framing of a record with this method, a Host field and this field.
-fn framing_with(alloc: Global, method: &str, name: &str, value: &str) -> Result<HeadFraming, Fail> {
-    let target = Octets::new(Vec::from_slice(alloc, b"/")?);
-    let method = Chars::new(String::from_str(alloc, method)?);
-    let headers = fields_with(alloc, name.as_bytes(), value.as_bytes())?;
-    let version = HttpVersion::V11;
-    let head = HeadRecord {
-        version,
-        method,
-        target,
-        headers,
-    };
-    Ok(framing_of(&head, &Limits::usual()))
-}
-
-/// A Host field and this field.
-fn fields_with(alloc: Global, name: &[u8], value: &[u8]) -> Result<Headers, HeaderError> {
-    let mut headers = Headers::new(alloc);
-    headers.push(b"host", b"a")?;
-    headers.push(name, value)?;
-    Ok(headers)
-}
-
 /// A method, a field beside Host, and the framing of a record of these.
-type Framed = (&'static str, &'static str, &'static str, HeadFraming);
+type Framed = (&'static str, Field, HeadFraming);
 
 const FRAMED: &[Framed] = &[
-    ("GET", "x", "a", HeadFraming::Length(0)),
-    ("POST", "content-length", "3", HeadFraming::Length(3)),
-    ("POST", "transfer-encoding", "chunked", HeadFraming::Chunked),
+    ("GET", ("x", "a"), HeadFraming::Length(0)),
+    ("POST", ("content-length", "3"), HeadFraming::Length(3)),
     (
         "POST",
-        "content-length",
-        "1048576",
+        ("transfer-encoding", "chunked"),
+        HeadFraming::Chunked,
+    ),
+    (
+        "POST",
+        ("content-length", "1048576"),
         HeadFraming::Length(1_048_576),
     ),
-    ("POST", "content-length", "1048577", HeadFraming::Bad(413)),
-    ("GET", "host", "b", HeadFraming::Bad(400)),
-    ("POST", "transfer-encoding", "gzip", HeadFraming::Bad(501)),
-    ("CONNECT", "x", "a", HeadFraming::Bad(501)),
+    ("POST", ("content-length", "1048577"), HeadFraming::Bad(413)),
+    ("GET", ("host", "b"), HeadFraming::Bad(400)),
+    ("POST", ("transfer-encoding", "gzip"), HeadFraming::Bad(501)),
+    ("CONNECT", ("x", "a"), HeadFraming::Bad(501)),
 ];
 
-fn is_framed(alloc: Global, row: &Framed) -> Result<bool, Fail> {
-    Ok(framing_with(alloc, row.0, row.1, row.2)? == row.3)
+fn is_framed(alloc: Global, row: &Framed) -> Result<bool, HeaderError> {
+    let head = record(alloc, HttpVersion::V11, row.0, &[("host", "a"), row.1]);
+    of_given(head, |head| framing_of(head, &usual()) == row.2)
 }
 
 #[test]
 fn a_record_has_a_framing(rt: HostRuntime) -> Result<(), Fail> {
     for row in FRAMED {
         let is_so = is_framed(rt.alloc(), row)?;
-        assert!(rt; is_so, "{} {}: {}", row.0, row.1, row.2);
+        assert!(rt; is_so, "{} {}: {}", row.0, row.1.0, row.1.1);
     }
     Ok(())
 }
 
+/// A framing, and whether it announces a body.
+const BODIES: &[(Framing, bool)] = &[
+    (Framing::Length(0), false),
+    (Framing::Length(1), true),
+    (Framing::Chunked, true),
+    (Framing::Upgrade, false),
+];
+
+fn announces(row: &(Framing, bool)) -> bool {
+    has_body(row.0) == row.1
+}
+
 #[test]
 fn a_framing_may_announce_a_body(rt: HostRuntime) -> Result<(), Fail> {
-    let rows = [
-        (Framing::Length(0), false),
-        (Framing::Length(1), true),
-        (Framing::Chunked, true),
-        (Framing::Upgrade, false),
-    ];
-    for (framing, wanted) in rows {
-        assert_eq!(rt; has_body(framing), wanted, "{framing:?}");
+    for (index, row) in BODIES.iter().enumerate() {
+        assert!(rt; announces(row), "row {index}");
     }
     Ok(())
 }

@@ -1,12 +1,11 @@
 //! Which requests are opening handshakes, and what their clients offer (RFC 6455, section 4.2.1).
-use super::of_given;
-use crate::{HeadFraming, HeadRecord, UpgradeAsk, check_upgrade, is_key};
-use asgi_types::{Chars, HeaderError, Headers, HttpVersion, Names, Octets};
+use crate::calls::of_given;
+use crate::records::{Field, record};
+use asgi_request::{HeadFraming, HeadRecord, UpgradeAsk, check_upgrade, is_key};
+use asgi_types::{HeaderError, HttpVersion, Names};
 use std::alloc::{AllocError, Global};
 use std::process::Abort;
 use std::test::Fail;
-
-type Field = (&'static str, &'static str);
 
 const WS: Field = ("Upgrade", "websocket");
 
@@ -29,40 +28,19 @@ type Row = (
     &'static str,
 );
 
-fn headers_of(alloc: Global, fields: &[Field]) -> Result<Headers, HeaderError> {
-    let mut headers = Headers::new(alloc);
-    for (name, value) in fields {
-        headers.push(name.as_bytes(), value.as_bytes())?;
-    }
-    Ok(headers)
-}
-
-fn record(
-    alloc: Global,
-    version: HttpVersion,
-    method: &str,
-    fields: &[Field],
-) -> Result<HeadRecord, HeaderError> {
-    let method = Chars::new(String::from_str(alloc, method)?);
-    let target = Octets::new(Vec::from_slice(alloc, b"/c")?);
-    let headers = headers_of(alloc, fields)?;
-    Ok(HeadRecord {
-        version,
-        method,
-        target,
-        headers,
-    })
-}
-
 /// The words of what is asked.
 fn words(alloc: Global, ask: &UpgradeAsk) -> Result<String, AllocError> {
     let mut words = String::new(alloc);
-    match ask {
-        UpgradeAsk::Plain => words.push_str("plain")?,
-        UpgradeAsk::Bad(status) => write!(words, "{status}")?,
-        UpgradeAsk::Upgrade { key, subprotocols } => add_offer(key, subprotocols, &mut words)?,
-    }
+    add_words(ask, &mut words)?;
     Ok(words)
+}
+
+fn add_words(ask: &UpgradeAsk, words: &mut String) -> Result<(), AllocError> {
+    match ask {
+        UpgradeAsk::Plain => words.push_str("plain"),
+        UpgradeAsk::Bad(status) => write!(words, "{status}"),
+        UpgradeAsk::Upgrade { key, subprotocols } => add_offer(key, subprotocols, words),
+    }
 }
 
 fn add_offer(key: &[u8], names: &Names, words: &mut String) -> Result<(), AllocError> {
@@ -70,10 +48,17 @@ fn add_offer(key: &[u8], names: &Names, words: &mut String) -> Result<(), AllocE
         words.push(*b as char)?;
     }
     for i in 0..names.len() {
-        words.push_str(" ")?;
-        words.push_str(names.at(i).map_or("?", |name| name.as_str()))?;
+        add_name(names, i, words)?;
     }
     Ok(())
+}
+
+fn add_name(names: &Names, index: usize, words: &mut String) -> Result<(), AllocError> {
+    words.push_str(" ")?;
+    match names.at(index) {
+        Some(name) => words.push_str(name.as_str()),
+        None => words.push_str("?"),
+    }
 }
 
 fn asked(
@@ -186,16 +171,62 @@ fn an_upgrade_of_http_10_is_ignored(rt: HostRuntime) -> Result<(), Fail> {
     ask(&rt, rt.alloc(), HttpVersion::V10, rows)
 }
 
+const VERSIONS: &[Row] = &[
+    (
+        "8",
+        "GET",
+        NONE,
+        &[WS, UP, KEY, ("Sec-WebSocket-Version", "8")],
+        "426",
+    ),
+    (
+        "13, 8",
+        "GET",
+        NONE,
+        &[WS, UP, KEY, ("Sec-WebSocket-Version", "13, 8")],
+        "426",
+    ),
+    (
+        "8, 13",
+        "GET",
+        NONE,
+        &[WS, UP, KEY, ("Sec-WebSocket-Version", "8, 13")],
+        "426",
+    ),
+    (
+        "013",
+        "GET",
+        NONE,
+        &[WS, UP, KEY, ("Sec-WebSocket-Version", "013")],
+        "426",
+    ),
+    (
+        "",
+        "GET",
+        NONE,
+        &[WS, UP, KEY, ("Sec-WebSocket-Version", "")],
+        "426",
+    ),
+    (
+        "1",
+        "GET",
+        NONE,
+        &[WS, UP, KEY, ("Sec-WebSocket-Version", "1")],
+        "426",
+    ),
+    (
+        "+13",
+        "GET",
+        NONE,
+        &[WS, UP, KEY, ("Sec-WebSocket-Version", "+13")],
+        "426",
+    ),
+    ("two versions", "GET", NONE, &[WS, UP, KEY, V13, V13], "426"),
+];
+
 #[test]
 fn only_version_13_is_served(rt: HostRuntime) -> Result<(), Fail> {
-    for value in ["8", "13, 8", "8, 13", "013", "", "1", "+13"] {
-        let version = ("Sec-WebSocket-Version", value);
-        let words = get(rt.alloc(), &[WS, UP, KEY, version]);
-        are(&rt, words?.as_str(), "426", value);
-    }
-    let words = get(rt.alloc(), &[WS, UP, KEY, V13, V13]);
-    are(&rt, words?.as_str(), "426", "two versions");
-    Ok(())
+    ask(&rt, rt.alloc(), HttpVersion::V11, VERSIONS)
 }
 
 /// What upgrade and connection list, and what is asked.
@@ -252,10 +283,14 @@ const KEYS: &[(&'static str, bool)] = &[
     ("", false),
 ];
 
+fn is_judged(row: &(&'static str, bool)) -> bool {
+    is_key(row.0.as_bytes()) == row.1
+}
+
 #[test]
 fn a_key_is_the_base64_of_16_bytes(rt: HostRuntime) -> Result<(), Fail> {
-    for (key, wanted) in KEYS {
-        assert!(rt; is_key(key.as_bytes()) == *wanted, "{key}");
+    for row in KEYS {
+        assert!(rt; is_judged(row), "{}", row.0);
     }
     Ok(())
 }
@@ -271,29 +306,35 @@ fn get_offering(
     get(alloc, &[before, WS, UP, KEY, V13, behind])
 }
 
-/// The words are the key of these handshakes and the names.
-fn are_names(rt: &impl Abort, words: &str, wanted: &str, what: &str) {
-    let names = words.strip_prefix("dGhlIHNhbXBsZSBub25jZQ==");
-    assert_eq!(rt; names, Some(wanted), "{what}");
-}
-
-/// What two fields offer, and the names.
+/// What two fields offer, and what is asked: the key and the names.
 const OFFERS: &[(&'static str, &'static str, &'static str)] = &[
-    ("chat", "superchat", " chat superchat"),
-    ("chat, superchat", "v1.Bar", " chat superchat v1.Bar"),
-    (" \tB ,,\t, a,", "", " B a"),
-    ("chat chat, a/b, \"c\", d", "", " d"),
-    ("a, a", "a", " a a a"),
-    ("mqtt;v=5", "caf\u{e9}", ""),
-    ("!#$%&'*+-.^_`|~", "0", " !#$%&'*+-.^_`|~ 0"),
-    ("", ",", ""),
+    (
+        "chat",
+        "superchat",
+        "dGhlIHNhbXBsZSBub25jZQ== chat superchat",
+    ),
+    (
+        "chat, superchat",
+        "v1.Bar",
+        "dGhlIHNhbXBsZSBub25jZQ== chat superchat v1.Bar",
+    ),
+    (" \tB ,,\t, a,", "", "dGhlIHNhbXBsZSBub25jZQ== B a"),
+    ("chat chat, a/b, \"c\", d", "", "dGhlIHNhbXBsZSBub25jZQ== d"),
+    ("a, a", "a", "dGhlIHNhbXBsZSBub25jZQ== a a a"),
+    ("mqtt;v=5", "caf\u{e9}", "dGhlIHNhbXBsZSBub25jZQ=="),
+    (
+        "!#$%&'*+-.^_`|~",
+        "0",
+        "dGhlIHNhbXBsZSBub25jZQ== !#$%&'*+-.^_`|~ 0",
+    ),
+    ("", ",", "dGhlIHNhbXBsZSBub25jZQ=="),
 ];
 
 #[test]
 fn subprotocols_are_the_tokens_in_their_order(rt: HostRuntime) -> Result<(), Fail> {
     for (first, second, wanted) in OFFERS {
         let words = get_offering(rt.alloc(), first, second);
-        are_names(&rt, words?.as_str(), wanted, first);
+        are(&rt, words?.as_str(), wanted, first);
     }
     Ok(())
 }

@@ -1,8 +1,12 @@
 //! Inputs at the greatest limits that a connection may have: what was fed comes back whole.
-use super::{feed, held, limits, new_reader, of_given, put, take};
-use crate::{Next, RequestReader};
-use asgi_types::{Headers, Incoming, Limits, Scope};
-use std::alloc::{AllocError, Global};
+use crate::calls::{
+    held, is_event, is_head, is_whole, limits, new_reader, of_given, put, take, usual, waits,
+};
+use crate::feeding::gives_in_pieces;
+use crate::inputs::{filled, joined};
+use asgi_request::{Next, RequestReader};
+use asgi_types::{Headers, Limits, Scope};
+use std::alloc::{AllocError, AllocGlobal, Global};
 use std::process::Abort;
 use std::test::Fail;
 
@@ -14,105 +18,63 @@ fn greatest(block: usize) -> Limits {
 /// 28 bytes, to be filled up with letters.
 const FRONT: &[u8] = b"GET / HTTP/1.1\r\nHost: a\r\nX: ";
 
-/// The front and so many letters.
-fn open_head(alloc: Global, letters: usize) -> Result<Vec<u8>, AllocError> {
-    let mut bytes = Vec::from_slice(alloc, FRONT)?;
-    for _ in 0..letters {
-        bytes.push(b'a')?;
-    }
-    Ok(bytes)
-}
-
-/// A head whose last field has so many letters: 32 bytes more in all.
-fn head(alloc: Global, letters: usize) -> Result<Vec<u8>, AllocError> {
-    let mut bytes = open_head(alloc, letters)?;
-    bytes.extend_from_slice(b"\r\n\r\n")?;
-    Ok(bytes)
-}
-
-/// What the reader gives of the bytes, fed in pieces of so many.
-fn words_of(
-    alloc: Global,
-    limits: Limits,
-    bytes: &[u8],
-    size: usize,
-) -> Result<String, AllocError> {
-    let mut reader = new_reader(alloc, limits);
-    feed_all(&mut reader, bytes, size, String::new(alloc))
-}
-
-fn feed_all(
-    reader: &mut RequestReader,
-    bytes: &[u8],
-    size: usize,
-    mut words: String,
-) -> Result<String, AllocError> {
-    let mut rest = bytes;
-    for _ in 0..bytes.len() {
-        let (piece, behind) = rest.split_at(size.min(rest.len()));
-        feed(reader, piece, &mut words)?;
-        if behind.is_empty() {
-            return Ok(words);
-        }
-        rest = behind;
-    }
-    Ok(words)
-}
-
-/// Whether the reader gives of the bytes, fed in pieces of so many, what the words name.
-fn are_words(
-    alloc: Global,
-    limits: Limits,
-    bytes: &[u8],
-    size: usize,
-    wanted: &str,
-) -> Result<bool, AllocError> {
-    Ok(words_of(alloc, limits, bytes, size)?.as_str() == wanted)
-}
-
-/// The bytes, fed whole, in two pieces and in many, give the results that the words name.
-fn gives(
-    rt: &(impl Abort + AllocGlobal),
-    limits: Limits,
-    bytes: &[u8],
-    wanted: &str,
-) -> Result<(), Fail> {
-    for size in [4_096, 65_534, 65_535, 1_048_576] {
-        let is_so = are_words(rt.alloc(), limits, bytes, size, wanted)?;
-        assert!(rt; is_so, "{wanted} in pieces of {size}");
-    }
-    Ok(())
-}
+const END: &[u8] = b"\r\n\r\n";
 
 const SERVED: &str = "head GET 0; last() whole;";
 
-#[test]
-fn a_head_has_65535_bytes_at_most(rt: HostRuntime) -> Result<(), Fail> {
-    for (letters, wanted) in [(65_502, SERVED), (65_503, SERVED), (65_504, " bad 431")] {
-        let bytes = head(rt.alloc(), letters)?;
-        gives(&rt, greatest(16_384), &bytes, wanted)?;
-    }
-    // No empty line can follow in time where that many bytes have none.
-    for (letters, wanted) in [(65_506, ""), (65_507, " bad 431")] {
-        let bytes = open_head(rt.alloc(), letters)?;
-        gives(&rt, greatest(16_384), &bytes, wanted)?;
+/// How many letters stand behind the front, the end, and the words of what the reader gives of it.
+type Filled = (usize, &'static [u8], &'static str);
+
+/// The heads give these words, fed in pieces of these sizes.
+fn filled_give(
+    rt: &impl Abort,
+    alloc: Global,
+    sizes: &[usize],
+    rows: &[Filled],
+) -> Result<(), Fail> {
+    for (letters, end, wanted) in rows {
+        let bytes = filled(alloc, FRONT, *letters, end)?;
+        gives_in_pieces(rt, alloc, greatest(16_384), &bytes, sizes, wanted)?;
     }
     Ok(())
 }
 
+/// Whole, in two pieces and in many.
+const SIZES: &[usize] = &[4_096, 65_534, 65_535, 1_048_576];
+
+/// No empty line can follow in time where 65,535 bytes have none.
+const HEADS: &[Filled] = &[
+    (65_502, END, SERVED),
+    (65_503, END, SERVED),
+    (65_504, END, " bad 431"),
+    (65_506, b"", ""),
+    (65_507, b"", " bad 431"),
+];
+
+#[test]
+fn a_head_has_65535_bytes_at_most(rt: HostRuntime) -> Result<(), Fail> {
+    filled_give(&rt, rt.alloc(), SIZES, HEADS)
+}
+
+const BY_BYTES: &[Filled] = &[(65_503, END, SERVED), (65_504, END, " bad 431")];
+
 #[test]
 fn a_head_of_65535_bytes_may_come_byte_by_byte(rt: HostRuntime) -> Result<(), Fail> {
-    for (letters, wanted) in [(65_503, SERVED), (65_504, " bad 431")] {
-        let bytes = head(rt.alloc(), letters)?;
-        let is_so = are_words(rt.alloc(), greatest(16_384), &bytes, 1, wanted)?;
-        assert!(rt; is_so, "{letters} letters");
+    filled_give(&rt, rt.alloc(), &[1], BY_BYTES)
+}
+
+fn are_letters(value: &[u8]) -> bool {
+    for b in value {
+        if *b != b'a' {
+            return false;
+        }
     }
-    Ok(())
+    true
 }
 
 /// A name in lower case, and a value of so many letters.
 fn is_filled(name: &[u8], value: &[u8], letters: usize) -> bool {
-    name == b"x".as_slice() && value.len() == letters && value.iter().all(|b| *b == b'a')
+    name == b"x".as_slice() && value.len() == letters && are_letters(value)
 }
 
 fn has_filled_field(headers: &Headers, letters: usize) -> bool {
@@ -122,30 +84,25 @@ fn has_filled_field(headers: &Headers, letters: usize) -> bool {
     }
 }
 
-fn is_filled_head(next: &Next, letters: usize) -> bool {
+fn is_filled_head(next: &Next) -> bool {
     match next {
-        Next::Head(Scope::Http(http), _) => has_filled_field(&http.headers, letters),
+        Next::Head(Scope::Http(http), _) => has_filled_field(&http.headers, 65_503),
         _ => false,
     }
 }
 
-fn gives_filled_head(reader: &mut RequestReader, letters: usize) -> Result<bool, AllocError> {
-    of_given(take(reader), |next| is_filled_head(next, letters))
-}
-
-fn feeds_filled_head(
-    rt: &(impl Abort + AllocGlobal),
-    reader: &mut RequestReader,
-) -> Result<(), Fail> {
-    let bytes = head(rt.alloc(), 65_503)?;
-    put(reader, &bytes)?;
-    assert!(rt; gives_filled_head(reader, 65_503)?);
-    Ok(())
+fn gives_filled_head(reader: &mut RequestReader, bytes: &[u8]) -> Result<bool, AllocError> {
+    put(reader, bytes)?;
+    of_given(take(reader), is_filled_head)
 }
 
 #[test]
 fn a_head_of_65535_bytes_keeps_its_fields(rt: HostRuntime) -> Result<(), Fail> {
-    feeds_filled_head(&rt, &mut new_reader(rt.alloc(), greatest(16_384)))
+    let bytes = filled(rt.alloc(), FRONT, 65_503, END)?;
+    let mut reader = new_reader(rt.alloc(), greatest(16_384));
+    let is_so = gives_filled_head(&mut reader, &bytes);
+    assert!(rt; is_so == Ok(true));
+    Ok(())
 }
 
 fn digit(number: usize) -> u8 {
@@ -159,20 +116,34 @@ fn digits(number: usize) -> [u8; 3] {
 
 /// A head with `Host` and so many other fields `X-NNN: NNN`.
 fn head_with(alloc: Global, others: usize) -> Result<Vec<u8>, AllocError> {
-    let mut bytes = Vec::from_slice(alloc, b"GET / HTTP/1.1\r\nHost: a\r\n")?;
-    for number in 0..others {
-        let [a, b, c] = digits(number);
-        bytes.extend_from_slice(&[b'X', b'-', a, b, c, b':', b' ', a, b, c, b'\r', b'\n'])?;
-    }
-    bytes.extend_from_slice(b"\r\n")?;
+    let mut bytes = Vec::new(alloc);
+    add_head(&mut bytes, others)?;
     Ok(bytes)
 }
 
+fn add_head(bytes: &mut Vec<u8>, others: usize) -> Result<(), AllocError> {
+    bytes.extend_from_slice(b"GET / HTTP/1.1\r\nHost: a\r\n")?;
+    for number in 0..others {
+        add_other(bytes, digits(number))?;
+    }
+    bytes.extend_from_slice(b"\r\n")
+}
+
+fn add_other(bytes: &mut Vec<u8>, digits: [u8; 3]) -> Result<(), AllocError> {
+    bytes.extend_from_slice(b"X-")?;
+    bytes.extend_from_slice(&digits)?;
+    bytes.extend_from_slice(b": ")?;
+    bytes.extend_from_slice(&digits)?;
+    bytes.extend_from_slice(b"\r\n")
+}
+
+const FIELDS: &[(usize, &'static str)] = &[(126, SERVED), (127, SERVED), (128, " bad 400")];
+
 #[test]
 fn a_head_has_128_fields_at_most(rt: HostRuntime) -> Result<(), Fail> {
-    for (others, wanted) in [(126, SERVED), (127, SERVED), (128, " bad 400")] {
-        let bytes = head_with(rt.alloc(), others)?;
-        gives(&rt, greatest(16_384), &bytes, wanted)?;
+    for (others, wanted) in FIELDS {
+        let bytes = head_with(rt.alloc(), *others)?;
+        gives_in_pieces(&rt, rt.alloc(), greatest(16_384), &bytes, SIZES, wanted)?;
     }
     Ok(())
 }
@@ -207,59 +178,32 @@ fn is_numbered_head(next: &Next) -> bool {
     }
 }
 
-fn gives_numbered_head(reader: &mut RequestReader) -> Result<bool, AllocError> {
+fn gives_numbered_head(reader: &mut RequestReader, bytes: &[u8]) -> Result<bool, AllocError> {
+    put(reader, bytes)?;
     of_given(take(reader), is_numbered_head)
-}
-
-fn feeds_numbered_head(
-    rt: &(impl Abort + AllocGlobal),
-    reader: &mut RequestReader,
-) -> Result<(), Fail> {
-    let bytes = head_with(rt.alloc(), 127)?;
-    put(reader, &bytes)?;
-    assert!(rt; gives_numbered_head(reader)?);
-    Ok(())
 }
 
 #[test]
 fn a_head_of_128_fields_keeps_them(rt: HostRuntime) -> Result<(), Fail> {
-    feeds_numbered_head(&rt, &mut new_reader(rt.alloc(), greatest(16_384)))
+    let bytes = head_with(rt.alloc(), 127)?;
+    let mut reader = new_reader(rt.alloc(), greatest(16_384));
+    let is_so = gives_numbered_head(&mut reader, &bytes);
+    assert!(rt; is_so == Ok(true));
+    Ok(())
 }
 
 /// So many bytes, in rows of 251.
 fn body_of(alloc: Global, count: usize) -> Result<Vec<u8>, AllocError> {
     let mut bytes = Vec::with_capacity(alloc, count)?;
+    add_body(&mut bytes, count)?;
+    Ok(bytes)
+}
+
+fn add_body(bytes: &mut Vec<u8>, count: usize) -> Result<(), AllocError> {
     for at in 0..count {
         bytes.push((at % 251) as u8)?;
     }
-    Ok(bytes)
-}
-
-/// The front, the body and the end, one behind the other.
-fn joined(alloc: Global, front: &[u8], body: &[u8], end: &[u8]) -> Result<Vec<u8>, AllocError> {
-    let mut bytes = Vec::from_slice(alloc, front)?;
-    bytes.extend_from_slice(body)?;
-    bytes.extend_from_slice(end)?;
-    Ok(bytes)
-}
-
-fn is_head(next: &Next) -> bool {
-    matches!(next, Next::Head(_, _))
-}
-
-fn is_whole(next: &Next) -> bool {
-    matches!(next, Next::Whole)
-}
-
-fn needs_more(next: &Next) -> bool {
-    matches!(next, Next::Need)
-}
-
-fn is_event(next: &Next, block: &[u8], more: bool) -> bool {
-    let Next::Event(Incoming::HttpRequest { body, more_body }) = next else {
-        return false;
-    };
-    body.bytes() == block && *more_body == more
+    Ok(())
 }
 
 fn gives_event(reader: &mut RequestReader, block: &[u8], more: bool) -> Result<bool, AllocError> {
@@ -295,9 +239,10 @@ fn gives_head(reader: &mut RequestReader) -> Result<bool, AllocError> {
 
 /// Whether the request ends here, and nothing is held behind it.
 fn gives_end(reader: &mut RequestReader) -> Result<bool, AllocError> {
-    let ends = of_given(take(reader), is_whole)?;
-    let is_all = held(reader).is_empty();
-    Ok(ends && is_all && of_given(take(reader), needs_more)?)
+    if !of_given(take(reader), is_whole)? || !held(reader).is_empty() {
+        return Ok(false);
+    }
+    waits(reader)
 }
 
 /// Whether a head, the body in blocks and the end are given of what was fed. A chunked body has an empty last event.
@@ -307,9 +252,13 @@ fn gives_request(
     block: usize,
     is_chunked: bool,
 ) -> Result<bool, AllocError> {
-    let begins = gives_head(reader)? && gives_blocks(reader, body, block, !is_chunked)?;
-    let ends = !is_chunked || gives_event(reader, b"", false)?;
-    Ok(begins && ends && gives_end(reader)?)
+    if !gives_head(reader)? || !gives_blocks(reader, body, block, !is_chunked)? {
+        return Ok(false);
+    }
+    if is_chunked && !gives_event(reader, b"", false)? {
+        return Ok(false);
+    }
+    gives_end(reader)
 }
 
 /// What stands in front of a body, how many bytes it has, what stands behind it, and the block.
@@ -323,7 +272,7 @@ fn is_given(
     is_chunked: bool,
 ) -> Result<bool, AllocError> {
     let body = body_of(alloc, row.1)?;
-    put(reader, &joined(alloc, row.0, &body, row.2)?)?;
+    put(reader, &joined(alloc, &[row.0, &body, row.2])?)?;
     gives_request(reader, &body, row.3, is_chunked)
 }
 
@@ -337,7 +286,7 @@ fn are_given(rt: &(impl Abort + AllocGlobal), rows: &[Row], is_chunked: bool) ->
 }
 
 /// Bodies around a block of 65,536 bytes, one that is 1 MiB with its head of 53 bytes, and one of 1 MiB.
-const LENGTHS: [Row; 5] = [
+const LENGTHS: &[Row] = &[
     (
         b"POST / HTTP/1.1\r\nHost: a\r\nContent-Length: 65535\r\n\r\n",
         65_535,
@@ -372,11 +321,11 @@ const LENGTHS: [Row; 5] = [
 
 #[test]
 fn a_body_of_1_mib_is_given_in_blocks(rt: HostRuntime) -> Result<(), Fail> {
-    are_given(&rt, &LENGTHS, false)
+    are_given(&rt, LENGTHS, false)
 }
 
 /// One chunk each, of 65,536 bytes, of one more, and of 1 MiB.
-const CHUNKS: [Row; 3] = [
+const CHUNKS: &[Row] = &[
     (
         b"POST / HTTP/1.1\r\nHost: a\r\nTransfer-Encoding: chunked\r\n\r\n10000\r\n",
         65_536,
@@ -399,29 +348,36 @@ const CHUNKS: [Row; 3] = [
 
 #[test]
 fn a_chunk_of_1_mib_is_given_in_blocks(rt: HostRuntime) -> Result<(), Fail> {
-    are_given(&rt, &CHUNKS, true)
+    are_given(&rt, CHUNKS, true)
 }
 
-/// Whether a body of 1 MiB that is fed at once behind its head comes back in blocks.
-fn is_given_behind_its_head(alloc: Global, reader: &mut RequestReader) -> Result<bool, AllocError> {
-    let body = body_of(alloc, 1_048_576)?;
-    gives_behind_its_head(reader, &body)
+/// Whether more bytes are needed behind a head.
+fn begins(reader: &mut RequestReader, head: &[u8]) -> Result<bool, AllocError> {
+    put(reader, head)?;
+    if !gives_head(reader)? {
+        return Ok(false);
+    }
+    waits(reader)
 }
 
-fn gives_behind_its_head(reader: &mut RequestReader, body: &[u8]) -> Result<bool, AllocError> {
-    put(
-        reader,
-        b"POST / HTTP/1.1\r\nHost: a\r\nContent-Length: 1048576\r\n\r\n",
-    )?;
-    let begins = gives_head(reader)? && of_given(take(reader), needs_more)?;
+/// Whether a body that is fed at once behind its head comes back in blocks, and ends the request.
+fn ends(reader: &mut RequestReader, body: &[u8]) -> Result<bool, AllocError> {
     put(reader, body)?;
-    Ok(begins && gives_blocks(reader, body, 16_384, true)? && gives_end(reader)?)
+    if !gives_blocks(reader, body, 16_384, true)? {
+        return Ok(false);
+    }
+    gives_end(reader)
 }
+
+const HEAD: &[u8] = b"POST / HTTP/1.1\r\nHost: a\r\nContent-Length: 1048576\r\n\r\n";
 
 #[test]
 fn a_piece_of_1_mib_is_taken_at_once(rt: HostRuntime) -> Result<(), Fail> {
-    let mut reader = new_reader(rt.alloc(), Limits::usual());
-    let is_so = is_given_behind_its_head(rt.alloc(), &mut reader);
-    assert!(rt; is_so == Ok(true));
+    let body = body_of(rt.alloc(), 1_048_576)?;
+    let mut reader = new_reader(rt.alloc(), usual());
+    let is_begun = begins(&mut reader, HEAD);
+    assert!(rt; is_begun == Ok(true));
+    let is_ended = ends(&mut reader, &body);
+    assert!(rt; is_ended == Ok(true));
     Ok(())
 }

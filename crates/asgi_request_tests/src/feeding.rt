@@ -1,49 +1,50 @@
-//! Tables of requests, each fed in many ways, with what the reader has to give.
-use crate::{Next, RequestReader};
+//! Requests that are fed in many ways, and what the reader gives of them, in words.
+use crate::calls::{new_reader, of_given, put, take};
+use asgi_request::{Next, RequestReader};
 use asgi_types::{Facts, Framing, Incoming, Limits, Scope};
 use std::alloc::{AllocError, Global};
 use std::process::Abort;
 use std::test::Fail;
 
-mod bodies;
-mod chunks;
-mod edges;
-mod heads;
-mod limits_edges;
-mod scopes;
-mod upgrade;
+/// Inputs, and the words of what the reader gives of each of them.
+pub type Row = (&'static [&'static [u8]], &'static str);
 
-/// Feeds each input in pieces of 1, 2, 7 and 1000 bytes, of which the last is the whole, and cut in two at each place:
-/// the reader gives the same results, which are these words.
-fn gives(
-    rt: &impl Abort,
-    alloc: Global,
-    limits: Limits,
-    inputs: &[&[u8]],
-    wanted: &str,
-) -> Result<(), Fail> {
-    for bytes in inputs {
-        gives_in_pieces(rt, alloc, limits, bytes, wanted)?;
-        gives_in_two(rt, alloc, limits, bytes, wanted)?;
+/// The reader gives these words of each input, fed in all ways.
+pub fn gives(rt: &impl Abort, alloc: Global, limits: Limits, rows: &[Row]) -> Result<(), Fail> {
+    for (inputs, wanted) in rows {
+        for bytes in *inputs {
+            gives_in_all_ways(rt, alloc, limits, bytes, wanted)?;
+        }
     }
     Ok(())
 }
 
-fn gives_in_pieces(
+/// Fed in pieces of 1, 2, 7 and 1000 bytes, of which the last is the whole, and cut in two at each place, the bytes
+/// give the same results, which are these words.
+pub fn gives_in_all_ways(
     rt: &impl Abort,
     alloc: Global,
     limits: Limits,
     bytes: &[u8],
     wanted: &str,
 ) -> Result<(), Fail> {
-    for size in [1, 2, 7, 1_000] {
-        are(rt, in_pieces(alloc, limits, bytes, size)?.as_str(), wanted);
-    }
-    Ok(())
+    gives_in_pieces(rt, alloc, limits, bytes, &[1, 2, 7, 1_000], wanted)?;
+    gives_in_two(rt, alloc, limits, bytes, wanted)
 }
 
-fn are(rt: &impl Abort, words: &str, wanted: &str) {
-    assert_eq!(rt; words, wanted);
+pub fn gives_in_pieces(
+    rt: &impl Abort,
+    alloc: Global,
+    limits: Limits,
+    bytes: &[u8],
+    sizes: &[usize],
+    wanted: &str,
+) -> Result<(), Fail> {
+    for size in sizes {
+        let words = in_pieces(alloc, limits, bytes, *size)?;
+        are(rt, words.as_str(), wanted, "in pieces of", *size);
+    }
+    Ok(())
 }
 
 fn gives_in_two(
@@ -54,9 +55,14 @@ fn gives_in_two(
     wanted: &str,
 ) -> Result<(), Fail> {
     for cut in 0..bytes.len() {
-        are(rt, in_two(alloc, limits, bytes, cut)?.as_str(), wanted);
+        let words = in_two(alloc, limits, bytes, cut)?;
+        are(rt, words.as_str(), wanted, "cut at", cut);
     }
     Ok(())
+}
+
+fn are(rt: &impl Abort, words: &str, wanted: &str, how: &str, count: usize) {
+    assert_eq!(rt; words, wanted, "{how} {count}");
 }
 
 /// What the reader gives of the bytes, fed in pieces of so many.
@@ -80,6 +86,10 @@ fn feed_pieces(
     for _ in 0..bytes.len() {
         let (piece, behind) = rest.split_at(size.min(rest.len()));
         feed(reader, piece, &mut words)?;
+        // One empty piece is fed behind the last.
+        if piece.is_empty() {
+            return Ok(words);
+        }
         rest = behind;
     }
     Ok(words)
@@ -89,17 +99,17 @@ fn feed_pieces(
 fn in_two(alloc: Global, limits: Limits, bytes: &[u8], cut: usize) -> Result<String, AllocError> {
     let mut reader = new_reader(alloc, limits);
     let (front, behind) = bytes.split_at(cut.min(bytes.len()));
-    feed_two(&mut reader, front, behind, String::new(alloc))
+    feed_parts(&mut reader, &[front, behind], String::new(alloc))
 }
 
-fn feed_two(
+fn feed_parts(
     reader: &mut RequestReader,
-    front: &[u8],
-    behind: &[u8],
+    parts: &[&[u8]],
     mut words: String,
 ) -> Result<String, AllocError> {
-    feed(reader, front, &mut words)?;
-    feed(reader, behind, &mut words)?;
+    for part in parts {
+        feed(reader, part, &mut words)?;
+    }
     Ok(words)
 }
 
@@ -126,34 +136,6 @@ fn add_next(reader: &mut RequestReader, words: &mut String) -> Result<bool, Allo
 fn show(next: &Next, words: &mut String) -> Result<bool, AllocError> {
     add_words(next, words)?;
     Ok(is_last(next))
-}
-
-/// What is said of the result that a call gave. It stands for a result of any type, so its proof sees no field of one.
-pub fn of_given<T: Drop, E: Drop, S, F: FnOnce(&T) -> S>(
-    given: Result<T, E>,
-    says: F,
-) -> Result<S, E>
-    requires { F.IsAlwaysCallable says }
-{
-    let result = given?;
-    Ok(says(&result))
-}
-
-// What a test proves needs none of the clauses of these calls.
-pub fn new_reader(alloc: Global, limits: Limits) -> RequestReader {
-    RequestReader::new(alloc, limits)
-}
-
-pub fn put(reader: &mut RequestReader, piece: &[u8]) -> Result<(), AllocError> {
-    reader.feed(piece)
-}
-
-pub fn take(reader: &mut RequestReader) -> Result<Next, AllocError> {
-    reader.next()
-}
-
-pub fn held(reader: &RequestReader) -> &[u8] {
-    reader.held()
 }
 
 fn is_last(next: &Next) -> bool {
@@ -222,11 +204,4 @@ fn add_refusal(status: u16, words: &mut String) -> Result<(), AllocError> {
         return Ok(());
     }
     words.push_str(word)
-}
-
-/// The usual limits but for these.
-pub fn limits(max_head: usize, max_headers: usize, max_body: u64, block: usize) -> Limits {
-    Limits::new(max_head, max_headers, max_body, block, 16, 30_000, 1 << 40).unwrap_or(
-        Limits::usual(),
-    )
 }
