@@ -16,15 +16,15 @@ pub struct Outbox<T> {
     /// What was carried on.
     passed: History<T>,
     ghost fits: { length queue.items + away ≤ places },
-    ghost reserved: { places ≤ deque_capacity queue },
+    ghost reserved: { deque_capacity queue ≡ places },
 }
 
 impl<T: Drop> Outbox<T> {
-    ghost use Rattle.asgi_pipes.specs.Boxes.{put_by, free_in};
+    ghost use Rattle.asgi_pipes.specs.Boxes.{put_by, free_in, IsNewOutbox};
 
     /// An empty one. All its places are reserved here, and no later call takes memory.
     pub fn with_places(alloc: Global, places: usize) -> Result<Outbox<T>, AllocError>
-        ensures { IfOk result (λ made. (made.queue.items ≡ []) × (made.passed.items ≡ []) × (made.away ≡ 0) × (made.places ≡ places) × (deque_capacity made.queue ≡ places)) }
+        ensures { IfOk result (λ made. IsNewOutbox places made) }
     {
         let queue = VecDeque::with_capacity(alloc, places)?;
         Ok(Outbox {
@@ -33,6 +33,22 @@ impl<T: Drop> Outbox<T> {
             away: 0,
             passed: History::new(),
         })
+    }
+
+    /// Makes a new one of it, in the same places. What waits here is dropped.
+    pub fn clear(&mut self)
+        ensures { IsNewOutbox self.old.places self.new }
+    {
+        self.queue.clear();
+        self.away = 0;
+        self.passed = History::new();
+    }
+
+    /// All places of this direction.
+    pub fn places(&self) -> usize
+        ensures { result ≡ self.now.places }
+    {
+        self.places
     }
 
     /// The places that are free, as far as this end was told.

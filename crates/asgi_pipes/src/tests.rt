@@ -115,7 +115,7 @@ fn meet(pair: Pair) -> Met {
         app,
         finished: _,
     } = pair;
-    match Plain::meet(conn, app) {
+    match Plain::meet(&conn, &app) {
         Some(met) => met,
         None => unreachable!(),
     }
