@@ -1,5 +1,5 @@
 //! Pairs of ends.
-ghost use Rattle.std.specs.Prelude.{◌≡◌, ◌+◌, false, [], None, is_some, IfSome, IsSome, IfOk};
+ghost use Rattle.std.specs.Prelude.{◌≡◌, ℕ, ◌+◌, false, [], None, is_some, IfSome, IsSome, IfOk, IsOk};
 ghost use Rattle.asgi_types.specs.declared.scope.Kind.{Kind};
 ghost use Rattle.asgi_protocol.specs.Lawful.{IsLawful};
 ghost use Rattle.asgi_pipes.specs.Disconnects.{Hears};
@@ -29,6 +29,9 @@ pub trait Pipes {
 
     // They are the ends of one pair.
     ghost is_pair: { Self.Conn → Self.App → Type 0 };
+
+    // The memory that they hold is enough for the ends of another exchange with so many event places.
+    ghost serves_again: { Self.Conn → Self.App → ℕ → Type 0 };
 
     /// The two ends of an exchange in a scope of this kind, whose request has these facts, with
     /// so many event places each way. Every place of every queue is reserved here.
@@ -62,6 +65,8 @@ pub trait Pipes {
         ensures places { IfOk result (λ ends. (Self.Conn.ring ends.0 ≡ ring) × (Self.Conn.room ends.0 ≡ ring) × (Self.App.ring ends.1 ≡ ring) × (Self.App.room ends.1 ≡ ring)) }
         ensures capacity { IfOk result (λ ends. (Self.Conn.capacity ends.0 ≡ (ring + 1, ring + 1)) × (Self.App.capacity ends.1 ≡ (ring + 1, ring + 1))) }
         ensures scope { IfOk result (λ ends. (Self.App.kind ends.1 ≡ kind) × (Self.App.facts ends.1 ≡ facts) × (Self.App.has_moved ends.1 ≡ false)) }
+        // It fails only where it must take memory.
+        ensures again { serves_again conn app ring → IsOk result }
         ensures pair { IfOk result (λ ends. is_pair ends.0 ends.1) };
 
     /// Brings the ends of one pair together, and counts what was left between them. Only the

@@ -82,11 +82,13 @@ impl Pipes for Plain {
 
     type App = PlainApp;
 
-    ghost use Rattle.std.specs.Prelude.{◌≡◌};
+    ghost use Rattle.std.specs.Prelude.{◌≡◌, ◌+◌};
     ghost use Rattle.std.proofs.Common.{sym, ◌∙◌};
     ghost use Rattle.asgi_pipes.specs.PlainPairs.{IsPlainPair};
 
     ghost is_pair = { IsPlainPair };
+
+    ghost serves_again = { λ conn app ring. (conn.out.places ≡ ring + 1) × (app.out.places ≡ ring + 1) };
 
     fn make(
         &self,
@@ -108,7 +110,6 @@ impl Pipes for Plain {
         Ok((conn, app))
     }
 
-    /// It takes no memory where each end has so many places.
     fn renew(
         &self,
         alloc: Global,

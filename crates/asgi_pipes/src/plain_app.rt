@@ -46,7 +46,7 @@ pub struct PlainApp {
 }
 
 impl PlainApp {
-    ghost use Rattle.std.specs.Prelude.{IsTrue};
+    ghost use Rattle.std.specs.Prelude.{IsTrue, ◌↔◌};
     ghost use Rattle.asgi_pipes.specs.Boxes.{IsNewOutbox, IsNewInbox};
     ghost use Rattle.asgi_pipes.specs.PlainPairs.{IsNewApp};
 
@@ -80,7 +80,7 @@ impl PlainApp {
 
     /// Whether each of its queues has so many places.
     pub(crate) fn has_places(&self, places: usize) -> bool
-        ensures { IsTrue result → self.now.out.places ≡ places }
+        ensures { IsTrue result ↔ (self.now.out.places ≡ places) }
     {
         self.out.places() == places
     }
@@ -95,15 +95,7 @@ impl PlainApp {
         let PlainApp {
             mut inn,
             mut out,
-            kind: _,
-            facts: _,
-            judge: _,
-            is_open: _,
-            disconnect: _,
-            ended: _,
-            moved: _,
-            heard: _,
-            said: _,
+            ..
         } = self;
         inn.clear();
         out.clear();

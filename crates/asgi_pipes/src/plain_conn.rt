@@ -19,7 +19,7 @@ pub struct PlainConn {
 }
 
 impl PlainConn {
-    ghost use Rattle.std.specs.Prelude.{IsTrue};
+    ghost use Rattle.std.specs.Prelude.{IsTrue, ◌↔◌};
     ghost use Rattle.asgi_pipes.specs.Boxes.{IsNewOutbox, IsNewInbox};
 
     /// The end of a new pair, with these queues.
@@ -36,7 +36,7 @@ impl PlainConn {
 
     /// Whether each of its queues has so many places.
     pub(crate) fn has_places(&self, places: usize) -> bool
-        ensures { IsTrue result → self.now.out.places ≡ places }
+        ensures { IsTrue result ↔ (self.now.out.places ≡ places) }
     {
         self.out.places() == places
     }
