@@ -1,5 +1,5 @@
 //! What one end has put, as far as it waits to be carried to the other end.
-ghost use Rattle.std.specs.Prelude.{◌≡◌, ◌<◌, ◌≤◌, ◌+◌, [], ◌∷◌, ◌++◌, length, IfOk, IfSome, IfNone};
+ghost use Rattle.std.specs.Prelude.{◌≡◌, ◌<◌, ◌≤◌, ◌+◌, [], ◌∷◌, ◌++◌, length, IsTrue, ◌↔◌, IfOk, IfSome, IfNone};
 ghost use Rattle.std.specs.VecDeque.{deque_capacity};
 
 use asgi_io::History;
@@ -44,11 +44,14 @@ impl<T: Drop> Outbox<T> {
         self.passed = History::new();
     }
 
-    /// All places of this direction.
-    pub fn places(&self) -> usize
-        ensures { result ≡ self.now.places }
+    /// Whether it has places for so many events, and the reserved one.
+    pub fn has_ring(&self, ring: usize) -> bool
+        ensures { IsTrue result ↔ (self.now.places ≡ ring + 1) }
     {
-        self.places
+        if self.places <= ring {
+            return false;
+        }
+        self.places - 1 == ring
     }
 
     /// The places that are free, as far as this end was told.

@@ -119,13 +119,10 @@ impl Pipes for Plain {
         facts: Facts,
         ring: usize,
     ) -> Result<(PlainConn, PlainApp), AllocError> {
-        let Some(places) = ring.checked_add(1) else {
-            return Err(AllocError);
-        };
-        if !conn.has_places(places) {
+        if !conn.out.has_ring(ring) {
             return self.make(alloc, kind, facts, ring);
         }
-        if !app.has_places(places) {
+        if !app.out.has_ring(ring) {
             return self.make(alloc, kind, facts, ring);
         }
         Ok((conn.renewed(), app.renewed(kind, facts)))

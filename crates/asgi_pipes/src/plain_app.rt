@@ -46,7 +46,6 @@ pub struct PlainApp {
 }
 
 impl PlainApp {
-    ghost use Rattle.std.specs.Prelude.{IsTrue, ◌↔◌};
     ghost use Rattle.asgi_pipes.specs.Boxes.{IsNewOutbox, IsNewInbox};
     ghost use Rattle.asgi_pipes.specs.PlainPairs.{IsNewApp};
 
@@ -76,13 +75,6 @@ impl PlainApp {
             heard: History::new(),
             said: History::new(),
         }
-    }
-
-    /// Whether each of its queues has so many places.
-    pub(crate) fn has_places(&self, places: usize) -> bool
-        ensures { IsTrue result ↔ (self.now.out.places ≡ places) }
-    {
-        self.out.places() == places
     }
 
     /// The end of a new pair, with the queues of this one. What is left in them is dropped.

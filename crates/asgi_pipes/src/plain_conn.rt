@@ -19,7 +19,6 @@ pub struct PlainConn {
 }
 
 impl PlainConn {
-    ghost use Rattle.std.specs.Prelude.{IsTrue, ◌↔◌};
     ghost use Rattle.asgi_pipes.specs.Boxes.{IsNewOutbox, IsNewInbox};
 
     /// The end of a new pair, with these queues.
@@ -32,13 +31,6 @@ impl PlainConn {
             inn,
             broken: false,
         }
-    }
-
-    /// Whether each of its queues has so many places.
-    pub(crate) fn has_places(&self, places: usize) -> bool
-        ensures { IsTrue result ↔ (self.now.out.places ≡ places) }
-    {
-        self.out.places() == places
     }
 
     /// The end of a new pair, with the queues of this one. What is left in them is dropped.
