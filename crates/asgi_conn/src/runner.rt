@@ -53,11 +53,11 @@ pub trait Runner {
         facts: Facts,
         ring: usize,
     ) -> Result<(<Self::Pipes as Pipes>::Conn, <Self::Pipes as Pipes>::App), AllocError>
-        ensures inward { let Conn = Self.Pipes.Conn.ConnEnd in let App = Self.Pipes.App.AppEnd in IfOk result (λ ends. (Conn.offered ends.0 ≡ []) × (Conn.is_broken ends.0 ≡ false) × (App.heard ends.1 ≡ []) × (App.pulled ends.1 ≡ []) × (App.seen ends.1 ≡ [])) }
-        ensures outward { let Conn = Self.Pipes.Conn.ConnEnd in let App = Self.Pipes.App.AppEnd in IfOk result (λ ends. (App.said ends.1 ≡ []) × (App.ended ends.1 ≡ None) × (Conn.got ends.0 ≡ []) × (Conn.seen ends.0 ≡ [])) }
-        ensures places { let Conn = Self.Pipes.Conn.ConnEnd in let App = Self.Pipes.App.AppEnd in IfOk result (λ ends. (Conn.ring ends.0 ≡ ring) × (Conn.room ends.0 ≡ ring) × (App.ring ends.1 ≡ ring) × (App.room ends.1 ≡ ring)) }
-        ensures capacity { let Conn = Self.Pipes.Conn.ConnEnd in let App = Self.Pipes.App.AppEnd in IfOk result (λ ends. (Conn.capacity ends.0 ≡ (ring + 1, ring + 1)) × (App.capacity ends.1 ≡ (ring + 1, ring + 1))) }
-        ensures scope { let App = Self.Pipes.App.AppEnd in IfOk result (λ ends. (App.kind ends.1 ≡ kind) × (App.facts ends.1 ≡ facts) × (App.has_moved ends.1 ≡ false)) }
+        ensures inward { IfOk result (λ ends. (Self.Pipes.Conn.offered ends.0 ≡ []) × (Self.Pipes.Conn.is_broken ends.0 ≡ false) × (Self.Pipes.App.heard ends.1 ≡ []) × (Self.Pipes.App.pulled ends.1 ≡ []) × (Self.Pipes.App.seen ends.1 ≡ [])) }
+        ensures outward { IfOk result (λ ends. (Self.Pipes.App.said ends.1 ≡ []) × (Self.Pipes.App.ended ends.1 ≡ None) × (Self.Pipes.Conn.got ends.0 ≡ []) × (Self.Pipes.Conn.seen ends.0 ≡ [])) }
+        ensures places { IfOk result (λ ends. (Self.Pipes.Conn.ring ends.0 ≡ ring) × (Self.Pipes.Conn.room ends.0 ≡ ring) × (Self.Pipes.App.ring ends.1 ≡ ring) × (Self.Pipes.App.room ends.1 ≡ ring)) }
+        ensures capacity { IfOk result (λ ends. (Self.Pipes.Conn.capacity ends.0 ≡ (ring + 1, ring + 1)) × (Self.Pipes.App.capacity ends.1 ≡ (ring + 1, ring + 1))) }
+        ensures scope { IfOk result (λ ends. (Self.Pipes.App.kind ends.1 ≡ kind) × (Self.Pipes.App.facts ends.1 ≡ facts) × (Self.Pipes.App.has_moved ends.1 ≡ false)) }
         ensures pair { IfOk result (λ ends. Self.Pipes.is_pair ends.0 ends.1) }
         ensures counts { (not_met self.new ≡ not_met self.old) × (pauses self.new ≡ pauses self.old) × (driven self.new ≡ driven self.old) };
 
