@@ -311,10 +311,7 @@ fn answer<A: Application, L: Line, U: Runner, P: Pause>(
     ensures turn_limits { (tally.new.turns.turn_limit ≡ tally.old.turns.turn_limit) × (tally.new.turns.idle_limit ≡ tally.old.turns.idle_limit) }
 {
     let text = ResponseText::new(wire.alloc, &facts);
-    let Ok((end, app_end)) = runner
-        .pipes()
-        .make(wire.alloc, Kind::Http, facts, wire.limits.ring)
-    else {
+    let Ok((end, app_end)) = runner.make(wire.alloc, Kind::Http, facts, wire.limits.ring) else {
         return Place::Ended(Outcome::NoMemory);
     };
     let side = call(wire.alloc, app, scope, app_end);

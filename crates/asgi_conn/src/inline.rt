@@ -20,24 +20,28 @@ use crate::runner::{AppSide, Runner};
 use asgi_apps::{AppTask, Lent};
 use asgi_exchange::join;
 use asgi_io::{Pause, Turn, Turns};
-use asgi_pipes::{AppEnd, ConnEnd, EndKind, Plain, PlainApp, PlainConn};
+use asgi_pipes::{AppEnd, ConnEnd, EndKind, Pipes, Plain, PlainApp, PlainConn};
+use asgi_types::{Facts, Kind};
 use futures::task::{Context, Poll};
+use std::alloc::{AllocError, Global};
 
 /// Runs both halves in the caller's thread, turn by turn. In a turn the connection's half takes one, and then
 /// the task is polled, by this context, while each poll moves something, at most as often as the ring has places.
 pub struct Inline<'q> {
     cx: Context<'q>,
+    /// The ends of the last exchange: the next one may have their places.
+    spare: Option<(PlainConn, PlainApp)>,
 }
 
 impl<'q> Inline<'q> {
     /// Polls tasks by this context.
     pub fn new(cx: Context<'q>) -> Self {
-        Inline { cx }
+        Inline { cx, spare: None }
     }
 
     /// Ends the task of the context: no exchange is run any more.
     pub fn end(self) {
-        let Inline { cx } = self;
+        let Inline { cx, spare: _ } = self;
         cx.cancel();
     }
 }
@@ -51,8 +55,17 @@ impl<'q> Runner for Inline<'q> {
 
     ghost driven = { λ _. 0 };
 
-    fn pipes(&self) -> Plain {
-        Plain
+    fn make(
+        &mut self,
+        alloc: Global,
+        kind: Kind,
+        facts: Facts,
+        ring: usize,
+    ) -> Result<(PlainConn, PlainApp), AllocError> {
+        let Some((conn, app)) = self.spare.take() else {
+            return Plain.make(alloc, kind, facts, ring);
+        };
+        Plain.renew(alloc, conn, app, kind, facts, ring)
     }
 
     fn run<L: Line, P: Pause, T: AppTask>(
@@ -92,7 +105,8 @@ impl<'q> Runner for Inline<'q> {
         }
         half.give_up(&mut conn);
         let last = end_of(side);
-        let _met = join::<Plain>(conn, last.app_end);
+        let _met = join::<Plain>(&conn, &last.app_end);
+        self.spare = Some((conn, last.app_end));
         last.kind
     }
 

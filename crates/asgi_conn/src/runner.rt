@@ -1,5 +1,5 @@
 //! What runs the two halves of an exchange.
-ghost use Rattle.std.specs.Prelude.{◌≡◌, ◌<◌, ◌⊎◌, ◌++◌, ℕ, List};
+ghost use Rattle.std.specs.Prelude.{◌≡◌, ◌+◌, ◌<◌, ◌⊎◌, false, [], ◌++◌, ℕ, List, None, IfOk};
 ghost use Rattle.asgi_io.specs.declared.turns.Turn.{Turn};
 ghost use Rattle.asgi_io.specs.Turns.{CountsTurns};
 ghost use Rattle.asgi_types.specs.declared.scope.Kind.TheVariants.{Http};
@@ -18,6 +18,8 @@ use crate::line::Line;
 use asgi_apps::{AppTask, Running};
 use asgi_io::{Pause, Turns};
 use asgi_pipes::{EndKind, Pipes};
+use asgi_types::{Facts, Kind};
+use std::alloc::{AllocError, Global};
 
 /// The application's side of an exchange.
 #[derive(Drop)]
@@ -42,8 +44,22 @@ pub trait Runner {
     // The turns of the last task that it drove by itself.
     ghost driven: { Self → ℕ };
 
-    /// What makes those pairs.
-    fn pipes(&self) -> Self::Pipes;
+    /// The ends of an exchange, as `make` of those pairs gives them. Memory of the exchange before may
+    /// serve again.
+    fn make(
+        &mut self,
+        alloc: Global,
+        kind: Kind,
+        facts: Facts,
+        ring: usize,
+    ) -> Result<(<Self::Pipes as Pipes>::Conn, <Self::Pipes as Pipes>::App), AllocError>
+        ensures inward { IfOk result (λ ends. (Self.Pipes.Conn.offered ends.0 ≡ []) × (Self.Pipes.Conn.is_broken ends.0 ≡ false) × (Self.Pipes.App.heard ends.1 ≡ []) × (Self.Pipes.App.pulled ends.1 ≡ []) × (Self.Pipes.App.seen ends.1 ≡ [])) }
+        ensures outward { IfOk result (λ ends. (Self.Pipes.App.said ends.1 ≡ []) × (Self.Pipes.App.ended ends.1 ≡ None) × (Self.Pipes.Conn.got ends.0 ≡ []) × (Self.Pipes.Conn.seen ends.0 ≡ [])) }
+        ensures places { IfOk result (λ ends. (Self.Pipes.Conn.ring ends.0 ≡ ring) × (Self.Pipes.Conn.room ends.0 ≡ ring) × (Self.Pipes.App.ring ends.1 ≡ ring) × (Self.Pipes.App.room ends.1 ≡ ring)) }
+        ensures capacity { IfOk result (λ ends. (Self.Pipes.Conn.capacity ends.0 ≡ (ring + 1, ring + 1)) × (Self.Pipes.App.capacity ends.1 ≡ (ring + 1, ring + 1))) }
+        ensures scope { IfOk result (λ ends. (Self.Pipes.App.kind ends.1 ≡ kind) × (Self.Pipes.App.facts ends.1 ≡ facts) × (Self.Pipes.App.has_moved ends.1 ≡ false)) }
+        ensures pair { IfOk result (λ ends. Self.Pipes.is_pair ends.0 ends.1) }
+        ensures counts { (not_met self.new ≡ not_met self.old) × (pauses self.new ≡ pauses self.old) × (driven self.new ≡ driven self.old) };
 
     /// Runs both halves of an HTTP exchange until it is over, or a limit on turns is reached, where it
     /// is given up, and a task that still runs is ended as idle. The answer says how the task ended.

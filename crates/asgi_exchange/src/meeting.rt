@@ -17,17 +17,17 @@ use asgi_pipes::{Met, Pipes};
 
 /// Brings the ends of one exchange together. What the connection's half kept and what the ends say of their lists make an
 /// exchange, with no step of the application's half.
-pub fn join<P: Pipes>(conn: P::Conn, app: P::App) -> Option<Met>
-    requires { P.is_pair conn app }
+pub fn join<P: Pipes>(conn: &P::Conn, app: &P::App) -> Option<Met>
+    requires { P.is_pair conn.now app.now }
     ensures met { IsSome result }
-    ensures inward { IfSome result (λ met. KeepsOrder (open_places (P.Conn.ring conn) (P.Conn.is_broken conn)) (P.Conn.offered conn) (P.App.pulled app) met.left_in) }
-    ensures outward { IfSome result (λ met. KeepsOrder (open_places (P.Conn.ring conn) (is_some (P.App.ended app))) (items_of (P.App.said app) (P.App.ended app)) (P.Conn.got conn) met.left_out) }
-    ensures http { (limits : Limits) (view : ConnView ℕ ℕ) → P.App.kind app ≡ Http
-        → ConnKeeps (http limits (P.App.facts app)) view → view.offered ≡ P.Conn.offered conn → view.got ≡ P.Conn.got conn
-        → IsHttpExchange limits (P.App.facts app) (record { conn = view; app = record { pulled = P.App.pulled app; heard = P.App.heard app; put = items_of (P.App.said app) (P.App.ended app) } }) }
-    ensures web_socket { (handshake : Handshake) (ring : ℕ) (view : ConnView Message Output) → P.App.kind app ≡ WebSocket
-        → ConnKeeps (web_socket handshake (P.App.facts app) ring) view → view.offered ≡ P.Conn.offered conn → view.got ≡ P.Conn.got conn
-        → IsSessionExchange handshake (P.App.facts app) (record { conn = view; app = record { pulled = P.App.pulled app; heard = P.App.heard app; put = items_of (P.App.said app) (P.App.ended app) } }) }
+    ensures inward { IfSome result (λ met. KeepsOrder (open_places (P.Conn.ring conn.now) (P.Conn.is_broken conn.now)) (P.Conn.offered conn.now) (P.App.pulled app.now) met.left_in) }
+    ensures outward { IfSome result (λ met. KeepsOrder (open_places (P.Conn.ring conn.now) (is_some (P.App.ended app.now))) (items_of (P.App.said app.now) (P.App.ended app.now)) (P.Conn.got conn.now) met.left_out) }
+    ensures http { (limits : Limits) (view : ConnView ℕ ℕ) → P.App.kind app.now ≡ Http
+        → ConnKeeps (http limits (P.App.facts app.now)) view → view.offered ≡ P.Conn.offered conn.now → view.got ≡ P.Conn.got conn.now
+        → IsHttpExchange limits (P.App.facts app.now) (record { conn = view; app = record { pulled = P.App.pulled app.now; heard = P.App.heard app.now; put = items_of (P.App.said app.now) (P.App.ended app.now) } }) }
+    ensures web_socket { (handshake : Handshake) (ring : ℕ) (view : ConnView Message Output) → P.App.kind app.now ≡ WebSocket
+        → ConnKeeps (web_socket handshake (P.App.facts app.now) ring) view → view.offered ≡ P.Conn.offered conn.now → view.got ≡ P.Conn.got conn.now
+        → IsSessionExchange handshake (P.App.facts app.now) (record { conn = view; app = record { pulled = P.App.pulled app.now; heard = P.App.heard app.now; put = items_of (P.App.said app.now) (P.App.ended app.now) } }) }
 {
     P::meet(conn, app)
 }

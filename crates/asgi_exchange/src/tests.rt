@@ -32,7 +32,7 @@ fn left(
     if takes {
         conn.take();
     }
-    match join::<Plain>(conn, app) {
+    match join::<Plain>(&conn, &app) {
         Some(met) => Ok(Some((met.left_in, met.left_out))),
         None => Ok(None),
     }

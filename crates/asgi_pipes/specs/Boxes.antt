@@ -1,5 +1,6 @@
 -- The two halves of a queue, as the lists of what went through them.
-use Rattle.std.specs.Prelude.{◌≡◌, ℕ, ◌+◌, ◌-◌, List, ◌++◌, length}
+use Rattle.std.specs.Prelude.{◌≡◌, ℕ, ◌+◌, ◌-◌, List, [], ◌++◌, length}
+use Rattle.std.specs.VecDeque.{deque_capacity}
 use Rattle.asgi_pipes.specs.declared.outbox.Outbox.{Outbox}
 use Rattle.asgi_pipes.specs.declared.inbox.Inbox.{Inbox}
 
@@ -27,6 +28,14 @@ module _ {T : Type 0} where
 
   abbrev pub carriage_to : Inbox T → Carriage T
   carriage_to i = record { items = come_to i; waiting = i.arrived; places = i.places }
+
+  -- nothing was put yet, and memory is held for just so many places
+  abbrev pub IsNewOutbox : ℕ → Outbox T → Type 0
+  IsNewOutbox places o = (o.queue.items ≡ []) × (o.passed.items ≡ []) × (o.away ≡ 0) × (o.places ≡ places) × (deque_capacity o.queue ≡ places)
+
+  -- nothing was carried here yet, and memory is held for just so many places
+  abbrev pub IsNewInbox : ℕ → Inbox T → Type 0
+  IsNewInbox places i = (i.queue.items ≡ []) × (i.taken.items ≡ []) × (i.arrived ≡ 0) × (i.places ≡ places) × (deque_capacity i.queue ≡ places)
 
   -- what one half has passed on is what the other got
   abbrev pub AreJoined : Outbox T → Inbox T → Type 0

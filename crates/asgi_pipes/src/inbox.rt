@@ -17,13 +17,15 @@ pub struct Inbox<T> {
     taken: History<T>,
     ghost fewer: { length queue.items ≤ arrived },
     ghost fits: { arrived ≤ places },
-    ghost reserved: { places ≤ deque_capacity queue },
+    ghost reserved: { deque_capacity queue ≡ places },
 }
 
 impl<T: Drop> Inbox<T> {
+    ghost use Rattle.asgi_pipes.specs.Boxes.{IsNewInbox};
+
     /// An empty one. All its places are reserved here, and no later call takes memory.
     pub fn with_places(alloc: Global, places: usize) -> Result<Inbox<T>, AllocError>
-        ensures { IfOk result (λ made. (made.queue.items ≡ []) × (made.taken.items ≡ []) × (made.arrived ≡ 0) × (made.places ≡ places) × (deque_capacity made.queue ≡ places)) }
+        ensures { IfOk result (λ made. IsNewInbox places made) }
     {
         let queue = VecDeque::with_capacity(alloc, places)?;
         Ok(Inbox {
@@ -32,6 +34,15 @@ impl<T: Drop> Inbox<T> {
             arrived: 0,
             taken: History::new(),
         })
+    }
+
+    /// Makes a new one of it, in the same places. What waits here is dropped.
+    pub fn clear(&mut self)
+        ensures { IsNewInbox self.old.places self.new }
+    {
+        self.queue.clear();
+        self.arrived = 0;
+        self.taken = History::new();
     }
 
     /// Takes the oldest item.

@@ -1,5 +1,5 @@
 //! What one end has put, as far as it waits to be carried to the other end.
-ghost use Rattle.std.specs.Prelude.{◌≡◌, ◌<◌, ◌≤◌, ◌+◌, [], ◌∷◌, ◌++◌, length, IfOk, IfSome, IfNone};
+ghost use Rattle.std.specs.Prelude.{◌≡◌, ◌<◌, ◌≤◌, ◌+◌, [], ◌∷◌, ◌++◌, length, IsTrue, ◌↔◌, IfOk, IfSome, IfNone};
 ghost use Rattle.std.specs.VecDeque.{deque_capacity};
 
 use asgi_io::History;
@@ -16,15 +16,15 @@ pub struct Outbox<T> {
     /// What was carried on.
     passed: History<T>,
     ghost fits: { length queue.items + away ≤ places },
-    ghost reserved: { places ≤ deque_capacity queue },
+    ghost reserved: { deque_capacity queue ≡ places },
 }
 
 impl<T: Drop> Outbox<T> {
-    ghost use Rattle.asgi_pipes.specs.Boxes.{put_by, free_in};
+    ghost use Rattle.asgi_pipes.specs.Boxes.{put_by, free_in, IsNewOutbox};
 
     /// An empty one. All its places are reserved here, and no later call takes memory.
     pub fn with_places(alloc: Global, places: usize) -> Result<Outbox<T>, AllocError>
-        ensures { IfOk result (λ made. (made.queue.items ≡ []) × (made.passed.items ≡ []) × (made.away ≡ 0) × (made.places ≡ places) × (deque_capacity made.queue ≡ places)) }
+        ensures { IfOk result (λ made. IsNewOutbox places made) }
     {
         let queue = VecDeque::with_capacity(alloc, places)?;
         Ok(Outbox {
@@ -33,6 +33,25 @@ impl<T: Drop> Outbox<T> {
             away: 0,
             passed: History::new(),
         })
+    }
+
+    /// Makes a new one of it, in the same places. What waits here is dropped.
+    pub fn clear(&mut self)
+        ensures { IsNewOutbox self.old.places self.new }
+    {
+        self.queue.clear();
+        self.away = 0;
+        self.passed = History::new();
+    }
+
+    /// Whether it has places for so many events, and the reserved one.
+    pub fn has_ring(&self, ring: usize) -> bool
+        ensures { IsTrue result ↔ (self.now.places ≡ ring + 1) }
+    {
+        if self.places <= ring {
+            return false;
+        }
+        self.places - 1 == ring
     }
 
     /// The places that are free, as far as this end was told.

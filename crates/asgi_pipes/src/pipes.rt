@@ -1,5 +1,5 @@
 //! Pairs of ends.
-ghost use Rattle.std.specs.Prelude.{◌≡◌, ◌+◌, false, [], None, is_some, IfSome, IsSome, IfOk};
+ghost use Rattle.std.specs.Prelude.{◌≡◌, ℕ, ◌+◌, false, [], None, is_some, IfSome, IsSome, IfOk, IsOk};
 ghost use Rattle.asgi_types.specs.declared.scope.Kind.{Kind};
 ghost use Rattle.asgi_protocol.specs.Lawful.{IsLawful};
 ghost use Rattle.asgi_pipes.specs.Disconnects.{Hears};
@@ -30,6 +30,9 @@ pub trait Pipes {
     // They are the ends of one pair.
     ghost is_pair: { Self.Conn → Self.App → Type 0 };
 
+    // The memory that they hold is enough for the ends of another exchange with so many event places.
+    ghost serves_again: { Self.Conn → Self.App → ℕ → Type 0 };
+
     /// The two ends of an exchange in a scope of this kind, whose request has these facts, with
     /// so many event places each way. Every place of every queue is reserved here.
     fn make(
@@ -46,15 +49,35 @@ pub trait Pipes {
         ensures scope { IfOk result (λ ends. (Self.App.kind ends.1 ≡ kind) × (Self.App.facts ends.1 ≡ facts) × (Self.App.has_moved ends.1 ≡ false)) }
         ensures pair { IfOk result (λ ends. is_pair ends.0 ends.1) };
 
+    /// The ends of a new exchange, as `make` gives them, out of those of one that is over: memory that
+    /// these hold may serve again. What was left between them is dropped.
+    fn renew(
+        &self,
+        alloc: Global,
+        conn: Self::Conn,
+        app: Self::App,
+        kind: Kind,
+        facts: Facts,
+        ring: usize,
+    ) -> Result<(Self::Conn, Self::App), AllocError>
+        ensures inward { IfOk result (λ ends. (Self.Conn.offered ends.0 ≡ []) × (Self.Conn.is_broken ends.0 ≡ false) × (Self.App.heard ends.1 ≡ []) × (Self.App.pulled ends.1 ≡ []) × (Self.App.seen ends.1 ≡ [])) }
+        ensures outward { IfOk result (λ ends. (Self.App.said ends.1 ≡ []) × (Self.App.ended ends.1 ≡ None) × (Self.Conn.got ends.0 ≡ []) × (Self.Conn.seen ends.0 ≡ [])) }
+        ensures places { IfOk result (λ ends. (Self.Conn.ring ends.0 ≡ ring) × (Self.Conn.room ends.0 ≡ ring) × (Self.App.ring ends.1 ≡ ring) × (Self.App.room ends.1 ≡ ring)) }
+        ensures capacity { IfOk result (λ ends. (Self.Conn.capacity ends.0 ≡ (ring + 1, ring + 1)) × (Self.App.capacity ends.1 ≡ (ring + 1, ring + 1))) }
+        ensures scope { IfOk result (λ ends. (Self.App.kind ends.1 ≡ kind) × (Self.App.facts ends.1 ≡ facts) × (Self.App.has_moved ends.1 ≡ false)) }
+        // It fails only where it must take memory.
+        ensures again { serves_again conn app ring → IsOk result }
+        ensures pair { IfOk result (λ ends. is_pair ends.0 ends.1) };
+
     /// Brings the ends of one pair together, and counts what was left between them. Only the
     /// disconnect or the end is ever in a reserved place.
-    fn meet(conn: Self::Conn, app: Self::App) -> Option<Met>
-        requires { is_pair conn app }
+    fn meet(conn: &Self::Conn, app: &Self::App) -> Option<Met>
+        requires { is_pair conn.now app.now }
         ensures met { IsSome result }
-        ensures inward { IfSome result (λ met. KeepsOrder (open_places (Self.Conn.ring conn) (Self.Conn.is_broken conn)) (Self.Conn.offered conn) (Self.App.pulled app) met.left_in) }
-        ensures outward { IfSome result (λ met. KeepsOrder (open_places (Self.Conn.ring conn) (is_some (Self.App.ended app))) (items_of (Self.App.said app) (Self.App.ended app)) (Self.Conn.got conn) met.left_out) }
-        ensures heard { Hears (Self.App.kind app) (Self.App.said app) (Self.App.pulled app) (Self.App.heard app) }
-        ensures lawful { IsLawful (Self.App.kind app) (Self.App.facts app) (Self.App.said app) };
+        ensures inward { IfSome result (λ met. KeepsOrder (open_places (Self.Conn.ring conn.now) (Self.Conn.is_broken conn.now)) (Self.Conn.offered conn.now) (Self.App.pulled app.now) met.left_in) }
+        ensures outward { IfSome result (λ met. KeepsOrder (open_places (Self.Conn.ring conn.now) (is_some (Self.App.ended app.now))) (items_of (Self.App.said app.now) (Self.App.ended app.now)) (Self.Conn.got conn.now) met.left_out) }
+        ensures heard { Hears (Self.App.kind app.now) (Self.App.said app.now) (Self.App.pulled app.now) (Self.App.heard app.now) }
+        ensures lawful { IsLawful (Self.App.kind app.now) (Self.App.facts app.now) (Self.App.said app.now) };
 
     // The calls of an end keep its tag, and so the pair.
     ghost stays_pair: { (c d : Self.Conn) (a b : Self.App) → Self.Conn.tag d ≡ Self.Conn.tag c → Self.App.tag b ≡ Self.App.tag a → is_pair c a → is_pair d b };

@@ -11,8 +11,6 @@ use crate::outbox::Outbox;
 use crate::pipes::{Met, Pipes};
 use crate::plain_app::PlainApp;
 use crate::plain_conn::PlainConn;
-use asgi_io::History;
-use asgi_protocol::Judge;
 use asgi_types::{Facts, Kind};
 use std::alloc::{AllocError, Global};
 
@@ -84,11 +82,13 @@ impl Pipes for Plain {
 
     type App = PlainApp;
 
-    ghost use Rattle.std.specs.Prelude.{◌≡◌};
+    ghost use Rattle.std.specs.Prelude.{◌≡◌, ◌+◌};
     ghost use Rattle.std.proofs.Common.{sym, ◌∙◌};
     ghost use Rattle.asgi_pipes.specs.PlainPairs.{IsPlainPair};
 
     ghost is_pair = { IsPlainPair };
+
+    ghost serves_again = { λ conn app ring. (conn.out.places ≡ ring + 1) × (app.out.places ≡ ring + 1) };
 
     fn make(
         &self,
@@ -101,28 +101,34 @@ impl Pipes for Plain {
         let Some(places) = ring.checked_add(1) else {
             return Err(AllocError);
         };
-        let conn = PlainConn {
-            out: Outbox::with_places(alloc, places)?,
-            inn: Inbox::with_places(alloc, places)?,
-            broken: false,
-        };
-        let app = PlainApp {
-            inn: Inbox::with_places(alloc, places)?,
-            out: Outbox::with_places(alloc, places)?,
-            kind,
-            facts,
-            judge: Judge::new(kind),
-            is_open: false,
-            disconnect: None,
-            ended: None,
-            moved: false,
-            heard: History::new(),
-            said: History::new(),
-        };
+        let to_app = Outbox::with_places(alloc, places)?;
+        let from_app = Inbox::with_places(alloc, places)?;
+        let from_conn = Inbox::with_places(alloc, places)?;
+        let to_conn = Outbox::with_places(alloc, places)?;
+        let conn = PlainConn::new(to_app, from_app);
+        let app = PlainApp::new(from_conn, to_conn, kind, facts);
         Ok((conn, app))
     }
 
-    fn meet(conn: PlainConn, app: PlainApp) -> Option<Met> {
+    fn renew(
+        &self,
+        alloc: Global,
+        conn: PlainConn,
+        app: PlainApp,
+        kind: Kind,
+        facts: Facts,
+        ring: usize,
+    ) -> Result<(PlainConn, PlainApp), AllocError> {
+        if !conn.out.has_ring(ring) {
+            return self.make(alloc, kind, facts, ring);
+        }
+        if !app.out.has_ring(ring) {
+            return self.make(alloc, kind, facts, ring);
+        }
+        Ok((conn.renewed(), app.renewed(kind, facts)))
+    }
+
+    fn meet(conn: &PlainConn, app: &PlainApp) -> Option<Met> {
         let left_in = app.inn.len() + conn.out.len();
         let left_out = conn.inn.len() + app.out.len();
         Some(Met { left_in, left_out })

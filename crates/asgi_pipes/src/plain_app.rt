@@ -45,6 +45,56 @@ pub struct PlainApp {
     ghost hears_is: { ∥ Hears kind said.items inn.taken.items heard.items ∥₁ },
 }
 
+impl PlainApp {
+    ghost use Rattle.asgi_pipes.specs.Boxes.{IsNewOutbox, IsNewInbox};
+    ghost use Rattle.asgi_pipes.specs.PlainPairs.{IsNewApp};
+
+    /// The end of a new pair, with these queues.
+    pub(crate) fn new(
+        inn: Inbox<Incoming>,
+        out: Outbox<OutItem>,
+        kind: Kind,
+        facts: Facts,
+    ) -> PlainApp
+        requires inn { IsNewInbox out.places inn }
+        requires out { IsNewOutbox out.places out }
+        requires places { 0 < out.places }
+        ensures queues { (result.inn ≡ inn) × (result.out ≡ out) }
+        ensures fresh { IsNewApp kind facts result }
+    {
+        PlainApp {
+            inn,
+            out,
+            kind,
+            facts,
+            judge: Judge::new(kind),
+            is_open: false,
+            disconnect: None,
+            ended: None,
+            moved: false,
+            heard: History::new(),
+            said: History::new(),
+        }
+    }
+
+    /// The end of a new pair, with the queues of this one. What is left in them is dropped.
+    pub(crate) fn renewed(self, kind: Kind, facts: Facts) -> PlainApp
+        requires { 0 < self.out.places }
+        ensures out { IsNewOutbox self.out.places result.out }
+        ensures inn { IsNewInbox self.out.places result.inn }
+        ensures fresh { IsNewApp kind facts result }
+    {
+        let PlainApp {
+            mut inn,
+            mut out,
+            ..
+        } = self;
+        inn.clear();
+        out.clear();
+        PlainApp::new(inn, out, kind, facts)
+    }
+}
+
 impl AppEnd for PlainApp {
     ghost use Rattle.std.specs.Prelude.{◌-◌};
     ghost use Rattle.std.specs.VecDeque.{deque_capacity};

@@ -18,6 +18,39 @@ pub struct PlainConn {
     ghost same_places: { inn.places ≡ out.places },
 }
 
+impl PlainConn {
+    ghost use Rattle.asgi_pipes.specs.Boxes.{IsNewOutbox, IsNewInbox};
+
+    /// The end of a new pair, with these queues.
+    pub(crate) fn new(out: Outbox<Incoming>, inn: Inbox<OutItem>) -> PlainConn
+        requires { (inn.places ≡ out.places) × (0 < free_in out) }
+        ensures { (result.out ≡ out) × (result.inn ≡ inn) × (result.broken ≡ false) }
+    {
+        PlainConn {
+            out,
+            inn,
+            broken: false,
+        }
+    }
+
+    /// The end of a new pair, with the queues of this one. What is left in them is dropped.
+    pub(crate) fn renewed(self) -> PlainConn
+        requires { 0 < self.out.places }
+        ensures out { IsNewOutbox self.out.places result.out }
+        ensures inn { IsNewInbox self.out.places result.inn }
+        ensures broken { result.broken ≡ false }
+    {
+        let PlainConn {
+            mut out,
+            mut inn,
+            broken: _,
+        } = self;
+        out.clear();
+        inn.clear();
+        PlainConn::new(out, inn)
+    }
+}
+
 impl ConnEnd for PlainConn {
     ghost use Rattle.std.specs.Prelude.{◌-◌};
     ghost use Rattle.std.specs.VecDeque.{deque_capacity};

@@ -6,6 +6,7 @@ ghost use Rattle.asgi_pipes.specs.PlainPairs.{IsPlainPair};
 mod full_rings;
 mod http;
 mod lifespan;
+mod renewed;
 mod websocket;
 
 use crate::{AppEnd, ConnEnd, EndKind, Met, OutItem, Pipes, Plain, PlainApp, PlainConn, Sent};
@@ -102,20 +103,15 @@ impl Future for Table {
         match run(self.alloc, cx, &mut pair, self.rows, self.carries) {
             Ok(other) => Poll::Ready(Ok(Ran {
                 other,
-                met: meet(pair),
+                met: meet(&pair),
             })),
             Err(refused) => Poll::Ready(Err(refused)),
         }
     }
 }
 
-fn meet(pair: Pair) -> Met {
-    let Pair {
-        conn,
-        app,
-        finished: _,
-    } = pair;
-    match Plain::meet(conn, app) {
+fn meet(pair: &Pair) -> Met {
+    match Plain::meet(&pair.conn, &pair.app) {
         Some(met) => met,
         None => unreachable!(),
     }

@@ -1,4 +1,5 @@
-//! `make`, where one allocation is refused: it answers so, and can be called again. No other call of an end takes memory.
+//! `make`, where one allocation is refused: it answers so, and can be called again. No call of an end takes memory, and
+//! `renew` takes none where the places are as many.
 //! `tests/memory.py` runs these with each allocation refused in turn; with ample memory none is refused.
 use crate::tests::{Answer, Step, facts, run_table};
 use crate::{AppEnd, ConnEnd, EndKind, Pipes, Plain, PlainApp, PlainConn};
@@ -31,6 +32,36 @@ fn memory_for_a_pair(rt: HostRuntime) -> Result<(), Fail> {
         Err(_) => made(alloc)?,
     };
     assert_eq!(rt; fill(&mut conn, &mut app), [true; 7]);
+    Ok(())
+}
+
+#[test]
+fn no_memory_for_a_renewed_pair(rt: HostRuntime) -> Result<(), Fail> {
+    let alloc = rt.alloc();
+    let (mut conn, mut app) = match made(alloc) {
+        Ok(pair) => pair,
+        Err(_) => made(alloc)?,
+    };
+    assert_eq!(rt; fill(&mut conn, &mut app), [true; 7]);
+    // Whatever allocation is refused, none is made here.
+    let renewed = Plain.renew(alloc, conn, app, Kind::WebSocket, facts(alloc), 2);
+    assert!(rt; renewed.is_ok());
+    let (mut conn, mut app) = renewed?;
+    assert_eq!(rt; fill(&mut conn, &mut app), [true; 7]);
+    // For other places there is.
+    let (mut conn, mut app) = match Plain.renew(
+        alloc,
+        conn,
+        app,
+        Kind::WebSocket,
+        facts(alloc),
+        3,
+    ) {
+        Ok(pair) => pair,
+        Err(_) => made(alloc)?,
+    };
+    assert!(rt; conn.offer(Incoming::WsConnect).is_ok());
+    assert!(rt; app.finish(EndKind::Returned));
     Ok(())
 }
 

@@ -31,7 +31,7 @@ impl Future for Long<'_> {
         match run(self.alloc, cx, &mut pair, self.rows, self.carries) {
             Ok(other) => Poll::Ready(Ok(Ran {
                 other,
-                met: meet(pair),
+                met: meet(&pair),
             })),
             Err(refused) => Poll::Ready(Err(refused)),
         }

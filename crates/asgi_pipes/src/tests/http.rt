@@ -7,7 +7,7 @@ use std::test::Fail;
 const DISCONNECT: Answer = Answer::Event("disconnect", 0);
 
 /// Two places: each call's answers, with what was put carried after each call.
-const PAIR_OF_TWO_PLACES: &[(Step, Answer)] = &[
+pub const PAIR_OF_TWO_PLACES: &[(Step, Answer)] = &[
     (Step::Offer(1), Answer::Taken),
     (Step::Offer(2), Answer::Taken),
     (Step::Offer(3), Answer::Back),
@@ -27,7 +27,7 @@ fn pair_of_two_places(rt: HostRuntime) -> Result<(), Fail> {
     check(&rt, Kind::Http, 2, true, PAIR_OF_TWO_PLACES, (0, 0))
 }
 
-const EVERY_ANSWER: &[(Step, Answer)] = &[
+pub const EVERY_ANSWER: &[(Step, Answer)] = &[
     (Step::Moved, Answer::No),
     (Step::Receive, Answer::Pending),
     (Step::Moved, Answer::No),
