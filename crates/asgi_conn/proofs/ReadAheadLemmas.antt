@@ -9,10 +9,11 @@ use Rattle.asgi_types.specs.declared.scope.Scope.{Scope}
 use Rattle.asgi_request.specs.declared.next.Next.{Next}
 use Rattle.asgi_request.specs.declared.next.Next.TheVariants.{Head, Event, Whole}
 use Rattle.asgi_request.specs.Opened.{HasClosed}
-use Rattle.asgi_request.specs.Reading.{Reading, AllGiven, EndsWhole}
+use Rattle.asgi_request.specs.Reading.{Reading, EndsWhole, IsWaiting}
 use Rattle.asgi_request.specs.Results.{GivesResults}
 use Rattle.asgi_request.proofs.FirstLemmas.{none_gives, whole_alone}
 use Rattle.asgi_request.proofs.OpenedLemmas.{closed_at}
+use Rattle.asgi_request.proofs.StandardLemmas.{all_results}
 use Rattle.asgi_exchange.proofs.ListLemmas.{prefix_trans, prefix_same}
 use Rattle.asgi_conversation.specs.Persistence.{heads_of}
 use Rattle.asgi_conversation.specs.SoFar.{Within}
@@ -23,7 +24,7 @@ use Rattle.asgi_conversation.proofs.RequestLemmas.{heads_join}
 use Rattle.asgi_conn.specs.declared.half.Body.{Body}
 use Rattle.asgi_conn.specs.declared.half.Body.TheVariants as body
 use Rattle.asgi_conn.specs.Half.{Scene, WithinScene, requests_in, HasGiven}
-use Rattle.asgi_conn.specs.HalfSteps.{ReadsAt, NeedsMore, HoldsFew}
+use Rattle.asgi_conn.specs.HalfSteps.{ReadsAt, HoldsFew}
 use Rattle.asgi_conn.specs.Lines.{piece_size}
 use Rattle.asgi_conn.specs.ReadAhead.{ReadsAhead, ahead_limit}
 
@@ -116,10 +117,10 @@ within_reads scene limits old new read more arrived x on ahead =
     record { one = w.one; opens = w.opens; heads = x.heads; ahead = ahead }
 
 module _ (reader : Reading) (read more : List ℕ) (opened : List Next) (events : List Incoming) (requests : List (Scope × Facts)) (heads : heads_of opened ≡ requests) (short : length more ≤ piece_size) where
-  pub reads_in : (at : Body) → ReadsAt at → HasGiven reader read opened events at → (at ≡ body.Open → NeedsMore reader) → (at ≡ body.Whole → HoldsFew reader)
+  pub reads_in : (at : Body) → ReadsAt at → HasGiven reader read opened events at → (at ≡ body.Open → IsWaiting reader) → (at ≡ body.Whole → HoldsFew reader)
       → ReadsAhead reader.limits (read ++ more) requests
   reads_in body.Open reads given asked few =
-      let all = asked refl read (opened ++ map Event events) given in
+      let all = all_results reader.limits reader.limits.block_in_range.0 read (opened ++ map Event events) reader.place reader.held given (asked refl) in
       reads_at_need reader.limits read more (opened ++ map Event events) requests all.0 all.1 (heads_in_body opened events ∙ heads) short
   reads_in body.Whole reads given asked few =
       let all : List Next = opened ++ (map Event events ++ Whole ∷ []) in

@@ -9,7 +9,7 @@ use Rattle.asgi_types.specs.declared.incoming.Incoming.TheVariants.{HttpDisconne
 use Rattle.asgi_request.specs.declared.next.Next.{Next}
 use Rattle.asgi_request.specs.declared.next.Next.TheVariants as next
 use Rattle.asgi_request.specs.Opened.{HasOpened}
-use Rattle.asgi_request.specs.Reading.{Reading, StandsFor, AllGiven, EndsWhole, WholeGiven}
+use Rattle.asgi_request.specs.Reading.{Reading, StandsFor, AllGiven, EndsWhole, WholeGiven, IsWaiting}
 use Rattle.asgi_response.specs.declared.progress.Progress.{Progress}
 use Rattle.asgi_response.specs.declared.progress.Progress.TheVariants as progress
 use Rattle.asgi_response.specs.declared.refusal.Input.{Input}
@@ -110,13 +110,9 @@ ReadsAt Open = ⊤
 ReadsAt Whole = ⊤
 ReadsAt _ = ⊥
 
--- all results of the bytes that it was fed were given
-abbrev pub NeedsMore : Reading → Type 0
-NeedsMore reader = (read : List ℕ) (given : List Next) → StandsFor reader read given → AllGiven reader read given
-
--- the reader was asked for more of the body, and needs more bytes
+-- the reader was asked for more of the body, and none is there
 abbrev pub HasAsked : ConnHalf → Type 0
-HasAsked half = half.broke ≡ false → half.body ≡ Open → NeedsMore half.wire.requests
+HasAsked half = half.broke ≡ false → half.body ≡ Open → IsWaiting half.wire.requests
 
 -- few bytes are held behind whole requests
 abbrev pub HoldsFew : Reading → Type 0

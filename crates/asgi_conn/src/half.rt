@@ -13,7 +13,7 @@ ghost use Rattle.asgi_response.specs.Standing as standing;
 ghost use Rattle.asgi_exchange.specs.Calls.{IsViewOf};
 ghost use Rattle.asgi_exchange.specs.Views.{ConnView, empty_conn};
 ghost use Rattle.asgi_conn.specs.Half.{Scene, Stands, Leads, HasGiven, EndsWhere, IsSettled, BreaksAt};
-ghost use Rattle.asgi_conn.specs.HalfSteps.{Opens, Pending, LeadsOut, LeadsIn, KeepsBesidesBody, GivesOn, GivesBehind, GaveNext, HasAsked, HoldsFew, IsFree, NeedsMore, ReadsAt, EndsAtInput, NeedsBody, IsCutOff, known_input};
+ghost use Rattle.asgi_conn.specs.HalfSteps.{Opens, Pending, LeadsOut, LeadsIn, KeepsBesidesBody, GivesOn, GivesBehind, GaveNext, HasAsked, HoldsFew, IsFree, ReadsAt, EndsAtInput, NeedsBody, IsCutOff, known_input};
 ghost use Rattle.asgi_conn.specs.Limits as turn_limits;
 ghost use Rattle.asgi_conn.specs.Lines.{state_of};
 ghost use Rattle.asgi_conversation.specs.declared.following.Following.{Following};
@@ -233,7 +233,7 @@ impl ConnHalf {
             }
             offered = true;
         }
-        offered
+        true
     }
 
     /// Offers the next event that is due, or the disconnect behind the last one. The answer says
