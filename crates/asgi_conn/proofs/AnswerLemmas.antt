@@ -128,5 +128,6 @@ serves_short promise client server state scene now wire facts read arrived tally
         let ends : EndsBetween report.outcome wire.limits wire.input one.behind [] = subst (λ (q : Outcome). EndsBetween q wire.limits wire.input one.behind []) (sym o) refl in
         subst (λ (l : List ℕ). Converses wire.limits wire.input read scene.exchanges l report) (append-nil scene.before)
         (ends_between wire.limits wire.input read scene.exchanges one.behind scene.before [] report one.so_far ends c);
+    ahead = opens.ahead;
   };
 }

@@ -1,6 +1,6 @@
 -- Between two requests: the next result is a head or a refusal, more is read, and the connection ends.
 use Rattle.std.proofs.Common.{◌≡◌, ℕ, true, List, [], ◌∷◌, ◌++◌, ◌⊎◌, inl, inr, map, refl, sym, ap, ◌∙◌, append-nil, append_assoc, subst, Option, flat_map}
-use Rattle.std.specs.Prelude.{◌<◌, length, take}
+use Rattle.std.specs.Prelude.{◌<◌, ◌≤◌, length, take}
 use Rattle.std.specs.Io.KnownBytes.{Appends}
 use Rattle.asgi_types.specs.declared.limits.Limits.{Limits}
 use Rattle.asgi_io.specs.declared.write.Wrote.TheVariants as wrote
@@ -28,14 +28,16 @@ use Rattle.asgi_conversation.specs.declared.input.InputEnd.TheVariants.{AtEnd, F
 use Rattle.asgi_conversation.specs.declared.report.Outcome.{Outcome}
 use Rattle.asgi_conversation.specs.declared.report.Outcome.TheVariants.{Finished, Refused, InputBroke, WriteFailed, Idle, NoMemory}
 use Rattle.asgi_conversation.specs.Behind.{IsBlank}
-use Rattle.asgi_conversation.specs.Exchanges.{Exchanged}
+use Rattle.asgi_conversation.specs.Exchanges.{Exchanged, requests_of}
 use Rattle.asgi_conversation.specs.SoFar.{Between}
 use Rattle.asgi_conversation.specs.TaskEnds.{has_ended}
 use Rattle.asgi_conversation.proofs.LoopLemmas as loop
 use Rattle.asgi_conn.specs.declared.wire.Wire.{Wire}
-use Rattle.asgi_conn.specs.Lines.{LineState, HasMoved}
+use Rattle.asgi_conn.specs.Lines.{LineState, HasMoved, piece_size}
 use Rattle.asgi_conn.specs.Loop.{Rests, EndsSo}
+use Rattle.asgi_conn.specs.ReadAhead.{ReadsAhead}
 use Rattle.asgi_conn.proofs.LineLemmas.{moved_by_write, tries_front}
+use Rattle.asgi_conn.proofs.ReadAheadLemmas.{reads_at_need}
 
 -- ---- what the reader gives there
 
@@ -124,7 +126,7 @@ module _ (limits : Limits) (start now : LineState) (wire : Wire) (read : List �
 
   -- another reader that gave no more
   pub asked : (later : Reading) → later.limits ≡ limits → StandsFor later read given → Rests limits start now (record wire { requests = later }) read given exchanges behind written
-  asked later same stands = record { moved = x.moved; limits_are = (x.limits_are.0, same); between = x.between; stands = stands; empty = x.empty }
+  asked later same stands = record { moved = x.moved; limits_are = (x.limits_are.0, same); between = x.between; stands = stands; empty = x.empty; heads = x.heads; ahead = x.ahead }
 
   -- ---- the end without a text
 
@@ -135,20 +137,20 @@ module _ (limits : Limits) (start now : LineState) (wire : Wire) (read : List �
   pub ends_idle : AllGiven wire.requests read given → EndsSo limits start now read exchanges written Idle
   ends_idle all =
       let g = subst (λ (l : Limits). AllOf l) x.limits_are.1 all in
-      record { end = wire.input; moved = x.moved; converses = λ report o c. loop.idle limits wire.input read given exchanges behind written report x.between c g.0 g.1 o }
+      record { end = wire.input; moved = x.moved; converses = λ report o c. loop.idle limits wire.input read given exchanges behind written report x.between c g.0 g.1 o; ahead = x.ahead }
 
   pub ends_short : EndsSo limits start now read exchanges written NoMemory
-  ends_short = record { end = wire.input; moved = x.moved; converses = λ report o c. loop.no_memory limits wire.input read given exchanges behind written report x.between c o }
+  ends_short = record { end = wire.input; moved = x.moved; converses = λ report o c. loop.no_memory limits wire.input read given exchanges behind written report x.between c o; ahead = x.ahead }
 
   pub ends_finished : AllGiven wire.requests read given → wire.input ≡ AtEnd → IsBlank behind → EndsSo limits start now read exchanges written Finished
   ends_finished all at blank =
       let g = subst (λ (l : Limits). AllOf l) x.limits_are.1 all in
-      record { end = wire.input; moved = x.moved; converses = λ report o c. loop.finished limits wire.input read given exchanges behind written report x.between c g.0 g.1 at blank o }
+      record { end = wire.input; moved = x.moved; converses = λ report o c. loop.finished limits wire.input read given exchanges behind written report x.between c g.0 g.1 at blank o; ahead = x.ahead }
 
   pub ends_broken : AllGiven wire.requests read given → (wire.input ≡ Failed) ⊎ ((wire.input ≡ AtEnd) × (IsBlank behind → ⊥)) → EndsSo limits start now read exchanges written InputBroke
   ends_broken all why =
       let g = subst (λ (l : Limits). AllOf l) x.limits_are.1 all in
-      record { end = wire.input; moved = x.moved; converses = λ report o c. loop.input_broke limits wire.input read given exchanges behind written report x.between c g.0 g.1 why o }
+      record { end = wire.input; moved = x.moved; converses = λ report o c. loop.input_broke limits wire.input read given exchanges behind written report x.between c g.0 g.1 why o; ahead = x.ahead }
 
   -- ---- the end with the text of a refusal
 
@@ -167,6 +169,7 @@ module _ (limits : Limits) (start now : LineState) (wire : Wire) (read : List �
             (subst (λ (l : List ℕ). Appends now.written next.written l) text_is appends) rose
             (subst (λ (l : List ℕ). TriesWrites now.writes next.writes (length l) wrote.Done) text_is tries);
         converses = λ report o c. loop.refused limits wire.input read given exchanges behind written report x.between c reader.place reader.held status refused_at o;
+        ahead = x.ahead;
       },
     )
 
@@ -181,6 +184,7 @@ module _ (limits : Limits) (start now : LineState) (wire : Wire) (read : List �
             (tries_front now.writes next.writes n (refusal_text status) (subst (λ (l : List ℕ). n < length l) text_is within) tries);
         converses = λ report o c. loop.refusal_failed limits wire.input read given exchanges behind written report x.between c reader.place reader.held status n refused_at
             (subst (λ (l : List ℕ). n < length l) text_is within) o;
+        ahead = x.ahead;
       },
     )
 
@@ -188,13 +192,16 @@ module _ (limits : Limits) (start now : LineState) (wire : Wire) (read : List �
 
   module _ (next : LineState) (later : Wire) (more : List ℕ)
       (moves : (start : LineState) (read written : List ℕ) (failures : ℕ) → HasMoved start now wire.input read written failures → HasMoved start next later.input (read ++ more) written failures)
-      (on : has_ended wire.input ≡ true → has_ended later.input ≡ true) where
+      (on : has_ended wire.input ≡ true → has_ended later.input ≡ true) (all : AllGiven wire.requests read given) (short : length more ≤ piece_size) where
     moved : HasMoved start next later.input (read ++ more) written 0
     moved = moves start read written 0 x.moved
 
     further : Between limits later.input (read ++ more) given exchanges (behind ++ more) written
     further = loop.end_seen limits wire.input later.input (read ++ more) given exchanges (behind ++ more) written on
         (loop.reads_more limits wire.input read more given exchanges behind written x.between)
+
+    ahead_of : ReadsAhead limits (read ++ more) (requests_of exchanges)
+    ahead_of = let g = subst (λ (l : Limits). AllOf l) x.limits_are.1 all in reads_at_need limits read more given (requests_of exchanges) g.0 g.1 x.heads short
 
     pub rests_on : later ≡ record wire { requests = later.requests; input = later.input } → later.requests.limits ≡ wire.requests.limits
         → ((bytes : List ℕ) (given : List Next) → StandsFor wire.requests bytes given → StandsFor later.requests (bytes ++ more) given)
@@ -205,6 +212,8 @@ module _ (limits : Limits) (start now : LineState) (wire : Wire) (read : List �
       between = further;
       stands = fed read given x.stands;
       empty = ap (λ (w : Wire). w.out.items) same ∙ x.empty;
+      heads = x.heads;
+      ahead = ahead_of;
     }
 
     pub ends_fed_short : EndsSo limits start next (read ++ more) exchanges written NoMemory
@@ -212,4 +221,5 @@ module _ (limits : Limits) (start now : LineState) (wire : Wire) (read : List �
       end = later.input;
       moved = moved;
       converses = λ report o c. loop.no_memory limits later.input (read ++ more) given exchanges (behind ++ more) written report further c o;
+      ahead = ahead_of;
     }

@@ -1,6 +1,6 @@
 -- The end of an exchange for its connection's half: what is dropped, read, written and given up.
 use Rattle.std.proofs.Common.{◌≡◌, ◌≢◌, ℕ, Bool, true, false, List, [], ◌∷◌, ◌++◌, ◌<◌, length, take, drop, map, refl, sym, ap, ◌∙◌, subst, inl, inr, append_assoc, append-nil, Option, Some, None}
-use Rattle.std.specs.Prelude.{◌⊎◌, ⊤, not, is_some, IsTrue, IsFalse}
+use Rattle.std.specs.Prelude.{◌⊎◌, ◌≤◌, ⊤, not, is_some, IsTrue, IsFalse}
 use Rattle.std.specs.Io.KnownBytes.{Appends}
 use Rattle.std.proofs.lemmas.List.{take-append-drop}
 use mathlib.Core.List.{IsPrefix}
@@ -58,15 +58,15 @@ use Rattle.asgi_conversation.specs.declared.report.Outcome.{Outcome}
 use Rattle.asgi_conversation.specs.declared.report.Outcome.TheVariants as outcome
 use Rattle.asgi_conn.specs.declared.wire.Wire.{Wire}
 use Rattle.asgi_conversation.specs.Exchanges.{Exchanged}
-use Rattle.asgi_conn.specs.Half.{BreaksAt, EndsWhere, HasGiven, IsAt, IsCutShort, IsSettled, Leaves, Scene, Stands, Talks, failures_at, failures_of, known, state_in}
-use Rattle.asgi_conn.specs.HalfSteps.{KeepsBesidesBody, GivesOn, GivesBehind, NeedsBody, IsFree, IsCutOff, known_input}
-use Rattle.asgi_conn.specs.Lines.{LineState, HasMoved, how_wrote}
+use Rattle.asgi_conn.specs.Half.{BreaksAt, EndsWhere, HasGiven, IsAt, IsCutShort, IsSettled, Leaves, Scene, Stands, Talks, WithinScene, failures_at, failures_of, known, requests_in, state_in}
+use Rattle.asgi_conn.specs.HalfSteps.{KeepsBesidesBody, GivesOn, GivesBehind, HasAsked, ReadsAt, NeedsBody, IsFree, IsCutOff, known_input}
+use Rattle.asgi_conn.specs.Lines.{LineState, HasMoved, how_wrote, piece_size}
+use Rattle.asgi_conn.specs.ReadAhead.{ReadsAhead}
 use Rattle.asgi_conversation.specs.Persistence.{InHand, Beginning, Saying, Ending, StopsWithin}
-use Rattle.asgi_conversation.specs.SoFar.{Within}
 use Rattle.asgi_conversation.specs.TaskEnds.{has_ended, is_faulty, is_cut, unanswered, incomplete, kept, after_response, after_task}
 use Rattle.asgi_conn.proofs.HalfLemmas.{not_written, unfailed}
 use Rattle.asgi_conn.proofs.LineLemmas.{moved_by_write, tries_front}
-use Rattle.asgi_conversation.proofs.LoopLemmas.{within_reads_more, end_seen_within}
+use Rattle.asgi_conn.proofs.ReadAheadLemmas.{reads_in, within_reads}
 use Rattle.asgi_conversation.proofs.SoFarLemmas.{text_front}
 
 -- ---- what is dropped
@@ -183,10 +183,13 @@ module _ (scene : Scene) (now : LineState) (half : ConnHalf) (read : List ℕ) (
 
     -- ---- the rest of the body is read
 
-    module _ (is_open : half.body ≡ Open) (line : LineState) (new : Wire) (more : List ℕ) (same : new ≡ record half.wire { requests = new.requests; input = new.input })
+    module _ (is_open : half.body ≡ Open) (asked : HasAsked half) (line : LineState) (new : Wire) (more : List ℕ) (short : length more ≤ piece_size) (same : new ≡ record half.wire { requests = new.requests; input = new.input })
         (limits : new.requests.limits ≡ half.wire.requests.limits) (still : has_ended half.wire.input ≡ false) where
+      unbroke : half.broke ≡ false
+      unbroke = let t = at_end.0 in not_true half.broke (λ b. subst (λ (y : Body). BreaksAt y half.wire.input) is_open (t.settled b))
+
       not_broken : is_by_input view.broken ≡ false
-      not_broken = let t = at_end.0 in sym t.broke ∙ not_true half.broke (λ b. subst (λ (y : Body). BreaksAt y half.wire.input) is_open (t.settled b))
+      not_broken = let t = at_end.0 in sym t.broke ∙ unbroke
 
       abbrev pub longer : ConnView ℕ ℕ
       longer = record view { arrived = view.arrived ++ more }
@@ -207,11 +210,13 @@ module _ (scene : Scene) (now : LineState) (half : ConnHalf) (read : List ℕ) (
         );
       }
 
-      within_on : Within half.wire.limits new.input (read ++ more) scene.opened scene.exchanges scene.before scene.scope scene.facts (view.arrived ++ more)
+      within_on : WithinScene scene half.wire.limits new.input (read ++ more) (view.arrived ++ more)
       within_on =
-          end_seen_within half.wire.limits half.wire.input new.input (read ++ more) scene.opened scene.exchanges scene.before scene.scope scene.facts (view.arrived ++ more)
-          (λ e. cc (sym still ∙ e))
-          (within_reads_more half.wire.limits half.wire.input read more scene.opened scene.exchanges scene.before scene.scope scene.facts view.arrived x.within)
+          let t = at_end.0 in
+          within_reads scene half.wire.limits half.wire.input new.input read more view.arrived x.within (λ e. cc (sym still ∙ e))
+          (subst (λ (l : Limits). ReadsAhead l (read ++ more) (requests_in scene)) x.limits
+          (reads_in half.wire.requests read more scene.opened t.events (requests_in scene) x.within.heads short half.body
+          (subst ReadsAt (sym is_open) tt) t.given (asked unbroke) (λ e. cc (sym is_open ∙ e))))
 
       pub rest_read : HasMoved scene.start line new.input (read ++ more) (scene.before ++ view.written) (failures_at half.stage)
           → ((bytes : List ℕ) (given : List Next) → reading.StandsFor half.wire.requests bytes given → reading.StandsFor new.requests (bytes ++ more) given)

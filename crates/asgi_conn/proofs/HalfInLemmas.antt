@@ -1,6 +1,6 @@
 -- The steps of the connection's half on its input: it reads, and offers what is due.
 use Rattle.std.proofs.Common.{◌≡◌, ℕ, true, false, List, [], ◌∷◌, ◌++◌, map, refl, sym, ap, ◌∙◌, subst, Option, Some, None, Bool}
-use Rattle.std.specs.Prelude.{◌⊎◌}
+use Rattle.std.specs.Prelude.{◌⊎◌, ◌≤◌, length}
 use Rattle.std.proofs.lemmas.List.{append-nil}
 use mathlib.Core.List.{IsPrefix}
 use Rattle.asgi_types.specs.declared.incoming.Incoming.{Incoming}
@@ -27,14 +27,14 @@ use Rattle.asgi_conn.specs.declared.half.Stage.TheVariants.{Running, Cut}
 use Rattle.asgi_conversation.specs.declared.input.InputEnd.{InputEnd}
 use Rattle.asgi_conversation.specs.declared.report.Outcome.TheVariants.{NoMemory}
 use Rattle.asgi_conn.specs.declared.wire.Wire.{Wire}
-use Rattle.asgi_conn.specs.Half.{Scene, Stands, IsRunning, HasGiven, EndsWhere, BreaksAt}
-use Rattle.asgi_conn.specs.HalfSteps.{KeepsBesidesBody, GivesBehind, ReadsAt, EndsAtInput}
-use Rattle.asgi_conn.specs.Lines.{LineState, HasMoved}
-use Rattle.asgi_conversation.specs.SoFar.{Within}
+use Rattle.asgi_conn.specs.Half.{Scene, Stands, WithinScene, requests_in, IsRunning, HasGiven, EndsWhere, BreaksAt}
+use Rattle.asgi_conn.specs.HalfSteps.{KeepsBesidesBody, GivesBehind, HasAsked, HoldsFew, ReadsAt, EndsAtInput}
+use Rattle.asgi_conn.specs.Lines.{LineState, HasMoved, piece_size}
+use Rattle.asgi_conn.specs.ReadAhead.{ReadsAhead}
 use Rattle.asgi_conversation.specs.TaskEnds.{has_ended, is_faulty}
 use Rattle.asgi_conn.proofs.HalfBodyLemmas.{unbroken, first_due, all_due, why_broken}
 use Rattle.asgi_conn.proofs.HalfLemmas.{running_of, unfailed, not_written, part_written}
-use Rattle.asgi_conversation.proofs.LoopLemmas.{within_reads_more, end_seen_within}
+use Rattle.asgi_conn.proofs.ReadAheadLemmas.{reads_in, within_reads}
 
 pub not_both : (b : Bool) → b ≡ false → b ≡ true → ⊥
 not_both b is_false is_true = cc (is_false, is_true)
@@ -223,17 +223,19 @@ ends_anywhere (Refused status) end reads = absurd reads
 ends_anywhere BrokenOff end reads = absurd reads
 
 module _ (scene : Scene) (was now : LineState) (half : ConnHalf) (read : List ℕ) (view : ConnView ℕ ℕ) (x : Stands scene was half read view) (is : half.stage ≡ Running)
-    (open_still : has_ended half.wire.input ≡ false) (reads : ReadsAt half.body) (more : List ℕ) (wire : Wire) (same : wire ≡ record half.wire { requests = wire.requests; input = wire.input })
+    (open_still : has_ended half.wire.input ≡ false) (reads : ReadsAt half.body) (asked : HasAsked half) (few : half.body ≡ Whole → HoldsFew half.wire.requests)
+    (more : List ℕ) (short : length more ≤ piece_size) (wire : Wire) (same : wire ≡ record half.wire { requests = wire.requests; input = wire.input })
     (limits : wire.requests.limits ≡ half.wire.requests.limits)
     (moved : HasMoved scene.start was half.wire.input read (scene.before ++ view.written) 0 → HasMoved scene.start now wire.input (read ++ more) (scene.before ++ view.written) 0) where
   unbroke : half.broke ≡ false
   unbroke = reads_unbroken half.broke half.body half.wire.input reads open_still (running_of scene was half read view x is).talks.settled
 
-  more_within : Within half.wire.limits wire.input (read ++ more) scene.opened scene.exchanges scene.before scene.scope scene.facts (view.arrived ++ more)
+  more_within : WithinScene scene half.wire.limits wire.input (read ++ more) (view.arrived ++ more)
   more_within =
-      end_seen_within half.wire.limits half.wire.input wire.input (read ++ more) scene.opened scene.exchanges scene.before scene.scope scene.facts (view.arrived ++ more)
-      (λ e. absurd (not_both (has_ended half.wire.input) open_still e))
-      (within_reads_more half.wire.limits half.wire.input read more scene.opened scene.exchanges scene.before scene.scope scene.facts view.arrived x.within)
+      let t = (running_of scene was half read view x is).talks in
+      within_reads scene half.wire.limits half.wire.input wire.input read more view.arrived x.within (λ e. absurd (not_both (has_ended half.wire.input) open_still e))
+      (subst (λ (l : Limits). ReadsAhead l (read ++ more) (requests_in scene)) x.limits
+      (reads_in half.wire.requests read more scene.opened t.events (requests_in scene) x.within.heads short half.body reads t.given (asked unbroke) few))
 
   offers_more : IsOffered (http half.wire.limits scene.facts) (view.arrived ++ more) view.offered view.broken
   offers_more =

@@ -1,8 +1,10 @@
 -- Where an exchange leaves its connection: between two requests, or at its end.
 use Rattle.std.proofs.Common.{◌≡◌, ℕ, true, false, List, [], ◌∷◌, ◌++◌, ◌⊎◌, inl, inr, map, sym, ap, ◌∙◌, append_assoc, subst, Some}
 use Rattle.asgi_types.specs.declared.end_kind.EndKind.{EndKind}
+use Rattle.asgi_types.specs.declared.facts.Facts.{Facts}
 use Rattle.asgi_types.specs.declared.limits.Limits.{Limits}
 use Rattle.asgi_types.specs.declared.outgoing.Outgoing.{Outgoing}
+use Rattle.asgi_types.specs.declared.scope.Scope.{Scope}
 use Rattle.asgi_request.specs.declared.next.Next.{Next}
 use Rattle.asgi_request.specs.declared.next.Next.TheVariants as next
 use Rattle.asgi_request.specs.BodyOf.{body_events}
@@ -21,18 +23,21 @@ use Rattle.asgi_exchange.specs.Views.{World, taken_of}
 use Rattle.asgi_conversation.specs.declared.following.Following.TheVariants.{NextRequest, ConnectionEnds}
 use Rattle.asgi_conversation.specs.declared.report.Outcome.{Outcome}
 use Rattle.asgi_conversation.specs.declared.report.Report.{Report}
-use Rattle.asgi_conversation.specs.Exchanges.{Exchanged, IsFollowed}
+use Rattle.asgi_conversation.specs.Exchanges.{Exchanged, IsFollowed, requests_of}
 use Rattle.asgi_conversation.specs.Persistence.{CountsExchanges, Converses, InHand, Beginning, Saying, Ending, StopsWithin}
 use Rattle.asgi_conversation.specs.SoFar.{exchanged, Between, TaskIsOver, IsCutBy}
 use Rattle.asgi_conversation.specs.TaskEnds.{is_cut, after_task}
 use Rattle.asgi_conversation.proofs.LoopLemmas.{keeps_on}
+use Rattle.asgi_conversation.proofs.RequestLemmas.{requests_join}
 use Rattle.asgi_conversation.proofs.SoFarLemmas.{taken_whole, end_put, ends_by_task, ends_cut}
 use Rattle.asgi_conn.specs.declared.half.ConnHalf.{ConnHalf}
 use Rattle.asgi_conn.specs.declared.half.Stage.{Stage}
 use Rattle.asgi_conn.specs.declared.half.Stage.TheVariants.{Over}
-use Rattle.asgi_conn.specs.Half.{Scene, Stands, IsAt, KeepsOn, EndsByTask, IsCutShort, known, state_in, failures_at}
+use Rattle.asgi_conn.specs.Half.{Scene, Stands, IsAt, KeepsOn, EndsByTask, IsCutShort, known, requests_in, state_in, failures_at}
 use Rattle.asgi_conn.specs.Lines.{LineState, HasMoved}
 use Rattle.asgi_conn.specs.Loop.{Rests, EndsSo}
+use Rattle.asgi_conn.specs.ReadAhead.{ReadsAhead}
+use Rattle.asgi_conn.proofs.ReadAheadLemmas.{heads_behind, within_of}
 
 -- ---- the next request follows
 
@@ -44,6 +49,12 @@ module _ (limits : Limits) (scene : Scene) (now : LineState) (half : ConnHalf) (
   abbrev pub out : List ℕ
   out = scene.before ++ w.conn.written
 
+  all_requests : requests_of after ≡ requests_in scene
+  all_requests = requests_join scene.exchanges (exchanged scene.scope scene.facts w ∷ [])
+
+  all_ahead : ReadsAhead limits read (requests_of after)
+  all_ahead = subst (λ (l : List (Scope × Facts)). ReadsAhead limits read l) (sym all_requests) (subst (λ (l : Limits). ReadsAhead l read (requests_in scene)) lim s.within.ahead)
+
   pub left_resting : half.stage ≡ Over NextRequest → (given : List Next) × (behind : List ℕ) × Rests limits scene.start now half.wire read given after behind out
   left_resting e =
       let k : KeepsOn scene half read w.conn = subst (λ (st : Stage). IsAt st scene half read w.conn) e s.stage in
@@ -52,7 +63,7 @@ module _ (limits : Limits) (scene : Scene) (now : LineState) (half : ConnHalf) (
       let r = half.wire.requests in
       let reaches = subst (λ (l : Limits). Reaches l read given r.place r.held) s.limits k.given in
       let on = keeps_on half.wire.limits half.wire.input read scene.opened scene.exchanges scene.before scene.scope scene.facts w k.kind k.events r.place r.held
-      s.within i over k.complete k.broke k.written reaches in (
+      (within_of scene half.wire.limits half.wire.input read w.conn.arrived s.within) i over k.complete k.broke k.written reaches in (
         given,
         on.0,
         record {
@@ -61,6 +72,8 @@ module _ (limits : Limits) (scene : Scene) (now : LineState) (half : ConnHalf) (
           between = subst (λ (l : Limits). Between l half.wire.input read given after on.0 out) lim on.1;
           stands = k.given;
           empty = k.empty;
+          heads = heads_behind scene.opened k.events ∙ s.within.heads ∙ sym all_requests;
+          ahead = all_ahead;
         },
       )
 
@@ -127,4 +140,5 @@ module _ (limits : Limits) (scene : Scene) (now : LineState) (half : ConnHalf) (
     converses = λ report o c.
         subst (λ (l : Limits). Converses l half.wire.input read after out report) lim
         (ended outcome (subst (λ (st : Stage). IsAt st scene half read w.conn) e s.stage) report o c);
+    ahead = all_ahead;
   }

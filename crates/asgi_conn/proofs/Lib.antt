@@ -1,4 +1,5 @@
 pub mod LineLemmas
+pub mod ReadAheadLemmas
 pub mod HalfBodyLemmas
 pub mod LeadsLemmas
 pub mod HalfLemmas

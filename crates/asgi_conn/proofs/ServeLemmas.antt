@@ -1,5 +1,5 @@
 -- A connection at its beginning, and what one step of it does.
-use Rattle.std.proofs.Common.{◌≡◌, ◌≢◌, ℕ, List, [], ◌∷◌, ◌++◌, ◌-◌, refl, sym, ◌∙◌, append-nil, subst, Option}
+use Rattle.std.proofs.Common.{◌≡◌, ◌≢◌, ℕ, List, [], ◌∷◌, ◌++◌, ◌-◌, refl, sym, ap, ◌∙◌, append-nil, subst, Option}
 use Rattle.std.specs.Prelude.{◌+◌}
 use Rattle.std.proofs.lemmas.List.Elements.{All-nil}
 use Rattle.asgi_types.specs.declared.end_kind.EndKind.{EndKind}
@@ -25,7 +25,7 @@ use Rattle.asgi_request.specs.Results.{Opens}
 use Rattle.asgi_conversation.specs.declared.input.InputEnd.{InputEnd}
 use Rattle.asgi_conversation.specs.declared.input.InputEnd.TheVariants.{OpenStill}
 use Rattle.asgi_conversation.specs.declared.report.Outcome.TheVariants.{NoMemory}
-use Rattle.asgi_conversation.specs.Exchanges.{Exchanged}
+use Rattle.asgi_conversation.specs.Exchanges.{Exchanged, requests_of}
 use Rattle.asgi_conversation.specs.Promised.{IsPromised, ArePromised}
 use Rattle.asgi_conversation.specs.SoFar.{Within}
 use Rattle.asgi_conversation.proofs.LoopLemmas as loop
@@ -33,12 +33,14 @@ use Rattle.asgi_conn.specs.declared.connection.Place.{Place}
 use Rattle.asgi_conn.specs.declared.connection.Place.TheVariants as place
 use Rattle.asgi_conn.specs.declared.tally.Tally.{Tally}
 use Rattle.asgi_conn.specs.declared.wire.Wire.{Wire}
-use Rattle.asgi_conn.specs.Half.{Scene}
+use Rattle.asgi_conn.specs.Half.{Scene, WithinScene}
 use Rattle.asgi_conn.specs.HalfSteps as half
 use Rattle.asgi_conn.specs.Lines as lines
 use Rattle.asgi_conn.specs.Lines.{LineState, HasMoved}
 use Rattle.asgi_conn.specs.Loop.{Rests, IsAt, IsTallied, Serving}
+use Rattle.asgi_conn.specs.ReadAhead.{ReadsAhead}
 use Rattle.asgi_conn.proofs.BetweenLemmas as between
+use Rattle.asgi_conn.proofs.ReadAheadLemmas.{nothing_ahead, more_requests, heads_more}
 
 -- ---- the turns that are left
 
@@ -106,6 +108,8 @@ module _ (answers : Scope → List Incoming → List Outgoing → Option EndKind
         between = loop.starts limits wire.input;
         stands = unread.0;
         empty = empty;
+        heads = refl;
+        ahead = nothing_ahead limits;
       },
     );
   }
@@ -201,6 +205,15 @@ module _ (answers : Scope → List Incoming → List Outgoing → Option EndKind
           opened = s.stands.0 ++ Head scope facts ∷ [];
         }
 
+        within_scene : WithinScene scene limits wire.input s.read in_one.0
+        unfolding scene
+        within_scene = record {
+          one = in_one.1.one;
+          opens = in_one.1.opens;
+          heads = heads_more s.stands.0 scope facts ∙ ap (λ (l : List (Scope × Facts)). l ++ (scope, facts) ∷ []) x.heads;
+          ahead = more_requests limits s.read (requests_of s.exchanges) ((scope, facts) ∷ []) x.ahead;
+        }
+
         pub answered : (whole : Scope) (next : LineState) (is : Tally) (result : Place) → whole ≡ scope_with scope client server state
             → ((scene : Scene) (client server : Option Peer) (state : List (List ℕ × StateValue)) (read arrived : List ℕ) → whole ≡ scope_with scene.scope client server state
             → half.Opens scene now (record wire { requests = later }) facts read arrived → ArePromised answers client server state scene.exchanges → IsTallied tally scene.exchanges
@@ -213,7 +226,8 @@ module _ (answers : Scope → List Incoming → List Outgoing → Option EndKind
               facts_are = refl;
               moved = x.moved;
               limits = limits_stay ∙ sym x.limits_are.0;
-              within = subst (λ (l : Limits). Within l wire.input s.read (s.stands.0 ++ Head scope facts ∷ []) s.exchanges s.written scope facts in_one.0) (sym x.limits_are.0) in_one.1;
+              within = subst (λ (l : Limits). WithinScene scene l wire.input s.read in_one.0) (sym x.limits_are.0) within_scene;
               given = gave (Head scope facts) goes_on;
               empty = x.empty;
+              ahead = subst (λ (l : Limits). ReadsAhead l s.read (requests_of s.exchanges)) (sym x.limits_are.0) x.ahead;
             }) s.promised s.counted)

@@ -3,11 +3,13 @@ use Rattle.std.specs.Prelude.{◌≡◌, ◌⊎◌, ℕ, ⊤, true, false, List,
 use Rattle.asgi_types.specs.declared.end_kind.EndKind.{EndKind}
 use Rattle.asgi_types.specs.declared.facts.Facts.{Facts}
 use Rattle.asgi_types.specs.declared.incoming.Incoming.{Incoming}
+use Rattle.asgi_types.specs.declared.limits.Limits.{Limits}
 use Rattle.asgi_types.specs.declared.scope.Scope.{Scope}
 use Rattle.asgi_request.specs.declared.next.Next.{Next}
 use Rattle.asgi_request.specs.declared.next.Next.TheVariants as next
 use Rattle.asgi_request.specs.BodyOf.{body_state}
 use Rattle.asgi_request.specs.ChunkedBody.{BodyState}
+use Rattle.asgi_request.specs.Opened.{HasOpened}
 use Rattle.asgi_request.specs.Reading.{Reading, StandsFor, AllGiven}
 use Rattle.asgi_response.specs.declared.progress.Progress.TheVariants as progress
 use Rattle.asgi_response.specs.Progress.{progress_of}
@@ -29,10 +31,11 @@ use Rattle.asgi_conn.specs.declared.half.Stage.TheVariants.{Running, Ending, Cut
 use Rattle.asgi_conversation.specs.declared.input.InputEnd.{InputEnd}
 use Rattle.asgi_conversation.specs.declared.report.Outcome.{Outcome}
 use Rattle.asgi_conversation.specs.declared.report.Outcome.TheVariants.{InputBroke, WriteFailed}
-use Rattle.asgi_conversation.specs.Exchanges.{Exchanged}
+use Rattle.asgi_conversation.specs.Exchanges.{Exchanged, requests_of}
 use Rattle.asgi_conn.specs.Lines.{LineState, HasMoved}
-use Rattle.asgi_conversation.specs.Persistence.{StopsWithin}
-use Rattle.asgi_conversation.specs.SoFar.{Within, HasBrokenIn, TaskIsOver, exchanged}
+use Rattle.asgi_conn.specs.ReadAhead.{ReadsAhead}
+use Rattle.asgi_conversation.specs.Persistence.{StopsWithin, heads_of}
+use Rattle.asgi_conversation.specs.SoFar.{InOne, HasBrokenIn, TaskIsOver, exchanged}
 use Rattle.asgi_conversation.specs.TaskEnds.{has_ended, is_faulty, is_cut, after_task}
 
 -- What stays the same in one exchange: what was known of the line when the connection began, the exchanges before this one and
@@ -56,6 +59,17 @@ known scene view = exchanged scene.scope scene.facts (record { conn = view; app 
 -- the body, by what arrived
 abbrev pub state_in : Scene → ConnHalf → ConnView ℕ ℕ → BodyState
 state_in scene half view = body_state half.wire.limits scene.facts.framing view.arrived
+
+-- the requests of the exchanges, with the one in hand
+abbrev pub requests_in : Scene → List (Scope × Facts)
+requests_in scene = requests_of scene.exchanges ++ (scene.scope, scene.facts) ∷ []
+
+-- In an exchange, whose head is the last result up to it: the bytes begin with the requests, and not too many are ahead of them.
+pub record WithinScene (scene : Scene) (limits : Limits) (end : InputEnd) (read arrived : List ℕ) : Type 0 where
+  pub one : InOne limits end read scene.exchanges scene.before scene.scope scene.facts arrived
+  pub opens : HasOpened limits read scene.opened scene.facts.framing arrived
+  pub heads : heads_of scene.opened ≡ requests_in scene
+  pub ahead : ReadsAhead limits read (requests_in scene)
 
 -- ---- the body of the request
 
@@ -163,7 +177,7 @@ failures_at _ = 0
 pub record Stands (scene : Scene) (now : LineState) (half : ConnHalf) (read : List ℕ) (view : ConnView ℕ ℕ) : Type 0 where
   pub moved : HasMoved scene.start now half.wire.input read (scene.before ++ view.written) (failures_at half.stage)
   pub limits : half.wire.requests.limits ≡ half.wire.limits
-  pub within : Within half.wire.limits half.wire.input read scene.opened scene.exchanges scene.before scene.scope scene.facts view.arrived
+  pub within : WithinScene scene half.wire.limits half.wire.input read view.arrived
   pub keeps : ConnKeeps (http half.wire.limits scene.facts) view
   pub breaks : HasBrokenIn half.wire.limits half.wire.input scene.facts (alone view)
   pub stage : IsAt half.stage scene half read view

@@ -1,5 +1,5 @@
 -- What the steps of the connection's half tell each other: words of private functions. No promise is stated by them.
-use Rattle.std.specs.Prelude.{◌≡◌, ◌⊎◌, ⊤, ℕ, Bool, true, false, List, [], ◌∷◌, ◌++◌, None, Some}
+use Rattle.std.specs.Prelude.{◌≡◌, ◌⊎◌, ◌<◌, ⊤, ℕ, Bool, true, false, List, [], ◌∷◌, ◌++◌, length, None, Some}
 use Rattle.asgi_types.specs.declared.end_kind.EndKind.{EndKind}
 use Rattle.asgi_types.specs.declared.end_kind.EndKind.TheVariants as kind
 use Rattle.asgi_types.specs.declared.facts.Facts.{Facts}
@@ -9,7 +9,7 @@ use Rattle.asgi_types.specs.declared.incoming.Incoming.TheVariants.{HttpDisconne
 use Rattle.asgi_request.specs.declared.next.Next.{Next}
 use Rattle.asgi_request.specs.declared.next.Next.TheVariants as next
 use Rattle.asgi_request.specs.Opened.{HasOpened}
-use Rattle.asgi_request.specs.Reading.{Reading, StandsFor, AllGiven}
+use Rattle.asgi_request.specs.Reading.{Reading, StandsFor, AllGiven, EndsWhole, WholeGiven, IsWaiting}
 use Rattle.asgi_response.specs.declared.progress.Progress.{Progress}
 use Rattle.asgi_response.specs.declared.progress.Progress.TheVariants as progress
 use Rattle.asgi_response.specs.declared.refusal.Input.{Input}
@@ -26,25 +26,28 @@ use Rattle.asgi_conn.specs.declared.half.Body.TheVariants.{Open, Waits, Whole, R
 use Rattle.asgi_conn.specs.declared.half.ConnHalf.{ConnHalf}
 use Rattle.asgi_conn.specs.declared.half.Stage.TheVariants.{Running}
 use Rattle.asgi_conn.specs.declared.wire.Wire.{Wire}
-use Rattle.asgi_conn.specs.Half.{Scene, Stands, HasGiven, EndsWhere, BreaksAt, alone, known}
+use Rattle.asgi_conn.specs.Half.{Scene, Stands, WithinScene, HasGiven, EndsWhere, BreaksAt, alone, known}
 use Rattle.asgi_conn.specs.Lines.{LineState, HasMoved}
+use Rattle.asgi_conn.specs.ReadAhead.{ReadsAhead, ahead_limit}
+use Rattle.asgi_conversation.specs.Exchanges.{requests_of}
 use Rattle.asgi_conversation.specs.Persistence.{InHand}
-use Rattle.asgi_conversation.specs.SoFar.{Within, HasBrokenIn}
+use Rattle.asgi_conversation.specs.SoFar.{HasBrokenIn}
 
 -- An exchange may begin: its head is the last result that the reader gave.
 pub record Opens (scene : Scene) (now : LineState) (wire : Wire) (facts : Facts) (read arrived : List ℕ) : Type 0 where
   pub facts_are : facts ≡ scene.facts
   pub moved : HasMoved scene.start now wire.input read scene.before 0
   pub limits : wire.requests.limits ≡ wire.limits
-  pub within : Within wire.limits wire.input read scene.opened scene.exchanges scene.before scene.scope scene.facts arrived
+  pub within : WithinScene scene wire.limits wire.input read arrived
   pub given : StandsFor wire.requests read scene.opened
+  pub ahead : ReadsAhead wire.limits read (requests_of scene.exchanges)
   pub empty : wire.out.items ≡ []
 
 -- Before the end of the task: a text is in hand, which goes on from what is written.
 pub record Pending (scene : Scene) (now : LineState) (half : ConnHalf) (read : List ℕ) (view : ConnView ℕ ℕ) : Type 0 where
   pub moved : HasMoved scene.start now half.wire.input read (scene.before ++ view.written) 0
   pub limits : half.wire.requests.limits ≡ half.wire.limits
-  pub within : Within half.wire.limits half.wire.input read scene.opened scene.exchanges scene.before scene.scope scene.facts view.arrived
+  pub within : WithinScene scene half.wire.limits half.wire.input read view.arrived
   pub offers : IsOffered (http half.wire.limits scene.facts) view.arrived view.offered view.broken
   pub breaks : HasBrokenIn half.wire.limits half.wire.input scene.facts (alone view)
   pub running : half.stage ≡ Running
@@ -106,6 +109,15 @@ abbrev pub ReadsAt : Body → Type 0
 ReadsAt Open = ⊤
 ReadsAt Whole = ⊤
 ReadsAt _ = ⊥
+
+-- the reader was asked for more of the body, and none is there
+abbrev pub HasAsked : ConnHalf → Type 0
+HasAsked half = half.broke ≡ false → half.body ≡ Open → IsWaiting half.wire.requests
+
+-- few bytes are held behind whole requests
+abbrev pub HoldsFew : Reading → Type 0
+HoldsFew reader =
+    (read : List ℕ) (given : List Next) → StandsFor reader read given → EndsWhole given → (rest : List ℕ) × WholeGiven reader read given rest × (length rest < ahead_limit)
 
 -- what follows the end of the task needs to know the rest of the body
 abbrev pub NeedsBody : EndKind → Progress → Bool → Type 0

@@ -13,11 +13,12 @@ use Rattle.asgi_io.specs.Turns.{CountsTurns}
 use Rattle.asgi_conversation.specs.declared.input.InputEnd.{InputEnd}
 use Rattle.asgi_conversation.specs.declared.report.Outcome.TheVariants.{Idle}
 use Rattle.asgi_conversation.specs.declared.report.Report.{Report}
-use Rattle.asgi_conversation.specs.Exchanges.{Exchanged}
+use Rattle.asgi_conversation.specs.Exchanges.{Exchanged, requests_of}
 use Rattle.asgi_conversation.specs.Persistence.{Converses}
 use Rattle.asgi_conversation.specs.Promised.{ArePromised}
 use Rattle.asgi_conn.specs.Lines.{LineState, HasMoved}
 use Rattle.asgi_conn.specs.Half.{failures_of}
+use Rattle.asgi_conn.specs.ReadAhead.{ReadsAhead}
 
 -- One connection was served.
 pub record Serves (answers : Scope → List Incoming → List Outgoing → Option EndKind → Type 0) (limits : Limits) (client server : Option Peer) (state : List (List ℕ × StateValue))
@@ -30,6 +31,8 @@ pub record Serves (answers : Scope → List Incoming → List Outgoing → Optio
   -- they, the exchanges and the report are a conversation
   pub exchanges : List Exchanged
   pub converses : Converses limits end read exchanges written report
+  -- so much of what left the line is ahead of their requests, and no more
+  pub ahead : ReadsAhead limits read (requests_of exchanges)
   -- what was heard and said in each of them is as the application promises it, of a scope with this client, this server and a
   -- state equal to this one
   pub promised : ArePromised answers client server state exchanges

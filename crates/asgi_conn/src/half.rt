@@ -13,7 +13,7 @@ ghost use Rattle.asgi_response.specs.Standing as standing;
 ghost use Rattle.asgi_exchange.specs.Calls.{IsViewOf};
 ghost use Rattle.asgi_exchange.specs.Views.{ConnView, empty_conn};
 ghost use Rattle.asgi_conn.specs.Half.{Scene, Stands, Leads, HasGiven, EndsWhere, IsSettled, BreaksAt};
-ghost use Rattle.asgi_conn.specs.HalfSteps.{Opens, Pending, LeadsOut, LeadsIn, KeepsBesidesBody, GivesOn, GivesBehind, GaveNext, IsFree, ReadsAt, EndsAtInput, NeedsBody, IsCutOff, known_input};
+ghost use Rattle.asgi_conn.specs.HalfSteps.{Opens, Pending, LeadsOut, LeadsIn, KeepsBesidesBody, GivesOn, GivesBehind, GaveNext, HasAsked, HoldsFew, IsFree, ReadsAt, EndsAtInput, NeedsBody, IsCutOff, known_input};
 ghost use Rattle.asgi_conn.specs.Limits as turn_limits;
 ghost use Rattle.asgi_conn.specs.Lines.{state_of};
 ghost use Rattle.asgi_conversation.specs.declared.following.Following.{Following};
@@ -224,6 +224,7 @@ impl ConnHalf {
         ensures leads { LeadsIn self.old (IsViewOf C.ConnEnd end.old) self.new (IsViewOf C.ConnEnd end.new) }
         ensures tag { (C.tag end.new ≡ C.tag end.old) × (C.ring end.new ≡ C.ring end.old) }
         ensures limits { self.new.wire.limits ≡ self.old.wire.limits }
+        ensures asked { IsFalse result → self.new.stage ≡ Stage.Running → HasAsked self.new }
     {
         let mut offered = false;
         for _event in 0..self.wire.limits.ring {
@@ -235,7 +236,7 @@ impl ConnHalf {
             }
             offered = true;
         }
-        offered
+        true
     }
 
     /// Offers the next event that is due, or the disconnect behind the last one. The answer says
@@ -245,6 +246,7 @@ impl ConnHalf {
         ensures leads { LeadsIn self.old (IsViewOf C.ConnEnd end.old) self.new (IsViewOf C.ConnEnd end.new) }
         ensures tag { (C.tag end.new ≡ C.tag end.old) × (C.ring end.new ≡ C.ring end.old) }
         ensures limits { self.new.wire.limits ≡ self.old.wire.limits }
+        ensures asked { IsFalse result → self.new.stage ≡ Stage.Running → HasAsked self.new }
     {
         if self.broke {
             return false;
@@ -262,6 +264,7 @@ impl ConnHalf {
         ensures leads { LeadsIn self.old (IsViewOf C.ConnEnd end.old) self.new (IsViewOf C.ConnEnd end.new) }
         ensures tag { (C.tag end.new ≡ C.tag end.old) × (C.ring end.new ≡ C.ring end.old) }
         ensures limits { self.new.wire.limits ≡ self.old.wire.limits }
+        ensures asked { IsFalse result → HasAsked self.old → HasAsked self.new }
     {
         match self.body {
             Body::Open => false,
@@ -279,6 +282,7 @@ impl ConnHalf {
         ensures leads { LeadsIn self.old (IsViewOf C.ConnEnd end.old) self.new (IsViewOf C.ConnEnd end.new) }
         ensures tag { (C.tag end.new ≡ C.tag end.old) × (C.ring end.new ≡ C.ring end.old) }
         ensures limits { self.new.wire.limits ≡ self.old.wire.limits }
+        ensures asked { IsFalse result → HasAsked self.old → HasAsked self.new }
     {
         let Body::Waits(event) = mem::replace(&mut self.body, Body::Open) else {
             unreachable!()
@@ -299,6 +303,7 @@ impl ConnHalf {
         ensures leads { LeadsIn self.old (IsViewOf C.ConnEnd end.old) self.new (IsViewOf C.ConnEnd end.new) }
         ensures tag { (C.tag end.new ≡ C.tag end.old) × (C.ring end.new ≡ C.ring end.old) }
         ensures limits { self.new.wire.limits ≡ self.old.wire.limits }
+        ensures asked { IsFalse result → HasAsked self.old → HasAsked self.new }
     {
         if !self.wire.input.has_ended() {
             return false;
@@ -313,6 +318,7 @@ impl ConnHalf {
         ensures leads { LeadsIn self.old (IsViewOf C.ConnEnd end.old) self.new (IsViewOf C.ConnEnd end.new) }
         ensures tag { (C.tag end.new ≡ C.tag end.old) × (C.ring end.new ≡ C.ring end.old) }
         ensures limits { self.new.wire.limits ≡ self.old.wire.limits }
+        ensures asked { IsFalse result → HasAsked self.old → HasAsked self.new }
     {
         self.broke = true;
         end.offer_disconnect(Incoming::HttpDisconnect)
@@ -323,6 +329,7 @@ impl ConnHalf {
         ensures same { KeepsBesidesBody self.old self.new }
         ensures gives { GivesBehind self.old self.new }
         ensures limits { self.new.wire.requests.limits ≡ self.old.wire.requests.limits }
+        ensures asked { OnOk result (HasAsked self.new) }
     {
         if let Body::Open = self.body {
             self.body = body_of(self.wire.requests.next()?, self.wire.input);
@@ -332,7 +339,8 @@ impl ConnHalf {
 
     /// Reads, where nothing waits for a place and not too much is held.
     fn read<L: Line>(&mut self, line: &mut L) -> Turn
-        requires { self.old.stage ≡ Stage.Running }
+        requires running { self.old.stage ≡ Stage.Running }
+        requires asked { HasAsked self.old }
         ensures leads { LeadsOut (state_of L.Reads L.Counts line.old) self.old (state_of L.Reads L.Counts line.new) self.new }
         ensures limits { self.new.wire.limits ≡ self.old.wire.limits }
     {
@@ -352,6 +360,7 @@ impl ConnHalf {
     fn reads_on(&self) -> bool
         ensures open { IsTrue result → has_ended self.now.wire.input ≡ false }
         ensures free { IsTrue result → ReadsAt self.now.body }
+        ensures few { IsTrue result → self.now.body ≡ Body.Whole → HoldsFew self.now.wire.requests }
     {
         if self.wire.input.has_ended() {
             return false;
@@ -391,6 +400,7 @@ impl ConnHalf {
     fn settle<L: Line>(&mut self, kind: EndKind, progress: Progress, line: &mut L) -> Turn
         requires ending { self.old.stage ≡ Stage.Ending kind }
         requires progress { (facts : Facts) (said : List Outgoing) → standing.StandsFor self.old.text facts said → progress ≡ progress_of facts said }
+        requires asked { HasAsked self.old }
         ensures leads { LeadsOut (state_of L.Reads L.Counts line.old) self.old (state_of L.Reads L.Counts line.new) self.new }
         ensures limits { self.new.wire.limits ≡ self.old.wire.limits }
     {
@@ -408,6 +418,7 @@ impl ConnHalf {
         ensures same { KeepsBesidesBody self.old self.new }
         ensures requests { self.new.wire.requests ≡ self.old.wire.requests }
         ensures gives { GivesOn self.old self.new }
+        ensures stays { IsFalse result → self.new ≡ self.old }
         ensures no { IsFalse result → IsFree self.new.body }
     {
         if let Body::Waits(_) = self.body {
@@ -423,6 +434,7 @@ impl ConnHalf {
         ensures gives { OnOk result (GivesOn self.old self.new) }
         ensures broke { self.old.broke ≡ true → self.new.body ≡ self.old.body }
         ensures limits { self.new.wire.requests.limits ≡ self.old.wire.requests.limits }
+        ensures asked { OnOk result (HasAsked self.new) }
     {
         if self.broke {
             return Ok(());
@@ -441,6 +453,7 @@ impl ConnHalf {
     fn read_rest<L: Line>(&mut self, line: &mut L) -> Turn
         requires ending { (kind : EndKind) × (self.old.stage ≡ Stage.Ending kind) }
         requires open { self.old.body ≡ Body.Open }
+        requires asked { HasAsked self.old }
         ensures leads { LeadsOut (state_of L.Reads L.Counts line.old) self.old (state_of L.Reads L.Counts line.new) self.new }
         ensures limits { self.new.wire.limits ≡ self.old.wire.limits }
     {
@@ -542,13 +555,14 @@ fn body_of(next: Next, input: InputEnd) -> Body
     ensures gives { (reader : Reading) (read : List ℕ) (opened : List Next) (framing : Framing) (arrived : List ℕ) (events : List Incoming)
         → HasOpened reader.limits read opened framing arrived → GaveNext reader read (opened ++ map Next.Event events) next → HasGiven reader read opened events result }
     ensures ends_where { EndsWhere result input }
+    ensures open { result ≡ Body.Open → next ≡ Next.Need }
 {
     match next {
         Next::Need => unfinished(input),
         Next::Event(event) => Body::Waits(event),
         Next::Whole => Body::Whole,
         Next::Bad(status) => Body::Refused(status),
-        Next::Head(_, _) => Body::Open,
+        Next::Head(_, _) => Body::Whole,
     }
 }
 

@@ -6,7 +6,7 @@ ghost use Rattle.asgi_io.specs.Counting.{RoseBy};
 ghost use Rattle.asgi_io.specs.Writing.{TriesWrites, out_of};
 ghost use Rattle.asgi_request.specs.declared.next.Next.{Next};
 ghost use Rattle.asgi_request.specs.Reading.{StandsFor};
-ghost use Rattle.asgi_conn.specs.Lines.{LineState, HasMoved, how_put, input_behind, state_of};
+ghost use Rattle.asgi_conn.specs.Lines.{LineState, HasMoved, how_put, input_behind, piece_size, state_of};
 ghost use Rattle.asgi_conversation.specs.TaskEnds.{has_ended};
 
 use crate::line::Line;
@@ -52,7 +52,8 @@ impl Wire {
         ensures moved { (more : List ℕ)
             × ((start : LineState) (read written : List ℕ) (failures : ℕ) → HasMoved start (state_of L.Reads L.Counts line.old) self.old.input read written failures
             → HasMoved start (state_of L.Reads L.Counts line.new) self.new.input (read ++ more) written failures)
-            × OnOk result ((bytes : List ℕ) (given : List Next) → StandsFor self.old.requests bytes given → StandsFor self.new.requests (bytes ++ more) given) }
+            × OnOk result ((bytes : List ℕ) (given : List Next) → StandsFor self.old.requests bytes given → StandsFor self.new.requests (bytes ++ more) given)
+            × (length more ≤ piece_size) }
         ensures same { self.new ≡ record self.old { requests = self.new.requests; input = self.new.input } }
         ensures limits { self.new.requests.limits ≡ self.old.requests.limits }
     {

@@ -40,7 +40,7 @@ unfinished_head limits bytes n = head_is_open limits bytes [] bytes n.0 (closed_
 
 -- ---- heads of lists
 
-heads_join : (a b : List Next) → heads_of (a ++ b) ≡ heads_of a ++ heads_of b
+pub heads_join : (a b : List Next) → heads_of (a ++ b) ≡ heads_of a ++ heads_of b
 heads_join [] b = refl
 heads_join (Head scope facts ∷ a) b = ap (λ (l : List (Scope × Facts)). (scope, facts) ∷ l) (heads_join a b)
 heads_join (Need ∷ a) b = heads_join a b
@@ -52,7 +52,7 @@ no_heads : (events : List Incoming) (behind : List Next) → heads_of ((map Even
 no_heads [] behind = refl
 no_heads (event ∷ events) behind = no_heads events behind
 
-requests_join : (a b : List Exchanged) → requests_of (a ++ b) ≡ requests_of a ++ requests_of b
+pub requests_join : (a b : List Exchanged) → requests_of (a ++ b) ≡ requests_of a ++ requests_of b
 requests_join [] b = refl
 requests_join (x ∷ a) b = ap (λ (l : List (Scope × Facts)). (x.scope, x.facts) ∷ l) (requests_join a b)
 

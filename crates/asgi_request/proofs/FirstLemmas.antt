@@ -222,3 +222,17 @@ none_gives limits =
     let all = start_waits limits in
     all_results limits limits.block_in_range.0 [] [] all.end all.rest
     (record { steps = all.goes.steps; reads = all.goes.reads; shows = all.goes.shows }) all.waits
+
+-- whole requests give the same results without the bytes behind them
+pub whole_alone : (limits : Limits) (bytes : List ℕ) (given : List Next) (held : List ℕ) → Reaches limits bytes given Start held
+    → (passed : List ℕ) × (bytes ≡ passed ++ held) × ((rest : List ℕ) × GivesResults limits passed given rest)
+unfolding IsStopped
+whole_alone limits bytes given held x = by (cut_reads limits Start bytes x.steps Start held x.reads)
+  where
+    start_open : front limits Start [] ≡ unfinished
+    start_open = let low = limits.head_in_range.0 in head_open limits.max_head (omega (arith, low))
+
+    by : IsStopped Start ⊎ Passed limits Start bytes x.steps Start held → (passed : List ℕ) × (bytes ≡ passed ++ held) × ((rest : List ℕ) × GivesResults limits passed given rest)
+    by (inl s) = let never : Start ≡ Stopped s.0 = s.1 in cc
+    by (inr p) =
+        (p.passed, p.splits, all_results limits limits.block_in_range.0 p.passed given Start [] (record { steps = x.steps; reads = p.reads; shows = x.shows }) start_open)

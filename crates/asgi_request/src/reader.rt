@@ -128,6 +128,7 @@ impl RequestReader {
     /// The next result, `Need` where more bytes are needed, or the last `Bad` again.
     pub fn next(&mut self) -> Result<Next, AllocError>
         ensures need { IfOk result (λ next. next ≡ Next.Need → (bytes : List ℕ) (given : List Next) → StandsFor self.old bytes given → StandsFor self.new bytes given × AllGiven self.new bytes given) }
+        ensures waits { IfOk result (λ next. next ≡ Next.Need → IsWaiting self.new) }
         ensures given { IfOk result (λ next. next ≢ Next.Need → ((status : ℕ) → ¬ (IsRefused self.old status)) → GoesOn self.old self.new next) }
         ensures refused { IfOk result (λ next. (status : ℕ) → next ≡ Next.Bad status → IsRefused self.new status) }
         ensures again { IfOk result (λ next. (status : ℕ) → IsRefused self.old status → (next ≡ Next.Bad status) × (self.new ≡ self.old)) }

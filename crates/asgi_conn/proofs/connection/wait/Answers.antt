@@ -18,7 +18,7 @@ returns-in_default-clause-waits g c limits start read given exchanges behind wri
     let more = c.read.ensures.moved.0 in (
       more,
       ends_fed_short limits start (state_of g.L.Reads g.L.Counts c.args.line.now) c.args.wire read given exchanges behind written x
-          (state_of g.L.Reads g.L.Counts c.read.new.line) c.read.new.self more c.read.ensures.moved.1 (λ ended. let never = c.if-has_ended.false in cc),
+          (state_of g.L.Reads g.L.Counts c.read.new.line) c.read.new.self more c.read.ensures.moved.1 (λ ended. let never = c.if-has_ended.false in cc) all c.read.ensures.moved.3,
     )
 
 pub returns-clause-waits : goal.returns-clause-waits
@@ -29,7 +29,7 @@ returns-clause-waits g c limits start read given exchanges behind written x all 
         given,
         behind ++ more,
         rests_on limits start (state_of g.L.Reads g.L.Counts c.args.line.now) c.args.wire read given exchanges behind written x
-            (state_of g.L.Reads g.L.Counts c.read.new.line) c.read.new.self more c.in-Ok.ensures.moved.1 (λ ended. let never = c.if-has_ended.false in cc)
+            (state_of g.L.Reads g.L.Counts c.read.new.line) c.read.new.self more c.in-Ok.ensures.moved.1 (λ ended. let never = c.if-has_ended.false in cc) all c.in-Ok.ensures.moved.3
             c.read.ensures.same c.read.ensures.limits c.in-Ok.ensures.moved.2,
       ),
     )

@@ -3,6 +3,7 @@ use Rattle.asgi_io.specs.Answers.{bytes_of}
 use Rattle.asgi_conversation.specs.declared.input.InputEnd.{InputEnd}
 use Rattle.asgi_conn.specs.Lines.{HasMoved, state_of}
 use Rattle.asgi_conn.proofs.LineLemmas.{gave, told_as, moved_by_open_read}
+use Rattle.asgi_conn.proofs.ReadAheadLemmas.{short_piece}
 use Rattle.asgi_conn.proofs.wire.Wire.read.Goals as goal
 
 pub returns-in-Ok-clause-moved : goal.returns-in-Ok-clause-moved
@@ -18,6 +19,7 @@ returns-in-Ok-clause-moved g c =
           (moved_by_open_read start (state_of g.L.Reads g.L.Counts c.args.line.now) _ c.args.self.now.input read written failures buffer a c.requires moved x
           (told_as _ _ buffer c.read_some-read.result a c.read_some-read.ensures.told (omega (arith, c.read_some-read.auto.buf)) c.answer_of-answer.ensures) stay.0 stay.1.1 stay.1.0),
       c.in-Ok.ensures.fed,
+      short_piece buffer (bytes_of a) (omega (arith, c.read_some-read.auto.buf)) x.fits,
     )
 
 pub returns-in-Err-clause-moved : goal.returns-in-Err-clause-moved
@@ -33,4 +35,5 @@ returns-in-Err-clause-moved g c =
           (moved_by_open_read start (state_of g.L.Reads g.L.Counts c.args.line.now) _ c.args.self.now.input read written failures buffer a c.requires moved x
           (told_as _ _ buffer c.read_some-read.result a c.read_some-read.ensures.told (omega (arith, c.read_some-read.auto.buf)) c.answer_of-answer.ensures) stay.0 stay.1.1 stay.1.0),
       tt,
+      short_piece buffer (bytes_of a) (omega (arith, c.read_some-read.auto.buf)) x.fits,
     )

@@ -13,9 +13,10 @@ returns-in-Stopped-clause-given c result going =
 pub returns-in-Waits : goal.returns-in-Waits
 returns-in-Waits c =
     let new = c.advance.new.self in
-    let waits = c.in-Waits.ensures.advances in
+    let stays = c.in-Waits.ensures.advances in
     record {
-      need = λ e bytes given stands. (waits.1 bytes given stands, all_results new.limits new.limits.block_in_range.0 bytes given new.place new.held (waits.1 bytes given stands) waits.0);
+      need = λ e bytes given stands. (stays.1 bytes given stands, all_results new.limits new.limits.block_in_range.0 bytes given new.place new.held (stays.1 bytes given stands) stays.0);
+      waits = λ e. stays.0;
       given = λ result. absurd (result refl);
       refused = λ status e. absurd cc;
       again = λ status e. absurd (c.in_default.not-Stopped e.0 (ap (λ (r : Reading). r.place) c.self.view_is ∙ e.1));
@@ -36,6 +37,7 @@ returns-in-Gives c =
     let err = c.give.ensures.err in
     record {
       need = when_ok (λ item. TakesText mid new mid.place n item) _ c.give.result (λ item took e. absurd (answers_need mid new item (stepped_result mid new (Some item) (text_stepped mid new n item gives.1 took)) e)) ok;
+      waits = when_ok (λ item. TakesText mid new mid.place n item) _ c.give.result (λ item took e. absurd (answers_need mid new item (stepped_result mid new (Some item) (text_stepped mid new n item gives.1 took)) e)) ok;
       given = when_ok (λ item. TakesText mid new mid.place n item) _ c.give.result (λ item took _ _ bytes given stands. stepped_stands mid new (Some item) (text_stepped mid new n item gives.1 took) bytes given (gives.0 bytes given stands)) ok;
       refused = when_ok (λ item. TakesText mid new mid.place n item) _ c.give.result (λ item took status e. answers_bad new item status (stepped_result mid new (Some item) (text_stepped mid new n item gives.1 took)) e) ok;
       again = when_ok (λ item. TakesText mid new mid.place n item) _ c.give.result (λ item took status e. absurd (c.in_default.not-Stopped e.0 (ap (λ (r : Reading). r.place) c.self.view_is ∙ e.1))) ok;
