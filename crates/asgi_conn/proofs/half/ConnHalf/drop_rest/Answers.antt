@@ -27,5 +27,5 @@ loop-event-preserved c = record {
       (dropped_then c.args.self.now c.loop-event.self c.drop_one.new.self c.loop-event.invariant.dropped
       (record { same = c.drop_one.ensures.same; gives = c.drop_one.ensures.gives; limits = ap (λ (r : Reading). r.limits) c.drop_one.ensures.requests }))
       (pulled c.drop_one.new.self c.pull-in-loop-event.new.self c.pull-in-loop-event.ensures.same c.pull-in-loop-event.ensures.gives c.pull-in-loop-event.ensures.limits);
-  asked = c.pull-in-loop-event.ensures.asked;
+  asked = c.in_ok-pull-2.ensures.asked;
 }
