@@ -54,13 +54,13 @@ carry-requires-clause-may g c = lemma.may_run g.T.AppTask.stands g.T.AppTask.ans
 pub poll_on-polled-requires : goal.poll_on-polled-requires
 poll_on-polled-requires g c = lemma.may_run g.T.AppTask.stands g.T.AppTask.answers app_end.ghosts c.loop-half.side c.carry.new.side c.carry.ensures.side
 
-pub carry-in-loop-half-requires-clause-pair : goal.carry-in-loop-half-requires-clause-pair
+pub carry-requires-in-loop-half-clause-pair : goal.carry-requires-in-loop-half-clause-pair
 unfolding app_tag conn_tag
-carry-in-loop-half-requires-clause-pair g c =
+carry-requires-in-loop-half-clause-pair g c =
     lemma.pair_of app_tag c.carry.new.side c.poll_on-polled.new.side (conn_tag c.carry.new.conn) c.carry.ensures.pair c.poll_on-polled.ensures.tag
 
-pub carry-in-loop-half-requires-clause-may : goal.carry-in-loop-half-requires-clause-may
-carry-in-loop-half-requires-clause-may g c = lemma.may_run g.T.AppTask.stands g.T.AppTask.answers app_end.ghosts c.carry.new.side c.poll_on-polled.new.side c.poll_on-polled.ensures.side
+pub carry-requires-in-loop-half-clause-may : goal.carry-requires-in-loop-half-clause-may
+carry-requires-in-loop-half-clause-may g c = lemma.may_run g.T.AppTask.stands g.T.AppTask.answers app_end.ghosts c.carry.new.side c.poll_on-polled.new.side c.poll_on-polled.ensures.side
 
 pub loop-half-smaller : goal.loop-half-smaller
 loop-half-smaller g c = omega (arith, c.take.ensures.one, c.take.ensures.turn_limit, (c.goes_on.ensures.yes c.loop-half-test.true).0)
