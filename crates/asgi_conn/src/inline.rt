@@ -4,6 +4,7 @@ ghost use Rattle.asgi_io.specs.declared.turns.Turn.{Turn};
 ghost use Rattle.asgi_io.specs.Turns.{CountsTurns};
 ghost use Rattle.asgi_types.specs.declared.scope.Kind.TheVariants.{Http};
 ghost use Rattle.asgi_pipes.specs.PlainPairs.{IsPlainPair};
+ghost use Rattle.asgi_apps.specs.Ends.{MayGoOn, IsWithin};
 ghost use Rattle.asgi_exchange.specs.Calls.{IsViewOf};
 ghost use Rattle.asgi_exchange.specs.Views.{ConnView};
 ghost use Rattle.asgi_conversation.specs.declared.following.Following.{Following};
@@ -12,12 +13,12 @@ ghost use Rattle.asgi_conn.specs.declared.half.Stage.TheVariants as stage;
 ghost use Rattle.asgi_conn.specs.Half.{Scene, Stands};
 ghost use Rattle.asgi_conn.specs.Limits.{IsAtLimit, IsOverIdle, IsSettled};
 ghost use Rattle.asgi_conn.specs.Lines.{state_of};
-ghost use Rattle.asgi_conn.specs.Running.{OfEnd, MayRun, HasRun, HasPassed, EndsIn, GoesOnAs, TagStays};
+ghost use Rattle.asgi_conn.specs.Running.{OfEnd, MayRun, HasRun, HasPassed, IsOfRequest, EndsIn, GoesOnAs, TagStays};
 
 use crate::half::ConnHalf;
 use crate::line::Line;
 use crate::runner::{AppSide, Runner};
-use asgi_apps::{AppTask, Lent};
+use asgi_apps::{AppTask, Lent, Running};
 use asgi_exchange::join;
 use asgi_io::{Pause, Turn, Turns};
 use asgi_pipes::{AppEnd, ConnEnd, EndKind, Pipes, Plain, PlainApp, PlainConn};
@@ -155,13 +156,41 @@ fn carry<T: AppTask>(conn: &mut PlainConn, side: &mut AppSide<T, PlainApp>)
 {
     match side {
         AppSide::HasEnded { app_end, kind: _ } => Plain::carry(conn, app_end),
-        AppSide::Runs(running) => {
-            let Some(lent) = &mut running.lent else {
-                unreachable!()
-            };
-            Plain::carry(conn, &mut lent.app_end);
-        }
+        AppSide::Runs(running) => carry_running(conn, running),
     }
+}
+
+/// The same, where the task runs.
+fn carry_running<T: AppTask>(conn: &mut PlainConn, running: &mut Running<T, PlainApp>)
+    requires pair { OfEnd (AppSide.Runs running.old) (λ app. IsPlainPair conn.old app) }
+    requires may { MayRun T.stands ⟦<PlainApp as AppEnd>⟧ (AppSide.Runs running.old) }
+    ensures pair { OfEnd (AppSide.Runs running.new) (λ app. IsPlainPair conn.new app) }
+    ensures conn { let End = ⟦<PlainConn as ConnEnd>⟧ in (End.offered conn.new ≡ End.offered conn.old)
+        × (End.got conn.new ≡ End.got conn.old)
+        × (End.is_broken conn.new ≡ End.is_broken conn.old) }
+    ensures side { GoesOnAs T.stands T.answers ⟦<PlainApp as AppEnd>⟧ (AppSide.Runs running.old) (AppSide.Runs running.new) }
+    ensures passed { OfEnd (AppSide.Runs running.new) (λ app. HasPassed ⟦<PlainConn as ConnEnd>⟧ ⟦<PlainApp as AppEnd>⟧ conn.new app) }
+{
+    let Some(lent) = &mut running.lent else {
+        unreachable!()
+    };
+    carry_lent(conn, lent);
+}
+
+/// The same, with the end that the task is lent.
+fn carry_lent<T: AppTask>(conn: &mut PlainConn, lent: &mut Lent<T, PlainApp>)
+    requires pair { IsPlainPair conn.old lent.old.app_end }
+    requires may { MayGoOn T.stands ⟦<PlainApp as AppEnd>⟧ lent.old.task lent.old.app_end }
+    ensures pair { IsPlainPair conn.new lent.new.app_end }
+    ensures conn { let End = ⟦<PlainConn as ConnEnd>⟧ in (End.offered conn.new ≡ End.offered conn.old)
+        × (End.got conn.new ≡ End.got conn.old)
+        × (End.is_broken conn.new ≡ End.is_broken conn.old) }
+    ensures may { MayGoOn T.stands ⟦<PlainApp as AppEnd>⟧ lent.new.task lent.new.app_end }
+    ensures within { IsWithin T.answers lent.new.task lent.old.task }
+    ensures request { IsOfRequest ⟦<PlainApp as AppEnd>⟧ lent.old.app_end lent.new.app_end }
+    ensures passed { HasPassed ⟦<PlainConn as ConnEnd>⟧ ⟦<PlainApp as AppEnd>⟧ conn.new lent.new.app_end }
+{
+    Plain::carry(conn, &mut lent.app_end);
 }
 
 /// Polls the task while each poll moves something, at most so often.

@@ -59,7 +59,8 @@ struct Served {
     more: u64,
 }
 
-/// The last read finds the end of the input. The greeting takes two turns that read nothing.
+/// The last read finds the end of the input. The greeting takes three turns that read
+/// nothing: a turn takes as many items as the ring has places, two, and the end of its task comes behind two events.
 const fn hello(piece: usize, reads: u64) -> Served {
     Served {
         piece,
@@ -67,7 +68,7 @@ const fn hello(piece: usize, reads: u64) -> Served {
         outcome: Outcome::Finished,
         exchanges: 1,
         reads,
-        more: 2,
+        more: 3,
     }
 }
 
@@ -157,7 +158,7 @@ fn of_1_mib_behind_a_request_a_head_is_read(rt: HostRuntime) -> Result<(), Fail>
         outcome: Outcome::Refused(431),
         exchanges: 1,
         reads: 17,
-        more: 2,
+        more: 3,
     };
     assert!(rt; is_served(&rt, &input, served)?);
     Ok(())

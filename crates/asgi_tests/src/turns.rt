@@ -98,12 +98,15 @@ fn the_first_of_a_limit_and_what_else_ends_it(rt: HostRuntime) -> Result<(), Fai
     let two = two_requests(rt.alloc())?;
     let both: &[u8] = &two;
     // The input, the limit on turns, what is written, the outcome, and the exchanges.
-    let rows: [(&[u8], u64, &[u8], Outcome, u64); 10] = [
+    let rows: [(&[u8], u64, &[u8], Outcome, u64); 11] = [
         // The end of the input, at the last turn and behind it.
         (b"", 1, b"", Outcome::Finished, 0),
         (b"GE", 2, b"", Outcome::InputBroke, 0),
         (b"GE", 1, b"", Outcome::Idle, 0),
-        (GET, 4, HELLO, Outcome::Finished, 1),
+        // The ring has two places, so the greeting takes three turns: two events are taken in the second of them, and the
+        // end of the task in the third.
+        (GET, 5, HELLO, Outcome::Finished, 1),
+        (GET, 4, HELLO, Outcome::Idle, 1),
         (GET, 3, HELLO, Outcome::Idle, 1),
         // A refusal takes no turn.
         (
@@ -116,8 +119,8 @@ fn the_first_of_a_limit_and_what_else_ends_it(rt: HostRuntime) -> Result<(), Fai
         // A head that waits at the limit is a request, and is not answered.
         (GET, 1, b"", Outcome::Idle, 1),
         (GET, 2, b"", Outcome::Idle, 1),
-        (both, 3, HELLO, Outcome::Idle, 2),
         (both, 4, HELLO, Outcome::Idle, 2),
+        (both, 5, HELLO, Outcome::Idle, 2),
     ];
     for (row, (input, turns, wanted, outcome, exchanges)) in rows.iter().enumerate() {
         let limits = limits_with(*turns)?;

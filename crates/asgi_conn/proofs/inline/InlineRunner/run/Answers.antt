@@ -54,13 +54,13 @@ carry-requires-clause-may g c = lemma.may_run g.T.AppTask.stands g.T.AppTask.ans
 pub poll_on-polled-requires : goal.poll_on-polled-requires
 poll_on-polled-requires g c = lemma.may_run g.T.AppTask.stands g.T.AppTask.answers app_end.ghosts c.loop-half.side c.carry.new.side c.carry.ensures.side
 
-pub carry-2-requires-clause-pair : goal.carry-2-requires-clause-pair
+pub carry-requires-in-loop-half-clause-pair : goal.carry-requires-in-loop-half-clause-pair
 unfolding app_tag conn_tag
-carry-2-requires-clause-pair g c =
+carry-requires-in-loop-half-clause-pair g c =
     lemma.pair_of app_tag c.carry.new.side c.poll_on-polled.new.side (conn_tag c.carry.new.conn) c.carry.ensures.pair c.poll_on-polled.ensures.tag
 
-pub carry-2-requires-clause-may : goal.carry-2-requires-clause-may
-carry-2-requires-clause-may g c = lemma.may_run g.T.AppTask.stands g.T.AppTask.answers app_end.ghosts c.carry.new.side c.poll_on-polled.new.side c.poll_on-polled.ensures.side
+pub carry-requires-in-loop-half-clause-may : goal.carry-requires-in-loop-half-clause-may
+carry-requires-in-loop-half-clause-may g c = lemma.may_run g.T.AppTask.stands g.T.AppTask.answers app_end.ghosts c.carry.new.side c.poll_on-polled.new.side c.poll_on-polled.ensures.side
 
 pub loop-half-smaller : goal.loop-half-smaller
 loop-half-smaller g c = omega (arith, c.take.ensures.one, c.take.ensures.turn_limit, (c.goes_on.ensures.yes c.loop-half-test.true).0)
@@ -72,15 +72,15 @@ loop-half-preserved g c =
     let answers = g.T.AppTask.answers in
     let carried_once = lemma.goes_further stands answers app_end.ghosts c.args.side c.loop-half.side c.carry.new.side inv.goes_on c.carry.ensures.side in
     let polled = lemma.goes_further stands answers app_end.ghosts c.args.side c.carry.new.side c.poll_on-polled.new.side carried_once c.poll_on-polled.ensures.side in
-    let carried_twice = lemma.goes_further stands answers app_end.ghosts c.args.side c.poll_on-polled.new.side c.carry-2.new.side polled c.carry-2.ensures.side in
+    let carried_twice = lemma.goes_further stands answers app_end.ghosts c.args.side c.poll_on-polled.new.side c.carry-in-loop-half.new.side polled c.carry-in-loop-half.ensures.side in
     record {
-      pair = c.carry-2.ensures.pair;
+      pair = c.carry-in-loop-half.ensures.pair;
       goes_on = carried_twice;
       leads = λ scene read view s is.
           let x = inv.leads scene read view s is in
           let y = c.turn-moved.ensures.leads scene (read ++ x.0) x.1 x.2 x.3 in
           let first = c.carry.ensures.conn in
-          let second = c.carry-2.ensures.conn in (
+          let second = c.carry-in-loop-half.ensures.conn in (
             x.0 ++ y.0,
             y.1,
             rw (sym (append_assoc read x.0 y.0)) y.2,
