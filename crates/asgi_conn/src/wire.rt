@@ -58,9 +58,9 @@ impl Wire {
         ensures limits { self.new.requests.limits ≡ self.old.requests.limits }
     {
         let mut piece = self.piece.lend(self.alloc)?;
-        let read = line.read_some(piece.as_mut_slice());
+        let read = line.read_some(&mut piece);
         let answer = answer_of(&read, PIECE);
-        let taken = self.take_in(answer, piece.as_slice());
+        let taken = self.take_in(answer, &piece);
         self.piece.take_back(piece);
         match taken {
             Ok(()) => Ok(answer.turn()),

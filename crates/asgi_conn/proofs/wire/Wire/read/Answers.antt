@@ -1,4 +1,7 @@
-use Rattle.std.proofs.Common.{◌++◌, take, arith, subst, sym}
+use Rattle.std.proofs.Common.{rules, ◌≡◌, ℕ, List, ◌++◌, take, arith, subst, sym, ◌∙◌}
+use Rattle.std.proofs.lemmas.List.{take_at}
+use Rattle.asgi_request.specs.declared.next.Next.{Next}
+use Rattle.asgi_request.specs.Reading.{StandsFor}
 use Rattle.asgi_io.specs.Answers.{bytes_of}
 use Rattle.asgi_conversation.specs.declared.input.InputEnd.{InputEnd}
 use Rattle.asgi_conn.specs.Lines.{HasMoved, state_of}
@@ -15,10 +18,14 @@ returns-in-Ok-clause-moved g c =
       take (bytes_of a) buffer,
       λ start read written failures moved.
           subst (λ (end : InputEnd). HasMoved start (state_of g.L.Reads g.L.Counts c.read_some-read.new.self) end (read ++ take (bytes_of a) buffer) written failures)
-          (sym c.take_in.ensures.input)
+          (sym c.take_in-taken.ensures.input)
           (moved_by_open_read start (state_of g.L.Reads g.L.Counts c.args.line.now) _ c.args.self.now.input read written failures buffer a c.requires moved x
           (told_as _ _ buffer c.read_some-read.result a c.read_some-read.ensures.told (omega (arith, c.read_some-read.auto.buf)) c.answer_of-answer.ensures) stay.0 stay.1.1 stay.1.0),
-      c.in-Ok.ensures.fed,
+      (
+        let same : c.deref.result.now ≡ buffer = c.deref.ensures.value ∙ take_at buffer _ _ (omega (arith, c.read_some-read.auto.buf, c.deref_mut.ensures.len)) in
+        subst (λ (l : List ℕ). (bytes : List ℕ) (given : List Next) → StandsFor c.args.self.now.requests bytes given → StandsFor c.take_in-taken.new.self.requests (bytes ++ take (bytes_of a) l) given)
+        same c.in-Ok.ensures.fed
+      ),
       short_piece buffer (bytes_of a) (omega (arith, c.read_some-read.auto.buf)) x.fits,
     )
 
@@ -31,7 +38,7 @@ returns-in-Err-clause-moved g c =
       take (bytes_of a) buffer,
       λ start read written failures moved.
           subst (λ (end : InputEnd). HasMoved start (state_of g.L.Reads g.L.Counts c.read_some-read.new.self) end (read ++ take (bytes_of a) buffer) written failures)
-          (sym c.take_in.ensures.input)
+          (sym c.take_in-taken.ensures.input)
           (moved_by_open_read start (state_of g.L.Reads g.L.Counts c.args.line.now) _ c.args.self.now.input read written failures buffer a c.requires moved x
           (told_as _ _ buffer c.read_some-read.result a c.read_some-read.ensures.told (omega (arith, c.read_some-read.auto.buf)) c.answer_of-answer.ensures) stay.0 stay.1.1 stay.1.0),
       tt,
