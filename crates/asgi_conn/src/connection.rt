@@ -216,7 +216,7 @@ fn wait<L: Line, P: Pause>(wire: Wire, line: &mut L, pause: &mut P, turns: &mut 
     ensures waits { (limits : Limits) (start : LineState) (read : List ℕ) (given : List Next) (exchanges : List Exchanged) (behind written : List ℕ)
         → Rests limits start (state_of L.Reads L.Counts line.old) wire read given exchanges behind written → AllGiven wire.requests read given
         → (more : List ℕ) × IsAt result limits start (state_of L.Reads L.Counts line.new) (read ++ more) exchanges written }
-    ensures takes { IsBetween result → turns.new.turns ≡ turns.old.turns + 1 }
+    ensures takes { IsBetween result → turns.old.turns < turns.new.turns }
     ensures idle { result ≡ Place.Ended Outcome.Idle → IsAtLimit turns.new }
     ensures counts { (turned : List Turn) (pauses : ℕ) → CountsTurns turns.old.turn_limit turns.old.idle_limit turned pauses (P.count pause.old) turns.old.turns turns.old.idle
         → (more : List Turn) × CountsTurns turns.old.turn_limit turns.old.idle_limit (turned ++ more) pauses (P.count pause.new) turns.new.turns turns.new.idle }
