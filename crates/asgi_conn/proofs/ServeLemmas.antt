@@ -1,5 +1,5 @@
 -- A connection at its beginning, and what one step of it does.
-use Rattle.std.proofs.Common.{◌≡◌, ◌≢◌, ℕ, List, [], ◌∷◌, ◌++◌, ◌-◌, refl, sym, ap, ◌∙◌, append-nil, subst, Option}
+use Rattle.std.proofs.Common.{◌≡◌, ◌≢◌, ℕ, List, [], ◌∷◌, ◌++◌, ◌-◌, refl, sym, ap, ◌∙◌, append-nil, subst, Option, inl, inr}
 use Rattle.std.specs.Prelude.{◌+◌}
 use Rattle.std.proofs.lemmas.List.Elements.{All-nil}
 use Rattle.asgi_types.specs.declared.end_kind.EndKind.{EndKind}
@@ -24,7 +24,9 @@ use Rattle.asgi_request.specs.Reading.{Reading, StandsFor, AllGiven, IsRefused, 
 use Rattle.asgi_request.specs.Results.{Opens}
 use Rattle.asgi_conversation.specs.declared.input.InputEnd.{InputEnd}
 use Rattle.asgi_conversation.specs.declared.input.InputEnd.TheVariants.{OpenStill}
-use Rattle.asgi_conversation.specs.declared.report.Outcome.TheVariants.{NoMemory}
+use Rattle.asgi_conversation.specs.declared.report.Outcome.{Outcome}
+use Rattle.asgi_conversation.specs.declared.report.Outcome.TheVariants.{NoMemory, Idle}
+use Rattle.asgi_conversation.specs.declared.report.Report.{Report}
 use Rattle.asgi_conversation.specs.Exchanges.{Exchanged, requests_of}
 use Rattle.asgi_conversation.specs.Promised.{IsPromised, ArePromised}
 use Rattle.asgi_conversation.specs.SoFar.{Within}
@@ -35,10 +37,12 @@ use Rattle.asgi_conn.specs.declared.tally.Tally.{Tally}
 use Rattle.asgi_conn.specs.declared.wire.Wire.{Wire}
 use Rattle.asgi_conn.specs.Half.{Scene, WithinScene}
 use Rattle.asgi_conn.specs.HalfSteps as half
+use Rattle.asgi_conn.specs.Limits.{IsAtLimit}
 use Rattle.asgi_conn.specs.Lines as lines
 use Rattle.asgi_conn.specs.Lines.{LineState, HasMoved}
 use Rattle.asgi_conn.specs.Loop.{Rests, IsAt, IsTallied, Serving}
 use Rattle.asgi_conn.specs.ReadAhead.{ReadsAhead}
+use Rattle.asgi_conn.specs.Serving.{Serves}
 use Rattle.asgi_conn.proofs.BetweenLemmas as between
 use Rattle.asgi_conn.proofs.ReadAheadLemmas.{nothing_ahead, more_requests, heads_more}
 
@@ -231,3 +235,34 @@ module _ (answers : Scope → List Incoming → List Outgoing → Option EndKind
               empty = x.empty;
               ahead = subst (λ (l : Limits). ReadsAhead l s.read (requests_of s.exchanges)) (sym x.limits_are.0) x.ahead;
             }) s.promised s.counted)
+
+-- ---- the end
+
+-- the connection ended so: the report tells what was counted
+abbrev pub told_of : Tally → Outcome → Report
+told_of tally outcome = record { exchanges = tally.exchanges; faults = tally.faults; turns = tally.turns.turns; idle = tally.turns.idle; outcome = outcome }
+
+pub serves : (answers : Scope → List Incoming → List Outgoing → Option EndKind → Type 0) (limits : Limits) (client server : Option Peer) (state : List (List ℕ × StateValue))
+    (start now : LineState) (tally : Tally) (at : Place) (outcome : Outcome) (pauses_old pauses_new : ℕ)
+    → at ≡ place.Ended outcome → Serving answers limits client server state start now tally at
+    → (turned : List Turn) → CountsTurns limits.turns limits.idle_turns turned pauses_old pauses_new tally.turns.turns tally.turns.idle
+    → tally.turns.turn_limit ≡ limits.turns → tally.turns.idle_limit ≡ limits.idle_turns → (at ≡ place.Ended Idle → IsAtLimit tally.turns)
+    → Serves answers limits client server state start now pauses_old pauses_new (told_of tally outcome)
+serves answers limits client server state start now tally at outcome pauses_old pauses_new is s turned counts turn_limit idle_limit at_limit =
+    let e = subst (λ (p : Place). IsAt p limits start now s.read s.exchanges s.written) is s.stands in
+    record {
+      read = s.read;
+      end = e.end;
+      written = s.written;
+      moved = e.moved;
+      exchanges = s.exchanges;
+      converses = e.converses (told_of tally outcome) refl (record { exchanges_are = s.counted.0; faults_are = s.counted.1 });
+      ahead = e.ahead;
+      promised = s.promised;
+      turned = turned;
+      counts = counts;
+      idle = λ o. elim (at_limit (is ∙ ap place.Ended o)) [
+        | inl turns ↦ inl (turns ∙ turn_limit)
+        | inr row ↦ inr (row ∙ idle_limit)
+      ];
+    }

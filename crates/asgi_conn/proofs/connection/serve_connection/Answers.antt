@@ -26,3 +26,10 @@ loop-place-preserved g c =
       counts = lemma.counts_on c.args.limits.now.turns c.args.limits.now.idle_turns c.loop-place.tally.turns.turn_limit c.loop-place.tally.turns.idle_limit _ _ _ _ _ _ _
           inv.counts.0 inv.turn_limit inv.idle_limit inv.counts.1 c.step-place.ensures.counts;
     }
+
+pub returns : goal.returns
+returns g c =
+    let inv = c.loop-place.invariant in
+    lemma.serves (g.A.Application.answers c.args.app.now) c.args.limits.now c.args.client.now c.args.server.now c.args.state.now
+    (state_of g.L.Reads g.L.Counts c.args.line.now) (state_of g.L.Reads g.L.Counts c.loop-place.line) c.loop-place.tally c.loop-place.place c.outcome.result _ _
+    c.outcome.ensures inv.stands inv.counts.0 inv.counts.1 inv.turn_limit inv.idle_limit inv.at_limit

@@ -38,7 +38,7 @@ returns-in_default-clause-waits g c limits start read given exchanges behind wri
     let more = c.read.ensures.moved.0 in (
       y.0 ++ more,
       rw (sym (append_assoc read y.0 more))
-      (ends_fed_short limits start (state_of g.L.Reads g.L.Counts c.loop-wire.line) c.loop-wire.wire (read ++ y.0) given exchanges (behind ++ y.0) written y.1
+          (ends_fed_short limits start (state_of g.L.Reads g.L.Counts c.loop-wire.line) c.loop-wire.wire (read ++ y.0) given exchanges (behind ++ y.0) written y.1
           (state_of g.L.Reads g.L.Counts c.read.new.line) c.read.new.self more c.read.ensures.moved.1 (λ ended. let never = c.if-has_ended.false in cc) y.2 c.read.ensures.moved.3),
     )
 
@@ -48,15 +48,15 @@ returns-then-not-is_waiting-clause-waits g c limits start read given exchanges b
     let more = c.in-Ok.ensures.moved.0 in
     let next = state_of g.L.Reads g.L.Counts c.read.new.line in
     let on = rests_on limits start (state_of g.L.Reads g.L.Counts c.loop-wire.line) c.loop-wire.wire (read ++ y.0) given exchanges (behind ++ y.0) written y.1
-        next c.read.new.self more c.in-Ok.ensures.moved.1 (λ ended. let never = c.if-has_ended.false in cc) y.2 c.in-Ok.ensures.moved.3
-        c.read.ensures.same c.read.ensures.limits c.in-Ok.ensures.moved.2 in
+    next c.read.new.self more c.in-Ok.ensures.moved.1 (λ ended. let never = c.if-has_ended.false in cc) y.2 c.in-Ok.ensures.moved.3
+    c.read.ensures.same c.read.ensures.limits c.in-Ok.ensures.moved.2 in
     let same = c.is_waiting.ensures.same in (
       y.0 ++ more,
       (
         given,
         (behind ++ y.0) ++ more,
         rw (sym (append_assoc read y.0 more))
-        (asked limits start next c.read.new.self ((read ++ y.0) ++ more) given exchanges ((behind ++ y.0) ++ more) written on c.is_waiting.new.self
+            (asked limits start next c.read.new.self ((read ++ y.0) ++ more) given exchanges ((behind ++ y.0) ++ more) written on c.is_waiting.new.self
             (ap (λ (r : Reading). r.limits) same ∙ on.limits_are.1)
             (subst (λ (r : Reading). StandsFor r ((read ++ y.0) ++ more) given) (sym same) on.stands)),
       ),
@@ -70,7 +70,7 @@ returns-then-not-is_waiting-clause-counts g c turned pauses counts =
     let inv = c.loop-wire.invariant in
     let x = inv.counts turned pauses counts in
     let y = counts_more c.args.turns.now.turn_limit c.args.turns.now.idle_limit _ _ pauses _ _ _ _ _ _ (turned ++ x.0) c.in-Ok.turn
-        inv.turn_limit inv.idle_limit x.1 c.take.ensures.counts in
+    inv.turn_limit inv.idle_limit x.1 c.take.ensures.counts in
     (x.0 ++ c.in-Ok.turn ∷ [], rw (sym (append_assoc turned x.0 (c.in-Ok.turn ∷ []))) y)
 
 pub loop-wire-preserved : goal.loop-wire-preserved
@@ -82,13 +82,13 @@ loop-wire-preserved g c =
           let more = c.in-Ok.ensures.moved.0 in
           let next = state_of g.L.Reads g.L.Counts c.read.new.line in
           let on = rests_on limits start (state_of g.L.Reads g.L.Counts c.loop-wire.line) c.loop-wire.wire (read ++ y.0) given exchanges (behind ++ y.0) written y.1
-              next c.read.new.self more c.in-Ok.ensures.moved.1 (λ ended. let never = c.if-has_ended.false in cc) y.2 c.in-Ok.ensures.moved.3
-              c.read.ensures.same c.read.ensures.limits c.in-Ok.ensures.moved.2 in
+          next c.read.new.self more c.in-Ok.ensures.moved.1 (λ ended. let never = c.if-has_ended.false in cc) y.2 c.in-Ok.ensures.moved.3
+          c.read.ensures.same c.read.ensures.limits c.in-Ok.ensures.moved.2 in
           let same = c.is_waiting.ensures.same in
           let all_given = c.is_waiting.ensures.all c.if-not-is_waiting.false ((read ++ y.0) ++ more) given on.stands in (
             y.0 ++ more,
             rw (sym (append_assoc read y.0 more), sym (append_assoc behind y.0 more))
-            (asked limits start next c.read.new.self ((read ++ y.0) ++ more) given exchanges ((behind ++ y.0) ++ more) written on c.is_waiting.new.self
+                (asked limits start next c.read.new.self ((read ++ y.0) ++ more) given exchanges ((behind ++ y.0) ++ more) written on c.is_waiting.new.self
                 (ap (λ (r : Reading). r.limits) same ∙ on.limits_are.1)
                 (subst (λ (r : Reading). StandsFor r ((read ++ y.0) ++ more) given) (sym same) on.stands)),
             rw (sym (append_assoc read y.0 more)) (subst (λ (r : Reading). AllGiven r ((read ++ y.0) ++ more) given) (sym same) all_given),
@@ -99,6 +99,6 @@ loop-wire-preserved g c =
       counts = λ turned pauses counts.
           let x = inv.counts turned pauses counts in
           let y = counts_more c.args.turns.now.turn_limit c.args.turns.now.idle_limit _ _ pauses _ _ _ _ _ _ (turned ++ x.0) c.in-Ok.turn
-              inv.turn_limit inv.idle_limit x.1 c.take.ensures.counts in
+          inv.turn_limit inv.idle_limit x.1 c.take.ensures.counts in
           (x.0 ++ c.in-Ok.turn ∷ [], rw (sym (append_assoc turned x.0 (c.in-Ok.turn ∷ []))) y);
     }

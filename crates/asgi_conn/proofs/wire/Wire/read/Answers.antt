@@ -22,10 +22,10 @@ returns-in-Ok-clause-moved g c =
           (moved_by_open_read start (state_of g.L.Reads g.L.Counts c.args.line.now) _ c.args.self.now.input read written failures buffer a c.requires moved x
           (told_as _ _ buffer c.read_some-read.result a c.read_some-read.ensures.told (omega (arith, c.read_some-read.auto.buf)) c.answer_of-answer.ensures) stay.0 stay.1.1 stay.1.0),
       (
-        let same : c.deref.result.now ≡ buffer = c.deref.ensures.value ∙ take_at buffer _ _ (omega (arith, c.read_some-read.auto.buf, c.deref_mut.ensures.len)) in
-        subst (λ (l : List ℕ). (bytes : List ℕ) (given : List Next) → StandsFor c.args.self.now.requests bytes given → StandsFor c.take_in-taken.new.self.requests (bytes ++ take (bytes_of a) l) given)
-        same c.in-Ok.ensures.fed
-      ),
+          let same : c.deref.result.now ≡ buffer = c.deref.ensures.value ∙ take_at buffer _ _ (omega (arith, c.read_some-read.auto.buf, c.deref_mut.ensures.len)) in
+          subst (λ (l : List ℕ). (bytes : List ℕ) (given : List Next) → StandsFor c.args.self.now.requests bytes given → StandsFor c.take_in-taken.new.self.requests (bytes ++ take (bytes_of a) l) given)
+          same c.in-Ok.ensures.fed
+          ),
       short_piece buffer (bytes_of a) (omega (arith, c.read_some-read.auto.buf)) x.fits,
     )
 
