@@ -2,6 +2,9 @@
 use Rattle.std.proofs.Common.{◌≡◌, ℕ, true, List, [], ◌∷◌, ◌++◌, ◌⊎◌, inl, inr, map, refl, sym, ap, ◌∙◌, append-nil, append_assoc, subst, Option, flat_map}
 use Rattle.std.specs.Prelude.{◌<◌, ◌≤◌, length, take}
 use Rattle.std.specs.Io.KnownBytes.{Appends}
+use Rattle.asgi_types.specs.declared.facts.Facts.{Facts}
+use Rattle.asgi_types.specs.declared.facts.Framing.TheVariants.{Upgrade}
+use Rattle.asgi_types.specs.declared.scope.Scope.{Scope}
 use Rattle.asgi_types.specs.declared.limits.Limits.{Limits}
 use Rattle.asgi_io.specs.declared.write.Wrote.TheVariants as wrote
 use Rattle.asgi_io.specs.Counting.{RoseBy}
@@ -9,7 +12,7 @@ use Rattle.asgi_io.specs.Writing.{TriesWrites}
 use Rattle.asgi_request.specs.declared.next.Next.{Next}
 use Rattle.asgi_request.specs.declared.next.Next.TheVariants.{Head, Event, Whole, Bad}
 use Rattle.asgi_request.specs.declared.place.Place.{Place}
-use Rattle.asgi_request.specs.declared.place.Place.TheVariants.{Start, Stopped}
+use Rattle.asgi_request.specs.declared.place.Place.TheVariants.{Start, Upgraded, Stopped}
 use Rattle.asgi_request.specs.Head.{record_of}
 use Rattle.asgi_request.specs.Opened.{HasClosed}
 use Rattle.asgi_request.specs.Places.{Reads, shown, Reaches}
@@ -20,7 +23,8 @@ use Rattle.asgi_request.proofs.BodyGrowthLemmas.{Further}
 use Rattle.asgi_request.proofs.DueLemmas.{ClosesAt, runs_compare, same_behind}
 use Rattle.asgi_request.proofs.FirstLemmas.{first_of}
 use Rattle.asgi_request.proofs.HeldLemmas.{between}
-use Rattle.asgi_request.proofs.OpenedLemmas.{closed_at, closed_is_one}
+use Rattle.asgi_request.proofs.OpenedLemmas.{closed_at, closed_is_one, closed_not_upgraded, whole_is_closed}
+use Rattle.asgi_conversation.specs.Persistence.{RefusesWith}
 use Rattle.asgi_request.proofs.OpeningLemmas.{first_opens}
 use Rattle.asgi_request.proofs.UniqueLemmas.{shown-append}
 use Rattle.asgi_response.specs.Exchange.{refusal_text}
@@ -52,7 +56,7 @@ all_whole limits bytes (results ∷ requests) rest are = by (all_whole limits ar
     by (inl none) =
         let x = are.1 in
         inr (
-          Head (scope_of (record_of x.head)) (facts_of (record_of x.head) x.framing) ∷ map Event x.events,
+          Head (scope_of (record_of x.head) x.framing) (facts_of (record_of x.head) x.framing) ∷ map Event x.events,
           ap (λ (l : List Next). results ++ l) none ∙ append-nil results ∙ x.results_are,
         )
     by (inr some) = inr (results ++ some.0, ap (λ (l : List Next). results ++ l) some.1 ∙ sym (append_assoc results some.0 (Whole ∷ [])))
@@ -62,14 +66,20 @@ ends_whole limits bytes given behind x = subst EndsWhole (sym x.2) (all_whole li
 
 module _ (reader : Reading) (bytes : List ℕ) (given : List Next) (behind : List ℕ) (x : HasClosed reader.limits bytes given behind) (stands : StandsFor reader bytes given) where
   at_start : reader.place ≡ Start
-  at_start = between reader.limits bytes given reader.place reader.held stands (ends_whole reader.limits bytes given behind x)
+  at_start = by (between reader.limits bytes given reader.place reader.held stands (ends_whole reader.limits bytes given behind x))
+    where
+      by : (reader.place ≡ Start) ⊎ (reader.place ≡ Upgraded) → reader.place ≡ Start
+      by (inl s) = s
+      by (inr s) =
+          let P : Place → Type 0 = λ p. Reaches reader.limits bytes given p reader.held in
+          absurd (closed_not_upgraded reader.limits bytes given behind reader.held x (subst P s stands))
 
   pub unrefused : (status : ℕ) → IsRefused reader status → ⊥
   unrefused status refused = let never : Start ≡ Stopped refused.0 = sym at_start ∙ refused.1 in cc
 
   -- the bytes that it holds stand behind the requests
   pub behind_is : (held : List ℕ) → WholeGiven reader bytes given held → behind ≡ held
-  behind_is held whole = closed_is_one reader.limits bytes given behind held x whole
+  behind_is held whole = closed_is_one reader.limits bytes given behind held x (whole_is_closed reader bytes given behind held x whole)
 
 -- it is a head or a refusal
 pub opens_next : (limits : Limits) (bytes : List ℕ) (closed : List Next) (behind : List ℕ) (place : Place) (held : List ℕ) (item : Next)
@@ -154,11 +164,17 @@ module _ (limits : Limits) (start now : LineState) (wire : Wire) (read : List �
 
   -- ---- the end with the text of a refusal
 
-  module _ (next : LineState) (reader : Reading) (status : ℕ) (stands : StandsFor reader read (given ++ Bad status ∷ [])) (same : reader.limits ≡ limits)
-      (text : List ℕ) (text_is : text ≡ refusal_text status) (left : next.left ≡ now.left) (reads : next.reads ≡ now.reads) where
-    refused_at : Reaches limits read (given ++ Bad status ∷ []) reader.place reader.held
-    refused_at = reaches reader (given ++ Bad status ∷ []) same stands
+  pub refused_due : (reader : Reading) (status : ℕ) → reader.limits ≡ limits → StandsFor reader read (given ++ Bad status ∷ []) → RefusesWith limits behind status
+  refused_due reader status same stands =
+      loop.refusal_due limits wire.input read given exchanges behind written reader.place reader.held status x.between (reaches reader (given ++ Bad status ∷ []) same stands)
 
+  pub handshake_due : (reader : Reading) (scope : Scope) (facts : Facts) → reader.limits ≡ limits → StandsFor reader read (given ++ Head scope facts ∷ []) → facts.framing ≡ Upgrade
+      → RefusesWith limits behind 501
+  handshake_due reader scope facts same stands e =
+      loop.handshake_due limits wire.input read given exchanges behind written reader.place reader.held scope facts x.between (reaches reader (given ++ Head scope facts ∷ []) same stands) e
+
+  module _ (next : LineState) (status : ℕ) (due : RefusesWith limits behind status)
+      (text : List ℕ) (text_is : text ≡ refusal_text status) (left : next.left ≡ now.left) (reads : next.reads ≡ now.reads) where
     pub ends_refused : Appends now.written next.written text → RoseBy 0 now.failed next.failed → TriesWrites now.writes next.writes (length text) wrote.Done
         → (more : List ℕ) × EndsSo limits start next read exchanges (written ++ more) (Refused status)
     ends_refused appends rose tries = (
@@ -168,7 +184,7 @@ module _ (limits : Limits) (start now : LineState) (wire : Wire) (read : List �
         moved = moved_by_write start now next wire.input read written (refusal_text status) 0 x.moved left reads
             (subst (λ (l : List ℕ). Appends now.written next.written l) text_is appends) rose
             (subst (λ (l : List ℕ). TriesWrites now.writes next.writes (length l) wrote.Done) text_is tries);
-        converses = λ report o c. loop.refused limits wire.input read given exchanges behind written report x.between c reader.place reader.held status refused_at o;
+        converses = λ report o c. loop.refused limits wire.input read given exchanges behind written report x.between c status due o;
         ahead = x.ahead;
       },
     )
@@ -182,7 +198,7 @@ module _ (limits : Limits) (start now : LineState) (wire : Wire) (read : List �
         moved = moved_by_write start now next wire.input read written (take n (refusal_text status)) 1 x.moved left reads
             (subst (λ (l : List ℕ). Appends now.written next.written (take n l)) text_is appends) rose
             (tries_front now.writes next.writes n (refusal_text status) (subst (λ (l : List ℕ). n < length l) text_is within) tries);
-        converses = λ report o c. loop.refusal_failed limits wire.input read given exchanges behind written report x.between c reader.place reader.held status n refused_at
+        converses = λ report o c. loop.refusal_failed limits wire.input read given exchanges behind written report x.between c status n due
             (subst (λ (l : List ℕ). n < length l) text_is within) o;
         ahead = x.ahead;
       },

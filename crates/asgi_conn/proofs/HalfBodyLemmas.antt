@@ -15,7 +15,7 @@ use Rattle.asgi_request.specs.Reading.{Reading, StandsFor, AllGiven, IsRefused, 
 use Rattle.asgi_request.specs.Refusals.{status_of}
 use Rattle.asgi_request.proofs.BodyOfLemmas.{body_is_read}
 use Rattle.asgi_request.proofs.DueLemmas.{events_are_due, whole_is_complete, bad_is_faulty, need_is_partial, no_head as none_inside}
-use Rattle.asgi_request.proofs.OpenedLemmas.{opened_at}
+use Rattle.asgi_request.proofs.OpenedLemmas.{opened_at, opened_plain}
 use Rattle.asgi_request.proofs.RefusalLemmas.{refused_last}
 use Rattle.asgi_exchange.specs.Views.{Break, ByInput, ByCut}
 use Rattle.asgi_exchange.specs.Steps.{is_by_input, is_by_cut}
@@ -90,20 +90,20 @@ module _ (reader : Reading) (read : List ℕ) (opened : List Next) (framing : Fr
   pub first_due : (events : List Incoming) → StandsFor reader read (opened ++ map next.Event events) → IsPrefix events (body_events reader.limits framing arrived)
   first_due events stands =
       events_are_due reader.limits read opened framing arrived (body_events reader.limits framing arrived) (body_state reader.limits framing arrived) reader.place reader.held
-      (opened_at reader.limits read opened framing arrived x) (body_is_read reader.limits framing arrived) events stands
+      (opened_at reader.limits read opened framing arrived x) (opened_plain reader.limits read opened framing arrived x) (body_is_read reader.limits framing arrived) events stands
 
   pub all_due : (events : List Incoming) (body : Body) (end : InputEnd) → HasGiven reader read opened events body → BreaksAt body end → events ≡ body_events reader.limits framing arrived
   all_due events Open end given breaks = absurd breaks
   all_due events (Waits event) end given breaks = absurd breaks
   all_due events Whole end given breaks =
       (whole_is_complete reader.limits read opened framing arrived (body_events reader.limits framing arrived) (body_state reader.limits framing arrived) reader.place reader.held
-      (opened_at reader.limits read opened framing arrived x) (body_is_read reader.limits framing arrived) events given).0
+      (opened_at reader.limits read opened framing arrived x) (opened_plain reader.limits read opened framing arrived x) (body_is_read reader.limits framing arrived) events given).0
   all_due events (Refused status) end given breaks =
       (bad_is_faulty reader.limits read opened framing arrived (body_events reader.limits framing arrived) (body_state reader.limits framing arrived) reader.place reader.held
-      (opened_at reader.limits read opened framing arrived x) (body_is_read reader.limits framing arrived) events status given).0
+      (opened_at reader.limits read opened framing arrived x) (opened_plain reader.limits read opened framing arrived x) (body_is_read reader.limits framing arrived) events status given).0
   all_due events BrokenOff end given breaks =
       (need_is_partial reader.limits read opened framing arrived (body_events reader.limits framing arrived) (body_state reader.limits framing arrived) events given.0
-      (opened_at reader.limits read opened framing arrived x) (body_is_read reader.limits framing arrived) given.1).0
+      (opened_at reader.limits read opened framing arrived x) (opened_plain reader.limits read opened framing arrived x) (body_is_read reader.limits framing arrived) given.1).0
 
   pub why_broken : (events : List Incoming) (body : Body) (end : InputEnd) → HasGiven reader read opened events body → BreaksAt body end
       → (has_ended end ≡ true) ⊎ (is_faulty (body_state reader.limits framing arrived) ≡ true)
@@ -113,13 +113,13 @@ module _ (reader : Reading) (read : List ℕ) (opened : List Next) (framing : Fr
   why_broken events BrokenOff end given breaks = inl breaks
   why_broken events (Refused status) end given breaks =
       let f = (bad_is_faulty reader.limits read opened framing arrived (body_events reader.limits framing arrived) (body_state reader.limits framing arrived) reader.place reader.held
-      (opened_at reader.limits read opened framing arrived x) (body_is_read reader.limits framing arrived) events status given).1 in
+      (opened_at reader.limits read opened framing arrived x) (opened_plain reader.limits read opened framing arrived x) (body_is_read reader.limits framing arrived) events status given).1 in
       inr (ap is_faulty f.1)
 
   pub no_head : (events : List Incoming) (scope : Scope) (facts : Facts) → StandsFor reader read ((opened ++ map next.Event events) ++ next.Head scope facts ∷ []) → ⊥
   no_head events scope facts stands =
       none_inside reader.limits read opened framing arrived (body_events reader.limits framing arrived) (body_state reader.limits framing arrived) reader.place reader.held
-      (opened_at reader.limits read opened framing arrived x) (body_is_read reader.limits framing arrived) events scope facts
+      (opened_at reader.limits read opened framing arrived x) (opened_plain reader.limits read opened framing arrived x) (body_is_read reader.limits framing arrived) events scope facts
       (subst (λ (l : List Next). StandsFor reader read l) (append_assoc opened (map next.Event events) (next.Head scope facts ∷ [])) stands)
 
 -- ---- from what the reader says

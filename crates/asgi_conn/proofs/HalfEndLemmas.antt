@@ -24,7 +24,7 @@ use Rattle.asgi_request.specs.Reading as reading
 use Rattle.asgi_request.specs.Results.{GivesResults}
 use Rattle.asgi_request.proofs.BodyOfLemmas.{body_is_read}
 use Rattle.asgi_request.proofs.DueLemmas.{whole_is_complete, bad_is_faulty, need_is_partial}
-use Rattle.asgi_request.proofs.OpenedLemmas.{opened_at}
+use Rattle.asgi_request.proofs.OpenedLemmas.{opened_at, opened_plain}
 use Rattle.asgi_response.specs.declared.progress.Progress.{Progress}
 use Rattle.asgi_response.specs.declared.progress.Progress.TheVariants.{Nothing, Begun, Complete}
 use Rattle.asgi_response.specs.declared.refusal.Input.{Input}
@@ -215,7 +215,8 @@ module _ (scene : Scene) (now : LineState) (half : ConnHalf) (read : List ℕ) (
           let t = at_end.0 in
           within_reads scene half.wire.limits half.wire.input new.input read more view.arrived x.within (λ e. cc (sym still ∙ e))
           (subst (λ (l : Limits). ReadsAhead l (read ++ more) (requests_in scene)) x.limits
-          (reads_in half.wire.requests read more scene.opened t.events (requests_in scene) x.within.heads short half.body
+          (reads_in half.wire.requests read more scene.opened scene.facts.framing view.arrived
+              (subst (λ (l : Limits). HasOpened l read scene.opened scene.facts.framing view.arrived) (sym x.limits) x.within.opens) t.events (requests_in scene) x.within.heads short half.body
           (subst ReadsAt (sym is_open) tt) t.given (asked unbroke) (λ e. cc (sym is_open ∙ e))))
 
       pub rest_read : HasMoved scene.start line new.input (read ++ more) (scene.before ++ view.written) (failures_at half.stage)
@@ -390,21 +391,21 @@ module _ (scene : Scene) (was : LineState) (half : ConnHalf) (read : List ℕ) (
       let t = ending.0 in
       let at = opened_at half.wire.limits read scene.opened scene.facts.framing view.arrived x.within.opens in
       let w = whole_is_complete half.wire.limits read scene.opened scene.facts.framing view.arrived (body_events half.wire.limits scene.facts.framing view.arrived) (state_in scene half view)
-      half.wire.requests.place half.wire.requests.held at (body_is_read half.wire.limits scene.facts.framing view.arrived) t.events
+      half.wire.requests.place half.wire.requests.held at (opened_plain half.wire.limits read scene.opened scene.facts.framing view.arrived x.within.opens) (body_is_read half.wire.limits scene.facts.framing view.arrived) t.events
       (subst (λ (l : Limits). Reaches l read (scene.opened ++ (map next.Event t.events ++ next.Whole ∷ [])) half.wire.requests.place half.wire.requests.held) x.limits given) in
       (complete w.1.0, refl, λ s. w.1.1)
   known_as (Refused status) given =
       let t = ending.0 in
       let at = opened_at half.wire.limits read scene.opened scene.facts.framing view.arrived x.within.opens in
       let w = bad_is_faulty half.wire.limits read scene.opened scene.facts.framing view.arrived (body_events half.wire.limits scene.facts.framing view.arrived) (state_in scene half view)
-      half.wire.requests.place half.wire.requests.held at (body_is_read half.wire.limits scene.facts.framing view.arrived) t.events status
+      half.wire.requests.place half.wire.requests.held at (opened_plain half.wire.limits read scene.opened scene.facts.framing view.arrived x.within.opens) (body_is_read half.wire.limits scene.facts.framing view.arrived) t.events status
       (subst (λ (l : Limits). Reaches l read (scene.opened ++ (map next.Event t.events ++ next.Bad status ∷ [])) half.wire.requests.place half.wire.requests.held) x.limits given) in
       (faulty w.1.0, ap input.Faulty (sym w.1.2), λ s. w.1.1)
   known_as BrokenOff given =
       let t = ending.0 in
       let at = opened_at half.wire.limits read scene.opened scene.facts.framing view.arrived x.within.opens in
       let w = need_is_partial half.wire.limits read scene.opened scene.facts.framing view.arrived (body_events half.wire.limits scene.facts.framing view.arrived) (state_in scene half view)
-      t.events given.0 at (body_is_read half.wire.limits scene.facts.framing view.arrived)
+      t.events given.0 at (opened_plain half.wire.limits read scene.opened scene.facts.framing view.arrived x.within.opens) (body_is_read half.wire.limits scene.facts.framing view.arrived)
       (subst (λ (l : Limits). GivesResults l read (scene.opened ++ map next.Event t.events) given.0) x.limits given.1) in
       (partial, refl, λ s. w.1)
 

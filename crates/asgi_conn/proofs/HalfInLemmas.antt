@@ -235,7 +235,8 @@ module _ (scene : Scene) (was now : LineState) (half : ConnHalf) (read : List �
       let t = (running_of scene was half read view x is).talks in
       within_reads scene half.wire.limits half.wire.input wire.input read more view.arrived x.within (λ e. absurd (not_both (has_ended half.wire.input) open_still e))
       (subst (λ (l : Limits). ReadsAhead l (read ++ more) (requests_in scene)) x.limits
-      (reads_in half.wire.requests read more scene.opened t.events (requests_in scene) x.within.heads short half.body reads t.given (asked unbroke) few))
+      (reads_in half.wire.requests read more scene.opened scene.facts.framing view.arrived
+      (subst (λ (l : Limits). HasOpened l read scene.opened scene.facts.framing view.arrived) (sym x.limits) x.within.opens) t.events (requests_in scene) x.within.heads short half.body reads t.given (asked unbroke) few))
 
   offers_more : IsOffered (http half.wire.limits scene.facts) (view.arrived ++ more) view.offered view.broken
   offers_more =

@@ -1,17 +1,23 @@
 -- What is read ahead of the requests in hand is bounded, wherever more is read.
-use Rattle.std.proofs.Common.{◌≡◌, ℕ, ◌<◌, ◌≤◌, true, List, [], ◌∷◌, ◌++◌, map, take, length, length-append, refl, sym, ap, ◌∙◌, inr, append_assoc, append-nil, arith}
+use Rattle.std.proofs.Common.{◌≡◌, ℕ, ◌<◌, ◌≤◌, true, List, [], ◌∷◌, ◌++◌, map, take, length, length-append, refl, sym, ap, ◌∙◌, subst, inr, append_assoc, append-nil, arith}
 use Rattle.std.proofs.lemmas.List.{length-take-le}
 use Rattle.asgi_types.specs.declared.facts.Facts.{Facts}
+use Rattle.asgi_types.specs.declared.facts.Framing.{Framing}
 use Rattle.asgi_types.specs.declared.incoming.Incoming.{Incoming}
 use Rattle.asgi_types.specs.declared.limits.Limits.{Limits}
 use Rattle.asgi_types.specs.declared.scope.Scope.{Scope}
 use Rattle.asgi_request.specs.declared.next.Next.{Next}
 use Rattle.asgi_request.specs.declared.next.Next.TheVariants.{Head, Event, Whole}
-use Rattle.asgi_request.specs.Opened.{HasClosed}
-use Rattle.asgi_request.specs.Reading.{Reading, EndsWhole, IsWaiting}
+use Rattle.asgi_request.specs.BodyOf.{body_events, body_state}
+use Rattle.asgi_request.specs.ChunkedBody.{BodyState, complete}
+use Rattle.asgi_request.specs.Opened.{HasOpened, HasClosed}
+use Rattle.asgi_request.specs.Reading.{Reading, StandsFor, EndsWhole, IsWaiting}
+use Rattle.asgi_request.specs.RequestEvents.{ReadsBody}
 use Rattle.asgi_request.specs.Results.{GivesResults}
 use Rattle.asgi_request.proofs.FirstLemmas.{none_gives, whole_alone}
-use Rattle.asgi_request.proofs.OpenedLemmas.{closed_at}
+use Rattle.asgi_request.proofs.BodyOfLemmas.{body_is_read}
+use Rattle.asgi_request.proofs.DueLemmas.{whole_is_complete}
+use Rattle.asgi_request.proofs.OpenedLemmas.{closed_at, opened_at, opened_plain, whole_closes, whole_is_closed}
 use Rattle.asgi_request.proofs.StandardLemmas.{all_results}
 use Rattle.asgi_exchange.proofs.ListLemmas.{prefix_trans, prefix_same}
 use Rattle.asgi_conversation.specs.Persistence.{heads_of}
@@ -115,7 +121,20 @@ within_reads scene limits old new read more arrived x on ahead =
     (within_reads_more limits old read more scene.opened scene.exchanges scene.before scene.scope scene.facts arrived (within_of scene limits old read arrived x)) in
     record { one = w.one; opens = w.opens; heads = x.heads; ahead = ahead }
 
-module _ (reader : Reading) (read more : List ℕ) (opened : List Next) (events : List Incoming) (requests : List (Scope × Facts)) (heads : heads_of opened ≡ requests) (short : length more ≤ piece_size) where
+module _ (reader : Reading) (read more : List ℕ) (opened : List Next) (framing : Framing) (arrived : List ℕ) (x : HasOpened reader.limits read opened framing arrived)
+    (events : List Incoming) (requests : List (Scope × Facts)) (heads : heads_of opened ≡ requests) (short : length more ≤ piece_size) where
+  -- behind a whole request another may follow
+  closes : StandsFor reader read (opened ++ (map Event events ++ Whole ∷ [])) → (behind : List ℕ) × HasClosed reader.limits read (opened ++ (map Event events ++ Whole ∷ [])) behind
+  closes given =
+      let due = body_events reader.limits framing arrived in
+      let known = whole_is_complete reader.limits read opened framing arrived due (body_state reader.limits framing arrived) reader.place reader.held
+      (opened_at reader.limits read opened framing arrived x) (opened_plain reader.limits read opened framing arrived x) (body_is_read reader.limits framing arrived) events given in
+      let behind = known.1.0 in
+      let E : List Incoming → Type 0 = λ l. ReadsBody reader.limits framing arrived l (complete behind) in
+      let S : BodyState → Type 0 = λ s. ReadsBody reader.limits framing arrived due s in
+      let body = subst E (sym known.0) (subst S known.1.1 (body_is_read reader.limits framing arrived)) in
+      (behind, whole_closes reader.limits read opened framing arrived events behind x body)
+
   pub reads_in : (at : Body) → ReadsAt at → HasGiven reader read opened events at → (at ≡ body.Open → IsWaiting reader) → (at ≡ body.Whole → HoldsFew reader)
       → ReadsAhead reader.limits (read ++ more) requests
   reads_in body.Open reads given asked few =
@@ -125,7 +144,8 @@ module _ (reader : Reading) (read more : List ℕ) (opened : List Next) (events 
       let all : List Next = opened ++ (map Event events ++ Whole ∷ []) in
       let ends : EndsWhole all = inr (opened ++ map Event events, sym (append_assoc opened (map Event events) (Whole ∷ []))) in
       let held = few refl read all given ends in
-      reads_behind reader.limits read more all requests held.0 held.1 (heads_behind opened events ∙ heads) held.2 short
+      let closed = closes given in
+      reads_behind reader.limits read more all requests held.0 (whole_is_closed reader read all closed.0 held.0 closed.1 held.1) (heads_behind opened events ∙ heads) held.2 short
   reads_in (body.Waits event) reads given asked few = absurd reads
   reads_in (body.Refused status) reads given asked few = absurd reads
   reads_in body.BrokenOff reads given asked few = absurd reads

@@ -4,6 +4,8 @@ use Rattle.std.specs.Prelude.{◌+◌}
 use Rattle.std.proofs.lemmas.List.Elements.{All-nil}
 use Rattle.asgi_types.specs.declared.end_kind.EndKind.{EndKind}
 use Rattle.asgi_types.specs.declared.facts.Facts.{Facts}
+use Rattle.asgi_types.specs.declared.facts.Framing.{Framing}
+use Rattle.asgi_types.specs.declared.facts.Framing.TheVariants.{Length, Chunked, Upgrade}
 use Rattle.asgi_types.specs.declared.incoming.Incoming.{Incoming}
 use Rattle.asgi_types.specs.declared.limits.Limits.{Limits}
 use Rattle.asgi_types.specs.declared.outgoing.Outgoing.{Outgoing}
@@ -21,7 +23,11 @@ use Rattle.asgi_apps.specs.Scopes.{kind_of}
 use Rattle.asgi_request.specs.declared.next.Next.{Next}
 use Rattle.asgi_request.specs.declared.next.Next.TheVariants.{Need, Head, Bad}
 use Rattle.asgi_request.specs.Reading.{Reading, StandsFor, AllGiven, IsRefused, GoesOn}
+use Rattle.asgi_request.specs.declared.head.HeadRecord.{HeadRecord}
+use Rattle.asgi_request.specs.Head.{record_of}
 use Rattle.asgi_request.specs.Results.{Opens}
+use Rattle.asgi_request.specs.Scopes.{scope_of}
+use Rattle.asgi_conversation.specs.Persistence.{RefusesWith}
 use Rattle.asgi_conversation.specs.declared.input.InputEnd.{InputEnd}
 use Rattle.asgi_conversation.specs.declared.input.InputEnd.TheVariants.{OpenStill}
 use Rattle.asgi_conversation.specs.declared.report.Outcome.{Outcome}
@@ -78,6 +84,13 @@ counts_still turn_limit idle_limit turned before after turns idle counts =
 pub given_as : (old new : Reading) (item is : Next) → item ≡ is → is ≢ Need → (item ≢ Need → ((status : ℕ) → IsRefused old status → ⊥) → GoesOn old new item)
     → ((status : ℕ) → IsRefused old status → ⊥) → GoesOn old new is
 given_as old new item is e some gives free = subst (λ (n : Next). GoesOn old new n) e (gives (λ none. some (sym e ∙ none)) free)
+
+-- the scope of a request that is no opening handshake
+plain_is_http : (client server : Option Peer) (state : List (List ℕ × StateValue)) (head : HeadRecord) (framing : Framing) → framing ≢ Upgrade
+    → kind_of (scope_with (scope_of head framing) client server state) ≡ Http
+plain_is_http client server state head (Length n) plain = refl
+plain_is_http client server state head Chunked plain = refl
+plain_is_http client server state head Upgrade plain = absurd (plain refl)
 
 -- ---- the beginning
 
@@ -171,33 +184,50 @@ module _ (answers : Scope → List Incoming → List Outgoing → Option EndKind
         pub opens : Opens item
         opens = between.no_event limits start now wire s.read s.stands.0 s.exchanges s.stands.1 s.written x later item limits_stay gave
 
+      -- a text was written with no exchange
+      answered_so : (next : LineState) (result : Place) → (text : List ℕ) × IsAt result limits start next s.read s.exchanges (s.written ++ text)
+          → Serving answers limits client server state start next tally result
+      answered_so next result y = record {
+        read = s.read;
+        written = s.written ++ y.0;
+        exchanges = s.exchanges;
+        promised = s.promised;
+        counted = s.counted;
+        stands = y.1;
+      }
+
       -- a refusal
       pub refused : (next : LineState) (result : Place) (status : ℕ) → (((status : ℕ) → IsRefused wire.requests status → ⊥) → GoesOn wire.requests later (Bad status))
           → ((limits : Limits) (start : LineState) (wire : Wire) (read : List ℕ) (given : List Next) (exchanges : List Exchanged) (behind written : List ℕ)
-          → Rests limits start now wire read given exchanges behind written
-          → (reader : Reading) → StandsFor reader read (given ++ Bad status ∷ []) → reader.limits ≡ limits
+          → Rests limits start now wire read given exchanges behind written → RefusesWith limits behind status
           → (text : List ℕ) × IsAt result limits start next read exchanges (written ++ text))
           → Serving answers limits client server state start next tally result
       refused next result status goes_on refuses =
-          let y = refuses limits start wire s.read s.stands.0 s.exchanges s.stands.1 s.written x later (gave (Bad status) goes_on) limits_stay in
-          record {
-            read = s.read;
-            written = s.written ++ y.0;
-            exchanges = s.exchanges;
-            promised = s.promised;
-            counted = s.counted;
-            stands = y.1;
-          }
+          answered_so next result (refuses limits start wire s.read s.stands.0 s.exchanges s.stands.1 s.written x
+          (between.refused_due limits start now wire s.read s.stands.0 s.exchanges s.stands.1 s.written x later status limits_stay (gave (Bad status) goes_on)))
+
+      -- an opening handshake
+      pub handshaken : (next : LineState) (result : Place) (scope : Scope) (facts : Facts) → (((status : ℕ) → IsRefused wire.requests status → ⊥) → GoesOn wire.requests later (Head scope facts))
+          → facts.framing ≡ Upgrade
+          → ((limits : Limits) (start : LineState) (wire : Wire) (read : List ℕ) (given : List Next) (exchanges : List Exchanged) (behind written : List ℕ)
+          → Rests limits start now wire read given exchanges behind written → RefusesWith limits behind 501
+          → (text : List ℕ) × IsAt result limits start next read exchanges (written ++ text))
+          → Serving answers limits client server state start next tally result
+      handshaken next result scope facts goes_on e refuses =
+          answered_so next result (refuses limits start wire s.read s.stands.0 s.exchanges s.stands.1 s.written x
+          (between.handshake_due limits start now wire s.read s.stands.0 s.exchanges s.stands.1 s.written x later scope facts limits_stay (gave (Head scope facts) goes_on) e))
 
       -- a head
-      module _ (scope : Scope) (facts : Facts) (goes_on : ((status : ℕ) → IsRefused wire.requests status → ⊥) → GoesOn wire.requests later (Head scope facts)) where
+      module _ (scope : Scope) (facts : Facts) (goes_on : ((status : ℕ) → IsRefused wire.requests status → ⊥) → GoesOn wire.requests later (Head scope facts))
+          (plain : facts.framing ≢ Upgrade) where
         in_one : (arrived : List ℕ) × Within limits wire.input s.read (s.stands.0 ++ Head scope facts ∷ []) s.exchanges s.written scope facts arrived
         in_one = loop.begins limits wire.input s.read s.stands.0 [] s.exchanges s.stands.1 s.written later.place later.held scope facts x.between
-            (subst (λ (l : Limits). StandsFor (record later { limits = l }) s.read (s.stands.0 ++ Head scope facts ∷ [])) limits_stay (gave (Head scope facts) goes_on))
+            (subst (λ (l : Limits). StandsFor (record later { limits = l }) s.read (s.stands.0 ++ Head scope facts ∷ [])) limits_stay (gave (Head scope facts) goes_on)) plain
 
         pub is_http : (whole : Scope) → whole ≡ scope_with scope client server state → kind_of whole ≡ Http
         is_http whole is = subst (λ (w : Scope). kind_of w ≡ Http) (sym is)
-            (subst (λ (w : Scope). kind_of (scope_with w client server state) ≡ Http) (sym in_one.1.one.head.scope_is) refl)
+            (subst (λ (w : Scope). kind_of (scope_with w client server state) ≡ Http) (sym in_one.1.one.head.scope_is)
+            (plain_is_http client server state (record_of in_one.1.one.head.head) facts.framing plain))
 
         scene : Scene
         scene = record {

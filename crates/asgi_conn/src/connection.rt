@@ -12,13 +12,14 @@ ghost use Rattle.asgi_io.specs.declared.turns.Turn.{Turn};
 ghost use Rattle.asgi_io.specs.Counting.{RoseBy};
 ghost use Rattle.asgi_io.specs.Turns.{CountsTurns};
 ghost use Rattle.asgi_request.specs.declared.next.Next.{Next};
-ghost use Rattle.asgi_request.specs.Reading.{Reading, StandsFor, AllGiven};
+ghost use Rattle.asgi_request.specs.Reading.{AllGiven};
 ghost use Rattle.asgi_response.specs.Exchange.{refusal_text};
 ghost use Rattle.asgi_response.specs.Refusals.{is_refusal};
 ghost use Rattle.asgi_apps.specs.Scopes.{kind_of};
 ghost use Rattle.asgi_conversation.specs.declared.following.Following.{Following};
 ghost use Rattle.asgi_conversation.specs.Behind.{IsBlank};
 ghost use Rattle.asgi_conversation.specs.Exchanges.{Exchanged};
+ghost use Rattle.asgi_conversation.specs.Persistence.{RefusesWith};
 ghost use Rattle.asgi_conversation.specs.Promised.{ArePromised};
 ghost use Rattle.asgi_conversation.specs.TaskEnds.{has_ended};
 ghost use Rattle.asgi_conn.specs.Half.{Scene};
@@ -40,8 +41,11 @@ use asgi_io::{Pause, Turns};
 use asgi_pipes::{AppEnd, EndKind, Pipes};
 use asgi_request::Next;
 use asgi_response::{ResponseText, refusal_text};
-use asgi_types::{Facts, Kind, Limits, Peer, Scope, State};
+use asgi_types::{Facts, Framing, Kind, Limits, Peer, Scope, State};
 use std::alloc::{AllocError, Global};
+
+/// The status that answers an opening handshake, since no sessions are served (RFC 9110, section 15.6.2).
+const NOT_IMPLEMENTED: u16 = 501;
 
 /// Where a connection stands from request to request.
 #[derive(Drop)]
@@ -145,6 +149,9 @@ fn step<A: Application, L: Line, U: Runner, P: Pause>(
         Ok(Next::Need) => wait(wire, line, pause, &mut tally.turns),
         Ok(Next::Bad(status)) => refuse(status, line),
         Ok(Next::Head(scope, facts)) => {
+            if let Framing::Upgrade = facts.framing {
+                return refuse(NOT_IMPLEMENTED, line);
+            }
             let Ok(scope) = scope_of(wire.alloc, scope, client, server, state) else {
                 return Place::Ended(Outcome::NoMemory);
             };
@@ -272,8 +279,7 @@ fn is_blank(bytes: &[u8]) -> bool
 fn refuse<L: Line>(status: u16, line: &mut L) -> Place
     requires { IsTrue (is_refusal status) }
     ensures refuses { (limits : Limits) (start : LineState) (wire : Wire) (read : List ℕ) (given : List Next) (exchanges : List Exchanged) (behind written : List ℕ)
-        → Rests limits start (state_of L.Reads L.Counts line.old) wire read given exchanges behind written
-        → (reader : Reading) → StandsFor reader read (given ++ Next.Bad status ∷ []) → reader.limits ≡ limits
+        → Rests limits start (state_of L.Reads L.Counts line.old) wire read given exchanges behind written → RefusesWith limits behind status
         → (text : List ℕ) × IsAt result limits start (state_of L.Reads L.Counts line.new) read exchanges (written ++ text) }
     ensures ends { ¬ (IsBetween result) }
     ensures not_idle { result ≢ Place.Ended Outcome.Idle }

@@ -1,8 +1,10 @@
 -- What a loop over a reader carries from one exchange to the next, and how it ends between two of them.
-use Rattle.std.proofs.Common.{◌≡◌, ℕ, true, false, List, [], ◌∷◌, ◌++◌, ◌⊎◌, inl, map, refl, sym, ap, ◌∙◌, append-nil, subst}
+use Rattle.std.proofs.Common.{◌≡◌, ℕ, true, false, List, [], ◌∷◌, ◌++◌, ◌⊎◌, inl, inr, map, refl, sym, ap, ◌∙◌, append-nil, subst}
 use Rattle.std.specs.Prelude.{◌≢◌, ◌<◌, length, take}
 use Rattle.asgi_types.specs.declared.end_kind.EndKind.{EndKind}
 use Rattle.asgi_types.specs.declared.facts.Facts.{Facts}
+use Rattle.asgi_types.specs.declared.facts.Framing.TheVariants.{Upgrade}
+use Rattle.asgi_request.specs.declared.refusal.Refusal.TheVariants.{NotImplemented}
 use Rattle.asgi_types.specs.declared.incoming.Incoming.{Incoming}
 use Rattle.asgi_types.specs.declared.limits.Limits.{Limits}
 use Rattle.asgi_types.specs.declared.scope.Scope.{Scope}
@@ -17,7 +19,8 @@ use Rattle.asgi_request.specs.declared.place.Place.TheVariants.{Start}
 use Rattle.asgi_request.specs.Places.{Reaches}
 use Rattle.asgi_request.proofs.BodyOfLemmas.{body_is_read}
 use Rattle.asgi_request.proofs.DueLemmas.{whole_is_complete}
-use Rattle.asgi_request.proofs.OpenedLemmas.{closed_at, has_closed, closed_stays, opened_at, opened_stays, next_opens, whole_closes, closed_is_one}
+use Rattle.asgi_request.proofs.OpenedLemmas.{closed_at, has_closed, closed_stays, opened_at, opened_plain, opened_stays, next_opens, whole_closes, closed_is_one}
+use Rattle.asgi_request.proofs.NextLemmas.{next_head, begins_with_handshake}
 use Rattle.asgi_request.proofs.StartLemmas.{next_refusal, head_is_open}
 use Rattle.asgi_response.specs.Exchange.{refusal_text}
 use Rattle.asgi_response.specs.Progress.{progress_of}
@@ -35,7 +38,7 @@ use Rattle.asgi_conversation.specs.declared.input.InputEnd.{InputEnd}
 use Rattle.asgi_conversation.specs.declared.input.InputEnd.TheVariants.{AtEnd, Failed}
 use Rattle.asgi_conversation.specs.TaskEnds.{has_ended}
 use Rattle.asgi_conversation.specs.Exchanges.{Exchanged}
-use Rattle.asgi_conversation.specs.Persistence.{EndsBetween, CountsExchanges, Converses}
+use Rattle.asgi_conversation.specs.Persistence.{RefusesWith, EndsBetween, CountsExchanges, Converses}
 use Rattle.asgi_conversation.specs.SoFar.{exchanged, Between, Within, TaskIsOver}
 use Rattle.asgi_conversation.proofs.RequestLemmas.{nothing_due, none_closed}
 use Rattle.asgi_conversation.proofs.SoFarLemmas.{start, grows, sees_end, one_grows, one_more, ends_between}
@@ -71,10 +74,10 @@ end_seen_within limits old new read opened exchanges written scope facts arrived
     }
 
 pub begins : (limits : Limits) (end : InputEnd) (read : List ℕ) (given more : List Next) (exchanges : List Exchanged) (behind written : List ℕ) (place : Place) (held : List ℕ) (scope : Scope) (facts : Facts)
-    → Between limits end read given exchanges behind written → Reaches limits read (given ++ Head scope facts ∷ more) place held
+    → Between limits end read given exchanges behind written → Reaches limits read (given ++ Head scope facts ∷ more) place held → facts.framing ≢ Upgrade
     → (arrived : List ℕ) × Within limits end read (given ++ Head scope facts ∷ []) exchanges written scope facts arrived
-begins limits end read given more exchanges behind written place held scope facts b r =
-    let n = next_opens limits read given behind place held scope facts more b.closed r in
+begins limits end read given more exchanges behind written place held scope facts b r plain =
+    let n = next_opens limits read given behind place held scope facts more b.closed r plain in
     (n.0, record { one = record { behind = behind; so_far = b.so_far; head = n.1 }; opens = n.2 })
 
 kept_is_begun : (facts : Facts) (w : World ℕ ℕ) → progress_of facts (taken_of w.conn) ≡ Complete false → progress_of facts (taken_of w.conn) ≢ Nothing
@@ -91,7 +94,7 @@ keeps_on limits end read opened exchanges written scope facts w k events place h
     let due = body_events limits facts.framing w.conn.arrived in
     let state = body_state limits facts.framing w.conn.arrived in
     let known = whole_is_complete limits read opened facts.framing w.conn.arrived due state place held
-    (opened_at limits read opened facts.framing w.conn.arrived x.opens) (body_is_read limits facts.framing w.conn.arrived) events r in
+    (opened_at limits read opened facts.framing w.conn.arrived x.opens) (opened_plain limits read opened facts.framing w.conn.arrived x.opens) (body_is_read limits facts.framing w.conn.arrived) events r in
     let behind = known.1.0 in
     let E : List Incoming → Type 0 = λ l. ReadsBody limits facts.framing w.conn.arrived l (complete behind) in
     let S : BodyState → Type 0 = λ s. ReadsBody limits facts.framing w.conn.arrived due s in
@@ -110,6 +113,22 @@ pub behind_is_held : (limits : Limits) (end : InputEnd) (read : List ℕ) (given
     → Between limits end read given exchanges behind written → Reaches limits read given Start held → behind ≡ held
 behind_is_held limits end read given exchanges behind written held b r = closed_is_one limits read given behind held b.closed (has_closed limits read given held r)
 
+-- ---- what is refused there
+
+-- a refusal that the reader gives
+pub refusal_due : (limits : Limits) (end : InputEnd) (read : List ℕ) (given : List Next) (exchanges : List Exchanged) (behind written : List ℕ) (place : Place) (held : List ℕ) (status : ℕ)
+    → Between limits end read given exchanges behind written → Reaches limits read (given ++ Bad status ∷ []) place held → RefusesWith limits behind status
+refusal_due limits end read given exchanges behind written place held status b r =
+    let why = next_refusal limits read given behind place held status (closed_at limits read given behind b.closed) r in
+    (why.0, inl why.1, why.2)
+
+-- an opening handshake that it gives
+pub handshake_due : (limits : Limits) (end : InputEnd) (read : List ℕ) (given : List Next) (exchanges : List Exchanged) (behind written : List ℕ) (place : Place) (held : List ℕ) (scope : Scope) (facts : Facts)
+    → Between limits end read given exchanges behind written → Reaches limits read (given ++ Head scope facts ∷ []) place held → facts.framing ≡ Upgrade → RefusesWith limits behind 501
+handshake_due limits end read given exchanges behind written place held scope facts b r e =
+    let n = next_head limits read given behind place held scope facts [] (closed_at limits read given behind b.closed) r in
+    (NotImplemented, inr ((scope, facts, n.0, begins_with_handshake limits behind scope facts n.0 n.1 e), refl), refl)
+
 -- ---- the ends between two exchanges
 
 ends_as : (limits : Limits) (end : InputEnd) (read : List ℕ) (exchanges : List Exchanged) (behind written text : List ℕ) (given : List Next) (outcome : Outcome) (report : Report)
@@ -127,16 +146,13 @@ ends_silent limits end read exchanges behind written given outcome report b e en
 
 module _ (limits : Limits) (end : InputEnd) (read : List ℕ) (given : List Next) (exchanges : List Exchanged) (behind written : List ℕ) (report : Report)
     (b : Between limits end read given exchanges behind written) (c : CountsExchanges report exchanges) where
-  pub refused : (place : Place) (held : List ℕ) (status : ℕ) → Reaches limits read (given ++ Bad status ∷ []) place held → report.outcome ≡ Refused status
+  pub refused : (status : ℕ) → RefusesWith limits behind status → report.outcome ≡ Refused status
       → Converses limits end read exchanges (written ++ refusal_text status) report
-  refused place held status r e =
-      let why = next_refusal limits read given behind place held status (closed_at limits read given behind b.closed) r in
-      ends_as limits end read exchanges behind written (refusal_text status) given (Refused status) report b e (why.0, why.1, why.2, refl) c
+  refused status why e = ends_as limits end read exchanges behind written (refusal_text status) given (Refused status) report b e (why.0, why.1, why.2, refl) c
 
-  pub refusal_failed : (place : Place) (held : List ℕ) (status n : ℕ) → Reaches limits read (given ++ Bad status ∷ []) place held → n < length (refusal_text status)
+  pub refusal_failed : (status n : ℕ) → RefusesWith limits behind status → n < length (refusal_text status)
       → report.outcome ≡ WriteFailed n → Converses limits end read exchanges (written ++ take n (refusal_text status)) report
-  refusal_failed place held status n r h e =
-      let why = next_refusal limits read given behind place held status (closed_at limits read given behind b.closed) r in
+  refusal_failed status n why h e =
       ends_as limits end read exchanges behind written (take n (refusal_text status)) given (WriteFailed n) report b e
       (why.0, why.1, subst (λ (s : ℕ). n < length (refusal_text s)) why.2 h, ap (λ (s : ℕ). take n (refusal_text s)) why.2) c
 

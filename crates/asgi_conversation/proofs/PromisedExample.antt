@@ -19,6 +19,7 @@ use Rattle.asgi_request.specs.HeadText.{EndsAsHead, is_line_break}
 use Rattle.asgi_request.specs.RequestEvents.{last_event}
 use Rattle.asgi_request.proofs.HeadExamples.{example_limits, post_text, post_scope, post_facts, post_begins}
 use Rattle.asgi_request.proofs.TextLemmas.{tells, head_search_for}
+use Rattle.asgi_request.proofs.OpenedLemmas.{http_scope}
 use Rattle.asgi_response.specs.ReadBack.{IsSendable}
 use Rattle.asgi_response.proofs.ReadBackLemmas.{own_sendable}
 use Rattle.asgi_apps.specs.Answers.{start_of}
@@ -109,7 +110,7 @@ is_a_conversation = record {
 is_promised : IsPromised echo_promise None None [] posted
 unfolding posted
 is_promised =
-    subst (λ (s : Scope). echo_promise (scope_with s None None []) (last_event (codes "abc") ∷ []) (echo_events (last_event (codes "abc") ∷ [])) (Some Returned)) (sym (post_begins []).scope_is)
+    subst (λ (s : Scope). echo_promise (scope_with s None None []) (last_event (codes "abc") ∷ []) (echo_events (last_event (codes "abc") ∷ [])) (Some Returned)) (sym (http_scope example_limits _ post_scope post_facts [] (post_begins [])))
     (refl, λ e. record { before = []; last = last_event (codes "abc"); in_order = refl; ends = refl })
 
 -- the premises of the laws hold of it

@@ -30,7 +30,7 @@ use Rattle.asgi_conversation.specs.SoFar.{SoFar}
 -- ---- no further request
 
 pub nothing_due : (limits : Limits) (bytes : List ℕ) → IsUnfinished EndsAsHead limits.max_head bytes → NothingIsDue limits bytes
-nothing_due limits bytes open_ = (bytes, record { requests = []; begun = []; whole = refl; goes_on = inl (open_, refl); results_are = refl })
+nothing_due limits bytes open_ = (bytes, record { requests = []; behind = bytes; last = []; whole = refl; goes_on = inl (inl (open_, refl), refl); results_are = refl })
 
 pub none_closed : (limits : Limits) (bytes : List ℕ) → HasClosed limits bytes [] bytes
 none_closed limits bytes = ([], refl, refl)

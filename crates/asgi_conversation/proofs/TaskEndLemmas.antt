@@ -20,7 +20,7 @@ use Rattle.asgi_request.specs.declared.refusal.Refusal.{Refusal}
 use Rattle.asgi_request.specs.Places.{Reaches}
 use Rattle.asgi_request.proofs.BodyOfLemmas.{body_is_read}
 use Rattle.asgi_request.proofs.DueLemmas.{whole_is_complete, bad_is_faulty, need_is_partial}
-use Rattle.asgi_request.proofs.OpenedLemmas.{opened_at}
+use Rattle.asgi_request.proofs.OpenedLemmas.{opened_at, opened_plain}
 use Rattle.asgi_response.specs.Exchange.{refusal_text, replacement_text}
 use Rattle.asgi_response.specs.Progress.{progress_of}
 use Rattle.asgi_response.specs.Response.{response_text}
@@ -87,7 +87,7 @@ module _ (limits : Limits) (end : InputEnd) (read : List ℕ) (opened : List Nex
     known_whole : Reaches limits read (opened ++ (map Event events ++ Whole ∷ [])) place held → (behind : List ℕ) × (body_state limits facts.framing w.conn.arrived ≡ complete behind)
     known_whole r =
         (whole_is_complete limits read opened facts.framing w.conn.arrived (body_events limits facts.framing w.conn.arrived) (body_state limits facts.framing w.conn.arrived) place held
-        (opened_at limits read opened facts.framing w.conn.arrived x.opens) (body_is_read limits facts.framing w.conn.arrived) events r).1
+        (opened_at limits read opened facts.framing w.conn.arrived x.opens) (opened_plain limits read opened facts.framing w.conn.arrived x.opens) (body_is_read limits facts.framing w.conn.arrived) events r).1
 
     pub leaves_off_behind : Reaches limits read (opened ++ (map Event events ++ Whole ∷ [])) place held → (is_by_input w.conn.broken ≡ true → has_ended end ≡ true)
         → progress_of facts (taken_of w.conn) ≡ Begun → w.conn.written ≡ response_text facts (taken_of w.conn) → report.outcome ≡ Finished
@@ -111,7 +111,7 @@ module _ (limits : Limits) (end : InputEnd) (read : List ℕ) (opened : List Nex
         → (why : Refusal) × (body_state limits facts.framing w.conn.arrived ≡ faulty why) × (status ≡ status_of why)
     known_bad status r =
         (bad_is_faulty limits read opened facts.framing w.conn.arrived (body_events limits facts.framing w.conn.arrived) (body_state limits facts.framing w.conn.arrived) place held
-        (opened_at limits read opened facts.framing w.conn.arrived x.opens) (body_is_read limits facts.framing w.conn.arrived) events status r).1
+        (opened_at limits read opened facts.framing w.conn.arrived x.opens) (opened_plain limits read opened facts.framing w.conn.arrived x.opens) (body_is_read limits facts.framing w.conn.arrived) events status r).1
 
     pub refuses_body : (status : ℕ) → Reaches limits read (opened ++ (map Event events ++ Bad status ∷ [])) place held
         → progress_of facts (taken_of w.conn) ≡ Nothing → w.conn.written ≡ response_text facts (taken_of w.conn) ++ refusal_text status → report.outcome ≡ Refused status
@@ -152,7 +152,7 @@ module _ (limits : Limits) (end : InputEnd) (read : List ℕ) (opened : List Nex
         known : body_state limits facts.framing w.conn.arrived ≡ partial
         known =
             (need_is_partial limits read opened facts.framing w.conn.arrived (body_events limits facts.framing w.conn.arrived) (body_state limits facts.framing w.conn.arrived) events rest
-            (opened_at limits read opened facts.framing w.conn.arrived x.opens) (body_is_read limits facts.framing w.conn.arrived) g).1
+            (opened_at limits read opened facts.framing w.conn.arrived x.opens) (opened_plain limits read opened facts.framing w.conn.arrived x.opens) (body_is_read limits facts.framing w.conn.arrived) g).1
 
         by : (progress_of facts (taken_of w.conn) ≡ Nothing) ⊎ ((progress_of facts (taken_of w.conn) ≡ Complete false)
             ⊎ ((progress_of facts (taken_of w.conn) ≡ Begun) × (is_by_input w.conn.broken ≡ true)))

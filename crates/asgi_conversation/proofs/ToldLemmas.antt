@@ -19,6 +19,7 @@ use Rattle.asgi_types.specs.declared.state.StateValue.{StateValue}
 use Rattle.asgi_protocol.specs.Lawful.{IsClosed}
 use Rattle.asgi_request.specs.ChunkedBody.{BodyState, partial, complete, faulty}
 use Rattle.asgi_request.specs.RequestEvents.{more_event}
+use Rattle.asgi_request.proofs.OpenedLemmas.{http_scope}
 use Rattle.asgi_response.specs.Progress.{closes_behind, progress_in, progress_of}
 use Rattle.asgi_response.specs.declared.progress.Progress.{Progress}
 use Rattle.asgi_response.specs.declared.progress.Progress.TheVariants.{Nothing, Begun, Complete}
@@ -77,7 +78,7 @@ complete_needs_no_break false state broke = refl
 hello_tells : (limits : Limits) (end : InputEnd) (bytes : List ℕ) (x : Exchanged) (state : BodyState) (client server : Option Peer) (values : List (List ℕ × StateValue))
     → (s : ServesFirst limits end false bytes x state) → x.ended ≡ Some Returned → IsPromised hello_promise client server values x → Told x hello_events state
 hello_tells limits end bytes x state client server values s r p =
-    let said : x.said ≡ hello_events = returned hello_promise client server values x _ s.head.scope_is r p in
+    let said : x.said ≡ hello_events = returned hello_promise client server values x _ (http_scope limits bytes x.scope x.facts s.arrived s.head) r p in
     record {
       said_is = said;
       next = λ next f.
@@ -191,7 +192,7 @@ module _ (limits : Limits) (end : InputEnd) (bytes : List ℕ) (x : Exchanged) (
 echo_tells : (limits : Limits) (end : InputEnd) (bytes : List ℕ) (x : Exchanged) (state : BodyState) (client server : Option Peer) (values : List (List ℕ × StateValue))
     → (s : ServesFirst limits end false bytes x state) → x.ended ≡ Some Returned → IsPromised echo_promise client server values x → Told x (echo_events s.events) state
 echo_tells limits end bytes x state client server values s r p =
-    let kept : (x.said ≡ echo_events x.heard) × (scope_kind.Http ≡ scope_kind.Http → HeardAll x.heard) = returned echo_promise client server values x _ s.head.scope_is r p in
+    let kept : (x.said ≡ echo_events x.heard) × (scope_kind.Http ≡ scope_kind.Http → HeardAll x.heard) = returned echo_promise client server values x _ (http_scope limits bytes x.scope x.facts s.arrived s.head) r p in
     echo_told limits end bytes x state s r kept.0 (kept.1 refl)
 
 echo_grows : (events others : List Incoming) → IsPrefix events others → IsPrefix (echo_events events) (echo_events others)

@@ -1,8 +1,9 @@
 //! Laws of the definitions, each the contract of a function that does nothing.
-ghost use Rattle.std.specs.Prelude.{◌≡◌, ◌<◌, ◌⊎◌, ◌++◌, ◌∷◌, [], map, length, take, List, ℕ, true, false, Some};
+ghost use Rattle.std.specs.Prelude.{◌≡◌, ◌≢◌, ◌<◌, ◌⊎◌, ◌++◌, ◌∷◌, [], map, length, take, List, ℕ, true, false, Some};
 ghost use mathlib.Core.List.{IsPrefix};
 ghost use Rattle.asgi_types.specs.declared.end_kind.EndKind.{EndKind};
 ghost use Rattle.asgi_types.specs.declared.facts.Facts.{Facts};
+ghost use Rattle.asgi_types.specs.declared.facts.Framing.{Framing};
 ghost use Rattle.asgi_types.specs.declared.incoming.Incoming.{Incoming};
 ghost use Rattle.asgi_types.specs.declared.limits.Limits.{Limits};
 ghost use Rattle.asgi_types.specs.declared.outgoing.Outgoing.{Outgoing};
@@ -115,7 +116,7 @@ pub fn a_reader_leads_from_exchange_to_exchange()
     ensures sees_end { (limits : Limits) (old new : InputEnd) (read : List ℕ) (given : List Next) (exchanges : List Exchanged) (behind written : List ℕ)
         → (has_ended old ≡ true → has_ended new ≡ true) → Between limits old read given exchanges behind written → Between limits new read given exchanges behind written }
     ensures begins { (reader : Reading) (end : InputEnd) (read : List ℕ) (given more : List Next) (exchanges : List Exchanged) (behind written : List ℕ) (scope : Scope) (facts : Facts)
-        → Between reader.limits end read given exchanges behind written → StandsFor reader read (given ++ Next.Head scope facts ∷ more)
+        → Between reader.limits end read given exchanges behind written → StandsFor reader read (given ++ Next.Head scope facts ∷ more) → facts.framing ≢ Framing.Upgrade
         → (arrived : List ℕ) × Within reader.limits end read (given ++ Next.Head scope facts ∷ []) exchanges written scope facts arrived }
     ensures reads_more_within { (limits : Limits) (end : InputEnd) (read more : List ℕ) (opened : List Next) (exchanges : List Exchanged) (written : List ℕ) (scope : Scope) (facts : Facts) (arrived : List ℕ)
         → Within limits end read opened exchanges written scope facts arrived → Within limits end (read ++ more) opened exchanges written scope facts (arrived ++ more) }
@@ -133,7 +134,8 @@ pub fn a_reader_leads_from_exchange_to_exchange()
         → Between reader.limits end read given exchanges behind written → StandsFor reader read given → reader.place ≡ Place.Start → behind ≡ reader.held }
 {}
 
-/// Between two exchanges the refusal that a reader gives, all given at the end of the input, or a limit makes a conversation.
+/// Between two exchanges the refusal that a reader gives, an opening handshake, all given at the end of the input, or a limit
+/// makes a conversation.
 pub fn a_reader_ends_a_conversation()
     ensures refused { (reader : Reading) (end : InputEnd) (read : List ℕ) (given : List Next) (exchanges : List Exchanged) (behind written : List ℕ) (report : Report) (status : ℕ)
         → Between reader.limits end read given exchanges behind written → CountsExchanges report exchanges
@@ -143,6 +145,10 @@ pub fn a_reader_ends_a_conversation()
         → Between reader.limits end read given exchanges behind written → CountsExchanges report exchanges
         → StandsFor reader read (given ++ Next.Bad status ∷ []) → n < length (refusal_text status) → report.outcome ≡ Outcome.WriteFailed n
         → Converses reader.limits end read exchanges (written ++ take n (refusal_text status)) report }
+    ensures handshake { (reader : Reading) (end : InputEnd) (read : List ℕ) (given : List Next) (exchanges : List Exchanged) (behind written : List ℕ) (report : Report) (scope : Scope) (facts : Facts)
+        → Between reader.limits end read given exchanges behind written → CountsExchanges report exchanges
+        → StandsFor reader read (given ++ Next.Head scope facts ∷ []) → facts.framing ≡ Framing.Upgrade → report.outcome ≡ Outcome.Refused 501
+        → Converses reader.limits end read exchanges (written ++ refusal_text 501) report }
     ensures finished { (reader : Reading) (end : InputEnd) (read : List ℕ) (given : List Next) (exchanges : List Exchanged) (behind written : List ℕ) (report : Report)
         → Between reader.limits end read given exchanges behind written → CountsExchanges report exchanges
         → AllGiven reader read given → end ≡ AtEnd → IsBlank behind → report.outcome ≡ Outcome.Finished

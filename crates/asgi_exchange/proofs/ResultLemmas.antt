@@ -13,7 +13,7 @@ use Rattle.asgi_request.specs.Opened.{HasOpened}
 use Rattle.asgi_request.specs.Reading.{Reading, StandsFor, AllGiven}
 use Rattle.asgi_request.proofs.BodyOfLemmas.{body_is_read}
 use Rattle.asgi_request.proofs.DueLemmas.{events_are_due, whole_is_complete, bad_is_faulty, need_is_partial}
-use Rattle.asgi_request.proofs.OpenedLemmas.{opened_at, opened_stays}
+use Rattle.asgi_request.proofs.OpenedLemmas.{opened_at, opened_plain, opened_stays}
 use Rattle.asgi_exchange.specs.Exchange.{Exchange}
 use Rattle.asgi_exchange.specs.Http.{http}
 use Rattle.asgi_exchange.specs.Items.{end_of}
@@ -60,7 +60,7 @@ pub event_is_offered : (reader : Reading) (bytes : List ℕ) (opened : List Next
 event_is_offered reader bytes opened facts conn event x stands b =
     let due = body_events reader.limits facts.framing conn.arrived in
     let p = events_are_due reader.limits bytes opened facts.framing conn.arrived due (body_state reader.limits facts.framing conn.arrived) reader.place reader.held
-    (opened_at reader.limits bytes opened facts.framing conn.arrived x) (body_is_read reader.limits facts.framing conn.arrived) (conn.offered ++ event ∷ []) stands in
+    (opened_at reader.limits bytes opened facts.framing conn.arrived x) (opened_plain reader.limits bytes opened facts.framing conn.arrived x) (body_is_read reader.limits facts.framing conn.arrived) (conn.offered ++ event ∷ []) stands in
     next_is_offered (http reader.limits facts) conn event p.0 b p.1
 
 pub broken_off : (reader : Reading) (bytes : List ℕ) (opened : List Next) (facts : Facts) (conn : ConnView ℕ ℕ)
@@ -70,7 +70,7 @@ pub broken_off : (reader : Reading) (bytes : List ℕ) (opened : List Next) (fac
 broken_off reader bytes opened facts conn x g b e =
     break_is_offered (http reader.limits facts) conn b e
     (need_is_partial reader.limits bytes opened facts.framing conn.arrived (body_events reader.limits facts.framing conn.arrived) (body_state reader.limits facts.framing conn.arrived) conn.offered g.0
-    (opened_at reader.limits bytes opened facts.framing conn.arrived x) (body_is_read reader.limits facts.framing conn.arrived) g.1).0
+    (opened_at reader.limits bytes opened facts.framing conn.arrived x) (opened_plain reader.limits bytes opened facts.framing conn.arrived x) (body_is_read reader.limits facts.framing conn.arrived) g.1).0
 
 pub refused_off : (reader : Reading) (bytes : List ℕ) (opened : List Next) (facts : Facts) (conn : ConnView ℕ ℕ) (status : ℕ)
     → HasOpened reader.limits bytes opened facts.framing conn.arrived → StandsFor reader bytes (opened ++ (map Event conn.offered ++ Bad status ∷ []))
@@ -79,7 +79,7 @@ pub refused_off : (reader : Reading) (bytes : List ℕ) (opened : List Next) (fa
 refused_off reader bytes opened facts conn status x stands b e =
     break_is_offered (http reader.limits facts) conn b e
     (bad_is_faulty reader.limits bytes opened facts.framing conn.arrived (body_events reader.limits facts.framing conn.arrived) (body_state reader.limits facts.framing conn.arrived) reader.place reader.held
-    (opened_at reader.limits bytes opened facts.framing conn.arrived x) (body_is_read reader.limits facts.framing conn.arrived) conn.offered status stands).0
+    (opened_at reader.limits bytes opened facts.framing conn.arrived x) (opened_plain reader.limits bytes opened facts.framing conn.arrived x) (body_is_read reader.limits facts.framing conn.arrived) conn.offered status stands).0
 
 pub whole_off : (reader : Reading) (bytes : List ℕ) (opened : List Next) (facts : Facts) (conn : ConnView ℕ ℕ)
     → HasOpened reader.limits bytes opened facts.framing conn.arrived → StandsFor reader bytes (opened ++ (map Event conn.offered ++ Whole ∷ []))
@@ -88,4 +88,4 @@ pub whole_off : (reader : Reading) (bytes : List ℕ) (opened : List Next) (fact
 whole_off reader bytes opened facts conn x stands b e =
     break_is_offered (http reader.limits facts) conn b e
     (whole_is_complete reader.limits bytes opened facts.framing conn.arrived (body_events reader.limits facts.framing conn.arrived) (body_state reader.limits facts.framing conn.arrived) reader.place reader.held
-    (opened_at reader.limits bytes opened facts.framing conn.arrived x) (body_is_read reader.limits facts.framing conn.arrived) conn.offered stands).0
+    (opened_at reader.limits bytes opened facts.framing conn.arrived x) (opened_plain reader.limits bytes opened facts.framing conn.arrived x) (body_is_read reader.limits facts.framing conn.arrived) conn.offered stands).0

@@ -1,5 +1,5 @@
 -- More bytes behind a body: what was due stays due, and a body that is whole or faulty stays so.
-use Rattle.std.proofs.Common.{◌≡◌, ℕ, List, [], ◌∷◌, ◌++◌, map, refl, sym, ap, ◌∙◌, append_assoc, subst, Option, Some, None}
+use Rattle.std.proofs.Common.{◌≡◌, ◌≢◌, ℕ, List, [], ◌∷◌, ◌++◌, map, refl, sym, ap, ◌∙◌, append_assoc, subst, Option, Some, None}
 use Rattle.std.specs.Prelude.{◌==◌, if◌then◌else◌}
 use Rattle.std.proofs.lemmas.List.{append-nil}
 use Rattle.asgi_types.specs.declared.limits.Limits.{Limits}
@@ -11,6 +11,7 @@ use Rattle.asgi_request.specs.Fronts.{found, unfinished}
 use Rattle.asgi_request.specs.Places.{front, body_place, Takes, Reads, shown}
 use mathlib.Core.List.{IsPrefix}
 use Rattle.asgi_types.specs.declared.facts.Framing.{Framing}
+use Rattle.asgi_types.specs.declared.facts.Framing.TheVariants.{Length, Chunked, Upgrade}
 use Rattle.asgi_types.specs.declared.incoming.Incoming.{Incoming}
 use Rattle.asgi_request.specs.declared.next.Next.TheVariants.{Need, Head, Event, Whole, Bad}
 use Rattle.asgi_request.specs.declared.refusal.Refusal.{Refusal}
@@ -233,11 +234,11 @@ state_stays limits more events others (faulty why) other end last rest left step
     let b = bad_stays c.more other why (shown steps) c.same in
     (none_more events others c.more c.splits b.0, b.1)
 
-pub body_grows : (limits : Limits) (framing : Framing) (bytes more : List ℕ) (events others : List Incoming) (state other : BodyState)
+plain_grows : (limits : Limits) (framing : Framing) (bytes more : List ℕ) (events others : List Incoming) (state other : BodyState) → framing ≢ Upgrade
     → ReadsBody limits framing bytes events state → ReadsBody limits framing (bytes ++ more) others other → Grows more events state others other
-body_grows limits framing bytes more events others state other x y =
-    let a = run_of_body limits (body_place framing) bytes events state (body_goes limits limits.block_in_range.0 framing bytes events state x) in
-    let b = run_of_body limits (body_place framing) (bytes ++ more) others other (body_goes limits limits.block_in_range.0 framing (bytes ++ more) others other y) in
+plain_grows limits framing bytes more events others state other plain x y =
+    let a = run_of_body limits (body_place framing) bytes events state (body_goes limits limits.block_in_range.0 framing bytes events state plain x) in
+    let b = run_of_body limits (body_place framing) (bytes ++ more) others other (body_goes limits limits.block_in_range.0 framing (bytes ++ more) others other plain y) in
     let f = run_goes_on limits (body_place framing) bytes more a.steps a.end a.rest b.steps b.end b.rest a.reads b.reads (only_whole limits other b.end b.rest b.ends)
     (subst no_whole (sym a.shows) (marked_no_whole events state)) in
     let both : map Event others ++ mark other ≡ map Event events ++ (mark state ++ shown f.items_behind) =
@@ -245,6 +246,20 @@ body_grows limits framing bytes more events others state other x y =
     ∙ append_assoc (map Event events) (mark state) (shown f.items_behind) in
     let c = continues events others (mark state ++ shown f.items_behind) other both in
     record { first = (c.more, c.splits); stays = state_stays limits more events others state other a.end b.end a.rest b.rest f.items_behind a.ends b.ends f.reads c }
+
+-- behind an opening handshake nothing is due, and what stands behind it grows
+frames_grow : (bytes more : List ℕ) (events others : List Incoming) (state other : BodyState) → (events ≡ []) × (state ≡ complete bytes)
+    → (others ≡ []) × (other ≡ complete (bytes ++ more)) → Grows more events state others other
+frames_grow bytes more events others state other x y = record {
+  first = ([], append-nil events ∙ x.0 ∙ sym y.0);
+  stays = subst (λ (s : BodyState). StaysAs s more events others other) (sym x.1) (y.0 ∙ sym x.0, y.1);
+}
+
+pub body_grows : (limits : Limits) (framing : Framing) (bytes more : List ℕ) (events others : List Incoming) (state other : BodyState)
+    → ReadsBody limits framing bytes events state → ReadsBody limits framing (bytes ++ more) others other → Grows more events state others other
+body_grows limits (Length n) bytes more events others state other x y = plain_grows limits (Length n) bytes more events others state other (λ e. cc) x y
+body_grows limits Chunked bytes more events others state other x y = plain_grows limits Chunked bytes more events others state other (λ e. cc) x y
+body_grows limits Upgrade bytes more events others state other x y = frames_grow bytes more events others state other x y
 
 -- ---- one body
 

@@ -1,8 +1,9 @@
 -- What a reader gave behind a head is what is due of the body.
-use Rattle.std.proofs.Common.{◌≡◌, ℕ, List, [], ◌∷◌, ◌++◌, ◌⊎◌, inl, inr, map, refl, sym, ap, ◌∙◌, append_assoc, append-nil, subst, Option, Some}
+use Rattle.std.proofs.Common.{◌≡◌, ◌≢◌, ℕ, List, [], ◌∷◌, ◌++◌, ◌⊎◌, inl, inr, map, refl, sym, ap, ◌∙◌, append_assoc, append-nil, subst, Option, Some}
 use mathlib.Core.List.{IsPrefix}
 use Rattle.asgi_types.specs.declared.facts.Facts.{Facts}
 use Rattle.asgi_types.specs.declared.facts.Framing.{Framing}
+use Rattle.asgi_types.specs.declared.facts.Framing.TheVariants.{Upgrade}
 use Rattle.asgi_types.specs.declared.incoming.Incoming.{Incoming}
 use Rattle.asgi_types.specs.declared.limits.Limits.{Limits}
 use Rattle.asgi_types.specs.declared.scope.Scope.{Scope}
@@ -88,12 +89,12 @@ not_further limits end rest [] last left e r = refl
 not_further limits end rest (x ∷ items) last left e r = absurd (judged_known limits end rest (record { item = x; place = r.0 }) r.1 r.2 e)
 
 given_of : (limits : Limits) (bytes : List ℕ) (opened given : List Next) (framing : Framing) (arrived : List ℕ) (due : List Incoming) (state : BodyState) (place : Place) (held : List ℕ)
-    → OpensAt limits bytes opened framing arrived → ReadsBody limits framing arrived due state → Reaches limits bytes (opened ++ given) place held → IsGiven due state given
+    → OpensAt limits bytes opened framing arrived → framing ≢ Upgrade → ReadsBody limits framing arrived due state → Reaches limits bytes (opened ++ given) place held → IsGiven due state given
 unfolding mark ends_as
-given_of limits bytes opened given framing arrived due state place held x body r = by (runs_compare limits Start bytes r.steps place held c.steps b.end b.rest r.reads c.reads)
+given_of limits bytes opened given framing arrived due state place held x plain body r = by (runs_compare limits Start bytes r.steps place held c.steps b.end b.rest r.reads c.reads)
   where
     b : BodyRun limits (body_place framing) arrived due state
-    b = run_of_body limits (body_place framing) arrived due state (body_goes limits limits.block_in_range.0 framing arrived due state body)
+    b = run_of_body limits (body_place framing) arrived due state (body_goes limits limits.block_in_range.0 framing arrived due state plain body)
 
     c : Goes limits Start bytes (opened ++ (map Event due ++ mark state)) b.end b.rest
     c = goes_on limits Start bytes opened (body_place framing) arrived (map Event due ++ mark state) b.end b.rest
@@ -175,9 +176,9 @@ no_head_at [] (faulty why) scope facts tail e = cc
 -- ---- what was given is due
 
 module _ (limits : Limits) (bytes : List ℕ) (opened : List Next) (framing : Framing) (arrived : List ℕ) (due : List Incoming) (state : BodyState)
-    (place : Place) (held : List ℕ) (x : OpensAt limits bytes opened framing arrived) (body : ReadsBody limits framing arrived due state) where
+    (place : Place) (held : List ℕ) (x : OpensAt limits bytes opened framing arrived) (plain : framing ≢ Upgrade) (body : ReadsBody limits framing arrived due state) where
   pub events_are_due : (events : List Incoming) → Reaches limits bytes (opened ++ map Event events) place held → IsPrefix events due
-  events_are_due events r = by (given_of limits bytes opened (map Event events) framing arrived due state place held x body r)
+  events_are_due events r = by (given_of limits bytes opened (map Event events) framing arrived due state place held x plain body r)
     where
       by : IsGiven due state (map Event events) → IsPrefix events due
       by (within tail e) = let c = continues events due tail state e in (c.more, c.splits)
@@ -185,7 +186,7 @@ module _ (limits : Limits) (bytes : List ℕ) (opened : List Next) (framing : Fr
 
   pub whole_is_complete : (events : List Incoming) → Reaches limits bytes (opened ++ (map Event events ++ Whole ∷ [])) place held
       → (events ≡ due) × ((behind : List ℕ) × (state ≡ complete behind))
-  whole_is_complete events r = by (given_of limits bytes opened (map Event events ++ Whole ∷ []) framing arrived due state place held x body r)
+  whole_is_complete events r = by (given_of limits bytes opened (map Event events ++ Whole ∷ []) framing arrived due state place held x plain body r)
     where
       by : IsGiven due state (map Event events ++ Whole ∷ []) → (events ≡ due) × ((behind : List ℕ) × (state ≡ complete behind))
       by (within tail e) = absurd (whole_there events tail (subst no_whole (e ∙ append_assoc (map Event events) (Whole ∷ []) tail) (marked_no_whole due state)))
@@ -193,7 +194,7 @@ module _ (limits : Limits) (bytes : List ℕ) (opened : List Next) (framing : Fr
 
   pub bad_is_faulty : (events : List Incoming) (status : ℕ) → Reaches limits bytes (opened ++ (map Event events ++ Bad status ∷ [])) place held
       → (events ≡ due) × IsFaultyBy status state
-  bad_is_faulty events status r = by (given_of limits bytes opened (map Event events ++ Bad status ∷ []) framing arrived due state place held x body r)
+  bad_is_faulty events status r = by (given_of limits bytes opened (map Event events ++ Bad status ∷ []) framing arrived due state place held x plain body r)
     where
       by : IsGiven due state (map Event events ++ Bad status ∷ []) → (events ≡ due) × IsFaultyBy status state
       by (within tail e) =
@@ -204,7 +205,7 @@ module _ (limits : Limits) (bytes : List ℕ) (opened : List Next) (framing : Fr
 
   -- inside a body the reader gives no head
   pub no_head : (events : List Incoming) (scope : Scope) (facts : Facts) → Reaches limits bytes (opened ++ (map Event events ++ Head scope facts ∷ [])) place held → ⊥
-  no_head events scope facts r = by (given_of limits bytes opened (map Event events ++ Head scope facts ∷ []) framing arrived due state place held x body r)
+  no_head events scope facts r = by (given_of limits bytes opened (map Event events ++ Head scope facts ∷ []) framing arrived due state place held x plain body r)
     where
       by : IsGiven due state (map Event events ++ Head scope facts ∷ []) → ⊥
       by (within tail e) =
@@ -221,13 +222,13 @@ marked_there (z ∷ l) s tail n = marked_there l s tail n
 
 -- where the reader needs more, all was given, and the body is partial
 waits_at : (limits : Limits) (bytes : List ℕ) (opened : List Next) (framing : Framing) (arrived : List ℕ) (due : List Incoming) (state : BodyState)
-    (place : Place) (held : List ℕ) (events : List Incoming) → OpensAt limits bytes opened framing arrived → ReadsBody limits framing arrived due state
+    (place : Place) (held : List ℕ) (events : List Incoming) → OpensAt limits bytes opened framing arrived → framing ≢ Upgrade → ReadsBody limits framing arrived due state
     → Reaches limits bytes (opened ++ map Event events) place held → front limits place held ≡ unfinished → (events ≡ due) × (state ≡ partial)
 unfolding mark ends_as
-waits_at limits bytes opened framing arrived due state place held events x body r waits = by (runs_compare limits Start bytes c.steps b.end b.rest r.steps place held c.reads r.reads)
+waits_at limits bytes opened framing arrived due state place held events x plain body r waits = by (runs_compare limits Start bytes c.steps b.end b.rest r.steps place held c.reads r.reads)
   where
     b : BodyRun limits (body_place framing) arrived due state
-    b = run_of_body limits (body_place framing) arrived due state (body_goes limits limits.block_in_range.0 framing arrived due state body)
+    b = run_of_body limits (body_place framing) arrived due state (body_goes limits limits.block_in_range.0 framing arrived due state plain body)
 
     c : Goes limits Start bytes (opened ++ (map Event due ++ mark state)) b.end b.rest
     c = goes_on limits Start bytes opened (body_place framing) arrived (map Event due ++ mark state) b.end b.rest
@@ -274,17 +275,17 @@ waits_at limits bytes opened framing arrived due state place held events x body 
         ends state b.end b.rest b.ends q.0 q.1 (shows_of (f.splits ∙ joined f.items_behind n r.steps))
 
 pub need_is_partial : (limits : Limits) (bytes : List ℕ) (opened : List Next) (framing : Framing) (arrived : List ℕ) (due : List Incoming) (state : BodyState) (events : List Incoming) (rest : List ℕ)
-    → OpensAt limits bytes opened framing arrived → ReadsBody limits framing arrived due state → GivesResults limits bytes (opened ++ map Event events) rest → (events ≡ due) × (state ≡ partial)
-need_is_partial limits bytes opened framing arrived due state events rest x body g =
+    → OpensAt limits bytes opened framing arrived → framing ≢ Upgrade → ReadsBody limits framing arrived due state → GivesResults limits bytes (opened ++ map Event events) rest → (events ≡ due) × (state ≡ partial)
+need_is_partial limits bytes opened framing arrived due state events rest x plain body g =
     let r = results_of limits limits.block_in_range.0 bytes (opened ++ map Event events) rest g in
-    waits_at limits bytes opened framing arrived due state r.place r.rest events x body r.reaches r.waits
+    waits_at limits bytes opened framing arrived due state r.place r.rest events x plain body r.reaches r.waits
 
 -- behind a whole body the request is whole, and what stands behind it is before the next head
 pub whole_goes_on : (limits : Limits) (bytes : List ℕ) (opened : List Next) (framing : Framing) (arrived : List ℕ) (events : List Incoming) (behind : List ℕ)
-    → OpensAt limits bytes opened framing arrived → ReadsBody limits framing arrived events (complete behind)
+    → OpensAt limits bytes opened framing arrived → framing ≢ Upgrade → ReadsBody limits framing arrived events (complete behind)
     → Reaches limits bytes (opened ++ (map Event events ++ Whole ∷ [])) Start behind
-whole_goes_on limits bytes opened framing arrived events behind x body =
+whole_goes_on limits bytes opened framing arrived events behind x plain body =
     let last = one limits BodyEnd behind (Some Whole) Start behind (takes_found limits BodyEnd behind [] behind (gives Whole Start) refl refl refl) in
-    let on = goes_on limits (body_place framing) arrived (map Event events) BodyEnd behind (Whole ∷ []) Start behind (body_goes limits limits.block_in_range.0 framing arrived events (complete behind) body) last in
+    let on = goes_on limits (body_place framing) arrived (map Event events) BodyEnd behind (Whole ∷ []) Start behind (body_goes limits limits.block_in_range.0 framing arrived events (complete behind) plain body) last in
     let all = goes_on limits Start bytes opened (body_place framing) arrived (map Event events ++ Whole ∷ []) Start behind (record { steps = x.steps; reads = x.reads; shows = x.shows }) on in
     record { steps = all.steps; reads = all.reads; shows = all.shows }

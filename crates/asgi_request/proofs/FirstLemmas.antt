@@ -7,7 +7,7 @@ use Rattle.asgi_types.specs.declared.limits.Limits.{Limits}
 use Rattle.asgi_request.specs.declared.next.Next.{Next}
 use Rattle.asgi_request.specs.declared.next.Next.TheVariants.{Event, Whole}
 use Rattle.asgi_request.specs.declared.place.Place.{Place}
-use Rattle.asgi_request.specs.declared.place.Place.TheVariants.{Start, Counted, SizeLine, Chunk, ChunkEnd, Trailers, BodyEnd, Stopped}
+use Rattle.asgi_request.specs.declared.place.Place.TheVariants.{Start, Counted, SizeLine, Chunk, ChunkEnd, Trailers, BodyEnd, HandshakeEnd, Upgraded, Stopped}
 use Rattle.asgi_request.specs.Places.{Judged}
 use Rattle.asgi_request.specs.declared.refusal.Refusal.{Refusal}
 use Rattle.asgi_request.specs.declared.refusal.Refusal.TheVariants.{BadRequest, HeaderFieldsTooLarge}
@@ -65,6 +65,8 @@ found_alone limits (Chunk left sum) text rest e = counted_by (min left limits.bl
 found_alone limits (ChunkEnd sum) text rest e = counted_by 2 text rest (nat_le 2 (length (text ++ rest))) refl e
 found_alone limits Trailers text rest e = searched_by trailer_len trailer_search limits.max_head text rest (trailer_len (text ++ rest)) refl e
 found_alone limits BodyEnd text rest e = e
+found_alone limits HandshakeEnd text rest e = e
+found_alone limits Upgraded text rest e = cc
 found_alone limits (Stopped why) text rest e = cc
 
 -- and before any other bytes
@@ -94,6 +96,8 @@ long_stops (Chunk left sum) = (BadRequest, refl)
 long_stops (ChunkEnd sum) = (BadRequest, refl)
 long_stops Trailers = (BadRequest, refl)
 long_stops BodyEnd = (BadRequest, refl)
+long_stops HandshakeEnd = (BadRequest, refl)
+long_stops Upgraded = (BadRequest, refl)
 long_stops (Stopped why) = (BadRequest, refl)
 
 -- nothing follows a refusal
@@ -185,6 +189,13 @@ open_after limits (Chunk (suc n) sum) =
 open_after limits (ChunkEnd sum) = ([], waiting limits (ChunkEnd sum) [] refl)
 open_after limits Trailers = ([], waiting limits Trailers [] (let low = limits.head_in_range.0 in head_open limits.max_head (omega (arith, low))))
 open_after limits BodyEnd = (Whole ∷ [], body_end_waits limits)
+open_after limits HandshakeEnd = (
+  Whole ∷ [],
+  then_ends limits HandshakeEnd [] (Whole ∷ []) Upgraded [] []
+      (one limits HandshakeEnd [] (Some Whole) Upgraded [] (takes_found limits HandshakeEnd [] [] [] (gives Whole Upgraded) refl refl refl))
+      (waiting limits Upgraded [] refl),
+)
+open_after limits Upgraded = ([], waiting limits Upgraded [] refl)
 open_after limits (Stopped why) = ([], waiting limits (Stopped why) [] refl)
 
 -- ---- what was given

@@ -14,7 +14,7 @@ use Rattle.asgi_types.specs.declared.limits.Limits.{Limits}
 use Rattle.asgi_request.specs.declared.next.Next.{Next}
 use Rattle.asgi_request.specs.declared.next.Next.TheVariants.{Event, Whole, Bad}
 use Rattle.asgi_request.specs.declared.place.Place.{Place}
-use Rattle.asgi_request.specs.declared.place.Place.TheVariants.{Start, Counted, SizeLine, Chunk, ChunkEnd, Trailers, BodyEnd, Stopped}
+use Rattle.asgi_request.specs.declared.place.Place.TheVariants.{Start, Counted, SizeLine, Chunk, ChunkEnd, Trailers, BodyEnd, HandshakeEnd, Upgraded, Stopped}
 use Rattle.asgi_request.specs.Places.{Judged}
 use Rattle.asgi_request.specs.declared.refusal.Refusal.{Refusal}
 use Rattle.asgi_request.specs.declared.refusal.Refusal.TheVariants.{BadRequest, ContentTooLarge}
@@ -70,6 +70,8 @@ From E limits (ChunkEnd sum) bytes results r =
     × Gives E (chunked_events limits.block pieces state) state results r
 From E limits Trailers bytes results r = (state : BodyState) × TrailersAre limits bytes state × Gives E (closing_event state) state results r
 From E limits BodyEnd bytes results r = Follows E (complete bytes) results r
+From E limits HandshakeEnd bytes results r = (results ≡ Whole ∷ []) × (r ≡ None)
+From E limits Upgraded bytes results r = (results ≡ []) × (r ≡ None)
 From E limits (Stopped why) bytes results r = (results ≡ []) × (r ≡ None)
 
 -- no place counts more data than the limit
@@ -81,6 +83,8 @@ Fits limits (Chunk left sum) = (0 < left) × (sum ≤ limits.max_body)
 Fits limits (ChunkEnd sum) = sum ≤ limits.max_body
 Fits limits Trailers = Unit {0}
 Fits limits BodyEnd = Unit {0}
+Fits limits HandshakeEnd = Unit {0}
+Fits limits Upgraded = Unit {0}
 Fits limits (Stopped why) = Unit {0}
 
 -- what a turn has to keep
@@ -551,6 +555,9 @@ text_good E limits h BodyEnd bytes text rest turn other fits f split j =
       tt,
       λ results r from. subst (λ (l : List ℕ). Follows E (complete l) (Whole ∷ results) r) (sym same) (results, from.0, from.1, refl, from.2),
     )
+text_good E limits h HandshakeEnd bytes text rest turn other fits f split j =
+    good E limits HandshakeEnd bytes rest turn (gives Whole Upgraded) j (tt, λ results r from. (ap (λ (l : List Next). Whole ∷ l) from.0, from.1))
+text_good E limits h Upgraded bytes text rest turn other fits f split j = absurd j
 text_good E limits h (Stopped why) bytes text rest turn other fits f split j = absurd j
 
 long_good : (E : List ℕ → List Next → List ℕ → Type 0) (limits : Limits) (place : Place) (bytes rest : List ℕ) (turn : Judged)
@@ -566,6 +573,8 @@ long_good E limits Trailers bytes rest turn other fits f j =
     good E limits Trailers bytes rest turn (bad BadRequest) j
     (bad_trailers_good E limits bytes rest (inl (tells EndsAsSection trailer_len section_search_for limits.max_head bytes too_long f)))
 long_good E limits BodyEnd bytes rest turn other fits f j = absurd cc
+long_good E limits HandshakeEnd bytes rest turn other fits f j = absurd cc
+long_good E limits Upgraded bytes rest turn other fits f j = absurd cc
 long_good E limits (Stopped why) bytes rest turn other fits f j = absurd cc
 
 -- a turn at any place but before a head
@@ -605,4 +614,6 @@ open_from E limits h (ChunkEnd sum) bytes other fits f =
 open_from E limits h Trailers bytes other fits f =
     (partial, tells EndsAsSection trailer_len section_search_for limits.max_head bytes unfinished f, ([], (refl, refl), refl))
 open_from E limits h BodyEnd bytes other fits f = absurd cc
+open_from E limits h HandshakeEnd bytes other fits f = absurd cc
+open_from E limits h Upgraded bytes other fits f = (refl, refl)
 open_from E limits h (Stopped why) bytes other fits f = (refl, refl)

@@ -5,7 +5,7 @@ use Rattle.std.proofs.lemmas.Bool.Decides.{nat_tests}
 use Rattle.std.proofs.lemmas.List.{take-append-le, length-append}
 use Rattle.asgi_types.specs.declared.limits.Limits.{Limits}
 use Rattle.asgi_request.specs.declared.place.Place.{Place}
-use Rattle.asgi_request.specs.declared.place.Place.TheVariants.{Start, Counted, SizeLine, Chunk, ChunkEnd, Trailers, BodyEnd, Stopped}
+use Rattle.asgi_request.specs.declared.place.Place.TheVariants.{Start, Counted, SizeLine, Chunk, ChunkEnd, Trailers, BodyEnd, HandshakeEnd, Upgraded, Stopped}
 use Rattle.asgi_request.specs.Fronts.{Front, found, too_long, unfinished, front_at, first, head_len, line_len, trailer_len}
 use Rattle.asgi_request.specs.ChunkedBody.{size_line_limit}
 use Rattle.asgi_request.specs.Places.{front}
@@ -86,6 +86,8 @@ front-append limits (Chunk left sum) bytes rest known = first-append (min left l
 front-append limits (ChunkEnd sum) bytes rest known = first-append 2 bytes rest known
 front-append limits Trailers bytes rest known = searched trailer_len trailer_search limits.max_head bytes rest known
 front-append limits BodyEnd bytes rest known = refl
+front-append limits HandshakeEnd bytes rest known = refl
+front-append limits Upgraded bytes rest known = absurd (known refl)
 front-append limits (Stopped refusal) bytes rest known = absurd (known refl)
 
 pub bound_of : (len : List ℕ → Option ℕ) → IsSearch len → (bytes : List ℕ) (o : Option ℕ) → o ≡ len bytes → IfSome o (λ n. n ≤ length bytes)

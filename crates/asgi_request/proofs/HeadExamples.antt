@@ -102,7 +102,7 @@ unfoldable pub post_facts : Facts
 post_facts = record { version = V11; head_only = false; close = false; expect = true; framing = Length 3; key = replicate 24 0; subprotocols = [] }
 
 pub post_scope : Scope
-post_scope = scope_of (record_of post)
+post_scope = scope_of (record_of post) (Length 3)
 
 pub post_begins : (rest : List ℕ) → BeginsWith example_limits (post_text ++ rest) post_scope post_facts rest
 unfolding post post_facts post_scope example_limits field trim_ows
@@ -114,6 +114,7 @@ post_begins rest = record {
     head_is = record { reads = (post_is_a_head, post_prints); few = omega arith };
     framing_is = refl;
   };
+  plain = λ e. cc;
   scope_is = refl;
   facts_are = refl;
 }
@@ -148,7 +149,7 @@ unfoldable pub get_facts : Facts
 get_facts = record { version = V11; head_only = false; close = false; expect = false; framing = Length 0; key = replicate 24 0; subprotocols = [] }
 
 pub get_scope : Scope
-get_scope = scope_of (record_of get)
+get_scope = scope_of (record_of get) (Length 0)
 
 pub get_begins : (rest : List ℕ) → BeginsWith example_limits (get_text ++ rest) get_scope get_facts rest
 unfolding get get_facts get_scope example_limits field trim_ows
@@ -160,6 +161,7 @@ get_begins rest = record {
     head_is = record { reads = (get_is_a_head, get_prints); few = omega arith };
     framing_is = refl;
   };
+  plain = λ e. cc;
   scope_is = refl;
   facts_are = refl;
 }

@@ -1,5 +1,5 @@
 -- Behind the last result of a request, what is due next is a head.
-use Rattle.std.proofs.Common.{◌≡◌, ℕ, ◌-◌, ◌+◌, Bool, true, false, List, [], ◌∷◌, ◌++◌, length, inl, inr, refl, sym, ap, ◌∙◌, subst, Option, Some, None, Result, Ok, Err}
+use Rattle.std.proofs.Common.{◌≡◌, ℕ, ◌-◌, ◌+◌, ◌⊎◌, Bool, true, false, List, [], ◌∷◌, ◌++◌, append-nil, flat_map, length, inl, inr, refl, sym, ap, ◌∙◌, subst, Option, Some, None, Result, Ok, Err}
 use Rattle.std.specs.Prelude.{nat_lt, ◌==◌, if◌then◌else◌, bytes_eq}
 use Rattle.httparse.specs.Ascii.{crlf_bytes}
 use Rattle.asgi_types.specs.declared.facts.Framing.{Framing}
@@ -9,19 +9,23 @@ use Rattle.asgi_request.specs.declared.head.HeadRecord.{HeadRecord}
 use Rattle.asgi_request.specs.declared.next.Next.{Next}
 use Rattle.asgi_request.specs.declared.next.Next.TheVariants.{Event, Whole, Bad}
 use Rattle.asgi_request.specs.declared.place.Place.{Place}
-use Rattle.asgi_request.specs.declared.place.Place.TheVariants.{Start, Counted, SizeLine, Chunk, ChunkEnd, Trailers, BodyEnd, Stopped}
+use Rattle.asgi_request.specs.declared.place.Place.TheVariants.{Start, Counted, SizeLine, Chunk, ChunkEnd, Trailers, BodyEnd, HandshakeEnd, Upgraded, Stopped}
 use Rattle.asgi_request.specs.Places.{Judged}
 use Rattle.asgi_request.specs.declared.refusal.Refusal.{Refusal}
 use Rattle.asgi_request.specs.declared.refusal.Refusal.TheVariants.{BadRequest, ContentTooLarge}
-use Rattle.asgi_request.specs.BodyLength.{framing_or_refusal}
+use Rattle.asgi_request.specs.RequestFraming.{request_framing}
 use Rattle.asgi_request.specs.Fronts.{Front, found, too_long, unfinished}
 use Rattle.asgi_request.specs.Reading.{Reading, StandsFor, EndsWhole, WholeGiven}
+use Rattle.asgi_request.proofs.HandshakeLemmas.{upgraded_at}
 use Rattle.asgi_request.proofs.StandardLemmas.{whole_requests}
-use Rattle.asgi_request.specs.Places.{front, bad, silent, gives, after_framing, after_head, after_counted, after_chunk, after_size, after_chunk_end, after_trailers, after_too_long, JudgesText, Judges, Reads, shown, Reaches}
+use Rattle.asgi_request.specs.Places.{front, bad, silent, gives, after_framing, after_head, after_counted, after_chunk, after_size, after_chunk_end, after_trailers, after_too_long, JudgesText, Judges, Takes, Reads, shown, Reaches}
 
--- a request ends before a head
+-- behind `Whole` a head is due, or frames stand there
+abbrev EndsRequest : Place → Type 0
+EndsRequest place = (place ≡ Start) ⊎ (place ≡ Upgraded)
+
 abbrev WholeStart : Judged → Type 0
-WholeStart t = t.item ≡ Some Whole → t.place ≡ Start
+WholeStart t = t.item ≡ Some Whole → EndsRequest t.place
 
 moved : (turn t : Judged) → turn ≡ t → WholeStart t → WholeStart turn
 moved turn t e f = let P : Judged → Type 0 = λ x. WholeStart x in subst P (sym e) f
@@ -32,7 +36,7 @@ framing_whole r (Err why) e = absurd cc
 
 head_whole : (limits : Limits) (r : Option HeadRecord) → WholeStart (after_head limits r)
 head_whole limits None e = absurd cc
-head_whole limits (Some r) e = framing_whole r (framing_or_refusal r limits) e
+head_whole limits (Some r) e = framing_whole r (request_framing r limits) e
 
 event_whole : (b : Bool) (x : List ℕ) (p q : Place) (m n : Bool) → WholeStart (if b then gives (Event (HttpRequest x m)) p else gives (Event (HttpRequest x n)) q)
 event_whole true x p q m n e = absurd cc
@@ -63,6 +67,8 @@ long_whole (Chunk left sum) e = absurd cc
 long_whole (ChunkEnd sum) e = absurd cc
 long_whole Trailers e = absurd cc
 long_whole BodyEnd e = absurd cc
+long_whole HandshakeEnd e = absurd cc
+long_whole Upgraded e = absurd cc
 long_whole (Stopped why) e = absurd cc
 
 text_whole : (limits : Limits) (place : Place) (text : List ℕ) (turn : Judged) → JudgesText limits place text turn → WholeStart turn
@@ -73,7 +79,9 @@ text_whole limits (Chunk left sum) text turn j =
     moved turn (after_chunk left sum text) j (event_whole (nat_lt (length text) left) text (Chunk (left - length text) sum) (ChunkEnd sum) true true)
 text_whole limits (ChunkEnd sum) text turn j = moved turn (after_chunk_end sum text) j (pair_whole (bytes_eq text crlf_bytes) sum)
 text_whole limits Trailers text turn j = moved turn (after_trailers j.0) j.2 (trailers_whole j.0)
-text_whole limits BodyEnd text turn j = moved turn (gives Whole Start) j (λ e. refl)
+text_whole limits BodyEnd text turn j = moved turn (gives Whole Start) j (λ e. inl refl)
+text_whole limits HandshakeEnd text turn j = moved turn (gives Whole Upgraded) j (λ e. inr refl)
+text_whole limits Upgraded text turn j = absurd j
 text_whole limits (Stopped why) text turn j = absurd j
 
 turn_whole : (limits : Limits) (place : Place) (f : Front) (turn : Judged) → Judges limits place f turn → WholeStart turn
@@ -88,7 +96,7 @@ framing_loud r (Err why) e = cc
 
 head_loud : (limits : Limits) (r : Option HeadRecord) → (after_head limits r).item ≡ None → ⊥
 head_loud limits None e = cc
-head_loud limits (Some r) e = framing_loud r (framing_or_refusal r limits) e
+head_loud limits (Some r) e = framing_loud r (request_framing r limits) e
 
 start_loud : (limits : Limits) (f : Front) (turn : Judged) → Judges limits Start f turn → turn.item ≡ None → ⊥
 start_loud limits (found text) turn j e = head_loud limits j.0 (sym (ap (λ (t : Judged). t.item) j.2) ∙ e)
@@ -102,32 +110,52 @@ silent_start limits bytes (None ∷ items) end rest r e =
     absurd (start_loud limits (front limits Start bytes) (record { item = None; place = r.0 }) r.2.judged refl)
 silent_start limits bytes (Some x ∷ items) end rest r e = cc
 
+-- and behind an opening handshake there are no turns
+no_turn : (limits : Limits) (bytes rest : List ℕ) (turn : Judged) → Takes limits Upgraded bytes turn rest → ⊥
+no_turn limits bytes rest turn t = t.judged
+
+silent_end : (limits : Limits) (place : Place) (bytes : List ℕ) (items : List (Option Next)) (end : Place) (rest : List ℕ) → EndsRequest place
+    → Reads limits place bytes items end rest → shown items ≡ [] → EndsRequest end
+silent_end limits place bytes items end rest (inl s) r e =
+    let P : Place → Type 0 = λ p. Reads limits p bytes items end rest in inl (silent_start limits bytes items end rest (subst P s r) e)
+silent_end limits place bytes [] end rest (inr s) r e = inr (sym r.0 ∙ s)
+silent_end limits place bytes (item ∷ items) end rest (inr s) r e =
+    let P : Place → Type 0 = λ p. Takes limits p bytes (record { item = item; place = r.0 }) r.1 in
+    absurd (no_turn limits bytes r.1 (record { item = item; place = r.0 }) (subst P s r.2))
+
 tail_of : (x y : Next) (a b : List Next) → x ∷ a ≡ y ∷ b → (x ≡ y) × (a ≡ b)
 tail_of x y a b e = (cc, cc)
 
 whole_start : (limits : Limits) (place : Place) (bytes : List ℕ) (items : List (Option Next)) (end : Place) (rest : List ℕ) (before : List Next)
-    → Reads limits place bytes items end rest → shown items ≡ before ++ Whole ∷ [] → end ≡ Start
+    → Reads limits place bytes items end rest → shown items ≡ before ++ Whole ∷ [] → EndsRequest end
 whole_start limits place bytes [] end rest [] r e = cc
 whole_start limits place bytes [] end rest (b ∷ before) r e = cc
 whole_start limits place bytes (None ∷ items) end rest before r e = whole_start limits r.0 r.1 items end rest before r.3 e
 whole_start limits place bytes (Some x ∷ items) end rest [] r e =
     let parts = tail_of x Whole (shown items) [] e in
-    let mid : r.0 ≡ Start = turn_whole limits place (front limits place bytes) (record { item = Some x; place = r.0 }) r.2.judged (ap (λ (n : Next). Some n) parts.0) in
-    let P : Place → Type 0 = λ p. Reads limits p r.1 items end rest in
-    silent_start limits r.1 items end rest (subst P mid r.3) parts.1
+    let mid = turn_whole limits place (front limits place bytes) (record { item = Some x; place = r.0 }) r.2.judged (ap (λ (n : Next). Some n) parts.0) in
+    silent_end limits r.0 r.1 items end rest mid r.3 parts.1
 whole_start limits place bytes (Some x ∷ items) end rest (b ∷ before) r e =
     whole_start limits r.0 r.1 items end rest before r.3 (tail_of x b (shown items) (before ++ Whole ∷ []) e).1
 
--- where the last result is `Whole`, or none was given, a head is due
+-- where the last result is `Whole`, or none was given, a head is due, or frames stand there
 pub between : (limits : Limits) (bytes : List ℕ) (given : List Next) (place : Place) (held : List ℕ) → Reaches limits bytes given place held
-    → EndsWhole given → place ≡ Start
-between limits bytes given place held x (inl e) = silent_start limits bytes x.steps place held x.reads (x.shows ∙ e)
+    → EndsWhole given → EndsRequest place
+between limits bytes given place held x (inl e) = inl (silent_start limits bytes x.steps place held x.reads (x.shows ∙ e))
 between limits bytes given place held x (inr w) = whole_start limits Start bytes x.steps place held w.0 x.reads (x.shows ∙ w.1)
 
 pub held_is : (r : Reading) (bytes : List ℕ) (given : List Next) (held : List ℕ) → StandsFor r bytes given → EndsWhole given → held ≡ r.held
     → WholeGiven r bytes given held
 held_is r bytes given held stands ends e =
-    let start = between r.limits bytes given r.place r.held stands ends in
-    let P : Place → Type 0 = λ p. Reaches r.limits bytes given p r.held in
-    subst (λ (l : List ℕ). WholeGiven r bytes given l) (sym e)
-    (whole_requests r.limits r.limits.block_in_range.0 bytes given r.held (subst P start stands))
+    subst (λ (l : List ℕ). WholeGiven r bytes given l) (sym e) (by (between r.limits bytes given r.place r.held stands ends))
+  where
+    reached : (place : Place) → r.place ≡ place → Reaches r.limits bytes given place r.held
+    reached place s = let P : Place → Type 0 = λ p. Reaches r.limits bytes given p r.held in subst P s stands
+
+    by : EndsRequest r.place → WholeGiven r bytes given r.held
+    by (inl s) =
+        let whole = whole_requests r.limits r.limits.block_in_range.0 bytes given r.held (reached Start s) in
+        record { requests = whole.0; behind = r.held; last = []; whole = whole.1; goes_on = inl (refl, refl); given_are = whole.2 ∙ sym (append-nil (flat_map (λ q. q) whole.0)) }
+    by (inr s) =
+        let h = upgraded_at r.limits bytes given r.held (reached Upgraded s) in
+        record { requests = h.requests; behind = h.behind; last = h.last; whole = h.whole; goes_on = inr h.handshake; given_are = h.given_are }

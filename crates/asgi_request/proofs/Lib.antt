@@ -19,6 +19,7 @@ pub mod SizeLemmas
 pub mod SectionLemmas
 pub mod BackwardLemmas
 pub mod ResultsLemmas
+pub mod HandshakeLemmas
 pub mod HeldLemmas
 pub mod FirstLemmas
 pub mod RefusalLemmas

@@ -1,7 +1,8 @@
 -- Behind a whole request stands the next head.
-use Rattle.std.proofs.Common.{◌≡◌, ℕ, List, [], ◌∷◌, ◌++◌, ◌⊎◌, inl, inr, refl, sym, ap, ◌∙◌, append_assoc, append-nil, subst, Option, Some, None, Result, Ok, Err}
+use Rattle.std.proofs.Common.{◌≡◌, ◌≢◌, ℕ, List, [], ◌∷◌, ◌++◌, ◌⊎◌, inl, inr, refl, sym, ap, ◌∙◌, append_assoc, append-nil, subst, Option, Some, None, Result, Ok, Err}
 use Rattle.asgi_types.specs.declared.facts.Facts.{Facts}
 use Rattle.asgi_types.specs.declared.facts.Framing.{Framing}
+use Rattle.asgi_types.specs.declared.facts.Framing.TheVariants.{Upgrade}
 use Rattle.asgi_types.specs.declared.limits.Limits.{Limits}
 use Rattle.asgi_types.specs.declared.scope.Scope.{Scope}
 use Rattle.httparse.specs.Grammar.{RequestHead}
@@ -15,35 +16,55 @@ use Rattle.asgi_request.specs.declared.refusal.Refusal.{Refusal}
 use Rattle.asgi_request.specs.Texts.{IsFirstWithin}
 use Rattle.asgi_request.specs.HeadText.{EndsAsHead}
 use Rattle.asgi_request.specs.Head.{IsHeadOf, ParsesHead, record_of}
-use Rattle.asgi_request.specs.BodyLength.{framing_or_refusal}
+use Rattle.asgi_request.specs.RequestFraming.{request_framing}
 use Rattle.asgi_request.specs.Scopes.{scope_of, facts_of}
 use Rattle.asgi_request.specs.Fronts.{Front, found, too_long, unfinished, front_text, head_len}
 use Rattle.asgi_request.specs.Places.{front, body_place, after_framing, after_head, Judges, Takes, Reads, shown, Reaches}
 use Rattle.asgi_request.proofs.TextLemmas.{tells, head_search_for}
 use Rattle.asgi_request.proofs.UniqueLemmas.{shown-append}
-use Rattle.asgi_request.specs.Opened.{BeginsWith}
+use Rattle.asgi_request.specs.Opened.{BeginsWith, BeginsWithHandshake}
+use Rattle.asgi_request.specs.Results.{ReadsHead}
 use Rattle.asgi_request.proofs.BodyGrowthLemmas.{Further}
 use Rattle.asgi_request.proofs.DueLemmas.{OpensAt, runs_compare, same_behind}
 
+-- the bytes begin with a head that gives this scope and these facts, of a request or an opening handshake
+pub record BeginsWithHead (limits : Limits) (bytes : List ℕ) (scope : Scope) (facts : Facts) (rest : List ℕ) : Type 0 where
+  pub head : RequestHead
+  pub reads : ReadsHead limits bytes head facts.framing rest
+  pub scope_is : scope ≡ scope_of (record_of head) facts.framing
+  pub facts_are : facts ≡ facts_of (record_of head) facts.framing
+
+pub begins_with : (limits : Limits) (bytes : List ℕ) (scope : Scope) (facts : Facts) (rest : List ℕ) → BeginsWithHead limits bytes scope facts rest
+    → facts.framing ≢ Upgrade → BeginsWith limits bytes scope facts rest
+begins_with limits bytes scope facts rest x plain = record { head = x.head; reads = x.reads; plain = plain; scope_is = x.scope_is; facts_are = x.facts_are }
+
+pub begins_with_handshake : (limits : Limits) (bytes : List ℕ) (scope : Scope) (facts : Facts) (rest : List ℕ) → BeginsWithHead limits bytes scope facts rest
+    → facts.framing ≡ Upgrade → BeginsWithHandshake limits bytes scope facts rest
+begins_with_handshake limits bytes scope facts rest x e =
+    let R : Framing → Type 0 = λ f. ReadsHead limits bytes x.head f rest in
+    let S : Framing → Type 0 = λ f. scope ≡ scope_of (record_of x.head) f in
+    let F : Framing → Type 0 = λ f. facts ≡ facts_of (record_of x.head) f in
+    record { head = x.head; reads = subst R e x.reads; scope_is = subst S e x.scope_is; facts_are = subst F e x.facts_are }
+
 -- what a turn before a head says of the head that it gives
 abbrev Tells : Limits → List ℕ → List ℕ → Option Next → Place → Type 0
-Tells limits bytes rest item place = (scope : Scope) (facts : Facts) → item ≡ Some (Head scope facts) → BeginsWith limits bytes scope facts rest × (place ≡ body_place facts.framing)
+Tells limits bytes rest item place = (scope : Scope) (facts : Facts) → item ≡ Some (Head scope facts) → BeginsWithHead limits bytes scope facts rest × (place ≡ body_place facts.framing)
 
 abbrev TurnTells : Limits → List ℕ → List ℕ → Judged → Type 0
 TurnTells limits bytes rest turn = Tells limits bytes rest turn.item turn.place
 
 framing_tells : (limits : Limits) (bytes text rest : List ℕ) (head : RequestHead) → IsFirstWithin EndsAsHead limits.max_head bytes text rest → IsHeadOf limits.max_headers text head
-    → (f : Result Framing Refusal) → framing_or_refusal (record_of head) limits ≡ f → TurnTells limits bytes rest (after_framing (record_of head) f)
+    → (f : Result Framing Refusal) → request_framing (record_of head) limits ≡ f → TurnTells limits bytes rest (after_framing (record_of head) f)
 framing_tells limits bytes text rest head x is (Err why) e = λ scope facts i. cc
 framing_tells limits bytes text rest head x is (Ok framing) e = λ scope facts i. (
-    let given : Head (scope_of (record_of head)) (facts_of (record_of head) framing) ≡ Head scope facts = cc i in
-    let scopes : scope_of (record_of head) ≡ scope = cc given in
+    let given : Head (scope_of (record_of head) framing) (facts_of (record_of head) framing) ≡ Head scope facts = cc i in
+    let scopes : scope_of (record_of head) framing ≡ scope = cc given in
     let facts_same : facts_of (record_of head) framing ≡ facts = cc given in
     let framings : framing ≡ facts.framing = ap (λ (f : Facts). f.framing) facts_same in (
       record {
         head = head;
         reads = record { text = text; text_is = x; head_is = is; framing_is = e ∙ ap (λ (f : Framing). Ok f) framings };
-        scope_is = sym scopes;
+        scope_is = sym scopes ∙ ap (scope_of (record_of head)) framings;
         facts_are = sym facts_same ∙ ap (facts_of (record_of head)) framings;
       },
       ap body_place framings,
@@ -55,7 +76,7 @@ head_tells : (limits : Limits) (bytes text rest : List ℕ) → IsFirstWithin En
 head_tells limits bytes text rest x None parses = λ scope facts i. cc
 head_tells limits bytes text rest x (Some r) parses =
     subst (λ (h : HeadRecord). TurnTells limits bytes rest (after_head limits (Some h))) (sym parses.2)
-    (framing_tells limits bytes text rest parses.0 x parses.1 (framing_or_refusal (record_of parses.0) limits) refl)
+    (framing_tells limits bytes text rest parses.0 x parses.1 (request_framing (record_of parses.0) limits) refl)
 
 pub turn_tells : (limits : Limits) (bytes rest : List ℕ) (turn : Judged) → Takes limits Start bytes turn rest → TurnTells limits bytes rest turn
 turn_tells limits bytes rest turn takes = by (front limits Start bytes) refl takes.splits takes.judged
@@ -77,7 +98,7 @@ some_item limits bytes rest mid takes = by (front limits Start bytes) takes.judg
 
     headed : (o : Option HeadRecord) → None ≡ (after_head limits o).item → ⊥
     headed None e = cc
-    headed (Some r) e = framed r (framing_or_refusal r limits) e
+    headed (Some r) e = framed r (request_framing r limits) e
 
     by : (f : Front) → Judges limits Start f (record { item = None; place = mid }) → ⊥
     by (found text) j = headed j.0 (ap (λ (t : Judged). t.item) j.2)
@@ -86,11 +107,11 @@ some_item limits bytes rest mid takes = by (front limits Start bytes) takes.judg
 
 pub next_head : (limits : Limits) (bytes : List ℕ) (given : List Next) (behind : List ℕ) (place : Place) (held : List ℕ) (scope : Scope) (facts : Facts) (more : List Next)
     → Reaches limits bytes given Start behind → Reaches limits bytes (given ++ Head scope facts ∷ more) place held
-    → (arrived : List ℕ) × BeginsWith limits behind scope facts arrived × OpensAt limits bytes (given ++ Head scope facts ∷ []) facts.framing arrived
+    → (arrived : List ℕ) × BeginsWithHead limits behind scope facts arrived × OpensAt limits bytes (given ++ Head scope facts ∷ []) facts.framing arrived
 next_head limits bytes given behind place held scope facts more x r = by (runs_compare limits Start bytes x.steps Start behind r.steps place held x.reads r.reads)
   where
     on : (items : List (Option Next)) → Reads limits Start behind items place held → Head scope facts ∷ more ≡ shown items
-        → (arrived : List ℕ) × BeginsWith limits behind scope facts arrived × Reads limits Start behind (Some (Head scope facts) ∷ []) (body_place facts.framing) arrived
+        → (arrived : List ℕ) × BeginsWithHead limits behind scope facts arrived × Reads limits Start behind (Some (Head scope facts) ∷ []) (body_place facts.framing) arrived
     on [] q e = cc
     on (None ∷ items) q e = absurd (some_item limits behind q.1 q.0 q.2)
     on (Some item ∷ items) q e =
@@ -108,7 +129,7 @@ next_head limits bytes given behind place held scope facts more x r = by (runs_c
     then_reads p b (i ∷ a) mid middle s end rest y z = (y.0, y.1, y.2, then_reads y.0 y.1 a mid middle s end rest y.3 z)
 
     by : Further limits x.steps Start behind r.steps place held ⊎ Further limits r.steps place held x.steps Start behind
-        → (arrived : List ℕ) × BeginsWith limits behind scope facts arrived × OpensAt limits bytes (given ++ Head scope facts ∷ []) facts.framing arrived
+        → (arrived : List ℕ) × BeginsWithHead limits behind scope facts arrived × OpensAt limits bytes (given ++ Head scope facts ∷ []) facts.framing arrived
     by (inl f) =
         let e = same_behind given (Head scope facts ∷ more) (shown f.items_behind)
         (sym r.shows ∙ ap shown f.splits ∙ shown-append x.steps f.items_behind ∙ ap (λ (l : List Next). l ++ shown f.items_behind) x.shows) in

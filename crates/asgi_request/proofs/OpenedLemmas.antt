@@ -1,9 +1,13 @@
 -- What a reader's results say of the bytes, at a head and behind it.
-use Rattle.std.proofs.Common.{◌≡◌, ℕ, ◌+◌, ◌-◌, length, Bool, true, false, List, [], ◌∷◌, ◌++◌, ◌⊎◌, inl, inr, append-nil, map, refl, sym, ap, ◌∙◌, subst, Option, Some, None}
+use Rattle.std.proofs.Common.{◌≡◌, ◌≢◌, ℕ, ◌+◌, ◌-◌, length, Bool, true, false, List, [], ◌∷◌, ◌++◌, ◌⊎◌, inl, inr, append-nil, flat_map, map, refl, sym, ap, ◌∙◌, subst, Option, Some, None}
 use Rattle.std.specs.Prelude.{◌==◌, nat_lt, bytes_eq, if◌then◌else◌}
 use Rattle.httparse.specs.Ascii.{crlf_bytes}
 use Rattle.asgi_types.specs.declared.facts.Facts.{Facts}
 use Rattle.asgi_types.specs.declared.facts.Framing.{Framing}
+use Rattle.asgi_types.specs.declared.facts.Framing.TheVariants.{Length, Chunked, Upgrade}
+use Rattle.asgi_request.specs.declared.head.HeadRecord.{HeadRecord}
+use Rattle.asgi_request.specs.Head.{record_of}
+use Rattle.asgi_request.specs.Scopes.{scope_of, http_scope_of}
 use Rattle.asgi_types.specs.declared.incoming.Incoming.{Incoming}
 use Rattle.asgi_types.specs.declared.incoming.Incoming.TheVariants.{HttpRequest}
 use Rattle.asgi_types.specs.declared.limits.Limits.{Limits}
@@ -12,7 +16,7 @@ use Rattle.asgi_request.specs.declared.next.Next.{Next}
 use Rattle.asgi_request.specs.declared.next.Next.TheVariants.{Need, Head, Event, Whole, Bad}
 use Rattle.asgi_request.specs.Places.{Judged}
 use Rattle.asgi_request.specs.declared.place.Place.{Place}
-use Rattle.asgi_request.specs.declared.place.Place.TheVariants.{Start, Counted, SizeLine, Chunk, ChunkEnd, Trailers, BodyEnd, Stopped}
+use Rattle.asgi_request.specs.declared.place.Place.TheVariants.{Start, Counted, SizeLine, Chunk, ChunkEnd, Trailers, BodyEnd, HandshakeEnd, Upgraded, Stopped}
 use Rattle.asgi_request.specs.declared.refusal.Refusal.TheVariants.{BadRequest, ContentTooLarge}
 use Rattle.asgi_request.specs.ChunkedBody.{complete}
 use Rattle.asgi_request.specs.Fronts.{Front, found, too_long, unfinished}
@@ -20,8 +24,11 @@ use Rattle.asgi_request.specs.Opened.{BeginsWith, HasClosed, HasOpened}
 use Rattle.asgi_request.specs.Places.{front, bad, gives, silent, after_counted, after_size, after_chunk, after_chunk_end, after_trailers, after_too_long, Judges, Takes, Reads, shown, Reaches}
 use Rattle.asgi_request.specs.RequestEvents.{ReadsBody}
 use Rattle.asgi_request.proofs.DueLemmas.{OpensAt, ClosesAt, runs_compare, same_behind, whole_goes_on}
-use Rattle.asgi_request.proofs.NextLemmas.{turn_tells, some_item, next_head}
-use Rattle.asgi_request.proofs.ResultsLemmas.{requests_go}
+use Rattle.asgi_request.proofs.NextLemmas.{begins_with, turn_tells, some_item, next_head}
+use Rattle.asgi_request.specs.Reading.{Reading, WholeGiven}
+use Rattle.asgi_request.specs.Results.{ReadsHandshake, AreRequests}
+use Rattle.asgi_request.proofs.BackwardLemmas.{goes_on}
+use Rattle.asgi_request.proofs.ResultsLemmas.{requests_go, handshake_goes}
 use Rattle.asgi_request.proofs.StandardLemmas.{whole_requests}
 use Rattle.asgi_request.proofs.BodyGrowthLemmas.{Further}
 use Rattle.asgi_request.proofs.UniqueLemmas.{shown-append}
@@ -44,6 +51,21 @@ opened_at limits bytes opened framing arrived x =
     let R : List Next → Type 0 = λ l. OpensAt limits bytes l framing arrived in
     let F : Framing → Type 0 = λ f. OpensAt limits bytes (x.closed ++ Head x.scope x.facts ∷ []) f arrived in
     subst R (sym x.opened_is) (subst F (sym x.framing_is) reached)
+
+-- a head with a body behind it is no opening handshake
+pub opened_plain : (limits : Limits) (bytes : List ℕ) (opened : List Next) (framing : Framing) (arrived : List ℕ) → HasOpened limits bytes opened framing arrived
+    → framing ≢ Upgrade
+opened_plain limits bytes opened framing arrived x = λ e. x.head.plain (sym x.framing_is ∙ e)
+
+plain_scope : (head : HeadRecord) (framing : Framing) → framing ≢ Upgrade → scope_of head framing ≡ http_scope_of head
+plain_scope head (Length n) plain = refl
+plain_scope head Chunked plain = refl
+plain_scope head Upgrade plain = absurd (plain refl)
+
+-- its scope is one of HTTP
+pub http_scope : (limits : Limits) (bytes : List ℕ) (scope : Scope) (facts : Facts) (arrived : List ℕ) (b : BeginsWith limits bytes scope facts arrived)
+    → scope ≡ http_scope_of (record_of b.head)
+http_scope limits bytes scope facts arrived b = b.scope_is ∙ plain_scope (record_of b.head) facts.framing b.plain
 
 -- behind whole requests a head
 pub opens_behind : (limits : Limits) (bytes : List ℕ) (closed : List Next) (behind : List ℕ) (scope : Scope) (facts : Facts) (arrived : List ℕ)
@@ -95,6 +117,8 @@ long_tells (Chunk left sum) = tt
 long_tells (ChunkEnd sum) = tt
 long_tells Trailers = tt
 long_tells BodyEnd = tt
+long_tells HandshakeEnd = tt
+long_tells Upgraded = tt
 long_tells (Stopped refusal) = tt
 
 never : (place : Place) (item : Option Next) (scope : Scope) (facts : Facts) → item ≡ Some (Head scope facts) → NoHead item → place ≡ Start
@@ -116,6 +140,8 @@ head_at_start limits (ChunkEnd sum) (found text) turn scope facts j e =
     never (ChunkEnd sum) turn.item scope facts e (told turn (after_chunk_end sum text) j (pair_tells (bytes_eq text crlf_bytes) sum))
 head_at_start limits Trailers (found text) turn scope facts j e = never Trailers turn.item scope facts e (told turn (after_trailers j.0) j.2 (trailers_tell j.0))
 head_at_start limits BodyEnd (found text) turn scope facts j e = never BodyEnd turn.item scope facts e (told turn (gives Whole Start) j tt)
+head_at_start limits HandshakeEnd (found text) turn scope facts j e = never HandshakeEnd turn.item scope facts e (told turn (gives Whole Upgraded) j tt)
+head_at_start limits Upgraded (found text) turn scope facts j e = absurd j
 head_at_start limits (Stopped refusal) (found text) turn scope facts j e = absurd j
 
 -- the run up to a head, and the turn that gives it
@@ -155,13 +181,13 @@ run_to_head limits place bytes (Some item ∷ steps) end rest [] scope facts mor
     record { behind = bytes; steps = []; reads = (start, refl); shows = refl; mid = r.0; arrived = r.1; turn = subst Q first (subst P start r.2) }
 
 pub head_opens : (limits : Limits) (bytes : List ℕ) (place : Place) (held : List ℕ) (before : List Next) (scope : Scope) (facts : Facts) (more : List Next)
-    → Reaches limits bytes (before ++ Head scope facts ∷ more) place held
+    → Reaches limits bytes (before ++ Head scope facts ∷ more) place held → facts.framing ≢ Upgrade
     → (arrived : List ℕ) × HasOpened limits bytes (before ++ Head scope facts ∷ []) facts.framing arrived
-head_opens limits bytes place held before scope facts more x =
+head_opens limits bytes place held before scope facts more x plain =
     let o = run_to_head limits Start bytes x.steps place held before scope facts more x.reads x.shows in
     let told = turn_tells limits o.behind o.arrived (record { item = Some (Head scope facts); place = o.mid }) o.turn scope facts refl in
     let closed = has_closed limits bytes before o.behind (record { steps = o.steps; reads = o.reads; shows = o.shows }) in
-    (o.arrived, opens_behind limits bytes before o.behind scope facts o.arrived closed told.0)
+    (o.arrived, opens_behind limits bytes before o.behind scope facts o.arrived closed (begins_with limits o.behind scope facts o.arrived told.0 plain))
 
 -- ---- more bytes, the end of a body and the next head
 
@@ -188,14 +214,15 @@ pub whole_closes : (limits : Limits) (bytes : List ℕ) (opened : List Next) (fr
     → HasClosed limits bytes (opened ++ (map Event events ++ Whole ∷ [])) behind
 whole_closes limits bytes opened framing arrived events behind x body =
     has_closed limits bytes (opened ++ (map Event events ++ Whole ∷ [])) behind
-    (whole_goes_on limits bytes opened framing arrived events behind (opened_at limits bytes opened framing arrived x) body)
+    (whole_goes_on limits bytes opened framing arrived events behind (opened_at limits bytes opened framing arrived x) (opened_plain limits bytes opened framing arrived x) body)
 
 pub next_opens : (limits : Limits) (bytes : List ℕ) (closed : List Next) (behind : List ℕ) (place : Place) (held : List ℕ) (scope : Scope) (facts : Facts) (more : List Next)
-    → HasClosed limits bytes closed behind → Reaches limits bytes (closed ++ Head scope facts ∷ more) place held
+    → HasClosed limits bytes closed behind → Reaches limits bytes (closed ++ Head scope facts ∷ more) place held → facts.framing ≢ Upgrade
     → (arrived : List ℕ) × BeginsWith limits behind scope facts arrived × HasOpened limits bytes (closed ++ Head scope facts ∷ []) facts.framing arrived
-next_opens limits bytes closed behind place held scope facts more x r =
+next_opens limits bytes closed behind place held scope facts more x r plain =
     let n = next_head limits bytes closed behind place held scope facts more (closed_at limits bytes closed behind x) r in
-    (n.0, n.1, opens_behind limits bytes closed behind scope facts n.0 x n.1)
+    let begins = begins_with limits behind scope facts n.0 n.1 plain in
+    (n.0, begins, opens_behind limits bytes closed behind scope facts n.0 x begins)
 
 -- ---- what stands behind is one
 
@@ -226,6 +253,53 @@ closed_is_one limits bytes closed behind others x y = by (runs_compare limits St
         sym (silent_stays limits others f.items_behind behind f.reads
         (nothing_behind closed (shown f.items_behind)
         (sym a.shows ∙ ap shown f.splits ∙ shown-append b.steps f.items_behind ∙ ap (λ (l : List Next). l ++ shown f.items_behind) b.shows)))
+
+-- ---- behind whole requests no frames stand
+
+silent_here : (limits : Limits) (bytes : List ℕ) (items : List (Option Next)) (end : Place) (rest : List ℕ) → Reads limits Start bytes items end rest → [] ≡ shown items → Start ≡ end
+silent_here limits bytes [] end rest r e = r.0
+silent_here limits bytes (None ∷ items) end rest r e = absurd (some_item limits bytes r.1 r.0 r.2)
+silent_here limits bytes (Some item ∷ items) end rest r e = cc
+
+no_turn : (limits : Limits) (bytes rest : List ℕ) (turn : Judged) → Takes limits Upgraded bytes turn rest → ⊥
+no_turn limits bytes rest turn t = t.judged
+
+up_here : (limits : Limits) (bytes : List ℕ) (items : List (Option Next)) (end : Place) (rest : List ℕ) → Reads limits Upgraded bytes items end rest → Upgraded ≡ end
+up_here limits bytes [] end rest r = r.0
+up_here limits bytes (item ∷ items) end rest r = absurd (no_turn limits bytes r.1 (record { item = item; place = r.0 }) r.2)
+
+pub closed_not_upgraded : (limits : Limits) (bytes : List ℕ) (given : List Next) (behind held : List ℕ) → HasClosed limits bytes given behind → Reaches limits bytes given Upgraded held → ⊥
+closed_not_upgraded limits bytes given behind held x r = by (runs_compare limits Start bytes c.steps Start behind r.steps Upgraded held c.reads r.reads)
+  where
+    c : ClosesAt limits bytes given behind
+    c = closed_at limits bytes given behind x
+
+    by : Further limits c.steps Start behind r.steps Upgraded held ⊎ Further limits r.steps Upgraded held c.steps Start behind → ⊥
+    by (inl f) =
+        let silent = nothing_behind given (shown f.items_behind)
+        (sym r.shows ∙ ap shown f.splits ∙ shown-append c.steps f.items_behind ∙ ap (λ (l : List Next). l ++ shown f.items_behind) c.shows) in
+        let never : Start ≡ Upgraded = silent_here limits behind f.items_behind Upgraded held f.reads silent in
+        cc
+    by (inr f) = let never : Upgraded ≡ Start = up_here limits held f.items_behind Start behind f.reads in cc
+
+-- the bytes behind them, told in the words of a reader
+pub whole_is_closed : (r : Reading) (bytes : List ℕ) (given : List Next) (behind held : List ℕ) → HasClosed r.limits bytes given behind → WholeGiven r bytes given held
+    → HasClosed r.limits bytes given held
+whole_is_closed r bytes given behind held x w = by w.goes_on
+  where
+    requests : List Next
+    requests = flat_map (λ request. request) w.requests
+
+    by : ((w.last ≡ []) × (w.behind ≡ held)) ⊎ ReadsHandshake r.limits w.behind w.last held → HasClosed r.limits bytes given held
+    by (inl e) = (
+      w.requests,
+      subst (λ (l : List ℕ). AreRequests r.limits bytes w.requests l) e.1 w.whole,
+      w.given_are ∙ ap (λ (l : List Next). requests ++ l) e.0 ∙ append-nil requests,
+    )
+    by (inr h) = absurd (
+        let up = goes_on r.limits Start bytes requests Start w.behind w.last Upgraded held
+        (requests_go r.limits r.limits.block_in_range.0 bytes w.requests w.behind w.whole) (handshake_goes r.limits w.behind w.last held h) in
+        closed_not_upgraded r.limits bytes given behind held x (record { steps = up.steps; reads = up.reads; shows = up.shows ∙ sym w.given_are }))
 
 last_same : (a b : List Next) (x y : Next) → a ++ x ∷ [] ≡ b ++ y ∷ [] → a ≡ b
 last_same [] [] x y e = refl

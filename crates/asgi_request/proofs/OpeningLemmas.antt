@@ -2,14 +2,15 @@
 -- bytes follow.
 use Rattle.std.proofs.Common.{◌≡◌, ℕ, inl, inr, length, List, [], ◌∷◌, ◌++◌, refl, sym, ap, ◌∙◌, subst, append_assoc, arith, flat_map}
 use Rattle.std.specs.Prelude.{◌⊎◌}
+use Rattle.asgi_types.specs.declared.facts.Framing.TheVariants.{Upgrade}
 use Rattle.asgi_types.specs.declared.limits.Limits.{Limits}
 use Rattle.asgi_request.specs.declared.next.Next.{Next}
-use Rattle.asgi_request.specs.declared.next.Next.TheVariants.{Head, Bad}
+use Rattle.asgi_request.specs.declared.next.Next.TheVariants.{Head, Whole, Bad}
 use Rattle.asgi_request.specs.Refusals.{status_of}
 use Rattle.asgi_request.specs.Head.{record_of}
 use Rattle.asgi_request.specs.Scopes.{scope_of, facts_of}
 use Rattle.asgi_request.specs.ChunkedBody.{BodyState, partial, faulty}
-use Rattle.asgi_request.specs.Results.{ReadsRequest, BeginsRequest, AreRequests, GivesResults, HasFirst, Opens}
+use Rattle.asgi_request.specs.Results.{ReadsRequest, BeginsRequest, AreRequests, GivesLast, GivesResults, HasFirst, Opens}
 use Rattle.asgi_request.proofs.ResultsLemmas.{prefix_of}
 
 -- ---- what opens the results
@@ -20,7 +21,7 @@ same_first a b x y e = cc
 request_opens : (limits : Limits) (bytes : List ℕ) (results : List Next) (state : BodyState) (first : Next) (more : List Next)
     → ReadsRequest limits bytes results state → results ≡ first ∷ more → Opens first
 request_opens limits bytes results state first more x e =
-    let head = Head (scope_of (record_of x.head)) (facts_of (record_of x.head) x.framing) in
+    let head = Head (scope_of (record_of x.head) x.framing) (facts_of (record_of x.head) x.framing) in
     let is : head ≡ first = same_first head first _ more (sym x.results_are ∙ e) in
     subst Opens is tt
 
@@ -33,21 +34,30 @@ begun_opens limits bytes results first more (inr (inl x)) e =
 begun_opens limits bytes results first more (inr (inr (inl x))) e = request_opens limits bytes results partial first more x e
 begun_opens limits bytes results first more (inr (inr (inr x))) e = request_opens limits bytes results (faulty x.0) first more x.1 e
 
-whole_opens : (limits : Limits) (bytes : List ℕ) (requests : List (List Next)) (rest : List ℕ) (begun : List Next) (first : Next) (more : List Next)
-    → AreRequests limits bytes requests rest → BeginsRequest limits rest begun → flat_map (λ request. request) requests ++ begun ≡ first ∷ more → Opens first
-whole_opens limits bytes [] rest begun first more are goes e = begun_opens limits rest begun first more goes e
-whole_opens limits bytes (results ∷ requests) rest begun first more are goes e =
+last_opens : (limits : Limits) (bytes : List ℕ) (results : List Next) (rest : List ℕ) (first : Next) (more : List Next)
+    → GivesLast limits bytes results rest → results ≡ first ∷ more → Opens first
+last_opens limits bytes results rest first more (inl x) e = begun_opens limits bytes results first more x.0 e
+last_opens limits bytes results rest first more (inr x) e =
+    let head = Head (scope_of (record_of x.head) Upgrade) (facts_of (record_of x.head) Upgrade) in
+    let is : head ≡ first = same_first head first (Whole ∷ []) more (sym x.results_are ∙ e) in
+    subst Opens is tt
+
+whole_opens : (limits : Limits) (bytes : List ℕ) (requests : List (List Next)) (behind : List ℕ) (last : List Next) (rest : List ℕ) (first : Next) (more : List Next)
+    → AreRequests limits bytes requests behind → GivesLast limits behind last rest → flat_map (λ request. request) requests ++ last ≡ first ∷ more → Opens first
+whole_opens limits bytes [] behind last rest first more are goes e =
+    last_opens limits bytes last rest first more (subst (λ (l : List ℕ). GivesLast limits l last rest) (sym are) goes) e
+whole_opens limits bytes (results ∷ requests) behind last rest first more are goes e =
     let x = are.1 in
-    let head = Head (scope_of (record_of x.head)) (facts_of (record_of x.head) x.framing) in
+    let head = Head (scope_of (record_of x.head) x.framing) (facts_of (record_of x.head) x.framing) in
     let tail : List Next = _ in
-    let opened : results ++ (flat_map (λ request. request) requests ++ begun) ≡ head ∷ tail =
-    ap (λ (l : List Next). l ++ (flat_map (λ request. request) requests ++ begun)) x.results_are in
+    let opened : results ++ (flat_map (λ request. request) requests ++ last) ≡ head ∷ tail =
+    ap (λ (l : List Next). l ++ (flat_map (λ request. request) requests ++ last)) x.results_are in
     let is : head ≡ first =
-    same_first head first tail more (sym opened ∙ sym (append_assoc results (flat_map (λ request. request) requests) begun) ∙ e) in
+    same_first head first tail more (sym opened ∙ sym (append_assoc results (flat_map (λ request. request) requests) last) ∙ e) in
     subst Opens is tt
 
 pub gives_opens : (limits : Limits) (bytes : List ℕ) (first : Next) (more : List Next) (rest : List ℕ) → GivesResults limits bytes (first ∷ more) rest → Opens first
-gives_opens limits bytes first more rest x = whole_opens limits bytes x.requests rest x.begun first more x.whole x.goes_on (sym x.results_are)
+gives_opens limits bytes first more rest x = whole_opens limits bytes x.requests x.behind x.last rest first more x.whole x.goes_on (sym x.results_are)
 
 pub first_opens : (limits : Limits) (bytes : List ℕ) (first : Next) (more : List Next) → HasFirst limits bytes (first ∷ more) → Opens first
 first_opens limits bytes first more x = gives_opens limits x.front first (more ++ x.further) x.rest x.gives
@@ -58,7 +68,7 @@ pub whole_is_some : (limits : Limits) (bytes : List ℕ) (requests : List (List 
 whole_is_some limits bytes [] rest are e = are
 whole_is_some limits bytes (results ∷ requests) rest are e =
     let x = are.1 in
-    let head = Head (scope_of (record_of x.head)) (facts_of (record_of x.head) x.framing) in
+    let head = Head (scope_of (record_of x.head) x.framing) (facts_of (record_of x.head) x.framing) in
     let opened = ap (λ (l : List Next). l ++ flat_map (λ request. request) requests) x.results_are in
     absurd (nothing head _ (e ∙ opened))
   where

@@ -11,12 +11,12 @@ use Rattle.asgi_request.specs.declared.refusal.Refusal.TheVariants.{BadRequest, 
 use Rattle.asgi_request.specs.Refusals.{status_of}
 use Rattle.asgi_request.specs.declared.head.HeadRecord.{HeadRecord}
 use Rattle.asgi_request.specs.declared.place.Place.{Place}
-use Rattle.asgi_request.specs.declared.place.Place.TheVariants.{Start, Counted, SizeLine, Chunk, ChunkEnd, Trailers, BodyEnd, Stopped}
+use Rattle.asgi_request.specs.declared.place.Place.TheVariants.{Start, Counted, SizeLine, Chunk, ChunkEnd, Trailers, BodyEnd, HandshakeEnd, Upgraded, Stopped}
 use Rattle.asgi_request.specs.declared.next.Next.{Next}
 use Rattle.asgi_request.specs.declared.next.Next.TheVariants.{Need, Head, Event, Whole, Bad}
 use Rattle.asgi_request.specs.Places.{Judged}
 use Rattle.asgi_request.specs.Fronts.{Front, found, too_long, unfinished, front_text}
-use Rattle.asgi_request.specs.BodyLength.{framing_or_refusal}
+use Rattle.asgi_request.specs.RequestFraming.{request_framing}
 use Rattle.asgi_request.specs.Places.{front, bad, silent, gives, after_framing, after_head, after_counted, after_chunk, after_size, after_chunk_end, after_trailers, after_too_long, JudgesText, Judges, Takes, shown, Reaches}
 use Rattle.asgi_request.specs.Reading.{Reading, StandsFor, IsRefused}
 use Rattle.asgi_request.specs.Searches.{Stepped, IsResult, IsThere, TakesText, refusal_at, rank}
@@ -91,7 +91,7 @@ framing_falls k r (Err refusal) e = absurd cc
 
 head_falls : (k : ℕ) (limits : Limits) (r : Option HeadRecord) → Falls k (after_head limits r)
 head_falls k limits None e = absurd cc
-head_falls k limits (Some r) e = framing_falls k r (framing_or_refusal r limits) e
+head_falls k limits (Some r) e = framing_falls k r (request_framing r limits) e
 
 either_falls : (k : ℕ) (b : Bool) (x y : Next) (p q : Place) → Falls k (if b then gives x p else gives y q)
 either_falls k true x y p q e = absurd cc
@@ -122,6 +122,8 @@ long_falls k (Chunk left sum) e = absurd cc
 long_falls k (ChunkEnd sum) e = absurd cc
 long_falls k Trailers e = absurd cc
 long_falls k BodyEnd e = absurd cc
+long_falls k HandshakeEnd e = absurd cc
+long_falls k Upgraded e = absurd cc
 long_falls k (Stopped refusal) e = absurd cc
 
 text_falls : (limits : Limits) (place : Place) (text : List ℕ) (turn : Judged) → JudgesText limits place text turn → Falls (rank place) turn
@@ -135,6 +137,8 @@ text_falls limits (Chunk left sum) text turn j =
 text_falls limits (ChunkEnd sum) text turn j = moved 2 turn (after_chunk_end sum text) j (pair_falls (bytes_eq text crlf_bytes) sum)
 text_falls limits Trailers text turn j = moved 0 turn (after_trailers j.0) j.2 (trailers_falls 0 j.0)
 text_falls limits BodyEnd text turn j = moved 0 turn (gives Whole Start) j (λ e. absurd cc)
+text_falls limits HandshakeEnd text turn j = moved 0 turn (gives Whole Upgraded) j (λ e. absurd cc)
+text_falls limits Upgraded text turn j = absurd j
 text_falls limits (Stopped refusal) text turn j = absurd j
 
 turn_falls : (limits : Limits) (place : Place) (f : Front) (turn : Judged) → Judges limits place f turn → Falls (rank place) turn
@@ -168,7 +172,7 @@ framing_tells r (Err why) = bad_tells why
 
 head_tells : (limits : Limits) (r : Option HeadRecord) → Tells (after_head limits r).item (after_head limits r).place
 head_tells limits None = bad_tells BadRequest
-head_tells limits (Some r) = framing_tells r (framing_or_refusal r limits)
+head_tells limits (Some r) = framing_tells r (request_framing r limits)
 
 counted_tells : (b : Bool) (x : List ℕ) (p q : Place) (m n : Bool)
     → let t = if b then gives (Event (HttpRequest x m)) p else gives (Event (HttpRequest x n)) q in Tells t.item t.place
@@ -200,6 +204,8 @@ long_tells (Chunk left sum) = bad_tells BadRequest
 long_tells (ChunkEnd sum) = bad_tells BadRequest
 long_tells Trailers = bad_tells BadRequest
 long_tells BodyEnd = bad_tells BadRequest
+long_tells HandshakeEnd = bad_tells BadRequest
+long_tells Upgraded = bad_tells BadRequest
 long_tells (Stopped refusal) = bad_tells BadRequest
 
 text_tells : (limits : Limits) (place : Place) (text : List ℕ) (turn : Judged) → JudgesText limits place text turn → Tells turn.item turn.place
@@ -211,6 +217,8 @@ text_tells limits (Chunk left sum) text turn j =
 text_tells limits (ChunkEnd sum) text turn j = told turn (after_chunk_end sum text) j (pair_tells (bytes_eq text crlf_bytes) sum)
 text_tells limits Trailers text turn j = told turn (after_trailers j.0) j.2 (trailers_tell j.0)
 text_tells limits BodyEnd text turn j = told turn (gives Whole Start) j tt
+text_tells limits HandshakeEnd text turn j = told turn (gives Whole Upgraded) j tt
+text_tells limits Upgraded text turn j = absurd j
 text_tells limits (Stopped refusal) text turn j = absurd j
 
 turn_tells : (limits : Limits) (place : Place) (f : Front) (turn : Judged) → Judges limits place f turn → Tells turn.item turn.place
@@ -254,6 +262,8 @@ refused_place (Chunk left sum) why e = cc
 refused_place (ChunkEnd sum) why e = cc
 refused_place Trailers why e = cc
 refused_place BodyEnd why e = cc
+refused_place HandshakeEnd why e = cc
+refused_place Upgraded why e = cc
 refused_place (Stopped refusal) why e = cc
 
 -- ---- where a call may fail

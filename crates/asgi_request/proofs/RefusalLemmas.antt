@@ -10,13 +10,13 @@ use Rattle.asgi_request.specs.declared.head.HeadRecord.{HeadRecord}
 use Rattle.asgi_request.specs.declared.next.Next.{Next}
 use Rattle.asgi_request.specs.declared.next.Next.TheVariants.{Event, Whole, Bad}
 use Rattle.asgi_request.specs.declared.place.Place.{Place}
-use Rattle.asgi_request.specs.declared.place.Place.TheVariants.{Start, Counted, SizeLine, Chunk, ChunkEnd, Trailers, BodyEnd, Stopped}
+use Rattle.asgi_request.specs.declared.place.Place.TheVariants.{Start, Counted, SizeLine, Chunk, ChunkEnd, Trailers, BodyEnd, HandshakeEnd, Upgraded, Stopped}
 use Rattle.asgi_request.specs.Places.{Judged}
 use Rattle.asgi_request.specs.declared.refusal.Refusal.{Refusal}
 use Rattle.asgi_request.specs.declared.refusal.Refusal.TheVariants.{BadRequest, ContentTooLarge}
 use Rattle.asgi_request.specs.Refusals.{status_of}
 use Rattle.asgi_request.specs.Fronts.{Front, found, too_long, unfinished}
-use Rattle.asgi_request.specs.BodyLength.{framing_or_refusal}
+use Rattle.asgi_request.specs.RequestFraming.{request_framing}
 use Rattle.asgi_request.specs.Places.{front, bad, silent, gives, after_framing, after_head, after_counted, after_size, after_chunk, after_chunk_end, after_trailers, after_too_long, JudgesText, Judges, Takes, Reads, shown, Reaches}
 use Rattle.asgi_request.proofs.UniqueLemmas.{shown-append}
 
@@ -29,6 +29,8 @@ Stops item (Chunk left sum) = Unit {0}
 Stops item (ChunkEnd sum) = Unit {0}
 Stops item Trailers = Unit {0}
 Stops item BodyEnd = Unit {0}
+Stops item HandshakeEnd = Unit {0}
+Stops item Upgraded = Unit {0}
 Stops item (Stopped why) = item ≡ Some (Bad (status_of why))
 
 StopsTurn : Judged → Type 0
@@ -44,7 +46,7 @@ framing_stops r (Err why) = refl
 head_stops : (limits : Limits) (r : Option HeadRecord) → StopsTurn (after_head limits r)
 unfolding StopsTurn Stops
 head_stops limits None = refl
-head_stops limits (Some r) = framing_stops r (framing_or_refusal r limits)
+head_stops limits (Some r) = framing_stops r (request_framing r limits)
 
 counted_stops : (n : ℕ) (text : List ℕ) → StopsTurn (after_counted n text)
 unfolding StopsTurn Stops
@@ -94,11 +96,17 @@ long_stops (Chunk left sum) = refl
 long_stops (ChunkEnd sum) = refl
 long_stops Trailers = refl
 long_stops BodyEnd = refl
+long_stops HandshakeEnd = refl
+long_stops Upgraded = refl
 long_stops (Stopped why) = refl
 
 end_stops : StopsTurn (gives Whole Start)
 unfolding StopsTurn Stops
 end_stops = tt
+
+upgraded_stops : StopsTurn (gives Whole Upgraded)
+unfolding StopsTurn Stops
+upgraded_stops = tt
 
 same : (turn t : Judged) → turn ≡ t → StopsTurn t → StopsTurn turn
 same turn t e x = subst StopsTurn (sym e) x
@@ -111,6 +119,8 @@ text_stops limits (Chunk left sum) text turn j = same turn (after_chunk left sum
 text_stops limits (ChunkEnd sum) text turn j = same turn (after_chunk_end sum text) j (pair_stops sum text)
 text_stops limits Trailers text turn j = same turn (after_trailers j.0) j.2 (trailers_stop j.0)
 text_stops limits BodyEnd text turn j = same turn (gives Whole Start) j end_stops
+text_stops limits HandshakeEnd text turn j = same turn (gives Whole Upgraded) j upgraded_stops
+text_stops limits Upgraded text turn j = absurd j
 text_stops limits (Stopped why) text turn j = absurd j
 
 turn_stops : (limits : Limits) (place : Place) (f : Front) (turn : Judged) → Judges limits place f turn → StopsTurn turn

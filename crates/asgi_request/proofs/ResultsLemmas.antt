@@ -1,5 +1,5 @@
 -- The results of a byte list are one list, and begin with those of each front of it.
-use Rattle.std.proofs.Common.{◌≡◌, ℕ, ◌+◌, ◌<◌, ◌≤◌, inl, inr, Bool, true, false, List, [], ◌∷◌, ◌++◌, length, drop, map, refl, sym, ap, ◌∙◌, append_assoc, arith, subst, Some, None, flat_map, All}
+use Rattle.std.proofs.Common.{◌≡◌, ◌≢◌, ℕ, ◌+◌, ◌<◌, ◌≤◌, inl, inr, Bool, true, false, List, [], ◌∷◌, ◌++◌, length, drop, map, refl, sym, ap, ◌∙◌, append_assoc, arith, subst, Some, None, flat_map, All}
 use Rattle.std.specs.Prelude.{nat_le, if◌then◌else◌}
 use Rattle.std.proofs.lemmas.List.{append-nil, map-append}
 use Rattle.std.proofs.lemmas.List.Elements.{All-head, All-tail}
@@ -11,7 +11,7 @@ use Rattle.asgi_types.specs.declared.limits.Limits.{Limits}
 use Rattle.asgi_request.specs.declared.next.Next.{Next}
 use Rattle.asgi_request.specs.declared.next.Next.TheVariants.{Head, Event, Whole, Bad}
 use Rattle.asgi_request.specs.declared.place.Place.{Place}
-use Rattle.asgi_request.specs.declared.place.Place.TheVariants.{Start, Counted, SizeLine, BodyEnd}
+use Rattle.asgi_request.specs.declared.place.Place.TheVariants.{Start, Counted, SizeLine, BodyEnd, HandshakeEnd, Upgraded}
 use Rattle.asgi_request.specs.declared.refusal.Refusal.{Refusal}
 use Rattle.asgi_request.specs.declared.refusal.Refusal.TheVariants.{BadRequest, HeaderFieldsTooLarge}
 use Rattle.asgi_request.specs.Refusals.{status_of}
@@ -21,7 +21,7 @@ use Rattle.asgi_request.specs.Scopes.{scope_of, facts_of}
 use Rattle.asgi_request.specs.ChunkedBody as body
 use Rattle.asgi_request.specs.ChunkedBody.{BodyState, partial, complete, faulty, Piece, print_chunk, IsChunk, total, chunk_piece, tail_pieces, tail_state, ReadsChunks}
 use Rattle.asgi_request.specs.RequestEvents.{more_event, length_events, length_state, closing_event, chunked_events, piece_blocks, ReadsBody}
-use Rattle.asgi_request.specs.Results.{ReadsHead, RefusesHead, closing, ReadsRequest, BeginsRequest, AreRequests, GivesResults}
+use Rattle.asgi_request.specs.Results.{ReadsHead, RefusesHead, closing, ReadsRequest, ReadsHandshake, BeginsRequest, AreRequests, GivesLast, GivesResults}
 use Rattle.asgi_request.specs.Fronts.{found, too_long, head_len}
 use Rattle.asgi_request.specs.Places.{front, bad, gives, body_place, after_framing, Reaches, ResultsOf}
 use Rattle.asgi_request.proofs.TextLemmas.{found_front, long_front, open_front, head_search_for}
@@ -86,27 +86,24 @@ length_goes limits h n bytes = by (nat_le n (length bytes)) refl
         (counted_open limits h (length bytes) n bytes (omega arith) (no_le n (length bytes) e))
 
 pub body_goes : (limits : Limits) → 0 < limits.block → (framing : Framing) (bytes : List ℕ) (events : List Incoming) (state : BodyState)
-    → ReadsBody limits framing bytes events state → BodyGoes limits (body_place framing) bytes events state
-body_goes limits h (Length n) bytes events state x =
+    → framing ≢ Upgrade → ReadsBody limits framing bytes events state → BodyGoes limits (body_place framing) bytes events state
+body_goes limits h (Length n) bytes events state plain x =
     let E : List Incoming → Type 0 = λ e. BodyGoes limits (Counted n) bytes e state in
     let S : BodyState → Type 0 = λ s. BodyGoes limits (Counted n) bytes (length_events limits.block n bytes) s in
     subst E (sym x.0) (subst S (sym x.1) (length_goes limits h n bytes))
-body_goes limits h Chunked bytes events state x =
+body_goes limits h Chunked bytes events state plain x =
     let E : List Incoming → Type 0 = λ e. BodyGoes limits (SizeLine 0) bytes e state in
     subst E (sym x.2) (chunked_goes limits h bytes x.0 state x.1)
-body_goes limits h Upgrade bytes events state x =
-    let E : List Incoming → Type 0 = λ e. BodyGoes limits BodyEnd bytes e state in
-    let S : BodyState → Type 0 = λ s. BodyGoes limits BodyEnd bytes [] s in
-    subst E (sym x.0) (subst S (sym x.1) (here limits BodyEnd bytes))
+body_goes limits h Upgrade bytes events state plain x = absurd (plain refl)
 
 -- ---- a head
 
 head_goes : (limits : Limits) (bytes : List ℕ) (head : RequestHead) (framing : Framing) (behind : List ℕ) → ReadsHead limits bytes head framing behind
-    → Goes limits Start bytes (Head (scope_of (record_of head)) (facts_of (record_of head) framing) ∷ []) (body_place framing) behind
+    → Goes limits Start bytes (Head (scope_of (record_of head) framing) (facts_of (record_of head) framing) ∷ []) (body_place framing) behind
 head_goes limits bytes head framing behind x =
     let f : front limits Start bytes ≡ found x.text = found_front EndsAsHead head_len head_search_for limits.max_head bytes x.text behind x.text_is in
-    let turn = gives (Head (scope_of (record_of head)) (facts_of (record_of head) framing)) (body_place framing) in
-    one limits Start bytes (Some (Head (scope_of (record_of head)) (facts_of (record_of head) framing))) (body_place framing) behind
+    let turn = gives (Head (scope_of (record_of head) framing) (facts_of (record_of head) framing)) (body_place framing) in
+    one limits Start bytes (Some (Head (scope_of (record_of head) framing) (facts_of (record_of head) framing))) (body_place framing) behind
     (takes_found limits Start bytes x.text behind turn f x.text_is.0.splits
     (Some (record_of head), (head, x.head_is, refl), sym (ap (after_framing (record_of head)) x.framing_is)))
 
@@ -151,8 +148,8 @@ request_goes : (limits : Limits) → 0 < limits.block → (bytes : List ℕ) (re
     → RequestGoes limits bytes results state
 request_goes limits h bytes results state x =
     subst (λ (l : List Next). RequestGoes limits bytes l state) (sym x.results_are)
-    (request_by limits bytes x.behind (Head (scope_of (record_of x.head)) (facts_of (record_of x.head) x.framing)) x.framing x.events state
-    (head_goes limits bytes x.head x.framing x.behind x.head_is) (body_goes limits h x.framing x.behind x.events state x.body_is))
+    (request_by limits bytes x.behind (Head (scope_of (record_of x.head) x.framing) (facts_of (record_of x.head) x.framing)) x.framing x.events state
+    (head_goes limits bytes x.head x.framing x.behind x.head_is) (body_goes limits h x.framing x.behind x.events state x.plain x.body_is))
 
 begins_goes : (limits : Limits) → 0 < limits.block → (bytes : List ℕ) (results : List Next) → BeginsRequest limits bytes results → Ends limits Start bytes results
 begins_goes limits h bytes results (inl x) =
@@ -161,6 +158,20 @@ begins_goes limits h bytes results (inr (inl x)) =
     ends_as limits Start bytes (Bad (status_of x.0) ∷ []) results (sym x.2) (refused_goes limits bytes x.0 x.1)
 begins_goes limits h bytes results (inr (inr (inl x))) = request_goes limits h bytes results partial x
 begins_goes limits h bytes results (inr (inr (inr x))) = request_goes limits h bytes results (faulty x.0) x.1
+
+-- an opening handshake is whole with its head, and nothing follows it
+pub handshake_goes : (limits : Limits) (bytes : List ℕ) (results : List Next) (rest : List ℕ) → ReadsHandshake limits bytes results rest
+    → Goes limits Start bytes results Upgraded rest
+handshake_goes limits bytes results rest x =
+    let head = Head (scope_of (record_of x.head) Upgrade) (facts_of (record_of x.head) Upgrade) in
+    subst (λ (l : List Next). Goes limits Start bytes l Upgraded rest) (sym x.results_are)
+    (goes_on limits Start bytes (head ∷ []) HandshakeEnd rest (Whole ∷ []) Upgraded rest (head_goes limits bytes x.head Upgrade rest x.head_is)
+    (one limits HandshakeEnd rest (Some Whole) Upgraded rest (takes_found limits HandshakeEnd rest [] rest (gives Whole Upgraded) refl refl refl)))
+
+last_goes : (limits : Limits) → 0 < limits.block → (bytes : List ℕ) (results : List Next) (rest : List ℕ) → GivesLast limits bytes results rest → Ends limits Start bytes results
+last_goes limits h bytes results rest (inl x) = begins_goes limits h bytes results x.0
+last_goes limits h bytes results rest (inr x) =
+    record { end = Upgraded; rest = rest; goes = handshake_goes limits bytes results rest x; waits = refl }
 
 pub requests_go : (limits : Limits) → 0 < limits.block → (bytes : List ℕ) (requests : List (List Next)) (rest : List ℕ) → AreRequests limits bytes requests rest
     → Goes limits Start bytes (flat_map (λ q. q) requests) Start rest
@@ -173,8 +184,8 @@ requests_go limits h bytes (results ∷ requests) rest x =
 pub results_of : (limits : Limits) → 0 < limits.block → (bytes : List ℕ) (results : List Next) (rest : List ℕ) → GivesResults limits bytes results rest
     → ResultsOf limits bytes results
 results_of limits h bytes results rest x =
-    let all = then_ends limits Start bytes (flat_map (λ q. q) x.requests) Start rest x.begun
-    (requests_go limits h bytes x.requests rest x.whole) (begins_goes limits h rest x.begun x.goes_on) in
+    let all = then_ends limits Start bytes (flat_map (λ q. q) x.requests) Start x.behind x.last
+    (requests_go limits h bytes x.requests x.behind x.whole) (last_goes limits h x.behind x.last rest x.goes_on) in
     record {
       place = all.end;
       rest = all.rest;

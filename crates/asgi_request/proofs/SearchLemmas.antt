@@ -5,7 +5,7 @@ use Rattle.std.specs.Option.{option_map}
 use Rattle.std.proofs.lemmas.List.{at_drop_more, append-nil, length-append, drop_all, drop-append-le}
 use Rattle.std.proofs.lemmas.Bool.Decides.{nat_tests}
 use Rattle.asgi_request.specs.declared.place.Place.{Place}
-use Rattle.asgi_request.specs.declared.place.Place.TheVariants.{Start, Counted, SizeLine, Chunk, ChunkEnd, Trailers, BodyEnd, Stopped}
+use Rattle.asgi_request.specs.declared.place.Place.TheVariants.{Start, Counted, SizeLine, Chunk, ChunkEnd, Trailers, BodyEnd, HandshakeEnd, Upgraded, Stopped}
 use Rattle.asgi_request.specs.declared.search.Search.{Search}
 use Rattle.asgi_request.specs.HeadText.{is_line_break}
 use Rattle.asgi_request.specs.Fronts.{empty_line_len, more, lines_len, head_len, line_len, trailer_len}
@@ -132,6 +132,8 @@ Resumes-append (Chunk left sum) s held a c = tt
 Resumes-append (ChunkEnd sum) s held a c = tt
 Resumes-append Trailers s held a c = Trailer-append s.begun s.at held a c
 Resumes-append BodyEnd s held a c = tt
+Resumes-append HandshakeEnd s held a c = tt
+Resumes-append Upgraded s held a c = tt
 Resumes-append (Stopped refusal) s held a c = tt
 
 abbrev pub new_search : Search
@@ -145,6 +147,8 @@ Resumes-new (Chunk left sum) held = tt
 Resumes-new (ChunkEnd sum) held = tt
 Resumes-new Trailers held = tt
 Resumes-new BodyEnd held = tt
+Resumes-new HandshakeEnd held = tt
+Resumes-new Upgraded held = tt
 Resumes-new (Stopped refusal) held = tt
 
 -- ---- a trailer section

@@ -1,5 +1,5 @@
 -- All that the places give are all the results of the bytes.
-use Rattle.std.proofs.Common.{◌≡◌, ℕ, ◌<◌, ◌⊎◌, inl, inr, List, [], ◌∷◌, ◌++◌, map, refl, sym, ap, ◌∙◌, append_assoc, arith, subst, Option, Some, None, Result, Ok, Err, flat_map}
+use Rattle.std.proofs.Common.{◌≡◌, ◌≢◌, ℕ, ◌<◌, ◌⊎◌, inl, inr, List, [], ◌∷◌, ◌++◌, map, refl, sym, ap, ◌∙◌, append_assoc, arith, subst, Option, Some, None, Result, Ok, Err, flat_map}
 use Rattle.asgi_types.specs.declared.facts.Framing.{Framing}
 use Rattle.asgi_types.specs.declared.facts.Framing.TheVariants.{Length, Chunked, Upgrade}
 use Rattle.asgi_types.specs.declared.incoming.Incoming.{Incoming}
@@ -9,7 +9,7 @@ use Rattle.asgi_request.specs.declared.head.HeadRecord.{HeadRecord}
 use Rattle.asgi_request.specs.declared.next.Next.{Next}
 use Rattle.asgi_request.specs.declared.next.Next.TheVariants.{Head, Event, Whole, Bad}
 use Rattle.asgi_request.specs.declared.place.Place.{Place}
-use Rattle.asgi_request.specs.declared.place.Place.TheVariants.{Start, Counted, SizeLine, Chunk, ChunkEnd, Trailers, BodyEnd, Stopped}
+use Rattle.asgi_request.specs.declared.place.Place.TheVariants.{Start, Counted, SizeLine, Chunk, ChunkEnd, Trailers, BodyEnd, HandshakeEnd, Upgraded, Stopped}
 use Rattle.asgi_request.specs.Places.{Judged}
 use Rattle.asgi_request.specs.declared.refusal.Refusal.{Refusal}
 use Rattle.asgi_request.specs.declared.refusal.Refusal.TheVariants.{BadRequest, HeaderFieldsTooLarge}
@@ -17,11 +17,11 @@ use Rattle.asgi_request.specs.Refusals.{status_of}
 use Rattle.asgi_request.specs.Texts.{IsFirstWithin}
 use Rattle.asgi_request.specs.HeadText.{EndsAsHead}
 use Rattle.asgi_request.specs.Head.{IsHeadOf, ParsesHead, record_of}
-use Rattle.asgi_request.specs.BodyLength.{framing_or_refusal}
+use Rattle.asgi_request.specs.RequestFraming.{request_framing}
 use Rattle.asgi_request.specs.Scopes.{scope_of, facts_of}
 use Rattle.asgi_request.specs.ChunkedBody.{BodyState, partial, complete, faulty}
 use Rattle.asgi_request.specs.RequestEvents.{length_events, length_state, chunked_events, ReadsBody}
-use Rattle.asgi_request.specs.Results.{ReadsHead, RefusesHead, closing, ReadsRequest, BeginsRequest, AreRequests, GivesResults}
+use Rattle.asgi_request.specs.Results.{ReadsHead, RefusesHead, closing, ReadsRequest, BeginsRequest, AreRequests, GivesLast, GivesResults}
 use Rattle.asgi_request.specs.Fronts.{Front, found, too_long, unfinished, front_text, head_len}
 use Rattle.asgi_request.specs.Places.{front, body_place, after_framing, after_head, Judges, Takes, Reads, shown, Reaches}
 use Rattle.asgi_request.proofs.TextLemmas.{tells, head_search_for}
@@ -30,12 +30,16 @@ use Rattle.asgi_request.proofs.ForwardLemmas.{Follows, From, Fits, turn_good, op
 
 -- ---- a head
 
--- what the bytes before a head give: a whole request, and what E says of the bytes behind it, or no whole one
+-- the last results of the bytes
+abbrev pub LastOf : Limits → List ℕ → List Next → Type 0
+LastOf limits bytes results = (rest : List ℕ) × GivesLast limits bytes results rest
+
+-- what the bytes before a head give: a whole request, and what E says of the bytes behind it, or the last results
 abbrev pub StartGives : (List ℕ → List Next → List ℕ → Type 0) → Limits → List ℕ → List Next → Option (List ℕ) → Type 0
 StartGives E limits bytes results r =
     ((h : List ℕ) × (r ≡ Some h) × (behind : List ℕ) × (request : List Next) × (more : List Next)
     × ReadsRequest limits bytes request (complete behind) × E behind more h × (results ≡ request ++ more))
-    ⊎ ((r ≡ None) × BeginsRequest limits bytes results)
+    ⊎ ((r ≡ None) × LastOf limits bytes results)
 
 record BodyFrom (E : List ℕ → List Next → List ℕ → Type 0) (limits : Limits) (framing : Framing) (bytes : List ℕ) (results : List Next) (r : Option (List ℕ)) : Type 0 where
   pub events : List Incoming
@@ -46,8 +50,8 @@ record BodyFrom (E : List ℕ → List Next → List ℕ → Type 0) (limits : L
   pub results_are : results ≡ map Event events ++ tail
 
 body_from : (E : List ℕ → List Next → List ℕ → Type 0) (limits : Limits) (framing : Framing) (bytes : List ℕ) (results : List Next) (r : Option (List ℕ))
-    → From E limits (body_place framing) bytes results r → BodyFrom E limits framing bytes results r
-body_from E limits (Length n) bytes results r from = record {
+    → framing ≢ Upgrade → From E limits (body_place framing) bytes results r → BodyFrom E limits framing bytes results r
+body_from E limits (Length n) bytes results r plain from = record {
   events = length_events limits.block n bytes;
   state = length_state n bytes;
   tail = from.0;
@@ -55,7 +59,7 @@ body_from E limits (Length n) bytes results r from = record {
   follows = from.1;
   results_are = from.2;
 }
-body_from E limits Chunked bytes results r from = record {
+body_from E limits Chunked bytes results r plain from = record {
   events = chunked_events limits.block from.0 from.1;
   state = from.1;
   tail = from.3.0;
@@ -63,38 +67,31 @@ body_from E limits Chunked bytes results r from = record {
   follows = from.3.1;
   results_are = from.3.2;
 }
-body_from E limits Upgrade bytes results r from = record {
-  events = [];
-  state = complete bytes;
-  tail = results;
-  body_is = (refl, refl);
-  follows = from;
-  results_are = refl;
-}
+body_from E limits Upgrade bytes results r plain from = absurd (plain refl)
 
 head_item : RequestHead → Framing → Next
-head_item head framing = Head (scope_of (record_of head)) (facts_of (record_of head) framing)
+head_item head framing = Head (scope_of (record_of head) framing) (facts_of (record_of head) framing)
 
 head_gives : (E : List ℕ → List Next → List ℕ → Type 0) (limits : Limits) (bytes behind : List ℕ) (head : RequestHead) (framing : Framing)
-    (results : List Next) (r : Option (List ℕ)) → ReadsHead limits bytes head framing behind → BodyFrom E limits framing behind results r
+    (results : List Next) (r : Option (List ℕ)) → ReadsHead limits bytes head framing behind → framing ≢ Upgrade → BodyFrom E limits framing behind results r
     → StartGives E limits bytes (head_item head framing ∷ results) r
 unfolding head_item
-head_gives E limits bytes behind head framing results r x b = by b.state b.body_is b.follows
+head_gives E limits bytes behind head framing results r x plain b = by b.state b.body_is b.follows
   where
     request : (state : BodyState) → ReadsBody limits framing behind b.events state
         → ReadsRequest limits bytes (head_item head framing ∷ (map Event b.events ++ closing state)) state
-    request state body = record { head = head; framing = framing; behind = behind; events = b.events; head_is = x; body_is = body; results_are = refl }
+    request state body = record { head = head; framing = framing; behind = behind; events = b.events; head_is = x; plain = plain; body_is = body; results_are = refl }
 
     by : (state : BodyState) → ReadsBody limits framing behind b.events state → Follows E state b.tail r
         → StartGives E limits bytes (head_item head framing ∷ results) r
     by partial body f =
         let same : head_item head framing ∷ (map Event b.events ++ []) ≡ head_item head framing ∷ results =
         ap (λ (l : List Next). head_item head framing ∷ l) (ap (λ (l : List Next). map Event b.events ++ l) (sym f.0) ∙ sym b.results_are) in
-        inr (f.1, inr (inr (inl (subst (λ (l : List Next). ReadsRequest limits bytes l partial) same (request partial body)))))
+        inr (f.1, (bytes, inl (inr (inr (inl (subst (λ (l : List Next). ReadsRequest limits bytes l partial) same (request partial body)))), refl)))
     by (faulty why) body f =
         let same : head_item head framing ∷ (map Event b.events ++ Bad (status_of why) ∷ []) ≡ head_item head framing ∷ results =
         ap (λ (l : List Next). head_item head framing ∷ l) (ap (λ (l : List Next). map Event b.events ++ l) (sym f.0) ∙ sym b.results_are) in
-        inr (f.1, inr (inr (inr (why, subst (λ (l : List Next). ReadsRequest limits bytes l (faulty why)) same (request (faulty why) body)))))
+        inr (f.1, (bytes, inl (inr (inr (inr (why, subst (λ (l : List Next). ReadsRequest limits bytes l (faulty why)) same (request (faulty why) body)))), refl)))
     by (complete rest) body f =
         inl (
           f.1,
@@ -109,7 +106,25 @@ head_gives E limits bytes behind head framing results r x b = by b.state b.body_
 
 refusal_gives : (E : List ℕ → List Next → List ℕ → Type 0) (limits : Limits) (bytes rest : List ℕ) (why : Refusal) (results : List Next) (r : Option (List ℕ))
     → RefusesHead limits bytes why → (results ≡ []) × (r ≡ None) → StartGives E limits bytes (Bad (status_of why) ∷ results) r
-refusal_gives E limits bytes rest why results r x from = inr (from.1, inr (inl (why, x, ap (λ (l : List Next). Bad (status_of why) ∷ l) from.0)))
+refusal_gives E limits bytes rest why results r x from =
+    inr (from.1, (bytes, inl (inr (inl (why, x, ap (λ (l : List Next). Bad (status_of why) ∷ l) from.0)), refl)))
+
+-- an opening handshake gives its head and Whole
+handshake_gives : (E : List ℕ → List Next → List ℕ → Type 0) (limits : Limits) (bytes behind : List ℕ) (head : RequestHead) (results : List Next) (r : Option (List ℕ))
+    → ReadsHead limits bytes head Upgrade behind → (results ≡ Whole ∷ []) × (r ≡ None) → StartGives E limits bytes (head_item head Upgrade ∷ results) r
+unfolding head_item
+handshake_gives E limits bytes behind head results r x from =
+    inr (from.1, (behind, inr (record { head = head; head_is = x; results_are = ap (λ (l : List Next). head_item head Upgrade ∷ l) from.0 })))
+
+-- what stands behind a head
+behind_gives : (E : List ℕ → List Next → List ℕ → Type 0) (limits : Limits) (bytes behind : List ℕ) (head : RequestHead) (framing : Framing)
+    (results : List Next) (r : Option (List ℕ)) → ReadsHead limits bytes head framing behind → From E limits (body_place framing) behind results r
+    → StartGives E limits bytes (head_item head framing ∷ results) r
+behind_gives E limits bytes behind head (Length n) results r x from =
+    head_gives E limits bytes behind head (Length n) results r x (λ e. cc) (body_from E limits (Length n) behind results r (λ e. cc) from)
+behind_gives E limits bytes behind head Chunked results r x from =
+    head_gives E limits bytes behind head Chunked results r x (λ e. cc) (body_from E limits Chunked behind results r (λ e. cc) from)
+behind_gives E limits bytes behind head Upgrade results r x from = handshake_gives E limits bytes behind head results r x from
 
 -- what a turn before a head has to keep
 abbrev StartGood : (List ℕ → List Next → List ℕ → Type 0) → Limits → List ℕ → List ℕ → Judged → Type 0
@@ -124,12 +139,11 @@ fits_body limits Upgrade = tt
 
 framing_good : (E : List ℕ → List Next → List ℕ → Type 0) (limits : Limits) (bytes text rest : List ℕ) (head : RequestHead)
     → IsFirstWithin EndsAsHead limits.max_head bytes text rest → IsHeadOf limits.max_headers text head
-    → (f : Result Framing Refusal) → framing_or_refusal (record_of head) limits ≡ f → StartGood E limits bytes rest (after_framing (record_of head) f)
+    → (f : Result Framing Refusal) → request_framing (record_of head) limits ≡ f → StartGood E limits bytes rest (after_framing (record_of head) f)
 unfolding head_item
 framing_good E limits bytes text rest head x is (Ok framing) e = (
   fits_body limits framing,
-  λ results r from. head_gives E limits bytes rest head framing results r
-      (record { text = text; text_is = x; head_is = is; framing_is = e }) (body_from E limits framing rest results r from),
+  λ results r from. behind_gives E limits bytes rest head framing results r (record { text = text; text_is = x; head_is = is; framing_is = e }) from,
 )
 framing_good E limits bytes text rest head x is (Err why) e = (
   tt,
@@ -147,7 +161,7 @@ head_good E limits bytes text rest x None parses = (
 )
 head_good E limits bytes text rest x (Some record_) parses =
     subst (λ (h : HeadRecord). StartGood E limits bytes rest (after_head limits (Some h))) (sym parses.2)
-    (framing_good E limits bytes text rest parses.0 x parses.1 (framing_or_refusal (record_of parses.0) limits) refl)
+    (framing_good E limits bytes text rest parses.0 x parses.1 (request_framing (record_of parses.0) limits) refl)
 
 start_good : (E : List ℕ → List Next → List ℕ → Type 0) (limits : Limits) (bytes rest : List ℕ) (turn : Judged)
     → Takes limits Start bytes turn rest → StartGood E limits bytes rest turn
@@ -173,6 +187,8 @@ is_start (Chunk left sum) = inr (λ e. cc)
 is_start (ChunkEnd sum) = inr (λ e. cc)
 is_start Trailers = inr (λ e. cc)
 is_start BodyEnd = inr (λ e. cc)
+is_start HandshakeEnd = inr (λ e. cc)
+is_start Upgraded = inr (λ e. cc)
 is_start (Stopped why) = inr (λ e. cc)
 
 -- all results, and the bytes behind the last whole request
@@ -184,20 +200,21 @@ pub request_first : (limits : Limits) (bytes behind : List ℕ) (request more : 
     → ReadsRequest limits bytes request (complete behind) → GivesResults limits behind more h → GivesResults limits bytes (request ++ more) h
 request_first limits bytes behind request more h x g = record {
   requests = request ∷ g.requests;
-  begun = g.begun;
+  behind = g.behind;
+  last = g.last;
   whole = (behind, x, g.whole);
   goes_on = g.goes_on;
-  results_are = ap (λ (l : List Next). request ++ l) g.results_are ∙ sym (append_assoc request (flat_map (λ q. q) g.requests) g.begun);
+  results_are = ap (λ (l : List Next). request ++ l) g.results_are ∙ sym (append_assoc request (flat_map (λ q. q) g.requests) g.last);
 }
 
-begun_alone : (limits : Limits) (bytes : List ℕ) (results : List Next) → BeginsRequest limits bytes results → GivesResults limits bytes results bytes
-begun_alone limits bytes results x = record { requests = []; begun = results; whole = refl; goes_on = x; results_are = refl }
+last_alone : (limits : Limits) (bytes : List ℕ) (results : List Next) (rest : List ℕ) → GivesLast limits bytes results rest → GivesResults limits bytes results rest
+last_alone limits bytes results rest x = record { requests = []; behind = bytes; last = results; whole = refl; goes_on = x; results_are = refl }
 
 start_all : (limits : Limits) (bytes : List ℕ) (results : List Next) (r : Option (List ℕ)) → StartGives (All_of limits) limits bytes results r
     → (h : List ℕ) × GivesResults limits bytes results h
 start_all limits bytes results r (inl x) =
     (x.0, subst (λ (l : List Next). GivesResults limits bytes l x.0) (sym x.7) (request_first limits bytes x.2 x.3 x.4 x.0 x.5 x.6))
-start_all limits bytes results r (inr x) = (bytes, begun_alone limits bytes results x.1)
+start_all limits bytes results r (inr x) = (let l = x.1 in (l.0, last_alone limits bytes results l.0 l.1))
 
 end_all : (limits : Limits) → 0 < limits.block → (place : Place) (bytes : List ℕ) → Fits limits place → front limits place bytes ≡ unfinished
     → (r : Option (List ℕ)) × From (All_of limits) limits place bytes [] r
@@ -207,7 +224,7 @@ end_all limits h place bytes fits e = by (is_start place)
     by (inl s) =
         let P : Place → Type 0 = λ p. front limits p bytes ≡ unfinished in
         let t = tells EndsAsHead head_len head_search_for limits.max_head bytes unfinished (subst P s e) in
-        (Some bytes, subst (λ (p : Place). From (All_of limits) limits p bytes [] (Some bytes)) (sym s) (bytes, begun_alone limits bytes [] (inl (t, refl)), refl))
+        (Some bytes, subst (λ (p : Place). From (All_of limits) limits p bytes [] (Some bytes)) (sym s) (bytes, last_alone limits bytes [] bytes (inl (inl (t, refl), refl)), refl))
     by (inr n) = (None, open_from (All_of limits) limits h place bytes n fits e)
 
 all_from : (limits : Limits) → 0 < limits.block → (place : Place) (bytes : List ℕ) (items : List (Option Next)) (end : Place) (rest : List ℕ)

@@ -17,7 +17,7 @@ use Rattle.asgi_request.specs.Refusals.{status_of}
 use Rattle.asgi_request.specs.Texts.{IsFirstWithin, IsUnfinished}
 use Rattle.asgi_request.specs.HeadText.{EndsAsHead}
 use Rattle.asgi_request.specs.Head.{IsHeadOf, ParsesHead, record_of}
-use Rattle.asgi_request.specs.BodyLength.{framing_or_refusal}
+use Rattle.asgi_request.specs.RequestFraming.{request_framing}
 use Rattle.asgi_request.specs.Scopes.{scope_of, facts_of}
 use Rattle.asgi_request.specs.Results.{RefusesHead, GivesResults}
 use Rattle.asgi_request.specs.Fronts.{Front, found, too_long, unfinished, front_text, head_len}
@@ -44,8 +44,8 @@ head_takes limits bytes scope facts arrived b =
     let r = record_of b.head in
     let turn = gives (Head scope facts) (body_place facts.framing) in
     let f : front limits Start bytes ≡ found h.text = found_front EndsAsHead head_len head_search_for limits.max_head bytes h.text arrived h.text_is in
-    let same : Head scope facts ≡ Head (scope_of r) (facts_of r facts.framing) =
-    ap (λ (s : Scope). Head s facts) b.scope_is ∙ ap (λ (k : Facts). Head (scope_of r) k) b.facts_are in
+    let same : Head scope facts ≡ Head (scope_of r facts.framing) (facts_of r facts.framing) =
+    ap (λ (s : Scope). Head s facts) b.scope_is ∙ ap (λ (k : Facts). Head (scope_of r facts.framing) k) b.facts_are in
     takes_found limits Start bytes h.text arrived turn f h.text_is.0.splits
     (Some r, (b.head, h.head_is, refl), ap (λ (n : Next). gives n (body_place facts.framing)) same ∙ sym (ap (after_framing r) h.framing_is))
 
@@ -80,6 +80,7 @@ begins_grows limits bytes more scope facts arrived b =
     record {
       head = b.head;
       reads = record { text = r.text; text_is = first_grows limits.max_head bytes more r.text arrived r.text_is; head_is = r.head_is; framing_is = r.framing_is };
+      plain = b.plain;
       scope_is = b.scope_is;
       facts_are = b.facts_are;
     }
@@ -111,7 +112,7 @@ same_status : (a b : ℕ) → Some (Bad a) ≡ Some (Bad b) → b ≡ a
 same_status a b e = cc
 
 framing_tells : (limits : Limits) (bytes text rest : List ℕ) (head : RequestHead) → IsFirstWithin EndsAsHead limits.max_head bytes text rest → IsHeadOf limits.max_headers text head
-    → (f : Result Framing Refusal) → framing_or_refusal (record_of head) limits ≡ f → BadTells limits bytes (after_framing (record_of head) f).item
+    → (f : Result Framing Refusal) → request_framing (record_of head) limits ≡ f → BadTells limits bytes (after_framing (record_of head) f).item
 framing_tells limits bytes text rest head x is (Ok framing) e = λ status i. cc
 framing_tells limits bytes text rest head x is (Err why) e = λ status i. (
   why,
@@ -128,7 +129,7 @@ head_tells limits bytes text rest x None parses = λ status i. (
 )
 head_tells limits bytes text rest x (Some r) parses =
     subst (λ (h : HeadRecord). BadTells limits bytes (after_head limits (Some h)).item) (sym parses.2)
-    (framing_tells limits bytes text rest parses.0 x parses.1 (framing_or_refusal (record_of parses.0) limits) refl)
+    (framing_tells limits bytes text rest parses.0 x parses.1 (request_framing (record_of parses.0) limits) refl)
 
 turn_tells : (limits : Limits) (bytes rest : List ℕ) (turn : Judged) → Takes limits Start bytes turn rest → BadTells limits bytes turn.item
 turn_tells limits bytes rest turn takes = by (front limits Start bytes) refl takes.splits takes.judged

@@ -8,7 +8,7 @@ use Rattle.asgi_types.specs.declared.limits.Limits.{Limits}
 use Rattle.asgi_request.specs.declared.next.Next.{Next}
 use Rattle.asgi_request.specs.declared.next.Next.TheVariants.{Event, Whole, Bad}
 use Rattle.asgi_request.specs.declared.place.Place.{Place}
-use Rattle.asgi_request.specs.declared.place.Place.TheVariants.{Start, Counted, SizeLine, Chunk, ChunkEnd, Trailers, BodyEnd, Stopped}
+use Rattle.asgi_request.specs.declared.place.Place.TheVariants.{Start, Counted, SizeLine, Chunk, ChunkEnd, Trailers, BodyEnd, HandshakeEnd, Upgraded, Stopped}
 use Rattle.asgi_request.specs.Places.{Judged}
 use Rattle.asgi_request.specs.declared.refusal.Refusal.{Refusal}
 use Rattle.asgi_request.specs.declared.refusal.Refusal.TheVariants.{BadRequest, HeaderFieldsTooLarge}
@@ -69,6 +69,8 @@ least limits (Chunk left sum) = min left limits.block
 least limits (ChunkEnd sum) = 2
 least limits Trailers = 1
 least limits BodyEnd = 0
+least limits HandshakeEnd = 0
+least limits Upgraded = 0
 least limits (Stopped why) = 0
 
 text_begins : (limits : Limits) (place : Place) (bytes text : List ℕ) → front limits place bytes ≡ found text → BeginsWith (least limits place) bytes text
@@ -80,6 +82,8 @@ text_begins limits (Chunk left sum) bytes text e = first_begins (min left limits
 text_begins limits (ChunkEnd sum) bytes text e = first_begins 2 bytes text e
 text_begins limits Trailers bytes text e = search_begins trailer_len trailer_search trailer_len-one limits.max_head bytes text (trailer_len bytes) refl e
 text_begins limits BodyEnd bytes text e = record { rest = bytes; splits = ap (λ (l : List ℕ). l ++ bytes) (same_text [] text e); long = omega arith }
+text_begins limits HandshakeEnd bytes text e = record { rest = bytes; splits = ap (λ (l : List ℕ). l ++ bytes) (same_text [] text e); long = omega arith }
+text_begins limits Upgraded bytes text e = cc
 text_begins limits (Stopped why) bytes text e = cc
 
 -- ---- each turn reads bytes, or goes to a place of less weight
@@ -92,6 +96,8 @@ weight (Chunk left sum) = 2
 weight (ChunkEnd sum) = 1
 weight Trailers = 0
 weight BodyEnd = 2
+weight HandshakeEnd = 2
+weight Upgraded = 0
 weight (Stopped why) = 0
 
 at_most : (place : Place) → weight place ≤ 3
@@ -103,6 +109,8 @@ at_most (Chunk left sum) = omega arith
 at_most (ChunkEnd sum) = omega arith
 at_most Trailers = omega arith
 at_most BodyEnd = omega arith
+at_most HandshakeEnd = omega arith
+at_most Upgraded = omega arith
 at_most (Stopped why) = omega arith
 
 no_counted : (text : List ℕ) → weight (after_counted 0 text).place ≡ 2
@@ -137,25 +145,30 @@ falls limits (ChunkEnd sum) text turn h j = reads_some (ChunkEnd sum) turn.place
 falls limits Trailers text turn h j = reads_some Trailers turn.place (length text) h
 falls limits BodyEnd text turn h j =
     let w : weight turn.place ≡ 1 = ap (λ (t : Judged). weight t.place) j in omega (arith, w)
+falls limits HandshakeEnd text turn h j =
+    let w : weight turn.place ≡ 0 = ap (λ (t : Judged). weight t.place) j in omega (arith, w)
+falls limits Upgraded text turn h j = absurd j
 falls limits (Stopped why) text turn h j = absurd j
 
 -- ---- each text is judged
 
-judged_there : (limits : Limits) (place : Place) (text : List ℕ) → ((why : Refusal) → place ≡ Stopped why → ⊥)
+judged_there : (limits : Limits) (place : Place) (text : List ℕ) → ((why : Refusal) → place ≡ Stopped why → ⊥) → (place ≡ Upgraded → ⊥)
     → ((turn : Judged) → JudgesText limits place text turn → ⊥) → ⊥
-judged_there limits Start text going deny =
+judged_there limits Start text going below deny =
     deny (after_head limits None)
     (None, (λ head is. deny (after_head limits (Some (record_of head))) (Some (record_of head), (head, is, refl), refl)), refl)
-judged_there limits (Counted n) text going deny = deny (after_counted n text) refl
-judged_there limits (SizeLine sum) text going deny =
+judged_there limits (Counted n) text going below deny = deny (after_counted n text) refl
+judged_there limits (SizeLine sum) text going below deny =
     deny (after_size limits.max_body sum None)
     (None, (λ line is. deny (after_size limits.max_body sum (Some (chunk_size line))) (Some (chunk_size line), (line, is, refl), refl)), refl)
-judged_there limits (Chunk left sum) text going deny = deny (after_chunk left sum text) refl
-judged_there limits (ChunkEnd sum) text going deny = deny (after_chunk_end sum text) refl
-judged_there limits Trailers text going deny =
+judged_there limits (Chunk left sum) text going below deny = deny (after_chunk left sum text) refl
+judged_there limits (ChunkEnd sum) text going below deny = deny (after_chunk_end sum text) refl
+judged_there limits Trailers text going below deny =
     deny (after_trailers false) (false, (λ fields last is. deny (after_trailers true) (true, (fields, last, is), refl)), refl)
-judged_there limits BodyEnd text going deny = deny (gives Whole Start) refl
-judged_there limits (Stopped why) text going deny = going why refl
+judged_there limits BodyEnd text going below deny = deny (gives Whole Start) refl
+judged_there limits HandshakeEnd text going below deny = deny (gives Whole Upgraded) refl
+judged_there limits Upgraded text going below deny = below refl
+judged_there limits (Stopped why) text going below deny = going why refl
 
 -- ---- the results are there
 
@@ -167,6 +180,8 @@ long_is (Chunk left sum) = (BadRequest, refl)
 long_is (ChunkEnd sum) = (BadRequest, refl)
 long_is Trailers = (BadRequest, refl)
 long_is BodyEnd = (BadRequest, refl)
+long_is HandshakeEnd = (BadRequest, refl)
+long_is Upgraded = (BadRequest, refl)
 long_is (Stopped why) = (BadRequest, refl)
 
 long_ends : (limits : Limits) (place : Place) (bytes : List ℕ) (why : Refusal) → after_too_long place ≡ bad why → front limits place bytes ≡ too_long
@@ -181,6 +196,12 @@ turn_ends limits place bytes turn rest results t ends =
 
 not_stopped : (limits : Limits) (place : Place) (bytes text : List ℕ) → front limits place bytes ≡ found text → (why : Refusal) → place ≡ Stopped why → ⊥
 not_stopped limits place bytes text e why is =
+    let P : Place → Type 0 = λ p. front limits p bytes ≡ found text in
+    let never : unfinished ≡ found text = subst P is e in
+    cc
+
+not_upgraded : (limits : Limits) (place : Place) (bytes text : List ℕ) → front limits place bytes ≡ found text → place ≡ Upgraded → ⊥
+not_upgraded limits place bytes text e is =
     let P : Place → Type 0 = λ p. front limits p bytes ≡ found text in
     let never : unfinished ≡ found text = subst P is e in
     cc
@@ -203,7 +224,7 @@ ends_there limits (suc fuel) place bytes h deny = by (front limits place bytes) 
     by too_long e go = let t = long_is place in deny (Bad (status_of t.0) ∷ []) (long_ends limits place bytes t.0 t.1 e)
     by (found text) e go =
         let b = text_begins limits place bytes text e in
-        judged_there limits place text (not_stopped limits place bytes text e)
+        judged_there limits place text (not_stopped limits place bytes text e) (not_upgraded limits place bytes text e)
         (λ turn judged. go turn.place b.rest
         (fewer bytes text b.rest (weight turn.place) (weight place) fuel b.splits (falls limits place text turn b.long judged) h)
         (λ results ends. deny (shown (turn.item ∷ []) ++ results)

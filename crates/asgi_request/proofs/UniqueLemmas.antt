@@ -7,7 +7,7 @@ use Rattle.httparse.specs.Grammar.{chunk_size}
 use Rattle.asgi_types.specs.declared.limits.Limits.{Limits}
 use Rattle.asgi_request.specs.declared.head.HeadRecord.{HeadRecord}
 use Rattle.asgi_request.specs.declared.place.Place.{Place}
-use Rattle.asgi_request.specs.declared.place.Place.TheVariants.{Start, Counted, SizeLine, Chunk, ChunkEnd, Trailers, BodyEnd, Stopped}
+use Rattle.asgi_request.specs.declared.place.Place.TheVariants.{Start, Counted, SizeLine, Chunk, ChunkEnd, Trailers, BodyEnd, HandshakeEnd, Upgraded, Stopped}
 use Rattle.asgi_request.specs.declared.next.Next.{Next}
 use Rattle.asgi_request.specs.Places.{Judged}
 use Rattle.asgi_request.specs.Fronts.{Front, found, too_long, unfinished, front_text}
@@ -44,6 +44,8 @@ same_text limits (Chunk left sum) text a b x y = x ∙ sym y
 same_text limits (ChunkEnd sum) text a b x y = x ∙ sym y
 same_text limits Trailers text a b x y = x.2 ∙ ap after_trailers (same_trailers limits.max_headers text x.0 y.0 x.1 y.1) ∙ sym y.2
 same_text limits BodyEnd text a b x y = x ∙ sym y
+same_text limits HandshakeEnd text a b x y = x ∙ sym y
+same_text limits Upgraded text a b x y = absurd x
 same_text limits (Stopped refusal) text a b x y = absurd x
 
 pub same_turn : (limits : Limits) (place : Place) (f : Front) (a b : Judged) → Judges limits place f a → Judges limits place f b → a ≡ b

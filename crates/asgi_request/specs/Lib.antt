@@ -8,6 +8,7 @@ pub mod Framings
 pub mod Key
 pub mod Upgrade
 pub mod Scopes
+pub mod RequestFraming
 pub mod Steps
 pub mod Fronts
 pub mod Parts

@@ -1,9 +1,10 @@
 -- Where results stand among the bytes that gave them: behind whole requests, or behind a head.
-use Rattle.std.specs.Prelude.{◌≡◌, ℕ, List, [], ◌∷◌, ◌++◌}
+use Rattle.std.specs.Prelude.{◌≡◌, ◌≢◌, ℕ, List, [], ◌∷◌, ◌++◌}
 use Rattle.std.specs.List.{flat_map}
 use Rattle.httparse.specs.Grammar.{RequestHead}
 use Rattle.asgi_types.specs.declared.facts.Facts.{Facts}
 use Rattle.asgi_types.specs.declared.facts.Framing.{Framing}
+use Rattle.asgi_types.specs.declared.facts.Framing.TheVariants.{Upgrade}
 use Rattle.asgi_types.specs.declared.limits.Limits.{Limits}
 use Rattle.asgi_types.specs.declared.scope.Scope.{Scope}
 use Rattle.asgi_request.specs.declared.next.Next.{Next}
@@ -12,11 +13,13 @@ use Rattle.asgi_request.specs.Head.{record_of}
 use Rattle.asgi_request.specs.Results.{ReadsHead, AreRequests}
 use Rattle.asgi_request.specs.Scopes.{scope_of, facts_of}
 
--- The bytes begin with the head that gives this scope and these facts, and `arrived` stands behind it.
+-- The bytes begin with the head of a request that gives this scope and these facts, and `arrived` stands behind it. The request
+-- is no opening handshake.
 pub record BeginsWith (limits : Limits) (bytes : List ℕ) (scope : Scope) (facts : Facts) (arrived : List ℕ) : Type 0 where
   pub head : RequestHead
   pub reads : ReadsHead limits bytes head facts.framing arrived
-  pub scope_is : scope ≡ scope_of (record_of head)
+  pub plain : facts.framing ≢ Upgrade
+  pub scope_is : scope ≡ scope_of (record_of head) facts.framing
   pub facts_are : facts ≡ facts_of (record_of head) facts.framing
 
 -- The results are those of whole requests, or none, and `behind` stands behind them.
@@ -33,3 +36,10 @@ pub record HasOpened (limits : Limits) (bytes : List ℕ) (opened : List Next) (
   pub head : BeginsWith limits behind scope facts arrived
   pub framing_is : framing ≡ facts.framing
   pub opened_is : opened ≡ closed ++ Head scope facts ∷ []
+
+-- The bytes begin with an opening handshake that gives this scope and these facts, and `frames` stands behind it.
+pub record BeginsWithHandshake (limits : Limits) (bytes : List ℕ) (scope : Scope) (facts : Facts) (frames : List ℕ) : Type 0 where
+  pub head : RequestHead
+  pub reads : ReadsHead limits bytes head Upgrade frames
+  pub scope_is : scope ≡ scope_of (record_of head) Upgrade
+  pub facts_are : facts ≡ facts_of (record_of head) Upgrade

@@ -7,13 +7,13 @@ use Rattle.asgi_types.specs.declared.facts.Framing.TheVariants.{Length, Chunked,
 use Rattle.asgi_types.specs.declared.incoming.Incoming.TheVariants.{HttpRequest}
 use Rattle.asgi_request.specs.declared.head.HeadRecord.{HeadRecord}
 use Rattle.asgi_request.specs.declared.place.Place.{Place}
-use Rattle.asgi_request.specs.declared.place.Place.TheVariants.{Start, Counted, SizeLine, Chunk, ChunkEnd, Trailers, BodyEnd, Stopped}
+use Rattle.asgi_request.specs.declared.place.Place.TheVariants.{Start, Counted, SizeLine, Chunk, ChunkEnd, Trailers, BodyEnd, HandshakeEnd, Upgraded, Stopped}
 use Rattle.asgi_request.specs.declared.next.Next.{Next}
 use Rattle.asgi_request.specs.declared.next.Next.TheVariants.{Head, Event, Whole, Bad}
 use Rattle.asgi_request.specs.Fronts.{Front, found, too_long, unfinished, front_at, first, front_text, head_len, line_len, trailer_len}
 use Rattle.asgi_request.specs.ChunkedBody.{size_line_limit}
 use Rattle.asgi_request.specs.Head.{ParsesHead}
-use Rattle.asgi_request.specs.BodyLength.{framing_or_refusal}
+use Rattle.asgi_request.specs.RequestFraming.{request_framing}
 use Rattle.asgi_request.specs.Refusals.{status_of}
 use Rattle.asgi_request.specs.Scopes.{scope_of, facts_of}
 use Rattle.asgi_request.specs.declared.refusal.Refusal.{Refusal}
@@ -30,6 +30,8 @@ front limits (Chunk left sum) bytes = first (min left limits.block) bytes
 front limits (ChunkEnd sum) bytes = first 2 bytes
 front limits Trailers bytes = front_at limits.max_head bytes (trailer_len bytes)
 front limits BodyEnd bytes = found []
+front limits HandshakeEnd bytes = found []
+front limits Upgraded bytes = unfinished
 front limits (Stopped refusal) bytes = unfinished
 
 -- what a text gives, if anything, and what is due behind it
@@ -49,21 +51,21 @@ silent place = record { item = None; place = place }
 abbrev pub gives : Next → Place → Judged
 gives item place = record { item = Some item; place = place }
 
--- the place before the body
+-- the place behind the head
 abbrev pub body_place : Framing → Place
 body_place (Length n) = Counted n
 body_place Chunked = SizeLine 0
-body_place Upgrade = BodyEnd
+body_place Upgrade = HandshakeEnd
 
 -- a head is given, or refused
 abbrev pub after_framing : HeadRecord → Result Framing Refusal → Judged
-after_framing r (Ok framing) = gives (Head (scope_of r) (facts_of r framing)) (body_place framing)
+after_framing r (Ok framing) = gives (Head (scope_of r framing) (facts_of r framing)) (body_place framing)
 after_framing r (Err refusal) = bad refusal
 
 -- a head text is a head, or a bad request
 abbrev pub after_head : Limits → Option HeadRecord → Judged
 after_head limits None = bad BadRequest
-after_head limits (Some r) = after_framing r (framing_or_refusal r limits)
+after_head limits (Some r) = after_framing r (request_framing r limits)
 
 -- a block is the last one where no bytes are left
 abbrev pub after_counted : ℕ → List ℕ → Judged
@@ -100,6 +102,8 @@ JudgesText limits (Chunk left sum) text turn = turn ≡ after_chunk left sum tex
 JudgesText limits (ChunkEnd sum) text turn = turn ≡ after_chunk_end sum text
 JudgesText limits Trailers text turn = (ok : Bool) × ParsesTrailers limits.max_headers text ok × (turn ≡ after_trailers ok)
 JudgesText limits BodyEnd text turn = turn ≡ gives Whole Start
+JudgesText limits HandshakeEnd text turn = turn ≡ gives Whole Upgraded
+JudgesText limits Upgraded text turn = ⊥
 JudgesText limits (Stopped refusal) text turn = ⊥
 
 -- a head that is too long has a status of its own
@@ -111,6 +115,8 @@ after_too_long (Chunk left sum) = bad BadRequest
 after_too_long (ChunkEnd sum) = bad BadRequest
 after_too_long Trailers = bad BadRequest
 after_too_long BodyEnd = bad BadRequest
+after_too_long HandshakeEnd = bad BadRequest
+after_too_long Upgraded = bad BadRequest
 after_too_long (Stopped refusal) = bad BadRequest
 
 -- nothing is judged before it is whole or its limit is reached
@@ -159,4 +165,6 @@ IsShortHead limits (Chunk left sum) text = Unit {0}
 IsShortHead limits (ChunkEnd sum) text = Unit {0}
 IsShortHead limits Trailers text = Unit {0}
 IsShortHead limits BodyEnd text = Unit {0}
+IsShortHead limits HandshakeEnd text = Unit {0}
+IsShortHead limits Upgraded text = Unit {0}
 IsShortHead limits (Stopped refusal) text = Unit {0}

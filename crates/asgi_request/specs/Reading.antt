@@ -1,7 +1,7 @@
 -- What a reader stands for, and what a call says of it.
 use Rattle.std.specs.Prelude.{◌≡◌, ℕ, ◌⊎◌, List, [], ◌∷◌, ◌++◌}
 use Rattle.std.specs.List.{flat_map}
-use Rattle.asgi_request.specs.Results.{AreRequests, GivesResults}
+use Rattle.asgi_request.specs.Results.{AreRequests, ReadsHandshake, GivesResults}
 use Rattle.asgi_types.specs.declared.limits.Limits.{Limits}
 use Rattle.asgi_request.specs.declared.place.Place.{Place}
 use Rattle.asgi_request.specs.declared.place.Place.TheVariants.{Stopped}
@@ -31,9 +31,15 @@ EndsWhole given = (given ≡ []) ⊎ ((before : List Next) × (given ≡ before 
 abbrev pub AllGiven : Reading → List ℕ → List Next → Type 0
 AllGiven r bytes given = (rest : List ℕ) × GivesResults r.limits bytes given rest
 
--- what was given are the results of whole requests, behind which these bytes stand
-abbrev pub WholeGiven : Reading → List ℕ → List Next → List ℕ → Type 0
-WholeGiven r bytes given rest = (requests : List (List Next)) × AreRequests r.limits bytes requests rest × (given ≡ flat_map (λ request. request) requests)
+-- what was given are the results of whole requests, and perhaps of an opening handshake behind them, and these bytes stand
+-- behind all of it
+pub record WholeGiven (r : Reading) (bytes : List ℕ) (given : List Next) (rest : List ℕ) : Type 0 where
+  pub requests : List (List Next)
+  pub behind : List ℕ
+  pub last : List Next
+  pub whole : AreRequests r.limits bytes requests behind
+  pub goes_on : ((last ≡ []) × (behind ≡ rest)) ⊎ ReadsHandshake r.limits behind last rest
+  pub given_are : given ≡ flat_map (λ request. request) requests ++ last
 
 -- no result is there
 abbrev pub IsWaiting : Reading → Type 0

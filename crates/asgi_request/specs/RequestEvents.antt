@@ -75,5 +75,5 @@ abbrev pub ReadsBody : Limits → Framing → List ℕ → List Incoming → Bod
 ReadsBody limits (Length n) bytes events state = (events ≡ length_events limits.block n bytes) × (state ≡ length_state n bytes)
 ReadsBody limits Chunked bytes events state =
     (pieces : List Piece) × ReadsChunked limits bytes pieces state × (events ≡ chunked_events limits.block pieces state)
--- an opening handshake has no body; no head is read as one yet
+-- an opening handshake has no body
 ReadsBody limits Upgrade bytes events state = (events ≡ []) × (state ≡ complete bytes)

@@ -1,9 +1,10 @@
--- All the results that a byte list has, in order (RFC 9112, sections 2.2, 6 and 9.3.2). Nothing here names a read or a
--- buffer.
-use Rattle.std.specs.Prelude.{◌≡◌, ℕ, ◌⊎◌, List, [], ◌∷◌, ◌++◌, map, Ok, Err}
+-- All the results that a byte list has, in order (RFC 9112, sections 2.2, 6 and 9.3.2; RFC 6455, section 4.2). Nothing here
+-- names a read or a buffer.
+use Rattle.std.specs.Prelude.{◌≡◌, ◌≢◌, ℕ, ◌⊎◌, List, [], ◌∷◌, ◌++◌, map, Ok, Err}
 use Rattle.std.specs.List.{flat_map}
 use Rattle.httparse.specs.Grammar.{RequestHead}
 use Rattle.asgi_types.specs.declared.facts.Framing.{Framing}
+use Rattle.asgi_types.specs.declared.facts.Framing.TheVariants.{Upgrade}
 use Rattle.asgi_types.specs.declared.incoming.Incoming.{Incoming}
 use Rattle.asgi_types.specs.declared.limits.Limits.{Limits}
 use Rattle.asgi_request.specs.declared.next.Next.{Next}
@@ -13,7 +14,7 @@ use Rattle.asgi_request.specs.declared.refusal.Refusal.TheVariants.{BadRequest, 
 use Rattle.asgi_request.specs.Texts.{IsFirstWithin, IsTooLong, IsUnfinished}
 use Rattle.asgi_request.specs.HeadText.{EndsAsHead}
 use Rattle.asgi_request.specs.Head.{IsHeadOf, record_of}
-use Rattle.asgi_request.specs.BodyLength.{framing_or_refusal}
+use Rattle.asgi_request.specs.RequestFraming.{request_framing}
 use Rattle.asgi_request.specs.Scopes.{scope_of, facts_of}
 use Rattle.asgi_request.specs.Refusals.{status_of}
 use Rattle.asgi_request.specs.ChunkedBody.{BodyState, partial, complete, faulty}
@@ -21,12 +22,12 @@ use Rattle.asgi_request.specs.RequestEvents.{ReadsBody}
 
 -- ---- one head
 
--- The bytes begin with this head, which announces a body framed that way, and then come those behind it.
+-- The bytes begin with this head, behind which stands what its framing says, and then come those behind it.
 pub record ReadsHead (limits : Limits) (bytes : List ℕ) (head : RequestHead) (framing : Framing) (behind : List ℕ) : Type 0 where
   pub text : List ℕ
   pub text_is : IsFirstWithin EndsAsHead limits.max_head bytes text behind
   pub head_is : IsHeadOf limits.max_headers text head
-  pub framing_is : framing_or_refusal (record_of head) limits ≡ Ok framing
+  pub framing_is : request_framing (record_of head) limits ≡ Ok framing
 
 -- The head text is no head.
 pub record HoldsNoHead (limits : Limits) (bytes : List ℕ) : Type 0 where
@@ -42,7 +43,7 @@ pub record HoldsRefusedHead (limits : Limits) (bytes : List ℕ) (why : Refusal)
   pub head : RequestHead
   pub text_is : IsFirstWithin EndsAsHead limits.max_head bytes text behind
   pub head_is : IsHeadOf limits.max_headers text head
-  pub refused : framing_or_refusal (record_of head) limits ≡ Err why
+  pub refused : request_framing (record_of head) limits ≡ Err why
 
 -- What the bytes begin with is refused: it is too long a head, or none, or one that is not served.
 abbrev pub RefusesHead : Limits → List ℕ → Refusal → Type 0
@@ -58,15 +59,23 @@ closing partial = []
 closing (complete behind) = Whole ∷ []
 closing (faulty why) = Bad (status_of why) ∷ []
 
--- The bytes begin with a request, as far as they go: its head, the events of its body, and how that ends.
+-- The bytes begin with a request that is no opening handshake, as far as they go: its head, the events of its body, and how
+-- that ends.
 pub record ReadsRequest (limits : Limits) (bytes : List ℕ) (results : List Next) (state : BodyState) : Type 0 where
   pub head : RequestHead
   pub framing : Framing
   pub behind : List ℕ
   pub events : List Incoming
   pub head_is : ReadsHead limits bytes head framing behind
+  pub plain : framing ≢ Upgrade
   pub body_is : ReadsBody limits framing behind events state
-  pub results_are : results ≡ Head (scope_of (record_of head)) (facts_of (record_of head) framing) ∷ (map Event events ++ closing state)
+  pub results_are : results ≡ Head (scope_of (record_of head) framing) (facts_of (record_of head) framing) ∷ (map Event events ++ closing state)
+
+-- The bytes begin with an opening handshake, which is whole with its head; frames stand behind it (RFC 6455, section 5.1).
+pub record ReadsHandshake (limits : Limits) (bytes : List ℕ) (results : List Next) (behind : List ℕ) : Type 0 where
+  pub head : RequestHead
+  pub head_is : ReadsHead limits bytes head Upgrade behind
+  pub results_are : results ≡ Head (scope_of (record_of head) Upgrade) (facts_of (record_of head) Upgrade) ∷ Whole ∷ []
 
 -- What bytes give that begin with no whole request.
 abbrev pub BeginsRequest : Limits → List ℕ → List Next → Type 0
@@ -78,20 +87,26 @@ BeginsRequest limits bytes results =
 
 -- ---- all of them
 
--- The bytes are whole requests, one after another, which give these results, and rest stands behind them
--- (section 9.3.2).
+-- The bytes are whole requests, one after another and none an opening handshake, which give these results, and rest stands
+-- behind them (section 9.3.2).
 abbrev pub AreRequests : Limits → List ℕ → List (List Next) → List ℕ → Type 0
 AreRequests limits bytes [] rest = bytes ≡ rest
 AreRequests limits bytes (results ∷ requests) rest =
     (behind : List ℕ) × ReadsRequest limits bytes results (complete behind) × AreRequests limits behind requests rest
 
+-- What the last results are, and which bytes stand behind the last `Whole`: no request is whole, or the bytes begin with an
+-- opening handshake, behind which there are no requests.
+abbrev pub GivesLast : Limits → List ℕ → List Next → List ℕ → Type 0
+GivesLast limits bytes results rest = (BeginsRequest limits bytes results × (bytes ≡ rest)) ⊎ ReadsHandshake limits bytes results rest
+
 -- These are all the results of the bytes, and rest stands behind the last whole request.
 pub record GivesResults (limits : Limits) (bytes : List ℕ) (results : List Next) (rest : List ℕ) : Type 0 where
   pub requests : List (List Next)
-  pub begun : List Next
-  pub whole : AreRequests limits bytes requests rest
-  pub goes_on : BeginsRequest limits rest begun
-  pub results_are : results ≡ flat_map (λ request. request) requests ++ begun
+  pub behind : List ℕ
+  pub last : List Next
+  pub whole : AreRequests limits bytes requests behind
+  pub goes_on : GivesLast limits behind last rest
+  pub results_are : results ≡ flat_map (λ request. request) requests ++ last
 
 -- These are the first results of the bytes: a front of them has these, and more perhaps. No byte behind the front changes
 -- them.

@@ -2,7 +2,7 @@
 -- result. No promise is stated by these words.
 use Rattle.std.specs.Prelude.{◌≡◌, ℕ, ◌≤◌, List, ◌++◌, length, take, drop, Bool, true, false, Option, Some, None}
 use Rattle.asgi_request.specs.declared.place.Place.{Place}
-use Rattle.asgi_request.specs.declared.place.Place.TheVariants.{Start, Counted, SizeLine, Chunk, ChunkEnd, Trailers, BodyEnd, Stopped}
+use Rattle.asgi_request.specs.declared.place.Place.TheVariants.{Start, Counted, SizeLine, Chunk, ChunkEnd, Trailers, BodyEnd, HandshakeEnd, Upgraded, Stopped}
 use Rattle.asgi_request.specs.declared.place.Advance.{Advance}
 use Rattle.asgi_request.specs.declared.place.Advance.TheVariants.{Waits, Refuses, Gives}
 use Rattle.asgi_request.specs.declared.next.Next.{Next}
@@ -48,6 +48,8 @@ Resumes (Chunk left sum) s held = Unit {0}
 Resumes (ChunkEnd sum) s held = Unit {0}
 Resumes Trailers s held = ResumesTrailer s.begun s.at held
 Resumes BodyEnd s held = Unit {0}
+Resumes HandshakeEnd s held = Unit {0}
+Resumes Upgraded s held = Unit {0}
 Resumes (Stopped refusal) s held = Unit {0}
 
 -- the front that a search found
@@ -91,6 +93,8 @@ is_silent (Chunk left sum) = false
 is_silent (ChunkEnd sum) = true
 is_silent Trailers = false
 is_silent BodyEnd = false
+is_silent HandshakeEnd = false
+is_silent Upgraded = false
 is_silent (Stopped refusal) = false
 
 -- why the bytes are refused here, if they are
@@ -102,6 +106,8 @@ refusal_at (Chunk left sum) = None
 refusal_at (ChunkEnd sum) = None
 refusal_at Trailers = None
 refusal_at BodyEnd = None
+refusal_at HandshakeEnd = None
+refusal_at Upgraded = None
 refusal_at (Stopped refusal) = Some refusal
 
 -- a refusal, or no result
@@ -137,4 +143,6 @@ rank (Chunk left sum) = 0
 rank (ChunkEnd sum) = 2
 rank Trailers = 0
 rank BodyEnd = 0
+rank HandshakeEnd = 0
+rank Upgraded = 0
 rank (Stopped refusal) = 0

@@ -1,5 +1,6 @@
 //! How the body of a request is delimited.
-ghost use Rattle.std.specs.Prelude.{◌≡◌, ◌&&◌, not, codes};
+ghost use Rattle.std.specs.Prelude.{◌≡◌, ◌≢◌, ◌&&◌, not, codes, Ok};
+ghost use Rattle.asgi_types.specs.declared.facts.Framing.{Framing};
 ghost use Rattle.asgi_request.specs.BodyLength as spec;
 ghost use Rattle.asgi_request.specs.Framings as framings;
 ghost use Rattle.asgi_request.specs.FieldValues.{count_named};
@@ -45,7 +46,8 @@ pub fn framing_of(head: &HeadRecord, limits: &Limits) -> HeadFraming
 
 /// The same, with the reason of a refusal: the first case that holds.
 pub fn framing_or_refusal(head: &HeadRecord, limits: &Limits) -> Result<Framing, Refusal>
-    ensures { result ≡ spec.framing_or_refusal head.now limits.now }
+    ensures first { result ≡ spec.framing_or_refusal head.now limits.now }
+    ensures body { result ≢ Ok Framing.Upgrade }
 {
     if head.method.as_str().as_bytes() == CONNECT {
         return Err(Refusal::NotImplemented);
@@ -68,7 +70,8 @@ fn lacks_host(head: &HeadRecord) -> bool
 
 /// Message body length, by what the fields say (RFC 9112, section 6.3): the first case that holds.
 fn body_length(version: HttpVersion, headers: &Headers, max_body: u64) -> Result<Framing, Refusal>
-    ensures { result ≡ spec.body_length version headers.now max_body }
+    ensures first { result ≡ spec.body_length version headers.now max_body }
+    ensures body { result ≢ Ok Framing.Upgrade }
 {
     let lengths = count_named(headers, CONTENT_LENGTH);
     let codings = count_named(headers, TRANSFER_ENCODING);

@@ -21,14 +21,14 @@ pub fn why_too_long(place: Place) -> Refusal
     }
 }
 
-/// The place before the body.
+/// The place behind the head.
 pub fn body_place(framing: Framing) -> Place
     ensures { result ≡ spec.body_place framing }
 {
     match framing {
         Framing::Length(n) => Place::Counted(n),
         Framing::Chunked => Place::SizeLine(0),
-        Framing::Upgrade => Place::BodyEnd,
+        Framing::Upgrade => Place::HandshakeEnd,
     }
 }
 

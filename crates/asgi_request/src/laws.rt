@@ -1,5 +1,5 @@
 //! Laws of the definitions.
-ghost use Rattle.std.specs.Prelude.{◌≡◌, ◌↔◌, ◌++◌, ◌∷◌, [], ℕ, List, All, Option, Some, true, length, map};
+ghost use Rattle.std.specs.Prelude.{◌≡◌, ◌≢◌, ◌↔◌, ◌++◌, ◌∷◌, [], ℕ, List, All, Option, Some, true, length, map};
 ghost use mathlib.Core.List.{IsPrefix};
 ghost use Rattle.httparse.specs.Grammar.{ChunkLine, ReadsChunkLine, chunk_size, Field, LineEnd};
 ghost use Rattle.asgi_types.specs.declared.facts.Facts.{Facts};
@@ -14,7 +14,8 @@ ghost use Rattle.asgi_request.specs.BodyOf.{body_events, body_state};
 ghost use Rattle.asgi_request.specs.BodyTexts.{size_in, is_section};
 ghost use Rattle.asgi_request.specs.ChunkedBody.{BodyState, IsTrailerSection};
 ghost use Rattle.asgi_request.specs.HeadText.{EndsAsHead};
-ghost use Rattle.asgi_request.specs.Opened.{HasOpened, HasClosed, BeginsWith};
+ghost use Rattle.asgi_request.specs.Key.{is_key};
+ghost use Rattle.asgi_request.specs.Opened.{HasOpened, HasClosed, BeginsWith, BeginsWithHandshake};
 ghost use Rattle.asgi_request.specs.Reading.{Reading, StandsFor, IsWaiting, IsRefused, AllGiven};
 ghost use Rattle.asgi_request.specs.Refusals.{status_of};
 ghost use Rattle.asgi_request.specs.RequestEvents.{ReadsBody};
@@ -143,11 +144,11 @@ pub fn body_events_are_no_disconnects()
         → ReadsBody limits framing bytes events state → All IsRequestEvent events }
 {}
 
-/// Behind a head that was given stand the bytes of its body, and those that are fed come behind them; behind a whole body
+/// Behind the head of a request that was given stand the bytes of its body, and those that are fed come behind them; behind a whole body
 /// stands the next head.
 pub fn head_opens_a_body()
     ensures opens { (reader : Reading) (bytes : List ℕ) (before behind : List Next) (scope : Scope) (facts : Facts)
-        → StandsFor reader bytes (before ++ Next.Head scope facts ∷ behind)
+        → StandsFor reader bytes (before ++ Next.Head scope facts ∷ behind) → facts.framing ≢ Framing.Upgrade
         → (arrived : List ℕ) × HasOpened reader.limits bytes (before ++ Next.Head scope facts ∷ []) facts.framing arrived }
     ensures grows { (limits : Limits) (bytes more : List ℕ) (opened : List Next) (framing : Framing) (arrived : List ℕ)
         → HasOpened limits bytes opened framing arrived → HasOpened limits (bytes ++ more) opened framing (arrived ++ more) }
@@ -155,9 +156,21 @@ pub fn head_opens_a_body()
         → HasOpened limits bytes opened framing arrived → ReadsBody limits framing arrived events (BodyState.complete behind)
         → HasClosed limits bytes (opened ++ (map Next.Event events ++ Next.Whole ∷ [])) behind }
     ensures next { (reader : Reading) (bytes : List ℕ) (closed more : List Next) (behind : List ℕ) (scope : Scope) (facts : Facts)
-        → HasClosed reader.limits bytes closed behind → StandsFor reader bytes (closed ++ Next.Head scope facts ∷ more)
+        → HasClosed reader.limits bytes closed behind → StandsFor reader bytes (closed ++ Next.Head scope facts ∷ more) → facts.framing ≢ Framing.Upgrade
         → (arrived : List ℕ) × BeginsWith reader.limits behind scope facts arrived
         × HasOpened reader.limits bytes (closed ++ Next.Head scope facts ∷ []) facts.framing arrived }
+{}
+
+/// An opening handshake that was given stands behind whole requests: the bytes begin with it there, nothing follows its `Whole`,
+/// and its key is one.
+pub fn handshake_is_last()
+    ensures begins { (reader : Reading) (bytes : List ℕ) (closed more : List Next) (behind : List ℕ) (scope : Scope) (facts : Facts)
+        → HasClosed reader.limits bytes closed behind → StandsFor reader bytes (closed ++ Next.Head scope facts ∷ more) → facts.framing ≡ Framing.Upgrade
+        → (frames : List ℕ) × BeginsWithHandshake reader.limits behind scope facts frames }
+    ensures whole { (limits : Limits) (bytes frames : List ℕ) (scope : Scope) (facts : Facts)
+        → BeginsWithHandshake limits bytes scope facts frames → GivesResults limits bytes (Next.Head scope facts ∷ Next.Whole ∷ []) frames }
+    ensures key { (limits : Limits) (bytes frames : List ℕ) (scope : Scope) (facts : Facts)
+        → BeginsWithHandshake limits bytes scope facts frames → is_key facts.key ≡ true }
 {}
 
 /// Behind whole requests, or where none was given, a head is due: one that the bytes begin with opens a body; a refusal says

@@ -20,6 +20,10 @@ pub enum Place {
     Trailers,
     /// Nothing more of this request.
     BodyEnd,
+    /// Nothing more of this opening handshake.
+    HandshakeEnd,
+    /// Nothing ever: behind an opening handshake stand frames.
+    Upgraded,
     /// Nothing ever: the bytes are refused.
     Stopped(Refusal),
 }

@@ -2,6 +2,9 @@
 ghost use Rattle.std.specs.Prelude.{◌≡◌, ◌≢◌, ◌↔◌, ◌+◌, ◌<◌, ◌≤◌, ◌++◌, ◌∷◌, [], ℕ, List, length, take, drop, OnOk, OnErr, IfOk, IsOk, IsTrue, IsFalse, true, false, Some};
 ghost use Rattle.std.specs.Vec.{vec_len, vec_capacity};
 ghost use Rattle.asgi_types.specs.Room.{LacksRoom};
+ghost use Rattle.asgi_types.specs.declared.facts.Framing.{Framing};
+ghost use Rattle.asgi_request.specs.Key.{IsKey};
+ghost use Rattle.asgi_request.specs.Upgrade.{key_of};
 ghost use Rattle.asgi_request.specs.declared.next.Next.{Next};
 ghost use Rattle.asgi_request.specs.declared.place.Place.TheVariants.{Start};
 ghost use Rattle.asgi_request.specs.Reading.{StandsFor, EndsWhole, AllGiven, WholeGiven, IsWaiting, IsRefused, Keeps, GoesOn};
@@ -12,7 +15,6 @@ ghost use Rattle.asgi_request.specs.Refusals.{status_of};
 ghost use Rattle.asgi_request.specs.Scopes.{scope_of as scope_is, facts_of as facts_is};
 ghost use Rattle.asgi_request.specs.Searches.{Advances, IsThere, IsWithin, Stepped, TakesText, behind, front_of, is_silent, refusal_at, refused};
 
-use crate::framing::framing_or_refusal;
 use crate::head::{HeadRecord, parse_head};
 use crate::judge::{after_silent, body_place, why_too_long};
 use crate::next::Next;
@@ -21,6 +23,7 @@ use crate::place::{Advance, Place};
 use crate::refusal::Refusal;
 use crate::scope::{facts_of, scope_of};
 use crate::search::{Arrival, NEW_SEARCH, Search, arrive};
+use crate::upgrade::request_framing;
 use asgi_types::{Framing, Incoming, Limits, Octets};
 use std::alloc::{AllocError, Global};
 use std::marker::Model;
@@ -125,7 +128,7 @@ impl RequestReader {
         }
     }
 
-    /// The next result, `Need` where more bytes are needed, or the last `Bad` again.
+    /// The next result, `Need` where more bytes are needed and ever after an opening handshake, or the last `Bad` again.
     pub fn next(&mut self) -> Result<Next, AllocError>
         ensures need { IfOk result (λ next. next ≡ Next.Need → (bytes : List ℕ) (given : List Next) → StandsFor self.old bytes given → StandsFor self.new bytes given × AllGiven self.new bytes given) }
         ensures waits { IfOk result (λ next. next ≡ Next.Need → IsWaiting self.new) }
@@ -231,7 +234,9 @@ impl RequestReader {
             Place::Chunk { left, sum } => self.give_chunk(n, left, sum),
             Place::Trailers => Ok(self.give_trailers(n)),
             Place::BodyEnd => Ok(self.give_whole(n)),
-            Place::SizeLine(_) | Place::ChunkEnd(_) | Place::Stopped(_) => unreachable!(),
+            Place::HandshakeEnd => Ok(self.give_upgraded(n)),
+            Place::SizeLine(_) | Place::ChunkEnd(_) => unreachable!(),
+            Place::Upgraded | Place::Stopped(_) => unreachable!(),
         }
     }
 
@@ -245,26 +250,27 @@ impl RequestReader {
         let Some(head) = parse_head(self.alloc, self.limits.max_headers, self.text(n))? else {
             return Ok(self.refuse(n, Refusal::BadRequest));
         };
-        match framing_or_refusal(&head, &self.limits) {
+        match request_framing(&head, &self.limits) {
             Err(refusal) => Ok(self.refuse(n, refusal)),
             Ok(framing) => self.give_request(n, head, framing),
         }
     }
 
-    /// The request of a head whose body is delimited in this way.
+    /// The request of a head behind which this stands.
     fn give_request(
         &mut self,
         n: usize,
         head: HeadRecord,
         framing: Framing,
     ) -> Result<Next, AllocError>
-        requires { n ≤ length self.old.held }
-        ensures item { IfOk result (λ item. item ≡ Next.Head (scope_is head) (facts_is head framing)) }
+        requires inside { n ≤ length self.old.held }
+        requires key { framing ≡ Framing.Upgrade → IsKey (key_of head.headers) }
+        ensures item { IfOk result (λ item. item ≡ Next.Head (scope_is head framing) (facts_is head framing)) }
         ensures ok { OnOk result (self.new ≡ behind self.old n (places.body_place framing)) }
         ensures err { OnErr result (self.new ≡ self.old) }
     {
-        let facts = facts_of(self.alloc, &head, framing);
-        let scope = scope_of(self.alloc, head)?;
+        let facts = facts_of(self.alloc, &head, framing)?;
+        let scope = scope_of(self.alloc, head, framing)?;
         self.go_on(n, body_place(framing));
         Ok(Next::Head(scope, facts))
     }
@@ -331,6 +337,15 @@ impl RequestReader {
         Next::Whole
     }
 
+    /// The end of an opening handshake.
+    fn give_upgraded(&mut self, n: usize) -> Next
+        requires { n ≤ length self.old.held }
+        ensures { TakesText self.old self.new Place.HandshakeEnd n result }
+    {
+        self.go_on(n, Place::Upgraded);
+        Next::Whole
+    }
+
     /// Refuses a text.
     fn refuse(&mut self, n: usize, refusal: Refusal) -> Next
         requires { n ≤ length self.old.held }
@@ -366,6 +381,17 @@ impl RequestReader {
     {
         let start = self.start;
         &self.bytes[start..]
+    }
+
+    /// The same bytes, in the reader's own memory: behind an opening handshake they are the first of its frames. It takes no
+    /// memory.
+    pub fn rest(self) -> Vec<u8>
+        ensures { (bytes : List ℕ) (given : List Next) → StandsFor self bytes given → EndsWhole given → WholeGiven self bytes given result.items }
+    {
+        let RequestReader { bytes, start, .. } = self;
+        let mut bytes = bytes;
+        drop_front(&mut bytes, start);
+        bytes
     }
 }
 

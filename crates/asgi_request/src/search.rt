@@ -57,8 +57,8 @@ pub fn arrive(limits: &Limits, place: Place, bytes: &[u8], search: &mut Search) 
         Place::Chunk { left, .. } => first(at_most(left, limits.block), bytes),
         Place::ChunkEnd(_) => first(2, bytes),
         Place::Trailers => within(limits.max_head, bytes, find_trailer(bytes, search)),
-        Place::BodyEnd => Arrival::Text(0),
-        Place::Stopped(_) => Arrival::Partial,
+        Place::BodyEnd | Place::HandshakeEnd => Arrival::Text(0),
+        Place::Upgraded | Place::Stopped(_) => Arrival::Partial,
     }
 }
 

@@ -1,16 +1,19 @@
 //! The client's opening handshake of WebSocket (RFC 6455, section 4.2.1).
 ghost use Rattle.std.specs.Prelude.{◌≡◌, IfOk, OnErr, IsTrue, Ok, true};
+ghost use Rattle.asgi_types.specs.declared.facts.Framing.{Framing};
 ghost use Rattle.asgi_request.specs.Key.{IsKey};
+ghost use Rattle.asgi_request.specs.RequestFraming as framings;
 ghost use Rattle.asgi_request.specs.Upgrade as spec;
 ghost use Rattle.asgi_request.specs.Upgrade.{HasKey, OffersSome, upgrade_of, upgrade_answer};
 
 use crate::fields::{count_named, value_named};
-use crate::framing::HeadFraming;
+use crate::framing::{HeadFraming, framing_or_refusal};
 use crate::head::HeadRecord;
 use crate::key::is_key;
 use crate::refusal::Refusal;
+use crate::scope::has_body;
 use crate::subprotocols::subprotocols_of;
-use asgi_types::{Headers, HttpVersion, Names};
+use asgi_types::{Framing, Headers, HttpVersion, Limits, Names};
 use std::alloc::{AllocError, Global};
 
 const GET: &[u8] = b"GET";
@@ -81,10 +84,32 @@ fn handshake(alloc: Global, headers: &Headers) -> Result<UpgradeAsk, AllocError>
     ensures key { IfOk result HasKey }
     ensures memory { OnErr result (OffersSome (upgrade_answer headers.now (Ok true))) }
 {
-    let mut key = [0; 24];
-    key.copy_from_slice(value_named(headers, SEC_WEBSOCKET_KEY));
+    let key = key_of(headers);
     let subprotocols = subprotocols_of(alloc, headers)?;
     Ok(UpgradeAsk::Upgrade { key, subprotocols })
+}
+
+/// The key of an opening handshake.
+pub fn key_of(headers: &Headers) -> [u8; 24]
+    requires { IsKey (spec.key_of headers.now) }
+    ensures { result ≡ spec.key_of headers.now }
+{
+    let mut key = [0; 24];
+    key.copy_from_slice(value_named(headers, SEC_WEBSOCKET_KEY));
+    key
+}
+
+/// What follows the head of a request, or why it is refused: for its body first, and then as an opening handshake. It takes
+/// no memory.
+pub fn request_framing(head: &HeadRecord, limits: &Limits) -> Result<Framing, Refusal>
+    ensures framing { result ≡ framings.request_framing head.now limits.now }
+    ensures key { result ≡ Ok Framing.Upgrade → IsKey (spec.key_of head.now.headers) }
+{
+    let framing = framing_or_refusal(head, limits)?;
+    if handshake_or_refusal(head, has_body(framing))? {
+        return Ok(Framing::Upgrade);
+    }
+    Ok(framing)
 }
 
 /// Whether the request is an opening handshake, or why it is refused: the first case that holds. It takes no memory.

@@ -13,6 +13,8 @@ mod edges;
 #[cfg(test)]
 mod feeding;
 #[cfg(test)]
+mod handshakes;
+#[cfg(test)]
 mod heads;
 #[cfg(test)]
 mod inputs;

@@ -1,7 +1,7 @@
 //! Memory refused to a connection. `tests/memory.py` runs this with each allocation refused in turn; with ample memory
 //! none is refused.
 use crate::fakes::{App, Pieces, line_of, serve_by};
-use crate::texts::{BAD_REQUEST, GET, HELLO, HELLO_HEAD, SERVER_ERROR};
+use crate::texts::{BAD_REQUEST, GET, HELLO, HELLO_HEAD, NOT_IMPLEMENTED, SERVER_ERROR};
 use asgi_conn::Outcome;
 use asgi_types::Limits;
 use std::alloc::AllocGlobal;
@@ -30,7 +30,13 @@ type Row = (App, &'static [u8], &'static [u8], Outcome, u64);
 const ROWS: &[Row] = &[
     (App::Hello, GET, HELLO, Outcome::Finished, 1),
     (App::Hello, HEAD, HELLO_HEAD, Outcome::Finished, 1),
-    (App::Hello, UPGRADE, HELLO, Outcome::Finished, 1),
+    (
+        App::Hello,
+        UPGRADE,
+        NOT_IMPLEMENTED,
+        Outcome::Refused(501),
+        0,
+    ),
     (App::Hello, LENGTH, HELLO, Outcome::Finished, 1),
     (App::Hello, NO_HOST, BAD_REQUEST, Outcome::Refused(400), 0),
     (App::Echo, PIPELINED, ECHOED, Outcome::Finished, 2),

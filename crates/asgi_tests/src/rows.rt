@@ -2,7 +2,7 @@
 use crate::fakes::{Pieces, line_of, serve};
 use crate::texts::{
     BAD_REQUEST, GET, HELLO, HELLO_AND_CLOSE, HELLO_HEAD, NOT_IMPLEMENTED, OLD_HELLO,
-    OLD_HELLO_HEAD, TOO_LARGE, TOO_LARGE_CONTENT,
+    OLD_HELLO_HEAD, TOO_LARGE, TOO_LARGE_CONTENT, UPGRADE_REQUIRED,
 };
 use asgi_apps::Hello;
 use asgi_conn::Outcome;
@@ -44,9 +44,48 @@ fn a_request_is_answered(rt: HostRuntime) -> Result<(), Fail> {
         b"GET / HTTP/1.1\nHost: a\n\n",
         b"GET / HTTP/1.1\r\nHOST: a\r\nX-Empty:\r\nX-Tab: a\tb\r\n\r\n",
         b"GET / HTTP/1.1\r\nHost: a\r\nConnection: keep-alive, x-close\r\nX-Close: close\r\n\r\n",
-        b"GET /c HTTP/1.1\r\nHost: a\r\nUpgrade: websocket\r\nConnection: Upgrade\r\nSec-WebSocket-Key: dGhlIHNhbXBsZSBub25jZQ==\r\nSec-WebSocket-Version: 13\r\n\r\n",
+        b"GET /c HTTP/1.1\r\nHost: a\r\nUpgrade: h2c\r\nConnection: Upgrade\r\nSec-WebSocket-Version: 8\r\n\r\n",
     ];
     check(&rt, &inputs, &Limits::usual(), HELLO, Outcome::Finished, 1)
+}
+
+#[test]
+fn an_opening_handshake_is_not_served(rt: HostRuntime) -> Result<(), Fail> {
+    let handshakes: [&[u8]; 2] = [
+        b"GET /c HTTP/1.1\r\nHost: a\r\nUpgrade: websocket\r\nConnection: Upgrade\r\nSec-WebSocket-Key: dGhlIHNhbXBsZSBub25jZQ==\r\nSec-WebSocket-Version: 13\r\n\r\n",
+        b"GET /c HTTP/1.1\r\nHost: a\r\nUpgrade: websocket\r\nConnection: Upgrade\r\nSec-WebSocket-Key: dGhlIHNhbXBsZSBub25jZQ==\r\nSec-WebSocket-Version: 13\r\n\r\nGET / HTTP/1.1\r\nHost: a\r\n\r\n",
+    ];
+    let outcome = Outcome::Refused(501);
+    check(
+        &rt,
+        &handshakes,
+        &Limits::usual(),
+        NOT_IMPLEMENTED,
+        outcome,
+        0,
+    )
+}
+
+#[test]
+fn a_faulty_handshake_is_refused(rt: HostRuntime) -> Result<(), Fail> {
+    let other: [&[u8]; 1] = [
+        b"GET /c HTTP/1.1\r\nHost: a\r\nUpgrade: websocket\r\nConnection: Upgrade\r\nSec-WebSocket-Key: AAAA\r\nSec-WebSocket-Version: 8\r\n\r\n",
+    ];
+    let outcome = Outcome::Refused(426);
+    check(&rt, &other, &Limits::usual(), UPGRADE_REQUIRED, outcome, 0)?;
+    let faulty: [&[u8]; 3] = [
+        b"POST /c HTTP/1.1\r\nHost: a\r\nUpgrade: websocket\r\nConnection: Upgrade\r\nSec-WebSocket-Key: dGhlIHNhbXBsZSBub25jZQ==\r\nSec-WebSocket-Version: 13\r\n\r\n",
+        b"GET /c HTTP/1.1\r\nHost: a\r\nContent-Length: 1\r\nUpgrade: websocket\r\nConnection: Upgrade\r\nSec-WebSocket-Key: dGhlIHNhbXBsZSBub25jZQ==\r\nSec-WebSocket-Version: 13\r\n\r\n",
+        b"GET /c HTTP/1.1\r\nHost: a\r\nUpgrade: websocket\r\nConnection: Upgrade\r\nSec-WebSocket-Key: AAAA\r\nSec-WebSocket-Version: 13\r\n\r\n",
+    ];
+    check(
+        &rt,
+        &faulty,
+        &Limits::usual(),
+        BAD_REQUEST,
+        Outcome::Refused(400),
+        0,
+    )
 }
 
 #[test]

@@ -24,7 +24,7 @@ answer-requires-clause-http g c =
     let head = c.in-Ok-Head in
     let gave = lemma.given_as c.in-Between.wire.requests c.next.new.self head.field-0 (Head head.scope head.facts) head.field-0-is (λ never. cc) head.ensures.given in
     lemma.is_http answers limits c.args.client.now c.args.server.now c.args.state.now start now c.args.tally.now c.in-Between.wire at
-    c.next.new.self c.next.ensures.limits head.scope head.facts gave c.in-Ok.scope c.in-Ok.ensures
+    c.next.new.self c.next.ensures.limits head.scope head.facts gave c.in_default-framing.not-Upgrade c.in-Ok.scope c.in-Ok.ensures
 
 pub unreachable-requires-in-Ok-Event : goal.unreachable-requires-in-Ok-Event
 unreachable-requires-in-Ok-Event g c =
@@ -90,5 +90,18 @@ returns-in-Ok-clause-serves g c limits start s =
     let head = c.in-Ok-Head in
     let gave = lemma.given_as c.in-Between.wire.requests c.next.new.self head.field-0 (Head head.scope head.facts) head.field-0-is (λ never. cc) head.ensures.given in
     lemma.answered answers limits c.args.client.now c.args.server.now c.args.state.now start now c.args.tally.now c.in-Between.wire at
-    c.next.new.self c.next.ensures.limits head.scope head.facts gave c.in-Ok.scope (state_of g.L.Reads g.L.Counts c.answer.new.line) c.answer.new.tally c.answer.result
+    c.next.new.self c.next.ensures.limits head.scope head.facts gave c.in_default-framing.not-Upgrade c.in-Ok.scope (state_of g.L.Reads g.L.Counts c.answer.new.line) c.answer.new.tally c.answer.result
     c.in-Ok.ensures c.answer.ensures.serves
+
+pub returns-in-Upgrade-clause-serves : goal.returns-in-Upgrade-clause-serves
+returns-in-Upgrade-clause-serves g c limits start s =
+    let now = state_of g.L.Reads g.L.Counts c.args.line.now in
+    let answers = g.A.Application.answers c.args.app.now in
+    let at = lemma.rested answers limits c.args.client.now c.args.server.now c.args.state.now start now c.args.tally.now c.args.place c.in-Between.wire c.in-Between.is s in
+    let head = c.in-Ok-Head in
+    let gave = lemma.given_as c.in-Between.wire.requests c.next.new.self head.field-0 (Head head.scope head.facts) head.field-0-is (λ never. cc) head.ensures.given in
+    lemma.handshaken answers limits c.args.client.now c.args.server.now c.args.state.now start now c.args.tally.now c.in-Between.wire at
+    c.next.new.self c.next.ensures.limits (state_of g.L.Reads g.L.Counts c.refuse-in-Upgrade.new.line) c.refuse-in-Upgrade.result head.scope head.facts gave c.in-Upgrade.is c.refuse-in-Upgrade.ensures.refuses
+
+pub returns-in-Upgrade-clause-counts : goal.returns-in-Upgrade-clause-counts
+returns-in-Upgrade-clause-counts g c turned pauses counts = lemma.counts_still _ _ turned pauses _ _ _ counts

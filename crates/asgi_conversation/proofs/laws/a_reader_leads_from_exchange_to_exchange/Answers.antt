@@ -14,8 +14,8 @@ pub returns-clause-sees_end : goal.returns-clause-sees_end
 returns-clause-sees_end c limits old new read given exchanges behind written on b = lemma.end_seen limits old new read given exchanges behind written on b
 
 pub returns-clause-begins : goal.returns-clause-begins
-returns-clause-begins c reader end read given more exchanges behind written scope facts b r =
-    lemma.begins reader.limits end read given more exchanges behind written reader.place reader.held scope facts b r
+returns-clause-begins c reader end read given more exchanges behind written scope facts b r plain =
+    lemma.begins reader.limits end read given more exchanges behind written reader.place reader.held scope facts b r plain
 
 pub returns-clause-reads_more_within : goal.returns-clause-reads_more_within
 returns-clause-reads_more_within c limits end read more opened exchanges written scope facts arrived x =

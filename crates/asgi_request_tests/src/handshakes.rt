@@ -1,0 +1,72 @@
+//! What a reader gives of an opening handshake, and which bytes stand behind it (RFC 6455, section 4.2.1).
+use crate::calls::{held, new_reader, of_given, put, take};
+use asgi_request::{Next, RequestReader};
+use asgi_types::{Facts, Framing, Limits, Scope};
+use std::alloc::{AllocError, Global};
+use std::test::Fail;
+
+const HANDSHAKE: &[u8] =
+    b"GET /c?d HTTP/1.1\r\nHost: a\r\nUpgrade: websocket\r\nConnection: Upgrade\r\nSec-WebSocket-Key: dGhlIHNhbXBsZSBub25jZQ==\r\nSec-WebSocket-Version: 13\r\nSec-WebSocket-Protocol: chat, superchat\r\n\r\n";
+
+/// A frame of a client (RFC 6455, section 5.7).
+const FRAME: &[u8] = b"\x81\x85\x37\xfa\x21\x3d\x7f\x9f\x4d\x51\x58";
+
+/// Whether it is the head of the handshake.
+fn is_head(next: &Next) -> bool {
+    match next {
+        Next::Head(Scope::WebSocket(scope), facts) => {
+            scope.scheme.as_str() == "ws"
+                && scope.raw_path.bytes() == b"/c".as_slice()
+                && scope.query_string.bytes() == b"d".as_slice()
+                && scope.subprotocols.len() == 2
+                && scope.extensions.websocket_http_response
+                && are_facts(facts)
+        }
+        _ => false,
+    }
+}
+
+fn are_facts(facts: &Facts) -> bool {
+    facts.framing == Framing::Upgrade
+        && facts.key == *b"dGhlIHNhbXBsZSBub25jZQ=="
+        && facts.subprotocols.len() == 2
+        && !facts.expect
+}
+
+fn is_whole(next: &Next) -> bool {
+    matches!(next, Next::Whole)
+}
+
+fn is_need(next: &Next) -> bool {
+    matches!(next, Next::Need)
+}
+
+/// What stands behind the handshake, where it was given.
+fn keeps(reader: RequestReader) -> bool {
+    held(&reader) == FRAME && reader.rest().as_slice() == FRAME
+}
+
+/// Fed in two pieces, it is given with nothing behind it, and the frame stays.
+fn is_given(alloc: Global, cut: usize) -> Result<bool, AllocError> {
+    if cut > HANDSHAKE.len() {
+        return Ok(false);
+    }
+    let mut reader = new_reader(alloc, Limits::usual());
+    put(&mut reader, &HANDSHAKE[..cut])?;
+    let waits = of_given(take(&mut reader), is_need)?;
+    put(&mut reader, &HANDSHAKE[cut..])?;
+    let head = of_given(take(&mut reader), is_head)?;
+    let whole = of_given(take(&mut reader), is_whole)?;
+    put(&mut reader, FRAME)?;
+    let need = of_given(take(&mut reader), is_need)?;
+    Ok(waits && head && whole && need && keeps(reader))
+}
+
+#[test]
+fn the_bytes_behind_a_handshake_are_kept(rt: HostRuntime) -> Result<(), Fail> {
+    for cut in [0, 1, 60, 150] {
+        let given = is_given(rt.alloc(), cut);
+        assert!(rt; given == Ok(true), "{cut}");
+    }
+    Ok(())
+}
