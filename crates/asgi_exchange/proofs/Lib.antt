@@ -1,5 +1,4 @@
 pub mod SessionLemmas
-pub mod DenialLemmas
 pub mod SessionExchangeLemmas
 pub mod ListLemmas
 pub mod EventLemmas

@@ -15,6 +15,7 @@ use Rattle.asgi_protocol.specs.Verdicts.{is_disconnect}
 use Rattle.asgi_protocol.specs.Passing.{passes, each_passes}
 use Rattle.asgi_protocol.specs.Lawful.{IsLawful}
 use Rattle.asgi_protocol.proofs.PassingLemmas.{test_of_lawful}
+use Rattle.asgi_response.specs.Denial.{closing_facts, as_response, denial_text}
 use Rattle.asgi_response.specs.Exchange.{refusal_text}
 use Rattle.asgi_response.specs.Response.{message_text, event_text}
 use Rattle.asgi_response.proofs.LawLemmas.{message_behind}
@@ -22,7 +23,7 @@ use Rattle.asgi_pipes.specs.Disconnects.{first_disconnect}
 use Rattle.asgi_exchange.specs.Exchange.{IsSteady}
 use Rattle.asgi_exchange.specs.Messages.{Message, Text, Bytes, Ping, Pong, Close, events_in, before_close, first_close, has_close, disconnect_of}
 use Rattle.asgi_exchange.specs.Session as session
-use Rattle.asgi_exchange.specs.Session.{Output, Byte, Handshake, with_session_event, accepted_session, message_of, closing_facts, as_response, denial_text, output_of, event_output, session_output}
+use Rattle.asgi_exchange.specs.Session.{Output, Byte, Handshake, with_session_event, accepted_session, message_of, output_of, event_output, session_output}
 use Rattle.asgi_exchange.specs.WebSocket.{web_socket}
 use Rattle.asgi_exchange.proofs.ListLemmas.{prefix_self, prefix_same, prefix_behind}
 

@@ -1,7 +1,7 @@
 -- What is written in a session or in its place (ASGI WebSocket message format 2.4, "Accept", "Send" and "Close", and the
 -- extension `websocket.http.response`; RFC 6455, sections 4.2.2, 5.6 and 7.1). An event that is not lawful in its place
 -- has no text.
-use Rattle.std.specs.Prelude.{ℕ, Bool, true, List, [], ◌∷◌, ◌++◌, Option, map, if◌then◌else◌}
+use Rattle.std.specs.Prelude.{ℕ, Bool, List, [], ◌∷◌, ◌++◌, Option, map, if◌then◌else◌}
 use Rattle.std.specs.List.{flat_map, fold}
 use Rattle.asgi_types.specs.Fields.{HeaderField}
 use Rattle.asgi_types.specs.declared.end_kind.EndKind.{EndKind}
@@ -9,12 +9,13 @@ use Rattle.asgi_types.specs.declared.end_kind.EndKind.TheVariants.{Returned, Fau
 use Rattle.asgi_types.specs.declared.facts.Facts.{Facts}
 use Rattle.asgi_types.specs.declared.incoming.Payload.{Payload}
 use Rattle.asgi_types.specs.declared.outgoing.Outgoing.{Outgoing}
-use Rattle.asgi_types.specs.declared.outgoing.Outgoing.TheVariants.{ResponseStart, ResponseBody, WsAccept, WsSend, WsClose, DenialStart, DenialBody}
+use Rattle.asgi_types.specs.declared.outgoing.Outgoing.TheVariants.{WsAccept, WsSend, WsClose, DenialStart}
 use Rattle.asgi_types.specs.declared.scope.Kind.TheVariants.{WebSocket}
 use Rattle.asgi_protocol.specs.Shapes.{is_closed}
 use Rattle.asgi_protocol.specs.Passing.{passes}
 use Rattle.asgi_response.specs.Exchange.{refusal_text}
-use Rattle.asgi_response.specs.Response.{message_text, event_text}
+use Rattle.asgi_response.specs.Denial.{closing_facts, as_response, denial_text}
+use Rattle.asgi_response.specs.Response.{event_text}
 
 -- a byte of a text, or a message of the server
 pub data Output : Type 0 where
@@ -42,18 +43,6 @@ abbrev pub message_of : Outgoing → List Output
 message_of (WsSend payload) = Data payload ∷ []
 message_of (WsClose code reason) = Close code reason ∷ []
 message_of _ = []
-
--- a denial is a response, behind which the connection closes
-abbrev pub closing_facts : Facts → Facts
-closing_facts facts = record facts { close = true }
-
-abbrev pub as_response : Outgoing → Outgoing
-as_response (DenialStart status headers) = ResponseStart status headers
-as_response (DenialBody body more_body) = ResponseBody body more_body
-as_response event = event
-
-abbrev pub denial_text : Facts → List Outgoing → List ℕ
-denial_text facts events = message_text (closing_facts facts) (map as_response events)
 
 -- The handshake and then messages; or 403 where the session is refused; or a denial.
 abbrev pub output_of : Handshake → Facts → List Outgoing → List Output

@@ -1,6 +1,5 @@
 //! Laws of an exchange, over every list: contracts of functions with no code.
 ghost use Rattle.std.specs.Prelude.{◌≡◌, ◌++◌, ◌∷◌, [], map, List, ℕ, Option, true, false, Some, None};
-ghost use Rattle.asgi_types.specs.Fields.{HeaderField};
 ghost use Rattle.asgi_types.specs.declared.facts.Facts.{Facts};
 ghost use Rattle.asgi_types.specs.declared.incoming.Incoming.{Incoming};
 ghost use Rattle.asgi_types.specs.declared.limits.Limits.{Limits};
@@ -12,7 +11,6 @@ ghost use Rattle.asgi_request.specs.declared.next.Next.{Next};
 ghost use Rattle.asgi_request.specs.Opened.{HasOpened};
 ghost use Rattle.asgi_request.specs.Reading.{Reading, StandsFor, AllGiven};
 ghost use Rattle.asgi_types.specs.declared.end_kind.EndKind.{EndKind};
-ghost use Rattle.asgi_response.specs.Response.{continue_text, response_text};
 ghost use Rattle.asgi_pipes.specs.Disconnects.{Hears};
 ghost use Rattle.asgi_pipes.specs.Items.{items_of};
 ghost use Rattle.asgi_pipes.specs.Queues.{KeepsOrder};
@@ -24,7 +22,7 @@ ghost use Rattle.asgi_exchange.specs.Items.{end_of};
 ghost use Rattle.asgi_exchange.specs.Keeps.{IsExchange};
 ghost use Rattle.asgi_exchange.specs.Messages.{Message, Close, events_in, has_close, session_events, disconnect_of, session_disconnect};
 ghost use Rattle.asgi_exchange.specs.Schedules.{Step, run, ConnStep, conn_run, AppStep, app_run, ConnGoesOn};
-ghost use Rattle.asgi_exchange.specs.Session.{Output, Handshake, accepted_session, closing_facts, as_response, denial_text, session_output, event_output};
+ghost use Rattle.asgi_exchange.specs.Session.{Output, Handshake, accepted_session, session_output, event_output};
 ghost use Rattle.asgi_exchange.specs.SessionExchange.{IsSessionExchange};
 ghost use Rattle.asgi_exchange.specs.Steps.{is_by_input, arrive, offer, break_off};
 ghost use Rattle.asgi_exchange.specs.Views.{ConnView, ByInput, empty_world, empty_conn, empty_app};
@@ -163,13 +161,4 @@ pub fn session_events_add_their_output()
 /// A lawful list of events of a session is accepted whole.
 pub fn lawful_sessions_are_accepted()
     ensures { (facts : Facts) (events : List Outgoing) → IsLawful WebSocket facts events → accepted_session facts events ≡ events }
-{}
-
-/// A denial is lawful as the response that it stands for is, behind which the connection closes, and has its text.
-pub fn denials_are_responses()
-    ensures lawful { (facts : Facts) (status : ℕ) (headers : List HeaderField) (bodies : List Outgoing)
-        → (let denial = Outgoing.DenialStart status headers ∷ bodies in IsLawful WebSocket facts denial → IsLawful Http (closing_facts facts) (map as_response denial)) }
-    ensures text { (facts : Facts) (status : ℕ) (headers : List HeaderField) (bodies : List Outgoing)
-        → (let denial = Outgoing.DenialStart status headers ∷ bodies in
-        IsLawful WebSocket facts denial → response_text (closing_facts facts) (map as_response denial) ≡ continue_text facts.expect ++ denial_text facts denial) }
 {}

@@ -12,3 +12,4 @@ pub mod StartLemmas
 pub mod LawfulLemmas
 pub mod SizedLemmas
 pub mod EndLemmas
+pub mod DenialLemmas

@@ -3,6 +3,7 @@ pub mod Fields
 pub mod Content
 pub mod Accepted
 pub mod Response
+pub mod Denial
 pub mod Exchange
 pub mod Progress
 pub mod Standing

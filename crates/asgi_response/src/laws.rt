@@ -1,5 +1,12 @@
 //! Laws of the text of a response.
-ghost use Rattle.std.specs.Prelude.{All};
+ghost use Rattle.std.specs.Prelude.{◌≡◌, ◌++◌, ◌∷◌, All, List, ℕ, map};
+ghost use Rattle.asgi_types.specs.Fields.{HeaderField};
+ghost use Rattle.asgi_types.specs.declared.facts.Facts.{Facts};
+ghost use Rattle.asgi_types.specs.declared.outgoing.Outgoing.{Outgoing};
+ghost use Rattle.asgi_types.specs.declared.scope.Kind.TheVariants.{Http, WebSocket};
+ghost use Rattle.asgi_protocol.specs.Lawful.{IsLawful};
+ghost use Rattle.asgi_response.specs.Denial.{closing_facts, as_response, denial_text};
+ghost use Rattle.asgi_response.specs.Response.{continue_text, response_text};
 ghost use Rattle.asgi_response.specs.Laws.{TextOnlyGrows, PassedIsAccepted, LawfulIsAccepted, EventsAddTheirText, ClosedTextStays, BegunResponsesGetNothingMore, UnbegunResponsesAreReplaced, AddedTextOnlyGrows};
 ghost use Rattle.asgi_response.specs.ReadBack.{HeadIsReadBack, IsHeadReadBack, IsSendable};
 ghost use Rattle.asgi_response.specs.ReadBackBody.{ResponseIsReadBack, IsResponseReadBack};
@@ -64,3 +71,12 @@ pub fn headers_are_read_back(headers: &Headers)
 {
     headers.fields_are_valid();
 }
+
+/// A denial is lawful as the response that it stands for is, behind which the connection closes, and has its text.
+pub fn denials_are_responses()
+    ensures lawful { (facts : Facts) (status : ℕ) (headers : List HeaderField) (bodies : List Outgoing)
+        → (let denial = Outgoing.DenialStart status headers ∷ bodies in IsLawful WebSocket facts denial → IsLawful Http (closing_facts facts) (map as_response denial)) }
+    ensures text { (facts : Facts) (status : ℕ) (headers : List HeaderField) (bodies : List Outgoing)
+        → (let denial = Outgoing.DenialStart status headers ∷ bodies in
+        IsLawful WebSocket facts denial → response_text (closing_facts facts) (map as_response denial) ≡ continue_text facts.expect ++ denial_text facts denial) }
+{}

@@ -1,5 +1,6 @@
 -- A denial is lawful just as the response is that it stands for, behind which the connection closes.
 use Rattle.std.proofs.Common.{◌≡◌, ℕ, ◌+◌, Bool, true, false, List, [], ◌∷◌, ◌++◌, inl, inr, length, map, Option, None, refl, ap, sym, ◌∙◌, subst}
+use Rattle.std.proofs.lemmas.List.{map-append}
 use Rattle.std.specs.Prelude.{◌&&◌, not, if◌then◌else◌}
 use Rattle.asgi_types.specs.Fields.{HeaderField}
 use Rattle.asgi_types.specs.declared.facts.Facts.{Facts}
@@ -9,10 +10,9 @@ use Rattle.asgi_types.specs.declared.scope.Kind.TheVariants.{Http, WebSocket}
 use Rattle.asgi_protocol.specs.BytesLeft.{is_above, is_below}
 use Rattle.asgi_protocol.specs.Lawful.{IsResponse, IsWord, BeginsWord, IsLawful}
 use Rattle.asgi_protocol.specs.Rules.{has_bad_status, has_bad_header, has_bad_code, has_bad_reason, has_bad_subprotocol, length_given_by, promised_length, body_bytes, has_too_much_body, has_too_little_body, MeetsRules}
+use Rattle.asgi_response.specs.Denial.{closing_facts, as_response, denial_text}
 use Rattle.asgi_response.specs.Response.{message_text, continue_text, response_text}
 use Rattle.asgi_response.proofs.LawfulLemmas.{lawful_is_accepted}
-use Rattle.asgi_exchange.specs.Session.{closing_facts, as_response, denial_text}
-use Rattle.asgi_exchange.proofs.SessionLemmas.{map_append}
 
 -- ---- the rules of one event
 
@@ -148,7 +148,7 @@ module _ (facts : Facts) (status : ℕ) (headers : List HeaderField) (bodies : L
         headers = d.headers;
         parts = d.parts;
         last = d.last;
-        in_order = sym (map_append as_response denial b.0) ∙ (ap (map as_response) d.in_order ∙ ap (λ w. ResponseStart d.status d.headers ∷ w) (same_parts d.parts d.last));
+        in_order = sym (map-append as_response denial b.0) ∙ (ap (map as_response) d.in_order ∙ ap (λ w. ResponseStart d.status d.headers ∷ w) (same_parts d.parts d.last));
       }
 
   each_meets : IsLawful WebSocket facts denial → (before after : List Outgoing) (event : Outgoing) → map as_response denial ≡ before ++ event ∷ after

@@ -1,5 +1,5 @@
-use Rattle.asgi_exchange.proofs.laws.denials_are_responses.Goals as goal
-use Rattle.asgi_exchange.proofs.DenialLemmas.{is_lawful_response, is_response_text}
+use Rattle.asgi_response.proofs.laws.denials_are_responses.Goals as goal
+use Rattle.asgi_response.proofs.DenialLemmas.{is_lawful_response, is_response_text}
 
 pub returns-clause-lawful : goal.returns-clause-lawful
 returns-clause-lawful c facts status headers bodies lawful = is_lawful_response facts status headers bodies lawful
