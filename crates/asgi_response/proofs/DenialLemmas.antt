@@ -128,7 +128,7 @@ split (x ∷ said) (b ∷ before) after event h =
       event_is = rest.event_is;
     }
 
-same_parts : (parts : List (List ℕ)) (last : List ℕ)
+pub same_parts : (parts : List (List ℕ)) (last : List ℕ)
     → map as_response (map (λ part. DenialBody part true) parts ++ DenialBody last false ∷ []) ≡ map (λ part. ResponseBody part true) parts ++ ResponseBody last false ∷ []
 same_parts [] last = refl
 same_parts (part ∷ parts) last = ap (λ w. ResponseBody part true ∷ w) (same_parts parts last)

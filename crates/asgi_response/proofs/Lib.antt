@@ -13,3 +13,5 @@ pub mod LawfulLemmas
 pub mod SizedLemmas
 pub mod EndLemmas
 pub mod DenialLemmas
+pub mod DenialTextLemmas
+pub mod DenialReadLemmas

@@ -11,11 +11,11 @@ use Rattle.asgi_response.specs.declared.progress.Progress.{Progress}
 use Rattle.asgi_response.specs.declared.progress.Progress.TheVariants as progress
 use Rattle.asgi_response.specs.declared.text.ResponseText.{ResponseText}
 use Rattle.asgi_response.specs.declared.text.Phase.{Phase}
-use Rattle.asgi_response.specs.declared.text.Phase.TheVariants.{Waiting, Started, Begun, Complete}
+use Rattle.asgi_response.specs.declared.text.Phase.TheVariants.{Waiting, Started, Begun, Complete, Elsewhere}
 use Rattle.asgi_response.specs.Accepted.{accepted}
 use Rattle.asgi_response.specs.Exchange.{has_begun}
 use Rattle.asgi_response.specs.Progress.{closes_behind, progress_in, progress_of}
-use Rattle.asgi_response.specs.Standing.{part, IsPhase, StandsFor}
+use Rattle.asgi_response.specs.Standing.{part, IsPhase, HasAccepted, StandsFor}
 use Rattle.asgi_response.specs.Steps.{progress_at}
 use Rattle.asgi_protocol.proofs.WordLemmas.{test_of_word}
 use Rattle.asgi_response.proofs.AcceptedLemmas.{is_row-open}
@@ -51,6 +51,10 @@ at_phase facts said head close Complete r e =
     ap (λ (b : Bool). let p : Progress = progress.Complete b in p) e
     ∙ sym (complete_in (is_closed Http said) (has_begun said) (closes_behind facts said)
     (test_of_word Http said r))
+at_phase facts said head close Elsewhere never e = absurd never
+
+pub progress_in_text : (t : ResponseText) (facts : Facts) (said : List Outgoing) → HasAccepted t facts said → progress_at t.phase t.close ≡ progress_in facts said
+progress_in_text t facts said at = at_phase facts said t.head t.close t.phase at.phase at.close
 
 pub progress_is : (t : ResponseText) (facts : Facts) (events : List Outgoing) → StandsFor t facts events → progress_at t.phase t.close ≡ progress_of facts events
-progress_is t facts events at = at_phase facts (accepted facts events) t.head t.close t.phase at.phase at.close
+progress_is t facts events at = progress_in_text t facts (accepted facts events) at.has_accepted

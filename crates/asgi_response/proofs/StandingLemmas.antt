@@ -1,10 +1,12 @@
 -- What a text stands for behind one more event, and what the event adds.
-use Rattle.std.proofs.Common.{◌≡◌, ℕ, ◌+◌, Bool, true, false, List, [], ◌∷◌, ◌++◌, length, map, flat_map, refl, sym, ap, ◌∙◌, subst, append_assoc, length-append, ◌⊎◌, inl, inr, IsTrue, arith}
+use Rattle.std.proofs.Common.{◌≡◌, ◌≢◌, ℕ, ◌+◌, Bool, true, false, List, [], ◌∷◌, ◌++◌, length, map, flat_map, refl, sym, ap, ◌∙◌, subst, append_assoc, length-append, ◌⊎◌, inl, inr, IsTrue, arith}
 use Rattle.std.proofs.lemmas.List.{append-nil, map-append}
 use Rattle.std.proofs.lemmas.List.Concat.{flat_map-append}
 use Rattle.std.specs.Prelude.{not, ◌&&◌, if◌then◌else◌, Some}
 use Rattle.asgi_types.specs.Fields.{HeaderField}
 use Rattle.asgi_types.specs.declared.facts.Facts.{Facts}
+use Rattle.asgi_types.specs.declared.facts.Framing.{Framing}
+use Rattle.asgi_types.specs.declared.facts.Framing.TheVariants.{Length, Chunked, Upgrade}
 use Rattle.asgi_types.specs.declared.scope.Kind.TheVariants.{Http}
 use Rattle.asgi_types.specs.declared.outgoing.Outgoing.{Outgoing}
 use Rattle.asgi_types.specs.declared.outgoing.Outgoing.TheVariants.{ResponseStart, ResponseBody, WsAccept, WsSend, WsClose, DenialStart, DenialBody, StartupComplete, StartupFailed, ShutdownComplete, ShutdownFailed}
@@ -16,7 +18,7 @@ use Rattle.asgi_response.specs.declared.content.Coding.{Coding}
 use Rattle.asgi_response.specs.declared.content.Content.{Content}
 use Rattle.asgi_response.specs.declared.text.ResponseText.{ResponseText}
 use Rattle.asgi_response.specs.declared.text.Phase.{Phase}
-use Rattle.asgi_response.specs.declared.text.Phase.TheVariants.{Waiting, Started, Begun, Complete}
+use Rattle.asgi_response.specs.declared.text.Phase.TheVariants.{Waiting, Started, Begun, Complete, Elsewhere}
 use Rattle.asgi_response.specs.Accepted.{with_event, accepted}
 use Rattle.asgi_response.specs.Content.{part_text, has_content}
 use Rattle.asgi_response.specs.Fields.{is_chunked, closes, head_text}
@@ -24,8 +26,8 @@ use Rattle.asgi_response.specs.Progress.{closes_behind}
 use Rattle.asgi_response.specs.Response.{body_text, message_text, continue_text, response_text}
 use Rattle.asgi_types.specs.Room.{LacksRoom}
 use Rattle.asgi_response.specs.Room.{LacksMemory, is_start}
-use Rattle.asgi_response.specs.Standing.{coding_of, part, IsOpen, HasStart, HasParts, IsPhase, HasAccepted, StandsFor, Grows}
-use Rattle.asgi_response.specs.Steps.{coded_text, is_allowed, left_at_start, content_due, next_phase, may_start, content_at_start, after_part, part_added, after_event, starts, added_by}
+use Rattle.asgi_response.specs.Standing.{coding_of, part, IsOpen, HasStart, HasParts, IsPhase, HasAccepted, opens_session, StandsFor, Grows}
+use Rattle.asgi_response.specs.Steps.{coded_text, is_allowed, left_at_start, content_due, next_phase, may_start, content_at_start, after_part, part_added, after_response_event, response_starts, added_by_response, after_session_event, denial_starts, added_by_denial, after_event, starts, added_by}
 use Rattle.asgi_protocol.proofs.CountLemmas.{with_sent-zero}
 use Rattle.asgi_response.proofs.AcceptedLemmas.{passes_body, second_start, after_closed, first_start, first_body, other_scope, accepted-push, promised_behind}
 
@@ -59,6 +61,7 @@ started t facts said status headers at none = record {
   head_only = at.head_only;
   close = ap (λ (b : Bool). closes b headers) (closes_first t facts said at none) ∙ sym (ap (λ (s : List Outgoing). closes_behind facts (s ++ ResponseStart status headers ∷ [])) none);
   expect = at.expect;
+  session = at.session;
   phase = record {
     status = status;
     headers = headers;
@@ -90,6 +93,7 @@ start_step t facts said status headers at (Begun content) h =
     keeps t facts said (ResponseStart status headers) at (second_start facts said h.status h.headers (h.front ++ h.last ∷ []) status headers h.is_open.events)
 start_step t facts said status headers at Complete r =
     keeps t facts said (ResponseStart status headers) at (after_closed facts said (ResponseStart status headers) r)
+start_step t facts said status headers at Elsewhere never = absurd never
 
 -- ---- a body
 
@@ -133,7 +137,7 @@ open_step t facts said status headers parts content body more at o =
     choose (λ u s. HasAccepted u facts s) (is_allowed content.left (length body) more) (passes Http facts said (ResponseBody body more)) t
     (record t { phase = next_phase content (length body) more; head = [] }) said (said ++ ResponseBody body more ∷ [])
     (passes_body facts said status headers parts content.left body more o.events o.left)
-    (λ fits. record { version = at.version; head_only = at.head_only; close = at.close ∙ closes_on facts said status headers parts body more o.events; expect = at.expect; phase = next_is facts said status headers parts content body more o fits })
+    (λ fits. record { version = at.version; head_only = at.head_only; close = at.close ∙ closes_on facts said status headers parts body more o.events; expect = at.expect; session = at.session; phase = next_is facts said status headers parts content body more o fits })
     at
 
 body_step : (t : ResponseText) (facts : Facts) (said : List Outgoing) (body : List ℕ) (more : Bool) → HasAccepted t facts said
@@ -143,11 +147,12 @@ body_step t facts said body more at Waiting none = keeps t facts said (ResponseB
 body_step t facts said body more at (Started content) h = open_step t facts said h.status h.headers [] content body more at h.is_open
 body_step t facts said body more at (Begun content) h = open_step t facts said h.status h.headers (h.front ++ h.last ∷ []) content body more at h.is_open
 body_step t facts said body more at Complete r = keeps t facts said (ResponseBody body more) at (after_closed facts said (ResponseBody body more) r)
+body_step t facts said body more at Elsewhere never = absurd never
 
 -- ---- any event
 
 event_step : (t : ResponseText) (facts : Facts) (said : List Outgoing) (event : Outgoing) → HasAccepted t facts said
-    → HasAccepted (after_event t event) facts (with_event facts said event)
+    → HasAccepted (after_response_event t event) facts (with_event facts said event)
 event_step t facts said (ResponseStart status headers) at = start_step t facts said status headers at t.phase at.phase
 event_step t facts said (ResponseBody body more) at = body_step t facts said body more at t.phase at.phase
 event_step t facts said (WsAccept a b) at = keeps t facts said (WsAccept a b) at (other_scope facts said (WsAccept a b) refl)
@@ -160,11 +165,28 @@ event_step t facts said (StartupFailed a) at = keeps t facts said (StartupFailed
 event_step t facts said ShutdownComplete at = keeps t facts said ShutdownComplete at (other_scope facts said ShutdownComplete refl)
 event_step t facts said (ShutdownFailed a) at = keeps t facts said (ShutdownFailed a) at (other_scope facts said (ShutdownFailed a) refl)
 
+pub accepted_behind : (t : ResponseText) (facts : Facts) (events : List Outgoing) (event : Outgoing) → HasAccepted t facts (accepted facts events)
+    → HasAccepted (after_response_event t event) facts (accepted facts (events ++ event ∷ []))
+accepted_behind t facts events event at =
+    subst (λ (s : List Outgoing). HasAccepted (after_response_event t event) facts s) (sym (accepted-push facts events event)) (event_step t facts (accepted facts events) event at)
+
+no_session : (framing : Framing) → framing ≢ Upgrade → opens_session framing ≡ false
+no_session (Length n) h = refl
+no_session Chunked h = refl
+no_session Upgrade h = absurd (h refl)
+
+answers_request : (t : ResponseText) (facts : Facts) (events : List Outgoing) → StandsFor t facts events → t.session ≡ false
+answers_request t facts events at =
+    let has : HasAccepted t facts (accepted facts events) = at.has_accepted in has.session ∙ no_session facts.framing at.plain
+
 pub stands_behind : (t new : ResponseText) (facts : Facts) (events : List Outgoing) (event : Outgoing) → new ≡ after_event t event
     → StandsFor t facts events → StandsFor new facts (events ++ event ∷ [])
-stands_behind t new facts events event e at =
-    subst (λ (u : ResponseText). HasAccepted u facts (accepted facts (events ++ event ∷ []))) (sym e)
-    (subst (λ (s : List Outgoing). HasAccepted (after_event t event) facts s) (sym (accepted-push facts events event)) (event_step t facts (accepted facts events) event at))
+stands_behind t new facts events event e at = record {
+  plain = at.plain;
+  has_accepted = subst (λ (u : ResponseText). HasAccepted u facts (accepted facts (events ++ event ∷ [])))
+      (sym (e ∙ ap (λ (b : Bool). if b then after_session_event t event else after_response_event t event) (answers_request t facts events at)))
+      (accepted_behind t facts events event at.has_accepted);
+}
 
 -- ---- what the event adds
 
@@ -238,6 +260,7 @@ body_adds facts said head body more (Begun content) h =
     choose_text (is_allowed content.left (length body) more) (passes Http facts said (ResponseBody body more)) said (said ++ ResponseBody body more ∷ []) facts (head ++ coded_text content.coding body more)
     (passes_body facts said h.status h.headers (h.front ++ h.last ∷ []) content.left body more h.is_open.events h.is_open.left) (later_part facts said content head body more h)
 body_adds facts said head body more Complete r = nothing_added facts said (ResponseBody body more) (after_closed facts said (ResponseBody body more) r)
+body_adds facts said head body more Elsewhere never = absurd never
 
 -- a start alone has no text
 start_alone : (facts : Facts) (said : List Outgoing) (status : ℕ) (headers : List HeaderField) (b : Bool) → said ≡ []
@@ -254,9 +277,10 @@ start_adds facts said head status headers (Started content) h =
 start_adds facts said head status headers (Begun content) h =
     nothing_added facts said (ResponseStart status headers) (second_start facts said h.status h.headers (h.front ++ h.last ∷ []) status headers h.is_open.events)
 start_adds facts said head status headers Complete r = nothing_added facts said (ResponseStart status headers) (after_closed facts said (ResponseStart status headers) r)
+start_adds facts said head status headers Elsewhere never = absurd never
 
 event_adds : (t : ResponseText) (facts : Facts) (said : List Outgoing) (event : Outgoing) → HasAccepted t facts said
-    → message_text facts (with_event facts said event) ≡ message_text facts said ++ added_by t event
+    → message_text facts (with_event facts said event) ≡ message_text facts said ++ added_by_response t event
 event_adds t facts said (ResponseStart status headers) at = start_adds facts said t.head status headers t.phase at.phase
 event_adds t facts said (ResponseBody body more) at = body_adds facts said t.head body more t.phase at.phase
 event_adds t facts said (WsAccept a b) at = nothing_added facts said (WsAccept a b) (other_scope facts said (WsAccept a b) refl)
@@ -269,13 +293,18 @@ event_adds t facts said (StartupFailed a) at = nothing_added facts said (Startup
 event_adds t facts said ShutdownComplete at = nothing_added facts said ShutdownComplete (other_scope facts said ShutdownComplete refl)
 event_adds t facts said (ShutdownFailed a) at = nothing_added facts said (ShutdownFailed a) (other_scope facts said (ShutdownFailed a) refl)
 
+pub next_text : (t : ResponseText) (facts : Facts) (events : List Outgoing) (event : Outgoing) → HasAccepted t facts (accepted facts events)
+    → message_text facts (accepted facts (events ++ event ∷ [])) ≡ message_text facts (accepted facts events) ++ added_by_response t event
+next_text t facts events event at =
+    ap (message_text facts) (accepted-push facts events event) ∙ event_adds t facts (accepted facts events) event at
+
 text_behind : (t : ResponseText) (facts : Facts) (events : List Outgoing) (event : Outgoing) → StandsFor t facts events
     → response_text facts (events ++ event ∷ []) ≡ response_text facts events ++ added_by t event
 text_behind t facts events event at =
     let front : List ℕ = continue_text facts.expect in
-    ap (λ (s : List Outgoing). front ++ message_text facts s) (accepted-push facts events event)
-    ∙ ap (λ (x : List ℕ). front ++ x) (event_adds t facts (accepted facts events) event at)
-    ∙ sym (append_assoc front (message_text facts (accepted facts events)) (added_by t event))
+    ap (λ (x : List ℕ). front ++ x) (next_text t facts events event at.has_accepted)
+    ∙ sym (append_assoc front (message_text facts (accepted facts events)) (added_by_response t event))
+    ∙ ap (λ (b : Bool). response_text facts events ++ (if b then added_by_denial t event else added_by_response t event)) (sym (answers_request t facts events at))
 
 pub grows_behind : (t : ResponseText) (facts : Facts) (events : List Outgoing) (event : Outgoing) (old new : List ℕ) → new ≡ old ++ added_by t event
     → StandsFor t facts events → Grows (response_text facts events) (response_text facts (events ++ event ∷ [])) old new
@@ -288,8 +317,9 @@ first_passes facts said head status headers Waiting none h = first_start facts s
 first_passes facts said head status headers (Started content) at h = cc
 first_passes facts said head status headers (Begun content) at h = cc
 first_passes facts said head status headers Complete at h = cc
+first_passes facts said head status headers Elsewhere at h = cc
 
-start_passes : (t : ResponseText) (facts : Facts) (said : List Outgoing) (event : Outgoing) → HasAccepted t facts said → IsTrue (starts t event)
+start_passes : (t : ResponseText) (facts : Facts) (said : List Outgoing) (event : Outgoing) → HasAccepted t facts said → IsTrue (response_starts t event)
     → IsTrue (is_start event && passes Http facts said event)
 start_passes t facts said (ResponseStart status headers) at h = first_passes facts said t.head status headers t.phase at.phase h
 start_passes t facts said (ResponseBody a b) at h = cc
@@ -307,7 +337,9 @@ start_passes t facts said (ShutdownFailed a) at h = cc
 pub lacks_behind : (t : ResponseText) (facts : Facts) (events : List Outgoing) (event : Outgoing) (capacity len : ℕ)
     → IsTrue (starts t event) ⊎ LacksRoom capacity len (added_by t event) → StandsFor t facts events
     → LacksMemory capacity len facts events event
-lacks_behind t facts events event capacity len (inl start) at = inl (start_passes t facts (accepted facts events) event at start)
+lacks_behind t facts events event capacity len (inl start) at =
+    inl (start_passes t facts (accepted facts events) event at.has_accepted
+    (ap (λ (b : Bool). if b then denial_starts t event else response_starts t event) (sym (answers_request t facts events at)) ∙ start))
 lacks_behind t facts events event capacity len (inr room) at =
     let longer : length (response_text facts (events ++ event ∷ [])) ≡ length (response_text facts events) + length (added_by t event) =
     ap (λ (x : List ℕ). length x) (text_behind t facts events event at) ∙ length-append (response_text facts events) (added_by t event) in

@@ -3,9 +3,9 @@ pub mod Fields
 pub mod Content
 pub mod Accepted
 pub mod Response
-pub mod Denial
 pub mod Exchange
 pub mod Progress
+pub mod Denial
 pub mod Standing
 pub mod Laws
 pub mod Refusals

@@ -1,5 +1,5 @@
 -- What a recipient reads of a whole response, by the grammars of `httparse` and `http1` (RFC 9112, sections 4 to 7).
-use Rattle.std.specs.Prelude.{◌≡◌, ℕ, ◌<◌, ◌^◌, Bool, true, false, List, [], ◌∷◌, ◌++◌, length, All, Some}
+use Rattle.std.specs.Prelude.{◌≡◌, ℕ, ◌<◌, ◌^◌, Bool, true, false, List, [], ◌∷◌, ◌++◌, length, All, Some, codes, map, ◌×◌}
 use Rattle.std.specs.List.{concat}
 use Rattle.httparse.specs.Ascii.{crlf_bytes}
 use Rattle.http1.specs.ChunkedBody.{Chunks, AreChunks, ReadsChunks, print_chunks, content}
@@ -7,9 +7,11 @@ use Rattle.asgi_types.specs.Fields.{HeaderField}
 use Rattle.asgi_types.specs.declared.facts.Facts.{Facts}
 use Rattle.asgi_types.specs.declared.outgoing.Outgoing.{Outgoing}
 use Rattle.asgi_protocol.specs.ContentLengths.{content_length}
-use Rattle.asgi_protocol.specs.Lawful.{IsResponse}
+use Rattle.asgi_types.specs.declared.scope.Kind.TheVariants.{WebSocket}
+use Rattle.asgi_protocol.specs.Lawful.{IsResponse, IsDenial, IsLawful}
 use Rattle.asgi_protocol.specs.Rules.{given_length}
 use Rattle.asgi_response.specs.Accepted.{accepted}
+use Rattle.asgi_response.specs.Denial.{closing_facts, denial_text}
 use Rattle.asgi_response.specs.Fields.{is_chunked, closes}
 use Rattle.asgi_response.specs.Content.{has_content}
 use Rattle.asgi_response.specs.Response.{message_text}
@@ -55,3 +57,14 @@ IsResponseReadBack headers = (facts : Facts) (events : List Outgoing) (r : IsRes
     → r.headers ≡ headers → All IsSized (r.parts ++ r.last ∷ [])
     → has_content facts.head_only r.status ≡ true
     → IsRead facts (message_text facts (accepted facts events)) r.status r.headers (concat (r.parts ++ r.last ∷ []))
+
+-- The text of a whole denial that has content is read back as a response is, and says that the connection closes,
+-- whatever its fields are.
+pub record DenialIsReadBack : Type 0 where
+  pub read : (facts : Facts) (events : List Outgoing) (d : IsDenial events) → IsLawful WebSocket facts events
+      → All IsSendable d.headers → All IsSized (d.parts ++ d.last ∷ [])
+      → has_content facts.head_only d.status ≡ true
+      → IsRead (closing_facts facts) (denial_text facts events) d.status d.headers (concat (d.parts ++ d.last ∷ []))
+  pub closing : (facts : Facts) (status : ℕ) (headers : List HeaderField)
+      → (front : List HeaderField) × (fields_sent (is_chunked facts.version status headers) (closes (closing_facts facts).close headers) status headers
+      ≡ front ++ (record { name = codes "connection"; value = codes "close" }) ∷ [])

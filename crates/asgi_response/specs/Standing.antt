@@ -1,7 +1,9 @@
 -- What a response text stands for: the facts of a request, and the list of events that it has taken.
-use Rattle.std.specs.Prelude.{◌≡◌, ℕ, Bool, true, List, [], ◌∷◌, ◌++◌, map, if◌then◌else◌}
+use Rattle.std.specs.Prelude.{◌≡◌, ◌≢◌, ⊥, ◌⊎◌, ◌×◌, ℕ, Bool, true, false, List, [], ◌∷◌, ◌++◌, map, if◌then◌else◌}
 use Rattle.asgi_types.specs.Fields.{HeaderField}
 use Rattle.asgi_types.specs.declared.facts.Facts.{Facts}
+use Rattle.asgi_types.specs.declared.facts.Framing.{Framing}
+use Rattle.asgi_types.specs.declared.facts.Framing.TheVariants.{Upgrade}
 use Rattle.asgi_types.specs.declared.outgoing.Outgoing.{Outgoing}
 use Rattle.asgi_types.specs.declared.outgoing.Outgoing.TheVariants.{ResponseStart, ResponseBody}
 use Rattle.asgi_protocol.specs.BytesLeft.{with_sent}
@@ -12,15 +14,21 @@ use Rattle.asgi_response.specs.declared.content.Coding.{Coding}
 use Rattle.asgi_response.specs.declared.content.Coding.TheVariants.{Nothing, Plain, Chunked}
 use Rattle.asgi_response.specs.declared.content.Content.{Content}
 use Rattle.asgi_response.specs.declared.text.Phase.{Phase}
-use Rattle.asgi_response.specs.declared.text.Phase.TheVariants.{Waiting, Started, Begun, Complete}
+use Rattle.asgi_response.specs.declared.text.Phase.TheVariants.{Waiting, Started, Begun, Complete, Elsewhere}
 use Rattle.asgi_response.specs.Fields.{is_chunked, closes, head_text}
 use Rattle.asgi_response.specs.Content.{has_content}
 use Rattle.asgi_response.specs.Accepted.{accepted}
+use Rattle.asgi_response.specs.Denial.{closing_facts, as_response, is_decided}
 use Rattle.asgi_response.specs.Progress.{closes_behind}
 
 -- how the bodies are written, where the response has content or not, and in chunks or not
 abbrev pub coding_of : Bool → Bool → Coding
 coding_of content chunked = if content then (if chunked then Chunked else Plain) else Nothing
+
+-- a request of this framing opens a session (RFC 6455, section 4.2.1)
+abbrev pub opens_session : Framing → Bool
+opens_session Upgrade = true
+opens_session _ = false
 
 abbrev pub part : List ℕ → Outgoing
 part body = ResponseBody body true
@@ -53,6 +61,7 @@ IsPhase facts said head Waiting = said ≡ []
 IsPhase facts said head (Started content) = HasStart facts said content head
 IsPhase facts said head (Begun content) = HasParts facts said content head
 IsPhase facts said head Complete = IsResponse said
+IsPhase facts said head Elsewhere = ⊥
 
 -- the text has accepted these events
 pub record HasAccepted (text : ResponseText) (facts : Facts) (said : List Outgoing) : Type 0 where
@@ -60,11 +69,29 @@ pub record HasAccepted (text : ResponseText) (facts : Facts) (said : List Outgoi
   pub head_only : text.head_only ≡ facts.head_only
   pub close : text.close ≡ closes_behind facts said
   pub expect : text.expect ≡ facts.expect
+  pub session : text.session ≡ opens_session facts.framing
   pub phase : IsPhase facts said text.head text.phase
 
--- the text has taken these events
-abbrev pub StandsFor : ResponseText → Facts → List Outgoing → Type 0
-StandsFor text facts events = HasAccepted text facts (accepted facts events)
+-- the text has taken these events, which answer a request that opens no session
+pub record StandsFor (text : ResponseText) (facts : Facts) (events : List Outgoing) : Type 0 where
+  pub plain : facts.framing ≢ Upgrade
+  pub has_accepted : HasAccepted text facts (accepted facts events)
+
+-- an accept or a close was said, which this text is not of
+pub record IsElsewhere (text : ResponseText) (events : List Outgoing) : Type 0 where
+  pub decided : is_decided events ≡ true
+  pub session : text.session ≡ true
+  pub phase : text.phase ≡ Elsewhere
+
+-- a denial or nothing was said so far
+pub record IsDenying (text : ResponseText) (facts : Facts) (events : List Outgoing) : Type 0 where
+  pub undecided : is_decided events ≡ false
+  pub has_accepted : HasAccepted text (closing_facts facts) (accepted (closing_facts facts) (map as_response events))
+
+-- the text has taken these events, which answer an opening handshake
+pub record StandsForSession (text : ResponseText) (facts : Facts) (events : List Outgoing) : Type 0 where
+  pub opens : facts.framing ≡ Upgrade
+  pub taken : IsElsewhere text events ⊎ IsDenying text facts events
 
 -- the output grew by just what makes the one text the other
 pub record Grows (before after old new : List ℕ) : Type 0 where

@@ -3,7 +3,7 @@ use Rattle.std.specs.Prelude.{ℕ, Bool, true, false, ◌&&◌, not, List, [], �
 use Rattle.asgi_types.specs.Fields.{HeaderField}
 use Rattle.asgi_types.specs.declared.outgoing.HttpVersion.{HttpVersion}
 use Rattle.asgi_types.specs.declared.outgoing.Outgoing.{Outgoing}
-use Rattle.asgi_types.specs.declared.outgoing.Outgoing.TheVariants.{ResponseStart, ResponseBody}
+use Rattle.asgi_types.specs.declared.outgoing.Outgoing.TheVariants.{ResponseStart, ResponseBody, WsAccept, WsClose, DenialStart, DenialBody}
 use Rattle.asgi_protocol.specs.BytesLeft.{is_above, is_below, left_behind}
 use Rattle.asgi_protocol.specs.ContentLengths.{content_length}
 use Rattle.asgi_protocol.specs.Rules.{is_status, is_faulty, promised_at}
@@ -15,7 +15,7 @@ use Rattle.asgi_response.specs.declared.progress.Progress.{Progress}
 use Rattle.asgi_response.specs.declared.progress.Progress.TheVariants as progress
 use Rattle.asgi_response.specs.declared.text.ResponseText.{ResponseText}
 use Rattle.asgi_response.specs.declared.text.Phase.{Phase}
-use Rattle.asgi_response.specs.declared.text.Phase.TheVariants.{Waiting, Started, Begun, Complete}
+use Rattle.asgi_response.specs.declared.text.Phase.TheVariants.{Waiting, Started, Begun, Complete, Elsewhere}
 use Rattle.asgi_response.specs.Fields.{is_chunked, closes, head_text}
 use Rattle.asgi_response.specs.Content.{has_content, part_text}
 use Rattle.asgi_response.specs.Standing.{coding_of}
@@ -43,12 +43,14 @@ is_waiting Waiting = true
 is_waiting (Started content) = false
 is_waiting (Begun content) = false
 is_waiting Complete = false
+is_waiting Elsewhere = false
 
 abbrev pub is_begun : Phase → Bool
 is_begun Waiting = false
 is_begun (Started content) = false
 is_begun (Begun content) = true
 is_begun Complete = true
+is_begun Elsewhere = true
 
 -- what may follow, where a body may
 abbrev pub content_due : Phase → Option Content
@@ -56,6 +58,7 @@ content_due Waiting = None
 content_due (Started content) = Some content
 content_due (Begun content) = Some content
 content_due Complete = None
+content_due Elsewhere = None
 
 abbrev pub next_phase : Content → ℕ → Bool → Phase
 next_phase content n more_body = if more_body then Begun (record content { left = left_behind content.left n }) else Complete
@@ -94,19 +97,50 @@ progress_at Waiting close = progress.Nothing
 progress_at (Started content) close = progress.Nothing
 progress_at (Begun content) close = progress.Begun
 progress_at Complete close = progress.Complete close
+progress_at Elsewhere close = progress.Begun
+
+-- ---- of an answer to a request
+
+abbrev pub after_response_event : ResponseText → Outgoing → ResponseText
+after_response_event text (ResponseStart status headers) = after_start text status headers
+after_response_event text (ResponseBody body more_body) = after_part text (content_due text.phase) body more_body
+after_response_event text _ = text
+
+abbrev pub response_starts : ResponseText → Outgoing → Bool
+response_starts text (ResponseStart status headers) = may_start text.phase status (is_faulty (content_length headers))
+response_starts text _ = false
+
+abbrev pub added_by_response : ResponseText → Outgoing → List ℕ
+added_by_response text (ResponseBody body more_body) = part_added text.head (content_due text.phase) body more_body
+added_by_response text _ = []
+
+-- ---- of an answer to an opening handshake
+
+abbrev pub after_session_event : ResponseText → Outgoing → ResponseText
+after_session_event text (DenialStart status headers) = after_start text status headers
+after_session_event text (DenialBody body more_body) = after_part text (content_due text.phase) body more_body
+after_session_event text (WsAccept subprotocol headers) = record text { phase = Elsewhere }
+after_session_event text (WsClose code reason) = record text { phase = Elsewhere }
+after_session_event text _ = text
+
+abbrev pub denial_starts : ResponseText → Outgoing → Bool
+denial_starts text (DenialStart status headers) = may_start text.phase status (is_faulty (content_length headers))
+denial_starts text _ = false
+
+abbrev pub added_by_denial : ResponseText → Outgoing → List ℕ
+added_by_denial text (DenialBody body more_body) = part_added text.head (content_due text.phase) body more_body
+added_by_denial text _ = []
+
+-- ---- of either
 
 -- the text behind an event
 abbrev pub after_event : ResponseText → Outgoing → ResponseText
-after_event text (ResponseStart status headers) = after_start text status headers
-after_event text (ResponseBody body more_body) = after_part text (content_due text.phase) body more_body
-after_event text _ = text
+after_event text event = if text.session then after_session_event text event else after_response_event text event
 
 -- the event is a start that the text takes
 abbrev pub starts : ResponseText → Outgoing → Bool
-starts text (ResponseStart status headers) = may_start text.phase status (is_faulty (content_length headers))
-starts text _ = false
+starts text event = if text.session then denial_starts text event else response_starts text event
 
 -- what it added to the output
 abbrev pub added_by : ResponseText → Outgoing → List ℕ
-added_by text (ResponseBody body more_body) = part_added text.head (content_due text.phase) body more_body
-added_by text _ = []
+added_by text event = if text.session then added_by_denial text event else added_by_response text event

@@ -9,7 +9,7 @@ ghost use Rattle.asgi_response.specs.Denial.{closing_facts, as_response, denial_
 ghost use Rattle.asgi_response.specs.Response.{continue_text, response_text};
 ghost use Rattle.asgi_response.specs.Laws.{TextOnlyGrows, PassedIsAccepted, LawfulIsAccepted, EventsAddTheirText, ClosedTextStays, BegunResponsesGetNothingMore, UnbegunResponsesAreReplaced, AddedTextOnlyGrows};
 ghost use Rattle.asgi_response.specs.ReadBack.{HeadIsReadBack, IsHeadReadBack, IsSendable};
-ghost use Rattle.asgi_response.specs.ReadBackBody.{ResponseIsReadBack, IsResponseReadBack};
+ghost use Rattle.asgi_response.specs.ReadBackBody.{ResponseIsReadBack, DenialIsReadBack, IsResponseReadBack};
 
 use asgi_types::Headers;
 
@@ -79,4 +79,9 @@ pub fn denials_are_responses()
     ensures text { (facts : Facts) (status : ℕ) (headers : List HeaderField) (bodies : List Outgoing)
         → (let denial = Outgoing.DenialStart status headers ∷ bodies in
         IsLawful WebSocket facts denial → response_text (closing_facts facts) (map as_response denial) ≡ continue_text facts.expect ++ denial_text facts denial) }
+{}
+
+/// A recipient of a whole denial reads its status, its fields, and just the bytes of its bodies, and that it closes.
+pub fn denial_is_read_back()
+    ensures { DenialIsReadBack }
 {}

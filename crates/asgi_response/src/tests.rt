@@ -1,5 +1,6 @@
 //! Tests on public calls.
 
+mod denials;
 mod ends;
 mod memory;
 mod progress;
@@ -7,7 +8,9 @@ mod responses;
 mod statuses;
 
 use crate::{Input, ResponseText};
-use asgi_types::{Facts, Framing, HeaderError, Headers, HttpVersion, Names, Octets, Outgoing};
+use asgi_types::{
+    Chars, Facts, Framing, HeaderError, Headers, HttpVersion, Names, Octets, Outgoing, Payload,
+};
 use std::alloc::{AllocError, Global};
 use std::test::Fail;
 
@@ -18,6 +21,7 @@ struct Ask {
     head_only: bool,
     close: bool,
     expect: bool,
+    framing: Framing,
 }
 
 /// A plain request over HTTP/1.1.
@@ -26,6 +30,7 @@ const GET: Ask = Ask {
     head_only: false,
     close: false,
     expect: false,
+    framing: Framing::Length(0),
 };
 
 /// The same over HTTP/1.0, after which the connection closes.
@@ -34,6 +39,7 @@ const OLD: Ask = Ask {
     head_only: false,
     close: true,
     expect: false,
+    framing: Framing::Length(0),
 };
 
 const HEAD: Ask = Ask {
@@ -41,6 +47,7 @@ const HEAD: Ask = Ask {
     head_only: true,
     close: false,
     expect: false,
+    framing: Framing::Length(0),
 };
 
 const EXPECTING: Ask = Ask {
@@ -48,6 +55,7 @@ const EXPECTING: Ask = Ask {
     head_only: false,
     close: false,
     expect: true,
+    framing: Framing::Length(0),
 };
 
 const CLOSING: Ask = Ask {
@@ -55,6 +63,16 @@ const CLOSING: Ask = Ask {
     head_only: false,
     close: true,
     expect: false,
+    framing: Framing::Length(0),
+};
+
+/// An opening handshake of a client that also waits to be told to go on.
+const HANDSHAKE: Ask = Ask {
+    version: HttpVersion::V11,
+    head_only: false,
+    close: false,
+    expect: true,
+    framing: Framing::Upgrade,
 };
 
 type Fields = &'static [(&'static str, &'static str)];
@@ -65,8 +83,12 @@ enum Say {
     Start(u16, Fields),
     Part(&'static str),
     Last(&'static str),
-    DenialStart(u16),
+    DenialStart(u16, Fields),
+    DenialPart(&'static str),
     DenialLast(&'static str),
+    Accept,
+    Send(&'static str),
+    Close,
     StopComplete,
 }
 
@@ -77,7 +99,7 @@ impl Ask {
             head_only: self.head_only,
             close: self.close,
             expect: self.expect,
-            framing: Framing::Length(0),
+            framing: self.framing,
             key: [0; 24],
             subprotocols: Names::new(alloc),
         }
@@ -99,13 +121,28 @@ impl Say {
                 body: body_of(alloc, text)?,
                 more_body: false,
             }),
-            Say::DenialStart(status) => Ok(Outgoing::DenialStart {
-                status,
-                headers: Headers::new(alloc),
+            Say::DenialStart(status, fields) => {
+                let headers = headers_of(alloc, fields)?;
+                Ok(Outgoing::DenialStart { status, headers })
+            }
+            Say::DenialPart(text) => Ok(Outgoing::DenialBody {
+                body: body_of(alloc, text)?,
+                more_body: true,
             }),
             Say::DenialLast(text) => Ok(Outgoing::DenialBody {
                 body: body_of(alloc, text)?,
                 more_body: false,
+            }),
+            Say::Accept => Ok(Outgoing::WsAccept {
+                subprotocol: None,
+                headers: Headers::new(alloc),
+            }),
+            Say::Send(text) => Ok(Outgoing::WsSend {
+                payload: Payload::Text(Chars::new(String::from_str(alloc, text)?)),
+            }),
+            Say::Close => Ok(Outgoing::WsClose {
+                code: 1000,
+                reason: Chars::new(String::new(alloc)),
             }),
             Say::StopComplete => Ok(Outgoing::ShutdownComplete),
         }

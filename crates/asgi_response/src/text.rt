@@ -1,5 +1,5 @@
 //! The text of what an application says.
-ghost use Rattle.std.specs.Prelude.{◌≡◌, ◌++◌, ◌∷◌, [], ◌&&◌, ◌⊎◌, not, true, IsTrue, List, OnOk, OnErr, if◌then◌else◌};
+ghost use Rattle.std.specs.Prelude.{◌≡◌, ◌≢◌, ◌++◌, ◌∷◌, [], ◌&&◌, ◌⊎◌, not, true, IsTrue, List, OnOk, OnErr, if◌then◌else◌};
 ghost use Rattle.std.specs.Vec.{vec_len, vec_capacity};
 ghost use Rattle.httparse.specs.Ascii.{crlf_bytes};
 ghost use Rattle.asgi_types.specs.declared.facts.Facts.{Facts};
@@ -11,7 +11,7 @@ ghost use Rattle.asgi_response.specs.Exchange as exchange;
 ghost use Rattle.asgi_response.specs.Fields as fields;
 ghost use Rattle.asgi_types.specs.Room.{LacksRoom};
 ghost use Rattle.asgi_types.specs.Versions.{is_v11};
-ghost use Rattle.asgi_response.specs.Room.{LacksMemory};
+ghost use Rattle.asgi_response.specs.Room.{LacksMemory, LacksDenialMemory};
 ghost use Rattle.asgi_response.specs.Standing as standing;
 ghost use Rattle.asgi_response.specs.Steps as steps;
 
@@ -22,7 +22,7 @@ use crate::head::{CRLF, head_text};
 use crate::progress::Progress;
 use crate::refusal::{Input, append_refusal};
 use asgi_protocol::{BytesLeft, ContentLength, has_no_content};
-use asgi_types::{Facts, Headers, HttpVersion, Octets, Outgoing};
+use asgi_types::{Facts, Framing, Headers, HttpVersion, Octets, Outgoing};
 use std::alloc::{AllocError, Global};
 
 const CONTINUE: &[u8] = b"HTTP/1.1 100 Continue\r\n\r\n";
@@ -40,6 +40,8 @@ pub enum Phase {
     Begun(Content),
     /// The last body is written.
     Complete,
+    /// An accept or a close was said: what is written of a session is no response.
+    Elsewhere,
 }
 
 /// The text of one response, event by event.
@@ -51,27 +53,36 @@ pub struct ResponseText {
     // Whether the connection closes behind the response: for the request, or because the start says so.
     close: bool,
     expect: bool,
+    // Whether an opening handshake is answered: by a denial, where by a response.
+    session: bool,
     phase: Phase,
     // The head of a response that has started, until it is written.
     head: Octets,
 }
 
 impl ResponseText {
-    ghost use Rattle.asgi_response.specs.Standing.{StandsFor, Grows};
-    ghost use Rattle.asgi_response.specs.Response.{response_text};
+    ghost use Rattle.asgi_protocol.specs.Lawful.{IsLawful};
+    ghost use Rattle.asgi_types.specs.declared.facts.Framing.TheVariants as framings;
+    ghost use Rattle.asgi_types.specs.declared.scope.Kind.TheVariants.{WebSocket};
+    ghost use Rattle.asgi_response.specs.Denial.{denial_text, denial_end_text, denial_progress};
     ghost use Rattle.asgi_response.specs.Exchange.{end_text};
     ghost use Rattle.asgi_response.specs.Progress.{progress_of};
+    ghost use Rattle.asgi_response.specs.Response.{response_text};
+    ghost use Rattle.asgi_response.specs.Standing.{StandsFor, StandsForSession, Grows};
 
-    /// No event is taken yet. It takes no memory.
+    /// No event is taken yet. It takes no memory. The facts tell whether a request or an opening handshake is answered.
     pub fn new(alloc: Global, facts: &Facts) -> Self
-        ensures { StandsFor result facts.now [] }
+        ensures response { facts.now.framing ≢ framings.Upgrade → StandsFor result facts.now [] }
+        ensures denial { facts.now.framing ≡ framings.Upgrade → StandsForSession result facts.now [] }
     {
+        let session = opens_session(facts.framing);
         ResponseText {
             alloc,
             version: facts.version,
             head_only: facts.head_only,
-            close: facts.close,
+            close: facts.close || session,
             expect: facts.expect,
+            session,
             phase: Phase::Waiting,
             head: Octets::new(Vec::new(alloc)),
         }
@@ -79,15 +90,24 @@ impl ResponseText {
 
     /// Appends what the event adds to the text of the events before it.
     ///
-    /// An event that is not lawful in its place has no text.
+    /// An event that is not lawful in its place has no text; of an answer to an opening handshake, a judge has passed
+    /// the events. A denial is the text of the response that it stands for, behind which the connection closes.
     pub fn take(&mut self, event: &Outgoing, out: &mut Vec<u8>) -> Result<(), AllocError>
         ensures ok { OnOk result ((facts : Facts) (events : List Outgoing) → StandsFor self.old facts events
             → StandsFor self.new facts (events ++ event.now ∷ [])) }
         ensures text { OnOk result ((facts : Facts) (events : List Outgoing) → StandsFor self.old facts events
             → Grows (response_text facts events) (response_text facts (events ++ event.now ∷ [])) out.old.items out.new.items) }
+        ensures denial { OnOk result ((facts : Facts) (events : List Outgoing) → StandsForSession self.old facts events
+            → IsLawful WebSocket facts (events ++ event.now ∷ []) → StandsForSession self.new facts (events ++ event.now ∷ [])) }
+        ensures denial_text { OnOk result ((facts : Facts) (events : List Outgoing) → StandsForSession self.old facts events
+            → IsLawful WebSocket facts (events ++ event.now ∷ [])
+            → Grows (denial_text facts events) (denial_text facts (events ++ event.now ∷ [])) out.old.items out.new.items) }
         ensures err { OnErr result ((self.new ≡ self.old) × (out.new.items ≡ out.old.items)) }
         ensures full { OnErr result ((facts : Facts) (events : List Outgoing) → StandsFor self.old facts events
             → LacksMemory (vec_capacity out.old) (vec_len out.old) facts events event.now) }
+        ensures denial_full { OnErr result ((facts : Facts) (events : List Outgoing) → StandsForSession self.old facts events
+            → IsLawful WebSocket facts (events ++ event.now ∷ [])
+            → LacksDenialMemory (vec_capacity out.old) (vec_len out.old) facts events event.now) }
     {
         self.step(event, out)
     }
@@ -96,11 +116,13 @@ impl ResponseText {
     pub fn begin(&self, out: &mut Vec<u8>) -> Result<(), AllocError>
         ensures ok { OnOk result ((facts : Facts) (events : List Outgoing) → StandsFor self.now facts events
             → out.new.items ≡ out.old.items ++ response_text facts []) }
+        ensures denial { OnOk result ((facts : Facts) (events : List Outgoing) → StandsForSession self.now facts events
+            → out.new.items ≡ out.old.items) }
         ensures err { OnErr result (out.new.items ≡ out.old.items) }
         ensures full { OnErr result ((facts : Facts) (events : List Outgoing) → StandsFor self.now facts events
             → LacksRoom (vec_capacity out.old) (vec_len out.old) (response_text facts [])) }
     {
-        if self.expect {
+        if self.expect && !self.session {
             out.extend_from_slice(CONTINUE)?;
         }
         Ok(())
@@ -110,9 +132,13 @@ impl ResponseText {
     pub fn end(&self, input: Input, out: &mut Vec<u8>) -> Result<(), AllocError>
         ensures ok { OnOk result ((facts : Facts) (events : List Outgoing) → StandsFor self.now facts events
             → out.new.items ≡ out.old.items ++ end_text facts events input) }
+        ensures denial { OnOk result ((facts : Facts) (events : List Outgoing) → StandsForSession self.now facts events
+            → out.new.items ≡ out.old.items ++ denial_end_text facts events input) }
         ensures err { OnErr result (out.new.items ≡ out.old.items) }
         ensures full { OnErr result ((facts : Facts) (events : List Outgoing) → StandsFor self.now facts events
             → LacksRoom (vec_capacity out.old) (vec_len out.old) (end_text facts events input)) }
+        ensures denial_full { OnErr result ((facts : Facts) (events : List Outgoing) → StandsForSession self.now facts events
+            → LacksRoom (vec_capacity out.old) (vec_len out.old) (denial_end_text facts events input)) }
     {
         if self.phase.is_begun() {
             return Ok(());
@@ -122,7 +148,8 @@ impl ResponseText {
 
     /// How far the response is.
     pub fn progress(&self) -> Progress
-        ensures { (facts : Facts) (events : List Outgoing) → StandsFor self.now facts events → result ≡ progress_of facts events }
+        ensures response { (facts : Facts) (events : List Outgoing) → StandsFor self.now facts events → result ≡ progress_of facts events }
+        ensures denial { (facts : Facts) (events : List Outgoing) → StandsForSession self.now facts events → result ≡ denial_progress facts events }
     {
         self.phase.progress(self.close)
     }
@@ -136,11 +163,33 @@ impl ResponseText {
         ensures err { OnErr result ((self.new ≡ self.old) × (out.new.items ≡ out.old.items)) }
         ensures full { OnErr result (IsTrue (steps.starts self.old event.now) ⊎ LacksRoom (vec_capacity out.old) (vec_len out.old) (steps.added_by self.old event.now)) }
     {
+        if self.session {
+            return self.session_step(event, out);
+        }
         if let Outgoing::ResponseStart { status, headers } = event {
             return self.take_start(*status, headers);
         }
         if let Outgoing::ResponseBody { body, more_body } = event {
             return self.take_body(body.bytes(), *more_body, out);
+        }
+        Ok(())
+    }
+
+    /// Takes an event that answers an opening handshake, and appends what it adds.
+    fn session_step(&mut self, event: &Outgoing, out: &mut Vec<u8>) -> Result<(), AllocError>
+        ensures ok { OnOk result (self.new ≡ steps.after_session_event self.old event.now) }
+        ensures text { OnOk result (out.new.items ≡ out.old.items ++ steps.added_by_denial self.old event.now) }
+        ensures err { OnErr result ((self.new ≡ self.old) × (out.new.items ≡ out.old.items)) }
+        ensures full { OnErr result (IsTrue (steps.denial_starts self.old event.now) ⊎ LacksRoom (vec_capacity out.old) (vec_len out.old) (steps.added_by_denial self.old event.now)) }
+    {
+        if let Outgoing::DenialStart { status, headers } = event {
+            return self.take_start(*status, headers);
+        }
+        if let Outgoing::DenialBody { body, more_body } = event {
+            return self.take_body(body.bytes(), *more_body, out);
+        }
+        if let Outgoing::WsAccept { .. } | Outgoing::WsClose { .. } = event {
+            self.phase = Phase::Elsewhere;
         }
         Ok(())
     }
@@ -189,6 +238,16 @@ impl ResponseText {
     }
 }
 
+/// Whether a request of this framing opens a session.
+fn opens_session(framing: Framing) -> bool
+    ensures { result ≡ standing.opens_session framing }
+{
+    match framing {
+        Framing::Upgrade => true,
+        Framing::Length(_) | Framing::Chunked => false,
+    }
+}
+
 impl Phase {
     /// Whether a body was taken.
     fn is_begun(self) -> bool
@@ -196,7 +255,7 @@ impl Phase {
     {
         match self {
             Phase::Waiting | Phase::Started(_) => false,
-            Phase::Begun(_) | Phase::Complete => true,
+            Phase::Begun(_) | Phase::Complete | Phase::Elsewhere => true,
         }
     }
 
@@ -205,7 +264,7 @@ impl Phase {
         ensures { result ≡ steps.content_due self }
     {
         match self {
-            Phase::Waiting | Phase::Complete => None,
+            Phase::Waiting | Phase::Complete | Phase::Elsewhere => None,
             Phase::Started(content) | Phase::Begun(content) => Some(content),
         }
     }
@@ -216,7 +275,7 @@ impl Phase {
     {
         match self {
             Phase::Waiting | Phase::Started(_) => Progress::Nothing,
-            Phase::Begun(_) => Progress::Begun,
+            Phase::Begun(_) | Phase::Elsewhere => Progress::Begun,
             Phase::Complete => Progress::Complete { closes },
         }
     }

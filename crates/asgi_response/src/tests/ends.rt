@@ -1,6 +1,6 @@
 //! What the end of a task adds.
 
-use super::{Ask, EXPECTING, GET, Say, written};
+use super::{Ask, EXPECTING, GET, HANDSHAKE, Say, written};
 use crate::Input;
 use std::process::Abort;
 use std::test::Fail;
@@ -25,16 +25,18 @@ const START: Say = Say::Start(200, &[]);
 
 const CLOSE: Say = Say::Start(200, &[("connection", "close")]);
 
-/// What was said, and the text with what each end of the task adds.
+/// What was asked and said, and the text with what each end of the task adds.
 type Row = (
     &'static str,
+    Ask,
     &'static [Say],
     &'static [(Input, &'static str)],
 );
 
-const ROWS: [Row; 6] = [
+const ROWS: [Row; 11] = [
     (
         "nothing said",
+        GET,
         &[],
         &[
             (Input::Whole, REFUSED_500),
@@ -44,6 +46,7 @@ const ROWS: [Row; 6] = [
     ),
     (
         "a start",
+        GET,
         &[START],
         &[
             (Input::Whole, REFUSED_500),
@@ -53,6 +56,7 @@ const ROWS: [Row; 6] = [
     ),
     (
         "begun",
+        GET,
         &[START, Say::Part("x")],
         &[
             (Input::Whole, BEGUN),
@@ -62,6 +66,7 @@ const ROWS: [Row; 6] = [
     ),
     (
         "complete",
+        GET,
         &[START, Say::Last("x")],
         &[
             (Input::Whole, COMPLETE),
@@ -71,6 +76,7 @@ const ROWS: [Row; 6] = [
     ),
     (
         "complete and it closes",
+        GET,
         &[CLOSE, Say::Last("x")],
         &[
             (Input::Whole, CLOSED),
@@ -80,22 +86,52 @@ const ROWS: [Row; 6] = [
     ),
     (
         "another status",
+        GET,
         &[],
         &[(
             Input::Faulty(777),
             "HTTP/1.1 777 \r\ncontent-length: 0\r\nconnection: close\r\n\r\n",
         )],
     ),
+    (
+        "nothing said to a handshake",
+        HANDSHAKE,
+        &[],
+        &[(Input::Whole, REFUSED_500)],
+    ),
+    (
+        "a denial's start",
+        HANDSHAKE,
+        &[Say::DenialStart(401, &[])],
+        &[(Input::Whole, REFUSED_500), (Input::Broken, "")],
+    ),
+    (
+        "inside a denial",
+        HANDSHAKE,
+        &[Say::DenialStart(401, &[]), Say::DenialPart("no")],
+        &[(
+            Input::Whole,
+            "HTTP/1.1 401 Unauthorized\r\ntransfer-encoding: chunked\r\nconnection: close\r\n\r\n2\r\nno\r\n",
+        )],
+    ),
+    (
+        "an accept",
+        HANDSHAKE,
+        &[Say::Accept],
+        &[(Input::Whole, ""), (Input::Broken, "")],
+    ),
+    ("a close", HANDSHAKE, &[Say::Close], &[(Input::Whole, "")]),
 ];
 
 fn are_ended(
     rt: &(impl Abort + AllocGlobal),
     name: &str,
+    ask: Ask,
     said: &[Say],
     ends: &[(Input, &str)],
 ) -> Result<(), Fail> {
     for (input, text) in ends {
-        let out = written(rt.alloc(), GET, said, Some(*input))?;
+        let out = written(rt.alloc(), ask, said, Some(*input))?;
         assert_eq!(rt; out.as_slice(), text.as_bytes(), "{name}, {input:?}");
     }
     Ok(())
@@ -103,8 +139,8 @@ fn are_ended(
 
 #[test]
 fn the_end_answers_where_no_body_was_taken(rt: HostRuntime) -> Result<(), Fail> {
-    for (name, said, ends) in &ROWS {
-        are_ended(&rt, name, *said, *ends)?;
+    for (name, ask, said, ends) in &ROWS {
+        are_ended(&rt, name, *ask, *said, *ends)?;
     }
     Ok(())
 }

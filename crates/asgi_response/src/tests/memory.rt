@@ -1,7 +1,7 @@
 //! Each call that allocates, where one allocation is refused: it answers so, its objects are as before, and the call
 //! can be made again. `tests/memory.py` runs these with each allocation refused in turn.
 
-use super::{Ask, EXPECTING, GET, OLD, Say, fresh};
+use super::{Ask, EXPECTING, GET, HANDSHAKE, OLD, Say, fresh};
 use crate::{Input, ResponseText, refusal_text};
 use asgi_types::{HeaderError, Outgoing};
 use std::alloc::Global;
@@ -9,7 +9,7 @@ use std::test::Fail;
 
 type Row = (&'static str, Ask, &'static [Say], &'static str);
 
-const ROWS: [Row; 3] = [
+const ROWS: [Row; 4] = [
     (
         "chunks",
         EXPECTING,
@@ -31,6 +31,16 @@ const ROWS: [Row; 3] = [
         GET,
         &[Say::Start(204, &[]), Say::Last("")],
         "HTTP/1.1 204 No Content\r\n\r\n",
+    ),
+    (
+        "a denial",
+        HANDSHAKE,
+        &[
+            Say::DenialStart(401, &[]),
+            Say::DenialPart("n"),
+            Say::DenialLast("o"),
+        ],
+        "HTTP/1.1 401 Unauthorized\r\ntransfer-encoding: chunked\r\nconnection: close\r\n\r\n1\r\nn\r\n1\r\no\r\n0\r\n\r\n",
     ),
 ];
 

@@ -1,6 +1,6 @@
 //! How far a response is.
 
-use super::{Ask, CLOSING, GET, HEAD, OLD, Say, fresh, take_all};
+use super::{Ask, CLOSING, GET, HANDSHAKE, HEAD, OLD, Say, fresh, take_all};
 use crate::{Progress, ResponseText};
 use std::alloc::Global;
 use std::test::Fail;
@@ -13,11 +13,13 @@ const CLOSE: Say = Say::Start(200, &[("connection", "close")]);
 
 const KEEP: Say = Say::Start(200, &[("connection", "keep-alive")]);
 
+const DENY: Say = Say::DenialStart(403, &[("connection", "keep-alive")]);
+
 const STAYS: Progress = Progress::Complete { closes: false };
 
 const CLOSES: Progress = Progress::Complete { closes: true };
 
-const ROWS: [Row; 15] = [
+const ROWS: [Row; 21] = [
     ("no event", GET, &[], Progress::Nothing),
     ("a start", CLOSING, &[START], Progress::Nothing),
     ("a body first", GET, &[Say::Last("x")], Progress::Nothing),
@@ -78,6 +80,17 @@ const ROWS: [Row; 15] = [
         &[Say::Start(200, &[("content-length", "2")]), Say::Last("x")],
         Progress::Nothing,
     ),
+    ("a handshake", HANDSHAKE, &[], Progress::Nothing),
+    ("a denial's start", HANDSHAKE, &[DENY], Progress::Nothing),
+    (
+        "a denial's part",
+        HANDSHAKE,
+        &[DENY, Say::DenialPart("x")],
+        Progress::Begun,
+    ),
+    ("a denial", HANDSHAKE, &[DENY, Say::DenialLast("x")], CLOSES),
+    ("an accept", HANDSHAKE, &[Say::Accept], Progress::Begun),
+    ("a close", HANDSHAKE, &[Say::Close], Progress::Begun),
 ];
 
 /// How far the text is once it took these events.

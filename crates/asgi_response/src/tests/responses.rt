@@ -213,7 +213,7 @@ const UNLAWFUL: [Row; 12] = [
         "events of another kind",
         GET,
         &[
-            Say::DenialStart(401),
+            Say::DenialStart(401, &[]),
             START,
             Say::DenialLast("no"),
             Say::StopComplete,
