@@ -36,7 +36,7 @@ returns-clause-serves g c scene client server state read arrived scope opens pro
     let opened = c.call-side.ensures.opens in
     let line = state_of g.L.Reads g.L.Counts c.run-kind.new.line in
     let half = c.run-kind.new.half in
-    let begun = c.begin-half.ensures.begins scene c.args.facts read arrived opens c.new-text.ensures in
+    let begun = c.begin-half.ensures.begins scene c.args.facts read arrived opens (c.new-text.ensures.response c.requires.plain) in
     let view : ConnView ℕ ℕ = record empty_conn { arrived = arrived; written = begun.0 } in
     let facts = lemma.of_request (promise c.args.scope.now) answers ends was (λ app. ends.facts app ≡ scene.facts) (made.scope.1 ∙ opens.facts_are)
     side opened (λ app same. same ∙ made.scope.1 ∙ opens.facts_are) in
