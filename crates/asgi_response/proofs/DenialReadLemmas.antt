@@ -1,5 +1,5 @@
 -- A whole denial is read back, as the response that it is.
-use Rattle.std.proofs.Common.{◌≡◌, ℕ, Bool, true, false, List, [], ◌∷◌, ◌++◌, map, refl, ap, sym, ◌∙◌, subst, append_assoc}
+use Rattle.std.proofs.Common.{◌≡◌, ℕ, true, false, List, [], ◌∷◌, ◌++◌, map, refl, ap, sym, ◌∙◌, subst}
 use Rattle.std.specs.List.{concat, filter}
 use Rattle.std.specs.Prelude.{All, codes, if◌then◌else◌}
 use Rattle.asgi_types.specs.Fields.{HeaderField}
@@ -54,5 +54,5 @@ denial_is_read_back = record {
   closing = λ facts status headers.
       let own : List HeaderField = filter (λ f. is_shown status f.name) headers in
       let framed : List HeaderField = if is_chunked facts.version status headers then (record { name = codes "transfer-encoding"; value = codes "chunked" }) ∷ [] else [] in
-      (own ++ framed, sym (append_assoc own framed ((record { name = codes "connection"; value = codes "close" }) ∷ [])));
+      (own ++ framed, refl);
 }

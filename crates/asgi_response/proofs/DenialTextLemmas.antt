@@ -1,28 +1,26 @@
 -- What the text of an answer to an opening handshake stands for behind one more event, what the event adds, and what the
 -- end of the task does.
 use Rattle.std.proofs.Common.{◌≡◌, ℕ, ◌+◌, Bool, true, false, List, [], ◌∷◌, ◌++◌, ◌⊎◌, inl, inr, IsTrue, length, map, refl, ap, sym, ◌∙◌, subst, length-append, arith}
-use Rattle.std.proofs.lemmas.List.{map-append, append-nil}
+use Rattle.std.proofs.lemmas.List.{map-append}
 use Rattle.std.specs.Prelude.{◌&&◌, ◌||◌, if◌then◌else◌}
 use Rattle.asgi_types.specs.Fields.{HeaderField}
 use Rattle.asgi_types.specs.declared.facts.Facts.{Facts}
 use Rattle.asgi_types.specs.declared.outgoing.Outgoing.{Outgoing}
 use Rattle.asgi_types.specs.declared.outgoing.Outgoing.TheVariants.{ResponseStart, ResponseBody, WsAccept, WsSend, WsClose, DenialStart, DenialBody, StartupComplete, StartupFailed, ShutdownComplete, ShutdownFailed}
-use Rattle.asgi_types.specs.declared.scope.Kind.TheVariants.{Http, WebSocket}
+use Rattle.asgi_types.specs.declared.scope.Kind.TheVariants.{WebSocket}
 use Rattle.asgi_types.specs.Room.{LacksRoom}
 use Rattle.asgi_protocol.specs.ContentLengths.{content_length}
 use Rattle.asgi_protocol.specs.Lawful.{IsLawful}
 use Rattle.asgi_protocol.specs.Rules.{is_faulty}
 use Rattle.asgi_protocol.specs.Shapes.{is_empty, is_denial_part, is_last_denial_part, begins_row, begins_word}
 use Rattle.asgi_response.specs.declared.progress.Progress.TheVariants.{Begun}
-use Rattle.asgi_response.specs.declared.refusal.Input.{Input}
 use Rattle.asgi_response.specs.declared.text.ResponseText.{ResponseText}
 use Rattle.asgi_response.specs.declared.text.Phase.{Phase}
-use Rattle.asgi_response.specs.declared.text.Phase.TheVariants.{Waiting, Started, Elsewhere}
+use Rattle.asgi_response.specs.declared.text.Phase.TheVariants.{Started, Elsewhere}
 use Rattle.asgi_response.specs.Accepted.{accepted}
-use Rattle.asgi_response.specs.Denial.{closing_facts, as_response, denial_text, is_decided, denial_end_text, denial_progress}
-use Rattle.asgi_response.specs.Exchange.{end_text}
+use Rattle.asgi_response.specs.Denial.{closing_facts, as_response, denial_text, is_decided, denial_progress}
 use Rattle.asgi_response.specs.Fields.{head_text, closes, is_chunked}
-use Rattle.asgi_response.specs.Progress.{progress_in, progress_of}
+use Rattle.asgi_response.specs.Progress.{progress_of}
 use Rattle.asgi_response.specs.Response.{message_text}
 use Rattle.asgi_response.specs.Room.{LacksDenialMemory, is_denial_start}
 use Rattle.asgi_response.specs.Standing.{opens_session, HasAccepted, IsElsewhere, IsDenying, StandsForSession, Grows}
@@ -135,7 +133,7 @@ start_elsewhere t status headers e =
 part_elsewhere : (t : ResponseText) (body : List ℕ) (more_body : Bool) → t.phase ≡ Elsewhere → after_part t (content_due t.phase) body more_body ≡ t
 part_elsewhere t body more_body e = ap (λ (p : Phase). after_part t (content_due p) body more_body) e
 
-AtElsewhere : ResponseText → Type 0
+abbrev AtElsewhere : ResponseText → Type 0
 AtElsewhere t = (t.session ≡ true) × (t.phase ≡ Elsewhere)
 
 still_elsewhere : (t : ResponseText) (event : Outgoing) → AtElsewhere t → AtElsewhere (after_session_event t event)
@@ -171,9 +169,6 @@ nothing_elsewhere t ShutdownComplete e = refl
 nothing_elsewhere t (ShutdownFailed a) e = refl
 
 module _ (t : ResponseText) (facts : Facts) (events : List Outgoing) where
-  abbrev closing : Facts
-  closing = closing_facts facts
-
   abbrev Denies : Outgoing → Type 0
   Denies event = IsDenying (after_session_event t event) facts (events ++ event ∷ [])
 
@@ -186,9 +181,9 @@ module _ (t : ResponseText) (facts : Facts) (events : List Outgoing) where
   denies event k same d = record {
     undecided = undecided_stays events event d.undecided k;
     has_accepted =
-        subst (λ (u : ResponseText). HasAccepted u closing (accepted closing (map as_response (events ++ event ∷ [])))) (sym same)
-        (subst (λ (l : List Outgoing). HasAccepted (after_response_event t (as_response event)) closing (accepted closing l)) (sym (map-append as_response events (event ∷ [])))
-        (accepted_behind t closing (map as_response events) (as_response event) d.has_accepted));
+        subst (λ (u : ResponseText). HasAccepted u (closing_facts facts) (accepted (closing_facts facts) (map as_response (events ++ event ∷ [])))) (sym same)
+        (subst (λ (l : List Outgoing). HasAccepted (after_response_event t (as_response event)) (closing_facts facts) (accepted (closing_facts facts) l)) (sym (map-append as_response events (event ∷ [])))
+        (accepted_behind t (closing_facts facts) (map as_response events) (as_response event) d.has_accepted));
   }
 
   -- an accept or a close comes first
@@ -240,9 +235,6 @@ denies_behind t new facts events event e lawful at =
 -- ---- what the event adds
 
 module _ (t : ResponseText) (facts : Facts) (events : List Outgoing) (event : Outgoing) (lawful : IsLawful WebSocket facts (events ++ event ∷ [])) where
-  abbrev closing : Facts
-  closing = closing_facts facts
-
   before : IsLawful WebSocket facts events
   before = fronts_are_lawful WebSocket facts events (event ∷ []) lawful
 
@@ -255,8 +247,8 @@ module _ (t : ResponseText) (facts : Facts) (events : List Outgoing) (event : Ou
       → denial_text facts (events ++ event ∷ []) ≡ denial_text facts events ++ added_by_denial t event
   adds_as_response k same d =
       undecided_text facts (events ++ event ∷ []) (undecided_stays events event d.undecided k) lawful
-      ∙ ap (λ (l : List Outgoing). message_text closing (accepted closing l)) (map-append as_response events (event ∷ []))
-      ∙ next_text t closing (map as_response events) (as_response event) d.has_accepted
+      ∙ ap (λ (l : List Outgoing). message_text (closing_facts facts) (accepted (closing_facts facts) l)) (map-append as_response events (event ∷ []))
+      ∙ next_text t (closing_facts facts) (map as_response events) (as_response event) d.has_accepted
       ∙ ap (λ (l : List ℕ). l ++ added_by_response t (as_response event)) (sym (undecided_text facts events d.undecided before))
       ∙ ap (λ (l : List ℕ). denial_text facts events ++ l) (sym same)
 

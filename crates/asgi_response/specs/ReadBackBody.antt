@@ -1,5 +1,5 @@
 -- What a recipient reads of a whole response, by the grammars of `httparse` and `http1` (RFC 9112, sections 4 to 7).
-use Rattle.std.specs.Prelude.{◌≡◌, ℕ, ◌<◌, ◌^◌, Bool, true, false, List, [], ◌∷◌, ◌++◌, length, All, Some, codes, map, ◌×◌}
+use Rattle.std.specs.Prelude.{◌≡◌, ℕ, ◌<◌, ◌^◌, Bool, true, false, List, [], ◌∷◌, ◌++◌, length, All, Some, codes}
 use Rattle.std.specs.List.{concat}
 use Rattle.httparse.specs.Ascii.{crlf_bytes}
 use Rattle.http1.specs.ChunkedBody.{Chunks, AreChunks, ReadsChunks, print_chunks, content}

@@ -1,5 +1,5 @@
 -- What a response text stands for: the facts of a request, and the list of events that it has taken.
-use Rattle.std.specs.Prelude.{◌≡◌, ◌≢◌, ⊥, ◌⊎◌, ◌×◌, ℕ, Bool, true, false, List, [], ◌∷◌, ◌++◌, map, if◌then◌else◌}
+use Rattle.std.specs.Prelude.{◌≡◌, ◌≢◌, ◌⊎◌, ℕ, Bool, true, false, List, [], ◌∷◌, ◌++◌, map, if◌then◌else◌}
 use Rattle.asgi_types.specs.Fields.{HeaderField}
 use Rattle.asgi_types.specs.declared.facts.Facts.{Facts}
 use Rattle.asgi_types.specs.declared.facts.Framing.{Framing}
