@@ -16,6 +16,7 @@ PROGRAM = "crates/asgi_demo/out/asgi_demo"
 KEYS = "crates/asgi_keys/out/asgi_keys"
 # What each part runs, and what its sum counts.
 PARTS = [
+    ("crates in the layout", ["python3", "tests/layout.py"]),
     ("sources read", ["python3", "tests/sources.py"]),
     ("self-tests of the gate's scripts", ["python3", "tests/sources.py", "--self-test"]),
     ("self-tests of the gate's scripts", ["python3", "tests/must_fail.py", "--self-test"]),

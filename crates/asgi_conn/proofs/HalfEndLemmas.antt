@@ -216,7 +216,7 @@ module _ (scene : Scene) (now : LineState) (half : ConnHalf) (read : List ℕ) (
           within_reads scene half.wire.limits half.wire.input new.input read more view.arrived x.within (λ e. cc (sym still ∙ e))
           (subst (λ (l : Limits). ReadsAhead l (read ++ more) (requests_in scene)) x.limits
           (reads_in half.wire.requests read more scene.opened scene.facts.framing view.arrived
-              (subst (λ (l : Limits). HasOpened l read scene.opened scene.facts.framing view.arrived) (sym x.limits) x.within.opens) t.events (requests_in scene) x.within.heads short half.body
+          (subst (λ (l : Limits). HasOpened l read scene.opened scene.facts.framing view.arrived) (sym x.limits) x.within.opens) t.events (requests_in scene) x.within.heads short half.body
           (subst ReadsAt (sym is_open) tt) t.given (asked unbroke) (λ e. cc (sym is_open ∙ e))))
 
       pub rest_read : HasMoved scene.start line new.input (read ++ more) (scene.before ++ view.written) (failures_at half.stage)
