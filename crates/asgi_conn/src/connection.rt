@@ -305,7 +305,7 @@ fn answer<A: Application, L: Line, U: Runner, P: Pause>(
 ) -> Place
     requires room { HasRoom tally.old }
     requires http { kind_of scope.now ≡ Http }
-    requires plain { facts.now.framing ≢ Framing.Upgrade }
+    requires plain { facts.framing ≢ Framing.Upgrade }
     ensures serves { (scene : Scene) (client server : Option Peer) (state : List (List ℕ × StateValue)) (read arrived : List ℕ)
         → scope.now ≡ scope_with scene.scope client server state → Opens scene (state_of L.Reads L.Counts line.old) wire facts read arrived
         → ArePromised (A.answers app.now) client server state scene.exchanges → IsTallied tally.old scene.exchanges
