@@ -1,4 +1,4 @@
-use Rattle.std.proofs.Common.{◌≡◌, ℕ, List, [], ◌∷◌, ◌++◌, ap, sym, ◌∙◌, subst, append-nil, append_assoc, arith, refl}
+use Rattle.std.proofs.Common.{List, [], ◌∷◌, ◌++◌, ap, sym, ◌∙◌, subst, append-nil, append_assoc, arith, refl}
 use Rattle.asgi_io.specs.declared.turns.Turn.{Turn}
 use Rattle.asgi_io.specs.Turns.{CountsTurns}
 use Rattle.asgi_request.specs.Reading.{Reading, StandsFor, AllGiven}

@@ -1,4 +1,4 @@
-use Rattle.std.proofs.Common.{inl, inr, refl, sym, ◌∙◌}
+use Rattle.std.proofs.Common.{refl}
 use Rattle.asgi_conn.proofs.InlineLemmas as lemma
 use Rattle.asgi_conn.proofs.inline.poll_on.Goals as goal
 
