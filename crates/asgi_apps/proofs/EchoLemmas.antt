@@ -1,10 +1,8 @@
 -- What `Echo` says is lawful, and grows with what it hears.
-use Rattle.std.proofs.Common.{◌≡◌, Bool, true, false, ℕ, List, [], ◌∷◌, ◌++◌, Option, Some, None, refl, ap, sym, ◌∙◌, subst, append_assoc, append-nil}
-use Rattle.std.specs.Prelude.{map, not, ◌||◌, codes, is_some}
+use Rattle.std.proofs.Common.{◌≡◌, Bool, true, false, ℕ, List, [], ◌∷◌, ◌++◌, refl, ap, sym, ◌∙◌, subst, append-nil}
+use Rattle.std.specs.Prelude.{map, ◌||◌, codes}
 use Rattle.std.specs.List.{list_any}
-use Rattle.std.specs.Option.{option_to_list}
-use Rattle.asgi_types.specs.declared.scope.Kind.{Kind}
-use Rattle.asgi_types.specs.declared.scope.Kind.TheVariants.{Http, WebSocket, Lifespan}
+use Rattle.asgi_types.specs.declared.scope.Kind.TheVariants.{Http}
 use Rattle.asgi_types.specs.declared.facts.Facts.{Facts}
 use Rattle.asgi_types.specs.declared.incoming.Incoming.{Incoming}
 use Rattle.asgi_types.specs.declared.incoming.Incoming.TheVariants.{HttpRequest, HttpDisconnect, WsConnect, WsReceive, WsDisconnect, LifespanStartup, LifespanShutdown}
@@ -13,9 +11,9 @@ use Rattle.asgi_types.specs.declared.outgoing.Outgoing.TheVariants.{ResponseBody
 use Rattle.asgi_protocol.specs.Lawful.{IsLawful, BeginsWord}
 use Rattle.asgi_protocol.specs.Rules.{MeetsRules}
 use Rattle.asgi_protocol.specs.Verdicts.{is_disconnect}
-use Rattle.asgi_pipes.specs.Disconnects.{first_disconnect, has_disconnect}
+use Rattle.asgi_pipes.specs.Disconnects.{has_disconnect}
 use Rattle.asgi_apps.specs.Answers.{start_of}
-use Rattle.asgi_apps.specs.Echo.{bodies_of, echo_answer, echo_events, ends_request, HeardAll}
+use Rattle.asgi_apps.specs.Echo.{bodies_of, echo_events, ends_request}
 
 abbrev echo_start : Outgoing
 echo_start = start_of 200 (codes "content-type") (codes "application/octet-stream")

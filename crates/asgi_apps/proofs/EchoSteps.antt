@@ -1,27 +1,24 @@
 -- What each poll makes of a task that echoes.
-use Rattle.std.proofs.Common.{◌≡◌, Bool, true, false, ℕ, List, [], ◌∷◌, ◌++◌, Option, Some, None, refl, ap, sym, ◌∙◌, subst, append_assoc, append-nil}
+use Rattle.std.proofs.Common.{◌≡◌, Bool, true, false, List, [], ◌∷◌, ◌++◌, Option, Some, None, refl, ap, sym, ◌∙◌, subst, append-nil}
 use Rattle.std.specs.Prelude.{not, codes}
-use Rattle.std.specs.List.{list_any}
 use Rattle.std.specs.Option.{option_to_list}
-use mathlib.Core.List.{IsPrefix}
 use Rattle.http_header.specs.FieldValue.{IsFieldValue}
 use Rattle.http_header.specs.Token.{is_value_byte}
 use Rattle.std.proofs.lemmas.List.Sums.{AllPass-from_list_all}
 use Rattle.asgi_types.specs.declared.scope.Kind.{Kind}
-use Rattle.asgi_types.specs.declared.scope.Kind.TheVariants.{Http, WebSocket, Lifespan}
+use Rattle.asgi_types.specs.declared.scope.Kind.TheVariants.{Http, WebSocket}
 use Rattle.asgi_types.specs.declared.facts.Facts.{Facts}
 use Rattle.asgi_types.specs.declared.incoming.Incoming.{Incoming}
 use Rattle.asgi_types.specs.declared.outgoing.Outgoing.{Outgoing}
-use Rattle.asgi_types.specs.declared.outgoing.Outgoing.TheVariants.{ResponseBody}
 use Rattle.asgi_protocol.specs.declared.verdict.Verdict.TheVariants.{Pass}
 use Rattle.asgi_protocol.specs.Lawful.{IsLawful}
-use Rattle.asgi_protocol.specs.Verdicts.{verdict_on, is_disconnect}
+use Rattle.asgi_protocol.specs.Verdicts.{verdict_on}
 use Rattle.asgi_protocol.proofs.LawLemmas.{lawful_where_each_passes}
 use Rattle.asgi_pipes.specs.Disconnects.{has_disconnect}
-use Rattle.asgi_types.specs.declared.end_kind.EndKind.TheVariants.{Returned, Faulted, Idle}
+use Rattle.asgi_types.specs.declared.end_kind.EndKind.TheVariants.{Returned}
 use Rattle.asgi_apps.specs.declared.echo.Reaction.TheVariants.{Says, Returns, Listens}
 use Rattle.asgi_apps.specs.Answers.{Answers, close_events, start_of}
-use Rattle.asgi_apps.specs.Echo.{bodies_of, echo_answer, echo_events, ends_request, EchoAnswers, HeardAll}
+use Rattle.asgi_apps.specs.Echo.{echo_answer, echo_events, EchoAnswers}
 use Rattle.asgi_apps.specs.Echoing.{ReactsTo, StandsAt}
 use Rattle.asgi_apps.proofs.AnswerLemmas.{close_is_lawful, one_passes}
 use Rattle.asgi_apps.proofs.EchoLemmas.{bodies-append, connected-append, echo_is_lawful, unended-append}
@@ -64,11 +61,11 @@ module _ (own kind : Kind) (heard : List Incoming) (said : List Outgoing) where
       let lawful = subst (λ (k : Kind). IsLawful k facts (said ++ event ∷ [])) stands.kind_is (subst (λ (w : Option Outgoing). IsLawful own facts (said ++ option_to_list w)) is (stands.lawful facts)) in
       rw stands.connected ((lawful_where_each_passes kind facts (said ++ event ∷ [])).0 lawful said [] event refl)
 
-  -- it was said
-  pub said_it : (waiting : Option Outgoing) (event : Outgoing) (listens : Bool) (after : List Outgoing) → waiting ≡ Some event → after ≡ said ++ event ∷ []
-      → StandsAt own waiting listens kind heard said → StandsAt own None listens kind heard after
-  said_it waiting event listens after is put stands =
-      let same : said ++ option_to_list waiting ≡ after ++ option_to_list None = ap (λ w. said ++ option_to_list w) is ∙ sym put ∙ sym (append-nil after) in
+  -- it was said, or waits on
+  pub said_it : (waiting left : Option Outgoing) (event : Outgoing) (listens : Bool) (after : List Outgoing) → waiting ≡ Some event
+      → after ++ option_to_list left ≡ said ++ event ∷ [] → StandsAt own waiting listens kind heard said → StandsAt own left listens kind heard after
+  said_it waiting left event listens after is put stands =
+      let same : said ++ option_to_list waiting ≡ after ++ option_to_list left = ap (λ w. said ++ option_to_list w) is ∙ sym put in
       record {
         kind_is = stands.kind_is;
         connected = stands.connected;

@@ -4,3 +4,5 @@ pub mod EchoSteps
 pub mod EndLemmas
 pub mod PauseLemmas
 pub mod SayLemmas
+pub mod WsEchoLemmas
+pub mod WsEchoSteps

@@ -1,6 +1,6 @@
 -- What the ready applications answer, each as a function of its scope and of what it heard
 -- (ASGI HTTP, "Response Start" and "Response Body"; ASGI WebSocket, "Close").
-use Rattle.std.specs.Prelude.{◌≡◌, ℕ, true, false, List, [], ◌∷◌, ◌++◌, Option, Some, None, codes}
+use Rattle.std.specs.Prelude.{◌≡◌, ℕ, false, List, [], ◌∷◌, ◌++◌, Option, Some, None, codes}
 use mathlib.Core.List.{IsPrefix}
 use Rattle.asgi_types.specs.Fields.{field_of}
 use Rattle.asgi_types.specs.declared.scope.Scope.{Scope}

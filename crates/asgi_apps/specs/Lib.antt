@@ -5,3 +5,5 @@ pub mod Echoing
 pub mod Ends
 pub mod Saying
 pub mod Scopes
+pub mod WsEcho
+pub mod WsEchoing

@@ -5,9 +5,10 @@ ghost use Rattle.asgi_types.specs.declared.scope.Kind.TheVariants as kind;
 ghost use Rattle.asgi_apps.specs.Answers.{start_of};
 ghost use Rattle.asgi_apps.specs.Scopes.{kind_of};
 
+use crate::echoing::{receive, say};
 use crate::responses::{close, start};
 use crate::task::{AppFault, AppTask, Application};
-use asgi_pipes::{AppEnd, Sent};
+use asgi_pipes::AppEnd;
 use asgi_types::{Incoming, Kind, Outgoing, Scope};
 use futures::task::{Context, Poll};
 use std::alloc::Global;
@@ -90,20 +91,13 @@ impl AppTask for EchoTask {
 
     fn poll<E: AppEnd>(&mut self, cx: &mut Context<'_>, end: &mut E) -> Poll<Result<(), AppFault>> {
         if let Some(event) = self.waiting.take() {
-            return match end.poll_send(cx, event) {
-                Sent::Done => cx.yield_now(),
-                Sent::Full(event) => {
-                    self.waiting = Some(event);
-                    Poll::Pending
-                }
-                Sent::Ignored => unreachable!(),
-                Sent::Refused(_, _) => unreachable!(),
-            };
+            self.waiting = say(cx, end, event);
+            return Poll::Pending;
         }
         if !self.listens {
             return Poll::Ready(Ok(()));
         }
-        let Poll::Ready(event) = end.poll_receive(cx) else {
+        let Poll::Ready(event) = receive(cx, end) else {
             return Poll::Pending;
         };
         match Reaction::to(event) {

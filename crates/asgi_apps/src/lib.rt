@@ -3,6 +3,7 @@
 #![tactic(auto)]
 
 mod echo;
+mod echoing;
 mod hello;
 mod not_found;
 mod responses;
@@ -10,6 +11,7 @@ mod root_path;
 mod running;
 mod says;
 mod task;
+mod ws_echo;
 
 pub use asgi_io::Pause;
 pub use echo::{Echo, EchoTask};
@@ -19,6 +21,7 @@ pub use root_path::RootPath;
 pub use running::{Ended, Lent, Running, drive};
 pub use says::Says;
 pub use task::{AppFault, AppTask, Application};
+pub use ws_echo::{WsEcho, WsEchoTask};
 
 #[cfg(test)]
 mod tests;

@@ -5,13 +5,13 @@ ghost use Rattle.asgi_apps.specs.Scopes.{kind_of};
 ghost use Rattle.asgi_pipes.specs.PlainPairs.{IsPlainPair};
 
 use crate::{
-    AppFault, AppTask, Application, Echo, Ended, Hello, NotFound, RootPath, Running, drive,
+    AppFault, AppTask, Application, Echo, Ended, Hello, NotFound, RootPath, Running, WsEcho, drive,
 };
 use asgi_io::CountingPause;
 use asgi_pipes::{ConnEnd, EndKind, OutItem, Pipes, Plain, PlainApp, PlainConn};
 use asgi_types::{
     Asgi, Chars, Extensions, Facts, Framing, Headers, HttpScope, HttpVersion, Incoming, Kind,
-    LifespanScope, Names, Octets, Outgoing, Scope, State, WsScope,
+    LifespanScope, Names, Octets, Outgoing, Payload, Reason, Scope, State, WsScope,
 };
 use futures::task::{Context, Poll};
 use futures::{Future, FutureExt};
@@ -20,16 +20,20 @@ use std::process::Abort;
 use std::random::RandomSource;
 use std::test::Fail;
 
-/// What the application is offered: at most three events.
+/// What the application is offered: at most four events.
 #[derive(Clone, Copy, Debug)]
 pub enum Offered {
     Nothing,
     Part(&'static str),
     Last(&'static str),
     Disconnect,
+    Connect,
+    Text(&'static str),
+    Bytes(&'static str),
+    Close(u16),
 }
 
-use Offered::{Disconnect, Last, Part};
+use Offered::{Bytes, Close, Connect, Disconnect, Last, Part, Text};
 
 /// A task that is driven within one poll, which is where a context comes from.
 #[derive(Drop)]
@@ -158,7 +162,20 @@ fn event_of(alloc: Global, offered: Offered) -> Option<Incoming> {
         Offered::Part(text) => Some(request(octets(alloc, text), true)),
         Offered::Last(text) => Some(request(octets(alloc, text), false)),
         Offered::Disconnect => Some(Incoming::HttpDisconnect),
+        Offered::Connect => Some(Incoming::WsConnect),
+        Offered::Text(text) => Some(message(Payload::Text(chars(alloc, text)))),
+        Offered::Bytes(text) => Some(message(Payload::Bytes(octets(alloc, text)))),
+        Offered::Close(code) => closed(code),
     }
+}
+
+fn message(payload: Payload) -> Incoming {
+    Incoming::WsReceive { payload }
+}
+
+fn closed(code: u16) -> Option<Incoming> {
+    let reason = Reason::new("")?;
+    Some(Incoming::WsDisconnect { code, reason })
 }
 
 fn request(body: Octets, more_body: bool) -> Incoming {
@@ -189,6 +206,7 @@ fn pair_of(alloc: Global, kind: Kind, offered: &[Offered]) -> Result<Pair, Alloc
     offer(&mut conn, event_of(alloc, at(offered, 0)));
     offer(&mut conn, event_of(alloc, at(offered, 1)));
     offer(&mut conn, event_of(alloc, at(offered, 2)));
+    offer(&mut conn, event_of(alloc, at(offered, 3)));
     Plain::carry(&mut conn, &mut app);
     Ok(Pair { conn, app })
 }
@@ -275,6 +293,11 @@ fn tell(alloc: Global, text: &mut Vec<u8>, event: &Outgoing) -> Result<(), Alloc
     match event {
         Outgoing::ResponseStart { status, headers } => tell_start(alloc, text, *status, headers),
         Outgoing::ResponseBody { body, more_body } => tell_body(text, body.bytes(), *more_body),
+        Outgoing::WsAccept {
+            subprotocol,
+            headers,
+        } => tell_accept(text, subprotocol, headers),
+        Outgoing::WsSend { payload } => tell_message(text, payload),
         Outgoing::WsClose { code, reason } => tell_close(alloc, text, *code, reason.as_str()),
         _ => text.extend_from_slice(b"other|"),
     }
@@ -288,10 +311,33 @@ fn tell_start(
 ) -> Result<(), AllocError> {
     let line = format!(in alloc; "start {status}")?;
     text.extend_from_slice(line.as_bytes())?;
+    tell_fields(text, headers)
+}
+
+fn tell_fields(text: &mut Vec<u8>, headers: &Headers) -> Result<(), AllocError> {
     for (name, value) in headers.iter() {
         add(text, &[b" ", name, b"=", value])?;
     }
     text.extend_from_slice(b"|")
+}
+
+fn tell_accept(
+    text: &mut Vec<u8>,
+    subprotocol: &Option<Chars>,
+    headers: &Headers,
+) -> Result<(), AllocError> {
+    text.extend_from_slice(b"accept")?;
+    if let Some(name) = subprotocol {
+        add(text, &[b" ", name.as_str().as_bytes()])?;
+    }
+    tell_fields(text, headers)
+}
+
+fn tell_message(text: &mut Vec<u8>, payload: &Payload) -> Result<(), AllocError> {
+    match payload {
+        Payload::Text(message) => add(text, &[b"text ", message.as_str().as_bytes(), b"|"]),
+        Payload::Bytes(message) => add(text, &[b"bytes ", message.bytes(), b"|"]),
+    }
 }
 
 fn tell_body(text: &mut Vec<u8>, body: &[u8], more_body: bool) -> Result<(), AllocError> {
@@ -435,6 +481,39 @@ fn echo_says_what_it_hears(rt: HostRuntime) -> Result<(), Fail> {
     check(&rt, Echo, ECHO)
 }
 
+const WS_ECHO: &[Row] = &[
+    (Kind::WebSocket, &[Connect, Close(1000)], "accept|returned"),
+    (
+        Kind::WebSocket,
+        &[Connect, Text("Hello"), Bytes("ab"), Close(1005)],
+        "accept|text Hello|bytes ab|returned",
+    ),
+    (
+        Kind::WebSocket,
+        &[Connect, Text(""), Bytes(""), Text("a")],
+        "accept|text |bytes |text a|idle",
+    ),
+    (Kind::WebSocket, &[Connect, Connect], "accept|idle"),
+    (
+        Kind::WebSocket,
+        &[Text("Hello"), Connect, Text("a")],
+        "accept|text a|idle",
+    ),
+    (Kind::WebSocket, &[Close(1006)], "returned"),
+    (Kind::WebSocket, SILENCE, "idle"),
+    (
+        Kind::Http,
+        &[Last("abc"), Disconnect],
+        "start 404 content-length=0|last |returned",
+    ),
+    (Kind::Lifespan, SILENCE, "faulted"),
+];
+
+#[test]
+fn ws_echo_sends_each_message_back(rt: HostRuntime) -> Result<(), Fail> {
+    check(&rt, WsEcho, WS_ECHO)
+}
+
 /// Where an allocation is refused, the fault says so, and the next call answers whole.
 fn check_memory<R: Abort + RandomSource + AllocGlobal, A: Application + Copy + Drop>(
     rt: &R,
@@ -457,5 +536,7 @@ fn memory_for_each_application(rt: HostRuntime) -> Result<(), Fail> {
     check_memory(&rt, NotFound, &NOT_FOUND[0])?;
     check_memory(&rt, RootPath, &ROOT_PATH[0])?;
     check_memory(&rt, Echo, &ECHO[1])?;
-    check_memory(&rt, Echo, &ECHO[4])
+    check_memory(&rt, Echo, &ECHO[4])?;
+    check_memory(&rt, WsEcho, &WS_ECHO[1])?;
+    check_memory(&rt, WsEcho, &WS_ECHO[7])
 }

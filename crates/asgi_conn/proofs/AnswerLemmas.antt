@@ -12,7 +12,9 @@ use Rattle.asgi_types.specs.Scopes.{scope_with}
 use Rattle.asgi_pipes.specs.declared.ends.AppEnd.{Ghosts}
 use Rattle.asgi_apps.specs.declared.running.Lent.{Lent}
 use Rattle.asgi_apps.specs.Ends.{own_end}
+use Rattle.asgi_exchange.specs.HttpExchange.{IsHttpExchange}
 use Rattle.asgi_exchange.specs.Views.{said_of}
+use Rattle.asgi_exchange.proofs.HttpExchangeLemmas.{in_words}
 use Rattle.asgi_conversation.specs.declared.report.Outcome.{Outcome}
 use Rattle.asgi_conversation.specs.declared.report.Outcome.TheVariants.{NoMemory}
 use Rattle.asgi_conversation.specs.Exchanges.{Exchanged, fault_of, fault_count}
@@ -27,11 +29,12 @@ use Rattle.asgi_conn.specs.declared.runner.AppSide.{AppSide}
 use Rattle.asgi_conn.specs.declared.runner.AppSide.TheVariants.{Runs, HasEnded}
 use Rattle.asgi_conn.specs.declared.tally.Tally.{Tally}
 use Rattle.asgi_conn.specs.declared.wire.Wire.{Wire}
+use Rattle.asgi_conn.specs.contracts.exchange_half.ConnHalfHalf.TheImpl as http_half
 use Rattle.asgi_conn.specs.Half.{Scene}
 use Rattle.asgi_conn.specs.HalfSteps.{Opens}
 use Rattle.asgi_conn.specs.Lines.{LineState}
 use Rattle.asgi_conn.specs.Loop.{IsAt, IsTallied, Serving, IsLeft}
-use Rattle.asgi_conn.specs.Running.{OfEnd, IsOpened, HasRun}
+use Rattle.asgi_conn.specs.Running.{OfEnd, IsOfRequest, IsOpened, HasRun}
 use Rattle.asgi_conn.proofs.LeaveLemmas.{left_resting, left_ended}
 use Rattle.asgi_conn.proofs.PromiseLemmas.{is_kept, all_more, length_more, faults_more}
 
@@ -51,20 +54,24 @@ module _ {T E : Type 0} (promise : List Incoming → List Outgoing → Option En
   of_pair (HasEnded app_end kind) opened on = on app_end opened.5
 
   -- the same of each end of its request
-  pub of_request : (side : AppSide T E) → IsOpened promise answers ends was side → ((app : E) → ends.facts app ≡ ends.facts was → P app) → OfEnd side P
+  pub of_request : (side : AppSide T E) → IsOpened promise answers ends was side → ((app : E) → IsOfRequest ends was app → P app) → OfEnd side P
   of_request (Runs running) opened on = of_lent running.lent opened
-  of_request (HasEnded app_end kind) opened on = on app_end opened.4.1
+  of_request (HasEnded app_end kind) opened on = on app_end opened.4
 
 -- ---- one more exchange
 
 module _ {T E : Type 0} (promise : Scope → List Incoming → List Outgoing → Option EndKind → Type 0) (answers : T → List Incoming → List Outgoing → Option EndKind → Type 0) (ends : Ghosts E)
     (limits : Limits) (client server : Option Peer) (state : List (List ℕ × StateValue)) (scene : Scene) (now : LineState) (half : ConnHalf) (read : List ℕ)
-    (side : AppSide T E) (kind : EndKind) (run : HasRun answers ends half.wire.limits scene now half read side kind) (lim : half.wire.limits ≡ limits) where
+    (side : AppSide T E) (kind : EndKind) (run : HasRun http_half.ghosts answers ends (record { limits = limits; at = scene }) now half read side kind) where
   abbrev one : Exchanged
   one = exchanged scene.scope scene.facts run.world
 
   abbrev out : List ℕ
   out = scene.before ++ run.world.conn.written
+
+  -- in the words of the standards, and of the half's own limits
+  in_http : IsHttpExchange half.wire.limits scene.facts run.world
+  in_http = subst (λ (l : Limits). IsHttpExchange l scene.facts run.world) (sym run.stands.limits) (in_words limits scene.facts run.world run.exchange)
 
   -- it is as the application promises it
   promised_one : (scope : Scope) (was : E) → scope ≡ scope_with scene.scope client server state → IsOpened (promise scope) answers ends was side → ends.heard was ≡ [] → ends.said was ≡ []
@@ -85,10 +92,10 @@ module _ {T E : Type 0} (promise : Scope → List Incoming → List Outgoing →
   stands_at : (at : Place) → IsLeft half at → IsAt at limits scene.start now read (scene.exchanges ++ one ∷ []) out
   stands_at at (inl l) =
       subst (λ (p : Place). IsAt p limits scene.start now read (scene.exchanges ++ one ∷ []) out) (sym l.1)
-      (left_resting limits scene now half read run.world run.stands run.exchange lim l.0)
+      (left_resting limits scene now half read run.world run.stands.stands in_http run.stands.limits l.0)
   stands_at at (inr l) =
       subst (λ (p : Place). IsAt p limits scene.start now read (scene.exchanges ++ one ∷ []) out) (sym l.2)
-      (left_ended limits scene now half read run.world run.stands run.exchange lim l.0 l.1)
+      (left_ended limits scene now half read run.world run.stands.stands in_http run.stands.limits l.0 l.1)
 
   pub serves_one : (scope : Scope) (was : E) (old new : Tally) (at : Place)
       → scope ≡ scope_with scene.scope client server state → IsOpened (promise scope) answers ends was side → ends.heard was ≡ [] → ends.said was ≡ []
@@ -102,11 +109,6 @@ module _ {T E : Type 0} (promise : Scope → List Incoming → List Outgoing →
     counted = counted_one old new tallied exchanges faults;
     stands = stands_at at left;
   }
-
--- the limits of the exchange are those of the connection
-pub run_in : {T E : Type 0} (answers : T → List Incoming → List Outgoing → Option EndKind → Type 0) (ends : Ghosts E) (old new : Limits) (scene : Scene) (now : LineState) (half : ConnHalf) (read : List ℕ)
-    (side : AppSide T E) (kind : EndKind) → new ≡ old → HasRun answers ends old scene now half read side kind → HasRun answers ends new scene now half read side kind
-run_in answers ends old new scene now half read side kind same run = subst (λ (l : Limits). HasRun answers ends l scene now half read side kind) (sym same) run
 
 -- ---- want of memory, before the application is called
 

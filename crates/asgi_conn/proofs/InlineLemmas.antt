@@ -1,18 +1,17 @@
 -- Turn after turn, the connection's half leads on, and the application's side goes on.
 use Rattle.std.proofs.Common.{◌≡◌, ℕ, ◌+◌, ◌⊎◌, inl, inr, arith, List, [], ◌++◌, Option, Some, None, IsSomeAnd, refl, sym, ap, ◌∙◌, subst, append_assoc}
-use Rattle.std.specs.Prelude.{◌<◌}
+use Rattle.std.specs.Prelude.{◌<◌, IsSome, is_some}
 use Rattle.std.proofs.lemmas.List.{append-nil}
 use Rattle.asgi_types.specs.declared.end_kind.EndKind.{EndKind}
-use Rattle.asgi_types.specs.declared.facts.Facts.{Facts}
 use Rattle.asgi_types.specs.declared.incoming.Incoming.{Incoming}
 use Rattle.asgi_types.specs.declared.outgoing.Outgoing.{Outgoing}
 use Rattle.asgi_types.specs.declared.scope.Kind.{Kind}
-use Rattle.asgi_types.specs.declared.scope.Kind.TheVariants.{Http}
 use Rattle.asgi_pipes.specs.declared.ends.AppEnd.{Ghosts}
 use Rattle.asgi_pipes.specs.Items.{items_of}
 use Rattle.asgi_apps.specs.declared.running.Lent.{Lent}
 use Rattle.asgi_apps.specs.Ends.{MayGoOn, IsWithin, own_end}
-use Rattle.asgi_exchange.specs.Calls.{view_of}
+use Rattle.asgi_exchange.specs.Calls.{IsExchangeOf, view_of}
+use Rattle.asgi_exchange.specs.Exchange.{Exchange}
 use Rattle.asgi_exchange.specs.Items.{events_of, end_of}
 use Rattle.asgi_exchange.specs.Views.{ConnView}
 use Rattle.asgi_exchange.proofs.EventLemmas.{events_are}
@@ -22,28 +21,16 @@ use Rattle.asgi_conversation.specs.declared.following.Following.{Following}
 use Rattle.asgi_conversation.specs.declared.following.Following.TheVariants.{NextRequest, ConnectionEnds}
 use Rattle.asgi_conversation.specs.declared.report.Outcome.TheVariants.{Idle}
 use Rattle.asgi_conn.specs.Limits.{IsAtLimit, IsOverIdle, IsSettled}
-use Rattle.asgi_conn.specs.declared.half.ConnHalf.{ConnHalf}
-use Rattle.asgi_conn.specs.declared.half.Stage.TheVariants.{Over}
 use Rattle.asgi_conn.specs.declared.runner.AppSide.{AppSide}
 use Rattle.asgi_conn.specs.declared.runner.AppSide.TheVariants.{Runs, HasEnded}
-use Rattle.asgi_conn.specs.Half.{Stands, Leads}
+use Rattle.asgi_conn.specs.AnyHalf.{LeadsOn}
 use Rattle.asgi_conn.specs.Lines.{LineState}
 use Rattle.asgi_conn.specs.Running.{OfEnd, MayRun, Answers, IsOfRequest, SameLists, GoesOnAs, EndsIn, TagStays}
 
 -- ---- the connection's half
 
-pub leads_nowhere : (line : LineState) (half : ConnHalf) (P : ConnView ℕ ℕ → Type 0) → Leads line half P line half P
-leads_nowhere line half P scene read view stands is = ([], view, subst (λ (r : List ℕ). Stands scene line half r view) (sym (append-nil read)) stands, is)
-
-pub leads_further : (a b c : LineState) (x y z : ConnHalf) (P Q R : ConnView ℕ ℕ → Type 0) → Leads a x P b y Q → Leads b y Q c z R → Leads a x P c z R
-leads_further a b c x y z P Q R first second scene read view stands is =
-    let s = first scene read view stands is in
-    let t = second scene (read ++ s.0) s.1 s.2 s.3 in
-    (s.0 ++ t.0, t.1, subst (λ (r : List ℕ). Stands scene c z r t.1) (append_assoc read s.0 t.0) t.2, t.3)
-
--- the same lists, under another name
-pub leads_as : (a b : LineState) (x y : ConnHalf) (P Q R : ConnView ℕ ℕ → Type 0) → Leads a x P b y Q → ((view : ConnView ℕ ℕ) → Q view → R view) → Leads a x P b y R
-leads_as a b x y P Q R first same scene read view stands is = let s = first scene read view stands is in (s.0, s.1, s.2, same s.1 s.3)
+pub leads_nowhere : {S H A W : Type 0} (stands : S → LineState → H → List ℕ → ConnView A W → Type 0) (line : LineState) (half : H) (P : ConnView A W → Type 0) → LeadsOn stands line half P line half P
+leads_nowhere {A} {W} stands line half P scene read view s is = ([], view, subst (λ (r : List ℕ). stands scene line half r view) (sym (append-nil read)) s, is)
 
 -- ---- what holds of a lent end
 
@@ -156,19 +143,14 @@ module _ {T E : Type 0} (stands : T → Kind → List Incoming → List Outgoing
 
   -- ---- in the end
 
-  pub of_http : (side : AppSide T E) (app_end : E) (kind : EndKind) → GoesOnAs stands answers ends side (HasEnded app_end kind) → OfEnd side (λ app. ends.kind app ≡ Http) → ends.kind app_end ≡ Http
-  of_http (Runs running) app_end kind on is =
-      some_gives running.lent (λ was. EndsAs app_end kind was × (ends.kind was.app_end ≡ Http)) (ends.kind app_end ≡ Http)
-      (some_both running.lent (EndsAs app_end kind) (λ was. ends.kind was.app_end ≡ Http) (λ was. EndsAs app_end kind was × (ends.kind was.app_end ≡ Http)) on is (λ was x y. (x, y)))
-      (λ was x. x.0.2.0 ∙ x.1)
-  of_http (HasEnded was before) app_end kind on is = on.3.0 ∙ is
-
-  pub of_facts : (facts : Facts) (side : AppSide T E) (app_end : E) (kind : EndKind) → GoesOnAs stands answers ends side (HasEnded app_end kind) → OfEnd side (λ app. ends.facts app ≡ facts) → ends.facts app_end ≡ facts
-  of_facts facts (Runs running) app_end kind on is =
-      some_gives running.lent (λ was. EndsAs app_end kind was × (ends.facts was.app_end ≡ facts)) (ends.facts app_end ≡ facts)
-      (some_both running.lent (EndsAs app_end kind) (λ was. ends.facts was.app_end ≡ facts) (λ was. EndsAs app_end kind was × (ends.facts was.app_end ≡ facts)) on is (λ was x y. (x, y)))
-      (λ was x. x.0.2.1 ∙ x.1)
-  of_facts facts (HasEnded was before) app_end kind on is = on.3.1 ∙ is
+  -- what holds of the end by its request holds in the end
+  pub of_request : {A W : Type 0} (x : Exchange A W) (side : AppSide T E) (app_end : E) (kind : EndKind) → GoesOnAs stands answers ends side (HasEnded app_end kind)
+      → OfEnd side (λ app. IsExchangeOf ends app x) → IsExchangeOf ends app_end x
+  of_request x (Runs running) app_end kind on is =
+      some_gives running.lent (λ was. EndsAs app_end kind was × IsExchangeOf ends was.app_end x) (IsExchangeOf ends app_end x)
+      (some_both running.lent (EndsAs app_end kind) (λ was. IsExchangeOf ends was.app_end x) (λ was. EndsAs app_end kind was × IsExchangeOf ends was.app_end x) on is (λ was y z. (y, z)))
+      (λ was y. (y.1.0 ∙ sym y.0.2.0, y.1.1 ∙ sym y.0.2.1))
+  of_request x (HasEnded was before) app_end kind on is = (is.0 ∙ sym on.3.0, is.1 ∙ sym on.3.1)
 
   same_view : (a b : E) → SameLists ends a b → ends.ended b ≡ ends.ended a → view_of ends b ≡ view_of ends a
   same_view a b lists ended = rw (lists.0, lists.1, lists.2, ended) refl
@@ -212,17 +194,22 @@ pub later_turn : (first before after : ℕ) (P : Type 0) → (P × (before ≡ f
 later_turn first before after P (inl x) one = let same = x.1 in omega (arith, same, one)
 later_turn first before after P (inr x) one = omega (arith, x, one)
 
-pub stays_or_turned : (old new : ConnHalf) (first last : ℕ) → ((new.stage ≡ old.stage) × (last ≡ first)) ⊎ (first < last) → new.stage ≡ Over NextRequest
-    → (old.stage ≡ Over NextRequest) ⊎ (first < last)
+pub stays_or_turned : (old new : Option Following) (first last : ℕ) → ((new ≡ old) × (last ≡ first)) ⊎ (first < last) → new ≡ Some NextRequest
+    → (old ≡ Some NextRequest) ⊎ (first < last)
 stays_or_turned old new first last (inl x) next = inl (sym x.0 ∙ next)
 stays_or_turned old new first last (inr x) next = inr x
 
+-- what is settled is over
+pub settled_is_over : (o : Option Following) → IsSettled o → IsSome o
+settled_is_over o s = ap is_some s.1
+
 -- where the exchange is over as idle, a limit was reached
-pub idle_at : (old new : ConnHalf) (turns : Turns) → IsAtLimit turns ⊎ IsSettled old → ((following : Following) → old.stage ≡ Over following → new ≡ old) → IsOverIdle new → IsAtLimit turns
-idle_at old new turns (inl at) stays over = at
-idle_at old new turns (inr x) stays over =
-    let same : Over x.0 ≡ Over (ConnectionEnds Idle) = sym x.1 ∙ sym (ap (λ (h : ConnHalf). h.stage) (stays x.0 x.1)) ∙ over in
+pub idle_at : {H : Type 0} (following : H → Option Following) (old new : H) (turns : Turns) → IsAtLimit turns ⊎ IsSettled (following old) → (IsSome (following old) → new ≡ old)
+    → IsOverIdle (following new) → IsAtLimit turns
+idle_at following old new turns (inl at) stays over = at
+idle_at following old new turns (inr x) stays over =
+    let same : Some x.0 ≡ Some (ConnectionEnds Idle) = sym x.1 ∙ sym (ap following (stays (settled_is_over (following old) x))) ∙ over in
     absurd (x.2 (following_of x.0 (ConnectionEnds Idle) same))
   where
-    following_of : (a b : Following) → Over a ≡ Over b → a ≡ b
+    following_of : (a b : Following) → Some a ≡ Some b → a ≡ b
     following_of a b e = cc

@@ -5,6 +5,7 @@ pub mod LeadsLemmas
 pub mod HalfLemmas
 pub mod HalfInLemmas
 pub mod HalfEndLemmas
+pub mod HttpHalfLemmas
 pub mod InlineLemmas
 pub mod LeaveLemmas
 pub mod PromiseLemmas

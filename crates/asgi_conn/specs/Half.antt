@@ -32,6 +32,7 @@ use Rattle.asgi_conversation.specs.declared.input.InputEnd.{InputEnd}
 use Rattle.asgi_conversation.specs.declared.report.Outcome.{Outcome}
 use Rattle.asgi_conversation.specs.declared.report.Outcome.TheVariants.{InputBroke, WriteFailed}
 use Rattle.asgi_conversation.specs.Exchanges.{Exchanged, requests_of}
+use Rattle.asgi_conn.specs.AnyHalf.{LeadsOn}
 use Rattle.asgi_conn.specs.Lines.{LineState, HasMoved}
 use Rattle.asgi_conn.specs.ReadAhead.{ReadsAhead}
 use Rattle.asgi_conversation.specs.Persistence.{StopsWithin, heads_of}
@@ -184,6 +185,4 @@ pub record Stands (scene : Scene) (now : LineState) (half : ConnHalf) (read : Li
 
 -- From a half and its view to later ones: wherever it stood, it stands again.
 abbrev pub Leads : LineState → ConnHalf → (ConnView ℕ ℕ → Type 0) → LineState → ConnHalf → (ConnView ℕ ℕ → Type 0) → Type 0
-Leads was old IsOldView now new IsNewView =
-    (scene : Scene) (read : List ℕ) (view : ConnView ℕ ℕ) → Stands scene was old read view → IsOldView view
-    → (more : List ℕ) × (later : ConnView ℕ ℕ) × Stands scene now new (read ++ more) later × IsNewView later
+Leads = LeadsOn Stands

@@ -26,6 +26,7 @@ use Rattle.asgi_conn.specs.declared.half.Body.TheVariants.{Open, Waits, Whole, R
 use Rattle.asgi_conn.specs.declared.half.ConnHalf.{ConnHalf}
 use Rattle.asgi_conn.specs.declared.half.Stage.TheVariants.{Running}
 use Rattle.asgi_conn.specs.declared.wire.Wire.{Wire}
+use Rattle.asgi_conn.specs.AnyHalf.{LeadsInLine}
 use Rattle.asgi_conn.specs.Half.{Scene, Stands, WithinScene, HasGiven, EndsWhere, BreaksAt, alone, known}
 use Rattle.asgi_conn.specs.Lines.{LineState, HasMoved}
 use Rattle.asgi_conn.specs.ReadAhead.{ReadsAhead, ahead_limit}
@@ -71,9 +72,7 @@ LeadsOut was old now new =
 
 -- the end is called, and the line does not move
 abbrev pub LeadsIn : ConnHalf → (ConnView ℕ ℕ → Type 0) → ConnHalf → (ConnView ℕ ℕ → Type 0) → Type 0
-LeadsIn old IsOldView new IsNewView =
-    (scene : Scene) (line : LineState) (read : List ℕ) (view : ConnView ℕ ℕ) → Stands scene line old read view → IsOldView view
-    → (later : ConnView ℕ ℕ) × Stands scene line new read later × IsNewView later
+LeadsIn = LeadsInLine Stands
 
 -- nothing changed but the body and what the reader gave
 abbrev pub KeepsBesidesBody : ConnHalf → ConnHalf → Type 0

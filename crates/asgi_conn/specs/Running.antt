@@ -3,7 +3,6 @@ use Rattle.std.specs.Prelude.{◌≡◌, ℕ, List, [], ◌++◌, Option, Some, 
 use Rattle.asgi_types.specs.declared.end_kind.EndKind.{EndKind}
 use Rattle.asgi_types.specs.declared.end_kind.EndKind.TheVariants.{Faulted}
 use Rattle.asgi_types.specs.declared.incoming.Incoming.{Incoming}
-use Rattle.asgi_types.specs.declared.limits.Limits.{Limits}
 use Rattle.asgi_types.specs.declared.outgoing.Outgoing.{Outgoing}
 use Rattle.asgi_types.specs.declared.scope.Kind.{Kind}
 use Rattle.asgi_pipes.specs.declared.ends.AppEnd.{Ghosts}
@@ -11,13 +10,12 @@ use Rattle.asgi_pipes.specs.declared.ends.ConnEnd as conn_end
 use Rattle.asgi_pipes.specs.Items.{items_of}
 use Rattle.asgi_apps.specs.Ends.{IsWithin, MayGoOn, own_end}
 use Rattle.asgi_exchange.specs.Calls.{view_of}
-use Rattle.asgi_exchange.specs.HttpExchange.{IsHttpExchange}
 use Rattle.asgi_exchange.specs.Items.{end_of}
+use Rattle.asgi_exchange.specs.Keeps.{IsExchange}
 use Rattle.asgi_exchange.specs.Views.{AppView, World, said_of}
-use Rattle.asgi_conn.specs.declared.half.ConnHalf.{ConnHalf}
+use Rattle.asgi_conn.specs.declared.exchange_half.Half as any_half
 use Rattle.asgi_conn.specs.declared.runner.AppSide.{AppSide}
 use Rattle.asgi_conn.specs.declared.runner.AppSide.TheVariants.{Runs, HasEnded}
-use Rattle.asgi_conn.specs.Half.{Scene, Stands}
 use Rattle.asgi_conn.specs.Lines.{LineState}
 
 -- ---- the application's side
@@ -57,12 +55,12 @@ IsOpened promise answers ends was (HasEnded app_end kind) =
 
 -- ---- the exchange
 
--- Both halves ran: the connection stands behind it, the two halves make one HTTP exchange, and its task ended so.
-pub record HasRun {T E : Type 0} (answers : T → List Incoming → List Outgoing → Option EndKind → Type 0) (ends : Ghosts E)
-    (limits : Limits) (scene : Scene) (now : LineState) (half : ConnHalf) (read : List ℕ) (side : AppSide T E) (kind : EndKind) : Type 0 where
-  pub world : World ℕ ℕ
-  pub stands : Stands scene now half read world.conn
-  pub exchange : IsHttpExchange limits scene.facts world
+-- Both halves ran: the connection stands behind it, the two halves make one exchange, and its task ended so.
+pub record HasRun {H T E : Type 0} (halves : any_half.Ghosts H) (answers : T → List Incoming → List Outgoing → Option EndKind → Type 0) (ends : Ghosts E)
+    (scene : halves.Scene) (now : LineState) (half : H) (read : List ℕ) (side : AppSide T E) (kind : EndKind) : Type 0 where
+  pub world : World halves.In halves.Out
+  pub stands : halves.stands scene now half read world.conn
+  pub exchange : IsExchange (halves.exchange scene) world
   pub ended : end_of world.app.put ≡ Some kind
   pub answers_for : Answers answers ends side world.app kind
 

@@ -14,6 +14,7 @@ ghost use Rattle.asgi_exchange.specs.Calls.{IsViewOf};
 ghost use Rattle.asgi_exchange.specs.Views.{ConnView, empty_conn};
 ghost use Rattle.asgi_conn.specs.Half.{Scene, Stands, Leads, HasGiven, EndsWhere, IsSettled, BreaksAt};
 ghost use Rattle.asgi_conn.specs.HalfSteps.{Opens, Pending, LeadsOut, LeadsIn, KeepsBesidesBody, GivesOn, GivesBehind, GaveNext, HasAsked, HoldsFew, IsFree, ReadsAt, EndsAtInput, NeedsBody, IsCutOff, known_input};
+ghost use Rattle.asgi_conn.specs.HttpHalf.{following_of};
 ghost use Rattle.asgi_conn.specs.Limits as turn_limits;
 ghost use Rattle.asgi_conn.specs.Lines.{state_of};
 ghost use Rattle.asgi_conversation.specs.declared.following.Following.{Following};
@@ -104,6 +105,7 @@ impl ConnHalf {
         app_goes_on: bool,
     ) -> Turn
         ensures leads { Leads (state_of L.Reads L.Counts line.old) self.old (IsViewOf C.ConnEnd end.old) (state_of L.Reads L.Counts line.new) self.new (IsViewOf C.ConnEnd end.new) }
+        ensures over { (following : Following) → self.old.stage ≡ Stage.Over following → self.new ≡ self.old }
         ensures tag { (C.tag end.new ≡ C.tag end.old) × (C.ring end.new ≡ C.ring end.old) }
         ensures limits { self.new.wire.limits ≡ self.old.wire.limits }
     {
@@ -117,7 +119,7 @@ impl ConnHalf {
 
     /// Nothing more is done, and not for a limit on turns.
     pub fn is_settled(&self) -> bool
-        ensures { IsTrue result → turn_limits.IsSettled self.now }
+        ensures { IsTrue result ↔ turn_limits.IsSettled (following_of self.now.stage) }
     {
         match self.stage {
             Stage::Over(Following::ConnectionEnds(Outcome::Idle)) => false,

@@ -1,21 +1,17 @@
 //! Both halves of an exchange in one thread, turn by turn.
-ghost use Rattle.std.specs.Prelude.{◌≡◌, ◌≢◌, ◌<◌, ◌⊎◌, ◌++◌, ℕ, List, IsTrue, IsFalse};
+ghost use Rattle.std.specs.Prelude.{◌≡◌, ◌≢◌, ◌<◌, ◌⊎◌, ◌++◌, ℕ, List, Some, IsSome, IsTrue, IsFalse};
 ghost use Rattle.asgi_io.specs.declared.turns.Turn.{Turn};
 ghost use Rattle.asgi_io.specs.Turns.{CountsTurns};
-ghost use Rattle.asgi_types.specs.declared.scope.Kind.TheVariants.{Http};
 ghost use Rattle.asgi_pipes.specs.PlainPairs.{IsPlainPair};
 ghost use Rattle.asgi_apps.specs.Ends.{MayGoOn, IsWithin};
-ghost use Rattle.asgi_exchange.specs.Calls.{IsViewOf};
+ghost use Rattle.asgi_exchange.specs.Calls.{IsViewOf, IsExchangeOf};
 ghost use Rattle.asgi_exchange.specs.Views.{ConnView};
-ghost use Rattle.asgi_conversation.specs.declared.following.Following.{Following};
 ghost use Rattle.asgi_conversation.specs.declared.following.Following.TheVariants.{NextRequest};
-ghost use Rattle.asgi_conn.specs.declared.half.Stage.TheVariants as stage;
-ghost use Rattle.asgi_conn.specs.Half.{Scene, Stands};
 ghost use Rattle.asgi_conn.specs.Limits.{IsAtLimit, IsOverIdle, IsSettled};
 ghost use Rattle.asgi_conn.specs.Lines.{state_of};
 ghost use Rattle.asgi_conn.specs.Running.{OfEnd, MayRun, HasRun, HasPassed, IsOfRequest, EndsIn, GoesOnAs, TagStays};
 
-use crate::half::ConnHalf;
+use crate::exchange_half::Half;
 use crate::line::Line;
 use crate::runner::{AppSide, Runner};
 use asgi_apps::{AppTask, Lent, Running};
@@ -69,9 +65,9 @@ impl<'q> Runner for Inline<'q> {
         Plain.renew(alloc, conn, app, kind, facts, ring)
     }
 
-    fn run<L: Line, P: Pause, T: AppTask>(
+    fn run<H: Half, L: Line, P: Pause, T: AppTask>(
         &mut self,
-        half: &mut ConnHalf,
+        half: &mut H,
         line: &mut L,
         pause: &mut P,
         turns: &mut Turns,
@@ -79,18 +75,17 @@ impl<'q> Runner for Inline<'q> {
         side: AppSide<T, PlainApp>,
     ) -> EndKind
         requires pair { OfEnd side (λ app. IsPlainPair end app) }
-        requires http { OfEnd side (λ app. ⟦<PlainApp as AppEnd>⟧.kind app ≡ Http) }
         requires may { MayRun T.stands ⟦<PlainApp as AppEnd>⟧ side }
-        ensures runs { (scene : Scene) (read : List ℕ) (view : ConnView ℕ ℕ) → Stands scene (state_of L.Reads L.Counts line.old) half.old read view
-            → IsViewOf ⟦<PlainConn as ConnEnd>⟧ end view → OfEnd side (λ app. ⟦<PlainApp as AppEnd>⟧.facts app ≡ scene.facts)
-            → (more : List ℕ) × HasRun T.answers ⟦<PlainApp as AppEnd>⟧ half.old.wire.limits scene (state_of L.Reads L.Counts line.new) half.new (read ++ more) side result }
-        ensures over { (following : Following) × (half.new.stage ≡ stage.Over following) }
-        ensures limits { half.new.wire.limits ≡ half.old.wire.limits }
+        ensures runs { (scene : H.Scene) (read : List ℕ) (view : ConnView H.In H.Out) → H.stands scene (state_of L.Reads L.Counts line.old) half.old read view
+            → IsViewOf ⟦<PlainConn as ConnEnd>⟧ end view → OfEnd side (λ app. IsExchangeOf ⟦<PlainApp as AppEnd>⟧ app (H.exchange scene))
+            → (more : List ℕ) × HasRun H.Half T.answers ⟦<PlainApp as AppEnd>⟧ scene (state_of L.Reads L.Counts line.new) half.new (read ++ more) side result }
+        ensures over { IsSome (H.following half.new) }
         ensures counts { (turned : List Turn) (pauses : ℕ) → CountsTurns turns.old.turn_limit turns.old.idle_limit turned pauses (P.count pause.old) turns.old.turns turns.old.idle
             → (more : List Turn) × CountsTurns turns.old.turn_limit turns.old.idle_limit (turned ++ more) pauses (P.count pause.new) turns.new.turns turns.new.idle }
         ensures turn_limits { (turns.new.turn_limit ≡ turns.old.turn_limit) × (turns.new.idle_limit ≡ turns.old.idle_limit) }
-        ensures takes_a_turn { half.new.stage ≡ stage.Over NextRequest → (half.old.stage ≡ stage.Over NextRequest) ⊎ (turns.old.turns < turns.new.turns) }
-        ensures idle { IsOverIdle half.new → IsAtLimit turns.new }
+        ensures takes_a_turn { H.following half.new ≡ Some NextRequest → (H.following half.old ≡ Some NextRequest) ⊎ (turns.old.turns < turns.new.turns) }
+        ensures settled { IsSettled (H.following half.old) → (half.new ≡ half.old) × (turns.new.turns ≡ turns.old.turns) }
+        ensures idle { IsOverIdle (H.following half.new) → IsAtLimit turns.new }
         ensures met { ◌≡◌ {A = ℕ} 0 0 }
     {
         let mut conn = end;
@@ -99,7 +94,7 @@ impl<'q> Runner for Inline<'q> {
         while goes_on(half, turns) {
             let moved = half.turn(line, &mut conn, app_goes_on);
             carry(&mut conn, &mut side);
-            let polled = poll_on(&mut self.cx, &mut side, half.wire.limits.ring);
+            let polled = poll_on(&mut self.cx, &mut side, half.ring());
             carry(&mut conn, &mut side);
             app_goes_on = polled == Turn::Moved;
             turns.take(both(moved, polled), pause);
@@ -126,9 +121,10 @@ impl<'q> Runner for Inline<'q> {
 
 /// Whether one more turn is taken: until the exchange is over, or a limit is reached. One that is over
 /// as idle waits for the limit.
-fn goes_on(half: &ConnHalf, turns: &Turns) -> bool
+fn goes_on<H: Half>(half: &H, turns: &Turns) -> bool
     ensures yes { IsTrue result → (turns.now.turns < turns.now.turn_limit) × (turns.now.idle < turns.now.idle_limit) }
-    ensures over { IsFalse result → IsAtLimit turns.now ⊎ IsSettled half.now }
+    ensures open { IsTrue result → ¬ (IsSettled (H.following half.now)) }
+    ensures over { IsFalse result → IsAtLimit turns.now ⊎ IsSettled (H.following half.now) }
 {
     !turns.is_over() && !half.is_settled()
 }

@@ -2,6 +2,7 @@
 #![tactic(auto)]
 
 mod connection;
+mod exchange_half;
 mod half;
 mod inline;
 pub mod laws;
@@ -14,6 +15,7 @@ mod wire;
 pub use asgi_conversation::{Following, InputEnd, Outcome, Report};
 pub use asgi_io::{CountingPause, Pause};
 pub use connection::serve_connection;
+pub use exchange_half::Half;
 pub use inline::Inline;
 pub use line::{Joined, Line};
 pub use runner::{AppSide, Runner};

@@ -1,19 +1,15 @@
 //! What runs the two halves of an exchange.
-ghost use Rattle.std.specs.Prelude.{◌≡◌, ◌+◌, ◌<◌, ◌⊎◌, false, [], ◌++◌, ℕ, List, None, IfOk};
+ghost use Rattle.std.specs.Prelude.{◌≡◌, ◌+◌, ◌<◌, ◌⊎◌, false, [], ◌++◌, ℕ, List, Some, None, IfOk, IsSome};
 ghost use Rattle.asgi_io.specs.declared.turns.Turn.{Turn};
 ghost use Rattle.asgi_io.specs.Turns.{CountsTurns};
-ghost use Rattle.asgi_types.specs.declared.scope.Kind.TheVariants.{Http};
-ghost use Rattle.asgi_exchange.specs.Calls.{IsViewOf};
+ghost use Rattle.asgi_exchange.specs.Calls.{IsViewOf, IsExchangeOf};
 ghost use Rattle.asgi_exchange.specs.Views.{ConnView};
-ghost use Rattle.asgi_conversation.specs.declared.following.Following.{Following};
 ghost use Rattle.asgi_conversation.specs.declared.following.Following.TheVariants.{NextRequest};
-ghost use Rattle.asgi_conn.specs.declared.half.Stage.TheVariants as stage;
-ghost use Rattle.asgi_conn.specs.Half.{Scene, Stands};
-ghost use Rattle.asgi_conn.specs.Limits.{IsAtLimit, IsOverIdle};
+ghost use Rattle.asgi_conn.specs.Limits.{IsAtLimit, IsOverIdle, IsSettled};
 ghost use Rattle.asgi_conn.specs.Lines.{state_of};
 ghost use Rattle.asgi_conn.specs.Running.{OfEnd, MayRun, HasRun};
 
-use crate::half::ConnHalf;
+use crate::exchange_half::Half;
 use crate::line::Line;
 use asgi_apps::{AppTask, Running};
 use asgi_io::{Pause, Turns};
@@ -61,11 +57,11 @@ pub trait Runner {
         ensures pair { IfOk result (λ ends. Self.Pipes.is_pair ends.0 ends.1) }
         ensures counts { (not_met self.new ≡ not_met self.old) × (pauses self.new ≡ pauses self.old) × (driven self.new ≡ driven self.old) };
 
-    /// Runs both halves of an HTTP exchange until it is over, or a limit on turns is reached, where it
-    /// is given up, and a task that still runs is ended as idle. The answer says how the task ended.
-    fn run<L: Line, P: Pause, T: AppTask>(
+    /// Runs both halves of an exchange until it is over, or a limit on turns is reached, where it is
+    /// given up, and a task that still runs is ended as idle. The answer says how the task ended.
+    fn run<H: Half, L: Line, P: Pause, T: AppTask>(
         &mut self,
-        half: &mut ConnHalf,
+        half: &mut H,
         line: &mut L,
         pause: &mut P,
         turns: &mut Turns,
@@ -73,20 +69,20 @@ pub trait Runner {
         side: AppSide<T, <Self::Pipes as Pipes>::App>,
     ) -> EndKind
         requires pair { OfEnd side (λ app. Self.Pipes.is_pair end app) }
-        requires http { OfEnd side (λ app. Self.Pipes.App.kind app ≡ Http) }
         requires may { MayRun T.stands Self.Pipes.App.AppEnd side }
-        // Wherever the connection stood in the request of these ends, it stands behind the exchange.
-        ensures runs { (scene : Scene) (read : List ℕ) (view : ConnView ℕ ℕ) → Stands scene (state_of L.Reads L.Counts line.old) half.old read view
-            → IsViewOf Self.Pipes.Conn.ConnEnd end view → OfEnd side (λ app. Self.Pipes.App.facts app ≡ scene.facts)
-            → (more : List ℕ) × HasRun T.answers Self.Pipes.App.AppEnd half.old.wire.limits scene (state_of L.Reads L.Counts line.new) half.new (read ++ more) side result }
-        ensures over { (following : Following) × (half.new.stage ≡ stage.Over following) }
-        ensures limits { half.new.wire.limits ≡ half.old.wire.limits }
+        // Wherever the connection stood in an exchange of these ends, it stands behind it.
+        ensures runs { (scene : H.Scene) (read : List ℕ) (view : ConnView H.In H.Out) → H.stands scene (state_of L.Reads L.Counts line.old) half.old read view
+            → IsViewOf Self.Pipes.Conn.ConnEnd end view → OfEnd side (λ app. IsExchangeOf Self.Pipes.App.AppEnd app (H.exchange scene))
+            → (more : List ℕ) × HasRun H.Half T.answers Self.Pipes.App.AppEnd scene (state_of L.Reads L.Counts line.new) half.new (read ++ more) side result }
+        ensures over { IsSome (H.following half.new) }
         ensures counts { (turned : List Turn) (pauses : ℕ) → CountsTurns turns.old.turn_limit turns.old.idle_limit turned pauses (P.count pause.old) turns.old.turns turns.old.idle
             → (more : List Turn) × CountsTurns turns.old.turn_limit turns.old.idle_limit (turned ++ more) pauses (P.count pause.new) turns.new.turns turns.new.idle }
         ensures turn_limits { (turns.new.turn_limit ≡ turns.old.turn_limit) × (turns.new.idle_limit ≡ turns.old.idle_limit) }
-        ensures takes_a_turn { half.new.stage ≡ stage.Over NextRequest → (half.old.stage ≡ stage.Over NextRequest) ⊎ (turns.old.turns < turns.new.turns) }
+        ensures takes_a_turn { H.following half.new ≡ Some NextRequest → (H.following half.old ≡ Some NextRequest) ⊎ (turns.old.turns < turns.new.turns) }
+        // Behind the end of an exchange no turn is taken, and it is not given up.
+        ensures settled { IsSettled (H.following half.old) → (half.new ≡ half.old) × (turns.new.turns ≡ turns.old.turns) }
         // It is over as idle only at a limit.
-        ensures idle { IsOverIdle half.new → IsAtLimit turns.new }
+        ensures idle { IsOverIdle (H.following half.new) → IsAtLimit turns.new }
         // The ends of a pair always meet.
         ensures met { not_met self.new ≡ not_met self.old };
 

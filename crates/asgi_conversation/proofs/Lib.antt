@@ -17,3 +17,4 @@ pub mod LoopLemmas
 pub mod TaskEndLemmas
 pub mod ConversationExample
 pub mod BeginningLemmas
+pub mod SessionExample

@@ -5,4 +5,5 @@ pub mod Exchanges
 pub mod Persistence
 pub mod SoFar
 pub mod Promised
+pub mod Sessions
 pub mod ReadResponses

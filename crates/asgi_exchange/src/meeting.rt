@@ -2,6 +2,8 @@
 ghost use Rattle.std.specs.Prelude.{◌≡◌, ℕ, is_some, IfSome, IsSome};
 ghost use Rattle.asgi_types.specs.declared.limits.Limits.{Limits};
 ghost use Rattle.asgi_types.specs.declared.scope.Kind.TheVariants.{Http, WebSocket};
+ghost use Rattle.asgi_protocol.specs.Lawful.{IsLawful};
+ghost use Rattle.asgi_pipes.specs.Disconnects.{Hears};
 ghost use Rattle.asgi_pipes.specs.Items.{items_of};
 ghost use Rattle.asgi_pipes.specs.Queues.{KeepsOrder, open_places};
 ghost use Rattle.asgi_exchange.specs.Halves.{ConnKeeps};
@@ -22,6 +24,8 @@ pub fn join<P: Pipes>(conn: &P::Conn, app: &P::App) -> Option<Met>
     ensures met { IsSome result }
     ensures inward { IfSome result (λ met. KeepsOrder (open_places (P.Conn.ring conn.now) (P.Conn.is_broken conn.now)) (P.Conn.offered conn.now) (P.App.pulled app.now) met.left_in) }
     ensures outward { IfSome result (λ met. KeepsOrder (open_places (P.Conn.ring conn.now) (is_some (P.App.ended app.now))) (items_of (P.App.said app.now) (P.App.ended app.now)) (P.Conn.got conn.now) met.left_out) }
+    ensures heard { Hears (P.App.kind app.now) (P.App.said app.now) (P.App.pulled app.now) (P.App.heard app.now) }
+    ensures lawful { IsLawful (P.App.kind app.now) (P.App.facts app.now) (P.App.said app.now) }
     ensures http { (limits : Limits) (view : ConnView ℕ ℕ) → P.App.kind app.now ≡ Http
         → ConnKeeps (http limits (P.App.facts app.now)) view → view.offered ≡ P.Conn.offered conn.now → view.got ≡ P.Conn.got conn.now
         → IsHttpExchange limits (P.App.facts app.now) (record { conn = view; app = record { pulled = P.App.pulled app.now; heard = P.App.heard app.now; put = items_of (P.App.said app.now) (P.App.ended app.now) } }) }

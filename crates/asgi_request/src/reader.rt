@@ -21,7 +21,7 @@ use crate::next::Next;
 use crate::parts::is_trailer;
 use crate::place::{Advance, Place};
 use crate::refusal::Refusal;
-use crate::scope::{facts_of, scope_of};
+use crate::scope::{facts_of, handshake_facts_of, http_scope_of, websocket_scope_of};
 use crate::search::{Arrival, NEW_SEARCH, Search, arrive};
 use crate::upgrade::request_framing;
 use asgi_types::{Framing, Incoming, Limits, Octets};
@@ -269,9 +269,28 @@ impl RequestReader {
         ensures ok { OnOk result (self.new ≡ behind self.old n (places.body_place framing)) }
         ensures err { OnErr result (self.new ≡ self.old) }
     {
-        let facts = facts_of(self.alloc, &head, framing)?;
-        let scope = scope_of(self.alloc, head, framing)?;
-        self.go_on(n, body_place(framing));
+        match framing {
+            Framing::Length(_) | Framing::Chunked => {
+                let facts = facts_of(self.alloc, &head, framing);
+                let scope = http_scope_of(self.alloc, head)?;
+                self.go_on(n, body_place(framing));
+                Ok(Next::Head(scope, facts))
+            }
+            Framing::Upgrade => self.give_handshake(n, head),
+        }
+    }
+
+    /// The opening handshake of a head.
+    fn give_handshake(&mut self, n: usize, head: HeadRecord) -> Result<Next, AllocError>
+        requires inside { n ≤ length self.old.held }
+        requires key { IsKey (key_of head.headers) }
+        ensures item { IfOk result (λ item. item ≡ Next.Head (scope_is head Framing.Upgrade) (facts_is head Framing.Upgrade)) }
+        ensures ok { OnOk result (self.new ≡ behind self.old n Place.HandshakeEnd) }
+        ensures err { OnErr result (self.new ≡ self.old) }
+    {
+        let facts = handshake_facts_of(self.alloc, &head)?;
+        let scope = websocket_scope_of(self.alloc, head)?;
+        self.go_on(n, Place::HandshakeEnd);
         Ok(Next::Head(scope, facts))
     }
 

@@ -1,5 +1,5 @@
 //! The scope and the facts of a request.
-ghost use Rattle.std.specs.Prelude.{◌≡◌, ◌≤◌, length, take, IfOk};
+ghost use Rattle.std.specs.Prelude.{◌≡◌, ◌≢◌, ◌≤◌, length, take, IfOk};
 ghost use Rattle.asgi_request.specs.Scopes as spec;
 ghost use Rattle.asgi_request.specs.Key.{IsKey};
 ghost use Rattle.asgi_request.specs.Target as target_parts;
@@ -11,8 +11,8 @@ use crate::subprotocols::subprotocols_of;
 use crate::target::{path_in_front, path_of, query_of};
 use crate::upgrade::key_of;
 use asgi_types::{
-    Asgi, Chars, Extensions, Facts, Framing, Headers, HttpScope, HttpVersion, Kind, Names, Octets,
-    Scope, State, WsScope,
+    Asgi, Chars, Extensions, Facts, Framing, HttpScope, HttpVersion, Kind, Names, Octets, Scope,
+    State, WsScope,
 };
 use percent_encoding::percent_decode;
 use std::alloc::{AllocError, Global};
@@ -27,25 +27,14 @@ const EXPECT: &[u8] = b"expect";
 
 const CONTINUE: &[u8] = b"100-continue";
 
-/// The scope of a request or of an opening handshake, without a client, a server and a state.
-pub fn scope_of(alloc: Global, head: HeadRecord, framing: Framing) -> Result<Scope, AllocError>
-    ensures { IfOk result (λ scope. scope ≡ spec.scope_of head framing) }
-{
-    match framing {
-        Framing::Length(_) | Framing::Chunked => http_scope_of(alloc, head),
-        Framing::Upgrade => websocket_scope_of(alloc, head),
-    }
-}
-
-fn http_scope_of(alloc: Global, head: HeadRecord) -> Result<Scope, AllocError>
+/// The scope of a request that is no opening handshake, without a client, a server and a state.
+pub fn http_scope_of(alloc: Global, head: HeadRecord) -> Result<Scope, AllocError>
     ensures { IfOk result (λ scope. scope ≡ spec.http_scope_of head) }
 {
-    let Address {
-        scheme,
-        path,
-        raw_path,
-        query_string,
-    } = address_of(alloc, "http", head.target)?;
+    let path = decoded(alloc, path_of(head.target.bytes()))?;
+    let query_string = Octets::new(Vec::from_slice(alloc, query_of(head.target.bytes()))?);
+    let scheme = Chars::new(String::from_str(alloc, "http")?);
+    let raw_path = raw_path_of(alloc, head.target)?;
     Ok(Scope::Http(HttpScope {
         asgi: Asgi::of(Kind::Http),
         http_version: head.version,
@@ -66,19 +55,15 @@ fn http_scope_of(alloc: Global, head: HeadRecord) -> Result<Scope, AllocError>
     }))
 }
 
-/// It stays out of line, since most requests ask for no session.
-#[cold]
-#[inline(never)]
-fn websocket_scope_of(alloc: Global, head: HeadRecord) -> Result<Scope, AllocError>
+/// The scope of an opening handshake, without a client, a server and a state.
+pub fn websocket_scope_of(alloc: Global, head: HeadRecord) -> Result<Scope, AllocError>
     ensures { IfOk result (λ scope. scope ≡ spec.websocket_scope_of head) }
 {
     let subprotocols = subprotocols_of(alloc, &head.headers)?;
-    let Address {
-        scheme,
-        path,
-        raw_path,
-        query_string,
-    } = address_of(alloc, "ws", head.target)?;
+    let path = decoded(alloc, path_of(head.target.bytes()))?;
+    let query_string = Octets::new(Vec::from_slice(alloc, query_of(head.target.bytes()))?);
+    let scheme = Chars::new(String::from_str(alloc, "ws")?);
+    let raw_path = raw_path_of(alloc, head.target)?;
     Ok(Scope::WebSocket(WsScope {
         asgi: Asgi::of(Kind::WebSocket),
         http_version: head.version,
@@ -97,33 +82,6 @@ fn websocket_scope_of(alloc: Global, head: HeadRecord) -> Result<Scope, AllocErr
             http_response_trailers: false,
         },
     }))
-}
-
-/// What a target and the kind of scope say of the URL.
-#[derive(Drop)]
-struct Address {
-    scheme: Chars,
-    path: Chars,
-    raw_path: Octets,
-    query_string: Octets,
-}
-
-fn address_of(alloc: Global, scheme: &str, target: Octets) -> Result<Address, AllocError>
-    ensures scheme { IfOk result (λ address. address.scheme ≡ scheme.now) }
-    ensures path { IfOk result (λ address. address.path ≡ spec.decoded (target_parts.path_of target)) }
-    ensures raw_path { IfOk result (λ address. address.raw_path ≡ target_parts.path_of target) }
-    ensures query { IfOk result (λ address. address.query_string ≡ target_parts.query_of target) }
-{
-    let path = decoded(alloc, path_of(target.bytes()))?;
-    let query_string = Octets::new(Vec::from_slice(alloc, query_of(target.bytes()))?);
-    let scheme = Chars::new(String::from_str(alloc, scheme)?);
-    let raw_path = raw_path_of(alloc, target)?;
-    Ok(Address {
-        scheme,
-        path,
-        raw_path,
-        query_string,
-    })
 }
 
 /// The path as it was received. Where it stands in front of the target, it stays in that memory.
@@ -156,41 +114,41 @@ fn decoded(alloc: Global, path: &[u8]) -> Result<Chars, AllocError>
     Ok(Chars::new(String::from_utf8_lossy(alloc, &bytes)?))
 }
 
-/// What the server keeps of the request. It takes memory only for the subprotocols that an opening handshake offers.
-pub fn facts_of(alloc: Global, head: &HeadRecord, framing: Framing) -> Result<Facts, AllocError>
-    requires key { framing ≡ Framing.Upgrade → IsKey (upgrade.key_of head.now.headers) }
-    ensures { IfOk result (λ facts. facts ≡ spec.facts_of head.now framing) }
+/// What the server keeps of a request that is no opening handshake. It takes no memory.
+pub fn facts_of(alloc: Global, head: &HeadRecord, framing: Framing) -> Facts
+    requires plain { framing ≢ Framing.Upgrade }
+    ensures { result ≡ spec.facts_of head.now framing }
 {
-    let subprotocols = offers_behind(alloc, &head.headers, framing)?;
-    Ok(Facts {
+    match framing {
+        Framing::Length(_) | Framing::Chunked => {
+            facts_with(head, framing, [0; 24], Names::new(alloc))
+        }
+        Framing::Upgrade => unreachable!(),
+    }
+}
+
+/// What the server keeps of an opening handshake. It takes memory only for the subprotocols that it offers.
+pub fn handshake_facts_of(alloc: Global, head: &HeadRecord) -> Result<Facts, AllocError>
+    requires key { IsKey (upgrade.key_of head.now.headers) }
+    ensures { IfOk result (λ facts. facts ≡ spec.facts_of head.now Framing.Upgrade) }
+{
+    let subprotocols = subprotocols_of(alloc, &head.headers)?;
+    let key = key_of(&head.headers);
+    Ok(facts_with(head, Framing::Upgrade, key, subprotocols))
+}
+
+/// The facts with this key and these subprotocols.
+fn facts_with(head: &HeadRecord, framing: Framing, key: [u8; 24], subprotocols: Names) -> Facts
+    ensures { result ≡ record (spec.facts_of head.now framing) { key = key; subprotocols = subprotocols } }
+{
+    Facts {
         version: head.version,
         head_only: head.method.as_str().as_bytes() == HEAD,
         close: head.version == HttpVersion::V10 || head.headers.has_token(CONNECTION, CLOSE),
         expect: expects(head, framing),
         framing,
-        key: key_behind(&head.headers, framing),
+        key,
         subprotocols,
-    })
-}
-
-/// The key of an opening handshake.
-fn key_behind(headers: &Headers, framing: Framing) -> [u8; 24]
-    requires key { framing ≡ Framing.Upgrade → IsKey (upgrade.key_of headers.now) }
-    ensures { result ≡ spec.key_behind headers.now framing }
-{
-    match framing {
-        Framing::Length(_) | Framing::Chunked => [0; 24],
-        Framing::Upgrade => key_of(headers),
-    }
-}
-
-/// The subprotocols that an opening handshake offers.
-fn offers_behind(alloc: Global, headers: &Headers, framing: Framing) -> Result<Names, AllocError>
-    ensures { IfOk result (λ names. names ≡ spec.offers_behind headers.now framing) }
-{
-    match framing {
-        Framing::Length(_) | Framing::Chunked => Ok(Names::new(alloc)),
-        Framing::Upgrade => subprotocols_of(alloc, headers),
     }
 }
 

@@ -1,5 +1,5 @@
 //! The target of a request.
-ghost use Rattle.std.specs.Prelude.{◌≡◌, ◌||◌, ◌≤◌, length, take, drop, IfSome};
+ghost use Rattle.std.specs.Prelude.{◌≡◌, ◌||◌, ◌≤◌, ◌⊎◌, true, [], length, take, drop, IfSome, IsNone};
 ghost use Rattle.asgi_request.specs.Target as spec;
 
 const OPTIONS: &[u8] = b"OPTIONS";
@@ -45,10 +45,12 @@ pub fn path_of(target: &[u8]) -> &[u8]
     or_root(before_query(path_and_query(target)))
 }
 
-/// How many bytes the path has, where the target begins with it.
+/// How many bytes the path has, where the target begins with it: it has a scheme in front, or the path is empty, where it
+/// does not.
 #[tactic(auto, using(crate::proofs::TargetLemmas::path_in_front))]
 pub fn path_in_front(target: &[u8]) -> Option<usize>
-    ensures { IfSome result (λ n. (n ≤ length target.now) × (spec.path_of target.now ≡ take n target.now)) }
+    ensures front { IfSome result (λ n. (n ≤ length target.now) × (spec.path_of target.now ≡ take n target.now)) }
+    ensures none { IsNone result → (spec.is_absolute_form target.now ≡ true) ⊎ (spec.before_query target.now ≡ []) }
 {
     if is_absolute(target) {
         return None;

@@ -1,5 +1,6 @@
 -- A short text in a buffer of 123 bytes, with zero bytes behind it.
-use Rattle.std.specs.Prelude.{◌≡◌, ℕ, ◌-◌, ◌≤◌, List, ◌++◌, length, drop, replicate}
+use Rattle.std.specs.Prelude.{◌≡◌, ℕ, ◌-◌, ◌≤◌, List, ◌++◌, length, take, drop, replicate}
+use Rattle.std.specs.Str.{IsUtf8}
 
 -- the buffer holds a text of n bytes
 pub record IsPadded (text : List ℕ) (n : ℕ) : Type 0 where
@@ -10,3 +11,8 @@ pub record IsPadded (text : List ℕ) (n : ℕ) : Type 0 where
 -- the buffer with these bytes
 abbrev pub padded : List ℕ → List ℕ
 padded bytes = bytes ++ replicate (123 - length bytes) 0
+
+-- and the text is UTF-8, as a close frame's reason is (RFC 6455, section 5.5.1)
+pub record IsReason (text : List ℕ) (n : ℕ) : Type 0 where
+  pub in_buffer : IsPadded text n
+  pub utf8 : IsUtf8 (take n text)

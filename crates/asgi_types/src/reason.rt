@@ -4,7 +4,7 @@ ghost use Rattle.asgi_types.specs.Reasons.{padded};
 
 use std::marker::Model;
 
-/// A short text, which takes no memory of its own.
+/// A short text, which takes no memory of its own. Its bytes are UTF-8.
 ///
 /// It has at most 123 bytes: a control frame has at most 125, and two are the code's (RFC 6455,
 /// sections 5.5 and 5.5.1).
@@ -17,13 +17,13 @@ pub struct Reason {
 
 impl Model for Reason {
     ghost use Rattle.std.specs.Prelude.{◌≡◌, ℕ, ◌-◌, List, ◌++◌, length, take, drop, replicate};
-    ghost use Rattle.asgi_types.specs.Reasons.{IsPadded, padded};
+    ghost use Rattle.asgi_types.specs.Reasons.{IsReason, padded};
 
     ghost Value = { List ℕ };
 
     ghost view = { λ r. take r.len r.text };
 
-    ghost invariant = { λ r. IsPadded r.text r.len };
+    ghost invariant = { λ r. IsReason r.text r.len };
 
     ghost inverse = { λ bytes. record { text = padded bytes; len = length bytes } };
 
@@ -53,6 +53,16 @@ impl Reason {
         ensures { result.now ≡ self.now }
     {
         &self.text[..self.len]
+    }
+
+    /// The text, without the zero bytes behind it.
+    pub fn as_str(&self) -> &str
+        ensures { result.now ≡ self.now }
+    {
+        match std::str::from_utf8(&self.text[..self.len]) {
+            Ok(text) => text,
+            Err(_) => unreachable!(),
+        }
     }
 }
 

@@ -108,7 +108,7 @@ fn is_judged(text: &str, fits: bool) -> bool {
     match Reason::new(text) {
         Some(reason) => {
             let again = reason;
-            fits && again.bytes() == text.as_bytes()
+            fits && again.bytes() == text.as_bytes() && again.as_str() == text
         }
         None => !fits,
     }

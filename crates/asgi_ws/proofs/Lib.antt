@@ -1,2 +1,4 @@
 pub mod HandshakeLemmas
+pub mod ListLemmas
+pub mod PieceLemmas
 pub mod TextLemmas

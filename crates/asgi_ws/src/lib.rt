@@ -1,14 +1,30 @@
-//! The server's opening handshake of WebSocket (RFC 6455, section 4.2.2): the value that answers a key, and the text of
-//! the answer.
+//! WebSocket from the server's side: the opening handshake (RFC 6455, section 4.2.2), messages, and the lines that carry
+//! text first and messages after. Frames and the protocol are the crate `tungstenite`'s.
 #![tactic(auto)]
 
 mod accept;
+mod convert;
 mod handshake;
 mod laws;
+mod lists;
+mod messages;
+mod pieces;
+mod script;
+mod session;
+mod stream;
+mod tally;
+mod tap;
+mod wired;
 
 pub use accept::accept_value;
 pub use handshake::{accept_text, denied_text};
 pub use laws::{accept_value_example, handshake_is_read_back, headers_are_read_back};
+pub use lists::Turn;
+pub use messages::{Got, Handed, Line, Messages, Msg, Put};
+pub use pieces::Piece;
+pub use script::Script;
+pub use stream::{Pair, Stream};
+pub use wired::Wired;
 
 #[cfg(test)]
 mod tests;

@@ -1,4 +1,8 @@
 //! The answers of a server, from RFC 6455 and the standard's fields.
+mod scripted;
+mod wire;
+mod wired;
+
 use crate::{accept_text, accept_value, denied_text};
 use asgi_types::{
     Chars, Facts, Framing, HeaderError, Headers, HttpVersion, Names, Octets, Outgoing,

@@ -1,9 +1,9 @@
-use Rattle.std.proofs.Common.{Result, Ok, Err, IfOk, ◌≡◌, true, List, [], Some, refl, subst, sym}
+use Rattle.std.proofs.Common.{Result, Ok, Err, IfOk, ◌≡◌, true, [], Some, refl}
 use Rattle.std.specs.Prelude.{codes}
 use Rattle.asgi_types.specs.declared.scope.Kind.TheVariants as kind
 use Rattle.asgi_apps.specs.declared.echo.EchoTask.{EchoTask}
 use Rattle.asgi_apps.specs.Answers.{start_of}
-use Rattle.asgi_apps.specs.Echoing.{Stands, StandsAt}
+use Rattle.asgi_apps.specs.Echoing.{Stands}
 use Rattle.asgi_apps.proofs.EchoSteps.{begun_http, begun_session}
 use Rattle.asgi_apps.proofs.echo.EchoApplication.call.Goals as goal
 

@@ -1,9 +1,9 @@
-use Rattle.std.proofs.Common.{◌≡◌, ◌++◌, ◌∷◌, [], ℕ, List, refl, sym, ◌∙◌, inl, inr, subst, append_assoc, arith}
+use Rattle.std.proofs.Common.{◌≡◌, ◌++◌, ◌∷◌, [], ℕ, List, Option, refl, sym, ap, ◌∙◌, inl, inr, subst, append_assoc, arith}
 use Rattle.std.proofs.lemmas.List.{append-nil}
 use Rattle.asgi_io.specs.declared.turns.Turn.{Turn}
 use Rattle.asgi_io.specs.Turns.{CountsTurns}
 use Rattle.asgi_types.specs.declared.facts.Facts.{Facts}
-use Rattle.asgi_types.specs.declared.limits.Limits.{Limits}
+use Rattle.asgi_protocol.specs.Lawful.{IsLawful}
 use Rattle.asgi_pipes.specs.Boxes.{carriage_from, carriage_to}
 use Rattle.asgi_pipes.specs.Pairs.{Carried, carried}
 use Rattle.asgi_pipes.specs.declared.plain_app.PlainApp.{PlainApp}
@@ -12,11 +12,10 @@ use Rattle.asgi_pipes.specs.contracts.plain_app.PlainAppAppEnd.TheImpl as app_en
 use Rattle.asgi_pipes.specs.contracts.plain_conn.PlainConnConnEnd.TheImpl as conn_end
 use Rattle.asgi_apps.proofs.PauseLemmas.{counts_more}
 use Rattle.asgi_exchange.specs.Calls.{IsViewOf, view_of}
-use Rattle.asgi_exchange.specs.Halves.{ConnKeeps}
-use Rattle.asgi_exchange.specs.Http.{http}
-use Rattle.asgi_exchange.specs.HttpExchange.{IsHttpExchange}
-use Rattle.asgi_exchange.specs.Views.{World}
 use Rattle.asgi_conn.specs.declared.runner.AppSide.TheVariants.{HasEnded}
+use Rattle.asgi_exchange.proofs.MeetLemmas.{ends_make}
+use Rattle.asgi_conversation.specs.declared.following.Following.{Following}
+use Rattle.asgi_conn.specs.Limits.{IsSettled}
 use Rattle.asgi_conn.specs.Lines.{state_of}
 use Rattle.asgi_conn.proofs.InlineLemmas as lemma
 use Rattle.asgi_conn.proofs.inline.InlineRunner.run.Goals as goal
@@ -31,11 +30,11 @@ pub loop-half-init : goal.loop-half-init
 loop-half-init g c = record {
   pair = c.requires.pair;
   goes_on = lemma.goes_nowhere g.T.AppTask.stands g.T.AppTask.answers app_end.ghosts c.args.side c.requires.may;
-  leads = lemma.leads_nowhere (state_of g.L.Reads g.L.Counts c.args.line.now) c.args.half.now (IsViewOf conn_end.ghosts c.args.end);
-  limits = refl;
+  leads = lemma.leads_nowhere g.H.Half.stands (state_of g.L.Reads g.L.Counts c.args.line.now) c.args.half.now (IsViewOf conn_end.ghosts c.args.end);
   turn_limit = refl;
   idle_limit = refl;
   turned = inl (refl, refl);
+  settled = λ settled. (refl, refl);
   counts = λ turned pauses counts. (
     [],
     subst (λ (l : List Turn). CountsTurns c.args.turns.now.turn_limit c.args.turns.now.idle_limit l pauses
@@ -86,10 +85,10 @@ loop-half-preserved g c =
             rw (sym (append_assoc read x.0 y.0)) y.2,
             (y.3.0 ∙ sym (second.0 ∙ first.0), y.3.1 ∙ sym (second.2 ∙ first.2), y.3.2 ∙ sym (second.1 ∙ first.1)),
           );
-      limits = c.turn-moved.ensures.limits ∙ inv.limits;
       turn_limit = c.take.ensures.turn_limit ∙ inv.turn_limit;
       idle_limit = c.take.ensures.idle_limit ∙ inv.idle_limit;
       turned = inr (lemma.later_turn c.args.turns.now.turns c.loop-half.turns.turns c.take.new.self.turns _ inv.turned c.take.ensures.one);
+      settled = λ settled. absurd (c.goes_on.ensures.open c.loop-half-test.true (subst (λ (o : Option Following). IsSettled o) (sym (ap g.H.Half.following (inv.settled settled).0)) settled));
       counts = λ turned pauses counts.
           let x = inv.counts turned pauses counts in
           let y = counts_more c.args.turns.now.turn_limit c.args.turns.now.idle_limit _ _ pauses _ _ _ _ _ _ (turned ++ x.0) c.both.result
@@ -107,7 +106,7 @@ join-met-requires g c =
     lemma.last_pair app_tag c.loop-half.side c.end_of-last.result.app_end (conn_tag c.give_up.new.end) pair c.end_of-last.ensures.tag
 
 pub returns-clause-runs : goal.returns-clause-runs
-returns-clause-runs g c scene read view s is facts =
+returns-clause-runs g c scene read view s is request =
     let side = c.end_of-last.ensures.side in
     let app = c.end_of-last.result.app_end in
     let kind = c.end_of-last.result.kind in
@@ -116,24 +115,22 @@ returns-clause-runs g c scene read view s is facts =
     let all = lemma.goes_further stands answers app_end.ghosts c.args.side c.loop-half.side (HasEnded app kind) c.loop-half.invariant.goes_on side in
     let x = c.loop-half.invariant.leads scene read view s is in
     let y = c.give_up.ensures.leads scene (state_of g.L.Reads g.L.Counts c.loop-half.line) (read ++ x.0) x.1 x.2 x.3 in
-    let limits : c.give_up.new.self.wire.limits ≡ c.args.half.now.wire.limits = c.give_up.ensures.limits ∙ c.loop-half.invariant.limits in
-    let is_facts = lemma.of_facts stands answers app_end.ghosts scene.facts c.args.side app kind all facts in
-    let by_limits = subst (λ (l : Limits). ConnKeeps (http l scene.facts) y.0) limits y.1.keeps in
-    let keeps = subst (λ (f : Facts). ConnKeeps (http c.args.half.now.wire.limits f) y.0) (sym is_facts) by_limits in
-    let w : World ℕ ℕ = record { conn = y.0; app = view_of app_end.ghosts app } in
-    let joined = c.join-met.ensures.http c.args.half.now.wire.limits y.0 (lemma.of_http stands answers app_end.ghosts c.args.side app kind all c.requires.http) keeps y.2.0 y.2.2 in (
+    let now = state_of g.L.Reads g.L.Counts c.loop-half.line in
+    let exchange = g.H.Half.exchange scene in
+    let of_end = lemma.of_request stands answers app_end.ghosts exchange c.args.side app kind all request in
+    let keeps = g.met.H.Half.keeps scene now c.give_up.new.self (read ++ x.0) y.0 y.1 in
+    let met = c.join-met.ensures in
+    let lawful = subst (λ (f : Facts). IsLawful (app_end.ghosts.kind app) f (app_end.ghosts.said app)) (sym of_end.1) met.lawful in (
       x.0,
       record {
-        world = w;
+        world = record { conn = y.0; app = view_of app_end.ghosts app };
         stands = y.1;
-        exchange = subst (λ (f : Facts). IsHttpExchange c.args.half.now.wire.limits f w) is_facts joined;
+        exchange = ends_make exchange (g.met.H.Half.steady scene) (λ m. m.left_in) (λ m. m.left_out) c.join-met.result _ y.0 _ _ _ _ _ _ _ _
+            met.met met.inward met.outward met.heard lawful (sym of_end.0) keeps y.2.0 y.2.2;
         ended = lemma.ended_as stands answers app_end.ghosts c.args.side app kind all;
         answers_for = lemma.answered stands answers app_end.ghosts c.args.side app kind c.requires.may all;
       },
     )
-
-pub returns-clause-limits : goal.returns-clause-limits
-returns-clause-limits g c = c.give_up.ensures.limits ∙ c.loop-half.invariant.limits
 
 pub returns-clause-counts : goal.returns-clause-counts
 returns-clause-counts g c = c.loop-half.invariant.counts
@@ -142,7 +139,7 @@ pub returns-clause-turn_limits : goal.returns-clause-turn_limits
 returns-clause-turn_limits g c = (c.loop-half.invariant.turn_limit, c.loop-half.invariant.idle_limit)
 
 pub returns-clause-takes_a_turn : goal.returns-clause-takes_a_turn
-returns-clause-takes_a_turn g c next = lemma.stays_or_turned c.args.half.now c.loop-half.half c.args.turns.now.turns c.loop-half.turns.turns c.loop-half.invariant.turned (c.give_up.ensures.follows next)
+returns-clause-takes_a_turn g c next = lemma.stays_or_turned (g.H.Half.following c.args.half.now) (g.H.Half.following c.loop-half.half) c.args.turns.now.turns c.loop-half.turns.turns c.loop-half.invariant.turned (c.give_up.ensures.follows next)
 
 pub returns-clause-idle : goal.returns-clause-idle
-returns-clause-idle g c over = lemma.idle_at c.loop-half.half c.give_up.new.self c.loop-half.turns (c.goes_on.ensures.over c.loop-half-test.false) c.give_up.ensures.stays over
+returns-clause-idle g c over = lemma.idle_at g.H.Half.following c.loop-half.half c.give_up.new.self c.loop-half.turns (c.goes_on.ensures.over c.loop-half-test.false) c.give_up.ensures.stays over

@@ -6,7 +6,8 @@ use Rattle.asgi_pipes.specs.PlainPairs.{IsPlainPair}
 use Rattle.asgi_pipes.specs.contracts.plain_app.PlainAppAppEnd.TheImpl as app_end
 use Rattle.asgi_pipes.specs.contracts.plain_conn.PlainConnConnEnd.TheImpl as conn_end
 use Rattle.asgi_exchange.specs.Calls.{IsViewOf}
-use Rattle.asgi_conn.specs.Half.{Leads}
+use Rattle.asgi_conn.specs.AnyHalf.{LeadsOn}
+use Rattle.asgi_conn.specs.Limits.{IsSettled}
 use Rattle.asgi_conn.specs.Lines.{state_of}
 use Rattle.asgi_conn.specs.Running.{OfEnd, GoesOnAs}
 use Rattle.asgi_conn.proofs.inline.InlineRunner.run.Given as goal
@@ -15,11 +16,11 @@ abbrev pub invariant-loop-half : goal.invariant-loop-half
 invariant-loop-half g l = record {
   pair : OfEnd l.side (λ app. IsPlainPair l.conn app);
   goes_on : GoesOnAs g.T.AppTask.stands g.T.AppTask.answers app_end.ghosts l.fn.side l.side;
-  leads : Leads (state_of g.L.Reads g.L.Counts l.fn.line) l.fn.half (IsViewOf conn_end.ghosts l.fn.end) (state_of g.L.Reads g.L.Counts l.line) l.half (IsViewOf conn_end.ghosts l.conn);
-  limits : l.half.wire.limits ≡ l.fn.half.wire.limits;
+  leads : LeadsOn g.H.Half.stands (state_of g.L.Reads g.L.Counts l.fn.line) l.fn.half (IsViewOf conn_end.ghosts l.fn.end) (state_of g.L.Reads g.L.Counts l.line) l.half (IsViewOf conn_end.ghosts l.conn);
   turn_limit : l.turns.turn_limit ≡ l.fn.turns.turn_limit;
   idle_limit : l.turns.idle_limit ≡ l.fn.turns.idle_limit;
-  turned : ((l.half.stage ≡ l.fn.half.stage) × (l.turns.turns ≡ l.fn.turns.turns)) ⊎ (l.fn.turns.turns < l.turns.turns);
+  turned : ((g.H.Half.following l.half ≡ g.H.Half.following l.fn.half) × (l.turns.turns ≡ l.fn.turns.turns)) ⊎ (l.fn.turns.turns < l.turns.turns);
+  settled : IsSettled (g.H.Half.following l.fn.half) → (l.half ≡ l.fn.half) × (l.turns.turns ≡ l.fn.turns.turns);
   counts : (turned : List Turn) (pauses : ℕ)
       → CountsTurns l.fn.turns.turn_limit l.fn.turns.idle_limit turned pauses (g.P.Pause.count l.fn.pause) l.fn.turns.turns l.fn.turns.idle
       → (more : List Turn) × CountsTurns l.fn.turns.turn_limit l.fn.turns.idle_limit (turned ++ more) pauses (g.P.Pause.count l.pause) l.turns.turns l.turns.idle;

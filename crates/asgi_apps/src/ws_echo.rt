@@ -1,0 +1,156 @@
+//! The application that sends each message of a session back.
+ghost use Rattle.std.specs.Prelude.{◌≡◌, true, not, ◌||◌, [], ◌∷◌, None};
+ghost use Rattle.std.specs.Option.{option_to_list};
+ghost use Rattle.asgi_types.specs.declared.scope.Kind.TheVariants as kind;
+ghost use Rattle.asgi_protocol.specs.Verdicts.{is_disconnect};
+ghost use Rattle.asgi_apps.specs.Scopes.{kind_of};
+ghost use Rattle.asgi_apps.specs.WsEcho.{WsEchoAnswers, accept_events};
+ghost use Rattle.asgi_apps.specs.WsEchoing.{is_connect, reply};
+
+use crate::echoing::{receive, say};
+use crate::responses::respond_not_found;
+use crate::says::Says;
+use crate::task::{AppFault, AppTask, Application};
+use asgi_pipes::AppEnd;
+use asgi_types::{Headers, Incoming, Outgoing, Scope};
+use futures::task::{Context, Poll};
+use std::alloc::Global;
+
+/// Accepts each session and sends each of its messages back, and answers each request with 404.
+#[derive(Clone, Copy, Debug)]
+pub struct WsEcho;
+
+/// The task of `WsEcho`.
+#[derive(Drop)]
+pub struct WsEchoTask(Work);
+
+#[derive(Drop)]
+enum Work {
+    /// A request is answered with 404.
+    Denies(Says),
+    /// The messages of a session are sent back.
+    Echoes(Session),
+}
+
+/// A session in which no disconnect was heard.
+#[derive(Drop)]
+struct Session {
+    alloc: Global,
+    /// The handshake was heard, and so it was accepted, or that is to be said next.
+    is_connected: bool,
+    /// What is to be said next.
+    waiting: Option<Outgoing>,
+}
+
+impl Application for WsEcho {
+    type Task = WsEchoTask;
+
+    ghost answers = { λ _ scope. WsEchoAnswers (kind_of scope) };
+
+    ghost refuses = { λ _ scope. kind_of scope ≡ kind.Lifespan };
+
+    fn call(&self, alloc: Global, scope: &Scope) -> Result<WsEchoTask, AppFault> {
+        match scope {
+            Scope::Http(_) => Ok(WsEchoTask(Work::Denies(respond_not_found(alloc)?))),
+            Scope::WebSocket(_) => Ok(WsEchoTask(Work::Echoes(Session {
+                alloc,
+                is_connected: false,
+                waiting: None,
+            }))),
+            Scope::Lifespan(_) => Err(AppFault::Failed),
+        }
+    }
+}
+
+impl AppTask for WsEchoTask {
+    ghost use Rattle.asgi_apps.specs.WsEchoing.{Stands, TaskAnswers, task_keeps};
+
+    ghost stands = { Stands };
+
+    ghost answers = { TaskAnswers };
+
+    fn poll<E: AppEnd>(&mut self, cx: &mut Context<'_>, end: &mut E) -> Poll<Result<(), AppFault>> {
+        match &mut self.0 {
+            Work::Denies(says) => says.poll(cx, end),
+            Work::Echoes(session) => session.poll(cx, end),
+        }
+    }
+
+    ghost keeps = { λ task. task_keeps task.0 };
+}
+
+impl AppTask for Session {
+    ghost use Rattle.asgi_apps.specs.WsEcho.{SessionAnswers};
+    ghost use Rattle.asgi_apps.specs.WsEchoing.{SessionStands};
+
+    ghost stands = { SessionStands };
+
+    ghost answers = { λ _. SessionAnswers };
+
+    fn poll<E: AppEnd>(&mut self, cx: &mut Context<'_>, end: &mut E) -> Poll<Result<(), AppFault>> {
+        if let Some(event) = self.waiting.take() {
+            self.waiting = say(cx, end, event);
+            return Poll::Pending;
+        }
+        let Poll::Ready(event) = receive(cx, end) else {
+            return Poll::Pending;
+        };
+        if !self.hear(event) {
+            return Poll::Ready(Ok(()));
+        }
+        cx.yield_now()
+    }
+
+    ghost keeps = { λ session kind heard said stands. ((option_to_list session.waiting, stands.in_order), stands.connected) };
+}
+
+impl Session {
+    /// Makes the event's answer the next to be said, and says whether the session goes on.
+    fn hear(&mut self, event: Incoming) -> bool
+        requires { self.old.waiting ≡ None }
+        ensures goes_on { result ≡ not (is_disconnect event) }
+        ensures says { option_to_list self.new.waiting ≡ reply self.old.is_connected event }
+        ensures connected { self.new.is_connected ≡ (self.old.is_connected || is_connect event) }
+    {
+        match event {
+            Incoming::WsConnect => self.connect(),
+            Incoming::WsReceive { payload } => {
+                if self.is_connected {
+                    self.waiting = Some(Outgoing::WsSend { payload });
+                }
+            }
+            Incoming::WsDisconnect { code: _, reason: _ } => return false,
+            Incoming::HttpDisconnect => return false,
+            Incoming::HttpRequest {
+                body: _,
+                more_body: _,
+            } => {}
+            Incoming::LifespanStartup => {}
+            Incoming::LifespanShutdown => {}
+        }
+        true
+    }
+
+    /// Accepts the session, once.
+    fn connect(&mut self)
+        requires { self.old.waiting ≡ None }
+        ensures says { option_to_list self.new.waiting ≡ reply self.old.is_connected Incoming.WsConnect }
+        ensures connected { self.new.is_connected ≡ true }
+    {
+        if self.is_connected {
+            return;
+        }
+        self.is_connected = true;
+        self.waiting = Some(accept(self.alloc));
+    }
+}
+
+/// Accepts a session with no subprotocol and no fields.
+fn accept(alloc: Global) -> Outgoing
+    ensures { accept_events ≡ result ∷ [] }
+{
+    Outgoing::WsAccept {
+        subprotocol: None,
+        headers: Headers::new(alloc),
+    }
+}

@@ -1,0 +1,142 @@
+-- What a call of a wired line has to do with the call of the message layer below it.
+use Rattle.std.specs.Prelude.{◌≡◌, ◌≢◌, ℕ, ◌<◌, List, [], ◌∷◌, Option, Some, None, Result, Ok, Err, ◌⊎◌, ⊤, true}
+use Rattle.asgi_types.specs.declared.incoming.Payload.{Payload}
+use Rattle.asgi_types.specs.declared.incoming.Payload.TheVariants as payload
+use Rattle.tungstenite.specs.declared.message.Message.{Message}
+use Rattle.tungstenite.specs.Content.{Content}
+use Rattle.tungstenite.specs.Content as wire
+use Rattle.tungstenite.specs.Connection.{Connection, Effect, write_step, close_step}
+use Rattle.tungstenite.specs.declared.error.Error.{Error}
+use Rattle.tungstenite.specs.Failure.{WriteFails}
+use Rattle.std.specs.IoError.{error_kind}
+use Rattle.asgi_io.specs.Answers.{passes}
+use Rattle.tungstenite.specs.declared.error.Error.TheVariants.{Io, ConnectionClosed, OutOfMemory}
+use Rattle.websocket.specs.declared.error.Error.{Error as FrameError}
+use Rattle.asgi_ws.specs.declared.tap.Tap.{Tap}
+use Rattle.asgi_ws.specs.declared.tap.Stop.{Stop}
+use Rattle.asgi_ws.specs.declared.tap.Stop.TheVariants as stopped
+use Rattle.tungstenite.specs.Socket.{Socket, Reads, Writes, IsFresh, content_of, byte_count}
+use Rattle.websocket.specs.declared.protocol.config.Role.TheVariants.{Server}
+use Rattle.websocket.specs.CloseCode.{close_code_number, close_code_of}
+use Rattle.asgi_ws.specs.declared.messages.Msg.{Msg}
+use Rattle.asgi_ws.specs.declared.messages.Msg.TheVariants as msg
+use Rattle.asgi_ws.specs.declared.messages.Got.{Got}
+use Rattle.asgi_ws.specs.declared.messages.Got.TheVariants as got
+use Rattle.asgi_ws.specs.declared.messages.Put.{Put}
+use Rattle.asgi_ws.specs.declared.messages.Put.TheVariants as put
+
+-- the message that stands on the wire
+abbrev pub message_of : Content → Msg
+message_of (wire.text s) = msg.Text s
+message_of (wire.binary s) = msg.Bytes s
+message_of (wire.ping s) = msg.Ping
+message_of (wire.pong s) = msg.Pong
+message_of (wire.close None) = msg.Close None
+message_of (wire.close (Some frame)) = msg.Close (Some (close_code_number frame.0, frame.1))
+
+-- an answer to a message that the layer gave: memory may be refused, and a close has at most 123 bytes of reason
+abbrev pub IsGotOf : Message → Got → Type 0
+IsGotOf given (got.Message m) = m ≡ message_of (content_of given)
+IsGotOf given got.Idle = ⊥
+IsGotOf given got.Ended = ⊥
+IsGotOf given got.Failed = 123 < byte_count given
+IsGotOf given got.NoMemory = ⊤
+
+-- the stream was interrupted or would block
+abbrev pub IsPassing : Error → Type 0
+IsPassing (Io cause) = passes (error_kind cause) ≡ true
+IsPassing e = ⊥
+
+-- the answer where the layer waits for the stream: the input is idle, has ended, or has failed
+abbrev pub waited_for : Option Stop → Got
+waited_for None = got.Idle
+waited_for (Some stopped.Ended) = got.Ended
+waited_for (Some stopped.Failed) = got.Failed
+
+-- an answer by what the layer's `read` gave, and by how the stream's input had stopped by then
+abbrev pub IsAnswerTo : Result Message Error → Option Stop → Got → Type 0
+IsAnswerTo (Ok given) stop answer = IsGotOf given answer
+IsAnswerTo (Err e) stop (got.Message m) = ⊥
+IsAnswerTo (Err e) stop got.Idle = IsPassing e × (stop ≡ None)
+IsAnswerTo (Err e) stop got.Ended = (e ≡ ConnectionClosed) ⊎ (IsPassing e × (stop ≡ Some stopped.Ended))
+IsAnswerTo (Err e) stop got.Failed = (e ≢ OutOfMemory) × (e ≢ ConnectionClosed) × (IsPassing e → stop ≡ Some stopped.Failed)
+IsAnswerTo (Err e) stop got.NoMemory = e ≡ OutOfMemory
+
+abbrev pub IfDone : Put → Type 0 → Type 0
+IfDone put.Done P = P
+IfDone put.Failed P = ⊤
+IfDone put.NoMemory P = ⊤
+
+-- this holds where the call failed
+abbrev pub IfFailed : Put → Type 0 → Type 0
+IfFailed put.Done P = ⊤
+IfFailed put.Failed P = P
+IfFailed put.NoMemory P = ⊤
+
+-- the answer to the outcome of a send
+abbrev pub IsPutOf : {A : Type 0} → Result A Error → Put → Type 0
+IsPutOf (Ok done) answer = answer ≡ put.Done
+IsPutOf (Err e) put.Done = ⊥
+IsPutOf (Err e) put.Failed = e ≢ OutOfMemory
+IsPutOf (Err e) put.NoMemory = e ≡ OutOfMemory
+
+-- a payload as it stands on the wire
+abbrev pub content_of_payload : Payload → Content
+content_of_payload (payload.Text s) = wire.text s
+content_of_payload (payload.Bytes s) = wire.binary s
+
+-- what a send and a close ask of the protocol's state
+abbrev pub payload_step : Payload → Connection → Result Effect FrameError
+payload_step payload conn = write_step conn (content_of_payload payload)
+
+abbrev pub closing_step : ℕ → List ℕ → Connection → Result Effect FrameError
+closing_step code reason conn = close_step conn (Some (close_code_of code, reason))
+
+module _ {S : Type 0} where
+  -- each answer comes from one `read` of the layer
+  abbrev pub AnswersBy : (Tap S → Option (List ℕ)) → Socket (Tap S) → Socket (Tap S) → Got → Type 0
+  AnswersBy remaining s t answer = (given : Result Message Error) × Reads remaining s t given × IsAnswerTo given t.stream.stop answer
+
+  -- and with no layer each read fails
+  abbrev pub AnswersRead : (Tap S → Option (List ℕ)) → Option (Socket (Tap S)) → Option (Socket (Tap S)) → Got → Type 0
+  AnswersRead remaining None new answer = answer ≡ got.Failed
+  AnswersRead remaining (Some s) None answer = ⊥
+  AnswersRead remaining (Some s) (Some t) answer = AnswersBy remaining s t answer
+
+  -- a send that the layer refused, or whose bytes the stream did not take
+  abbrev pub IsRefused : Option (Socket (Tap S)) → (Connection → Result Effect FrameError) → Type 0
+  IsRefused None step = ⊤
+  IsRefused (Some s) step = (e : Error) × WriteFails (step s.conn) e × (e ≢ OutOfMemory)
+
+  -- all of the frame went out, behind what waited
+  abbrev pub IsSent : (Tap S → Option (List ℕ)) → Option (Socket (Tap S)) → Option (Socket (Tap S)) → (Connection → Result Effect FrameError) → Type 0
+  IsSent contents None new step = ⊥
+  IsSent contents (Some s) None step = ⊥
+  IsSent contents (Some s) (Some t) step = Writes contents s t (step s.conn) × (t.output ≡ [])
+
+abbrev pub first_of : List (List ℕ) → List ℕ
+first_of [] = []
+first_of (bytes ∷ more) = bytes
+
+module _ {S : Type 0} where
+  -- what a line of text tells of its bytes: at first the stream's, and from `upgrade` on as they stood then
+  abbrev pub told_by : (S → Option (List ℕ)) → Option S → List S → Option (List ℕ)
+  told_by bytes (Some stream) before = bytes stream
+  told_by bytes None [] = None
+  told_by bytes None (stream ∷ more) = bytes stream
+
+  -- the bytes that `upgrade` kept, once it took the stream
+  abbrev pub leftover_by : Option S → List (List ℕ) → Option (List ℕ)
+  leftover_by (Some stream) kept = None
+  leftover_by None kept = Some (first_of kept)
+
+  -- a fresh session of a server on the stream, whose first input is the leftover
+  abbrev pub IsSessionOn : S → List ℕ → Socket (Tap S) → Type 0
+  IsSessionOn stream leftover t = IsFresh (record t { input = [] }) (record { stream = stream; stop = None }) Server × (t.input ≡ leftover)
+
+  -- the first upgrade begins a session on the stream
+  abbrev pub BeginsSession : Option S → Option S → Option (Socket (Tap S)) → List ℕ → Type 0
+  BeginsSession None after session leftover = ⊤
+  BeginsSession (Some stream) (Some after) session leftover = ⊥
+  BeginsSession (Some stream) None None leftover = ⊥
+  BeginsSession (Some stream) None (Some t) leftover = IsSessionOn stream leftover t

@@ -1,0 +1,185 @@
+//! The lists that a line in memory keeps: the messages that were read, and what went out.
+ghost use Rattle.std.specs.Prelude.{◌≡◌, ◌≢◌, IsTrue, IsSome, ◌<◌, ◌++◌, ◌∷◌, [], Some, None, false, OnOk, OnErr};
+ghost use Rattle.std.specs.Vec.{vec_len, vec_capacity};
+ghost use Rattle.asgi_ws.specs.declared.messages.Got.TheVariants as got;
+ghost use Rattle.asgi_ws.specs.declared.messages.Put.TheVariants as put;
+ghost use Rattle.asgi_ws.specs.Scripts.{messages_of, first_message};
+ghost use Rattle.asgi_ws.specs.Sessions.{given_by, messages_in, handed_in, EndsAt};
+
+use crate::messages::{Got, Handed, Msg, Put};
+use asgi_io::History;
+use std::alloc::{AllocError, Global};
+use std::collections::VecDeque;
+
+/// What one read of a message gives.
+#[derive(Debug, Drop)]
+pub enum Turn {
+    Message(Msg),
+    /// Nothing yet.
+    Idle,
+    /// The read fails.
+    Fault,
+}
+
+/// The messages that were read, and how each read was answered.
+#[derive(Drop)]
+pub struct Received {
+    pub messages: Vec<Msg>,
+    pub answers: History<Got>,
+    ghost kept: { messages.items ≡ messages_in answers.items },
+}
+
+impl Received {
+    /// No message was read yet.
+    pub fn new(alloc: Global) -> Self
+        ensures { result.answers.items ≡ [] }
+    {
+        Received {
+            messages: Vec::new(alloc),
+            answers: History::new(),
+        }
+    }
+
+    /// The next turn.
+    pub fn next(&mut self, alloc: Global, turns: &mut VecDeque<Turn>) -> Got
+        ensures told { self.new.answers.items ≡ self.old.answers.items ++ result ∷ [] }
+        ensures gives { messages_of turns.old.items ≡ given_by result ++ messages_of turns.new.items }
+        ensures ends { EndsAt result (Some (messages_of turns.new.items)) }
+    {
+        let answer = next_turn(alloc, turns, &mut self.messages);
+        self.answers = History::with(&self.answers, &answer);
+        answer
+    }
+
+    /// A read that fails.
+    pub fn fail(&mut self) -> Got
+        ensures answer { result ≡ got.Failed }
+        ensures told { self.new.answers.items ≡ self.old.answers.items ++ got.Failed ∷ [] }
+    {
+        let answer = Got::Failed;
+        self.answers = History::with(&self.answers, &answer);
+        answer
+    }
+}
+
+/// The next turn, whose message is kept beside.
+fn next_turn(alloc: Global, turns: &mut VecDeque<Turn>, received: &mut Vec<Msg>) -> Got
+    ensures gives { messages_of turns.old.items ≡ given_by result ++ messages_of turns.new.items }
+    ensures keeps { received.new.items ≡ received.old.items ++ given_by result }
+    ensures ends { EndsAt result (Some (messages_of turns.new.items)) }
+{
+    if keep_next(alloc, turns, received).is_err() {
+        return Got::NoMemory;
+    }
+    match turns.pop_front() {
+        None => Got::Ended,
+        Some(Turn::Message(message)) => Got::Message(message),
+        Some(Turn::Idle) => Got::Idle,
+        Some(Turn::Fault) => Got::Failed,
+    }
+}
+
+/// Keeps the message of the next turn, in memory of its own.
+fn keep_next(
+    alloc: Global,
+    turns: &VecDeque<Turn>,
+    received: &mut Vec<Msg>,
+) -> Result<(), AllocError>
+    ensures ok { OnOk result (received.new.items ≡ received.old.items ++ first_message turns.now.items) }
+    ensures err { OnErr result (received.new.items ≡ received.old.items) }
+{
+    match turns.front() {
+        Some(Turn::Message(message)) => {
+            let kept = message.copy(alloc)?;
+            received.push(kept)?;
+            Ok(())
+        }
+        Some(Turn::Idle) => Ok(()),
+        Some(Turn::Fault) => Ok(()),
+        None => Ok(()),
+    }
+}
+
+/// What went out, and how each send was answered.
+#[derive(Drop)]
+pub struct Sent {
+    pub items: Vec<Handed>,
+    // How many sends succeed; None: all.
+    pub left: Option<u64>,
+    pub answers: History<(Handed, Put)>,
+    ghost kept: { items.items ≡ handed_in answers.items },
+}
+
+impl Sent {
+    /// Nothing went out yet.
+    pub fn new(alloc: Global) -> Self
+        ensures { (result.answers.items ≡ []) × (result.left ≡ None) }
+    {
+        Sent {
+            items: Vec::new(alloc),
+            left: None,
+            answers: History::new(),
+        }
+    }
+
+    /// Takes what is handed over, where the line is open and not every send that succeeds was made.
+    pub fn hand_over(&mut self, is_open: bool, item: Handed) -> Put
+        ensures told { self.new.answers.items ≡ self.old.answers.items ++ (item, result) ∷ [] }
+        ensures shut { is_open ≡ false → result ≡ put.Failed }
+    {
+        let answer = answer_to(is_open, &mut self.left, &mut self.items);
+        let sent = (item, answer);
+        self.answers = History::with(&self.answers, &sent);
+        match answer {
+            Put::Done => {
+                let (item, _) = sent;
+                match self.items.push(item) {
+                    Ok(()) => {}
+                    Err(_) => unreachable!(),
+                }
+            }
+            Put::Failed => {}
+            Put::NoMemory => {}
+        }
+        answer
+    }
+}
+
+/// The answer to a send, with a place for what goes out.
+fn answer_to(is_open: bool, left: &mut Option<u64>, items: &mut Vec<Handed>) -> Put
+    ensures room { result ≡ put.Done → vec_len items.new < vec_capacity items.new }
+    ensures shut { is_open ≡ false → result ≡ put.Failed }
+    ensures items { items.new.items ≡ items.old.items }
+{
+    if !is_open || !is_allowed(left) {
+        return Put::Failed;
+    }
+    match make_room(items) {
+        Ok(()) => Put::Done,
+        Err(_) => Put::NoMemory,
+    }
+}
+
+/// Makes a place for one more.
+fn make_room(items: &mut Vec<Handed>) -> Result<(), AllocError>
+    ensures room { OnOk result (vec_len items.new < vec_capacity items.new) }
+    ensures items { items.new.items ≡ items.old.items }
+{
+    items.reserve(1)
+}
+
+/// Whether one more call succeeds, which is then counted.
+pub fn is_allowed(left: &mut Option<u64>) -> bool
+    ensures { (left.old ≡ None → IsTrue result) × (IsSome left.old → left.old ≢ Some 0 → IsTrue result) }
+{
+    match left {
+        None => true,
+        Some(n) => {
+            if *n == 0 {
+                return false;
+            }
+            *n -= 1;
+            true
+        }
+    }
+}

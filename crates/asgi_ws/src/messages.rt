@@ -1,0 +1,143 @@
+//! The messages of a session, and the line that carries the text of a connection and then messages.
+ghost use Rattle.std.specs.Prelude.{◌≡◌, ℕ, ◌⊎◌, List, [], ◌∷◌, ◌++◌, Option, None, IsSome, IfOk};
+ghost use Rattle.asgi_ws.specs.declared.messages.Msg.{Msg};
+ghost use Rattle.asgi_ws.specs.declared.messages.Got.{Got};
+ghost use Rattle.asgi_ws.specs.declared.messages.Got.TheVariants as got;
+ghost use Rattle.asgi_ws.specs.declared.messages.Put.{Put};
+ghost use Rattle.asgi_ws.specs.declared.messages.Put.TheVariants as put;
+ghost use Rattle.asgi_ws.specs.declared.messages.Handed.{Handed};
+ghost use Rattle.asgi_ws.specs.declared.messages.Handed.TheVariants as item;
+ghost use Rattle.asgi_ws.specs.Sessions.{given_by, is_failed, has_failed, count_after, Loses, EndsAt, kept_by};
+
+use asgi_io::{Counts, Reads};
+use asgi_types::{Chars, Octets, Payload, Reason};
+use std::alloc::{AllocError, Global};
+
+/// A message of the client (RFC 6455, sections 5.5 and 5.6).
+#[derive(Debug, Drop)]
+pub enum Msg {
+    Text(Chars),
+    Bytes(Octets),
+    Ping,
+    Pong,
+    /// The code and the reason, where the close has a body.
+    Close(Option<(u16, Reason)>),
+}
+
+impl Msg {
+    /// The same message once more, in memory of its own.
+    pub fn copy(&self, alloc: Global) -> Result<Self, AllocError>
+        ensures { IfOk result (λ copied. copied ≡ self.now) }
+    {
+        match self {
+            Msg::Text(text) => Ok(Msg::Text(text.copy(alloc)?)),
+            Msg::Bytes(bytes) => Ok(Msg::Bytes(bytes.copy(alloc)?)),
+            Msg::Ping => Ok(Msg::Ping),
+            Msg::Pong => Ok(Msg::Pong),
+            Msg::Close(close) => Ok(Msg::Close(*close)),
+        }
+    }
+}
+
+/// The answer of a read.
+#[derive(Debug, Drop)]
+pub enum Got {
+    /// The next message.
+    Message(Msg),
+    /// Nothing is there yet.
+    Idle,
+    /// No message follows.
+    Ended,
+    /// The line failed.
+    Failed,
+    /// Memory was refused.
+    NoMemory,
+}
+
+/// The answer of a send.
+#[derive(Clone, Copy, Debug, PartialEq, Eq)]
+pub enum Put {
+    /// All of it went out.
+    Done,
+    /// The line or its protocol refused it.
+    Failed,
+    /// Memory was refused.
+    NoMemory,
+}
+
+/// What is handed to a line.
+#[derive(Debug, Drop)]
+pub enum Handed {
+    Payload(Payload),
+    Close(u16, Reason),
+}
+
+/// Messages in and out, told answer by answer. Before `upgrade` of `Line` each call answers Failed.
+pub trait Messages: Reads + Counts {
+    /// How each read of a message was answered, the oldest first.
+    ghost read_answers: { Self → List Got };
+
+    /// What was handed over and how that was answered, the oldest first.
+    ghost send_answers: { Self → List (Handed × Put) };
+
+    /// The messages that reads will give from here on, where they are known.
+    ghost coming: { Self → Option (List Msg) };
+
+    /// The bytes that `upgrade` kept; None before it.
+    ghost leftover: { Self → Option (List ℕ) };
+
+    /// The next message.
+    fn read_message(&mut self) -> Got
+        ensures told { read_answers self.new ≡ read_answers self.old ++ result ∷ [] }
+        ensures coming { Loses (coming self.old) (coming self.new) (given_by result) × EndsAt result (coming self.new) }
+        ensures counts { Self.failed self.new ≡ count_after (Self.failed self.old) (is_failed result) }
+        ensures shut { leftover self.old ≡ None → result ≡ got.Failed }
+        ensures same { (send_answers self.new ≡ send_answers self.old) × (leftover self.new ≡ leftover self.old) }
+        ensures text { (Self.remaining self.new ≡ Self.remaining self.old) × (Self.written self.new ≡ Self.written self.old)
+            × (Self.Reads.answers self.new ≡ Self.Reads.answers self.old) × (Self.Counts.answers self.new ≡ Self.Counts.answers self.old) };
+
+    /// Sends a payload.
+    fn send_message(&mut self, payload: Payload) -> Put
+        ensures told { send_answers self.new ≡ send_answers self.old ++ (item.Payload payload, result) ∷ [] }
+        ensures counts { Self.failed self.new ≡ count_after (Self.failed self.old) (has_failed result) }
+        ensures shut { leftover self.old ≡ None → result ≡ put.Failed }
+        ensures same { (read_answers self.new ≡ read_answers self.old) × (coming self.new ≡ coming self.old) × (leftover self.new ≡ leftover self.old) }
+        ensures text { (Self.remaining self.new ≡ Self.remaining self.old) × (Self.written self.new ≡ Self.written self.old)
+            × (Self.Reads.answers self.new ≡ Self.Reads.answers self.old) × (Self.Counts.answers self.new ≡ Self.Counts.answers self.old) };
+
+    /// Sends a close.
+    fn send_close(&mut self, code: u16, reason: Reason) -> Put
+        ensures told { send_answers self.new ≡ send_answers self.old ++ (item.Close code reason, result) ∷ [] }
+        ensures counts { Self.failed self.new ≡ count_after (Self.failed self.old) (has_failed result) }
+        ensures shut { leftover self.old ≡ None → result ≡ put.Failed }
+        ensures same { (read_answers self.new ≡ read_answers self.old) × (coming self.new ≡ coming self.old) × (leftover self.new ≡ leftover self.old) }
+        ensures text { (Self.remaining self.new ≡ Self.remaining self.old) × (Self.written self.new ≡ Self.written self.old)
+            × (Self.Reads.answers self.new ≡ Self.Reads.answers self.old) × (Self.Counts.answers self.new ≡ Self.Counts.answers self.old) };
+}
+
+/// A connection: text both ways, and messages both ways after `upgrade`. Its reads and its writes are told, and those that
+/// failed are counted.
+pub trait Line: Messages {
+    /// From here on the line carries messages, of the leftover and then of what is read behind it.
+    /// A second call changes nothing, and reads and writes of text fail from here on.
+    fn upgrade(&mut self, leftover: Vec<u8>)
+        ensures keeps { Self.leftover self.new ≡ kept_by (Self.leftover self.old) leftover.items }
+        ensures again { IsSome (Self.leftover self.old) → self.new ≡ self.old }
+        ensures session { (Self.read_answers self.new ≡ Self.read_answers self.old) × (Self.send_answers self.new ≡ Self.send_answers self.old)
+            × (Self.coming self.new ≡ Self.coming self.old) }
+        ensures counts { Self.failed self.new ≡ Self.failed self.old }
+        ensures text { (Self.remaining self.new ≡ Self.remaining self.old) × (Self.written self.new ≡ Self.written self.old)
+            × (Self.Reads.answers self.new ≡ Self.Reads.answers self.old) × (Self.Counts.answers self.new ≡ Self.Counts.answers self.old) };
+
+    // A write of text leaves what is to be read, and a read what is written.
+    ghost reads_stay: { (old new : Self) → Self.Counts.beside new ≡ Self.Counts.beside old
+        → (Self.remaining new ≡ Self.remaining old) × (Self.Reads.answers new ≡ Self.Reads.answers old) };
+
+    ghost writes_stay: { (old new : Self) → Self.Reads.beside new ≡ Self.Reads.beside old
+        → (Self.written new ≡ Self.written old) × ((Self.failed new ≡ Self.failed old) × (Self.Counts.answers new ≡ Self.Counts.answers old)) };
+
+    // Both leave the session.
+    ghost session_stays: { (old new : Self) → (Self.Reads.beside new ≡ Self.Reads.beside old) ⊎ (Self.Counts.beside new ≡ Self.Counts.beside old)
+        → (Self.read_answers new ≡ Self.read_answers old) × ((Self.send_answers new ≡ Self.send_answers old)
+        × ((Self.coming new ≡ Self.coming old) × (Self.leftover new ≡ Self.leftover old))) };
+}

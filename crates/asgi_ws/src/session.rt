@@ -1,0 +1,99 @@
+//! The calls of the message layer, on a session that may not have begun.
+ghost use Rattle.asgi_ws.specs.Wires.{AnswersRead, AnswersBy, IsSessionOn, IsSent, IfDone, IfFailed, IsRefused, IsPutOf, payload_step, closing_step};
+
+use crate::convert::{answer_to, message_with};
+use crate::messages::{Got, Put};
+use crate::stream::Stream;
+use crate::tap::Tap;
+use asgi_types::{Payload, Reason};
+use std::alloc::Global;
+use tungstenite::{
+    CloseCode, CloseFrame, Error, NoMask, Role, Utf8Bytes, WebSocket, WebSocketConfig,
+};
+
+pub type Session<S> = WebSocket<Tap<S>, NoMask>;
+
+/// How many bytes one read of the stream asks for, and how many the layer reserves.
+const READ_BUFFER: usize = 4_096;
+
+/// A session of a server, whose first input is the leftover. It takes no memory.
+pub fn session_on<S: Drop>(alloc: Global, stream: S, leftover: Vec<u8>) -> Session<S>
+    ensures { IsSessionOn stream leftover.items result }
+{
+    WebSocket::from_partially_read(
+        alloc,
+        Tap::new(stream),
+        NoMask,
+        leftover,
+        Role::Server,
+        Some(WebSocketConfig::default().read_buffer_size(READ_BUFFER)),
+    )
+}
+
+/// The next message.
+pub fn read<S: Stream + Drop>(alloc: Global, session: &mut Option<Session<S>>) -> Got
+    ensures { AnswersRead (λ t. S.remaining t.stream) session.old session.new result }
+{
+    match session {
+        Some(socket) => read_next(alloc, socket),
+        None => Got::Failed,
+    }
+}
+
+fn read_next<S: Stream + Drop>(alloc: Global, socket: &mut Session<S>) -> Got
+    ensures { AnswersBy (λ t. S.remaining t.stream) socket.old socket.new result }
+{
+    let given = socket.read();
+    let stop = socket.get_ref().stop;
+    answer_to(alloc, given, stop)
+}
+
+/// Sends a payload.
+pub fn send<S: Stream + Drop>(
+    alloc: Global,
+    session: &mut Option<Session<S>>,
+    payload: &Payload,
+) -> Put
+    ensures sent { IfDone result (IsSent (λ t. S.contents t.stream) session.old session.new (payload_step payload.now)) }
+    ensures refused { IfFailed result (IsRefused session.old (payload_step payload.now)) }
+{
+    let Some(socket) = session else {
+        return Put::Failed;
+    };
+    let Ok(message) = message_with(alloc, payload) else {
+        return Put::NoMemory;
+    };
+    put_of(socket.send(message))
+}
+
+/// Sends a close.
+pub fn close<S: Stream + Drop>(
+    alloc: Global,
+    session: &mut Option<Session<S>>,
+    code: u16,
+    reason: &Reason,
+) -> Put
+    ensures sent { IfDone result (IsSent (λ t. S.contents t.stream) session.old session.new (closing_step code reason.now)) }
+    ensures refused { IfFailed result (IsRefused session.old (closing_step code reason.now)) }
+{
+    let Some(socket) = session else {
+        return Put::Failed;
+    };
+    let Ok(text) = Utf8Bytes::copy_from_str(alloc, reason.as_str()) else {
+        return Put::NoMemory;
+    };
+    put_of(socket.close(Some(CloseFrame {
+        code: CloseCode::from(code),
+        reason: text,
+    })))
+}
+
+fn put_of(outcome: Result<(), Error>) -> Put
+    ensures { IsPutOf outcome result }
+{
+    match outcome {
+        Ok(()) => Put::Done,
+        Err(Error::OutOfMemory) => Put::NoMemory,
+        Err(_) => Put::Failed,
+    }
+}

@@ -1,0 +1,77 @@
+//! The stream below a line.
+ghost use Rattle.std.specs.Prelude.{◌≡◌, ℕ, List, Option, None};
+ghost use Rattle.std.specs.Io.{ReadsAtMost, WritesAtMost};
+ghost use Rattle.std.specs.Io.KnownBytes.{ReadConsumes, WriteAppends, Keeps};
+
+use std::io::{self, Read, Write};
+
+/// What carries bytes both ways. A read leaves what was written as it is, and a write what is to be read.
+pub trait Stream {
+    /// The bytes that are still to come, where they are known.
+    ghost remaining: { Self → Option (List ℕ) };
+
+    /// The bytes that were written, where they are known.
+    ghost contents: { Self → Option (List ℕ) };
+
+    /// Reads some bytes, and answers how many: none at the end.
+    fn read_part(&mut self, buf: &mut [u8]) -> io::Result<usize>
+        ensures bound { ReadsAtMost result buf.new }
+        ensures bytes { ReadConsumes (remaining self.old) (remaining self.new) result buf.new }
+        ensures stays { contents self.new ≡ contents self.old };
+
+    /// Writes some of the bytes, and answers how many.
+    fn write_part(&mut self, bytes: &[u8]) -> io::Result<usize>
+        ensures bound { WritesAtMost result bytes.now }
+        ensures bytes { WriteAppends (contents self.old) (contents self.new) result bytes.now }
+        ensures stays { remaining self.new ≡ remaining self.old };
+
+    /// Sends on what a buffer holds.
+    fn flush_parts(&mut self) -> io::Result<()>
+        ensures bytes { Keeps (contents self.old) (contents self.new) }
+        ensures stays { remaining self.new ≡ remaining self.old };
+}
+
+/// A stream of a reader and a writer, each of which tells its own bytes.
+#[derive(Debug, Drop)]
+pub struct Pair<R, W> {
+    pub reader: R,
+    pub writer: W,
+}
+
+impl<R: Read, W: Write> Stream for Pair<R, W> {
+    ghost remaining = { λ p. R.remaining p.reader };
+
+    ghost contents = { λ p. W.contents p.writer };
+
+    fn read_part(&mut self, buf: &mut [u8]) -> io::Result<usize> {
+        self.reader.read(buf)
+    }
+
+    fn write_part(&mut self, bytes: &[u8]) -> io::Result<usize> {
+        self.writer.write(bytes)
+    }
+
+    fn flush_parts(&mut self) -> io::Result<()> {
+        self.writer.flush()
+    }
+}
+
+/// One value that reads and writes, such as a socket: nothing is known of its bytes, since a write
+/// may change what is to be read.
+impl<S: Read + Write> Stream for S {
+    ghost remaining = { λ _. None };
+
+    ghost contents = { λ _. None };
+
+    fn read_part(&mut self, buf: &mut [u8]) -> io::Result<usize> {
+        self.read(buf)
+    }
+
+    fn write_part(&mut self, bytes: &[u8]) -> io::Result<usize> {
+        self.write(bytes)
+    }
+
+    fn flush_parts(&mut self) -> io::Result<()> {
+        self.flush()
+    }
+}

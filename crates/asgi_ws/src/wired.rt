@@ -1,0 +1,287 @@
+//! A line over a stream: text at first, and from `upgrade` on the messages of `tungstenite`.
+ghost use Rattle.std.specs.Prelude.{◌≡◌, length, ◌++◌, [], ◌∷◌, List, ℕ, None, Some, IsSome, IsNone, IsErr};
+ghost use Rattle.std.specs.Io.{ReadsAtMost, WritesAtMost};
+ghost use Rattle.std.specs.Io.KnownBytes.{ReadConsumes, WriteAppends};
+ghost use Rattle.asgi_io.specs.Answers.{answer_of};
+ghost use Rattle.asgi_io.specs.Counting.{CountsFailures};
+ghost use Rattle.asgi_ws.specs.Wires.{told_by, leftover_by};
+
+use crate::messages::{Got, Handed, Line, Messages, Put};
+use crate::session::{Session, close, read, send, session_on};
+use crate::stream::Stream;
+use crate::tally::Tally;
+use asgi_io::{Counts, History, Reads};
+use asgi_types::{Octets, Payload, Reason};
+use std::alloc::Global;
+use std::io::{self, ErrorKind};
+
+/// A line over a stream.
+#[derive(Drop)]
+pub struct Wired<S> {
+    alloc: Global,
+    // The stream, until `upgrade`.
+    stream: Option<S>,
+    // The message layer, from `upgrade` on.
+    session: Option<Session<S>>,
+    // The stream and the bytes behind the handshake, as they were at `upgrade`.
+    before: History<S>,
+    kept: History<Octets>,
+    tally: Tally,
+    read_answers: History<Got>,
+    send_answers: History<(Handed, Put)>,
+}
+
+impl<S> Wired<S> {
+    /// A line of text over the stream.
+    pub fn new(alloc: Global, stream: S) -> Self
+        ensures stream { result.stream ≡ Some stream }
+        ensures nothing { (result.read_answers.items ≡ []) × (result.send_answers.items ≡ []) × (result.tally.failures ≡ 0)
+            × (result.tally.reads.items ≡ []) × (result.tally.writes.items ≡ []) }
+    {
+        Wired {
+            alloc,
+            stream: Some(stream),
+            session: None,
+            before: History::new(),
+            kept: History::new(),
+            tally: Tally::new(),
+            read_answers: History::new(),
+            send_answers: History::new(),
+        }
+    }
+}
+
+impl<S: Drop> Wired<S> {
+    /// The stream below, as it is now.
+    pub fn stream(&self) -> Option<&S> {
+        match &self.session {
+            Some(socket) => Some(&socket.get_ref().stream),
+            None => self.stream.as_ref(),
+        }
+    }
+}
+
+fn closed() -> io::Error {
+    io::Error::from(ErrorKind::NotConnected)
+}
+
+/// Reads text, until `upgrade`.
+fn read_text<S: Stream>(stream: &mut Option<S>, buf: &mut [u8]) -> io::Result<usize>
+    ensures bound { ReadsAtMost result buf.new }
+    ensures bytes { (before : List S) → ReadConsumes (told_by S.remaining stream.old before) (told_by S.remaining stream.new before) result buf.new }
+    ensures stays { (before : List S) → told_by S.contents stream.new before ≡ told_by S.contents stream.old before }
+    ensures open { (kept : List (List ℕ)) → leftover_by stream.new kept ≡ leftover_by stream.old kept }
+    ensures closed { IsNone stream.old → IsErr result }
+{
+    match stream {
+        Some(stream) => stream.read_part(buf),
+        None => Err(closed()),
+    }
+}
+
+/// Writes text, until `upgrade`.
+fn write_text<S: Stream>(stream: &mut Option<S>, bytes: &[u8]) -> io::Result<usize>
+    ensures bound { WritesAtMost result bytes.now }
+    ensures bytes { (before : List S) → WriteAppends (told_by S.contents stream.old before) (told_by S.contents stream.new before) result bytes.now }
+    ensures stays { (before : List S) → told_by S.remaining stream.new before ≡ told_by S.remaining stream.old before }
+    ensures open { (kept : List (List ℕ)) → leftover_by stream.new kept ≡ leftover_by stream.old kept }
+    ensures closed { IsNone stream.old → IsErr result }
+{
+    match stream {
+        Some(stream) => stream.write_part(bytes),
+        None => Err(closed()),
+    }
+}
+
+impl<S: Stream> Reads for Wired<S> {
+    ghost use Rattle.asgi_ws.specs.Sides.{WriteSide};
+
+    ghost remaining = { λ w. told_by S.remaining w.stream w.before.items };
+
+    ghost answers = { λ w. w.tally.reads.items };
+
+    ghost Beside = { WriteSide };
+
+    ghost beside = { λ w. record {
+      written = told_by S.contents w.stream w.before.items;
+      failed = w.tally.failures;
+      answers = w.tally.writes.items;
+      session = record { read_answers = w.read_answers.items; send_answers = w.send_answers.items; coming = None; leftover = leftover_by w.stream w.kept.items };
+    } };
+
+    fn read_some(&mut self, buf: &mut [u8]) -> io::Result<usize>
+        ensures bound { ReadsAtMost result buf.new }
+        ensures bytes { ReadConsumes (told_by S.remaining self.old.stream self.old.before.items) (told_by S.remaining self.new.stream self.new.before.items) result buf.new }
+        ensures told { self.new.tally.reads.items ≡ self.old.tally.reads.items ++ answer_of (length buf.new) result ∷ [] }
+        ensures written { told_by S.contents self.new.stream self.new.before.items ≡ told_by S.contents self.old.stream self.old.before.items }
+        ensures counts { (self.new.tally.failures ≡ self.old.tally.failures) × (self.new.tally.writes ≡ self.old.tally.writes) }
+        ensures session { (self.new.read_answers ≡ self.old.read_answers) × (self.new.send_answers ≡ self.old.send_answers)
+            × (leftover_by self.new.stream self.new.kept.items ≡ leftover_by self.old.stream self.old.kept.items) }
+        ensures closed { IsNone self.old.stream → IsErr result }
+    {
+        let read = read_text(&mut self.stream, buf);
+        self.tally.note_read(&read, buf.len());
+        read
+    }
+
+    fn faults(&self) -> u64 {
+        self.tally.faults
+    }
+}
+
+impl<S: Stream> Counts for Wired<S> {
+    ghost use Rattle.asgi_ws.specs.Sides.{ReadSide};
+
+    ghost written = { λ w. told_by S.contents w.stream w.before.items };
+
+    ghost failed = { λ w. w.tally.failures };
+
+    ghost answers = { λ w. w.tally.writes.items };
+
+    ghost Beside = { ReadSide };
+
+    ghost beside = { λ w. record {
+      remaining = told_by S.remaining w.stream w.before.items;
+      answers = w.tally.reads.items;
+      session = record { read_answers = w.read_answers.items; send_answers = w.send_answers.items; coming = None; leftover = leftover_by w.stream w.kept.items };
+    } };
+
+    fn write_some(&mut self, bytes: &[u8]) -> io::Result<usize>
+        ensures bound { WritesAtMost result bytes.now }
+        ensures bytes { WriteAppends (told_by S.contents self.old.stream self.old.before.items) (told_by S.contents self.new.stream self.new.before.items) result bytes.now }
+        ensures counts { CountsFailures self.old.tally.failures self.new.tally.failures bytes.now result }
+        ensures told { self.new.tally.writes.items ≡ self.old.tally.writes.items ++ answer_of (length bytes.now) result ∷ [] }
+        ensures remaining { told_by S.remaining self.new.stream self.new.before.items ≡ told_by S.remaining self.old.stream self.old.before.items }
+        ensures reads { self.new.tally.reads ≡ self.old.tally.reads }
+        ensures session { (self.new.read_answers ≡ self.old.read_answers) × (self.new.send_answers ≡ self.old.send_answers)
+            × (leftover_by self.new.stream self.new.kept.items ≡ leftover_by self.old.stream self.old.kept.items) }
+        ensures closed { IsNone self.old.stream → IsErr result }
+    {
+        let wrote = write_text(&mut self.stream, bytes);
+        self.tally.note_write(&wrote, bytes);
+        wrote
+    }
+
+    fn failures(&self) -> u64 {
+        self.tally.failures
+    }
+}
+
+impl<S: Stream + Drop> Messages for Wired<S> {
+    ghost use Rattle.asgi_ws.specs.declared.messages.Got.TheVariants as got;
+    ghost use Rattle.asgi_ws.specs.declared.messages.Put.TheVariants as put;
+    ghost use Rattle.asgi_ws.specs.declared.messages.Handed.TheVariants as item;
+    ghost use Rattle.asgi_ws.specs.Sessions.{is_failed, has_failed, count_after};
+    ghost use Rattle.asgi_ws.specs.Wires.{AnswersRead, IsSent, IfDone, IfFailed, IsRefused, payload_step, closing_step};
+
+    ghost read_answers = { λ w. w.read_answers.items };
+
+    ghost send_answers = { λ w. w.send_answers.items };
+
+    ghost coming = { λ _. None };
+
+    ghost leftover = { λ w. leftover_by w.stream w.kept.items };
+
+    fn read_message(&mut self) -> Got
+        ensures answers { IsNone self.old.stream → AnswersRead (λ t. S.remaining t.stream) self.old.session self.new.session result }
+        ensures shut { IsSome self.old.stream → result ≡ got.Failed }
+        ensures kept { self.new.read_answers.items ≡ self.old.read_answers.items ++ result ∷ [] }
+        ensures after { self.new.tally.failures ≡ count_after self.old.tally.failures (is_failed result) }
+        ensures stays { (self.new.stream ≡ self.old.stream) × (self.new.before ≡ self.old.before) × (self.new.kept ≡ self.old.kept)
+            × (self.new.send_answers ≡ self.old.send_answers) × (self.new.tally.reads ≡ self.old.tally.reads) × (self.new.tally.writes ≡ self.old.tally.writes) }
+    {
+        let answer = if self.stream.is_some() {
+            Got::Failed
+        } else {
+            read(self.alloc, &mut self.session)
+        };
+        self.read_answers = History::with(&self.read_answers, &answer);
+        if let Got::Failed = &answer {
+            self.tally.note_failure();
+        }
+        answer
+    }
+
+    fn send_message(&mut self, payload: Payload) -> Put
+        ensures sent { IfDone result (IsSent (λ t. S.contents t.stream) self.old.session self.new.session (payload_step payload)) }
+        ensures refused { IsNone self.old.stream → IfFailed result (IsRefused self.old.session (payload_step payload)) }
+        ensures shut { IsSome self.old.stream → result ≡ put.Failed }
+        ensures kept { self.new.send_answers.items ≡ self.old.send_answers.items ++ (item.Payload payload, result) ∷ [] }
+        ensures after { self.new.tally.failures ≡ count_after self.old.tally.failures (has_failed result) }
+        ensures stays { (self.new.stream ≡ self.old.stream) × (self.new.before ≡ self.old.before) × (self.new.kept ≡ self.old.kept)
+            × (self.new.read_answers ≡ self.old.read_answers) × (self.new.tally.reads ≡ self.old.tally.reads) × (self.new.tally.writes ≡ self.old.tally.writes) }
+    {
+        let answer = if self.stream.is_some() {
+            Put::Failed
+        } else {
+            send(self.alloc, &mut self.session, &payload)
+        };
+        self.note(answer, Handed::Payload(payload))
+    }
+
+    fn send_close(&mut self, code: u16, reason: Reason) -> Put
+        ensures sent { IfDone result (IsSent (λ t. S.contents t.stream) self.old.session self.new.session (closing_step code reason)) }
+        ensures refused { IsNone self.old.stream → IfFailed result (IsRefused self.old.session (closing_step code reason)) }
+        ensures shut { IsSome self.old.stream → result ≡ put.Failed }
+        ensures kept { self.new.send_answers.items ≡ self.old.send_answers.items ++ (item.Close code reason, result) ∷ [] }
+        ensures after { self.new.tally.failures ≡ count_after self.old.tally.failures (has_failed result) }
+        ensures stays { (self.new.stream ≡ self.old.stream) × (self.new.before ≡ self.old.before) × (self.new.kept ≡ self.old.kept)
+            × (self.new.read_answers ≡ self.old.read_answers) × (self.new.tally.reads ≡ self.old.tally.reads) × (self.new.tally.writes ≡ self.old.tally.writes) }
+    {
+        let answer = if self.stream.is_some() {
+            Put::Failed
+        } else {
+            close(self.alloc, &mut self.session, code, &reason)
+        };
+        self.note(answer, Handed::Close(code, reason))
+    }
+}
+
+impl<S: Stream + Drop> Wired<S> {
+    ghost use Rattle.asgi_ws.specs.Sessions.{has_failed, count_after};
+
+    // Keeps what was handed over and its answer, and counts a failure.
+    fn note(&mut self, answer: Put, item: Handed) -> Put
+        ensures answer { result ≡ answer }
+        ensures kept { self.new.send_answers.items ≡ self.old.send_answers.items ++ (item, answer) ∷ [] }
+        ensures after { self.new.tally.failures ≡ count_after self.old.tally.failures (has_failed answer) }
+        ensures stays { (self.new.stream ≡ self.old.stream) × (self.new.session ≡ self.old.session) × (self.new.before ≡ self.old.before) × (self.new.kept ≡ self.old.kept)
+            × (self.new.read_answers ≡ self.old.read_answers) × (self.new.tally.reads ≡ self.old.tally.reads) × (self.new.tally.writes ≡ self.old.tally.writes) }
+    {
+        self.send_answers = History::with(&self.send_answers, &(item, answer));
+        if answer == Put::Failed {
+            self.tally.note_failure();
+        }
+        answer
+    }
+}
+
+impl<S: Stream + Drop> Line for Wired<S> {
+    ghost use Rattle.asgi_ws.specs.Sessions.{kept_by};
+    ghost use Rattle.asgi_ws.specs.Wires.{BeginsSession};
+    ghost use Rattle.std.specs.Prelude.{refl};
+    ghost use Rattle.asgi_ws.specs.Sides.{read_side, write_side, session_beside};
+
+    fn upgrade(&mut self, leftover: Vec<u8>)
+        ensures begins { BeginsSession self.old.stream self.new.stream self.new.session leftover.items }
+        ensures again { IsNone self.old.stream → self.new ≡ self.old }
+        ensures keeps { leftover_by self.new.stream self.new.kept.items ≡ kept_by (leftover_by self.old.stream self.old.kept.items) leftover.items }
+        ensures same { (self.new.read_answers ≡ self.old.read_answers) × (self.new.send_answers ≡ self.old.send_answers) × (self.new.tally ≡ self.old.tally) }
+        ensures text { (told_by S.remaining self.new.stream self.new.before.items ≡ told_by S.remaining self.old.stream self.old.before.items)
+            × (told_by S.contents self.new.stream self.new.before.items ≡ told_by S.contents self.old.stream self.old.before.items) }
+    {
+        let Some(stream) = self.stream.take() else {
+            return;
+        };
+        self.before = History::with(&History::new(), &stream);
+        let kept = Octets::new(leftover);
+        self.kept = History::with(&History::new(), &kept);
+        self.session = Some(session_on(self.alloc, stream, kept.into_vec()));
+    }
+
+    ghost reads_stay = { λ old new same. read_side same };
+
+    ghost writes_stay = { λ old new same. write_side same };
+
+    ghost session_stays = { λ old new same. session_beside same refl refl };
+}
