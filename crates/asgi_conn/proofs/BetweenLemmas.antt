@@ -174,14 +174,14 @@ module _ (limits : Limits) (start now : LineState) (wire : Wire) (read : List �
       loop.handshake_due limits wire.input read given exchanges behind written reader.place reader.held scope facts x.between (reaches reader (given ++ Head scope facts ∷ []) same stands) e
 
   module _ (next : LineState) (status : ℕ) (due : RefusesWith limits behind status)
-      (text : List ℕ) (text_is : text ≡ refusal_text status) (left : next.left ≡ now.left) (reads : next.reads ≡ now.reads) where
+      (text : List ℕ) (text_is : text ≡ refusal_text status) (left : next.left ≡ now.left) (reads : next.reads ≡ now.reads) (session : next.session ≡ now.session) where
     pub ends_refused : Appends now.written next.written text → RoseBy 0 now.failed next.failed → TriesWrites now.writes next.writes (length text) wrote.Done
         → (more : List ℕ) × EndsSo limits start next read exchanges (written ++ more) (Refused status)
     ends_refused appends rose tries = (
       refusal_text status,
       record {
         end = wire.input;
-        moved = moved_by_write start now next wire.input read written (refusal_text status) 0 x.moved left reads
+        moved = moved_by_write start now next wire.input read written (refusal_text status) 0 x.moved left reads session
             (subst (λ (l : List ℕ). Appends now.written next.written l) text_is appends) rose
             (subst (λ (l : List ℕ). TriesWrites now.writes next.writes (length l) wrote.Done) text_is tries);
         converses = λ report o c. loop.refused limits wire.input read given exchanges behind written report x.between c status due o;
@@ -195,7 +195,7 @@ module _ (limits : Limits) (start now : LineState) (wire : Wire) (read : List �
       take n (refusal_text status),
       record {
         end = wire.input;
-        moved = moved_by_write start now next wire.input read written (take n (refusal_text status)) 1 x.moved left reads
+        moved = moved_by_write start now next wire.input read written (take n (refusal_text status)) 1 x.moved left reads session
             (subst (λ (l : List ℕ). Appends now.written next.written (take n l)) text_is appends) rose
             (tries_front now.writes next.writes n (refusal_text status) (subst (λ (l : List ℕ). n < length l) text_is within) tries);
         converses = λ report o c. loop.refusal_failed limits wire.input read given exchanges behind written report x.between c status n due

@@ -478,12 +478,12 @@ module _ (scene : Scene) (was : LineState) (half : ConnHalf) (read : List ℕ) (
           ∙ (ap (λ (l : List ℕ). response_text scene.facts (taken_of view) ++ l) added
           ∙ sym (ap (λ (o : Option EndKind). response_text scene.facts (taken_of view) ++ added_by (http half.wire.limits scene.facts) (taken_of view) o view.broken_first view.arrived) ending.1))
 
-      moves : (now : LineState) (part : List ℕ) (failures : ℕ) → now.left ≡ was.left → now.reads ≡ was.reads → Appends was.written now.written part → RoseBy failures was.failed now.failed
+      moves : (now : LineState) (part : List ℕ) (failures : ℕ) → now.left ≡ was.left → now.reads ≡ was.reads → now.session ≡ was.session → Appends was.written now.written part → RoseBy failures was.failed now.failed
           → TriesWrites was.writes now.writes (length part) (how_wrote failures (length part))
           → HasMoved scene.start now half.wire.input read (scene.before ++ (view.written ++ part)) failures
-      moves now part failures same_left same_reads appends rose tries =
+      moves now part failures same_left same_reads same_session appends rose tries =
           subst (λ (l : List ℕ). HasMoved scene.start now half.wire.input read l failures) (append_assoc scene.before view.written part)
-          (moved_by_write scene.start was now half.wire.input read (scene.before ++ view.written) part failures (unfailed scene was half read view x (stage.Ending kind) is refl) same_left same_reads appends rose
+          (moved_by_write scene.start was now half.wire.input read (scene.before ++ view.written) part failures (unfailed scene was half read view x (stage.Ending kind) is refl) same_left same_reads same_session appends rose
           tries)
 
       leaves : (f : Following) → following ≡ f → (wire : Wire) → wire.out.items ≡ []
@@ -528,14 +528,14 @@ module _ (scene : Scene) (was : LineState) (half : ConnHalf) (read : List ℕ) (
               inl (broken_body half.body half.wire.input (ap input_of (sym s) ∙ (ap input_of (sym (same_state a)) ∙ known_state.1)) (settles (asks kind p half.broke n a)) t.ends_where)
 
       -- all of it went out
-      pub ends_written : (now : LineState) (wire : Wire) → wire ≡ record half.wire { out = wire.out } → wire.out.items ≡ [] → now.left ≡ was.left → now.reads ≡ was.reads
+      pub ends_written : (now : LineState) (wire : Wire) → wire ≡ record half.wire { out = wire.out } → wire.out.items ≡ [] → now.left ≡ was.left → now.reads ≡ was.reads → now.session ≡ was.session
           → Appends was.written now.written text → RoseBy 0 was.failed now.failed → TriesWrites was.writes now.writes (length text) wrote.Done
           → Stands scene now (record half { wire = wire; stage = stage.Over following }) read (record view { written = view.written ++ text })
-      ends_written now wire same empty same_left same_reads appends rose tries =
+      ends_written now wire same empty same_left same_reads same_session appends rose tries =
           subst (λ (w : Wire). Stands scene now (record half { wire = w; stage = stage.Over following }) read (record view { written = view.written ++ text })) (sym same)
           (record {
             moved = subst (λ (k : ℕ). HasMoved scene.start now half.wire.input read (scene.before ++ (view.written ++ text)) k)
-                (sym (ap (λ (f : Following). failures_at (stage.Over f)) real_row ∙ (uncut p real half.broke).1)) (moves now text 0 same_left same_reads appends rose tries);
+                (sym (ap (λ (f : Following). failures_at (stage.Over f)) real_row ∙ (uncut p real half.broke).1)) (moves now text 0 same_left same_reads same_session appends rose tries);
             limits = x.limits;
             within = x.within;
             keeps = record { offered = x.keeps.offered; written = ([], append-nil (view.written ++ text) ∙ all_output) };
@@ -544,14 +544,14 @@ module _ (scene : Scene) (was : LineState) (half : ConnHalf) (read : List ℕ) (
           })
 
       -- its first m bytes did
-      pub ends_cut : (m : ℕ) (now : LineState) (wire : Wire) → wire ≡ record half.wire { out = wire.out } → now.left ≡ was.left → now.reads ≡ was.reads → m < length text
+      pub ends_cut : (m : ℕ) (now : LineState) (wire : Wire) → wire ≡ record half.wire { out = wire.out } → now.left ≡ was.left → now.reads ≡ was.reads → now.session ≡ was.session → m < length text
           → Appends was.written now.written (take m text) → RoseBy 1 was.failed now.failed → TriesWrites was.writes now.writes m (wrote.Failed m)
           → Stands scene now (record half { wire = wire; stage = stage.Over (ConnectionEnds (outcome.WriteFailed m)) }) read (record view { written = view.written ++ take m text })
-      ends_cut m now wire same same_left same_reads less appends rose tries =
+      ends_cut m now wire same same_left same_reads same_session less appends rose tries =
           let t = ending.0 in
           subst (λ (w : Wire). Stands scene now (record half { wire = w; stage = stage.Over (ConnectionEnds (outcome.WriteFailed m)) }) read (record view { written = view.written ++ take m text })) (sym same)
           (record {
-            moved = moves now (take m text) 1 same_left same_reads appends rose (tries_front was.writes now.writes m text less tries);
+            moved = moves now (take m text) 1 same_left same_reads same_session appends rose (tries_front was.writes now.writes m text less tries);
             limits = x.limits;
             within = x.within;
             keeps = record {

@@ -51,25 +51,25 @@ pub part_written : (limits : Limits) (facts : Facts) (view : ConnView ℕ ℕ) (
 part_written limits facts view rest unended is = (rest, is ∙ sym (output_open limits facts view unended))
 
 moved_on : (scene : Scene) (was now : LineState) (half : ConnHalf) (read written text : List ℕ) (failures : ℕ)
-    → HasMoved scene.start was half.wire.input read (scene.before ++ written) 0 → now.left ≡ was.left → now.reads ≡ was.reads → Appends was.written now.written text
+    → HasMoved scene.start was half.wire.input read (scene.before ++ written) 0 → now.left ≡ was.left → now.reads ≡ was.reads → now.session ≡ was.session → Appends was.written now.written text
     → RoseBy failures was.failed now.failed → TriesWrites was.writes now.writes (length text) (how_wrote failures (length text))
     → HasMoved scene.start now half.wire.input read (scene.before ++ (written ++ text)) failures
-moved_on scene was now half read written text failures moved same_left same_reads appends rose tries =
+moved_on scene was now half read written text failures moved same_left same_reads same_session appends rose tries =
     subst (λ (l : List ℕ). HasMoved scene.start now half.wire.input read l failures) (append_assoc scene.before written text)
-    (moved_by_write scene.start was now half.wire.input read (scene.before ++ written) text failures moved same_left same_reads appends rose tries)
+    (moved_by_write scene.start was now half.wire.input read (scene.before ++ written) text failures moved same_left same_reads same_session appends rose tries)
 
 abbrev failed_at : Outcome → ℕ
 failed_at (WriteFailed n) = n
 failed_at _ = 0
 
 module _ (scene : Scene) (was now : LineState) (half : ConnHalf) (read : List ℕ) (view : ConnView ℕ ℕ) (p : Pending scene was half read view)
-    (same_left : now.left ≡ was.left) (same_reads : now.reads ≡ was.reads) where
+    (same_left : now.left ≡ was.left) (same_reads : now.reads ≡ was.reads) (same_session : now.session ≡ was.session) where
   -- all of the text in hand went out
   put_whole : (wire : Wire) → wire ≡ record half.wire { out = wire.out } → wire.out.items ≡ [] → Appends was.written now.written half.wire.out.items → RoseBy 0 was.failed now.failed
       → TriesWrites was.writes now.writes (length half.wire.out.items) wrote.Done
       → Stands scene now (record half { wire = record half.wire { out = wire.out }; stage = Running }) read (record view { written = view.written ++ half.wire.out.items })
   put_whole wire same empty appends rose tries = record {
-    moved = moved_on scene was now half read view.written half.wire.out.items 0 p.moved same_left same_reads appends rose tries;
+    moved = moved_on scene was now half read view.written half.wire.out.items 0 p.moved same_left same_reads same_session appends rose tries;
     limits = p.limits;
     within = p.within;
     keeps = record {
@@ -99,7 +99,7 @@ module _ (scene : Scene) (was now : LineState) (half : ConnHalf) (read : List �
       → TriesWrites was.writes now.writes n (wrote.Failed n)
       → Stands scene now (record half { wire = record half.wire { out = wire.out }; stage = Cut (WriteFailed n) }) read (record view { written = view.written ++ take n half.wire.out.items })
   put_part n wire less appends rose tries = record {
-    moved = moved_on scene was now half read view.written (take n half.wire.out.items) 1 p.moved same_left same_reads appends rose
+    moved = moved_on scene was now half read view.written (take n half.wire.out.items) 1 p.moved same_left same_reads same_session appends rose
         (tries_front was.writes now.writes n half.wire.out.items less tries);
     limits = p.limits;
     within = p.within;

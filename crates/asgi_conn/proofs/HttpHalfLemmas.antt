@@ -1,16 +1,10 @@
 -- The connection's half of an HTTP exchange, as its runner sees it.
-use Rattle.std.proofs.Common.{◌≡◌, ℕ, List, Option, Some, None, refl, subst}
+use Rattle.std.proofs.Common.{◌≡◌, refl}
 use Rattle.std.specs.Prelude.{IsSome}
-use Rattle.asgi_types.specs.declared.limits.Limits.{Limits}
-use Rattle.asgi_exchange.specs.Halves.{ConnKeeps}
-use Rattle.asgi_exchange.specs.Http.{http}
-use Rattle.asgi_exchange.specs.Views.{ConnView}
 use Rattle.asgi_conversation.specs.declared.following.Following.{Following}
-use Rattle.asgi_conn.specs.declared.half.ConnHalf.{ConnHalf}
 use Rattle.asgi_conn.specs.declared.half.Stage.{Stage}
 use Rattle.asgi_conn.specs.declared.half.Stage.TheVariants.{Running, Ending, Cut, Over}
-use Rattle.asgi_conn.specs.HttpHalf.{HttpScene, StandsIn, following_of}
-use Rattle.asgi_conn.specs.Lines.{LineState}
+use Rattle.asgi_conn.specs.HttpHalf.{following_of}
 
 pub over_at : (stage : Stage) → IsSome (following_of stage) → (following : Following) × (stage ≡ Over following)
 over_at (Over following) some_ = (following, refl)

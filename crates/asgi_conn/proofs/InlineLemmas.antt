@@ -1,5 +1,5 @@
 -- Turn after turn, the connection's half leads on, and the application's side goes on.
-use Rattle.std.proofs.Common.{◌≡◌, ℕ, ◌+◌, ◌⊎◌, inl, inr, arith, List, [], ◌++◌, Option, Some, None, IsSomeAnd, refl, sym, ap, ◌∙◌, subst, append_assoc}
+use Rattle.std.proofs.Common.{◌≡◌, ℕ, ◌+◌, ◌⊎◌, inl, inr, arith, List, [], Option, Some, None, IsSomeAnd, refl, sym, ap, ◌∙◌, subst}
 use Rattle.std.specs.Prelude.{◌<◌, IsSome, is_some}
 use Rattle.std.proofs.lemmas.List.{append-nil}
 use Rattle.asgi_types.specs.declared.end_kind.EndKind.{EndKind}

@@ -14,6 +14,11 @@ use Rattle.asgi_io.specs.Answers.{answer_of, passes, bytes_of, moved}
 use Rattle.asgi_io.specs.declared.write.Wrote.TheVariants as wrote
 use Rattle.asgi_io.specs.Counting.{RoseBy}
 use Rattle.asgi_io.specs.Writing.{IsEnd, IsPart, Part, TriesWrites, part_answers}
+use Rattle.asgi_ws.specs.declared.messages.Msg.{Msg}
+use Rattle.asgi_ws.specs.declared.messages.Got.{Got}
+use Rattle.asgi_ws.specs.declared.messages.Put.{Put}
+use Rattle.asgi_ws.specs.declared.messages.Handed.{Handed}
+use Rattle.asgi_ws.specs.Sides.{Session}
 use Rattle.asgi_io.proofs.BytesLemmas.{Appends-then, Consumes-nothing, Consumes-then}
 use Rattle.asgi_io.proofs.CountLemmas.{rose_after}
 use Rattle.asgi_io.proofs.WriteLemmas.{moved_some, moved_none, paused, failed}
@@ -21,6 +26,17 @@ use Rattle.asgi_conversation.specs.declared.input.InputEnd.{InputEnd}
 use Rattle.asgi_conversation.specs.declared.input.InputEnd.TheVariants.{OpenStill, AtEnd, Failed}
 use Rattle.asgi_conn.specs.Lines.{LineState, HasMoved, EndsAs, GoesOn, how_wrote, input_behind, piece_size}
 use Rattle.asgi_conversation.specs.TaskEnds.{has_ended}
+
+-- ---- the session
+
+-- it is as it was, where each part is
+pub session_is : (old new : Session)
+    → (new.read_answers ≡ old.read_answers) × ((new.send_answers ≡ old.send_answers) × ((new.coming ≡ old.coming) × (new.leftover ≡ old.leftover))) → new ≡ old
+session_is old new same =
+    ap (λ (l : List Got). record new { read_answers = l }) same.0
+    ∙ (ap (λ (l : List (Handed × Put)). record new { read_answers = old.read_answers; send_answers = l }) same.1.0
+    ∙ (ap (λ (o : Option (List Msg)). record old { coming = o; leftover = new.leftover }) same.1.1.0
+    ∙ ap (λ (o : Option (List ℕ)). record old { leftover = o }) same.1.1.1))
 
 -- ---- one read
 
@@ -95,9 +111,9 @@ sum_more answers a read piece sum size = omega (arith, sum_by-append bytes_of an
 -- the input is still open: one more read
 pub moved_by_read : (start : LineState) (old new : LineState) (read written : List ℕ) (failures : ℕ) (buffer : List ℕ) (a : Answer)
     → HasMoved start old OpenStill read written failures → Gave old.left new.left buffer a → new.reads ≡ old.reads ++ a ∷ []
-    → new.written ≡ old.written → new.writes ≡ old.writes → new.failed ≡ old.failed
+    → new.written ≡ old.written → new.writes ≡ old.writes → new.failed ≡ old.failed → new.session ≡ old.session
     → HasMoved start new (input_behind OpenStill a) (read ++ take (bytes_of a) buffer) written failures
-moved_by_read start old new read written failures buffer a x y told same_written same_writes same_failed = record {
+moved_by_read start old new read written failures buffer a x y told same_written same_writes same_failed same_session = record {
   consumes = Consumes-then start.left old.left new.left read (take (bytes_of a) buffer) x.consumes y.consumes;
   appends = subst (λ (w : Option (List ℕ)). Appends start.written w written) (sym same_written) x.appends;
   answers = x.answers ++ a ∷ [];
@@ -106,17 +122,18 @@ moved_by_read start old new read written failures buffer a x y told same_written
   ends = ends_more x.answers a old.left new.left x.ends y.ends;
   tries = subst (λ (l : List Answer). TriesWrites start.writes l (length written) (how_wrote failures (length written))) (sym same_writes) x.tries;
   failed = subst (λ (n : ℕ). RoseBy failures start.failed n) (sym same_failed) x.failed;
+  quiet = same_session ∙ x.quiet;
 }
 
 -- the same, where the input is told by a test
 pub moved_by_open_read : (start : LineState) (old new : LineState) (end : InputEnd) (read written : List ℕ) (failures : ℕ) (buffer : List ℕ) (a : Answer) → has_ended end ≡ false
     → HasMoved start old end read written failures → Gave old.left new.left buffer a → new.reads ≡ old.reads ++ a ∷ []
-    → new.written ≡ old.written → new.writes ≡ old.writes → new.failed ≡ old.failed
+    → new.written ≡ old.written → new.writes ≡ old.writes → new.failed ≡ old.failed → new.session ≡ old.session
     → HasMoved start new (input_behind end a) (read ++ take (bytes_of a) buffer) written failures
-moved_by_open_read start old new OpenStill read written failures buffer a still x y told same_written same_writes same_failed =
-    moved_by_read start old new read written failures buffer a x y told same_written same_writes same_failed
-moved_by_open_read start old new AtEnd read written failures buffer a still x y told same_written same_writes same_failed = cc
-moved_by_open_read start old new Failed read written failures buffer a still x y told same_written same_writes same_failed = cc
+moved_by_open_read start old new OpenStill read written failures buffer a still x y told same_written same_writes same_failed same_session =
+    moved_by_read start old new read written failures buffer a x y told same_written same_writes same_failed same_session
+moved_by_open_read start old new AtEnd read written failures buffer a still x y told same_written same_writes same_failed same_session = cc
+moved_by_open_read start old new Failed read written failures buffer a still x y told same_written same_writes same_failed same_session = cc
 
 -- ---- a write
 
@@ -157,10 +174,10 @@ ends_with : (end : InputEnd) (answers : List Answer) (left next : Option (List �
 ends_with end answers left next same x = subst (λ (l : Option (List ℕ)). EndsAs end answers l) (sym same) x
 
 pub moved_by_write : (start : LineState) (old new : LineState) (end : InputEnd) (read written text : List ℕ) (failures : ℕ)
-    → HasMoved start old end read written 0 → new.left ≡ old.left → new.reads ≡ old.reads → Appends old.written new.written text → RoseBy failures old.failed new.failed
+    → HasMoved start old end read written 0 → new.left ≡ old.left → new.reads ≡ old.reads → new.session ≡ old.session → Appends old.written new.written text → RoseBy failures old.failed new.failed
     → TriesWrites old.writes new.writes (length text) (how_wrote failures (length text))
     → HasMoved start new end read (written ++ text) failures
-moved_by_write start old new end read written text failures x same_left same_reads appends rose tries = record {
+moved_by_write start old new end read written text failures x same_left same_reads same_session appends rose tries = record {
   consumes = subst (λ (l : Option (List ℕ)). Consumes start.left l read) (sym same_left) x.consumes;
   appends = Appends-then start.written old.written new.written written text x.appends appends;
   answers = x.answers;
@@ -170,4 +187,5 @@ moved_by_write start old new end read written text failures x same_left same_rea
   tries = subst (λ (k : ℕ). TriesWrites start.writes new.writes k (how_wrote failures k)) (sym (length-append written text))
       (tries_then start.writes old.writes new.writes (length written) (length text) failures x.tries tries);
   failed = rose_after failures start.failed old.failed new.failed x.failed rose;
+  quiet = same_session ∙ x.quiet;
 }

@@ -105,6 +105,7 @@ moved_nothing start end still = subst (λ (e : InputEnd). HasMoved start start e
   ends = All-nil lines.GoesOn;
   tries = tries_all start.writes start.writes 0 (no_parts start.writes);
   failed = never_fell start.failed;
+  quiet = refl;
 })
 
 module _ (answers : Scope → List Incoming → List Outgoing → Option EndKind → Type 0) (limits : Limits) (client server : Option Peer) (state : List (List ℕ × StateValue)) where

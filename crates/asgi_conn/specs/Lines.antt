@@ -7,6 +7,8 @@ use Rattle.asgi_io.specs.declared.counts.Counts as counts
 use Rattle.asgi_io.specs.declared.reads.Reads as reads
 use Rattle.asgi_io.specs.declared.write.Wrote.{Wrote}
 use Rattle.asgi_io.specs.declared.write.Wrote.TheVariants as wrote
+use Rattle.asgi_ws.specs.declared.messages.Messages as messages
+use Rattle.asgi_ws.specs.Sides.{Session}
 use Rattle.asgi_io.specs.Answers.{moved}
 use Rattle.asgi_io.specs.Counting.{RoseBy}
 use Rattle.asgi_io.specs.Writing.{TriesWrites}
@@ -22,9 +24,21 @@ pub record LineState : Type 0 where
   pub written : Option (List ℕ)
   pub writes : List Answer
   pub failed : ℕ
+  -- its session: how each read of a message and each send was answered, the messages to come, and what `upgrade` kept
+  pub session : Session
 
-abbrev pub state_of : {L : Type 0} → reads.Ghosts L → counts.Ghosts L → L → LineState
-state_of R W line = record { left = R.remaining line; reads = R.answers line; written = W.written line; writes = W.answers line; failed = W.failed line }
+abbrev pub session_of : {L : Type 0} → messages.Ghosts L → L → Session
+session_of M line = record { read_answers = M.read_answers line; send_answers = M.send_answers line; coming = M.coming line; leftover = M.leftover line }
+
+abbrev pub state_of : {L : Type 0} → reads.Ghosts L → counts.Ghosts L → messages.Ghosts L → L → LineState
+state_of R W M line = record {
+  left = R.remaining line;
+  reads = R.answers line;
+  written = W.written line;
+  writes = W.answers line;
+  failed = W.failed line;
+  session = session_of M line;
+}
 
 -- the most bytes that one turn reads
 abbrev pub piece_size : ℕ
@@ -67,6 +81,8 @@ pub record HasMoved (start now : LineState) (end : InputEnd) (read written : Lis
   -- the writes that took these bytes: part by part, each behind at most 1,000 pauses in a row, and none behind one that failed
   pub tries : TriesWrites start.writes now.writes (length written) (how_wrote failures (length written))
   pub failed : RoseBy failures start.failed now.failed
+  -- no message was read or sent, and the line was not upgraded
+  pub quiet : now.session ≡ start.session
 
 -- ---- what the private functions of writing tell: no promise is stated by it
 

@@ -31,7 +31,6 @@ ghost use Rattle.asgi_conn.specs.Running.{OfEnd, MayRun, IsOpened};
 ghost use Rattle.asgi_conn.specs.Serving.{Serves};
 
 use crate::half::{ConnHalf, Stage};
-use crate::line::Line;
 use crate::runner::{AppSide, Runner};
 use crate::tally::Tally;
 use crate::wire::{Wire, write};
@@ -42,6 +41,7 @@ use asgi_pipes::{AppEnd, EndKind, Pipes};
 use asgi_request::Next;
 use asgi_response::{ResponseText, refusal_text};
 use asgi_types::{Facts, Framing, Kind, Limits, Peer, Scope, State};
+use asgi_ws::Line;
 use std::alloc::{AllocError, Global};
 
 /// The status that answers an opening handshake, since no sessions are served (RFC 9110, section 15.6.2).
@@ -95,7 +95,7 @@ pub fn serve_connection<H: AllocGlobal, A: Application, L: Line, U: Runner, P: P
     pause: &mut P,
 ) -> Report
     ensures { Serves (A.answers app.now) limits.now client.now server.now state.now
-        (state_of L.Reads L.Counts line.old) (state_of L.Reads L.Counts line.new) (P.count pause.old) (P.count pause.new) result }
+        (state_of L.Reads L.Counts L.Messages.own line.old) (state_of L.Reads L.Counts L.Messages.own line.new) (P.count pause.old) (P.count pause.new) result }
 {
     let mut tally = Tally {
         exchanges: 0,
@@ -130,10 +130,10 @@ fn step<A: Application, L: Line, U: Runner, P: Pause>(
     tally: &mut Tally,
 ) -> Place
     requires between { IsBetween place }
-    requires stands { (limits : Limits) × (start : LineState) × Serving (A.answers app.now) limits client.now server.now state.now start (state_of L.Reads L.Counts line.old) tally.old place }
+    requires stands { (limits : Limits) × (start : LineState) × Serving (A.answers app.now) limits client.now server.now state.now start (state_of L.Reads L.Counts L.Messages.own line.old) tally.old place }
     requires room { HasRoom tally.old }
-    ensures serves { (limits : Limits) (start : LineState) → Serving (A.answers app.now) limits client.now server.now state.now start (state_of L.Reads L.Counts line.old) tally.old place
-        → Serving (A.answers app.now) limits client.now server.now state.now start (state_of L.Reads L.Counts line.new) tally.new result }
+    ensures serves { (limits : Limits) (start : LineState) → Serving (A.answers app.now) limits client.now server.now state.now start (state_of L.Reads L.Counts L.Messages.own line.old) tally.old place
+        → Serving (A.answers app.now) limits client.now server.now state.now start (state_of L.Reads L.Counts L.Messages.own line.new) tally.new result }
     ensures room { IsBetween result → HasRoom tally.new }
     ensures takes { IsBetween result → tally.old.turns.turns < tally.new.turns.turns }
     ensures idle { result ≡ Place.Ended Outcome.Idle → IsAtLimit tally.new.turns }
@@ -221,8 +221,8 @@ fn copy_of(peer: &Option<Peer>, alloc: Global) -> Result<Option<Peer>, AllocErro
 /// Reads on where no result is there, or ends the connection at the end of the input or at a limit.
 fn wait<L: Line, P: Pause>(wire: Wire, line: &mut L, pause: &mut P, turns: &mut Turns) -> Place
     ensures waits { (limits : Limits) (start : LineState) (read : List ℕ) (given : List Next) (exchanges : List Exchanged) (behind written : List ℕ)
-        → Rests limits start (state_of L.Reads L.Counts line.old) wire read given exchanges behind written → AllGiven wire.requests read given
-        → (more : List ℕ) × IsAt result limits start (state_of L.Reads L.Counts line.new) (read ++ more) exchanges written }
+        → Rests limits start (state_of L.Reads L.Counts L.Messages.own line.old) wire read given exchanges behind written → AllGiven wire.requests read given
+        → (more : List ℕ) × IsAt result limits start (state_of L.Reads L.Counts L.Messages.own line.new) (read ++ more) exchanges written }
     ensures takes { IsBetween result → turns.old.turns < turns.new.turns }
     ensures idle { result ≡ Place.Ended Outcome.Idle → IsAtLimit turns.new }
     ensures counts { (turned : List Turn) (pauses : ℕ) → CountsTurns turns.old.turn_limit turns.old.idle_limit turned pauses (P.count pause.old) turns.old.turns turns.old.idle
@@ -279,8 +279,8 @@ fn is_blank(bytes: &[u8]) -> bool
 fn refuse<L: Line>(status: u16, line: &mut L) -> Place
     requires { IsTrue (is_refusal status) }
     ensures refuses { (limits : Limits) (start : LineState) (wire : Wire) (read : List ℕ) (given : List Next) (exchanges : List Exchanged) (behind written : List ℕ)
-        → Rests limits start (state_of L.Reads L.Counts line.old) wire read given exchanges behind written → RefusesWith limits behind status
-        → (text : List ℕ) × IsAt result limits start (state_of L.Reads L.Counts line.new) read exchanges (written ++ text) }
+        → Rests limits start (state_of L.Reads L.Counts L.Messages.own line.old) wire read given exchanges behind written → RefusesWith limits behind status
+        → (text : List ℕ) × IsAt result limits start (state_of L.Reads L.Counts L.Messages.own line.new) read exchanges (written ++ text) }
     ensures ends { ¬ (IsBetween result) }
     ensures not_idle { result ≢ Place.Ended Outcome.Idle }
 {
@@ -307,9 +307,9 @@ fn answer<A: Application, L: Line, U: Runner, P: Pause>(
     requires http { kind_of scope.now ≡ Http }
     requires plain { facts.framing ≢ Framing.Upgrade }
     ensures serves { (scene : Scene) (client server : Option Peer) (state : List (List ℕ × StateValue)) (read arrived : List ℕ)
-        → scope.now ≡ scope_with scene.scope client server state → Opens scene (state_of L.Reads L.Counts line.old) wire facts read arrived
+        → scope.now ≡ scope_with scene.scope client server state → Opens scene (state_of L.Reads L.Counts L.Messages.own line.old) wire facts read arrived
         → ArePromised (A.answers app.now) client server state scene.exchanges → IsTallied tally.old scene.exchanges
-        → Serving (A.answers app.now) wire.limits client server state scene.start (state_of L.Reads L.Counts line.new) tally.new result }
+        → Serving (A.answers app.now) wire.limits client server state scene.start (state_of L.Reads L.Counts L.Messages.own line.new) tally.new result }
     ensures room { IsBetween result → HasRoom tally.new }
     ensures takes { IsBetween result → tally.old.turns.turns < tally.new.turns.turns }
     ensures idle { result ≡ Place.Ended Outcome.Idle → IsAtLimit tally.new.turns }

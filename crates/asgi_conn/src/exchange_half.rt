@@ -14,9 +14,9 @@ ghost use Rattle.asgi_conn.specs.Limits.{IsSettled};
 ghost use Rattle.asgi_conn.specs.Lines.{LineState, state_of};
 
 use crate::half::ConnHalf;
-use crate::line::Line;
 use asgi_io::Turn;
 use asgi_pipes::ConnEnd;
+use asgi_ws::Line;
 
 /// The connection's half of one exchange, as a runner sees it. It knows its own end of the pair alone.
 pub trait Half {
@@ -38,7 +38,7 @@ pub trait Half {
 
     /// Takes one turn, and says whether it moved anything. Where the application goes on nothing is read.
     fn turn<L: Line, C: ConnEnd>(&mut self, line: &mut L, end: &mut C, app_goes_on: bool) -> Turn
-        ensures leads { LeadsOn stands (state_of L.Reads L.Counts line.old) self.old (IsViewOf C.ConnEnd end.old) (state_of L.Reads L.Counts line.new) self.new (IsViewOf C.ConnEnd end.new) }
+        ensures leads { LeadsOn stands (state_of L.Reads L.Counts L.Messages.own line.old) self.old (IsViewOf C.ConnEnd end.old) (state_of L.Reads L.Counts L.Messages.own line.new) self.new (IsViewOf C.ConnEnd end.new) }
         ensures over { IsSome (following self.old) → self.new ≡ self.old }
         ensures tag { (C.tag end.new ≡ C.tag end.old) × (C.ring end.new ≡ C.ring end.old) };
 

@@ -21,7 +21,6 @@ ghost use Rattle.asgi_conversation.specs.declared.following.Following.{Following
 ghost use Rattle.asgi_conversation.specs.declared.following.Following.TheVariants.{NextRequest};
 ghost use Rattle.asgi_conversation.specs.TaskEnds.{has_ended};
 
-use crate::line::Line;
 use crate::wire::Wire;
 use asgi_conversation::{Following, InputEnd, Outcome, after_task};
 use asgi_io::Turn;
@@ -29,6 +28,7 @@ use asgi_pipes::{ConnEnd, EndKind, OutItem};
 use asgi_request::Next;
 use asgi_response::{Input, Progress, ResponseText};
 use asgi_types::{Facts, Incoming, Outgoing};
+use asgi_ws::Line;
 use std::alloc::AllocError;
 use std::mem;
 
@@ -77,8 +77,8 @@ pub struct ConnHalf {
 impl ConnHalf {
     /// Begins an exchange: a client that waits for `100 Continue` is told to go on.
     pub fn begin<L: Line>(wire: Wire, text: ResponseText, line: &mut L) -> ConnHalf
-        ensures begins { (scene : Scene) (facts : Facts) (read arrived : List ℕ) → Opens scene (state_of L.Reads L.Counts line.old) wire facts read arrived → standing.StandsFor text facts []
-            → (written : List ℕ) × Stands scene (state_of L.Reads L.Counts line.new) result read (record empty_conn { arrived = arrived; written = written }) }
+        ensures begins { (scene : Scene) (facts : Facts) (read arrived : List ℕ) → Opens scene (state_of L.Reads L.Counts L.Messages.own line.old) wire facts read arrived → standing.StandsFor text facts []
+            → (written : List ℕ) × Stands scene (state_of L.Reads L.Counts L.Messages.own line.new) result read (record empty_conn { arrived = arrived; written = written }) }
         ensures limits { result.wire.limits ≡ wire.limits }
         ensures open { (following : Following) → result.stage ≢ Stage.Over following }
     {
@@ -104,7 +104,7 @@ impl ConnHalf {
         end: &mut C,
         app_goes_on: bool,
     ) -> Turn
-        ensures leads { Leads (state_of L.Reads L.Counts line.old) self.old (IsViewOf C.ConnEnd end.old) (state_of L.Reads L.Counts line.new) self.new (IsViewOf C.ConnEnd end.new) }
+        ensures leads { Leads (state_of L.Reads L.Counts L.Messages.own line.old) self.old (IsViewOf C.ConnEnd end.old) (state_of L.Reads L.Counts L.Messages.own line.new) self.new (IsViewOf C.ConnEnd end.new) }
         ensures over { (following : Following) → self.old.stage ≡ Stage.Over following → self.new ≡ self.old }
         ensures tag { (C.tag end.new ≡ C.tag end.old) × (C.ring end.new ≡ C.ring end.old) }
         ensures limits { self.new.wire.limits ≡ self.old.wire.limits }
@@ -132,7 +132,7 @@ impl ConnHalf {
     /// application does not go on. Where it takes the end of the task it winds up in the same turn.
     fn run<L: Line, C: ConnEnd>(&mut self, line: &mut L, end: &mut C, app_goes_on: bool) -> Turn
         requires { self.old.stage ≡ Stage.Running }
-        ensures leads { Leads (state_of L.Reads L.Counts line.old) self.old (IsViewOf C.ConnEnd end.old) (state_of L.Reads L.Counts line.new) self.new (IsViewOf C.ConnEnd end.new) }
+        ensures leads { Leads (state_of L.Reads L.Counts L.Messages.own line.old) self.old (IsViewOf C.ConnEnd end.old) (state_of L.Reads L.Counts L.Messages.own line.new) self.new (IsViewOf C.ConnEnd end.new) }
         ensures tag { (C.tag end.new ≡ C.tag end.old) × (C.ring end.new ≡ C.ring end.old) }
         ensures limits { self.new.wire.limits ≡ self.old.wire.limits }
     {
@@ -157,7 +157,7 @@ impl ConnHalf {
 
     /// Takes all that is there, and writes what it adds.
     fn take_all<L: Line, C: ConnEnd>(&mut self, line: &mut L, end: &mut C) -> bool
-        ensures leads { Leads (state_of L.Reads L.Counts line.old) self.old (IsViewOf C.ConnEnd end.old) (state_of L.Reads L.Counts line.new) self.new (IsViewOf C.ConnEnd end.new) }
+        ensures leads { Leads (state_of L.Reads L.Counts L.Messages.own line.old) self.old (IsViewOf C.ConnEnd end.old) (state_of L.Reads L.Counts L.Messages.own line.new) self.new (IsViewOf C.ConnEnd end.new) }
         ensures tag { (C.tag end.new ≡ C.tag end.old) × (C.ring end.new ≡ C.ring end.old) }
         ensures limits { self.new.wire.limits ≡ self.old.wire.limits }
     {
@@ -177,7 +177,7 @@ impl ConnHalf {
     /// Takes the next item, and writes what it adds. The answer says whether there was one.
     fn take_one<L: Line, C: ConnEnd>(&mut self, line: &mut L, end: &mut C) -> bool
         requires { self.old.stage ≡ Stage.Running }
-        ensures leads { Leads (state_of L.Reads L.Counts line.old) self.old (IsViewOf C.ConnEnd end.old) (state_of L.Reads L.Counts line.new) self.new (IsViewOf C.ConnEnd end.new) }
+        ensures leads { Leads (state_of L.Reads L.Counts L.Messages.own line.old) self.old (IsViewOf C.ConnEnd end.old) (state_of L.Reads L.Counts L.Messages.own line.new) self.new (IsViewOf C.ConnEnd end.new) }
         ensures tag { (C.tag end.new ≡ C.tag end.old) × (C.ring end.new ≡ C.ring end.old) }
         ensures limits { self.new.wire.limits ≡ self.old.wire.limits }
     {
@@ -197,8 +197,8 @@ impl ConnHalf {
     /// Writes what an event adds.
     fn say<L: Line>(&mut self, event: &Outgoing, line: &mut L)
         requires { self.old.stage ≡ Stage.Running }
-        ensures says { (scene : Scene) (read : List ℕ) (view : ConnView ℕ ℕ) → Stands scene (state_of L.Reads L.Counts line.old) self.old read view
-            → (written : List ℕ) × Stands scene (state_of L.Reads L.Counts line.new) self.new read (record view { got = view.got ++ OutItem.Event event.now ∷ []; written = written }) }
+        ensures says { (scene : Scene) (read : List ℕ) (view : ConnView ℕ ℕ) → Stands scene (state_of L.Reads L.Counts L.Messages.own line.old) self.old read view
+            → (written : List ℕ) × Stands scene (state_of L.Reads L.Counts L.Messages.own line.new) self.new read (record view { got = view.got ++ OutItem.Event event.now ∷ []; written = written }) }
         ensures limits { self.new.wire.limits ≡ self.old.wire.limits }
     {
         match self.text.take(event, &mut self.wire.out) {
@@ -209,8 +209,8 @@ impl ConnHalf {
 
     /// Writes the text in hand.
     fn put<L: Line>(&mut self, line: &mut L)
-        ensures puts { (scene : Scene) (read : List ℕ) (view : ConnView ℕ ℕ) → Pending scene (state_of L.Reads L.Counts line.old) self.old read view
-            → (written : List ℕ) × Stands scene (state_of L.Reads L.Counts line.new) self.new read (record view { written = written }) }
+        ensures puts { (scene : Scene) (read : List ℕ) (view : ConnView ℕ ℕ) → Pending scene (state_of L.Reads L.Counts L.Messages.own line.old) self.old read view
+            → (written : List ℕ) × Stands scene (state_of L.Reads L.Counts L.Messages.own line.new) self.new read (record view { written = written }) }
         ensures limits { self.new.wire.limits ≡ self.old.wire.limits }
         ensures open { (following : Following) → self.new.stage ≡ Stage.Over following → self.old.stage ≡ Stage.Over following }
     {
@@ -343,7 +343,7 @@ impl ConnHalf {
     fn read<L: Line>(&mut self, line: &mut L) -> Turn
         requires running { self.old.stage ≡ Stage.Running }
         requires asked { HasAsked self.old }
-        ensures leads { LeadsOut (state_of L.Reads L.Counts line.old) self.old (state_of L.Reads L.Counts line.new) self.new }
+        ensures leads { LeadsOut (state_of L.Reads L.Counts L.Messages.own line.old) self.old (state_of L.Reads L.Counts L.Messages.own line.new) self.new }
         ensures limits { self.new.wire.limits ≡ self.old.wire.limits }
     {
         if !self.reads_on() {
@@ -382,7 +382,7 @@ impl ConnHalf {
     /// read and dropped first.
     fn wind_up<L: Line>(&mut self, kind: EndKind, line: &mut L) -> Turn
         requires { self.old.stage ≡ Stage.Ending kind }
-        ensures leads { LeadsOut (state_of L.Reads L.Counts line.old) self.old (state_of L.Reads L.Counts line.new) self.new }
+        ensures leads { LeadsOut (state_of L.Reads L.Counts L.Messages.own line.old) self.old (state_of L.Reads L.Counts L.Messages.own line.new) self.new }
         ensures limits { self.new.wire.limits ≡ self.old.wire.limits }
     {
         let progress = self.text.progress();
@@ -403,7 +403,7 @@ impl ConnHalf {
         requires ending { self.old.stage ≡ Stage.Ending kind }
         requires progress { (facts : Facts) (said : List Outgoing) → standing.StandsFor self.old.text facts said → progress ≡ progress_of facts said }
         requires asked { HasAsked self.old }
-        ensures leads { LeadsOut (state_of L.Reads L.Counts line.old) self.old (state_of L.Reads L.Counts line.new) self.new }
+        ensures leads { LeadsOut (state_of L.Reads L.Counts L.Messages.own line.old) self.old (state_of L.Reads L.Counts L.Messages.own line.new) self.new }
         ensures limits { self.new.wire.limits ≡ self.old.wire.limits }
     {
         match self.body {
@@ -456,7 +456,7 @@ impl ConnHalf {
         requires ending { (kind : EndKind) × (self.old.stage ≡ Stage.Ending kind) }
         requires open { self.old.body ≡ Body.Open }
         requires asked { HasAsked self.old }
-        ensures leads { LeadsOut (state_of L.Reads L.Counts line.old) self.old (state_of L.Reads L.Counts line.new) self.new }
+        ensures leads { LeadsOut (state_of L.Reads L.Counts L.Messages.own line.old) self.old (state_of L.Reads L.Counts L.Messages.own line.new) self.new }
         ensures limits { self.new.wire.limits ≡ self.old.wire.limits }
     {
         if self.wire.input.has_ended() {
@@ -476,7 +476,7 @@ impl ConnHalf {
         requires ending { self.old.stage ≡ Stage.Ending kind }
         requires progress { (facts : Facts) (said : List Outgoing) → standing.StandsFor self.old.text facts said → progress ≡ progress_of facts said }
         requires known { NeedsBody kind progress self.old.broke → IsSettled self.old.body }
-        ensures leads { LeadsOut (state_of L.Reads L.Counts line.old) self.old (state_of L.Reads L.Counts line.new) self.new }
+        ensures leads { LeadsOut (state_of L.Reads L.Counts L.Messages.own line.old) self.old (state_of L.Reads L.Counts L.Messages.own line.new) self.new }
         ensures limits { self.new.wire.limits ≡ self.old.wire.limits }
     {
         let input = input_of(&self.body);

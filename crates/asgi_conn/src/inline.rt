@@ -12,13 +12,13 @@ ghost use Rattle.asgi_conn.specs.Lines.{state_of};
 ghost use Rattle.asgi_conn.specs.Running.{OfEnd, MayRun, HasRun, HasPassed, IsOfRequest, EndsIn, GoesOnAs, TagStays};
 
 use crate::exchange_half::Half;
-use crate::line::Line;
 use crate::runner::{AppSide, Runner};
 use asgi_apps::{AppTask, Lent, Running};
 use asgi_exchange::join;
 use asgi_io::{Pause, Turn, Turns};
 use asgi_pipes::{AppEnd, ConnEnd, EndKind, Pipes, Plain, PlainApp, PlainConn};
 use asgi_types::{Facts, Kind};
+use asgi_ws::Line;
 use futures::task::{Context, Poll};
 use std::alloc::{AllocError, Global};
 
@@ -76,9 +76,9 @@ impl<'q> Runner for Inline<'q> {
     ) -> EndKind
         requires pair { OfEnd side (λ app. IsPlainPair end app) }
         requires may { MayRun T.stands ⟦<PlainApp as AppEnd>⟧ side }
-        ensures runs { (scene : H.Scene) (read : List ℕ) (view : ConnView H.In H.Out) → H.stands scene (state_of L.Reads L.Counts line.old) half.old read view
+        ensures runs { (scene : H.Scene) (read : List ℕ) (view : ConnView H.In H.Out) → H.stands scene (state_of L.Reads L.Counts L.Messages.own line.old) half.old read view
             → IsViewOf ⟦<PlainConn as ConnEnd>⟧ end view → OfEnd side (λ app. IsExchangeOf ⟦<PlainApp as AppEnd>⟧ app (H.exchange scene))
-            → (more : List ℕ) × HasRun H.Half T.answers ⟦<PlainApp as AppEnd>⟧ scene (state_of L.Reads L.Counts line.new) half.new (read ++ more) side result }
+            → (more : List ℕ) × HasRun H.Half T.answers ⟦<PlainApp as AppEnd>⟧ scene (state_of L.Reads L.Counts L.Messages.own line.new) half.new (read ++ more) side result }
         ensures over { IsSome (H.following half.new) }
         ensures counts { (turned : List Turn) (pauses : ℕ) → CountsTurns turns.old.turn_limit turns.old.idle_limit turned pauses (P.count pause.old) turns.old.turns turns.old.idle
             → (more : List Turn) × CountsTurns turns.old.turn_limit turns.old.idle_limit (turned ++ more) pauses (P.count pause.new) turns.new.turns turns.new.idle }

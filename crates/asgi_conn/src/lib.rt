@@ -6,7 +6,6 @@ mod exchange_half;
 mod half;
 mod inline;
 pub mod laws;
-mod line;
 mod piece;
 mod runner;
 mod tally;
@@ -14,8 +13,8 @@ mod wire;
 
 pub use asgi_conversation::{Following, InputEnd, Outcome, Report};
 pub use asgi_io::{CountingPause, Pause};
+pub use asgi_ws::Line;
 pub use connection::serve_connection;
 pub use exchange_half::Half;
 pub use inline::Inline;
-pub use line::{Joined, Line};
 pub use runner::{AppSide, Runner};

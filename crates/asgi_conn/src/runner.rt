@@ -10,11 +10,11 @@ ghost use Rattle.asgi_conn.specs.Lines.{state_of};
 ghost use Rattle.asgi_conn.specs.Running.{OfEnd, MayRun, HasRun};
 
 use crate::exchange_half::Half;
-use crate::line::Line;
 use asgi_apps::{AppTask, Running};
 use asgi_io::{Pause, Turns};
 use asgi_pipes::{EndKind, Pipes};
 use asgi_types::{Facts, Kind};
+use asgi_ws::Line;
 use std::alloc::{AllocError, Global};
 
 /// The application's side of an exchange.
@@ -71,9 +71,9 @@ pub trait Runner {
         requires pair { OfEnd side (λ app. Self.Pipes.is_pair end app) }
         requires may { MayRun T.stands Self.Pipes.App.AppEnd side }
         // Wherever the connection stood in an exchange of these ends, it stands behind it.
-        ensures runs { (scene : H.Scene) (read : List ℕ) (view : ConnView H.In H.Out) → H.stands scene (state_of L.Reads L.Counts line.old) half.old read view
+        ensures runs { (scene : H.Scene) (read : List ℕ) (view : ConnView H.In H.Out) → H.stands scene (state_of L.Reads L.Counts L.Messages.own line.old) half.old read view
             → IsViewOf Self.Pipes.Conn.ConnEnd end view → OfEnd side (λ app. IsExchangeOf Self.Pipes.App.AppEnd app (H.exchange scene))
-            → (more : List ℕ) × HasRun H.Half T.answers Self.Pipes.App.AppEnd scene (state_of L.Reads L.Counts line.new) half.new (read ++ more) side result }
+            → (more : List ℕ) × HasRun H.Half T.answers Self.Pipes.App.AppEnd scene (state_of L.Reads L.Counts L.Messages.own line.new) half.new (read ++ more) side result }
         ensures over { IsSome (H.following half.new) }
         ensures counts { (turned : List Turn) (pauses : ℕ) → CountsTurns turns.old.turn_limit turns.old.idle_limit turned pauses (P.count pause.old) turns.old.turns turns.old.idle
             → (more : List Turn) × CountsTurns turns.old.turn_limit turns.old.idle_limit (turned ++ more) pauses (P.count pause.new) turns.new.turns turns.new.idle }

@@ -6,15 +6,15 @@ ghost use Rattle.asgi_io.specs.Counting.{RoseBy};
 ghost use Rattle.asgi_io.specs.Writing.{TriesWrites, out_of};
 ghost use Rattle.asgi_request.specs.declared.next.Next.{Next};
 ghost use Rattle.asgi_request.specs.Reading.{StandsFor};
-ghost use Rattle.asgi_conn.specs.Lines.{LineState, HasMoved, how_put, input_behind, piece_size, state_of};
+ghost use Rattle.asgi_conn.specs.Lines.{LineState, HasMoved, how_put, input_behind, piece_size, session_of, state_of};
 ghost use Rattle.asgi_conversation.specs.TaskEnds.{has_ended};
 
-use crate::line::Line;
 use crate::piece::{PIECE, Piece};
 use asgi_conversation::InputEnd;
 use asgi_io::{Answer, Turn, Wrote, answer_of, write_out};
 use asgi_request::RequestReader;
 use asgi_types::Limits;
+use asgi_ws::Line;
 use std::alloc::{AllocError, Global};
 
 /// What a connection keeps from its first byte to its last.
@@ -50,8 +50,8 @@ impl Wire {
     pub fn read<L: Line>(&mut self, line: &mut L) -> Result<Turn, AllocError>
         requires { has_ended self.old.input ≡ false }
         ensures moved { (more : List ℕ)
-            × ((start : LineState) (read written : List ℕ) (failures : ℕ) → HasMoved start (state_of L.Reads L.Counts line.old) self.old.input read written failures
-            → HasMoved start (state_of L.Reads L.Counts line.new) self.new.input (read ++ more) written failures)
+            × ((start : LineState) (read written : List ℕ) (failures : ℕ) → HasMoved start (state_of L.Reads L.Counts L.Messages.own line.old) self.old.input read written failures
+            → HasMoved start (state_of L.Reads L.Counts L.Messages.own line.new) self.new.input (read ++ more) written failures)
             × OnOk result ((bytes : List ℕ) (given : List Next) → StandsFor self.old.requests bytes given → StandsFor self.new.requests (bytes ++ more) given)
             × (length more ≤ piece_size) }
         ensures same { self.new ≡ record self.old { requests = self.new.requests; input = self.new.input } }
@@ -97,6 +97,7 @@ impl Wire {
         ensures some { IfSome result (λ n. (n < length self.old.out.items) × Appends (L.written line.old) (L.written line.new) (take n self.old.out.items) × RoseBy 1 (L.failed line.old) (L.failed line.new)) }
         ensures tries { TriesWrites (L.Counts.answers line.old) (L.Counts.answers line.new) (out_of self.old.out.items (how_put result)) (how_put result) }
         ensures reads { (L.remaining line.new ≡ L.remaining line.old) × (L.Reads.answers line.new ≡ L.Reads.answers line.old) }
+        ensures session { session_of L.Messages.own line.new ≡ session_of L.Messages.own line.old }
         ensures same { self.new ≡ record self.old { out = self.new.out } }
         ensures empty { self.new.out.items ≡ [] }
     {
@@ -112,6 +113,7 @@ pub fn write<L: Line>(line: &mut L, text: &[u8]) -> Option<usize>
     ensures some { IfSome result (λ n. (n < length text.now) × Appends (L.written line.old) (L.written line.new) (take n text.now) × RoseBy 1 (L.failed line.old) (L.failed line.new)) }
     ensures tries { TriesWrites (L.Counts.answers line.old) (L.Counts.answers line.new) (out_of text.now (how_put result)) (how_put result) }
     ensures reads { (L.remaining line.new ≡ L.remaining line.old) × (L.Reads.answers line.new ≡ L.Reads.answers line.old) }
+    ensures session { session_of L.Messages.own line.new ≡ session_of L.Messages.own line.old }
 {
     match write_out(line, text) {
         Wrote::Done => None,

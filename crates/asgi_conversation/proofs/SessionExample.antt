@@ -37,9 +37,10 @@ use Rattle.asgi_request.specs.Scopes.{scope_of}
 use Rattle.asgi_request.specs.Texts.{IsFirstWithin}
 use Rattle.asgi_request.proofs.HeadExamples.{example_limits}
 use Rattle.asgi_request.proofs.TextLemmas.{tells, head_search_for}
-use Rattle.asgi_exchange.specs.Messages.{Text}
-use Rattle.asgi_exchange.specs.Messages as messages
-use Rattle.asgi_exchange.specs.Session.{Output, Byte, Data, Close}
+use Rattle.asgi_ws.specs.declared.messages.Msg.TheVariants.{Text}
+use Rattle.asgi_ws.specs.declared.messages.Msg.TheVariants as messages
+use Rattle.asgi_ws.specs.declared.messages.Handed.TheVariants.{Payload, Close}
+use Rattle.asgi_exchange.specs.Session.{Output, Byte, Message}
 use Rattle.asgi_conversation.specs.declared.input.InputEnd.TheVariants.{OpenStill}
 use Rattle.asgi_conversation.specs.declared.report.Outcome.TheVariants.{Finished, Refused, InputBroke}
 use Rattle.asgi_conversation.specs.declared.report.Report.{Report}
@@ -162,7 +163,7 @@ frame = 129 ∷ 133 ∷ 55 ∷ 250 ∷ 33 ∷ 61 ∷ 127 ∷ 159 ∷ 77 ∷ 81 �
 
 -- the line was given the frame, gave the message, and took it back
 talk : Talk
-talk = record { leftover = Some frame; received = Text hello ∷ []; is_over = true; handed = Data (payload.Text hello) ∷ [] }
+talk = record { leftover = Some frame; received = Text hello ∷ []; is_over = true; handed = Payload (payload.Text hello) ∷ [] }
 
 -- section 1.3
 accepted_text : List ℕ
@@ -201,7 +202,7 @@ is_served = record {
 
 all_is_written : spoken accepted_text talk ≡ session_out echoed
 unfolding echoed talk hello facts digits base64 encode_symbols sha1 digest_bytes
-all_is_written = ap (λ text. map Byte text ++ Data (payload.Text hello) ∷ []) text_is
+all_is_written = ap (λ text. map Byte text ++ Message (Payload (payload.Text hello)) ∷ []) text_is
 
 a_message_is_sent_back : ConversesInSession limits OpenStill (asked_text ++ frame) (echoed ∷ []) talk accepted_text reported
 unfolding reported echoed talk hello
@@ -225,13 +226,13 @@ left_open : EndKind → Exchanged
 left_open kind = record echoed { heard = WsConnect ∷ WsReceive (payload.Text hello) ∷ []; ended = Some kind; broke = false }
 
 handed_back : List Output
-handed_back = map Byte accepted_text ++ Data (payload.Text hello) ∷ []
+handed_back = map Byte accepted_text ++ Message (Payload (payload.Text hello)) ∷ []
 
-returned_closes : (session_out (left_open Returned) ≡ handed_back ++ Close 1000 [] ∷ []) × (after_session Returned echoed.said false talk.received ≡ Finished)
+returned_closes : (session_out (left_open Returned) ≡ handed_back ++ Message (Close 1000 []) ∷ []) × (after_session Returned echoed.said false talk.received ≡ Finished)
 unfolding left_open handed_back echoed talk hello facts accepted_text key digits base64 encode_symbols first_words schedule rounds compress hash_after sha1 digest_bytes
 returned_closes = (refl, refl)
 
-faulted_closes : (session_out (left_open Faulted) ≡ handed_back ++ Close 1011 [] ∷ []) × (after_session Faulted echoed.said false talk.received ≡ Finished)
+faulted_closes : (session_out (left_open Faulted) ≡ handed_back ++ Message (Close 1011 []) ∷ []) × (after_session Faulted echoed.said false talk.received ≡ Finished)
 unfolding left_open handed_back echoed talk hello facts accepted_text key digits base64 encode_symbols first_words schedule rounds compress hash_after sha1 digest_bytes
 faulted_closes = (refl, refl)
 

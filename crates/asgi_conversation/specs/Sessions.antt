@@ -16,9 +16,11 @@ use Rattle.asgi_protocol.specs.Lawful.{IsLawful, IsClosed}
 use Rattle.asgi_protocol.specs.Shapes.{is_closed}
 use Rattle.asgi_pipes.specs.Disconnects.{own_disconnect}
 use Rattle.asgi_request.specs.Opened.{BeginsWithHandshake}
+use Rattle.asgi_ws.specs.declared.messages.Handed.{Handed}
 use Rattle.asgi_ws.specs.Handshake.{handshake_text}
-use Rattle.asgi_exchange.specs.Messages.{Message, has_close, session_events, session_disconnect}
-use Rattle.asgi_exchange.specs.Session.{Output, Byte, Handshake, session_output, session_ending}
+use Rattle.asgi_ws.specs.declared.messages.Msg.{Msg}
+use Rattle.asgi_exchange.specs.Messages.{has_close, session_events, session_disconnect}
+use Rattle.asgi_exchange.specs.Session.{Output, Byte, Message, Handshake, session_output, session_ending}
 use Rattle.asgi_exchange.specs.SessionExchange.{session_text}
 use Rattle.asgi_conversation.specs.declared.input.InputEnd.{InputEnd}
 use Rattle.asgi_conversation.specs.declared.report.Outcome.{Outcome}
@@ -34,10 +36,10 @@ pub record Talk : Type 0 where
   -- the bytes behind the handshake, which the line was given as the first ones of a session
   pub leftover : Option (List ℕ)
   -- the messages that it gave, and whether it said that no more come
-  pub received : List Message
+  pub received : List Msg
   pub is_over : Bool
   -- the messages that it took
-  pub handed : List Output
+  pub handed : List Handed
 
 -- nothing did
 abbrev pub silence : Talk
@@ -45,12 +47,12 @@ silence = record { leftover = None; received = []; is_over = false; handed = [] 
 
 -- the text, and the messages behind it
 abbrev pub spoken : List ℕ → Talk → List Output
-spoken text talk = map Byte text ++ talk.handed
+spoken text talk = map Byte text ++ map Message talk.handed
 
 -- ---- what is heard
 
 -- Why disconnects are heard behind these events, and which ones ("Disconnect").
-pub data IsLeft (cut : Bool) (x : Exchanged) (received : List Message) (first : List Incoming) (disconnect : Incoming) : Type 0 where
+pub data IsLeft (cut : Bool) (x : Exchanged) (received : List Msg) (first : List Incoming) (disconnect : Incoming) : Type 0 where
   -- the application closed, refused or denied the session: its own code where the session was open, else 1006
   ByApplication : IsClosed WebSocket x.said → disconnect ≡ own_disconnect WebSocket x.said → IsLeft cut x received first disconnect
   -- the client closed, or the input ended or failed, and all events were heard: the client's code, 1005 for none, else 1006
@@ -59,7 +61,7 @@ pub data IsLeft (cut : Bool) (x : Exchanged) (received : List Message) (first : 
   ByCut : cut ≡ true → disconnect ≡ WsDisconnect 1006 [] → IsLeft cut x received first disconnect
 
 -- Heard is a beginning of the events of the messages, then equal disconnects, which have a cause where there are any.
-pub record HearsSession (cut : Bool) (x : Exchanged) (received : List Message) : Type 0 where
+pub record HearsSession (cut : Bool) (x : Exchanged) (received : List Msg) : Type 0 where
   pub first : List Incoming
   pub times : ℕ
   pub disconnect : Incoming
@@ -99,12 +101,12 @@ pub record ServesHandshake (limits : Limits) (cut : Bool) (bytes : List ℕ) (x 
 -- ---- what the end of its task makes of the connection
 
 -- A session that the application left open: the server closes it, where neither the client nor the input did before.
-abbrev pub open_outcome : (broke : Bool) → List Message → Outcome
+abbrev pub open_outcome : (broke : Bool) → List Msg → Outcome
 open_outcome false received = Finished
 open_outcome true received = if has_close received then Finished else InputBroke
 
 -- by what was said: the server answers in place of a task that gave no answer, and of one that only began a denial
-abbrev pub session_outcome : List Outgoing → (broke : Bool) → List Message → Outcome
+abbrev pub session_outcome : List Outgoing → (broke : Bool) → List Msg → Outcome
 session_outcome [] broke received = Refused 500
 session_outcome (DenialStart status headers ∷ []) broke received = Refused 500
 session_outcome (WsAccept subprotocol headers ∷ events) broke received =
@@ -112,7 +114,7 @@ session_outcome (WsAccept subprotocol headers ∷ events) broke received =
 session_outcome _ broke received = Finished
 
 -- by how the task ended; one that ended by its limit of turns takes the connection with it
-abbrev pub after_session : EndKind → List Outgoing → (broke : Bool) → List Message → Outcome
+abbrev pub after_session : EndKind → List Outgoing → (broke : Bool) → List Msg → Outcome
 after_session kind.Returned said broke received = session_outcome said broke received
 after_session kind.Faulted said broke received = session_outcome said broke received
 after_session kind.Idle said broke received = Idle

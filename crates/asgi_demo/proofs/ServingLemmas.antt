@@ -1,5 +1,5 @@
 -- One connection was served, with a pause that begins at none and a state that is empty.
-use Rattle.std.proofs.Common.{◌≡◌, ℕ, List, [], Option, None, subst}
+use Rattle.std.proofs.Common.{◌≡◌, ℕ, List, [], None, subst}
 use Rattle.asgi_types.specs.declared.limits.Limits.{Limits}
 use Rattle.asgi_types.specs.declared.state.StateValue.{StateValue}
 use Rattle.asgi_types.specs.Ranges.{AreLimits}

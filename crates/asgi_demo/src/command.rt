@@ -42,8 +42,8 @@ pub fn command<H: RandomSource + AllocGlobal, L: Line, E: Counts>(
     errors: &mut E,
 ) -> u8
     ensures serves { (app : App) → IsOnce (map string_bytes words.now) app → (
-        let before = streams (state_of L.Reads L.Counts line.old) (writer (E.written errors.old) (E.answers errors.old) (E.failed errors.old)) in
-        let after = streams (state_of L.Reads L.Counts line.new) (writer (E.written errors.new) (E.answers errors.new) (E.failed errors.new)) in
+        let before = streams (state_of L.Reads L.Counts L.Messages.own line.old) (writer (E.written errors.old) (E.answers errors.old) (E.failed errors.old)) in
+        let after = streams (state_of L.Reads L.Counts L.Messages.own line.new) (writer (E.written errors.new) (E.answers errors.new) (E.failed errors.new)) in
         (ServesOnce (promise app) before after result) ⊎ (BeginsNone before after result)) }
     ensures usage { ((app : App) → ¬ (IsOnce (map string_bytes words.now) app)) → (result ≡ 2) × Tells telling.usage
         (writer (E.written errors.old) (E.answers errors.old) (E.failed errors.old))
@@ -116,8 +116,8 @@ fn once<H: RandomSource + AllocGlobal, A: Application, L: Line, E: Counts>(
     line: &mut L,
     errors: &mut E,
 ) -> u8
-    ensures { let before = streams (state_of L.Reads L.Counts line.old) (writer (E.written errors.old) (E.answers errors.old) (E.failed errors.old)) in
-        let after = streams (state_of L.Reads L.Counts line.new) (writer (E.written errors.new) (E.answers errors.new) (E.failed errors.new)) in
+    ensures { let before = streams (state_of L.Reads L.Counts L.Messages.own line.old) (writer (E.written errors.old) (E.answers errors.old) (E.failed errors.old)) in
+        let after = streams (state_of L.Reads L.Counts L.Messages.own line.new) (writer (E.written errors.new) (E.answers errors.new) (E.failed errors.new)) in
         (ServesOnce (A.answers app.now) before after result) ⊎ (BeginsNone before after result) }
 {
     let Ok(solo) = Solo::new(rt, Doorbell::spinning()) else {
@@ -134,7 +134,7 @@ fn serve<H: AllocGlobal, A: Application, L: Line>(
     app: &A,
     line: &mut L,
 ) -> Report
-    ensures { ServesWhole (A.answers app.now) (state_of L.Reads L.Counts line.old) (state_of L.Reads L.Counts line.new) result }
+    ensures { ServesWhole (A.answers app.now) (state_of L.Reads L.Counts L.Messages.own line.old) (state_of L.Reads L.Counts L.Messages.own line.new) result }
 {
     let limits = Limits::usual();
     let state = State::new(rt.alloc());

@@ -5,9 +5,9 @@
 mod no_content;
 mod paths;
 
-use asgi_conn::{CountingPause, Inline, Joined, serve_connection};
-use asgi_io::{Counted, CountedReader};
+use asgi_conn::{CountingPause, Inline, serve_connection};
 use asgi_types::{Limits, State};
+use asgi_ws::{Pair, Wired};
 use futures::task::{Doorbell, Solo};
 use paths::Paths;
 use std::process::ExitCode;
@@ -16,10 +16,11 @@ fn main(rt: HostRuntime) -> ExitCode {
     let Ok(solo) = Solo::new(&rt, Doorbell::spinning()) else {
         return ExitCode::from(5);
     };
-    let mut line = Joined {
-        reader: CountedReader::new(rt.stdin()),
-        writer: Counted::new(rt.stdout()),
+    let pair = Pair {
+        reader: rt.stdin(),
+        writer: rt.stdout(),
     };
+    let mut line = Wired::new(rt.alloc(), pair);
     let mut runner = Inline::new(solo.begin());
     let mut pause = CountingPause::new();
     let limits = Limits::usual();

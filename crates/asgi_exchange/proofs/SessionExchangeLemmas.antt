@@ -6,30 +6,30 @@ use Rattle.asgi_types.specs.declared.incoming.Incoming.{Incoming}
 use Rattle.asgi_types.specs.declared.outgoing.Outgoing.{Outgoing}
 use Rattle.asgi_exchange.specs.Heard.{Cause, Closed, Input, Cut}
 use Rattle.asgi_exchange.specs.Keeps.{IsExchange}
-use Rattle.asgi_exchange.specs.Messages.{Message}
+use Rattle.asgi_ws.specs.declared.messages.Msg.{Msg}
 use Rattle.asgi_exchange.specs.Session.{Output, Handshake, session_output}
 use Rattle.asgi_exchange.specs.SessionExchange.{HasSessionCause, ending_behind, IsSessionExchange}
 use Rattle.asgi_exchange.specs.Views.{World, added_by, taken_of}
 use Rattle.asgi_exchange.specs.Items.{end_of}
 use Rattle.asgi_exchange.specs.WebSocket.{web_socket}
 
-has_cause : (handshake : Handshake) (facts : Facts) (ring : ℕ) (w : World Message Output) (events : List Incoming) (disconnect : Incoming)
+has_cause : (handshake : Handshake) (facts : Facts) (ring : ℕ) (w : World Msg Output) (events : List Incoming) (disconnect : Incoming)
     → Cause (web_socket handshake facts ring) w events disconnect → HasSessionCause w events disconnect
 has_cause handshake facts ring w events _ (Closed c d) = inl (c, d)
 has_cause handshake facts ring w events _ (Input b e d) = inr (inl (b, e, d))
 has_cause handshake facts ring w events _ (Cut b d) = inr (inr (b, d))
 
-cause_of : (handshake : Handshake) (facts : Facts) (ring : ℕ) (w : World Message Output) (events : List Incoming) (times : ℕ) (heard : Incoming)
+cause_of : (handshake : Handshake) (facts : Facts) (ring : ℕ) (w : World Msg Output) (events : List Incoming) (times : ℕ) (heard : Incoming)
     → (times ≡ 0) ⊎ Cause (web_socket handshake facts ring) w events heard → (times ≡ 0) ⊎ HasSessionCause w events heard
 cause_of handshake facts ring w events times heard (inl none) = inl none
 cause_of handshake facts ring w events times heard (inr c) = inr (has_cause handshake facts ring w events heard c)
 
-ending_is : (handshake : Handshake) (facts : Facts) (ring : ℕ) (events : List Outgoing) (ended : Option EndKind) (broken : Bool) (messages : List Message)
+ending_is : (handshake : Handshake) (facts : Facts) (ring : ℕ) (events : List Outgoing) (ended : Option EndKind) (broken : Bool) (messages : List Msg)
     → added_by (web_socket handshake facts ring) events ended broken messages ≡ ending_behind facts events ended broken
 ending_is handshake facts ring events None broken messages = refl
 ending_is handshake facts ring events (Some kind) broken messages = refl
 
-pub in_words : (handshake : Handshake) (facts : Facts) (ring : ℕ) (w : World Message Output) → IsExchange (web_socket handshake facts ring) w → IsSessionExchange handshake facts w
+pub in_words : (handshake : Handshake) (facts : Facts) (ring : ℕ) (w : World Msg Output) → IsExchange (web_socket handshake facts ring) w → IsSessionExchange handshake facts w
 in_words handshake facts ring w x =
     let h = x.heard in
     record {

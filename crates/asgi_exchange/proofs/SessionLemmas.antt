@@ -21,7 +21,9 @@ use Rattle.asgi_response.specs.Response.{message_text, event_text}
 use Rattle.asgi_response.proofs.LawLemmas.{message_behind}
 use Rattle.asgi_pipes.specs.Disconnects.{first_disconnect}
 use Rattle.asgi_exchange.specs.Exchange.{IsSteady}
-use Rattle.asgi_exchange.specs.Messages.{Message, Text, Bytes, Ping, Pong, Close, events_in, before_close, first_close, has_close, disconnect_of}
+use Rattle.asgi_ws.specs.declared.messages.Msg.{Msg}
+use Rattle.asgi_ws.specs.declared.messages.Msg.TheVariants.{Text, Bytes, Ping, Pong, Close}
+use Rattle.asgi_exchange.specs.Messages.{events_in, before_close, first_close, has_close, disconnect_of}
 use Rattle.asgi_exchange.specs.Session as session
 use Rattle.asgi_exchange.specs.Session.{Output, Byte, Handshake, with_session_event, accepted_session, message_of, output_of, event_output, session_output}
 use Rattle.asgi_exchange.specs.WebSocket.{web_socket}
@@ -29,7 +31,7 @@ use Rattle.asgi_exchange.proofs.ListLemmas.{prefix_self, prefix_same, prefix_beh
 
 -- ---- what is due
 
-heard_grow : (messages more : List Message) → IsPrefix (flat_map events_in (before_close messages)) (flat_map events_in (before_close (messages ++ more)))
+heard_grow : (messages more : List Msg) → IsPrefix (flat_map events_in (before_close messages)) (flat_map events_in (before_close (messages ++ more)))
 heard_grow [] more = (flat_map events_in (before_close more), refl)
 heard_grow (Text text ∷ messages) more =
     prefix_behind (WsReceive (payload.Text text) ∷ []) (flat_map events_in (before_close messages)) (flat_map events_in (before_close (messages ++ more))) (heard_grow messages more)
@@ -39,7 +41,7 @@ heard_grow (Ping ∷ messages) more = heard_grow messages more
 heard_grow (Pong ∷ messages) more = heard_grow messages more
 heard_grow (Close close ∷ messages) more = ([], refl)
 
-no_disconnect : (messages : List Message) → first_disconnect (flat_map events_in (before_close messages)) ≡ None
+no_disconnect : (messages : List Msg) → first_disconnect (flat_map events_in (before_close messages)) ≡ None
 no_disconnect [] = refl
 no_disconnect (Text text ∷ messages) = no_disconnect messages
 no_disconnect (Bytes bytes ∷ messages) = no_disconnect messages
@@ -48,7 +50,7 @@ no_disconnect (Pong ∷ messages) = no_disconnect messages
 no_disconnect (Close close ∷ messages) = refl
 
 -- behind a close nothing changes
-before_stays : (messages more : List Message) → has_close messages ≡ true → before_close (messages ++ more) ≡ before_close messages
+before_stays : (messages more : List Msg) → has_close messages ≡ true → before_close (messages ++ more) ≡ before_close messages
 before_stays [] more h = cc
 before_stays (Text text ∷ messages) more h = ap (λ w. Text text ∷ w) (before_stays messages more h)
 before_stays (Bytes bytes ∷ messages) more h = ap (λ w. Bytes bytes ∷ w) (before_stays messages more h)
@@ -56,7 +58,7 @@ before_stays (Ping ∷ messages) more h = ap (λ w. Ping ∷ w) (before_stays me
 before_stays (Pong ∷ messages) more h = ap (λ w. Pong ∷ w) (before_stays messages more h)
 before_stays (Close close ∷ messages) more h = refl
 
-first_stays : (messages more : List Message) → has_close messages ≡ true → first_close (messages ++ more) ≡ first_close messages
+first_stays : (messages more : List Msg) → has_close messages ≡ true → first_close (messages ++ more) ≡ first_close messages
 first_stays [] more h = cc
 first_stays (Text text ∷ messages) more h = first_stays messages more h
 first_stays (Bytes bytes ∷ messages) more h = first_stays messages more h

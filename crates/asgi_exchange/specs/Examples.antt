@@ -14,7 +14,8 @@ use Rattle.asgi_types.specs.declared.limits.Limits.{Limits}
 use Rattle.asgi_types.specs.declared.outgoing.HttpVersion.TheVariants.{V11}
 use Rattle.asgi_types.specs.declared.outgoing.Outgoing.{Outgoing}
 use Rattle.asgi_types.specs.declared.outgoing.Outgoing.TheVariants.{ResponseStart, ResponseBody, WsAccept, WsSend, WsClose, DenialStart, DenialBody}
-use Rattle.asgi_exchange.specs.Messages.{Message, Text, Ping, Pong, Close}
+use Rattle.asgi_ws.specs.declared.messages.Msg.{Msg}
+use Rattle.asgi_ws.specs.declared.messages.Msg.TheVariants.{Text, Ping, Pong, Close}
 use Rattle.asgi_exchange.specs.Session.{Handshake}
 use Rattle.asgi_exchange.specs.Schedules.{Step, Arrive, Offer, BreakOff, Take, Write, Hear, Say, End}
 use Rattle.asgi_exchange.specs.Views.{ByInput, ByCut, World, said_of, taken_of}
@@ -142,37 +143,37 @@ fault_inside = Say bare_start ∷ Say (ResponseBody (codes "x") true) ∷ Take �
 -- ---- schedules of a session
 
 -- the session is accepted, and its answer written
-abbrev pub opened : List (Step Message)
+abbrev pub opened : List (Step Msg)
 opened = Offer ∷ Hear ∷ Say accept ∷ Take ∷ Write 1000 ∷ []
 
 -- the client closes, with a code or with none: that is heard again and again, but nothing that follows it, and nothing more
 -- is said
-abbrev pub client_closes : Option (ℕ × List ℕ) → List (Step Message)
+abbrev pub client_closes : Option (ℕ × List ℕ) → List (Step Msg)
 client_closes close = opened ++ Arrive (Close close ∷ Text (codes "late") ∷ []) ∷ Offer ∷ BreakOff ByInput ∷ Hear ∷ Hear ∷ Say (WsSend (payload.Text (codes "late"))) ∷ at_last Returned
 
 -- a message comes back, and then the input ends
-abbrev pub message_echoed : List (Step Message)
+abbrev pub message_echoed : List (Step Msg)
 message_echoed =
     opened ++ Arrive (Ping ∷ Text (codes "Hello") ∷ Pong ∷ []) ∷ Offer ∷ Hear ∷ Say (WsSend (payload.Text (codes "Hello"))) ∷ Take ∷ Write 1000 ∷ BreakOff ByInput ∷ Hear
     ∷ at_last Returned
 
 -- the application closes, and receives once more
-abbrev pub server_closes : List (Step Message)
+abbrev pub server_closes : List (Step Msg)
 server_closes = opened ++ Say (WsClose 1000 (codes "bye")) ∷ Take ∷ Write 1000 ∷ Hear ∷ at_last Returned
 
 -- the task ends in an open session
-abbrev pub task_ends : EndKind → List (Step Message)
+abbrev pub task_ends : EndKind → List (Step Msg)
 task_ends kind = opened ++ at_last kind
 
 -- the session is refused, by a close or by a response; and the task faults inside the response, or before its body
-abbrev pub session_refused : List (Step Message)
+abbrev pub session_refused : List (Step Msg)
 session_refused = Say (WsClose 1000 []) ∷ Take ∷ at_last Returned
 
-abbrev pub session_denied : List (Step Message)
+abbrev pub session_denied : List (Step Msg)
 session_denied = Say (DenialStart 401 []) ∷ Say (DenialBody (codes "no") false) ∷ Take ∷ Take ∷ at_last Returned
 
-abbrev pub denial_faulted : List (Step Message)
+abbrev pub denial_faulted : List (Step Msg)
 denial_faulted = Say (DenialStart 401 []) ∷ Say (DenialBody (codes "no") true) ∷ Take ∷ Take ∷ at_last Faulted
 
-abbrev pub session_faulted : List (Step Message)
+abbrev pub session_faulted : List (Step Msg)
 session_faulted = Offer ∷ Hear ∷ Say (DenialStart 401 []) ∷ Take ∷ at_last Faulted

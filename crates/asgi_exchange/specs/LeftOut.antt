@@ -9,7 +9,7 @@ use Rattle.asgi_pipes.specs.Disconnects.{has_disconnect}
 use Rattle.asgi_exchange.specs.Examples.{session_facts}
 use Rattle.asgi_exchange.specs.Exchange.{Exchange}
 use Rattle.asgi_exchange.specs.Items.{end_of}
-use Rattle.asgi_exchange.specs.Messages.{Message}
+use Rattle.asgi_ws.specs.declared.messages.Msg.{Msg}
 use Rattle.asgi_exchange.specs.Session.{Output}
 use Rattle.asgi_exchange.specs.Steps.{next_of, offer_this, break_this, take_this}
 use Rattle.asgi_exchange.specs.Views.{Break, ByInput, ConnView, AppView, World, said_of}
@@ -68,5 +68,5 @@ abbrev pub with_app : {A W : Type 0} → World A W → (AppView → AppView) →
 with_app w step = record w { app = step w.app }
 
 -- a session, with no text of its handshake
-abbrev pub bare_session : Exchange Message Output
+abbrev pub bare_session : Exchange Msg Output
 bare_session = web_socket (λ subprotocol headers. []) session_facts 16

@@ -5,17 +5,11 @@ use Rattle.std.specs.List.{flat_map}
 use Rattle.asgi_types.specs.declared.incoming.Incoming.{Incoming}
 use Rattle.asgi_types.specs.declared.incoming.Incoming.TheVariants.{WsConnect, WsReceive, WsDisconnect}
 use Rattle.asgi_types.specs.declared.incoming.Payload.TheVariants as payload
-
--- a message of the client: a close has a code and a reason, or neither
-pub data Message : Type 0 where
-  Text : List ℕ → Message
-  Bytes : List ℕ → Message
-  Ping : Message
-  Pong : Message
-  Close : Option (ℕ × List ℕ) → Message
+use Rattle.asgi_ws.specs.declared.messages.Msg.{Msg}
+use Rattle.asgi_ws.specs.declared.messages.Msg.TheVariants.{Text, Bytes, Ping, Pong, Close}
 
 -- what is heard of one: nothing of a ping or a pong (sections 5.5.2 and 5.5.3)
-abbrev pub events_in : Message → List Incoming
+abbrev pub events_in : Msg → List Incoming
 events_in (Text text) = WsReceive (payload.Text text) ∷ []
 events_in (Bytes bytes) = WsReceive (payload.Bytes bytes) ∷ []
 events_in Ping = []
@@ -23,7 +17,7 @@ events_in Pong = []
 events_in (Close close) = []
 
 -- the messages in front of the first close: no data follows it (section 5.5.1)
-abbrev pub before_close : List Message → List Message
+abbrev pub before_close : List Msg → List Msg
 before_close [] = []
 before_close (Text text ∷ messages) = Text text ∷ before_close messages
 before_close (Bytes bytes ∷ messages) = Bytes bytes ∷ before_close messages
@@ -32,7 +26,7 @@ before_close (Pong ∷ messages) = Pong ∷ before_close messages
 before_close (Close close ∷ messages) = []
 
 -- what the first close says, where there is one
-abbrev pub first_close : List Message → Option (Option (ℕ × List ℕ))
+abbrev pub first_close : List Msg → Option (Option (ℕ × List ℕ))
 first_close [] = None
 first_close (Text text ∷ messages) = first_close messages
 first_close (Bytes bytes ∷ messages) = first_close messages
@@ -40,11 +34,11 @@ first_close (Ping ∷ messages) = first_close messages
 first_close (Pong ∷ messages) = first_close messages
 first_close (Close close ∷ messages) = Some close
 
-abbrev pub has_close : List Message → Bool
+abbrev pub has_close : List Msg → Bool
 has_close messages = is_some (first_close messages)
 
 -- the events that are due: the client asks for a session, and then what is heard of each message
-abbrev pub session_events : List Message → List Incoming
+abbrev pub session_events : List Msg → List Incoming
 session_events messages = WsConnect ∷ flat_map events_in (before_close messages)
 
 -- the disconnect of a close; 1005 where it has no code, and 1006 where there is no close (sections 7.1.5 and 7.4.1)
@@ -53,5 +47,5 @@ disconnect_of None = WsDisconnect 1006 []
 disconnect_of (Some None) = WsDisconnect 1005 []
 disconnect_of (Some (Some (code, reason))) = WsDisconnect code reason
 
-abbrev pub session_disconnect : List Message → Incoming
+abbrev pub session_disconnect : List Msg → Incoming
 session_disconnect messages = disconnect_of (first_close messages)

@@ -7,7 +7,6 @@ use Rattle.asgi_types.specs.Fields.{HeaderField}
 use Rattle.asgi_types.specs.declared.end_kind.EndKind.{EndKind}
 use Rattle.asgi_types.specs.declared.end_kind.EndKind.TheVariants.{Returned, Faulted, Idle}
 use Rattle.asgi_types.specs.declared.facts.Facts.{Facts}
-use Rattle.asgi_types.specs.declared.incoming.Payload.{Payload}
 use Rattle.asgi_types.specs.declared.outgoing.Outgoing.{Outgoing}
 use Rattle.asgi_types.specs.declared.outgoing.Outgoing.TheVariants.{WsAccept, WsSend, WsClose, DenialStart}
 use Rattle.asgi_types.specs.declared.scope.Kind.TheVariants.{WebSocket}
@@ -16,12 +15,13 @@ use Rattle.asgi_protocol.specs.Passing.{passes}
 use Rattle.asgi_response.specs.Exchange.{refusal_text}
 use Rattle.asgi_response.specs.Denial.{closing_facts, as_response, denial_text}
 use Rattle.asgi_response.specs.Response.{event_text}
+use Rattle.asgi_ws.specs.declared.messages.Handed.{Handed}
+use Rattle.asgi_ws.specs.declared.messages.Handed.TheVariants as handed
 
 -- a byte of a text, or a message of the server
 pub data Output : Type 0 where
   Byte : ℕ → Output
-  Data : Payload → Output
-  Close : (code : ℕ) → (reason : List ℕ) → Output
+  Message : Handed → Output
 
 -- the text of the opening handshake, from the chosen subprotocol and the application's fields
 abbrev pub Handshake : Type 0
@@ -40,8 +40,8 @@ accepted_session facts events = fold (with_session_event facts) [] events
 
 -- a message of an open session
 abbrev pub message_of : Outgoing → List Output
-message_of (WsSend payload) = Data payload ∷ []
-message_of (WsClose code reason) = Close code reason ∷ []
+message_of (WsSend payload) = Message (handed.Payload payload) ∷ []
+message_of (WsClose code reason) = Message (handed.Close code reason) ∷ []
 message_of _ = []
 
 -- The handshake and then messages; or 403 where the session is refused; or a denial.
@@ -72,7 +72,7 @@ abbrev pub ending_of : (code : ℕ) → (broken : Bool) → List Outgoing → Li
 ending_of code broken [] = map Byte (refusal_text 500)
 ending_of code broken (DenialStart status headers ∷ []) = map Byte (refusal_text 500)
 ending_of code broken (WsAccept subprotocol headers ∷ events) =
-    if is_closed WebSocket (WsAccept subprotocol headers ∷ events) then [] else (if broken then [] else Close code [] ∷ [])
+    if is_closed WebSocket (WsAccept subprotocol headers ∷ events) then [] else (if broken then [] else Message (handed.Close code []) ∷ [])
 ending_of code broken _ = []
 
 -- 1000 says that the purpose is fulfilled, and 1011 that the server can't go on (RFC 6455, section 7.4.1); a limit of turns

@@ -10,12 +10,13 @@ use Rattle.asgi_types.specs.declared.scope.Kind.TheVariants.{WebSocket}
 use Rattle.asgi_protocol.specs.Lawful.{IsLawful, IsClosed}
 use Rattle.asgi_pipes.specs.Disconnects.{own_disconnect}
 use Rattle.asgi_exchange.specs.Items.{end_of}
-use Rattle.asgi_exchange.specs.Messages.{Message, session_events, session_disconnect}
+use Rattle.asgi_ws.specs.declared.messages.Msg.{Msg}
+use Rattle.asgi_exchange.specs.Messages.{session_events, session_disconnect}
 use Rattle.asgi_exchange.specs.Session.{Output, Handshake, session_output, session_ending}
 use Rattle.asgi_exchange.specs.Views.{ByInput, ByCut, World, said_of, taken_of}
 
 -- why the disconnect was heard behind these events, and which one it is
-abbrev pub HasSessionCause : World Message Output → List Incoming → Incoming → Type 0
+abbrev pub HasSessionCause : World Msg Output → List Incoming → Incoming → Type 0
 HasSessionCause w events disconnect =
     -- the application closed, denied or refused the session: its own code where the session was open, else 1006
     (IsClosed WebSocket (said_of w.app) × (disconnect ≡ own_disconnect WebSocket (said_of w.app)))
@@ -32,7 +33,7 @@ ending_behind facts events (Some kind) broken = session_ending facts events kind
 abbrev pub session_text : Handshake → Facts → List Outgoing → Option EndKind → (broken : Bool) → List Output
 session_text handshake facts events ended broken = session_output handshake facts events ++ ending_behind facts events ended broken
 
-pub record IsSessionExchange (handshake : Handshake) (facts : Facts) (w : World Message Output) : Type 0 where
+pub record IsSessionExchange (handshake : Handshake) (facts : Facts) (w : World Msg Output) : Type 0 where
   -- heard is a beginning of the events that were due, and then equal disconnects
   pub events : List Incoming
   pub times : ℕ

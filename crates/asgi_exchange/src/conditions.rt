@@ -11,7 +11,7 @@ ghost use Rattle.asgi_exchange.specs.Halves.{ConnKeeps};
 ghost use Rattle.asgi_exchange.specs.Http.{http};
 ghost use Rattle.asgi_exchange.specs.Keeps.{IsExchange};
 ghost use Rattle.asgi_exchange.specs.LeftOut.{arrive_ever, offer_ever, break_ever, break_early, take_ever, say_unjudged, say_unheard, say_ever, with_conn, with_app, bare_session};
-ghost use Rattle.asgi_exchange.specs.Messages.{Text, Close};
+ghost use Rattle.asgi_ws.specs.declared.messages.Msg.TheVariants.{Text, Close};
 ghost use Rattle.asgi_exchange.specs.Schedules.{run, Arrive, Offer, BreakOff, Take, Hear, Say, End, conn_run, Takes, Writes};
 ghost use Rattle.asgi_exchange.specs.Views.{ByInput, ByCut, empty_world, empty_conn};
 

@@ -6,6 +6,7 @@ ghost use Rattle.asgi_types.specs.declared.facts.Framing.TheVariants.{Length, Ch
 ghost use Rattle.asgi_types.specs.declared.incoming.Incoming.TheVariants.{HttpDisconnect, WsConnect, WsReceive, WsDisconnect};
 ghost use Rattle.asgi_types.specs.declared.incoming.Payload.TheVariants as payload;
 ghost use Rattle.asgi_types.specs.declared.outgoing.Outgoing.TheVariants.{ResponseBody, WsSend, WsClose, DenialStart, DenialBody};
+ghost use Rattle.asgi_ws.specs.declared.messages.Handed.TheVariants as handed;
 ghost use Rattle.asgi_exchange.specs.Examples.{Shows, ShowsChunks, usual_limits, limits_of_4_bytes, limits_of_blocks, facts_with, session_facts, session_answer, answer_handshake, hello_start, hello_body, echo_start, bare_start, accept, body_broken_off, chunk_too_large, chunks_arrive, chunked_bytes, answer_cut_off, body_cut_off, fault_at_once, fault_inside, client_closes, message_echoed, server_closes, task_ends, session_refused, session_denied, denial_faulted, session_faulted};
 ghost use Rattle.asgi_exchange.specs.Http.{http};
 ghost use Rattle.asgi_exchange.specs.Schedules.{run, Arrive};
@@ -53,18 +54,18 @@ pub fn clients_that_close()
     ensures without { Shows (run (web_socket answer_handshake session_facts 16) message_echoed empty_world)
         (WsConnect ∷ WsReceive (payload.Text (codes "Hello")) ∷ WsDisconnect 1006 [] ∷ [])
         (accept ∷ WsSend (payload.Text (codes "Hello")) ∷ []) (accept ∷ WsSend (payload.Text (codes "Hello")) ∷ [])
-        (map session.Byte session_answer ++ session.Data (payload.Text (codes "Hello")) ∷ []) }
+        (map session.Byte session_answer ++ session.Message (handed.Payload (payload.Text (codes "Hello"))) ∷ []) }
 {}
 
 /// An open session is closed by the application, or by the server where its task ended, but not where it was given up.
 pub fn servers_that_close()
     ensures said { Shows (run (web_socket answer_handshake session_facts 16) server_closes empty_world)
         (WsConnect ∷ WsDisconnect 1000 [] ∷ []) (accept ∷ WsClose 1000 (codes "bye") ∷ []) (accept ∷ WsClose 1000 (codes "bye") ∷ [])
-        (map session.Byte session_answer ++ session.Close 1000 (codes "bye") ∷ []) }
+        (map session.Byte session_answer ++ session.Message (handed.Close 1000 (codes "bye")) ∷ []) }
     ensures returned { Shows (run (web_socket answer_handshake session_facts 16) (task_ends Returned) empty_world)
-        (WsConnect ∷ []) (accept ∷ []) (accept ∷ []) (map session.Byte session_answer ++ session.Close 1000 [] ∷ []) }
+        (WsConnect ∷ []) (accept ∷ []) (accept ∷ []) (map session.Byte session_answer ++ session.Message (handed.Close 1000 []) ∷ []) }
     ensures faulted { Shows (run (web_socket answer_handshake session_facts 16) (task_ends Faulted) empty_world)
-        (WsConnect ∷ []) (accept ∷ []) (accept ∷ []) (map session.Byte session_answer ++ session.Close 1011 [] ∷ []) }
+        (WsConnect ∷ []) (accept ∷ []) (accept ∷ []) (map session.Byte session_answer ++ session.Message (handed.Close 1011 []) ∷ []) }
     ensures given_up { Shows (run (web_socket answer_handshake session_facts 16) (task_ends Idle) empty_world)
         (WsConnect ∷ []) (accept ∷ []) (accept ∷ []) (map session.Byte session_answer) }
 {}

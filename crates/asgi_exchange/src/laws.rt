@@ -20,7 +20,9 @@ ghost use Rattle.asgi_exchange.specs.Http.{http};
 ghost use Rattle.asgi_exchange.specs.HttpExchange.{IsHttpExchange};
 ghost use Rattle.asgi_exchange.specs.Items.{end_of};
 ghost use Rattle.asgi_exchange.specs.Keeps.{IsExchange};
-ghost use Rattle.asgi_exchange.specs.Messages.{Message, Close, events_in, has_close, session_events, disconnect_of, session_disconnect};
+ghost use Rattle.asgi_ws.specs.declared.messages.Msg.{Msg};
+ghost use Rattle.asgi_ws.specs.declared.messages.Msg.TheVariants.{Close};
+ghost use Rattle.asgi_exchange.specs.Messages.{events_in, has_close, session_events, disconnect_of, session_disconnect};
 ghost use Rattle.asgi_exchange.specs.Schedules.{Step, run, ConnStep, conn_run, AppStep, app_run, ConnGoesOn};
 ghost use Rattle.asgi_exchange.specs.Session.{Output, Handshake, accepted_session, session_output, event_output};
 ghost use Rattle.asgi_exchange.specs.SessionExchange.{IsSessionExchange};
@@ -35,7 +37,7 @@ ghost use Rattle.asgi_exchange.specs.WebSocket.{web_socket};
 /// is lawful; what was taken is a beginning of it; and what was written is a beginning of the text of what was taken.
 pub fn every_schedule()
     ensures http { (limits : Limits) (facts : Facts) (steps : List (Step ℕ)) → IsHttpExchange limits facts (run (http limits facts) steps empty_world) }
-    ensures web_socket { (handshake : Handshake) (facts : Facts) (ring : ℕ) (steps : List (Step Message))
+    ensures web_socket { (handshake : Handshake) (facts : Facts) (ring : ℕ) (steps : List (Step Msg))
         → IsSessionExchange handshake facts (run (web_socket handshake facts ring) steps empty_world) }
 {}
 
@@ -46,7 +48,7 @@ pub fn halves_make_an_exchange()
         → (let conn = conn_run (http limits facts) conn_steps empty_conn in let app = app_run (http limits facts) app_steps empty_app in
         KeepsOrder places_in conn.offered app.pulled left_in → KeepsOrder places_out app.put conn.got left_out
         → IsHttpExchange limits facts (record { conn = conn; app = app })) }
-    ensures web_socket { (handshake : Handshake) (facts : Facts) (ring : ℕ) (conn_steps : List (ConnStep Message)) (app_steps : List AppStep) (places_in places_out left_in left_out : ℕ)
+    ensures web_socket { (handshake : Handshake) (facts : Facts) (ring : ℕ) (conn_steps : List (ConnStep Msg)) (app_steps : List AppStep) (places_in places_out left_in left_out : ℕ)
         → (let conn = conn_run (web_socket handshake facts ring) conn_steps empty_conn in let app = app_run (web_socket handshake facts ring) app_steps empty_app in
         KeepsOrder places_in conn.offered app.pulled left_in → KeepsOrder places_out app.put conn.got left_out
         → IsSessionExchange handshake facts (record { conn = conn; app = app })) }
@@ -64,15 +66,15 @@ pub fn met_halves_make_an_exchange()
     ensures runs { (limits : Limits) (facts : Facts) (steps : List (ConnStep ℕ)) → ConnKeeps (http limits facts) (conn_run (http limits facts) steps empty_conn) }
     ensures goes_on { (limits : Limits) (facts : Facts) (old new : ConnView ℕ ℕ)
         → ConnKeeps (http limits facts) old → ConnGoesOn (http limits facts) old new → ConnKeeps (http limits facts) new }
-    ensures web_socket_met { (handshake : Handshake) (facts : Facts) (ring : ℕ) (conn : ConnView Message Output) (said : List Outgoing) (ended : Option EndKind)
+    ensures web_socket_met { (handshake : Handshake) (facts : Facts) (ring : ℕ) (conn : ConnView Msg Output) (said : List Outgoing) (ended : Option EndKind)
         (pulled heard : List Incoming) (places_in places_out left_in left_out : ℕ)
         → ConnKeeps (web_socket handshake facts ring) conn
         → KeepsOrder places_in conn.offered pulled left_in → KeepsOrder places_out (items_of said ended) conn.got left_out
         → Hears WebSocket said pulled heard → IsLawful WebSocket facts said
         → IsSessionExchange handshake facts (record { conn = conn; app = record { pulled = pulled; heard = heard; put = items_of said ended } }) }
-    ensures web_socket_runs { (handshake : Handshake) (facts : Facts) (ring : ℕ) (steps : List (ConnStep Message))
+    ensures web_socket_runs { (handshake : Handshake) (facts : Facts) (ring : ℕ) (steps : List (ConnStep Msg))
         → ConnKeeps (web_socket handshake facts ring) (conn_run (web_socket handshake facts ring) steps empty_conn) }
-    ensures web_socket_goes_on { (handshake : Handshake) (facts : Facts) (ring : ℕ) (old new : ConnView Message Output)
+    ensures web_socket_goes_on { (handshake : Handshake) (facts : Facts) (ring : ℕ) (old new : ConnView Msg Output)
         → ConnKeeps (web_socket handshake facts ring) old → ConnGoesOn (web_socket handshake facts ring) old new → ConnKeeps (web_socket handshake facts ring) new }
 {}
 
@@ -104,18 +106,18 @@ pub fn results_are_steps()
 /// before it; and where all that is due was offered, the input may break: by the client's close, or with 1006 where there is
 /// none.
 pub fn messages_are_steps()
-    ensures arrives { (handshake : Handshake) (facts : Facts) (ring : ℕ) (conn : ConnView Message Output) (message : Message) → is_by_input conn.broken ≡ false
+    ensures arrives { (handshake : Handshake) (facts : Facts) (ring : ℕ) (conn : ConnView Msg Output) (message : Msg) → is_by_input conn.broken ≡ false
         → arrive (web_socket handshake facts ring) conn (message ∷ []) ≡ record conn { arrived = conn.arrived ++ message ∷ [] } }
-    ensures is_due { (messages : List Message) (message : Message) → has_close messages ≡ false → session_events (messages ++ message ∷ []) ≡ session_events messages ++ events_in message }
-    ensures offers { (handshake : Handshake) (facts : Facts) (ring : ℕ) (conn : ConnView Message Output) (message : Message) (event : Incoming) (arrived : List Message)
+    ensures is_due { (messages : List Msg) (message : Msg) → has_close messages ≡ false → session_events (messages ++ message ∷ []) ≡ session_events messages ++ events_in message }
+    ensures offers { (handshake : Handshake) (facts : Facts) (ring : ℕ) (conn : ConnView Msg Output) (message : Msg) (event : Incoming) (arrived : List Msg)
         → has_close arrived ≡ false → events_in message ≡ event ∷ [] → conn.arrived ≡ arrived ++ message ∷ [] → conn.offered ≡ session_events arrived → conn.broken ≡ None
         → offer (web_socket handshake facts ring) conn true ≡ record conn { offered = conn.offered ++ event ∷ [] } }
-    ensures breaks { (handshake : Handshake) (facts : Facts) (ring : ℕ) (conn : ConnView Message Output)
+    ensures breaks { (handshake : Handshake) (facts : Facts) (ring : ℕ) (conn : ConnView Msg Output)
         → conn.offered ≡ session_events conn.arrived → conn.broken ≡ None → end_of conn.got ≡ None
         → break_off (web_socket handshake facts ring) conn ByInput ≡ record conn { offered = conn.offered ++ session_disconnect conn.arrived ∷ []; broken = Some ByInput } }
-    ensures closed { (messages : List Message) (close : Option (ℕ × List ℕ)) → has_close messages ≡ false
+    ensures closed { (messages : List Msg) (close : Option (ℕ × List ℕ)) → has_close messages ≡ false
         → session_disconnect (messages ++ Close close ∷ []) ≡ disconnect_of (Some close) }
-    ensures unclosed { (messages : List Message) → has_close messages ≡ false → session_disconnect messages ≡ Incoming.WsDisconnect 1006 [] }
+    ensures unclosed { (messages : List Msg) → has_close messages ≡ false → session_disconnect messages ≡ Incoming.WsDisconnect 1006 [] }
 {}
 
 // ---- any exchange

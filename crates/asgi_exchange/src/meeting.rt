@@ -9,7 +9,7 @@ ghost use Rattle.asgi_pipes.specs.Queues.{KeepsOrder, open_places};
 ghost use Rattle.asgi_exchange.specs.Halves.{ConnKeeps};
 ghost use Rattle.asgi_exchange.specs.Http.{http};
 ghost use Rattle.asgi_exchange.specs.HttpExchange.{IsHttpExchange};
-ghost use Rattle.asgi_exchange.specs.Messages.{Message};
+ghost use Rattle.asgi_ws.specs.declared.messages.Msg.{Msg};
 ghost use Rattle.asgi_exchange.specs.Session.{Output, Handshake};
 ghost use Rattle.asgi_exchange.specs.SessionExchange.{IsSessionExchange};
 ghost use Rattle.asgi_exchange.specs.Views.{ConnView};
@@ -29,7 +29,7 @@ pub fn join<P: Pipes>(conn: &P::Conn, app: &P::App) -> Option<Met>
     ensures http { (limits : Limits) (view : ConnView ℕ ℕ) → P.App.kind app.now ≡ Http
         → ConnKeeps (http limits (P.App.facts app.now)) view → view.offered ≡ P.Conn.offered conn.now → view.got ≡ P.Conn.got conn.now
         → IsHttpExchange limits (P.App.facts app.now) (record { conn = view; app = record { pulled = P.App.pulled app.now; heard = P.App.heard app.now; put = items_of (P.App.said app.now) (P.App.ended app.now) } }) }
-    ensures web_socket { (handshake : Handshake) (ring : ℕ) (view : ConnView Message Output) → P.App.kind app.now ≡ WebSocket
+    ensures web_socket { (handshake : Handshake) (ring : ℕ) (view : ConnView Msg Output) → P.App.kind app.now ≡ WebSocket
         → ConnKeeps (web_socket handshake (P.App.facts app.now) ring) view → view.offered ≡ P.Conn.offered conn.now → view.got ≡ P.Conn.got conn.now
         → IsSessionExchange handshake (P.App.facts app.now) (record { conn = view; app = record { pulled = P.App.pulled app.now; heard = P.App.heard app.now; put = items_of (P.App.said app.now) (P.App.ended app.now) } }) }
 {

@@ -1,6 +1,6 @@
 //! Whole conversations: what is written, the outcome, the exchanges and the faults, however the input is cut.
 use crate::apps::{Heard, Said, Step};
-use crate::fakes::{App, Pieces, line_of, serve_by};
+use crate::fakes::{App, Pieces, line_of, serve_by, text_of};
 use crate::texts::{
     BAD_REQUEST, CONTINUE, ECHO_HEAD, END, GET, GET_AND_CLOSE, HELLO, HELLO_AND_CLOSE, HELLO_HEAD,
     LAST_CHUNK, NOT_IMPLEMENTED, OLD_HELLO, PLAIN_HEAD, POST, SERVER_ERROR, TOO_LARGE,
@@ -60,7 +60,7 @@ fn is_served<H: Abort + RandomSource + AllocGlobal>(
     let mut line = line_of(rt, pieces)?;
     let (report, _) = serve_by(rt, &limits, app, &mut line)?;
     let ended = (report.outcome, report.exchanges, report.faults);
-    Ok(ended == end && line.writer.writer.as_slice() == wanted)
+    Ok(ended == end && text_of(&line) == wanted)
 }
 
 /// Each row, whole and in pieces of three sizes, and byte by byte with a read that would block before each.

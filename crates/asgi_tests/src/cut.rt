@@ -1,5 +1,5 @@
 //! The same answer however the input is cut.
-use crate::fakes::{Pieces, line_of, serve};
+use crate::fakes::{Pieces, line_of, serve, text_of};
 use crate::texts::{BAD_REQUEST, GET, HELLO, HELLO_AND_CLOSE};
 use asgi_apps::Hello;
 use asgi_conn::Outcome;
@@ -30,7 +30,7 @@ fn check<H: Abort + RandomSource + AllocGlobal>(
     let mut line = line_of(rt, reader)?;
     let (report, _) = serve(rt, &Limits::usual(), &Hello, &mut line)?;
     assert_eq!(rt;
-        (line.writer.writer.as_slice(), report.outcome),
+        (text_of(&line), report.outcome),
         (wanted, outcome),
         "cut at {place}"
     );
@@ -70,9 +70,9 @@ fn a_read_that_fails_gets_no_answer(rt: HostRuntime) -> Result<(), Fail> {
         pieces.fails_at = failing;
         let mut line = line_of(&rt, pieces)?;
         let (report, _) = serve(&rt, &Limits::usual(), &Hello, &mut line)?;
-        let counts = (report.exchanges, report.turns, line.reader.faults());
+        let counts = (report.exchanges, report.turns, line.faults());
         assert_eq!(rt;
-            (line.writer.writer.len(), report.outcome, counts),
+            (text_of(&line).len(), report.outcome, counts),
             (0, Outcome::InputBroke, (0, failing, 1)),
             "read {failing}"
         );
@@ -89,11 +89,7 @@ fn a_read_that_fails_behind_a_request_leaves_its_answer(rt: HostRuntime) -> Resu
         let mut line = line_of(&rt, pieces)?;
         let (report, _) = serve(&rt, &Limits::usual(), &Hello, &mut line)?;
         assert_eq!(rt;
-            (
-                line.writer.writer.as_slice(),
-                report.outcome,
-                report.exchanges
-            ),
+            (text_of(&line), report.outcome, report.exchanges),
             (HELLO, outcome, 1),
             "read {failing}"
         );

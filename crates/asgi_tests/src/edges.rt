@@ -1,5 +1,5 @@
 //! The greatest heads and bodies that a connection takes, and the largest responses. With ample memory each is served whole.
-use crate::fakes::{App, Pieces, line_of, serve_by};
+use crate::fakes::{App, Pieces, line_of, serve_by, text_of};
 use crate::texts::{BAD_REQUEST, ECHO_HEAD, GET, HELLO, LAST_CHUNK, POST, TOO_LARGE};
 use asgi_conn::{Outcome, Report};
 use asgi_response::ResponseText;
@@ -100,8 +100,9 @@ fn is_served<H: Abort + RandomSource + AllocGlobal>(
     let limits = Limits::new(65_535, 128, 0, 1, 2, 1, 100_000)?;
     let mut line = line_of(rt, Pieces::new(input, served.piece, served.piece))?;
     let (report, pauses) = serve_by(rt, &limits, App::Hello, &mut line)?;
-    let is_so = is_report(&report, served) && line.reader.reader.reads == served.reads;
-    Ok(is_so && line.writer.writer.as_slice() == served.wanted && pauses == 0)
+    let reads = line.stream().map(|pair| pair.reader.reads);
+    let is_so = is_report(&report, served) && reads == Some(served.reads);
+    Ok(is_so && text_of(&line) == served.wanted && pauses == 0)
 }
 
 #[test]
@@ -203,10 +204,7 @@ fn a_body_of_1_mib_is_echoed(rt: HostRuntime) -> Result<(), Fail> {
     for piece in [4_096, 1_000] {
         let mut line = line_of(&rt, Pieces::new(&input, piece, piece))?;
         let (report, _) = serve_by(&rt, &Limits::usual(), App::Echo, &mut line)?;
-        assert!(rt;
-            line.writer.writer.as_slice() == wanted.as_slice(),
-            "pieces of {piece}"
-        );
+        assert!(rt; text_of(&line) == wanted.as_slice(), "pieces of {piece}");
         let ended = (report.outcome, report.exchanges, report.faults);
         assert_eq!(rt; ended, (Outcome::Finished, 2, 0), "pieces of {piece}");
     }

@@ -3,9 +3,10 @@ ghost use Rattle.std.specs.Prelude.{◌≤◌, length};
 
 use crate::apps::{Refuses, Scripted, Step, Targets};
 use asgi_apps::{Application, Echo, Hello, NotFound};
-use asgi_conn::{Inline, Joined, Line, Report, serve_connection};
-use asgi_io::{Counted, CountedReader, CountingPause, Pause};
+use asgi_conn::{Inline, Line, Report, serve_connection};
+use asgi_io::{CountingPause, Pause};
 use asgi_types::{Limits, State};
+use asgi_ws::{Pair, Wired};
 use futures::task::{Doorbell, Solo};
 use std::alloc::{AllocError, AllocGlobal};
 use std::io::{self, ErrorKind, Read, Write};
@@ -122,15 +123,20 @@ impl Write for Sink {
 }
 
 /// A line of a reader, and of a writer that keeps what it takes.
-pub type Memory<R> = Joined<CountedReader<R>, Counted<Vec<u8>>>;
+pub type Memory<R> = Wired<Pair<R, Vec<u8>>>;
 
 /// Nothing was read or written yet.
 pub fn line_of<H: AllocGlobal, R: Read + Drop>(rt: &H, reader: R) -> Result<Memory<R>, AllocError> {
     let writer = Vec::with_capacity(rt.alloc(), 256)?;
-    Ok(Joined {
-        reader: CountedReader::new(reader),
-        writer: Counted::new(writer),
-    })
+    Ok(Wired::new(rt.alloc(), Pair { reader, writer }))
+}
+
+/// What was written to the line.
+pub fn text_of<R: Drop>(line: &Memory<R>) -> &[u8] {
+    match line.stream() {
+        Some(pair) => pair.writer.as_slice(),
+        None => &[],
+    }
 }
 
 /// Serves one connection with no client, no server and an empty state, and gives the report and the pauses made.

@@ -1,6 +1,6 @@
 //! Memory refused to a connection. `tests/memory.py` runs this with each allocation refused in turn; with ample memory
 //! none is refused.
-use crate::fakes::{App, Pieces, line_of, serve_by};
+use crate::fakes::{App, Pieces, line_of, serve_by, text_of};
 use crate::texts::{BAD_REQUEST, GET, HELLO, HELLO_HEAD, NOT_IMPLEMENTED, SERVER_ERROR};
 use asgi_conn::Outcome;
 use asgi_types::Limits;
@@ -65,7 +65,7 @@ fn is_served<H: Abort + RandomSource + AllocGlobal>(rt: &H, row: &Row) -> bool {
     let Ok((report, _)) = serve_by(rt, &Limits::usual(), app, &mut line) else {
         return false;
     };
-    let written = line.writer.writer.as_slice();
+    let written = text_of(&line);
     if report.outcome != outcome {
         assert!(rt; is_cut_off(written, wanted, report.outcome));
         return false;

@@ -1,5 +1,5 @@
 //! What is answered to each form of a head, given whole.
-use crate::fakes::{Pieces, line_of, serve};
+use crate::fakes::{Pieces, line_of, serve, text_of};
 use crate::texts::{
     BAD_REQUEST, GET, HELLO, HELLO_AND_CLOSE, HELLO_HEAD, NOT_IMPLEMENTED, OLD_HELLO,
     OLD_HELLO_HEAD, TOO_LARGE, TOO_LARGE_CONTENT, UPGRADE_REQUIRED,
@@ -26,7 +26,7 @@ fn check<H: Abort + RandomSource + AllocGlobal>(
         let (report, _) = serve(rt, limits, &Hello, &mut line)?;
         let ended = (report.outcome, report.exchanges, report.faults);
         assert_eq!(rt;
-            (line.writer.writer.as_slice(), ended),
+            (text_of(&line), ended),
             (wanted, (outcome, exchanges, 0)),
             "input {row}"
         );

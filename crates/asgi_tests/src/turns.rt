@@ -1,6 +1,6 @@
 //! How turns and pauses are counted, and what their limits do.
 use crate::apps::Step;
-use crate::fakes::{App, Never, Pieces, line_of, serve_by};
+use crate::fakes::{App, Never, Pieces, line_of, serve_by, text_of};
 use crate::texts::{BAD_REQUEST, GET, HELLO};
 use asgi_conn::Outcome;
 use asgi_types::Limits;
@@ -50,10 +50,7 @@ fn idles<H: Abort + RandomSource + AllocGlobal, R: Read + Drop>(
 ) -> Result<(u64, u32, u64), Fail> {
     let mut line = line_of(rt, reader)?;
     let (report, paused) = serve_by(rt, limits, app, &mut line)?;
-    assert_eq!(rt;
-        (report.outcome, line.writer.writer.len()),
-        (Outcome::Idle, 0)
-    );
+    assert_eq!(rt; (report.outcome, text_of(&line).len()), (Outcome::Idle, 0));
     Ok((report.turns, report.idle, paused))
 }
 
@@ -126,7 +123,7 @@ fn the_first_of_a_limit_and_what_else_ends_it(rt: HostRuntime) -> Result<(), Fai
         let limits = limits_with(*turns)?;
         let mut line = line_of(&rt, Pieces::new(input, 64, 64))?;
         let (report, _) = serve_by(&rt, &limits, App::Hello, &mut line)?;
-        let found = line.writer.writer.as_slice();
+        let found = text_of(&line);
         let ended = (report.outcome, report.exchanges, report.faults);
         assert_eq!(rt;
             (found, ended),

@@ -2,9 +2,10 @@
 use crate::apps::{Heard, Said, Step};
 use crate::fakes::{App, Pieces, Sink, serve_by};
 use crate::texts::{GET, HELLO};
-use asgi_conn::{Joined, Outcome, Report};
-use asgi_io::{Counted, CountedReader, Counts, Reads};
+use asgi_conn::{Outcome, Report};
+use asgi_io::{Counts, Reads};
 use asgi_types::Limits;
+use asgi_ws::{Pair, Wired};
 use std::alloc::AllocGlobal;
 use std::io::ErrorKind;
 use std::random::RandomSource;
@@ -13,33 +14,41 @@ use std::test::Fail;
 /// What a writer of nine bytes takes first.
 const NINE_BYTES: &[u8] = b"HTTP/1.1 ";
 
-type SinkLine = Joined<CountedReader<Pieces<'static>>, Counted<Sink>>;
+type SinkLine = Wired<Pair<Pieces<'static>, Sink>>;
 
-/// A line of these bytes, whose writer takes so many at a time.
-fn line_to<H: AllocGlobal>(rt: &H, input: &'static [u8], most: usize) -> Result<SinkLine, Fail> {
-    line_with(rt, input, most, ErrorKind::WouldBlock)
+/// A writer that takes so many bytes at a time.
+fn sink<H: AllocGlobal>(rt: &H, most: usize) -> Result<Sink, Fail> {
+    let taken = Vec::with_capacity(rt.alloc(), 256)?;
+    Ok(Sink {
+        taken,
+        most,
+        fails_at: 0,
+        faults: 0,
+        again: 0,
+        fault: ErrorKind::WouldBlock,
+        calls: 0,
+    })
 }
 
-/// A line whose writer has this fault.
-fn line_with<H: AllocGlobal>(
-    rt: &H,
-    input: &'static [u8],
-    most: usize,
-    fault: ErrorKind,
-) -> Result<SinkLine, Fail> {
-    let taken = Vec::with_capacity(rt.alloc(), 256)?;
-    Ok(Joined {
-        reader: CountedReader::new(Pieces::new(input, 4_096, 4_096)),
-        writer: Counted::new(Sink {
-            taken,
-            most,
-            fails_at: 0,
-            faults: 0,
-            again: 0,
-            fault,
-            calls: 0,
-        }),
-    })
+/// One whose call of this number fails.
+fn failing_sink<H: AllocGlobal>(rt: &H, most: usize, fails_at: u64) -> Result<Sink, Fail> {
+    let mut writer = sink(rt, most)?;
+    writer.fails_at = fails_at;
+    Ok(writer)
+}
+
+/// A line of these bytes, to this writer.
+fn line_to<H: AllocGlobal>(rt: &H, input: &'static [u8], writer: Sink) -> SinkLine {
+    let reader = Pieces::new(input, 4_096, 4_096);
+    Wired::new(rt.alloc(), Pair { reader, writer })
+}
+
+/// What the writer of the line took.
+fn taken_by(line: &SinkLine) -> &[u8] {
+    match line.stream() {
+        Some(pair) => pair.writer.taken.as_slice(),
+        None => &[],
+    }
 }
 
 /// Serves one connection by `Hello`.
@@ -52,17 +61,12 @@ fn serve<H: RandomSource + AllocGlobal>(rt: &H, line: &mut SinkLine) -> Result<R
 fn a_failed_write_says_how_far_it_came(rt: HostRuntime) -> Result<(), Fail> {
     assert_eq!(rt; HELLO.len(), 89);
     for failing in 1..=30usize {
-        let mut line = line_to(&rt, GET, 3)?;
-        line.writer.writer.fails_at = failing as u64;
+        let mut line = line_to(&rt, GET, failing_sink(&rt, 3, failing as u64)?);
         let report = serve(&rt, &mut line)?;
         let out = 3 * (failing - 1);
-        let counts = (report.exchanges, line.writer.failures());
+        let counts = (report.exchanges, line.failures());
         assert_eq!(rt;
-            (
-                Some(line.writer.writer.taken.as_slice()),
-                report.outcome,
-                counts
-            ),
+            (Some(taken_by(&line)), report.outcome, counts),
             (HELLO.get(..out), Outcome::WriteFailed(out), (1, 1)),
             "call {failing}"
         );
@@ -72,15 +76,10 @@ fn a_failed_write_says_how_far_it_came(rt: HostRuntime) -> Result<(), Fail> {
 
 #[test]
 fn a_fault_behind_the_answer_is_not_met(rt: HostRuntime) -> Result<(), Fail> {
-    let mut line = line_to(&rt, GET, 3)?;
-    line.writer.writer.fails_at = 31;
+    let mut line = line_to(&rt, GET, failing_sink(&rt, 3, 31)?);
     let report = serve(&rt, &mut line)?;
     assert_eq!(rt;
-        (
-            line.writer.writer.taken.as_slice(),
-            report.outcome,
-            line.writer.failures()
-        ),
+        (taken_by(&line), report.outcome, line.failures()),
         (HELLO, Outcome::Finished, 0)
     );
     Ok(())
@@ -119,12 +118,13 @@ fn nine_bytes_and_then_a_fault(rt: HostRuntime) -> Result<(), Fail> {
         (App::Refuses, GET, 1, 0),
     ];
     for (row, (app, input, faults, reads)) in rows.iter().enumerate() {
-        let mut line = line_to(&rt, input, 9)?;
-        line.writer.writer.fails_at = 2;
-        line.reader.reader.fails_at = 2;
+        let mut reader = Pieces::new(input, 4_096, 4_096);
+        reader.fails_at = 2;
+        let writer = failing_sink(&rt, 9, 2)?;
+        let mut line = Wired::new(rt.alloc(), Pair { reader, writer });
         let (report, _) = serve_by(&rt, &Limits::usual(), *app, &mut line)?;
-        let found = (line.writer.writer.taken.as_slice(), report.outcome);
-        let counts = (report.exchanges, report.faults, line.reader.faults());
+        let found = (taken_by(&line), report.outcome);
+        let counts = (report.exchanges, report.faults, line.faults());
         assert_eq!(rt;
             (found, counts),
             ((NINE_BYTES, Outcome::WriteFailed(9)), (1, *faults, *reads)),
@@ -136,15 +136,11 @@ fn nine_bytes_and_then_a_fault(rt: HostRuntime) -> Result<(), Fail> {
 
 #[test]
 fn a_refusal_that_is_not_written_is_a_failed_write(rt: HostRuntime) -> Result<(), Fail> {
-    let mut line = line_to(&rt, b"GET / HTTP/1.1\r\n\r\n", 9)?;
-    line.writer.writer.fails_at = 2;
+    let writer = failing_sink(&rt, 9, 2)?;
+    let mut line = line_to(&rt, b"GET / HTTP/1.1\r\n\r\n", writer);
     let report = serve(&rt, &mut line)?;
     assert_eq!(rt;
-        (
-            line.writer.writer.taken.as_slice(),
-            report.outcome,
-            report.exchanges
-        ),
+        (taken_by(&line), report.outcome, report.exchanges),
         (NINE_BYTES, Outcome::WriteFailed(9), 0)
     );
     Ok(())
@@ -152,15 +148,10 @@ fn a_refusal_that_is_not_written_is_a_failed_write(rt: HostRuntime) -> Result<()
 
 #[test]
 fn the_second_answer_may_fail(rt: HostRuntime) -> Result<(), Fail> {
-    let mut line = line_to(&rt, TWO_REQUESTS, 89)?;
-    line.writer.writer.fails_at = 2;
+    let mut line = line_to(&rt, TWO_REQUESTS, failing_sink(&rt, 89, 2)?);
     let report = serve(&rt, &mut line)?;
     assert_eq!(rt;
-        (
-            line.writer.writer.taken.as_slice(),
-            report.outcome,
-            report.exchanges
-        ),
+        (taken_by(&line), report.outcome, report.exchanges),
         (HELLO, Outcome::WriteFailed(0), 2)
     );
     Ok(())
@@ -168,14 +159,11 @@ fn the_second_answer_may_fail(rt: HostRuntime) -> Result<(), Fail> {
 
 #[test]
 fn a_writer_that_takes_nothing_has_failed(rt: HostRuntime) -> Result<(), Fail> {
-    let mut line = line_to(&rt, GET, 0)?;
+    let mut line = line_to(&rt, GET, sink(&rt, 0)?);
     let report = serve(&rt, &mut line)?;
-    let found = (
-        line.writer.writer.taken.len(),
-        line.writer.writer.calls,
-        report.outcome,
-    );
-    assert_eq!(rt; found, (0, 1, Outcome::WriteFailed(0)));
+    let calls = line.stream().map(|pair| pair.writer.calls);
+    let found = (taken_by(&line).len(), calls, report.outcome);
+    assert_eq!(rt; found, (0, Some(1), Outcome::WriteFailed(0)));
     Ok(())
 }
 
@@ -187,10 +175,12 @@ fn is_retried<H: RandomSource + AllocGlobal>(
     wanted: &[u8],
     outcome: Outcome,
 ) -> Result<bool, Fail> {
-    let mut line = line_with(rt, GET, 100, fault)?;
-    line.writer.writer.faults = faults;
+    let mut writer = sink(rt, 100)?;
+    writer.fault = fault;
+    writer.faults = faults;
+    let mut line = line_to(rt, GET, writer);
     let report = serve(rt, &mut line)?;
-    Ok(report.outcome == outcome && line.writer.writer.taken.as_slice() == wanted)
+    Ok(report.outcome == outcome && taken_by(&line) == wanted)
 }
 
 #[test]
@@ -210,12 +200,13 @@ fn each_byte_that_goes_out_ends_a_row_of_retries(rt: HostRuntime) -> Result<(), 
         (1_001, NINE_BYTES, Outcome::WriteFailed(9)),
     ];
     for (again, taken, outcome) in rows {
-        let mut line = line_to(&rt, GET, 9)?;
-        line.writer.writer.faults = 1_000;
-        line.writer.writer.again = again;
+        let mut writer = sink(&rt, 9)?;
+        writer.faults = 1_000;
+        writer.again = again;
+        let mut line = line_to(&rt, GET, writer);
         let report = serve(&rt, &mut line)?;
         assert_eq!(rt;
-            (line.writer.writer.taken.as_slice(), report.outcome),
+            (taken_by(&line), report.outcome),
             (taken, outcome),
             "{again} again"
         );

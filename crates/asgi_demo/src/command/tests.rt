@@ -1,6 +1,6 @@
 use super::*;
-use asgi_conn::Joined;
-use asgi_io::{Counted, CountedReader};
+use asgi_io::Counted;
+use asgi_ws::{Pair, Wired};
 use std::alloc::Global;
 use std::io::{Read, Write};
 use std::test::Fail;
@@ -25,12 +25,29 @@ fn words(alloc: Global, texts: &[&str]) -> Result<Vec<String>, Fail> {
     Ok(words)
 }
 
-type Memory<'a> = Joined<CountedReader<&'a [u8]>, Counted<Vec<u8>>>;
+type Memory<'a> = Wired<Pair<&'a [u8], Vec<u8>>>;
 
 fn line_of<'a>(alloc: Global, input: &'a [u8]) -> Memory<'a> {
-    Joined {
-        reader: CountedReader::new(input),
-        writer: Counted::new(Vec::new(alloc)),
+    line_between(alloc, input, Vec::new(alloc))
+}
+
+fn line_between<R, W>(alloc: Global, reader: R, writer: W) -> Wired<Pair<R, W>> {
+    Wired::new(alloc, Pair { reader, writer })
+}
+
+/// What was written to the line.
+fn text_of<'a>(line: &'a Memory) -> &'a [u8] {
+    match line.stream() {
+        Some(pair) => pair.writer.as_slice(),
+        None => &[],
+    }
+}
+
+/// How many bytes of the line were not read yet.
+fn left_in(line: &Memory) -> usize {
+    match line.stream() {
+        Some(pair) => pair.reader.len(),
+        None => 0,
     }
 }
 
@@ -43,7 +60,7 @@ fn once_answers_by_the_application_that_is_named(rt: HostRuntime) -> Result<(), 
         let mut errors = Counted::new(Vec::new(rt.alloc()));
         let status = command(&rt, &words, &mut line, &mut errors);
         assert_eq!(rt;
-            (status, line.writer.writer.as_slice(), errors.writer.len()),
+            (status, text_of(&line), errors.writer.len()),
             (0, wanted, 0),
             "{name}"
         );
@@ -69,7 +86,7 @@ fn any_other_words_give_the_usage(rt: HostRuntime) -> Result<(), Fail> {
         let mut line = line_of(rt.alloc(), REQUEST);
         let mut errors = Counted::new(Vec::new(rt.alloc()));
         let status = command(&rt, &words, &mut line, &mut errors);
-        let kept = (line.reader.reader.len(), line.writer.writer.len());
+        let kept = (left_in(&line), text_of(&line).len());
         assert_eq!(rt;
             (status, kept, errors.writer.as_slice()),
             (2, (REQUEST.len(), 0), USAGE_TEXT),
@@ -105,12 +122,10 @@ impl Write for Stuck {
 fn an_answer_that_is_not_written_is_said_so(rt: HostRuntime) -> Result<(), Fail> {
     let words = words(rt.alloc(), &["once", "hello"])?;
     let mut errors = Counted::new(Vec::new(rt.alloc()));
-    let mut line = Joined {
-        reader: CountedReader::new(REQUEST),
-        writer: Counted::new(Stuck {
-            kind: ErrorKind::BrokenPipe,
-        }),
+    let stuck = Stuck {
+        kind: ErrorKind::BrokenPipe,
     };
+    let mut line = line_between(rt.alloc(), REQUEST, stuck);
     let status = command(&rt, &words, &mut line, &mut errors);
     assert_eq!(rt;
         (status, errors.writer.as_slice()),
@@ -129,10 +144,8 @@ fn an_input_that_gives_nothing_is_said_so(rt: HostRuntime) -> Result<(), Fail> {
     let words = words(rt.alloc(), &["once", "hello"])?;
     for (row, (kind, status, text)) in rows.iter().enumerate() {
         let mut errors = Counted::new(Vec::new(rt.alloc()));
-        let mut line = Joined {
-            reader: CountedReader::new(Stuck { kind: *kind }),
-            writer: Counted::new(Vec::new(rt.alloc())),
-        };
+        let stuck = Stuck { kind: *kind };
+        let mut line = line_between(rt.alloc(), stuck, Vec::new(rt.alloc()));
         let gave = command(&rt, &words, &mut line, &mut errors);
         assert_eq!(rt;
             (gave, errors.writer.as_slice()),
@@ -167,12 +180,10 @@ fn a_text_that_cannot_be_told_changes_no_status(rt: HostRuntime) -> Result<(), F
     let mut errors = Counted::new(Stuck {
         kind: ErrorKind::BrokenPipe,
     });
-    let mut line = Joined {
-        reader: CountedReader::new(REQUEST),
-        writer: Counted::new(Stuck {
-            kind: ErrorKind::BrokenPipe,
-        }),
+    let stuck = Stuck {
+        kind: ErrorKind::BrokenPipe,
     };
+    let mut line = line_between(rt.alloc(), REQUEST, stuck);
     let none = words(rt.alloc(), &[])?;
     let once = words(rt.alloc(), &["once", "hello"])?;
     let statuses = [

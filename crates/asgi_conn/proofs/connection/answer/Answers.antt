@@ -1,4 +1,4 @@
-use Rattle.std.proofs.Common.{◌≡◌, ◌++◌, [], ℕ, List, refl, sym, ◌∙◌, append-nil, subst}
+use Rattle.std.proofs.Common.{◌++◌, [], ℕ, List, refl, sym, ◌∙◌, append-nil, subst}
 use Rattle.asgi_io.specs.declared.turns.Turn.{Turn}
 use Rattle.asgi_io.specs.Turns.{CountsTurns}
 use Rattle.asgi_exchange.specs.Calls.{IsExchangeOf}
@@ -11,7 +11,7 @@ use Rattle.asgi_conn.proofs.connection.answer.Goals as goal
 
 pub returns-in_default-clause-serves : goal.returns-in_default-clause-serves
 returns-in_default-clause-serves g c scene client server state read arrived scope opens promised tallied =
-    lemma.serves_short (g.A.Application.answers c.args.app.now) client server state scene (state_of g.L.Reads g.L.Counts c.args.line.now) c.args.wire c.args.facts read arrived c.args.tally.now
+    lemma.serves_short (g.A.Application.answers c.args.app.now) client server state scene (state_of g.L.Reads g.L.Counts g.L.Messages c.args.line.now) c.args.wire c.args.facts read arrived c.args.tally.now
     opens promised tallied
 
 pub returns-in_default-clause-counts : goal.returns-in_default-clause-counts
@@ -40,7 +40,7 @@ returns-clause-serves g c scene client server state read arrived scope opens pro
     let made = c.in-Ok.ensures in
     let side = c.call-side.result in
     let opened = c.call-side.ensures.opens in
-    let line = state_of g.L.Reads g.L.Counts c.run-kind.new.line in
+    let line = state_of g.L.Reads g.L.Counts g.L.Messages c.run-kind.new.line in
     let half = c.run-kind.new.half in
     let begun = c.begin-half.ensures.begins scene c.args.facts read arrived opens (c.new-text.ensures.response c.requires.plain) in
     let view : ConnView ℕ ℕ = record empty_conn { arrived = arrived; written = begun.0 } in

@@ -11,7 +11,7 @@ use Rattle.asgi_conn.proofs.connection.serve_connection.Given as goal
 
 abbrev pub invariant-loop-place : goal.invariant-loop-place
 invariant-loop-place g l = record {
-  stands : Serving (g.A.Application.answers l.fn.app) l.fn.limits l.fn.client l.fn.server l.fn.state (state_of g.L.Reads g.L.Counts l.fn.line) (state_of g.L.Reads g.L.Counts l.line) l.tally l.place;
+  stands : Serving (g.A.Application.answers l.fn.app) l.fn.limits l.fn.client l.fn.server l.fn.state (state_of g.L.Reads g.L.Counts g.L.Messages l.fn.line) (state_of g.L.Reads g.L.Counts g.L.Messages l.line) l.tally l.place;
   room : IsBetween l.place → HasRoom l.tally;
   turn_limit : l.tally.turns.turn_limit ≡ l.fn.limits.turns;
   idle_limit : l.tally.turns.idle_limit ≡ l.fn.limits.idle_turns;

@@ -12,8 +12,8 @@ use Rattle.asgi_conn.proofs.connection.wait.Given as goal
 abbrev pub invariant-loop-wire : goal.invariant-loop-wire
 invariant-loop-wire g l = record {
   waits : (limits : Limits) (start : LineState) (read : List ℕ) (given : List Next) (exchanges : List Exchanged) (behind written : List ℕ)
-      → Rests limits start (state_of g.L.Reads g.L.Counts l.fn.line) l.fn.wire read given exchanges behind written → AllGiven l.fn.wire.requests read given
-      → (more : List ℕ) × Rests limits start (state_of g.L.Reads g.L.Counts l.line) l.wire (read ++ more) given exchanges (behind ++ more) written × AllGiven l.wire.requests (read ++ more) given;
+      → Rests limits start (state_of g.L.Reads g.L.Counts g.L.Messages l.fn.line) l.fn.wire read given exchanges behind written → AllGiven l.fn.wire.requests read given
+      → (more : List ℕ) × Rests limits start (state_of g.L.Reads g.L.Counts g.L.Messages l.line) l.wire (read ++ more) given exchanges (behind ++ more) written × AllGiven l.wire.requests (read ++ more) given;
   turn_limit : l.turns.turn_limit ≡ l.fn.turns.turn_limit;
   idle_limit : l.turns.idle_limit ≡ l.fn.turns.idle_limit;
   at_least : l.fn.turns.turns ≤ l.turns.turns;

@@ -1,4 +1,4 @@
-use Rattle.std.proofs.Common.{◌≡◌, ◌∙◌, ap, sym, List, ℕ, ◌∷◌, []}
+use Rattle.std.proofs.Common.{◌≡◌, ◌∙◌, ap, sym, ◌∷◌, []}
 use Rattle.std.specs.Prelude.{codes}
 use Rattle.asgi_demo.specs.Command.{word_of}
 use Rattle.asgi_demo.specs.declared.command.App.TheVariants.{Hello, Echo, NotFound}

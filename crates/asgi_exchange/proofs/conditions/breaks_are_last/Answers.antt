@@ -6,7 +6,8 @@ use Rattle.asgi_types.specs.declared.scope.Kind.TheVariants.{WebSocket}
 use Rattle.asgi_protocol.proofs.LawLemmas.{tests_agree}
 use Rattle.asgi_exchange.specs.Heard.{Cause, Closed, Input, Cut}
 use Rattle.asgi_exchange.specs.LeftOut.{break_ever, with_conn, bare_session}
-use Rattle.asgi_exchange.specs.Messages.{Message, Close}
+use Rattle.asgi_ws.specs.declared.messages.Msg.{Msg}
+use Rattle.asgi_ws.specs.declared.messages.Msg.TheVariants.{Close}
 use Rattle.asgi_exchange.specs.Schedules.{run, Arrive, Offer, BreakOff, Hear}
 use Rattle.asgi_exchange.specs.Session.{Output}
 use Rattle.asgi_exchange.specs.Views.{ByInput, ByCut, World, empty_world}
@@ -18,7 +19,7 @@ returns-clause-once c x =
     let h = x.heard in
     another_heard h.events h.times h.disconnect h.in_order h.due (by h.times h.events h.disconnect h.cause)
   where
-    cut_behind : World Message Output
+    cut_behind : World Msg Output
     cut_behind = with_conn (run bare_session (Offer ∷ Arrive (Close (Some (1000, [])) ∷ []) ∷ BreakOff ByInput ∷ Hear ∷ Hear ∷ []) empty_world) (λ conn. break_ever bare_session conn ByCut)
 
     by : (times : ℕ) (events : List Incoming) (one : Incoming) → (times ≡ 0) ⊎ Cause bare_session cut_behind events one → (times ≡ 0) ⊎ (one ≡ WsDisconnect 1006 [])

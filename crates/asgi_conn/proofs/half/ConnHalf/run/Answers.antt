@@ -5,9 +5,9 @@ use Rattle.asgi_conn.proofs.half.ConnHalf.run.Goals as goal
 
 pub returns-in-Ending-clause-leads : goal.returns-in-Ending-clause-leads
 returns-in-Ending-clause-leads g c =
-    let was = state_of g.L.Reads g.L.Counts c.args.line.now in
-    let mid = state_of g.L.Reads g.L.Counts c.take_all-took.new.line in
-    let now = state_of g.L.Reads g.L.Counts c.wind_up.new.line in
+    let was = state_of g.L.Reads g.L.Counts g.L.Messages c.args.line.now in
+    let mid = state_of g.L.Reads g.L.Counts g.L.Messages c.take_all-took.new.line in
+    let now = state_of g.L.Reads g.L.Counts g.L.Messages c.wind_up.new.line in
     let half = c.take_all-took.new.self in
     let end = c.take_all-took.new.end in
     leads_then was mid now c.args.self.now half c.wind_up.new.self (IsViewOf g.C.ConnEnd c.args.end.now) (IsViewOf g.C.ConnEnd end) (IsViewOf g.C.ConnEnd end)
@@ -15,23 +15,23 @@ returns-in-Ending-clause-leads g c =
 
 pub returns-then-ne-2-clause-leads : goal.returns-then-ne-2-clause-leads
 returns-then-ne-2-clause-leads g c =
-    taken_and_offered (state_of g.L.Reads g.L.Counts c.args.line.now) (state_of g.L.Reads g.L.Counts c.take_all-took.new.line)
+    taken_and_offered (state_of g.L.Reads g.L.Counts g.L.Messages c.args.line.now) (state_of g.L.Reads g.L.Counts g.L.Messages c.take_all-took.new.line)
     c.args.self.now c.take_all-took.new.self c.offer_all-offered.new.self
     (IsViewOf g.C.ConnEnd c.args.end.now) (IsViewOf g.C.ConnEnd c.take_all-took.new.end) (IsViewOf g.C.ConnEnd c.offer_all-offered.new.end)
     c.take_all-took.ensures.leads c.offer_all-offered.ensures.leads
 
 pub returns-then-took-clause-leads : goal.returns-then-took-clause-leads
 returns-then-took-clause-leads g c =
-    taken_and_offered (state_of g.L.Reads g.L.Counts c.args.line.now) (state_of g.L.Reads g.L.Counts c.take_all-took.new.line)
+    taken_and_offered (state_of g.L.Reads g.L.Counts g.L.Messages c.args.line.now) (state_of g.L.Reads g.L.Counts g.L.Messages c.take_all-took.new.line)
     c.args.self.now c.take_all-took.new.self c.offer_all-offered.new.self
     (IsViewOf g.C.ConnEnd c.args.end.now) (IsViewOf g.C.ConnEnd c.take_all-took.new.end) (IsViewOf g.C.ConnEnd c.offer_all-offered.new.end)
     c.take_all-took.ensures.leads c.offer_all-offered.ensures.leads
 
 pub returns-clause-leads : goal.returns-clause-leads
 returns-clause-leads g c =
-    let was = state_of g.L.Reads g.L.Counts c.args.line.now in
-    let mid = state_of g.L.Reads g.L.Counts c.take_all-took.new.line in
-    let now = state_of g.L.Reads g.L.Counts c.read.new.line in
+    let was = state_of g.L.Reads g.L.Counts g.L.Messages c.args.line.now in
+    let mid = state_of g.L.Reads g.L.Counts g.L.Messages c.take_all-took.new.line in
+    let now = state_of g.L.Reads g.L.Counts g.L.Messages c.read.new.line in
     let half = c.offer_all-offered.new.self in
     let end = c.offer_all-offered.new.end in
     leads_then was mid now c.args.self.now half c.read.new.self (IsViewOf g.C.ConnEnd c.args.end.now) (IsViewOf g.C.ConnEnd end) (IsViewOf g.C.ConnEnd end)

@@ -6,7 +6,7 @@ use Rattle.asgi_conn.proofs.half.ConnHalf.say.Goals as goal
 
 pub returns-in-Ok-clause-says : goal.returns-in-Ok-clause-says
 returns-in-Ok-clause-says g c scene read view x =
-    let line = state_of g.L.Reads g.L.Counts c.args.line.now in
+    let line = state_of g.L.Reads g.L.Counts g.L.Messages c.args.line.now in
     let half = c.args.self.now in
     let r = running_of scene line half read view x c.requires in
     c.put.ensures.puts scene read _
@@ -16,4 +16,4 @@ returns-in-Ok-clause-says g c scene read view x =
 pub returns-in-Err-clause-says : goal.returns-in-Err-clause-says
 returns-in-Err-clause-says g c scene read view x =
     let half = c.args.self.now in
-    (_, said_short scene (state_of g.L.Reads g.L.Counts c.args.line.now) half read view x c.requires c.args.event.now c.take.new.self (record half.wire { out = c.take.new.out }))
+    (_, said_short scene (state_of g.L.Reads g.L.Counts g.L.Messages c.args.line.now) half read view x c.requires c.args.event.now c.take.new.self (record half.wire { out = c.take.new.out }))

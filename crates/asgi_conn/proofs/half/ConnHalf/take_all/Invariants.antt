@@ -6,7 +6,7 @@ use Rattle.asgi_conn.proofs.half.ConnHalf.take_all.Given as goal
 
 abbrev pub invariant-loop-item : goal.invariant-loop-item
 invariant-loop-item g l = record {
-  leads : Leads (state_of g.L.Reads g.L.Counts l.fn.line) l.fn.self (IsViewOf g.C.ConnEnd l.fn.end) (state_of g.L.Reads g.L.Counts l.line) l.self (IsViewOf g.C.ConnEnd l.end);
+  leads : Leads (state_of g.L.Reads g.L.Counts g.L.Messages l.fn.line) l.fn.self (IsViewOf g.C.ConnEnd l.fn.end) (state_of g.L.Reads g.L.Counts g.L.Messages l.line) l.self (IsViewOf g.C.ConnEnd l.end);
   tag : g.C.ConnEnd.tag l.end ≡ g.C.ConnEnd.tag l.fn.end;
   ring : g.C.ConnEnd.ring l.end ≡ g.C.ConnEnd.ring l.fn.end;
   limits : l.self.wire.limits ≡ l.fn.self.wire.limits;

@@ -7,17 +7,17 @@ use Rattle.asgi_conn.proofs.half.ConnHalf.take_one.Goals as goal
 pub returns-in-None-clause-leads : goal.returns-in-None-clause-leads
 returns-in-None-clause-leads g c scene read view x is_view =
     let same = c.take.ensures.same in
-    took_none _ g.C.ConnEnd scene (state_of g.L.Reads g.L.Counts c.args.line.now) c.args.self.now read view x c.args.end.now c.take.new.self is_view same.0 same.1 c.in-None.ensures.none.0
+    took_none _ g.C.ConnEnd scene (state_of g.L.Reads g.L.Counts g.L.Messages c.args.line.now) c.args.self.now read view x c.args.end.now c.take.new.self is_view same.0 same.1 c.in-None.ensures.none.0
 
 pub returns-in-Some-Ended-clause-leads : goal.returns-in-Some-Ended-clause-leads
 returns-in-Some-Ended-clause-leads g c scene read view x is_view =
     let same = c.take.ensures.same in
-    took_end _ g.C.ConnEnd scene (state_of g.L.Reads g.L.Counts c.args.line.now) c.args.self.now read view x c.args.end.now c.take.new.self is_view same.0 same.1 c.in-Some-Ended.kind c.requires
+    took_end _ g.C.ConnEnd scene (state_of g.L.Reads g.L.Counts g.L.Messages c.args.line.now) c.args.self.now read view x c.args.end.now c.take.new.self is_view same.0 same.1 c.in-Some-Ended.kind c.requires
     (c.in-Some-Ended.ensures.some.0 ∙ ap (λ (i : OutItem). g.C.ConnEnd.got c.args.end.now ++ i ∷ []) c.in-Some-Ended.field-0-is)
 
 pub returns-in-Some-Event-clause-leads : goal.returns-in-Some-Event-clause-leads
 returns-in-Some-Event-clause-leads g c scene read view x is_view =
     let same = c.take.ensures.same in
-    took_event _ g.C.ConnEnd scene (state_of g.L.Reads g.L.Counts c.args.line.now) c.args.self.now read view x c.args.end.now c.take.new.self is_view same.0 same.1 c.in-Some-Event.event
-    (state_of g.L.Reads g.L.Counts c.say.new.line) c.say.new.self
+    took_event _ g.C.ConnEnd scene (state_of g.L.Reads g.L.Counts g.L.Messages c.args.line.now) c.args.self.now read view x c.args.end.now c.take.new.self is_view same.0 same.1 c.in-Some-Event.event
+    (state_of g.L.Reads g.L.Counts g.L.Messages c.say.new.line) c.say.new.self
     (c.in-Some-Event.ensures.some.0 ∙ ap (λ (i : OutItem). g.C.ConnEnd.got c.args.end.now ++ i ∷ []) c.in-Some-Event.field-0-is) (c.say.ensures.says scene read view x)

@@ -5,7 +5,7 @@ use Rattle.asgi_conn.proofs.half.ConnHalf.wind_up.Goals as goal
 
 pub returns-in-Err-clause-leads : goal.returns-in-Err-clause-leads
 returns-in-Err-clause-leads g c scene read view x =
-    let line = state_of g.L.Reads g.L.Counts c.args.line.now in (
+    let line = state_of g.L.Reads g.L.Counts g.L.Messages c.args.line.now in (
       [],
       view.arrived,
       view.written,
@@ -15,6 +15,6 @@ returns-in-Err-clause-leads g c scene read view x =
 
 pub returns-in-Ok-clause-leads : goal.returns-in-Ok-clause-leads
 returns-in-Ok-clause-leads g c scene read view x =
-    let line = state_of g.L.Reads g.L.Counts c.args.line.now in
+    let line = state_of g.L.Reads g.L.Counts g.L.Messages c.args.line.now in
     c.settle.ensures.leads scene read view
     (dropped scene line c.args.self.now read view x c.args.kind c.requires c.drop_rest.new.self c.drop_rest.ensures.same c.in-Ok.ensures.gives c.drop_rest.ensures.limits c.drop_rest.ensures.broke)

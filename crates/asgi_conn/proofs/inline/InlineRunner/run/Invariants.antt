@@ -16,7 +16,7 @@ abbrev pub invariant-loop-half : goal.invariant-loop-half
 invariant-loop-half g l = record {
   pair : OfEnd l.side (λ app. IsPlainPair l.conn app);
   goes_on : GoesOnAs g.T.AppTask.stands g.T.AppTask.answers app_end.ghosts l.fn.side l.side;
-  leads : LeadsOn g.H.Half.stands (state_of g.L.Reads g.L.Counts l.fn.line) l.fn.half (IsViewOf conn_end.ghosts l.fn.end) (state_of g.L.Reads g.L.Counts l.line) l.half (IsViewOf conn_end.ghosts l.conn);
+  leads : LeadsOn g.H.Half.stands (state_of g.L.Reads g.L.Counts g.L.Messages l.fn.line) l.fn.half (IsViewOf conn_end.ghosts l.fn.end) (state_of g.L.Reads g.L.Counts g.L.Messages l.line) l.half (IsViewOf conn_end.ghosts l.conn);
   turn_limit : l.turns.turn_limit ≡ l.fn.turns.turn_limit;
   idle_limit : l.turns.idle_limit ≡ l.fn.turns.idle_limit;
   turned : ((g.H.Half.following l.half ≡ g.H.Half.following l.fn.half) × (l.turns.turns ≡ l.fn.turns.turns)) ⊎ (l.fn.turns.turns < l.turns.turns);
