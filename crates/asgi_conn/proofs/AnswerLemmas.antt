@@ -35,6 +35,7 @@ use Rattle.asgi_conn.specs.HalfSteps.{Opens}
 use Rattle.asgi_conn.specs.Lines.{LineState}
 use Rattle.asgi_conn.specs.Loop.{IsAt, IsTallied, Serving, IsLeft}
 use Rattle.asgi_conn.specs.Running.{OfEnd, IsOfRequest, IsOpened, HasRun}
+use Rattle.asgi_conn.proofs.HttpEndLemmas.{http_ends}
 use Rattle.asgi_conn.proofs.LeaveLemmas.{left_resting, left_ended}
 use Rattle.asgi_conn.proofs.PromiseLemmas.{is_kept, all_more, length_more, faults_more}
 
@@ -122,14 +123,10 @@ serves_short promise client server state scene now wire facts read arrived tally
   exchanges = scene.exchanges;
   promised = promised;
   counted = tallied;
-  stands = record {
-    end = wire.input;
-    moved = opens.moved;
-    converses = λ report o c.
-        let one = opens.within.one in
-        let ends : EndsBetween report.outcome wire.limits wire.input one.behind [] = subst (λ (q : Outcome). EndsBetween q wire.limits wire.input one.behind []) (sym o) refl in
-        subst (λ (l : List ℕ). Converses wire.limits wire.input read scene.exchanges l report) (append-nil scene.before)
-        (ends_between wire.limits wire.input read scene.exchanges one.behind scene.before [] report one.so_far ends c);
-    ahead = opens.ahead;
-  };
+  stands = http_ends wire.limits scene.start now wire.input read scene.exchanges scene.before NoMemory opens.moved
+      (λ report o c.
+      let one = opens.within.one in
+      let ends : EndsBetween report.outcome wire.limits wire.input one.behind [] = subst (λ (q : Outcome). EndsBetween q wire.limits wire.input one.behind []) (sym o) refl in
+      subst (λ (l : List ℕ). Converses wire.limits wire.input read scene.exchanges l report) (append-nil scene.before)
+      (ends_between wire.limits wire.input read scene.exchanges one.behind scene.before [] report one.so_far ends c)) opens.ahead;
 }

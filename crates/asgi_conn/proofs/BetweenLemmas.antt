@@ -14,7 +14,7 @@ use Rattle.asgi_request.specs.declared.next.Next.TheVariants.{Head, Event, Whole
 use Rattle.asgi_request.specs.declared.place.Place.{Place}
 use Rattle.asgi_request.specs.declared.place.Place.TheVariants.{Start, Upgraded, Stopped}
 use Rattle.asgi_request.specs.Head.{record_of}
-use Rattle.asgi_request.specs.Opened.{HasClosed}
+use Rattle.asgi_request.specs.Opened.{BeginsWithHandshake, HasClosed}
 use Rattle.asgi_request.specs.Places.{Reads, shown, Reaches}
 use Rattle.asgi_request.specs.Reading.{Reading, StandsFor, AllGiven, EndsWhole, WholeGiven, IsRefused}
 use Rattle.asgi_request.specs.Results.{AreRequests, GivesResults, Opens}
@@ -23,6 +23,7 @@ use Rattle.asgi_request.proofs.BodyGrowthLemmas.{Further}
 use Rattle.asgi_request.proofs.DueLemmas.{ClosesAt, runs_compare, same_behind}
 use Rattle.asgi_request.proofs.FirstLemmas.{first_of}
 use Rattle.asgi_request.proofs.HeldLemmas.{between}
+use Rattle.asgi_request.proofs.NextLemmas.{begins_with_handshake, next_head}
 use Rattle.asgi_request.proofs.OpenedLemmas.{closed_at, closed_is_one, closed_not_upgraded, whole_is_closed}
 use Rattle.asgi_conversation.specs.Persistence.{RefusesWith}
 use Rattle.asgi_request.proofs.OpeningLemmas.{first_opens}
@@ -40,6 +41,7 @@ use Rattle.asgi_conn.specs.declared.wire.Wire.{Wire}
 use Rattle.asgi_conn.specs.Lines.{LineState, HasMoved, piece_size}
 use Rattle.asgi_conn.specs.Loop.{Rests, EndsSo}
 use Rattle.asgi_conn.specs.ReadAhead.{ReadsAhead}
+use Rattle.asgi_conn.proofs.HttpEndLemmas.{http_ends}
 use Rattle.asgi_conn.proofs.LineLemmas.{moved_by_write, tries_front}
 use Rattle.asgi_conn.proofs.ReadAheadLemmas.{reads_at_need}
 
@@ -147,20 +149,20 @@ module _ (limits : Limits) (start now : LineState) (wire : Wire) (read : List �
   pub ends_idle : AllGiven wire.requests read given → EndsSo limits start now read exchanges written Idle
   ends_idle all =
       let g = subst (λ (l : Limits). AllOf l) x.limits_are.1 all in
-      record { end = wire.input; moved = x.moved; converses = λ report o c. loop.idle limits wire.input read given exchanges behind written report x.between c g.0 g.1 o; ahead = x.ahead }
+      http_ends limits start now wire.input read exchanges written Idle x.moved (λ report o c. loop.idle limits wire.input read given exchanges behind written report x.between c g.0 g.1 o) x.ahead
 
   pub ends_short : EndsSo limits start now read exchanges written NoMemory
-  ends_short = record { end = wire.input; moved = x.moved; converses = λ report o c. loop.no_memory limits wire.input read given exchanges behind written report x.between c o; ahead = x.ahead }
+  ends_short = http_ends limits start now wire.input read exchanges written NoMemory x.moved (λ report o c. loop.no_memory limits wire.input read given exchanges behind written report x.between c o) x.ahead
 
   pub ends_finished : AllGiven wire.requests read given → wire.input ≡ AtEnd → IsBlank behind → EndsSo limits start now read exchanges written Finished
   ends_finished all at blank =
       let g = subst (λ (l : Limits). AllOf l) x.limits_are.1 all in
-      record { end = wire.input; moved = x.moved; converses = λ report o c. loop.finished limits wire.input read given exchanges behind written report x.between c g.0 g.1 at blank o; ahead = x.ahead }
+      http_ends limits start now wire.input read exchanges written Finished x.moved (λ report o c. loop.finished limits wire.input read given exchanges behind written report x.between c g.0 g.1 at blank o) x.ahead
 
   pub ends_broken : AllGiven wire.requests read given → (wire.input ≡ Failed) ⊎ ((wire.input ≡ AtEnd) × (IsBlank behind → ⊥)) → EndsSo limits start now read exchanges written InputBroke
   ends_broken all why =
       let g = subst (λ (l : Limits). AllOf l) x.limits_are.1 all in
-      record { end = wire.input; moved = x.moved; converses = λ report o c. loop.input_broke limits wire.input read given exchanges behind written report x.between c g.0 g.1 why o; ahead = x.ahead }
+      http_ends limits start now wire.input read exchanges written InputBroke x.moved (λ report o c. loop.input_broke limits wire.input read given exchanges behind written report x.between c g.0 g.1 why o) x.ahead
 
   -- ---- the end with the text of a refusal
 
@@ -168,10 +170,12 @@ module _ (limits : Limits) (start now : LineState) (wire : Wire) (read : List �
   refused_due reader status same stands =
       loop.refusal_due limits wire.input read given exchanges behind written reader.place reader.held status x.between (reaches reader (given ++ Bad status ∷ []) same stands)
 
-  pub handshake_due : (reader : Reading) (scope : Scope) (facts : Facts) → reader.limits ≡ limits → StandsFor reader read (given ++ Head scope facts ∷ []) → facts.framing ≡ Upgrade
-      → RefusesWith limits behind 501
-  handshake_due reader scope facts same stands e =
-      loop.handshake_due limits wire.input read given exchanges behind written reader.place reader.held scope facts x.between (reaches reader (given ++ Head scope facts ∷ []) same stands) e
+  -- an opening handshake that the reader gave
+  pub handshake_here : (reader : Reading) (scope : Scope) (facts : Facts) → reader.limits ≡ limits → StandsFor reader read (given ++ Head scope facts ∷ []) → facts.framing ≡ Upgrade
+      → (frames : List ℕ) × BeginsWithHandshake limits behind scope facts frames
+  handshake_here reader scope facts same stands e =
+      let n = next_head limits read given behind reader.place reader.held scope facts [] (closed_at limits read given behind x.between.closed) (reaches reader (given ++ Head scope facts ∷ []) same stands) in
+      (n.0, begins_with_handshake limits behind scope facts n.0 n.1 e)
 
   module _ (next : LineState) (status : ℕ) (due : RefusesWith limits behind status)
       (text : List ℕ) (text_is : text ≡ refusal_text status) (left : next.left ≡ now.left) (reads : next.reads ≡ now.reads) (session : next.session ≡ now.session) where
@@ -179,29 +183,23 @@ module _ (limits : Limits) (start now : LineState) (wire : Wire) (read : List �
         → (more : List ℕ) × EndsSo limits start next read exchanges (written ++ more) (Refused status)
     ends_refused appends rose tries = (
       refusal_text status,
-      record {
-        end = wire.input;
-        moved = moved_by_write start now next wire.input read written (refusal_text status) 0 x.moved left reads session
-            (subst (λ (l : List ℕ). Appends now.written next.written l) text_is appends) rose
-            (subst (λ (l : List ℕ). TriesWrites now.writes next.writes (length l) wrote.Done) text_is tries);
-        converses = λ report o c. loop.refused limits wire.input read given exchanges behind written report x.between c status due o;
-        ahead = x.ahead;
-      },
+      http_ends limits start next wire.input read exchanges (written ++ refusal_text status) (Refused status)
+          (moved_by_write start now next wire.input read written (refusal_text status) 0 x.moved left reads session
+          (subst (λ (l : List ℕ). Appends now.written next.written l) text_is appends) rose
+          (subst (λ (l : List ℕ). TriesWrites now.writes next.writes (length l) wrote.Done) text_is tries))
+          (λ report o c. loop.refused limits wire.input read given exchanges behind written report x.between c status due o) x.ahead,
     )
 
     pub ends_unwritten : (n : ℕ) → n < length text → Appends now.written next.written (take n text) → RoseBy 1 now.failed next.failed → TriesWrites now.writes next.writes n (wrote.Failed n)
         → (more : List ℕ) × EndsSo limits start next read exchanges (written ++ more) (WriteFailed n)
     ends_unwritten n within appends rose tries = (
       take n (refusal_text status),
-      record {
-        end = wire.input;
-        moved = moved_by_write start now next wire.input read written (take n (refusal_text status)) 1 x.moved left reads session
-            (subst (λ (l : List ℕ). Appends now.written next.written (take n l)) text_is appends) rose
-            (tries_front now.writes next.writes n (refusal_text status) (subst (λ (l : List ℕ). n < length l) text_is within) tries);
-        converses = λ report o c. loop.refusal_failed limits wire.input read given exchanges behind written report x.between c status n due
-            (subst (λ (l : List ℕ). n < length l) text_is within) o;
-        ahead = x.ahead;
-      },
+      http_ends limits start next wire.input read exchanges (written ++ take n (refusal_text status)) (WriteFailed n)
+          (moved_by_write start now next wire.input read written (take n (refusal_text status)) 1 x.moved left reads session
+          (subst (λ (l : List ℕ). Appends now.written next.written (take n l)) text_is appends) rose
+          (tries_front now.writes next.writes n (refusal_text status) (subst (λ (l : List ℕ). n < length l) text_is within) tries))
+          (λ report o c. loop.refusal_failed limits wire.input read given exchanges behind written report x.between c status n due
+          (subst (λ (l : List ℕ). n < length l) text_is within) o) x.ahead,
     )
 
   -- ---- more is read
@@ -233,9 +231,6 @@ module _ (limits : Limits) (start now : LineState) (wire : Wire) (read : List �
     }
 
     pub ends_fed_short : EndsSo limits start next (read ++ more) exchanges written NoMemory
-    ends_fed_short = record {
-      end = later.input;
-      moved = moved;
-      converses = λ report o c. loop.no_memory limits later.input (read ++ more) given exchanges (behind ++ more) written report further c o;
-      ahead = ahead_of;
-    }
+    ends_fed_short =
+        http_ends limits start next later.input (read ++ more) exchanges written NoMemory moved
+        (λ report o c. loop.no_memory limits later.input (read ++ more) given exchanges (behind ++ more) written report further c o) ahead_of

@@ -697,13 +697,14 @@ module _ (scene : Scene) (now : LineState) (half : ConnHalf) (read : List ℕ) (
   }
 
 -- the end of a connection that is cut off, by what offering the disconnect answers
-pub offers_cut : {C : Type 0} (E : conn_end.Ghosts C) (old new : C) (view : ConnView ℕ ℕ) (first : Bool) → IsViewOf E old view → first ≡ not (E.is_broken old)
-    → (IsTrue first → E.offered new ≡ E.offered old ++ HttpDisconnect ∷ []) → (IsFalse first → new ≡ old) → E.is_broken new ≡ true → E.got new ≡ E.got old
-    → (later : ConnView ℕ ℕ) × IsCutOff view later × IsViewOf E new later
-offers_cut {C = C} E old new view true v is on_first on_later broken got = (
-  record view { offered = view.offered ++ HttpDisconnect ∷ []; broken = Some ByCut },
+pub offers_cut : {A W C : Type 0} (E : conn_end.Ghosts C) (old new : C) (view : ConnView A W) (first : Bool) (event : Incoming) → IsViewOf E old view → first ≡ not (E.is_broken old)
+    → (IsTrue first → E.offered new ≡ E.offered old ++ event ∷ []) → (IsFalse first → new ≡ old) → E.is_broken new ≡ true → E.got new ≡ E.got old
+    → (later : ConnView A W)
+    × ((later ≡ view) ⊎ ((view.broken ≡ None) × (later ≡ record view { offered = view.offered ++ event ∷ []; broken = Some ByCut }))) × IsViewOf E new later
+offers_cut {C = C} E old new view true event v is on_first on_later broken got = (
+  record view { offered = view.offered ++ event ∷ []; broken = Some ByCut },
   inr (none_of view.broken (v.1 ∙ not_not (E.is_broken old) is), refl),
-  (ap (λ (l : List Incoming). l ++ HttpDisconnect ∷ []) v.0 ∙ sym (on_first refl), sym broken, v.2 ∙ sym got),
+  (ap (λ (l : List Incoming). l ++ event ∷ []) v.0 ∙ sym (on_first refl), sym broken, v.2 ∙ sym got),
 )
   where
     not_not : (b : Bool) → true ≡ not b → b ≡ false
@@ -713,5 +714,5 @@ offers_cut {C = C} E old new view true v is on_first on_later broken got = (
     none_of : (b : Option Break) → is_some b ≡ false → b ≡ None
     none_of None e = refl
     none_of (Some b) e = cc
-offers_cut {C = C} E old new view false v is on_first on_later broken got =
+offers_cut {C = C} E old new view false event v is on_first on_later broken got =
     (view, inl refl, subst (λ (c : C). IsViewOf E c view) (sym (on_later refl)) v)

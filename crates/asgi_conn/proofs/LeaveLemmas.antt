@@ -37,6 +37,7 @@ use Rattle.asgi_conn.specs.Half.{Scene, Stands, IsAt, KeepsOn, EndsByTask, IsCut
 use Rattle.asgi_conn.specs.Lines.{LineState, HasMoved}
 use Rattle.asgi_conn.specs.Loop.{Rests, EndsSo}
 use Rattle.asgi_conn.specs.ReadAhead.{ReadsAhead}
+use Rattle.asgi_conn.proofs.HttpEndLemmas.{http_ends}
 use Rattle.asgi_conn.proofs.ReadAheadLemmas.{heads_behind, within_of}
 
 -- ---- the next request follows
@@ -134,11 +135,9 @@ module _ (limits : Limits) (scene : Scene) (now : LineState) (half : ConnHalf) (
   ended outcome (inr t) = by_cut outcome t
 
   pub left_ended : (outcome : Outcome) → half.stage ≡ Over (ConnectionEnds outcome) → EndsSo limits scene.start now read after out outcome
-  left_ended outcome e = record {
-    end = half.wire.input;
-    moved = subst (λ (st : Stage). HasMoved scene.start now half.wire.input read out (failures_at st)) e s.moved;
-    converses = λ report o c.
-        subst (λ (l : Limits). Converses l half.wire.input read after out report) lim
-        (ended outcome (subst (λ (st : Stage). IsAt st scene half read w.conn) e s.stage) report o c);
-    ahead = all_ahead;
-  }
+  left_ended outcome e =
+      http_ends limits scene.start now half.wire.input read after out outcome
+      (subst (λ (st : Stage). HasMoved scene.start now half.wire.input read out (failures_at st)) e s.moved)
+      (λ report o c.
+      subst (λ (l : Limits). Converses l half.wire.input read after out report) lim
+      (ended outcome (subst (λ (st : Stage). IsAt st scene half read w.conn) e s.stage) report o c)) all_ahead

@@ -9,7 +9,7 @@ use Rattle.asgi_types.specs.declared.facts.Framing.TheVariants.{Length, Chunked,
 use Rattle.asgi_types.specs.declared.incoming.Incoming.{Incoming}
 use Rattle.asgi_types.specs.declared.limits.Limits.{Limits}
 use Rattle.asgi_types.specs.declared.outgoing.Outgoing.{Outgoing}
-use Rattle.asgi_types.specs.declared.scope.Kind.TheVariants.{Http}
+use Rattle.asgi_types.specs.declared.scope.Kind.TheVariants.{Http, WebSocket}
 use Rattle.asgi_types.specs.declared.scope.Peer.{Peer}
 use Rattle.asgi_types.specs.declared.scope.Scope.{Scope}
 use Rattle.asgi_types.specs.declared.state.StateValue.{StateValue}
@@ -25,6 +25,7 @@ use Rattle.asgi_request.specs.declared.next.Next.TheVariants.{Need, Head, Bad}
 use Rattle.asgi_request.specs.Reading.{Reading, StandsFor, AllGiven, IsRefused, GoesOn}
 use Rattle.asgi_request.specs.declared.head.HeadRecord.{HeadRecord}
 use Rattle.asgi_request.specs.Head.{record_of}
+use Rattle.asgi_request.specs.Opened.{BeginsWithHandshake}
 use Rattle.asgi_request.specs.Results.{Opens}
 use Rattle.asgi_request.specs.Scopes.{scope_of}
 use Rattle.asgi_conversation.specs.Persistence.{RefusesWith}
@@ -49,6 +50,7 @@ use Rattle.asgi_conn.specs.Lines.{LineState, HasMoved}
 use Rattle.asgi_conn.specs.Loop.{Rests, IsAt, IsTallied, Serving}
 use Rattle.asgi_conn.specs.ReadAhead.{ReadsAhead}
 use Rattle.asgi_conn.specs.Serving.{Serves}
+use Rattle.asgi_conn.specs.SessionHalf.{SessionScene, OpensHandshake}
 use Rattle.asgi_conn.proofs.BetweenLemmas as between
 use Rattle.asgi_conn.proofs.ReadAheadLemmas.{nothing_ahead, more_requests, heads_more}
 
@@ -208,15 +210,38 @@ module _ (answers : Scope → List Incoming → List Outgoing → Option EndKind
           (between.refused_due limits start now wire s.read s.stands.0 s.exchanges s.stands.1 s.written x later status limits_stay (gave (Bad status) goes_on)))
 
       -- an opening handshake
-      pub handshaken : (next : LineState) (result : Place) (scope : Scope) (facts : Facts) → (((status : ℕ) → IsRefused wire.requests status → ⊥) → GoesOn wire.requests later (Head scope facts))
-          → facts.framing ≡ Upgrade
-          → ((limits : Limits) (start : LineState) (wire : Wire) (read : List ℕ) (given : List Next) (exchanges : List Exchanged) (behind written : List ℕ)
-          → Rests limits start now wire read given exchanges behind written → RefusesWith limits behind 501
-          → (text : List ℕ) × IsAt result limits start next read exchanges (written ++ text))
-          → Serving answers limits client server state start next tally result
-      handshaken next result scope facts goes_on e refuses =
-          answered_so next result (refuses limits start wire s.read s.stands.0 s.exchanges s.stands.1 s.written x
-          (between.handshake_due limits start now wire s.read s.stands.0 s.exchanges s.stands.1 s.written x later scope facts limits_stay (gave (Head scope facts) goes_on) e))
+      module _ (scope : Scope) (facts : Facts) (goes_on : ((status : ℕ) → IsRefused wire.requests status → ⊥) → GoesOn wire.requests later (Head scope facts)) (upgrade : facts.framing ≡ Upgrade) where
+        here : (frames : List ℕ) × BeginsWithHandshake limits s.stands.1 scope facts frames
+        here =
+            between.handshake_here limits start now wire s.read s.stands.0 s.exchanges s.stands.1 s.written x later scope facts limits_stay (gave (Head scope facts) goes_on) upgrade
+
+        pub is_websocket : (whole : Scope) → whole ≡ scope_with scope client server state → kind_of whole ≡ WebSocket
+        is_websocket whole is = subst (λ (w : Scope). kind_of w ≡ WebSocket) (sym is) (subst (λ (w : Scope). kind_of (scope_with w client server state) ≡ WebSocket) (sym here.1.scope_is) refl)
+
+        abbrev pub handshake_scene : SessionScene
+        handshake_scene = record { limits = limits; start = start; exchanges = s.exchanges; before = s.written; scope = scope; facts = facts; frames = here.0 }
+
+        pub opens_handshake : OpensHandshake handshake_scene now (record wire { requests = later }) facts s.read
+        opens_handshake = record {
+          facts_are = refl;
+          limits_are = x.limits_are.0;
+          reader_limits = limits_stay;
+          moved = x.moved;
+          given = s.stands.0;
+          behind = s.stands.1;
+          between = x.between;
+          stands = gave (Head scope facts) goes_on;
+          head = here.1;
+          ahead = x.ahead;
+          empty = x.empty;
+        }
+
+        pub opened : (whole : Scope) (next : LineState) (is : Tally) (result : Place) → whole ≡ scope_with scope client server state
+            → ((scene : SessionScene) (client server : Option Peer) (state : List (List ℕ × StateValue)) (read : List ℕ) → whole ≡ scope_with scene.scope client server state
+            → OpensHandshake scene now (record wire { requests = later }) facts read → ArePromised answers client server state scene.exchanges → IsTallied tally scene.exchanges
+            → Serving answers scene.limits client server state scene.start next is result)
+            → Serving answers limits client server state start next is result
+        opened whole next is result whole_is serves = serves handshake_scene client server state s.read whole_is opens_handshake s.promised s.counted
 
       -- a head
       module _ (scope : Scope) (facts : Facts) (goes_on : ((status : ℕ) → IsRefused wire.requests status → ⊥) → GoesOn wire.requests later (Head scope facts))
@@ -285,7 +310,8 @@ serves answers limits client server state start now tally at outcome pauses_old 
       read = s.read;
       end = e.end;
       written = s.written;
-      moved = e.moved;
+      talk = e.talk;
+      talked = e.talked;
       exchanges = s.exchanges;
       converses = e.converses (told_of tally outcome) refl (record { exchanges_are = s.counted.0; faults_are = s.counted.1 });
       ahead = e.ahead;

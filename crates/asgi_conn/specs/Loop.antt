@@ -14,8 +14,9 @@ use Rattle.asgi_conversation.specs.declared.input.InputEnd.{InputEnd}
 use Rattle.asgi_conversation.specs.declared.report.Outcome.{Outcome}
 use Rattle.asgi_conversation.specs.declared.report.Report.{Report}
 use Rattle.asgi_conversation.specs.Exchanges.{Exchanged, fault_count, requests_of}
-use Rattle.asgi_conversation.specs.Persistence.{CountsExchanges, Converses, heads_of}
+use Rattle.asgi_conversation.specs.Persistence.{CountsExchanges, heads_of}
 use Rattle.asgi_conversation.specs.Promised.{ArePromised}
+use Rattle.asgi_conversation.specs.Sessions.{Talk, Conversation}
 use Rattle.asgi_conversation.specs.SoFar.{Between}
 use Rattle.asgi_conn.specs.declared.connection.Place.{Place}
 use Rattle.asgi_conn.specs.declared.connection.Place.TheVariants as place
@@ -23,9 +24,9 @@ use Rattle.asgi_conn.specs.declared.tally.Tally.{Tally}
 use Rattle.asgi_conn.specs.declared.half.ConnHalf.{ConnHalf}
 use Rattle.asgi_conn.specs.declared.half.Stage.TheVariants.{Over}
 use Rattle.asgi_conn.specs.declared.wire.Wire.{Wire}
-use Rattle.asgi_conn.specs.Half.{failures_of}
 use Rattle.asgi_conn.specs.Lines.{LineState, HasMoved}
 use Rattle.asgi_conn.specs.ReadAhead.{ReadsAhead}
+use Rattle.asgi_conn.specs.Talking.{HasTalked, failures_in}
 
 -- Between two requests: this was given, and these bytes stand behind it.
 pub record Rests (limits : Limits) (start now : LineState) (wire : Wire) (read : List ℕ) (given : List Next) (exchanges : List Exchanged) (behind written : List ℕ) : Type 0 where
@@ -40,8 +41,9 @@ pub record Rests (limits : Limits) (start now : LineState) (wire : Wire) (read :
 -- The connection has ended with this outcome, whatever else is told of it.
 pub record EndsSo (limits : Limits) (start now : LineState) (read : List ℕ) (exchanges : List Exchanged) (written : List ℕ) (outcome : Outcome) : Type 0 where
   pub end : InputEnd
-  pub moved : HasMoved start now end read written (failures_of outcome)
-  pub converses : (report : Report) → report.outcome ≡ outcome → CountsExchanges report exchanges → Converses limits end read exchanges written report
+  pub talk : Talk
+  pub talked : HasTalked start now end read written (failures_in outcome talk) talk
+  pub converses : (report : Report) → report.outcome ≡ outcome → CountsExchanges report exchanges → Conversation limits end read exchanges talk written report
   pub ahead : ReadsAhead limits read (requests_of exchanges)
 
 abbrev pub IsAt : Place → Limits → LineState → LineState → List ℕ → List Exchanged → List ℕ → Type 0

@@ -14,11 +14,11 @@ use Rattle.asgi_conversation.specs.declared.input.InputEnd.{InputEnd}
 use Rattle.asgi_conversation.specs.declared.report.Outcome.TheVariants.{Idle}
 use Rattle.asgi_conversation.specs.declared.report.Report.{Report}
 use Rattle.asgi_conversation.specs.Exchanges.{Exchanged, requests_of}
-use Rattle.asgi_conversation.specs.Persistence.{Converses}
 use Rattle.asgi_conversation.specs.Promised.{ArePromised}
-use Rattle.asgi_conn.specs.Lines.{LineState, HasMoved}
-use Rattle.asgi_conn.specs.Half.{failures_of}
+use Rattle.asgi_conversation.specs.Sessions.{Talk, Conversation}
+use Rattle.asgi_conn.specs.Lines.{LineState}
 use Rattle.asgi_conn.specs.ReadAhead.{ReadsAhead}
+use Rattle.asgi_conn.specs.Talking.{HasTalked, failures_in}
 
 -- One connection was served.
 pub record Serves (answers : Scope → List Incoming → List Outgoing → Option EndKind → Type 0) (limits : Limits) (client server : Option Peer) (state : List (List ℕ × StateValue))
@@ -27,10 +27,12 @@ pub record Serves (answers : Scope → List Incoming → List Outgoing → Optio
   pub read : List ℕ
   pub end : InputEnd
   pub written : List ℕ
-  pub moved : HasMoved old new end read written (failures_of report.outcome)
+  -- what passed over the line once an opening handshake was accepted
+  pub talk : Talk
+  pub talked : HasTalked old new end read written (failures_in report.outcome talk) talk
   -- they, the exchanges and the report are a conversation
   pub exchanges : List Exchanged
-  pub converses : Converses limits end read exchanges written report
+  pub converses : Conversation limits end read exchanges talk written report
   -- so much of what left the line is ahead of their requests, and no more
   pub ahead : ReadsAhead limits read (requests_of exchanges)
   -- what was heard and said in each of them is as the application promises it, of a scope with this client, this server and a

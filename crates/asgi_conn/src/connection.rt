@@ -3,7 +3,7 @@ ghost use Rattle.std.specs.Prelude.{◌≡◌, ◌≢◌, ◌+◌, ◌<◌, ◌�
 ghost use Rattle.std.specs.Io.KnownBytes.{Appends};
 ghost use Rattle.asgi_types.specs.declared.facts.Facts.{Facts};
 ghost use Rattle.asgi_types.specs.declared.limits.Limits.{Limits};
-ghost use Rattle.asgi_types.specs.declared.scope.Kind.TheVariants.{Http};
+ghost use Rattle.asgi_types.specs.declared.scope.Kind.TheVariants.{Http, WebSocket};
 ghost use Rattle.asgi_types.specs.declared.scope.Peer.{Peer};
 ghost use Rattle.asgi_types.specs.declared.scope.Scope.{Scope};
 ghost use Rattle.asgi_types.specs.declared.state.StateValue.{StateValue};
@@ -29,9 +29,11 @@ ghost use Rattle.asgi_conn.specs.Lines.{LineState, state_of};
 ghost use Rattle.asgi_conn.specs.Loop.{Rests, EndsSo, IsAt, IsTallied, Serving, IsBetween, IsLeft, HasRoom};
 ghost use Rattle.asgi_conn.specs.Running.{OfEnd, MayRun, IsOpened};
 ghost use Rattle.asgi_conn.specs.Serving.{Serves};
+ghost use Rattle.asgi_conn.specs.SessionHalf.{SessionScene, OpensHandshake};
 
 use crate::half::{ConnHalf, Stage};
 use crate::runner::{AppSide, Runner};
+use crate::session_half::SessionHalf;
 use crate::tally::Tally;
 use crate::wire::{Wire, write};
 use asgi_apps::{AppTask, Application, Running};
@@ -43,9 +45,6 @@ use asgi_response::{ResponseText, refusal_text};
 use asgi_types::{Facts, Framing, Kind, Limits, Peer, Scope, State};
 use asgi_ws::Line;
 use std::alloc::{AllocError, Global};
-
-/// The status that answers an opening handshake, since no sessions are served (RFC 9110, section 15.6.2).
-const NOT_IMPLEMENTED: u16 = 501;
 
 /// Where a connection stands from request to request.
 #[derive(Drop)]
@@ -149,12 +148,12 @@ fn step<A: Application, L: Line, U: Runner, P: Pause>(
         Ok(Next::Need) => wait(wire, line, pause, &mut tally.turns),
         Ok(Next::Bad(status)) => refuse(status, line),
         Ok(Next::Head(scope, facts)) => {
-            if let Framing::Upgrade = facts.framing {
-                return refuse(NOT_IMPLEMENTED, line);
-            }
             let Ok(scope) = scope_of(wire.alloc, scope, client, server, state) else {
                 return Place::Ended(Outcome::NoMemory);
             };
+            if let Framing::Upgrade = facts.framing {
+                return open(wire, &scope, facts, app, line, runner, pause, tally);
+            }
             answer(wire, &scope, facts, app, line, runner, pause, tally)
         }
         Ok(Next::Event(_)) => unreachable!(),
@@ -364,5 +363,62 @@ fn leave(half: ConnHalf) -> Place
         Stage::Running => unreachable!(),
         Stage::Ending(_) => unreachable!(),
         Stage::Cut(_) => unreachable!(),
+    }
+}
+
+// ---- a session
+
+/// Serves the exchange of an opening handshake, in which the connection ends.
+fn open<A: Application, L: Line, U: Runner, P: Pause>(
+    wire: Wire,
+    scope: &Scope,
+    facts: Facts,
+    app: &A,
+    line: &mut L,
+    runner: &mut U,
+    pause: &mut P,
+    tally: &mut Tally,
+) -> Place
+    requires room { HasRoom tally.old }
+    requires websocket { kind_of scope.now ≡ WebSocket }
+    requires upgrade { facts.framing ≡ Framing.Upgrade }
+    requires opens { (scene : SessionScene) × (read : List ℕ) × OpensHandshake scene (state_of L.Reads L.Counts L.Messages.own line.old) wire facts read }
+    ensures serves { (scene : SessionScene) (client server : Option Peer) (state : List (List ℕ × StateValue)) (read : List ℕ)
+        → scope.now ≡ scope_with scene.scope client server state → OpensHandshake scene (state_of L.Reads L.Counts L.Messages.own line.old) wire facts read
+        → ArePromised (A.answers app.now) client server state scene.exchanges → IsTallied tally.old scene.exchanges
+        → Serving (A.answers app.now) scene.limits client server state scene.start (state_of L.Reads L.Counts L.Messages.own line.new) tally.new result }
+    ensures ends { ¬ (IsBetween result) }
+    ensures idle { result ≡ Place.Ended Outcome.Idle → IsAtLimit tally.new.turns }
+    ensures counts { (turned : List Turn) (pauses : ℕ) → CountsTurns tally.old.turns.turn_limit tally.old.turns.idle_limit turned pauses (P.count pause.old) tally.old.turns.turns tally.old.turns.idle
+        → (more : List Turn) × CountsTurns tally.old.turns.turn_limit tally.old.turns.idle_limit (turned ++ more) pauses (P.count pause.new) tally.new.turns.turns tally.new.turns.idle }
+    ensures turn_limits { (tally.new.turns.turn_limit ≡ tally.old.turns.turn_limit) × (tally.new.turns.idle_limit ≡ tally.old.turns.idle_limit) }
+{
+    let mut wire = wire;
+    let Ok(frames) = wire.take_frames() else {
+        return Place::Ended(Outcome::NoMemory);
+    };
+    let Ok(own) = facts.copy(wire.alloc) else {
+        return Place::Ended(Outcome::NoMemory);
+    };
+    let text = ResponseText::new(wire.alloc, &own);
+    let Ok((end, app_end)) = runner.make(wire.alloc, Kind::WebSocket, facts, wire.limits.ring)
+    else {
+        return Place::Ended(Outcome::NoMemory);
+    };
+    let side = call(wire.alloc, app, scope, app_end);
+    let mut half = SessionHalf::begin(wire, own, text, frames);
+    let kind = runner.run(&mut half, line, pause, &mut tally.turns, end, side);
+    tally.count(kind);
+    Place::Ended(outcome_of(half))
+}
+
+/// How a session that is over ends its connection.
+fn outcome_of(half: SessionHalf) -> Outcome
+    requires { (outcome : Outcome) × (half.stage ≡ Stage.Over (Following.ConnectionEnds outcome)) }
+    ensures { half.stage ≡ Stage.Over (Following.ConnectionEnds result) }
+{
+    match half.stage {
+        Stage::Over(Following::ConnectionEnds(outcome)) => outcome,
+        _ => unreachable!(),
     }
 }

@@ -5,15 +5,19 @@ ghost use Rattle.asgi_exchange.specs.Calls.{IsViewOf};
 ghost use Rattle.asgi_exchange.specs.Exchange.{Exchange, IsSteady};
 ghost use Rattle.asgi_exchange.specs.Halves.{ConnKeeps};
 ghost use Rattle.asgi_exchange.specs.Http.{http};
+ghost use Rattle.asgi_exchange.specs.Session.{Output};
 ghost use Rattle.asgi_exchange.specs.Views.{ConnView};
+ghost use Rattle.asgi_ws.specs.declared.messages.Msg.{Msg};
 ghost use Rattle.asgi_conversation.specs.declared.following.Following.{Following};
 ghost use Rattle.asgi_conversation.specs.declared.following.Following.TheVariants.{NextRequest};
 ghost use Rattle.asgi_conn.specs.AnyHalf.{LeadsOn, LeadsInLine};
 ghost use Rattle.asgi_conn.specs.HttpHalf.{HttpScene, StandsIn, following_of};
 ghost use Rattle.asgi_conn.specs.Limits.{IsSettled};
 ghost use Rattle.asgi_conn.specs.Lines.{LineState, state_of};
+ghost use Rattle.asgi_conn.specs.SessionHalf as session;
 
 use crate::half::ConnHalf;
+use crate::session_half::SessionHalf;
 use asgi_io::Turn;
 use asgi_pipes::ConnEnd;
 use asgi_ws::Line;
@@ -99,4 +103,41 @@ impl Half for ConnHalf {
     ghost keeps = { λ scene now half read view s. subst (λ (l : Limits). ConnKeeps (http l scene.at.facts) view) s.limits s.stands.keeps };
 
     ghost steady = { λ scene. http_is_steady scene.limits scene.at.facts };
+}
+
+impl Half for SessionHalf {
+    ghost use Rattle.asgi_exchange.proofs.SessionLemmas.{web_socket_is_steady};
+    ghost use Rattle.asgi_conversation.specs.Sessions.{handshake_of};
+
+    ghost In = { Msg };
+
+    ghost Out = { Output };
+
+    ghost Scene = { session.SessionScene };
+
+    ghost exchange = { session.exchange_of };
+
+    ghost stands = { session.Stands };
+
+    ghost following = { λ half. following_of half.stage };
+
+    fn turn<L: Line, C: ConnEnd>(&mut self, line: &mut L, end: &mut C, app_goes_on: bool) -> Turn {
+        SessionHalf::turn(self, line, end, app_goes_on)
+    }
+
+    fn is_settled(&self) -> bool {
+        SessionHalf::is_settled(self)
+    }
+
+    fn give_up<C: ConnEnd>(&mut self, end: &mut C) {
+        SessionHalf::give_up(self, end);
+    }
+
+    fn ring(&self) -> usize {
+        self.wire.limits.ring
+    }
+
+    ghost keeps = { λ scene now half read view s. s.keeps };
+
+    ghost steady = { λ scene. web_socket_is_steady (handshake_of scene.facts) scene.facts scene.limits.ring };
 }

@@ -8,6 +8,7 @@ mod inline;
 pub mod laws;
 mod piece;
 mod runner;
+mod session_half;
 mod tally;
 mod wire;
 
@@ -18,3 +19,4 @@ pub use connection::serve_connection;
 pub use exchange_half::Half;
 pub use inline::Inline;
 pub use runner::{AppSide, Runner};
+pub use session_half::SessionHalf;

@@ -1,10 +1,13 @@
 //! What a connection keeps from its first byte to its last.
-ghost use Rattle.std.specs.Prelude.{◌≡◌, ◌<◌, ◌≤◌, ◌++◌, [], ℕ, List, false, take, length, IfNone, IfSome, OnOk};
+ghost use Rattle.std.specs.Prelude.{◌≡◌, ◌<◌, ◌≤◌, ◌++◌, ◌∷◌, [], ℕ, List, false, take, length, IfNone, IfOk, IfSome, OnOk};
 ghost use Rattle.std.specs.Io.KnownBytes.{Appends};
 ghost use Rattle.asgi_io.specs.Answers.{bytes_of};
 ghost use Rattle.asgi_io.specs.Counting.{RoseBy};
 ghost use Rattle.asgi_io.specs.Writing.{TriesWrites, out_of};
 ghost use Rattle.asgi_request.specs.declared.next.Next.{Next};
+ghost use Rattle.asgi_types.specs.declared.facts.Facts.{Facts};
+ghost use Rattle.asgi_types.specs.declared.scope.Scope.{Scope};
+ghost use Rattle.asgi_request.specs.Opened.{BeginsWithHandshake, HasClosed};
 ghost use Rattle.asgi_request.specs.Reading.{StandsFor};
 ghost use Rattle.asgi_conn.specs.Lines.{LineState, HasMoved, how_put, input_behind, piece_size, session_of, state_of};
 ghost use Rattle.asgi_conversation.specs.TaskEnds.{has_ended};
@@ -16,6 +19,7 @@ use asgi_request::RequestReader;
 use asgi_types::Limits;
 use asgi_ws::Line;
 use std::alloc::{AllocError, Global};
+use std::mem;
 
 /// What a connection keeps from its first byte to its last.
 #[derive(Drop)]
@@ -89,6 +93,18 @@ impl Wire {
             }
             Answer::Paused => Ok(()),
         }
+    }
+
+    /// The bytes behind an opening handshake, whose head was given last: the first of its frames.
+    pub fn take_frames(&mut self) -> Result<Vec<u8>, AllocError>
+        ensures frames { IfOk result (λ taken. (bytes : List ℕ) (given : List Next) (behind : List ℕ) (scope : Scope) (facts : Facts) (frames : List ℕ)
+            → HasClosed self.old.requests.limits bytes given behind → BeginsWithHandshake self.old.requests.limits behind scope facts frames
+            → StandsFor self.old.requests bytes (given ++ Next.Head scope facts ∷ []) → taken.items ≡ frames) }
+        ensures same { self.new ≡ record self.old { requests = self.new.requests } }
+    {
+        let _whole = self.requests.next()?;
+        let fresh = RequestReader::new(self.alloc, self.limits);
+        Ok(mem::replace(&mut self.requests, fresh).rest())
     }
 
     /// Writes the text in hand, and answers how much of it went out where a write failed.

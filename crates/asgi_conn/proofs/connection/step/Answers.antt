@@ -100,8 +100,30 @@ returns-in-Upgrade-clause-serves g c limits start s =
     let at = lemma.rested answers limits c.args.client.now c.args.server.now c.args.state.now start now c.args.tally.now c.args.place c.in-Between.wire c.in-Between.is s in
     let head = c.in-Ok-Head in
     let gave = lemma.given_as c.in-Between.wire.requests c.next.new.self head.field-0 (Head head.scope head.facts) head.field-0-is (λ never. cc) head.ensures.given in
-    lemma.handshaken answers limits c.args.client.now c.args.server.now c.args.state.now start now c.args.tally.now c.in-Between.wire at
-    c.next.new.self c.next.ensures.limits (state_of g.L.Reads g.L.Counts g.L.Messages c.refuse-in-Upgrade.new.line) c.refuse-in-Upgrade.result head.scope head.facts gave c.in-Upgrade.is c.refuse-in-Upgrade.ensures.refuses
+    lemma.opened answers limits c.args.client.now c.args.server.now c.args.state.now start now c.args.tally.now c.in-Between.wire at
+    c.next.new.self c.next.ensures.limits head.scope head.facts gave c.in-Upgrade.is c.in-Ok.scope (state_of g.L.Reads g.L.Counts g.L.Messages c.open.new.line) c.open.new.tally c.open.result
+    c.in-Ok.ensures c.open.ensures.serves
 
-pub returns-in-Upgrade-clause-counts : goal.returns-in-Upgrade-clause-counts
-returns-in-Upgrade-clause-counts g c turned pauses counts = lemma.counts_still _ _ turned pauses _ _ _ counts
+pub open-requires-clause-websocket : goal.open-requires-clause-websocket
+open-requires-clause-websocket g c =
+    let now = state_of g.L.Reads g.L.Counts g.L.Messages c.args.line.now in
+    let answers = g.A.Application.answers c.args.app.now in
+    let limits = c.requires.stands.0 in
+    let start = c.requires.stands.1 in
+    let at = lemma.rested answers limits c.args.client.now c.args.server.now c.args.state.now start now c.args.tally.now c.args.place c.in-Between.wire c.in-Between.is c.requires.stands.2 in
+    let head = c.in-Ok-Head in
+    let gave = lemma.given_as c.in-Between.wire.requests c.next.new.self head.field-0 (Head head.scope head.facts) head.field-0-is (λ never. cc) head.ensures.given in
+    lemma.is_websocket answers limits c.args.client.now c.args.server.now c.args.state.now start now c.args.tally.now c.in-Between.wire at
+    c.next.new.self c.next.ensures.limits head.scope head.facts gave c.in-Upgrade.is c.in-Ok.scope c.in-Ok.ensures
+
+pub open-requires-clause-opens : goal.open-requires-clause-opens
+open-requires-clause-opens g c =
+    let now = state_of g.L.Reads g.L.Counts g.L.Messages c.args.line.now in
+    let answers = g.A.Application.answers c.args.app.now in
+    let limits = c.requires.stands.0 in
+    let start = c.requires.stands.1 in
+    let at = lemma.rested answers limits c.args.client.now c.args.server.now c.args.state.now start now c.args.tally.now c.args.place c.in-Between.wire c.in-Between.is c.requires.stands.2 in
+    let head = c.in-Ok-Head in
+    let gave = lemma.given_as c.in-Between.wire.requests c.next.new.self head.field-0 (Head head.scope head.facts) head.field-0-is (λ never. cc) head.ensures.given in
+    (_, at.read, lemma.opens_handshake answers limits c.args.client.now c.args.server.now c.args.state.now start now c.args.tally.now c.in-Between.wire at
+    c.next.new.self c.next.ensures.limits head.scope head.facts gave c.in-Upgrade.is)

@@ -7,7 +7,7 @@ use Rattle.asgi_conn.proofs.half.ConnHalf.clear.Goals as goal
 pub returns-in-None-clause-leads : goal.returns-in-None-clause-leads
 returns-in-None-clause-leads g c scene line read view x v =
     let o = c.offer_disconnect-first.ensures in
-    let off = offers_cut g.C.ConnEnd c.args.end.now c.offer_disconnect-first.new.self view c.offer_disconnect-first.result v o.first o.yes o.no o.broken o.same.0 in
+    let off = offers_cut g.C.ConnEnd c.args.end.now c.offer_disconnect-first.new.self view c.offer_disconnect-first.result _ v o.first o.yes o.no o.broken o.same.0 in
     let waits = cut_waits scene line c.args.self.now read view c.args.outcome x c.requires off.0 off.1 in
     let kept = c.take.ensures.same in
     (off.0, waits, (off.2.0 ∙ sym kept.0, off.2.1 ∙ sym kept.1, off.2.2 ∙ sym c.in-None.ensures.none.0))
@@ -15,7 +15,7 @@ returns-in-None-clause-leads g c scene line read view x v =
 pub returns-in-Some-Event-clause-leads : goal.returns-in-Some-Event-clause-leads
 returns-in-Some-Event-clause-leads g c scene line read view x v =
     let o = c.offer_disconnect-first.ensures in
-    let off = offers_cut g.C.ConnEnd c.args.end.now c.offer_disconnect-first.new.self view c.offer_disconnect-first.result v o.first o.yes o.no o.broken o.same.0 in
+    let off = offers_cut g.C.ConnEnd c.args.end.now c.offer_disconnect-first.new.self view c.offer_disconnect-first.result _ v o.first o.yes o.no o.broken o.same.0 in
     let waits = cut_waits scene line c.args.self.now read view c.args.outcome x c.requires off.0 off.1 in
     let kept = c.take.ensures.same in
     let item = c.in-Some-Event.field-0-0 in (
@@ -31,7 +31,7 @@ returns-in-Some-Event-clause-leads g c scene line read view x v =
 pub returns-clause-leads : goal.returns-clause-leads
 returns-clause-leads g c scene line read view x v =
     let o = c.offer_disconnect-first.ensures in
-    let off = offers_cut g.C.ConnEnd c.args.end.now c.offer_disconnect-first.new.self view c.offer_disconnect-first.result v o.first o.yes o.no o.broken o.same.0 in
+    let off = offers_cut g.C.ConnEnd c.args.end.now c.offer_disconnect-first.new.self view c.offer_disconnect-first.result _ v o.first o.yes o.no o.broken o.same.0 in
     let waits = cut_waits scene line c.args.self.now read view c.args.outcome x c.requires off.0 off.1 in
     let kept = c.take.ensures.same in
     let item = c.in-Some-Ended.field-0-0 in (

@@ -1,17 +1,18 @@
 use Rattle.std.proofs.Common.{◌∙◌}
 use Rattle.asgi_exchange.specs.Calls.{IsViewOf}
+use Rattle.asgi_conn.specs.Half.{Stands}
 use Rattle.asgi_conn.proofs.LeadsLemmas.{in_then}
 use Rattle.asgi_conn.proofs.half.ConnHalf.offer_all.Goals as goal
 
 pub returns-then-not-offer_one-clause-leads : goal.returns-then-not-offer_one-clause-leads
 returns-then-not-offer_one-clause-leads g c =
-    in_then c.args.self.now c.loop-event.self c.offer_one.new.self (IsViewOf g.C.ConnEnd c.args.end.now) (IsViewOf g.C.ConnEnd c.loop-event.end) (IsViewOf g.C.ConnEnd c.offer_one.new.end)
+    in_then Stands c.args.self.now c.loop-event.self c.offer_one.new.self (IsViewOf g.C.ConnEnd c.args.end.now) (IsViewOf g.C.ConnEnd c.loop-event.end) (IsViewOf g.C.ConnEnd c.offer_one.new.end)
     c.loop-event.invariant.leads c.offer_one.ensures.leads
 
 pub loop-event-preserved : goal.loop-event-preserved
 loop-event-preserved g c = record {
   leads =
-      in_then c.args.self.now c.loop-event.self c.offer_one.new.self (IsViewOf g.C.ConnEnd c.args.end.now) (IsViewOf g.C.ConnEnd c.loop-event.end) (IsViewOf g.C.ConnEnd c.offer_one.new.end)
+      in_then Stands c.args.self.now c.loop-event.self c.offer_one.new.self (IsViewOf g.C.ConnEnd c.args.end.now) (IsViewOf g.C.ConnEnd c.loop-event.end) (IsViewOf g.C.ConnEnd c.offer_one.new.end)
       c.loop-event.invariant.leads c.offer_one.ensures.leads;
   tag = c.offer_one.ensures.tag.0 ∙ c.loop-event.invariant.tag;
   ring = c.offer_one.ensures.tag.1 ∙ c.loop-event.invariant.ring;

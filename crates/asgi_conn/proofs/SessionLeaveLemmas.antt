@@ -1,0 +1,251 @@
+-- Where a session leaves its connection: at its end.
+use Rattle.std.specs.Prelude.{if◌then◌else◌}
+use Rattle.std.proofs.Common.{◌≡◌, ◌≢◌, ℕ, Bool, true, false, List, [], ◌∷◌, ◌++◌, ◌⊎◌, inl, inr, refl, sym, ap, ◌∙◌, append_assoc, append-nil, subst, Option, Some, None}
+use mathlib.Core.List.{IsPrefix}
+use Rattle.asgi_types.specs.declared.end_kind.EndKind.{EndKind}
+use Rattle.asgi_types.specs.declared.end_kind.EndKind.TheVariants as kind
+use Rattle.asgi_types.specs.declared.facts.Facts.{Facts}
+use Rattle.asgi_types.specs.declared.incoming.Incoming.{Incoming}
+use Rattle.asgi_types.specs.declared.outgoing.Outgoing.{Outgoing}
+use Rattle.asgi_types.specs.declared.outgoing.Outgoing.TheVariants.{ResponseStart, ResponseBody, WsAccept, WsSend, WsClose, DenialStart, DenialBody, StartupComplete, StartupFailed, ShutdownComplete, ShutdownFailed}
+use Rattle.asgi_types.specs.declared.scope.Kind.TheVariants.{WebSocket}
+use Rattle.asgi_protocol.specs.Lawful.{IsLawful}
+use Rattle.asgi_protocol.specs.Shapes.{is_closed}
+use Rattle.asgi_protocol.proofs.PassingLemmas.{fronts_are_lawful}
+use Rattle.asgi_exchange.specs.Items.{end_of}
+use Rattle.asgi_exchange.specs.Messages.{has_close}
+use Rattle.asgi_exchange.specs.Session.{Output, session_output, session_ending}
+use Rattle.asgi_exchange.specs.SessionExchange.{HasSessionCause, IsSessionExchange, ending_behind, session_text}
+use Rattle.asgi_exchange.specs.Steps.{is_by_input}
+use Rattle.asgi_exchange.specs.Views.{ByCut, World, said_of, taken_of}
+use Rattle.asgi_exchange.proofs.ListLemmas.{prefix_same, prefix_trans, prefix_front}
+use Rattle.asgi_exchange.proofs.SessionLemmas.{lawful_is_accepted, web_socket_is_steady}
+use Rattle.asgi_ws.specs.declared.messages.Handed.{Handed}
+use Rattle.asgi_ws.specs.declared.messages.Msg.{Msg}
+use Rattle.asgi_conversation.specs.declared.following.Following.TheVariants.{ConnectionEnds}
+use Rattle.asgi_conversation.specs.declared.report.Outcome.{Outcome}
+use Rattle.asgi_conversation.specs.declared.report.Outcome.TheVariants.{Finished, Refused, InputBroke, WriteFailed, Idle, NoMemory}
+use Rattle.asgi_conversation.specs.declared.report.Report.{Report}
+use Rattle.asgi_conversation.specs.Exchanges.{Exchanged}
+use Rattle.asgi_conversation.specs.Persistence.{CountsExchanges}
+use Rattle.asgi_conversation.specs.Sessions.{Talk, silence, handshake_of, HearsSession, IsLeft, ByApplication, ByClient, ByCut as left_by_cut, IsDoneTalking, IsNext, Saying, Ending, StopsTalking, Opens, Accepted, Silent, ServesHandshake, EndsInSession, ConversesInSession, after_session, session_outcome, open_outcome, session_out, spoken}
+use Rattle.asgi_conversation.specs.TaskEnds.{is_cut}
+use Rattle.asgi_conn.specs.declared.half.Stage.{Stage}
+use Rattle.asgi_conn.specs.declared.half.Stage.TheVariants.{Over}
+use Rattle.asgi_conn.specs.declared.session_half.Answered.{Answered}
+use Rattle.asgi_conn.specs.declared.session_half.Answered.TheVariants as answered
+use Rattle.asgi_conn.specs.declared.session_half.SessionHalf.{SessionHalf}
+use Rattle.asgi_conn.specs.SessionHalf.{SessionScene, Stands, IsAt, IsCarried, IsCarrying, IsCutShort, IsSilent, EndsByTask, known, output_in, said_in, session_of, talk_in}
+use Rattle.asgi_conn.specs.Lines.{LineState}
+
+-- ---- how an exchange may end that was not cut short
+
+-- the ways in which a task that ended by itself ends the connection
+data Ways (said : List Outgoing) (broke : Bool) (received : List Msg) : Type 0 where
+  IsFinished : session_outcome said broke received ≡ Finished → Ways said broke received
+  IsRefused : session_outcome said broke received ≡ Refused 500 → Ways said broke received
+  IsBroken : session_outcome said broke received ≡ InputBroke → broke ≡ true → has_close received ≡ false → Ways said broke received
+
+open_ways : (said : List Outgoing) (broke : Bool) (received : List Msg) → session_outcome said broke received ≡ open_outcome broke received → Ways said broke received
+open_ways said false received is = IsFinished is
+open_ways said true received is = by (has_close received) refl
+  where
+    by : (b : Bool) → has_close received ≡ b → Ways said true received
+    by true h = IsFinished (is ∙ ap (λ (c : Bool). if c then Finished else InputBroke) h)
+    by false h = IsBroken (is ∙ ap (λ (c : Bool). if c then Finished else InputBroke) h) refl h
+
+session_ways : (said : List Outgoing) (broke : Bool) (received : List Msg) → Ways said broke received
+session_ways [] broke received = IsRefused refl
+session_ways (DenialStart status headers ∷ []) broke received = IsRefused refl
+session_ways (DenialStart status headers ∷ event ∷ events) broke received = IsFinished refl
+session_ways (WsAccept subprotocol headers ∷ events) broke received = by (is_closed WebSocket (WsAccept subprotocol headers ∷ events)) refl
+  where
+    by : (b : Bool) → is_closed WebSocket (WsAccept subprotocol headers ∷ events) ≡ b → Ways (WsAccept subprotocol headers ∷ events) broke received
+    by true h = IsFinished (ap (λ (c : Bool). if c then Finished else open_outcome broke received) h)
+    by false h = open_ways (WsAccept subprotocol headers ∷ events) broke received (ap (λ (c : Bool). if c then Finished else open_outcome broke received) h)
+session_ways (WsClose code reason ∷ events) broke received = IsFinished refl
+session_ways (WsSend payload ∷ events) broke received = IsFinished refl
+session_ways (DenialBody body more_body ∷ events) broke received = IsFinished refl
+session_ways (ResponseStart status headers ∷ events) broke received = IsFinished refl
+session_ways (ResponseBody body more_body ∷ events) broke received = IsFinished refl
+session_ways (StartupComplete state ∷ events) broke received = IsFinished refl
+session_ways (StartupFailed message ∷ events) broke received = IsFinished refl
+session_ways (ShutdownComplete ∷ events) broke received = IsFinished refl
+session_ways (ShutdownFailed message ∷ events) broke received = IsFinished refl
+
+broken_off : (said : List Outgoing) (broke : Bool) (received : List Msg) → Ways said broke received → session_outcome said broke received ≡ InputBroke
+    → (broke ≡ true) × (has_close received ≡ false)
+broken_off said broke received (IsFinished is) e = cc (is, e)
+broken_off said broke received (IsRefused is) e = cc (is, e)
+broken_off said broke received (IsBroken is by none) e = (by, none)
+
+why_broken : (ended : EndKind) (said : List Outgoing) (broke : Bool) (received : List Msg) → after_session ended said broke received ≡ InputBroke → (broke ≡ true) × (has_close received ≡ false)
+why_broken kind.Returned said broke received e = broken_off said broke received (session_ways said broke received) e
+why_broken kind.Faulted said broke received e = broken_off said broke received (session_ways said broke received) e
+why_broken kind.Idle said broke received e = cc e
+
+no_failure : (said : List Outgoing) (broke : Bool) (received : List Msg) (n : ℕ) → Ways said broke received → session_outcome said broke received ≡ WriteFailed n → ⊥
+no_failure said broke received n (IsFinished is) e = cc (is, e)
+no_failure said broke received n (IsRefused is) e = cc (is, e)
+no_failure said broke received n (IsBroken is by none) e = cc (is, e)
+
+never_fails : (ended : EndKind) (said : List Outgoing) (broke : Bool) (received : List Msg) (n : ℕ) → after_session ended said broke received ≡ WriteFailed n → ⊥
+never_fails kind.Returned said broke received n e = no_failure said broke received n (session_ways said broke received) e
+never_fails kind.Faulted said broke received n e = no_failure said broke received n (session_ways said broke received) e
+never_fails kind.Idle said broke received n e = cc e
+
+-- ---- the text of more
+
+output_grows : (facts : Facts) (ring : ℕ) (said more : List Outgoing) → IsPrefix (session_output (handshake_of facts) facts said) (session_output (handshake_of facts) facts (said ++ more))
+output_grows facts ring said [] = prefix_same (session_output (handshake_of facts) facts said) (session_output (handshake_of facts) facts (said ++ [])) (ap (session_output (handshake_of facts) facts) (sym (append-nil said)))
+output_grows facts ring said (event ∷ more) =
+    let on = output_grows facts ring (said ++ event ∷ []) more in
+    prefix_trans (session_output (handshake_of facts) facts said) (session_output (handshake_of facts) facts (said ++ event ∷ [])) (session_output (handshake_of facts) facts (said ++ event ∷ more))
+    ((web_socket_is_steady (handshake_of facts) facts ring).text_grows said event)
+    (subst (λ (l : List Outgoing). IsPrefix (session_output (handshake_of facts) facts (said ++ event ∷ [])) (session_output (handshake_of facts) facts l)) (append_assoc said (event ∷ []) more) on)
+
+-- ---- nothing passed by
+
+is_silence : (leftover : Option (List ℕ)) (received : List Msg) (is_over : Bool) (handed : List Handed) → leftover ≡ None → received ≡ [] → is_over ≡ false → handed ≡ []
+    → (let talk : Talk = record { leftover = leftover; received = received; is_over = is_over; handed = handed } in talk) ≡ silence
+is_silence leftover received is_over handed l r o h =
+    ap (λ (a : Option (List ℕ)). let talk : Talk = record { leftover = a; received = received; is_over = is_over; handed = handed } in talk) l
+    ∙ ap (λ (a : List Msg). let talk : Talk = record { leftover = None; received = a; is_over = is_over; handed = handed } in talk) r
+    ∙ ap (λ (a : Bool). let talk : Talk = record { leftover = None; received = []; is_over = a; handed = handed } in talk) o
+    ∙ ap (λ (a : List Handed). let talk : Talk = record { leftover = None; received = []; is_over = false; handed = a } in talk) h
+
+module _ (scene : SessionScene) (now : LineState) (half : SessionHalf) (read : List ℕ) (w : World Msg Output) (outcome : Outcome) (s : Stands scene now half read w.conn)
+    (i : IsSessionExchange (handshake_of scene.facts) scene.facts w) (over : half.stage ≡ Over (ConnectionEnds outcome)) where
+  abbrev pub one : Exchanged
+  one = session_of scene w
+
+  abbrev pub talk : Talk
+  talk = talk_in half w.conn s.leftover s.handed
+
+  ends_so : EndsByTask scene w.conn outcome ⊎ IsCutShort scene w.conn outcome
+  ends_so = subst (λ (st : Stage). IsAt st scene half w.conn) over s.stage
+
+  all_lawful : said_in scene w.conn ≡ taken_of w.conn
+  all_lawful =
+      lawful_is_accepted scene.facts (taken_of w.conn)
+      (fronts_are_lawful WebSocket scene.facts (taken_of w.conn) i.taken.0 (subst (λ (l : List Outgoing). IsLawful WebSocket scene.facts l) (sym i.taken.1) i.lawful))
+
+  -- ---- the exchange serves the handshake
+
+  opens_accepted : IsCarrying scene w.conn s.text s.leftover → Opens scene.frames one talk s.text
+  opens_accepted c =
+      Accepted c.subprotocol c.headers (c.events ++ i.taken.0) (sym i.taken.1 ∙ ap (λ (l : List Outgoing). l ++ i.taken.0) (sym all_lawful ∙ c.said)) c.text_is c.kept
+
+  opens_silent : IsSilent half w.conn s.leftover s.handed → Opens scene.frames one talk s.text
+  opens_silent c = Silent (is_silence s.leftover w.conn.arrived half.is_over s.handed c.kept c.received c.over c.sent)
+
+  opens : (a : Answered) → IsCarried a scene half w.conn s.text s.leftover s.handed → Opens scene.frames one talk s.text
+  opens answered.Unanswered c = opens_silent c.0
+  opens answered.Refused c = opens_silent c
+  opens answered.Open c = opens_accepted c
+  opens answered.Closed c = opens_accepted c
+
+  cut_short : (o : Outcome) → IsCutShort scene w.conn o → is_cut o ≡ true
+  cut_short (WriteFailed n) c = refl
+  cut_short Idle c = refl
+  cut_short NoMemory c = refl
+  cut_short Finished c = absurd c
+  cut_short (Refused status) c = absurd c
+  cut_short InputBroke c = absurd c
+
+  is_cut_by : w.conn.broken ≡ Some ByCut → is_cut outcome ≡ true
+  is_cut_by b = elim ends_so [ inl t ↦ cc (t.uncut, b) | inr c ↦ cut_short outcome c ]
+
+  left : (events : List Incoming) (it : Incoming) → HasSessionCause w events it → IsLeft (is_cut outcome) one w.conn.arrived events it
+  left events it (inl c) = ByApplication c.0 c.1
+  left events it (inr (inl c)) = ByClient (ap is_by_input c.0) c.1 c.2
+  left events it (inr (inr c)) = left_by_cut (is_cut_by c.0) c.1
+
+  cause : (times : ℕ) (events : List Incoming) (it : Incoming) → (times ≡ 0) ⊎ HasSessionCause w events it → (times ≡ 0) ⊎ IsLeft (is_cut outcome) one w.conn.arrived events it
+  cause times events it (inl none) = inl none
+  cause times events it (inr c) = inr (left events it c)
+
+  pub serves : ServesHandshake scene.limits (is_cut outcome) s.fixed.behind one talk s.text
+  serves = record {
+    frames = scene.frames;
+    head = s.fixed.head;
+    opens = opens half.answered s.carried;
+    hears = record { first = i.events; times = i.times; disconnect = i.disconnect; in_order = i.heard; due = i.due; cause = cause i.times i.events i.disconnect i.cause };
+    lawful = i.lawful;
+    breaks = s.breaks;
+  }
+
+  -- ---- the end
+
+  -- once the end was taken, all was
+  taken_end : (ended : EndKind) → end_of w.conn.got ≡ Some ended → end_of w.conn.got ≢ None
+  taken_end ended is none = cc (is, none)
+
+  ended_put : (ended : EndKind) → end_of w.conn.got ≡ Some ended → end_of w.app.put ≡ Some ended
+  ended_put ended is = sym (i.end_is (taken_end ended is)) ∙ is
+
+  done : (t : EndsByTask scene w.conn outcome) → IsDoneTalking outcome one talk s.text
+  done t =
+      let all = i.ended (taken_end t.kind t.taken) in (
+        t.kind,
+        ended_put t.kind t.taken,
+        ap (λ (l : List Outgoing). after_session t.kind l (is_by_input w.conn.broken) w.conn.arrived) (sym all ∙ sym all_lawful) ∙ t.follows,
+        sym s.written ∙ t.out ∙ ap (λ (l : List Outgoing). session_text (handshake_of scene.facts) scene.facts l (end_of w.conn.got) (is_by_input w.conn.broken)) all
+            ∙ ap (λ (o : Option EndKind). session_text (handshake_of scene.facts) scene.facts (said_of w.app) o (is_by_input w.conn.broken)) (i.end_is (taken_end t.kind t.taken)),
+      )
+
+  no_more : (t : EndsByTask scene w.conn outcome) → outcome ≡ InputBroke → half.is_over ≡ true
+  no_more t is =
+      let why = why_broken t.kind (said_in scene w.conn) (is_by_input w.conn.broken) w.conn.arrived (t.follows ∙ is) in
+      elim (s.breaks why.0) [ inl closed ↦ cc (closed, why.1) | inr ends ↦ ends ]
+
+  ends_by_task : (o : Outcome) → outcome ≡ o → (t : EndsByTask scene w.conn outcome) → IsDoneTalking o one talk s.text → EndsInSession o one talk s.text
+  ends_by_task Finished is t d = d
+  ends_by_task (Refused status) is t d = d
+  ends_by_task InputBroke is t d = (d, no_more t is)
+  ends_by_task (WriteFailed n) is t d = absurd (never_fails t.kind (said_in scene w.conn) (is_by_input w.conn.broken) w.conn.arrived n (t.follows ∙ is))
+  ends_by_task Idle is t d = prefix_same (spoken s.text talk) (session_out one) d.3
+  ends_by_task NoMemory is t d = prefix_same (spoken s.text talk) (session_out one) d.3
+
+  -- what was next of what was taken is next of what was said
+  next : (out more : List Output) → IsNext (known scene w.conn) out more → IsNext one out more
+  next out more (Saying before after event said is adds) =
+      Saying before (after ++ i.taken.0) event (sym i.taken.1 ∙ ap (λ (l : List Outgoing). l ++ i.taken.0) said ∙ append_assoc before (event ∷ after) i.taken.0) is adds
+  next out more (Ending ended put is adds) =
+      let all = i.ended (taken_end ended put) in
+      Ending ended (ended_put ended put) (is ∙ ap (session_output (handshake_of scene.facts) scene.facts) all) (adds ∙ ap (λ (l : List Outgoing). session_ending scene.facts l ended (is_by_input w.conn.broken)) all)
+
+  front : IsPrefix w.conn.written (output_in scene w.conn) → IsPrefix (spoken s.text talk) (session_out one)
+  front p =
+      let taken = output_in scene w.conn in
+      let said = session_output (handshake_of scene.facts) scene.facts (said_of w.app) in
+      let grown : IsPrefix taken said = subst (λ (l : List Outgoing). IsPrefix taken (session_output (handshake_of scene.facts) scene.facts l)) i.taken.1 (output_grows scene.facts scene.limits.ring (taken_of w.conn) i.taken.0) in
+      subst (λ (l : List Output). IsPrefix l (session_out one)) s.written
+      (prefix_trans w.conn.written said (session_out one) (prefix_trans w.conn.written taken said p grown)
+      (prefix_front said (ending_behind scene.facts (said_of w.app) (end_of w.app.put) (is_by_input w.conn.broken))))
+
+  ends_cut : (o : Outcome) → IsCutShort scene w.conn o → EndsInSession o one talk s.text
+  ends_cut (WriteFailed n) c = record { out = c.out; more = c.more; is_next = next c.out c.more c.is_next; within = c.within; written_is = sym s.written ∙ c.written_is }
+  ends_cut Idle c = front c
+  ends_cut NoMemory c = front c
+  ends_cut Finished c = absurd c
+  ends_cut (Refused status) c = absurd c
+  ends_cut InputBroke c = absurd c
+
+  ends : EndsInSession outcome one talk s.text
+  ends = elim ends_so [ inl t ↦ ends_by_task outcome refl t (done t) | inr c ↦ ends_cut outcome c ]
+
+  pub converses : (report : Report) → report.outcome ≡ outcome → CountsExchanges report (scene.exchanges ++ one ∷ [])
+      → ConversesInSession scene.limits half.wire.input read (scene.exchanges ++ one ∷ []) talk (scene.before ++ s.text) report
+  converses report o c = record {
+    answered = scene.exchanges;
+    session = one;
+    in_order = refl;
+    behind = s.fixed.behind;
+    each = s.fixed.answered;
+    text = s.text;
+    serves = subst (λ (q : Outcome). ServesHandshake scene.limits (is_cut q) s.fixed.behind one talk s.text) (sym o) serves;
+    ends = subst (λ (q : Outcome). EndsInSession q one talk s.text) (sym o) ends;
+    written_is = ap (λ (l : List ℕ). l ++ s.text) s.fixed.before_is;
+    counts = c;
+  }

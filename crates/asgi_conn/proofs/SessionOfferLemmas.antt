@@ -1,0 +1,328 @@
+-- The steps of a session's half at its own end of the pair: it offers what is due, and the disconnect of a cut.
+use Rattle.std.proofs.Common.{◌≡◌, ℕ, Bool, true, false, List, [], ◌∷◌, ◌++◌, refl, sym, ap, ◌∙◌, subst, inl, inr, append_assoc, append-nil, Option, Some, None, if◌then◌else◌}
+use Rattle.std.specs.Prelude.{◌⊎◌, not, is_some, IsTrue, IsFalse}
+use Rattle.std.proofs.lemmas.List.Sums.{fold-append}
+use mathlib.Core.List.{IsPrefix}
+use Rattle.asgi_types.specs.declared.end_kind.EndKind.{EndKind}
+use Rattle.asgi_types.specs.declared.facts.Facts.{Facts}
+use Rattle.asgi_types.specs.declared.incoming.Incoming.{Incoming}
+use Rattle.asgi_types.specs.declared.incoming.Incoming.TheVariants.{WsDisconnect}
+use Rattle.asgi_types.specs.declared.outgoing.Outgoing.{Outgoing}
+use Rattle.asgi_types.specs.declared.scope.Kind.TheVariants.{WebSocket}
+use Rattle.asgi_protocol.specs.Passing.{passes}
+use Rattle.asgi_pipes.specs.declared.ends.ConnEnd as conn_end
+use Rattle.asgi_pipes.specs.declared.items.OutItem.{OutItem}
+use Rattle.asgi_pipes.specs.declared.items.OutItem.TheVariants.{Event, Ended}
+use Rattle.asgi_exchange.specs.Calls.{IsViewOf}
+use Rattle.asgi_exchange.specs.Halves.{ConnKeeps, IsOffered}
+use Rattle.asgi_exchange.specs.Items.{end_of, events_of}
+use Rattle.asgi_exchange.specs.Messages.{has_close, session_events}
+use Rattle.asgi_exchange.specs.Session.{Output, with_session_event, accepted_session, session_output}
+use Rattle.asgi_exchange.specs.Steps.{is_by_input, is_by_cut}
+use Rattle.asgi_exchange.specs.Views.{Break, ByInput, ByCut, ConnView, output, added_by, taken_of}
+use Rattle.asgi_exchange.proofs.EventLemmas.{events_append, end_event}
+use Rattle.asgi_exchange.proofs.ListLemmas.{prefix_self, prefix_trans}
+use Rattle.asgi_exchange.proofs.SessionLemmas.{web_socket_is_steady}
+use Rattle.asgi_ws.specs.declared.messages.Handed.{Handed}
+use Rattle.asgi_ws.specs.declared.messages.Msg.{Msg}
+use Rattle.asgi_conversation.specs.declared.following.Following.TheVariants.{ConnectionEnds}
+use Rattle.asgi_conversation.specs.declared.report.Outcome.{Outcome}
+use Rattle.asgi_conversation.specs.declared.report.Outcome.TheVariants as outcome
+use Rattle.asgi_conversation.specs.Exchanges.{Exchanged}
+use Rattle.asgi_conversation.specs.Sessions.{IsNext, Saying, Ending, StopsTalking, handshake_of}
+use Rattle.asgi_conn.specs.declared.half.Stage.{Stage}
+use Rattle.asgi_conn.specs.declared.half.Stage.TheVariants as stage
+use Rattle.asgi_conn.specs.declared.session_half.Answered.{Answered}
+use Rattle.asgi_conn.specs.declared.session_half.Answered.TheVariants.{Unanswered, Open, Closed, Refused}
+use Rattle.asgi_conn.specs.declared.session_half.Due.{Due}
+use Rattle.asgi_conn.specs.declared.session_half.Due.TheVariants as due
+use Rattle.asgi_conn.specs.declared.session_half.SessionHalf.{SessionHalf}
+use Rattle.asgi_conn.specs.Half.{failures_at}
+use Rattle.asgi_conn.specs.Lines.{LineState}
+use Rattle.asgi_conn.specs.SessionHalf.{SessionScene, Stands, Talks, IsAt, IsCarried, IsCutOff, IsCutShort, IsDue, exchange_of, known, output_in, said_in, talk_in, text_failures}
+use Rattle.asgi_conn.specs.Talking.{HasTalked}
+use Rattle.asgi_conn.proofs.HalfEndLemmas.{offers_cut}
+
+-- ---- what was taken grows
+
+-- what a judge passes of a list begins what it passes of a longer one
+pub accepted_grows : (facts : Facts) (events : List Outgoing) (event : Outgoing) → IsPrefix (accepted_session facts events) (accepted_session facts (events ++ event ∷ []))
+accepted_grows facts events event =
+    let r = by (passes WebSocket facts (accepted_session facts events) event) in
+    (r.0, r.1 ∙ sym (fold-append (with_session_event facts) [] events (event ∷ [])))
+  where
+    by : (b : Bool) → IsPrefix (accepted_session facts events) (if b then accepted_session facts events ++ event ∷ [] else accepted_session facts events)
+    by true = (event ∷ [], refl)
+    by false = prefix_self (accepted_session facts events)
+
+-- so do the items of a queue, of which some are no events
+pub accepted_behind : (facts : Facts) (got : List OutItem) (item : OutItem) → IsPrefix (accepted_session facts (events_of got)) (accepted_session facts (events_of (got ++ item ∷ [])))
+accepted_behind facts got (Event event) =
+    subst (λ (l : List Outgoing). IsPrefix (accepted_session facts (events_of got)) (accepted_session facts l)) (sym (events_append got (Event event ∷ []))) (accepted_grows facts (events_of got) event)
+accepted_behind facts got (Ended kind) =
+    subst (λ (l : List Outgoing). IsPrefix (accepted_session facts (events_of got)) (accepted_session facts l)) (sym (events_append got (Ended kind ∷ []) ∙ append-nil (events_of got)))
+    (prefix_self (accepted_session facts (events_of got)))
+
+output_behind : (scene : SessionScene) (got : List OutItem) (item : OutItem)
+    → IsPrefix (session_output (handshake_of scene.facts) scene.facts (events_of got)) (session_output (handshake_of scene.facts) scene.facts (events_of (got ++ item ∷ [])))
+output_behind scene got (Event event) =
+    subst (λ (l : List Outgoing). IsPrefix (session_output (handshake_of scene.facts) scene.facts (events_of got)) (session_output (handshake_of scene.facts) scene.facts l))
+    (sym (events_append got (Event event ∷ []))) ((web_socket_is_steady (handshake_of scene.facts) scene.facts scene.limits.ring).text_grows (events_of got) event)
+output_behind scene got (Ended kind) =
+    subst (λ (l : List Outgoing). IsPrefix (session_output (handshake_of scene.facts) scene.facts (events_of got)) (session_output (handshake_of scene.facts) scene.facts l))
+    (sym (events_append got (Ended kind ∷ []) ∙ append-nil (events_of got))) (prefix_self (session_output (handshake_of scene.facts) scene.facts (events_of got)))
+
+-- ---- what an end does not touch
+
+-- what the line carries, where no message arrived and what was said goes on
+pub carried_on : (answered : Answered) (scene : SessionScene) (half later : SessionHalf) (view next : ConnView Msg Output) (text : List ℕ) (leftover : Option (List ℕ)) (handed : List Handed)
+    → later.leftover ≡ half.leftover → later.is_over ≡ half.is_over → later.client_closed ≡ half.client_closed → next.arrived ≡ view.arrived → IsPrefix (said_in scene view) (said_in scene next)
+    → IsCarried answered scene half view text leftover handed → IsCarried answered scene later next text leftover handed
+carried_on Unanswered scene half later view next text leftover handed kept over closed arrived more c = (
+  record { kept = c.0.kept; received = arrived ∙ c.0.received; over = over ∙ c.0.over; unclosed = closed ∙ c.0.unclosed; sent = c.0.sent },
+  ap (λ v. v.items) kept ∙ c.1,
+)
+carried_on Refused scene half later view next text leftover handed kept over closed arrived more c =
+    record { kept = c.kept; received = arrived ∙ c.received; over = over ∙ c.over; unclosed = closed ∙ c.unclosed; sent = c.sent }
+carried_on Open scene half later view next text leftover handed kept over closed arrived more c =
+    record { kept = c.kept; subprotocol = c.subprotocol; headers = c.headers; events = c.events ++ more.0; said = sym more.1 ∙ ap (λ (l : List Outgoing). l ++ more.0) c.said; text_is = c.text_is }
+carried_on Closed scene half later view next text leftover handed kept over closed arrived more c =
+    record { kept = c.kept; subprotocol = c.subprotocol; headers = c.headers; events = c.events ++ more.0; said = sym more.1 ∙ ap (λ (l : List Outgoing). l ++ more.0) c.said; text_is = c.text_is }
+
+-- a stage that says the same of failed writes
+pub same_failures : (answered : Answered) (s t : Stage) → failures_at s ≡ failures_at t → text_failures answered s ≡ text_failures answered t
+same_failures Unanswered s t e = e
+same_failures Refused s t e = e
+same_failures Open s t e = refl
+same_failures Closed s t e = refl
+
+unbroken : (b : Option Break) → is_by_cut b ≡ false → is_by_input b ≡ false → b ≡ None
+unbroken None c i = refl
+unbroken (Some ByInput) c i = cc
+unbroken (Some ByCut) c i = cc
+
+module _ (scene : SessionScene) (line : LineState) (half : SessionHalf) (read : List ℕ) (view : ConnView Msg Output) (x : Stands scene line half read view) where
+  -- The half stands in a stage again, where the line is the same.
+  pub stands_at : (d : Due) (b : Bool) (s : Stage) (offered : List Incoming) (broken : Option Break) (got : List OutItem)
+      → failures_at half.stage ≡ failures_at s
+      → IsPrefix (said_in scene view) (said_in scene (record view { offered = offered; broken = broken; got = got }))
+      → ConnKeeps (exchange_of scene) (record view { offered = offered; broken = broken; got = got })
+      → (is_by_input broken ≡ true → (has_close view.arrived ≡ true) ⊎ (half.is_over ≡ true))
+      → IsAt s scene (record half { due = d; broke = b; stage = s }) (record view { offered = offered; broken = broken; got = got })
+      → Stands scene line (record half { due = d; broke = b; stage = s }) read (record view { offered = offered; broken = broken; got = got })
+  stands_at d b s offered broken got failures more keeps breaks at = record {
+    fixed = x.fixed;
+    text = x.text;
+    leftover = x.leftover;
+    handed = x.handed;
+    line = subst (λ (n : ℕ). HasTalked scene.start line half.wire.input read (scene.before ++ x.text) n (talk_in half view x.leftover x.handed)) (same_failures half.answered half.stage s failures) x.line;
+    written = x.written;
+    carried = carried_on half.answered scene half (record half { due = d; broke = b; stage = s }) view (record view { offered = offered; broken = broken; got = got }) x.text x.leftover x.handed refl refl refl refl more x.carried;
+    keeps = keeps;
+    breaks = breaks;
+    stage = at;
+  }
+
+  -- ---- what is due is offered
+
+  module _ (is : half.stage ≡ stage.Running) where
+    runs : Talks scene half view × (end_of view.got ≡ None) × IsDue half.due half view
+    runs = subst (λ (s : Stage). IsAt s scene half view) is x.stage
+
+    -- all that was taken is out, whatever is offered
+    talks_on : (d : Due) (b : Bool) (offered : List Incoming) (broken : Option Break) → is_by_cut broken ≡ false → b ≡ is_by_input broken
+        → Talks scene (record half { due = d; broke = b }) (record view { offered = offered; broken = broken })
+    talks_on d b offered broken uncut broke =
+        let t = runs.0 in
+        record { uncut = uncut; broke = broke; judged = t.judged; answered = t.answered; text = t.text; written = t.written; empty = t.empty; closed = t.closed }
+
+    runs_on : (d : Due) (b : Bool) (offered : List Incoming) (broken : Option Break)
+        → IsOffered (exchange_of scene) view.arrived offered broken → is_by_cut broken ≡ false → b ≡ is_by_input broken
+        → (is_by_input broken ≡ true → (has_close view.arrived ≡ true) ⊎ (half.is_over ≡ true))
+        → IsDue d (record half { due = d; broke = b }) (record view { offered = offered; broken = broken })
+        → Stands scene line (record half { due = d; broke = b }) read (record view { offered = offered; broken = broken })
+    runs_on d b offered broken offers uncut broke breaks is_due =
+        stands_at d b half.stage offered broken view.got refl (prefix_self (said_in scene view)) (record { offered = offers; written = x.keeps.written }) breaks
+        (subst (λ (s : Stage). IsAt s scene (record half { due = d; broke = b }) (record view { offered = offered; broken = broken })) (sym is) (talks_on d b offered broken uncut broke, runs.1, is_due))
+
+    none_broke : half.broke ≡ false → view.broken ≡ None
+    none_broke unbroke = unbroken view.broken runs.0.uncut (sym runs.0.broke ∙ unbroke)
+
+    -- the event that waits is offered
+    pub offered_on : (event : Incoming) → half.due ≡ due.Waits event
+        → Stands scene line (record half { due = due.Nothing }) read (record view { offered = view.offered ++ event ∷ [] })
+    offered_on event waits =
+        let w = subst (λ (d : Due). IsDue d half view) waits runs.2 in
+        let none = none_broke w.0 in
+        runs_on due.Nothing half.broke (view.offered ++ event ∷ []) view.broken
+        (subst (λ (b : Option Break). IsOffered (exchange_of scene) view.arrived (view.offered ++ event ∷ []) b) (sym none) ([], append-nil (view.offered ++ event ∷ []) ∙ w.1))
+        runs.0.uncut runs.0.broke x.breaks (λ shut unbroke. (w.1, w.2))
+
+    -- the disconnect is
+    pub left_on : (disconnect : Incoming) → half.due ≡ due.Left disconnect
+        → (view.broken ≡ None) × Stands scene line (record half { due = due.Nothing; broke = true }) read (record view { offered = view.offered ++ disconnect ∷ []; broken = Some ByInput })
+    left_on disconnect left =
+        let w = subst (λ (d : Due). IsDue d half view) left runs.2 in (
+          none_broke w.0,
+          runs_on due.Nothing true (view.offered ++ disconnect ∷ []) (Some ByInput)
+              (ap (λ (l : List Incoming). l ++ disconnect ∷ []) w.1 ∙ ap (λ (e : Incoming). session_events view.arrived ++ e ∷ []) w.2)
+              refl refl (λ e. w.3) (λ shut unbroke. cc),
+        )
+
+    -- the same, with what the calls of the end say: what is due was taken out of the half before
+    module _ {E : Type 0} (C : conn_end.Ghosts E) (old new : E) (taken left : Due) (value : taken ≡ half.due) (after : left ≡ due.Nothing) (v : IsViewOf C old view) where
+      pub offered_view : (event : Incoming) → taken ≡ due.Waits event → C.offered new ≡ C.offered old ++ event ∷ [] → C.is_broken new ≡ C.is_broken old → C.got new ≡ C.got old
+          → (later : ConnView Msg Output) × Stands scene line (record half { due = left }) read later × IsViewOf C new later
+      offered_view event waits offered broken got =
+          let later : ConnView Msg Output = record view { offered = view.offered ++ event ∷ [] } in (
+            later,
+            subst (λ (d : Due). Stands scene line (record half { due = d }) read later) (sym after) (offered_on event (sym value ∙ waits)),
+            (ap (λ (l : List Incoming). l ++ event ∷ []) v.0 ∙ sym offered, v.1 ∙ sym broken, v.2 ∙ sym got),
+          )
+
+      pub left_view : (first : Bool) (disconnect : Incoming) → taken ≡ due.Left disconnect
+          → first ≡ not (C.is_broken old) → (IsTrue first → C.offered new ≡ C.offered old ++ disconnect ∷ []) → C.is_broken new ≡ true → C.got new ≡ C.got old
+          → (later : ConnView Msg Output) × Stands scene line (record half { due = left; broke = true }) read later × IsViewOf C new later
+      left_view first disconnect is_left is_first on_first broken got =
+          let on = left_on disconnect (sym value ∙ is_left) in
+          let later : ConnView Msg Output = record view { offered = view.offered ++ disconnect ∷ []; broken = Some ByInput } in
+          let unbroken : C.is_broken old ≡ false = sym v.1 ∙ ap is_some on.0 in (
+            later,
+            subst (λ (d : Due). Stands scene line (record half { due = d; broke = true }) read later) (sym after) on.1,
+            (ap (λ (l : List Incoming). l ++ disconnect ∷ []) v.0 ∙ sym (on_first (is_first ∙ ap not unbroken)), sym broken, v.2 ∙ sym got),
+          )
+
+      -- no place is free, and it is due again
+      pub waits_view : (event back : Incoming) → taken ≡ due.Waits event → back ≡ event → C.offered new ≡ C.offered old → C.is_broken new ≡ C.is_broken old → C.got new ≡ C.got old
+          → (later : ConnView Msg Output) × Stands scene line (record half { due = due.Waits back }) read later × IsViewOf C new later
+      waits_view event back waits same offered broken got = (
+        view,
+        subst (λ (d : Due). Stands scene line (record half { due = d }) read view) (sym value ∙ waits ∙ ap (λ (e : Incoming). due.Waits e) (sym same)) x,
+        (v.0 ∙ sym offered, v.1 ∙ sym broken, v.2 ∙ sym got),
+      )
+
+      -- nothing is due
+      pub none_view : taken ≡ due.Nothing → (later : ConnView Msg Output) × Stands scene line (record half { due = left }) read later × IsViewOf C old later
+      none_view none = (view, subst (λ (d : Due). Stands scene line (record half { due = d }) read view) (sym value ∙ none ∙ sym after) x, v)
+
+-- ---- the connection is cut short
+
+-- what is out does not speak of a disconnect of a cut, nor of what is taken behind it
+pub short_on : (scene : SessionScene) (view : ConnView Msg Output) (out : Outcome) (offered : List Incoming) (broken : Option Break) → is_by_input broken ≡ is_by_input view.broken
+    → IsCutShort scene view out → IsCutShort scene (record view { offered = offered; broken = broken }) out
+short_on scene view outcome.Idle offered broken same short = short
+short_on scene view outcome.NoMemory offered broken same short = short
+short_on scene view (outcome.WriteFailed n) offered broken same short =
+    subst (λ (b : Bool). StopsTalking n (record (known scene view) { broke = b }) view.written) (sym same) short
+short_on scene view outcome.Finished offered broken same short = short
+short_on scene view (outcome.Refused status) offered broken same short = short
+short_on scene view outcome.InputBroke offered broken same short = short
+
+next_on : (y : Exchanged) (said more : List Outgoing) (ended : Option EndKind) (out next : List Output) → IsNext (record y { said = said; ended = None }) out next
+    → IsNext (record y { said = said ++ more; ended = ended }) out next
+next_on y said more ended out next (Saying before after event e o t) =
+    Saying before (after ++ more) event (ap (λ (l : List Outgoing). l ++ more) e ∙ append_assoc before (event ∷ after) more) o t
+next_on y said more ended out next (Ending kind e o t) = cc
+
+pub short_behind : (scene : SessionScene) (view : ConnView Msg Output) (out : Outcome) (item : OutItem) → end_of view.got ≡ None
+    → IsCutShort scene view out → IsCutShort scene (record view { got = view.got ++ item ∷ [] }) out
+short_behind scene view outcome.Idle item none short = prefix_trans view.written (output_in scene view) (output_in scene (record view { got = view.got ++ item ∷ [] })) short (output_behind scene view.got item)
+short_behind scene view outcome.NoMemory item none short = prefix_trans view.written (output_in scene view) (output_in scene (record view { got = view.got ++ item ∷ [] })) short (output_behind scene view.got item)
+short_behind scene view (outcome.WriteFailed n) item none short =
+    let last = end_of (view.got ++ item ∷ []) in
+    subst (λ (l : List Outgoing). StopsTalking n (record (known scene view) { said = l; ended = last }) view.written) (sym (events_append view.got (item ∷ [])))
+    (record {
+      out = short.out;
+      more = short.more;
+      is_next = next_on (known scene view) (events_of view.got) (events_of (item ∷ [])) last short.out short.more
+          (subst (λ (o : Option EndKind). IsNext (record (known scene view) { ended = o }) short.out short.more) none short.is_next);
+      within = short.within;
+      written_is = short.written_is;
+    })
+short_behind scene view outcome.Finished item none short = absurd short
+short_behind scene view (outcome.Refused status) item none short = absurd short
+short_behind scene view outcome.InputBroke item none short = absurd short
+
+-- the end of a connection that is cut off, by what offering the disconnect answers
+pub cut_off : {E : Type 0} (C : conn_end.Ghosts E) (old new : E) (view : ConnView Msg Output) (first : Bool) (event : Incoming) → event ≡ WsDisconnect 1006 [] → IsViewOf C old view
+    → first ≡ not (C.is_broken old) → (IsTrue first → C.offered new ≡ C.offered old ++ event ∷ []) → (IsFalse first → new ≡ old) → C.is_broken new ≡ true → C.got new ≡ C.got old
+    → (later : ConnView Msg Output) × IsCutOff view later × IsViewOf C new later
+cut_off C old new view first event is v is_first on_first on_later broken got =
+    offers_cut C old new view first (WsDisconnect 1006 []) v is_first (λ t. on_first t ∙ ap (λ (e : Incoming). C.offered old ++ e ∷ []) is) on_later broken got
+
+-- the disconnect of a cut is a beginning of what is due, and that
+offers_of_cut : (scene : SessionScene) (view : ConnView Msg Output) → view.broken ≡ None → ConnKeeps (exchange_of scene) view
+    → ConnKeeps (exchange_of scene) (record view { offered = view.offered ++ WsDisconnect 1006 [] ∷ []; broken = Some ByCut })
+offers_of_cut scene view none keeps = record {
+  offered = (view.offered, subst (λ (b : Option Break). IsOffered (exchange_of scene) view.arrived view.offered b) none keeps.offered, refl);
+  written = keeps.written;
+}
+
+module _ (scene : SessionScene) (line : LineState) (half : SessionHalf) (read : List ℕ) (view : ConnView Msg Output) (x : Stands scene line half read view) where
+  -- Cut short in another stage, the half stands there again.
+  stands_cut : (out : Outcome) (s : Stage) → failures_at half.stage ≡ failures_at s → IsCutShort scene view out
+      → ((v : ConnView Msg Output) → IsCutShort scene v out → v.got ≡ view.got → IsAt s scene (record half { stage = s }) v)
+      → (later : ConnView Msg Output) → IsCutOff view later → Stands scene line (record half { stage = s }) read later
+  stands_cut out s failures short at later (inl e) =
+      subst (λ (v : ConnView Msg Output). Stands scene line (record half { stage = s }) read v) (sym e)
+      (stands_at scene line half read view x half.due half.broke s view.offered view.broken view.got failures (prefix_self (said_in scene view)) x.keeps x.breaks (at view short refl))
+  stands_cut out s failures short at later (inr (none, e)) =
+      let offered = view.offered ++ WsDisconnect 1006 [] ∷ [] in
+      subst (λ (v : ConnView Msg Output). Stands scene line (record half { stage = s }) read v) (sym e)
+      (stands_at scene line half read view x half.due half.broke s offered (Some ByCut) view.got failures (prefix_self (said_in scene view)) (offers_of_cut scene view none x.keeps) (λ b. cc)
+      (at (record view { offered = offered; broken = Some ByCut }) (short_on scene view out offered (Some ByCut) (sym (ap is_by_input none)) short) refl))
+
+  -- it is given up where all that was taken is written
+  stops_here : Talks scene half view → failures_at half.stage ≡ 0 → (later : ConnView Msg Output) → IsCutOff view later
+      → Stands scene line (record half { stage = stage.Over (ConnectionEnds outcome.Idle) }) read later
+  stops_here t none later off =
+      stands_cut outcome.Idle (stage.Over (ConnectionEnds outcome.Idle)) none ([], append-nil view.written ∙ t.written) (λ v s e. inr s) later off
+
+  pub stops_running : half.stage ≡ stage.Running → (new : SessionHalf) → new ≡ record half { stage = stage.Over (ConnectionEnds outcome.Idle) } → (later : ConnView Msg Output) → IsCutOff view later
+      → Stands scene line new read later
+  stops_running is new same later off =
+      subst (λ (h : SessionHalf). Stands scene line h read later) (sym same) (stops_here (runs scene line half read view x is).0 (ap failures_at is) later off)
+
+  pub stops_ending : (kind : EndKind) → half.stage ≡ stage.Ending kind → (new : SessionHalf) → new ≡ record half { stage = stage.Over (ConnectionEnds outcome.Idle) } → (later : ConnView Msg Output)
+      → IsCutOff view later → Stands scene line new read later
+  stops_ending kind is new same later off =
+      let at = subst (λ (s : Stage). IsAt s scene half view) is x.stage in
+      subst (λ (h : SessionHalf). Stands scene line h read later) (sym same) (stops_here at.0 (ap failures_at is) later off)
+
+  module _ (out : Outcome) (is : half.stage ≡ stage.Cut out) where
+    unended : IsCutShort scene view out × (end_of view.got ≡ None)
+    unended = subst (λ (s : Stage). IsAt s scene half view) is x.stage
+
+    pub cut_stops : (new : SessionHalf) → new ≡ record half { stage = stage.Over (ConnectionEnds out) } → (later : ConnView Msg Output) → IsCutOff view later → Stands scene line new read later
+    cut_stops new same later off =
+        subst (λ (h : SessionHalf). Stands scene line h read later) (sym same) (stands_cut out (stage.Over (ConnectionEnds out)) (ap failures_at is) unended.0 (λ v s e. inr s) later off)
+
+    -- the disconnect is offered, and the end of the task is awaited
+    pub cut_waits : (later : ConnView Msg Output) → IsCutOff view later → Stands scene line half read later
+    cut_waits later off =
+        stands_cut out half.stage refl unended.0 (λ v s e. subst (λ (t : Stage). IsAt t scene half v) (sym is) (s, ap end_of e ∙ unended.1)) later off
+
+    -- ---- what is taken is dropped
+
+    keeps_behind : (item : OutItem) → ConnKeeps (exchange_of scene) (record view { got = view.got ++ item ∷ [] })
+    keeps_behind item =
+        let later : ConnView Msg Output = record view { got = view.got ++ item ∷ [] } in
+        let p = x.keeps.written in
+        let whole : view.written ++ p.0 ≡ output_in scene view =
+        p.1 ∙ (ap (λ (o : Option EndKind). output_in scene view ++ added_by (exchange_of scene) (taken_of view) o view.broken_first view.arrived) unended.1 ∙ append-nil (output_in scene view)) in
+        let more = prefix_trans view.written (output_in scene view) (output_in scene later) (p.0, whole) (output_behind scene view.got item) in
+        record {
+          offered = x.keeps.offered;
+          written = prefix_trans view.written (output_in scene later) (output (exchange_of scene) later) more (added_by (exchange_of scene) (taken_of later) (end_of later.got) later.broken_first later.arrived, refl);
+        }
+
+    pub took_event : (event : Outgoing) → Stands scene line half read (record view { got = view.got ++ Event event ∷ [] })
+    took_event event =
+        stands_at scene line half read view x half.due half.broke half.stage view.offered view.broken (view.got ++ Event event ∷ []) refl (accepted_behind scene.facts view.got (Event event)) (keeps_behind (Event event)) x.breaks
+        (subst (λ (s : Stage). IsAt s scene half (record view { got = view.got ++ Event event ∷ [] })) (sym is)
+        (short_behind scene view out (Event event) unended.1 unended.0, end_event view.got event ∙ unended.1))
+
+    pub took_end : (kind : EndKind) → Stands scene line (record half { stage = stage.Over (ConnectionEnds out) }) read (record view { got = view.got ++ Ended kind ∷ [] })
+    took_end kind =
+        stands_at scene line half read view x half.due half.broke (stage.Over (ConnectionEnds out)) view.offered view.broken (view.got ++ Ended kind ∷ []) (ap failures_at is) (accepted_behind scene.facts view.got (Ended kind))
+        (keeps_behind (Ended kind)) x.breaks (inr (short_behind scene view out (Ended kind) unended.1 unended.0))

@@ -1,0 +1,55 @@
+-- What passed over a line from the first byte of a connection to the end of its session.
+use Rattle.std.specs.Prelude.{◌≡◌, ℕ, Bool, true, false, ◌||◌, List, [], ◌∷◌, ◌++◌, Option, Some, None, is_none, if◌then◌else◌}
+use Rattle.asgi_ws.specs.declared.messages.Got.{Got}
+use Rattle.asgi_ws.specs.declared.messages.Got.TheVariants as got
+use Rattle.asgi_ws.specs.declared.messages.Put.{Put}
+use Rattle.asgi_ws.specs.declared.messages.Handed.{Handed}
+use Rattle.asgi_ws.specs.Sessions.{messages_in, handed_in, kept_by, Loses}
+use Rattle.asgi_conversation.specs.declared.input.InputEnd.{InputEnd}
+use Rattle.asgi_conversation.specs.declared.report.Outcome.{Outcome}
+use Rattle.asgi_conversation.specs.Sessions.{Talk}
+use Rattle.asgi_conn.specs.Half.{failures_of}
+use Rattle.asgi_conn.specs.Lines.{LineState, HasMoved}
+
+-- no message follows
+abbrev pub is_end : Got → Bool
+is_end (got.Message message) = false
+is_end got.Idle = false
+is_end got.Ended = true
+is_end got.Failed = true
+is_end got.NoMemory = false
+
+-- a read said so
+abbrev pub says_over : List Got → Bool
+says_over [] = false
+says_over (answer ∷ answers) = is_end answer || says_over answers
+
+-- the first bytes of a session that a line keeps, once it was given these
+abbrev pub kept_with : Option (List ℕ) → Option (List ℕ) → Option (List ℕ)
+kept_with before None = before
+kept_with before (Some bytes) = kept_by before bytes
+
+-- The line, its session left aside: `HasMoved` tells the text alone of it. No call of a session moves the text, and none
+-- lowers the count of failures.
+abbrev pub text_of_line : LineState → LineState → LineState
+text_of_line start now = record now { session = start.session }
+
+-- how many writes of text failed: none where the line came to carry messages
+abbrev pub failures_in : Outcome → Talk → ℕ
+failures_in outcome talk = if is_none talk.leftover then failures_of outcome else 0
+
+-- The text moved so, and this talk passed by.
+pub record HasTalked (start now : LineState) (end : InputEnd) (read text : List ℕ) (failures : ℕ) (talk : Talk) : Type 0 where
+  pub moved : HasMoved start (text_of_line start now) end read text failures
+  -- the answers to the reads of messages: what they gave, and whether no more come
+  pub gots : List Got
+  pub told : now.session.read_answers ≡ start.session.read_answers ++ gots
+  pub received : talk.received ≡ messages_in gots
+  pub over : talk.is_over ≡ says_over gots
+  -- where the messages to come are known, they were the first of them
+  pub coming : Loses start.session.coming now.session.coming talk.received
+  -- what was handed over, and how that was answered: what went out
+  pub sents : List (Handed × Put)
+  pub sent : now.session.send_answers ≡ start.session.send_answers ++ sents
+  pub handed : talk.handed ≡ handed_in sents
+  pub kept : now.session.leftover ≡ kept_with start.session.leftover talk.leftover

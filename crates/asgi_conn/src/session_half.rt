@@ -1,0 +1,615 @@
+//! The connection's half of the exchange of an opening handshake: it answers the handshake, hands over the messages that are
+//! said, and offers those that are read. It knows its own end of the pair alone.
+ghost use Rattle.std.specs.Prelude.{◌≡◌, ◌≢◌, ◌↔◌, ◌⊎◌, true, false, [], ℕ, List, Some, IsTrue};
+ghost use Rattle.asgi_types.specs.declared.incoming.Incoming.{Incoming};
+ghost use Rattle.asgi_types.specs.declared.outgoing.Outgoing.{Outgoing};
+ghost use Rattle.asgi_protocol.specs.Shapes.{is_message};
+ghost use Rattle.asgi_exchange.specs.Calls.{IsViewOf};
+ghost use Rattle.asgi_exchange.specs.Messages as heard;
+ghost use Rattle.asgi_exchange.specs.Views.{ConnView, empty_conn};
+ghost use Rattle.asgi_conversation.specs.declared.following.Following.{Following};
+ghost use Rattle.asgi_conversation.specs.declared.following.Following.TheVariants.{NextRequest};
+ghost use Rattle.asgi_conn.specs.HttpHalf.{following_of};
+ghost use Rattle.asgi_conn.specs.Limits as turn_limits;
+ghost use Rattle.asgi_conn.specs.Lines.{LineState, state_of};
+ghost use Rattle.asgi_conn.specs.SessionHalf.{SessionScene, Stands, OpensSession, Leads, LeadsIn, LeadsOut, Says, Speaks, MayDrop, IsAccept, IsDenial, IsCutOff, heard_by, outcome_behind, stage_of};
+ghost use Rattle.asgi_ws.specs.declared.messages.Msg.{Msg};
+ghost use Rattle.asgi_exchange.specs.Session.{Output};
+
+use crate::half::Stage;
+use crate::wire::{Wire, write};
+use asgi_conversation::{Following, Outcome};
+use asgi_io::Turn;
+use asgi_pipes::{ConnEnd, EndKind, OutItem};
+use asgi_protocol::{Judge, Verdict};
+use asgi_response::{Progress, ResponseText, refusal_text};
+use asgi_types::{Chars, Facts, Incoming, Kind, Outgoing, Payload, Reason};
+use asgi_ws::{Got, Line, Msg, Put, accept_text, denied_text};
+use std::mem;
+
+/// The most messages that are read and dropped behind a close.
+const SPARE_READS: u32 = 64;
+
+/// How far the answer to a handshake is.
+#[derive(Clone, Copy, Debug, PartialEq, Eq)]
+pub enum Answered {
+    /// There is none, or a denial, whose text tells how far it is.
+    Unanswered,
+    /// It was accepted, and the application did not close the session.
+    Open,
+    /// It was accepted, and the application closed the session.
+    Closed,
+    /// It was refused.
+    Refused,
+}
+
+/// What is due to the application.
+#[derive(Debug, Drop)]
+pub enum Due {
+    /// Nothing, until a message is read.
+    Nothing,
+    /// This event waits for a place.
+    Waits(Incoming),
+    /// This disconnect: the client closed, or no message follows.
+    Left(Incoming),
+}
+
+/// The connection's half of the exchange of an opening handshake.
+#[derive(Drop)]
+pub struct SessionHalf {
+    pub wire: Wire,
+    pub facts: Facts,
+    /// Of what is taken, it passes what is written.
+    pub judge: Judge,
+    pub text: ResponseText,
+    /// The bytes behind the handshake, which the line gets with the accept.
+    pub leftover: Vec<u8>,
+    pub answered: Answered,
+    pub due: Due,
+    /// A disconnect was offered, since the client closed or no message follows.
+    pub broke: bool,
+    /// The client closed the session, before the application did.
+    pub client_closed: bool,
+    /// The line said that no message follows.
+    pub is_over: bool,
+    /// How many more messages are read and dropped.
+    pub spare_reads: u32,
+    pub stage: Stage,
+}
+
+impl SessionHalf {
+    /// Begins the exchange of a handshake with these facts, behind which these bytes were read.
+    pub fn begin(wire: Wire, facts: Facts, text: ResponseText, leftover: Vec<u8>) -> SessionHalf
+        ensures begins { (scene : SessionScene) (now : LineState) (read : List ℕ) → OpensSession scene now wire facts text leftover.items read → Stands scene now result read empty_conn }
+        ensures limits { result.wire.limits ≡ wire.limits }
+        ensures running { result.stage ≡ Stage.Running }
+    {
+        SessionHalf {
+            wire,
+            facts,
+            judge: Judge::new(Kind::WebSocket),
+            text,
+            leftover,
+            answered: Answered::Unanswered,
+            due: Due::Waits(Incoming::WsConnect),
+            broke: false,
+            client_closed: false,
+            is_over: false,
+            spare_reads: SPARE_READS,
+            stage: Stage::Running,
+        }
+    }
+
+    /// One turn: what it did is told where it counts as idle or not. While the application goes on,
+    /// nothing is read.
+    pub fn turn<L: Line, C: ConnEnd>(
+        &mut self,
+        line: &mut L,
+        end: &mut C,
+        app_goes_on: bool,
+    ) -> Turn
+        ensures leads { Leads (state_of L.Reads L.Counts L.Messages.own line.old) self.old (IsViewOf C.ConnEnd end.old) (state_of L.Reads L.Counts L.Messages.own line.new) self.new (IsViewOf C.ConnEnd end.new) }
+        ensures over { (following : Following) → self.old.stage ≡ Stage.Over following → self.new ≡ self.old }
+        ensures tag { (C.tag end.new ≡ C.tag end.old) × (C.ring end.new ≡ C.ring end.old) }
+    {
+        match self.stage {
+            Stage::Running => self.run(line, end, app_goes_on),
+            Stage::Ending(kind) => self.wind_up(kind, line),
+            Stage::Cut(outcome) => self.clear(outcome, end),
+            Stage::Over(_) => Turn::Last,
+        }
+    }
+
+    /// Nothing more is done, and not for a limit on turns.
+    pub fn is_settled(&self) -> bool
+        ensures { IsTrue result ↔ turn_limits.IsSettled (following_of self.now.stage) }
+    {
+        match self.stage {
+            Stage::Over(Following::ConnectionEnds(Outcome::Idle)) => false,
+            Stage::Over(_) => true,
+            _ => false,
+        }
+    }
+
+    /// Takes all that is there and writes it, offers what is due, and reads where it did neither and the
+    /// application does not go on. Where it takes the end of the task it winds up in the same turn.
+    fn run<L: Line, C: ConnEnd>(&mut self, line: &mut L, end: &mut C, app_goes_on: bool) -> Turn
+        requires running { self.old.stage ≡ Stage.Running }
+        ensures leads { Leads (state_of L.Reads L.Counts L.Messages.own line.old) self.old (IsViewOf C.ConnEnd end.old) (state_of L.Reads L.Counts L.Messages.own line.new) self.new (IsViewOf C.ConnEnd end.new) }
+        ensures tag { (C.tag end.new ≡ C.tag end.old) × (C.ring end.new ≡ C.ring end.old) }
+    {
+        let took = self.take_all(line, end);
+        if let Stage::Ending(kind) = self.stage {
+            return self.wind_up(kind, line);
+        }
+        if self.stage != Stage::Running {
+            return Turn::Moved;
+        }
+        let offered = self.offer(end);
+        if took || offered || app_goes_on {
+            return Turn::Moved;
+        }
+        self.read(line)
+    }
+
+    // ---- what is said
+
+    /// Takes all that is there, and writes what it adds.
+    fn take_all<L: Line, C: ConnEnd>(&mut self, line: &mut L, end: &mut C) -> bool
+        ensures leads { Leads (state_of L.Reads L.Counts L.Messages.own line.old) self.old (IsViewOf C.ConnEnd end.old) (state_of L.Reads L.Counts L.Messages.own line.new) self.new (IsViewOf C.ConnEnd end.new) }
+        ensures tag { (C.tag end.new ≡ C.tag end.old) × (C.ring end.new ≡ C.ring end.old) }
+    {
+        let mut took = false;
+        for _item in 0..self.wire.limits.ring {
+            if self.stage != Stage::Running {
+                return took;
+            }
+            if !self.take_one(line, end) {
+                return took;
+            }
+            took = true;
+        }
+        took
+    }
+
+    /// Takes the next item, and writes what it adds. The answer says whether there was one.
+    fn take_one<L: Line, C: ConnEnd>(&mut self, line: &mut L, end: &mut C) -> bool
+        requires running { self.old.stage ≡ Stage.Running }
+        ensures leads { Leads (state_of L.Reads L.Counts L.Messages.own line.old) self.old (IsViewOf C.ConnEnd end.old) (state_of L.Reads L.Counts L.Messages.own line.new) self.new (IsViewOf C.ConnEnd end.new) }
+        ensures tag { (C.tag end.new ≡ C.tag end.old) × (C.ring end.new ≡ C.ring end.old) }
+    {
+        match end.take() {
+            None => false,
+            Some(OutItem::Ended(kind)) => {
+                self.stage = Stage::Ending(kind);
+                true
+            }
+            Some(OutItem::Event(event)) => {
+                self.say(event, line);
+                true
+            }
+        }
+    }
+
+    /// Writes or hands over what an event adds: nothing, where the judge does not pass it.
+    fn say<L: Line>(&mut self, event: Outgoing, line: &mut L)
+        requires running { self.old.stage ≡ Stage.Running }
+        ensures says { Says (state_of L.Reads L.Counts L.Messages.own line.old) self.old event (state_of L.Reads L.Counts L.Messages.own line.new) self.new }
+    {
+        if let Verdict::Pass = self.judge.judge(&self.facts, &event) {
+            self.speak(event, line);
+        }
+    }
+
+    /// Writes or hands over what an event adds that the judge has passed.
+    fn speak<L: Line>(&mut self, event: Outgoing, line: &mut L)
+        requires running { self.old.stage ≡ Stage.Running }
+        ensures speaks { Speaks (state_of L.Reads L.Counts L.Messages.own line.old) self.old event (state_of L.Reads L.Counts L.Messages.own line.new) self.new }
+    {
+        match event {
+            Outgoing::WsSend { payload } => self.send(payload, line),
+            other => self.speak_of(&other, line),
+        }
+    }
+
+    /// The same, where the event is no message.
+    fn speak_of<L: Line>(&mut self, event: &Outgoing, line: &mut L)
+        requires running { self.old.stage ≡ Stage.Running }
+        requires no_message { is_message event.now ≡ false }
+        ensures speaks { Speaks (state_of L.Reads L.Counts L.Messages.own line.old) self.old event.now (state_of L.Reads L.Counts L.Messages.own line.new) self.new }
+    {
+        match event {
+            Outgoing::WsClose { code, reason } => self.close_by(*code, reason, line),
+            Outgoing::WsAccept { .. } => self.accept(event, line),
+            Outgoing::DenialStart { .. } => self.deny(event, line),
+            Outgoing::DenialBody { .. } => self.deny(event, line),
+            _ => {}
+        }
+    }
+
+    /// Accepts the handshake. Once its text is out, the line carries messages.
+    fn accept<L: Line>(&mut self, event: &Outgoing, line: &mut L)
+        requires running { self.old.stage ≡ Stage.Running }
+        requires accepts { IsAccept event.now }
+        ensures speaks { Speaks (state_of L.Reads L.Counts L.Messages.own line.old) self.old event.now (state_of L.Reads L.Counts L.Messages.own line.new) self.new }
+    {
+        let Ok(text) = accept_text(self.wire.alloc, &self.facts, event) else {
+            self.stage = Stage::Cut(Outcome::NoMemory);
+            return;
+        };
+        if let Some(n) = write(line, &text) {
+            self.stage = Stage::Cut(Outcome::WriteFailed(n));
+            return;
+        }
+        line.upgrade(mem::replace(&mut self.leftover, Vec::new(self.wire.alloc)));
+        self.answered = Answered::Open;
+    }
+
+    /// Hands a message over.
+    fn send<L: Line>(&mut self, payload: Payload, line: &mut L)
+        requires running { self.old.stage ≡ Stage.Running }
+        ensures speaks { Speaks (state_of L.Reads L.Counts L.Messages.own line.old) self.old (Outgoing.WsSend payload) (state_of L.Reads L.Counts L.Messages.own line.new) self.new }
+    {
+        self.stage = stage_behind(line.send_message(payload));
+    }
+
+    /// Closes the session, or refuses a handshake that was not accepted.
+    fn close_by<L: Line>(&mut self, code: u16, reason: &Chars, line: &mut L)
+        requires running { self.old.stage ≡ Stage.Running }
+        ensures speaks { Speaks (state_of L.Reads L.Counts L.Messages.own line.old) self.old (Outgoing.WsClose code reason.now) (state_of L.Reads L.Counts L.Messages.own line.new) self.new }
+    {
+        match self.answered {
+            Answered::Open => self.close(code, reason, line),
+            _ => self.refuse(line),
+        }
+    }
+
+    /// Hands the application's close over. Nothing is due behind it.
+    fn close<L: Line>(&mut self, code: u16, reason: &Chars, line: &mut L)
+        requires running { self.old.stage ≡ Stage.Running }
+        requires open { self.old.answered ≡ Answered.Open }
+        ensures speaks { Speaks (state_of L.Reads L.Counts L.Messages.own line.old) self.old (Outgoing.WsClose code reason.now) (state_of L.Reads L.Counts L.Messages.own line.new) self.new }
+    {
+        let Some(reason) = Reason::new(reason.as_str()) else {
+            self.stage = Stage::Cut(Outcome::WriteFailed(0));
+            return;
+        };
+        self.answered = Answered::Closed;
+        self.due = Due::Nothing;
+        self.stage = stage_behind(line.send_close(code, reason));
+    }
+
+    /// Writes the text that refuses the handshake.
+    fn refuse<L: Line>(&mut self, line: &mut L)
+        requires running { self.old.stage ≡ Stage.Running }
+        requires shut { self.old.answered ≢ Answered.Open }
+        ensures speaks { (code : ℕ) (reason : List ℕ) → Speaks (state_of L.Reads L.Counts L.Messages.own line.old) self.old (Outgoing.WsClose code reason) (state_of L.Reads L.Counts L.Messages.own line.new) self.new }
+    {
+        self.answered = Answered::Refused;
+        if let Some(n) = write(line, denied_text()) {
+            self.stage = Stage::Cut(Outcome::WriteFailed(n));
+        }
+    }
+
+    /// Writes what an event adds to a denial.
+    fn deny<L: Line>(&mut self, event: &Outgoing, line: &mut L)
+        requires running { self.old.stage ≡ Stage.Running }
+        requires denies { IsDenial event.now }
+        ensures speaks { Speaks (state_of L.Reads L.Counts L.Messages.own line.old) self.old event.now (state_of L.Reads L.Counts L.Messages.own line.new) self.new }
+    {
+        if self.text.take(event, &mut self.wire.out).is_err() {
+            self.stage = Stage::Cut(Outcome::NoMemory);
+            return;
+        }
+        if let Some(n) = self.wire.put(line) {
+            self.stage = Stage::Cut(Outcome::WriteFailed(n));
+        }
+    }
+
+    // ---- what is due
+
+    /// Offers what is due. The answer says whether something was offered.
+    fn offer<C: ConnEnd>(&mut self, end: &mut C) -> bool
+        requires running { self.old.stage ≡ Stage.Running }
+        ensures leads { LeadsIn self.old (IsViewOf C.ConnEnd end.old) self.new (IsViewOf C.ConnEnd end.new) }
+        ensures running { self.new.stage ≡ Stage.Running }
+        ensures tag { (C.tag end.new ≡ C.tag end.old) × (C.ring end.new ≡ C.ring end.old) }
+    {
+        match mem::replace(&mut self.due, Due::Nothing) {
+            Due::Nothing => false,
+            Due::Waits(event) => match end.offer(event) {
+                Ok(()) => true,
+                Err(back) => {
+                    self.due = Due::Waits(back);
+                    false
+                }
+            },
+            Due::Left(disconnect) => {
+                self.broke = true;
+                end.offer_disconnect(disconnect)
+            }
+        }
+    }
+
+    // ---- what is read
+
+    /// Reads a message, where the session is open and nothing waits for a place; behind a close it is dropped.
+    fn read<L: Line>(&mut self, line: &mut L) -> Turn
+        requires running { self.old.stage ≡ Stage.Running }
+        ensures leads { LeadsOut (state_of L.Reads L.Counts L.Messages.own line.old) self.old (state_of L.Reads L.Counts L.Messages.own line.new) self.new }
+    {
+        let Due::Nothing = self.due else {
+            return Turn::Idle;
+        };
+        match self.answered {
+            Answered::Unanswered => Turn::Idle,
+            Answered::Refused => Turn::Idle,
+            Answered::Closed => self.drop_one(line),
+            Answered::Open => {
+                if self.broke {
+                    self.drop_one(line)
+                } else {
+                    self.read_one(line)
+                }
+            }
+        }
+    }
+
+    /// Reads a message, and makes what is due of it.
+    fn read_one<L: Line>(&mut self, line: &mut L) -> Turn
+        requires running { self.old.stage ≡ Stage.Running }
+        requires opened { (self.old.answered ≡ Answered.Open) × (self.old.broke ≡ false) }
+        requires free { self.old.due ≡ Due.Nothing }
+        ensures leads { LeadsOut (state_of L.Reads L.Counts L.Messages.own line.old) self.old (state_of L.Reads L.Counts L.Messages.own line.new) self.new }
+    {
+        match line.read_message() {
+            Got::Message(message) => self.hear(message),
+            Got::Idle => return Turn::Idle,
+            Got::Ended => self.lose(),
+            Got::Failed => self.lose(),
+            Got::NoMemory => self.stage = Stage::Cut(Outcome::NoMemory),
+        }
+        Turn::Moved
+    }
+
+    /// No message follows: the disconnect is due.
+    fn lose(&mut self)
+        ensures { self.new ≡ record self.old { is_over = true; due = Due.Left (Incoming.WsDisconnect 1006 []) } }
+    {
+        self.is_over = true;
+        self.due = Due::Left(disconnect(1006));
+    }
+
+    /// Makes what is due of a message.
+    fn hear(&mut self, message: Msg)
+        ensures { self.new ≡ heard_by self.old message }
+    {
+        match message {
+            Msg::Text(text) => self.due = Due::Waits(received(Payload::Text(text))),
+            Msg::Bytes(bytes) => self.due = Due::Waits(received(Payload::Bytes(bytes))),
+            Msg::Ping => {}
+            Msg::Pong => {}
+            Msg::Close(close) => {
+                self.client_closed = true;
+                self.due = Due::Left(disconnect_of(close));
+            }
+        }
+    }
+
+    /// Reads a message behind a close, and drops it, as long as so many were not read.
+    fn drop_one<L: Line>(&mut self, line: &mut L) -> Turn
+        requires may { MayDrop self.old }
+        ensures leads { LeadsOut (state_of L.Reads L.Counts L.Messages.own line.old) self.old (state_of L.Reads L.Counts L.Messages.own line.new) self.new }
+        ensures may { MayDrop self.new }
+        ensures stage { self.new.stage ≡ self.old.stage }
+    {
+        if self.is_over || self.spare_reads == 0 {
+            return Turn::Idle;
+        }
+        self.spare_reads -= 1;
+        match line.read_message() {
+            Got::Message(_) => {}
+            Got::Idle => return Turn::Idle,
+            Got::Ended => self.is_over = true,
+            Got::Failed => self.is_over = true,
+            Got::NoMemory => self.spare_reads = 0,
+        }
+        Turn::Moved
+    }
+
+    /// Reads and drops what is left of the messages behind a close. Such reads are no turns.
+    fn drop_rest<L: Line>(&mut self, line: &mut L)
+        requires may { MayDrop self.old }
+        ensures leads { LeadsOut (state_of L.Reads L.Counts L.Messages.own line.old) self.old (state_of L.Reads L.Counts L.Messages.own line.new) self.new }
+        ensures stage { self.new.stage ≡ self.old.stage }
+    {
+        for _read in 0..self.spare_reads {
+            let _turn = self.drop_one(line);
+        }
+    }
+
+    // ---- the end
+
+    /// Ends the exchange once the task has ended. Behind a close the rest of the messages is read.
+    fn wind_up<L: Line>(&mut self, kind: EndKind, line: &mut L) -> Turn
+        requires ending { self.old.stage ≡ Stage.Ending kind }
+        ensures leads { LeadsOut (state_of L.Reads L.Counts L.Messages.own line.old) self.old (state_of L.Reads L.Counts L.Messages.own line.new) self.new }
+    {
+        let outcome = self.end_by(kind, line);
+        self.stage = Stage::Over(Following::ConnectionEnds(outcome));
+        if outcome == Outcome::Finished && self.carries() {
+            self.drop_rest(line);
+        }
+        Turn::Moved
+    }
+
+    /// Whether the line carries messages.
+    fn carries(&self) -> bool
+        ensures { IsTrue result → (self.now.answered ≡ Answered.Open) ⊎ (self.now.answered ≡ Answered.Closed) }
+    {
+        match self.answered {
+            Answered::Open => true,
+            Answered::Closed => true,
+            _ => false,
+        }
+    }
+
+    /// Writes what the end of the task adds, and says how the connection ends.
+    fn end_by<L: Line>(&mut self, kind: EndKind, line: &mut L) -> Outcome
+        requires ending { self.old.stage ≡ Stage.Ending kind }
+        ensures leads { LeadsOut (state_of L.Reads L.Counts L.Messages.own line.old) self.old (state_of L.Reads L.Counts L.Messages.own line.new) (record self.new { stage = Stage.Over (Following.ConnectionEnds result) }) }
+    {
+        match kind {
+            EndKind::Idle => Outcome::Idle,
+            EndKind::Returned => self.finish(1000, line),
+            EndKind::Faulted => self.finish(1011, line),
+        }
+    }
+
+    /// The same for a task that ended by itself, where an open session is closed with this code.
+    fn finish<L: Line>(&mut self, code: u16, line: &mut L) -> Outcome
+        requires ending { ((self.old.stage ≡ Stage.Ending EndKind.Returned) × (code ≡ 1000)) ⊎ ((self.old.stage ≡ Stage.Ending EndKind.Faulted) × (code ≡ 1011)) }
+        ensures leads { LeadsOut (state_of L.Reads L.Counts L.Messages.own line.old) self.old (state_of L.Reads L.Counts L.Messages.own line.new) (record self.new { stage = Stage.Over (Following.ConnectionEnds result) }) }
+    {
+        match self.answered {
+            Answered::Unanswered => self.answer(line),
+            Answered::Refused => Outcome::Finished,
+            Answered::Closed => Outcome::Finished,
+            Answered::Open => self.finish_open(code, line),
+        }
+    }
+
+    /// Answers in place of the application: 500, where no body of a denial was said.
+    fn answer<L: Line>(&mut self, line: &mut L) -> Outcome
+        requires ending { (self.old.stage ≡ Stage.Ending EndKind.Returned) ⊎ (self.old.stage ≡ Stage.Ending EndKind.Faulted) }
+        requires unanswered { self.old.answered ≡ Answered.Unanswered }
+        ensures leads { LeadsOut (state_of L.Reads L.Counts L.Messages.own line.old) self.old (state_of L.Reads L.Counts L.Messages.own line.new) (record self.new { stage = Stage.Over (Following.ConnectionEnds result) }) }
+    {
+        match self.text.progress() {
+            Progress::Begun => Outcome::Finished,
+            Progress::Complete { closes: _ } => Outcome::Finished,
+            Progress::Nothing => match write(line, refusal_text(500)) {
+                None => Outcome::Refused(500),
+                Some(n) => Outcome::WriteFailed(n),
+            },
+        }
+    }
+
+    /// Ends a session that the application left open: it is closed with this code, where the client did not.
+    fn finish_open<L: Line>(&mut self, code: u16, line: &mut L) -> Outcome
+        requires ending { ((self.old.stage ≡ Stage.Ending EndKind.Returned) × (code ≡ 1000)) ⊎ ((self.old.stage ≡ Stage.Ending EndKind.Faulted) × (code ≡ 1011)) }
+        requires open { self.old.answered ≡ Answered.Open }
+        ensures leads { LeadsOut (state_of L.Reads L.Counts L.Messages.own line.old) self.old (state_of L.Reads L.Counts L.Messages.own line.new) (record self.new { stage = Stage.Over (Following.ConnectionEnds result) }) }
+    {
+        if self.broke {
+            return left(self.client_closed);
+        }
+        match line.send_close(code, no_reason()) {
+            Put::Failed => Outcome::WriteFailed(0),
+            Put::NoMemory => Outcome::NoMemory,
+            Put::Done => Outcome::Finished,
+        }
+    }
+
+    /// Offers the disconnect of a connection that is cut short, and takes what is there next: the
+    /// exchange is over with the end of the task.
+    fn clear<C: ConnEnd>(&mut self, outcome: Outcome, end: &mut C) -> Turn
+        requires cut { self.old.stage ≡ Stage.Cut outcome }
+        ensures leads { LeadsIn self.old (IsViewOf C.ConnEnd end.old) self.new (IsViewOf C.ConnEnd end.new) }
+        ensures tag { (C.tag end.new ≡ C.tag end.old) × (C.ring end.new ≡ C.ring end.old) }
+    {
+        let _first = end.offer_disconnect(disconnect(1006));
+        match end.take() {
+            None => Turn::Idle,
+            Some(OutItem::Event(_)) => Turn::Moved,
+            Some(OutItem::Ended(_)) => {
+                self.stage = Stage::Over(Following::ConnectionEnds(outcome));
+                Turn::Moved
+            }
+        }
+    }
+
+    /// Gives the exchange up, where it is not over: a limit on turns was reached.
+    pub fn give_up<C: ConnEnd>(&mut self, end: &mut C)
+        ensures leads { LeadsIn self.old (IsViewOf C.ConnEnd end.old) self.new (IsViewOf C.ConnEnd end.new) }
+        ensures over { (following : Following) × (self.new.stage ≡ Stage.Over following) }
+        ensures stays { (following : Following) → self.old.stage ≡ Stage.Over following → self.new ≡ self.old }
+        ensures follows { self.new.stage ≡ Stage.Over NextRequest → self.old.stage ≡ Stage.Over NextRequest }
+        ensures tag { (C.tag end.new ≡ C.tag end.old) × (C.ring end.new ≡ C.ring end.old) }
+    {
+        match self.stage {
+            Stage::Over(_) => {}
+            Stage::Cut(outcome) => self.stop(outcome, end),
+            Stage::Running => self.stop(Outcome::Idle, end),
+            Stage::Ending(_) => self.stop(Outcome::Idle, end),
+        }
+    }
+
+    /// Ends the exchange here, and offers the disconnect.
+    fn stop<C: ConnEnd>(&mut self, outcome: Outcome, end: &mut C)
+        ensures half { self.new ≡ record self.old { stage = Stage.Over (Following.ConnectionEnds outcome) } }
+        ensures cuts { (view : ConnView Msg Output) → IsViewOf C.ConnEnd end.old view → (later : ConnView Msg Output) × IsCutOff view later × IsViewOf C.ConnEnd end.new later }
+        ensures tag { (C.tag end.new ≡ C.tag end.old) × (C.ring end.new ≡ C.ring end.old) }
+    {
+        self.stage = Stage::Over(Following::ConnectionEnds(outcome));
+        let _first = end.offer_disconnect(disconnect(1006));
+    }
+}
+
+/// The stage behind a message that was handed over.
+fn stage_behind(put: Put) -> Stage
+    ensures { result ≡ stage_of put }
+{
+    match put {
+        Put::Done => Stage::Running,
+        Put::Failed => Stage::Cut(Outcome::WriteFailed(0)),
+        Put::NoMemory => Stage::Cut(Outcome::NoMemory),
+    }
+}
+
+/// How the connection of a session ends behind its disconnect: well, where the client closed it.
+fn left(client_closed: bool) -> Outcome
+    ensures { result ≡ outcome_behind client_closed }
+{
+    if client_closed {
+        Outcome::Finished
+    } else {
+        Outcome::InputBroke
+    }
+}
+
+fn no_reason() -> Reason
+    ensures { result ≡ [] }
+{
+    let Some(reason) = Reason::new("") else {
+        unreachable!()
+    };
+    reason
+}
+
+/// What is heard of a message.
+fn received(payload: Payload) -> Incoming
+    ensures { result ≡ Incoming.WsReceive payload }
+{
+    Incoming::WsReceive { payload }
+}
+
+/// A disconnect that the server makes: 1005 for a close without a code, 1006 where there is none (RFC 6455, section 7.1.5).
+fn disconnect(code: u16) -> Incoming
+    ensures { result ≡ Incoming.WsDisconnect code [] }
+{
+    Incoming::WsDisconnect {
+        code,
+        reason: no_reason(),
+    }
+}
+
+/// The disconnect of a close of the client.
+fn disconnect_of(close: Option<(u16, Reason)>) -> Incoming
+    ensures { result ≡ heard.disconnect_of (Some close) }
+{
+    match close {
+        Some((code, reason)) => Incoming::WsDisconnect { code, reason },
+        None => disconnect(1005),
+    }
+}
