@@ -1,24 +1,21 @@
 -- Where what an application says is a function of the events of the body, what is written is one function of the bytes read and of
 -- how reading ended; and what is written for a front of them comes first.
-use Rattle.std.proofs.Common.{◌≡◌, ◌≢◌, ℕ, true, false, List, [], ◌∷◌, ◌++◌, ◌⊎◌, inl, inr, length, refl, sym, ap, ◌∙◌, subst, append-nil, Option, Some, None, suc}
+use Rattle.std.proofs.Common.{◌≡◌, ℕ, true, false, List, [], ◌∷◌, ◌++◌, ◌⊎◌, inl, inr, length, refl, sym, ap, ◌∙◌, subst, append-nil, Option, Some, None, suc}
 use mathlib.Core.List.{IsPrefix}
 use Rattle.asgi_types.specs.declared.facts.Facts.{Facts}
-use Rattle.asgi_types.specs.declared.facts.Framing.TheVariants.{Upgrade}
 use Rattle.asgi_types.specs.declared.incoming.Incoming.{Incoming}
 use Rattle.asgi_types.specs.declared.limits.Limits.{Limits}
 use Rattle.asgi_types.specs.declared.outgoing.Outgoing.{Outgoing}
 use Rattle.asgi_types.specs.declared.scope.Scope.{Scope}
 use Rattle.asgi_request.specs.declared.next.Next.{Next}
-use Rattle.asgi_request.specs.declared.next.Next.TheVariants.{Head, Whole, Bad}
+use Rattle.asgi_request.specs.declared.next.Next.TheVariants.{Head, Bad}
 use Rattle.asgi_request.specs.declared.refusal.Refusal.{Refusal}
-use Rattle.asgi_request.specs.declared.refusal.Refusal.TheVariants.{NotImplemented}
 use Rattle.asgi_request.specs.ChunkedBody.{BodyState, complete}
-use Rattle.asgi_request.specs.Opened.{BeginsWith, BeginsWithHandshake}
+use Rattle.asgi_request.specs.Opened.{BeginsWith}
 use Rattle.asgi_request.specs.Places.{body_place}
 use Rattle.asgi_request.specs.Refusals.{status_of}
 use Rattle.asgi_request.specs.Results.{RefusesHead, GivesResults, HasFirst}
 use Rattle.asgi_request.proofs.FirstLemmas.{first_of}
-use Rattle.asgi_request.proofs.HandshakeLemmas.{handshake_alone}
 use Rattle.asgi_request.proofs.OpenedLemmas.{opens_behind, opened_at}
 use Rattle.asgi_request.proofs.OpeningLemmas.{one_first, first_stays}
 use Rattle.asgi_request.proofs.ResultsLemmas.{prefix_of}
@@ -38,7 +35,7 @@ use Rattle.asgi_conversation.specs.declared.following.Following.TheVariants.{Nex
 use Rattle.asgi_conversation.specs.declared.input.InputEnd.{InputEnd}
 use Rattle.asgi_conversation.specs.TaskEnds.{is_cut, after_response}
 use Rattle.asgi_conversation.specs.Exchanges.{Exchanged, out_text}
-use Rattle.asgi_conversation.specs.Persistence.{RefusesFirst, EndsBetween, listed, Converses}
+use Rattle.asgi_conversation.specs.Persistence.{EndsBetween, listed, Converses}
 use Rattle.asgi_conversation.proofs.OneConversationLemmas.{one_conversation}
 use Rattle.asgi_conversation.proofs.RequestLemmas.{none_closed}
 use Rattle.asgi_conversation.proofs.ToldLemmas.{next_for}
@@ -76,94 +73,42 @@ same_bad limits bytes a b x y = let e = one_first limits bytes (Bad a) (Bad b) [
 head_not_bad : (limits : Limits) (bytes : List ℕ) (scope : Scope) (facts : Facts) (status : ℕ) → HasFirst limits bytes (Head scope facts ∷ []) → HasFirst limits bytes (Bad status ∷ []) → ⊥
 head_not_bad limits bytes scope facts status x y = let e = one_first limits bytes (Head scope facts) (Bad status) [] [] x y in cc e
 
--- an opening handshake comes first
-handshake_first : (limits : Limits) (bytes : List ℕ) (scope : Scope) (facts : Facts) (frames : List ℕ) → BeginsWithHandshake limits bytes scope facts frames
-    → HasFirst limits bytes (Head scope facts ∷ [])
-handshake_first limits bytes scope facts frames x = record {
-  front = bytes;
-  behind = [];
-  further = Whole ∷ [];
-  rest = frames;
-  splits = sym (append-nil bytes);
-  gives = handshake_alone limits bytes frames scope facts x;
-}
-
 -- ---- the end between two requests
 
--- an opening handshake, or a refusal
-abbrev FirstAs : Limits → List ℕ → Refusal → Type 0
-FirstAs limits bytes why =
-    HasFirst limits bytes (Bad (status_of why) ∷ [])
-    ⊎ ((scope : Scope) × (facts : Facts) × HasFirst limits bytes (Head scope facts ∷ []) × (facts.framing ≡ Upgrade) × (why ≡ NotImplemented))
-
--- nothing is due, or a head or an opening handshake is refused
+-- nothing is due, or a head is refused
 BetweenAs : Limits → List ℕ → List ℕ → Type 0
 BetweenAs limits bytes text =
-    (NothingIsDue limits bytes × (text ≡ [])) ⊎ ((why : Refusal) × FirstAs limits bytes why × (text ≡ refusal_text (status_of why)))
-
-first_as : (limits : Limits) (bytes : List ℕ) (why : Refusal) → RefusesFirst limits bytes why → FirstAs limits bytes why
-first_as limits bytes why (inl r) = inl (refusal_first limits bytes why r)
-first_as limits bytes why (inr s) =
-    let h = s.0 in
-    let x = h.3 in
-    inr (h.0, h.1, handshake_first limits bytes h.0 h.1 h.2 x, ap (λ (f : Facts). f.framing) x.facts_are, s.1)
-
-same_framing : (limits : Limits) (bytes : List ℕ) (scope other : Scope) (facts others : Facts) → HasFirst limits bytes (Head scope facts ∷ []) → HasFirst limits bytes (Head other others ∷ [])
-    → facts.framing ≡ others.framing
-same_framing limits bytes scope other facts others x y =
-    let e = one_first limits bytes (Head scope facts) (Head other others) [] [] x y in
-    let same : facts ≡ others = cc e in
-    ap (λ (f : Facts). f.framing) same
-
--- it is the head of no request
-first_no_head : (limits : Limits) (bytes : List ℕ) (why : Refusal) (scope : Scope) (facts : Facts) → FirstAs limits bytes why → facts.framing ≢ Upgrade
-    → HasFirst limits bytes (Head scope facts ∷ []) → ⊥
-first_no_head limits bytes why scope facts (inl x) plain h = head_not_bad limits bytes scope facts (status_of why) h x
-first_no_head limits bytes why scope facts (inr x) plain h = plain (same_framing limits bytes scope x.0 facts x.1 h x.2 ∙ x.3)
-
-first_as_stays : (limits : Limits) (bytes more : List ℕ) (why : Refusal) → FirstAs limits bytes why → FirstAs limits (bytes ++ more) why
-first_as_stays limits bytes more why (inl x) = inl (first_stays limits bytes more (Bad (status_of why) ∷ []) x)
-first_as_stays limits bytes more why (inr x) = inr (x.0, x.1, first_stays limits bytes more (Head x.0 x.1 ∷ []) x.2, x.3, x.4)
-
-first_due : (limits : Limits) (bytes : List ℕ) (why : Refusal) → NothingIsDue limits bytes → FirstAs limits bytes why → ⊥
-first_due limits bytes why n (inl x) = nothing_first limits bytes (Bad (status_of why)) n x
-first_due limits bytes why n (inr x) = nothing_first limits bytes (Head x.0 x.1) n x.2
-
-first_status : (limits : Limits) (bytes : List ℕ) (a b : Refusal) → FirstAs limits bytes a → FirstAs limits bytes b → status_of a ≡ status_of b
-first_status limits bytes a b (inl x) (inl y) = same_bad limits bytes (status_of a) (status_of b) x y
-first_status limits bytes a b (inl x) (inr y) = absurd (head_not_bad limits bytes y.0 y.1 (status_of a) y.2 x)
-first_status limits bytes a b (inr x) (inl y) = absurd (head_not_bad limits bytes x.0 x.1 (status_of b) x.2 y)
-first_status limits bytes a b (inr x) (inr y) = ap status_of (x.4 ∙ sym y.4)
+    (NothingIsDue limits bytes × (text ≡ [])) ⊎ ((why : Refusal) × HasFirst limits bytes (Bad (status_of why) ∷ []) × (text ≡ refusal_text (status_of why)))
 
 between_as : (o : Outcome) (limits : Limits) (end : InputEnd) (bytes text : List ℕ) → is_cut o ≡ false → EndsBetween o limits end bytes text → BetweenAs limits bytes text
 unfolding BetweenAs
 between_as Finished limits end bytes text c e = inl (e.1, e.0)
-between_as (Refused status) limits end bytes text c e = inr (e.0, first_as limits bytes e.0 e.1, e.3 ∙ ap refusal_text e.2)
+between_as (Refused status) limits end bytes text c e = inr (e.0, refusal_first limits bytes e.0 e.1, e.3 ∙ ap refusal_text e.2)
 between_as InputBroke limits end bytes text c e = inl (e.1, e.0)
 between_as (WriteFailed n) limits end bytes text c e = absurd (cc)
 between_as Idle limits end bytes text c e = absurd (cc)
 between_as NoMemory limits end bytes text c e = absurd (cc)
 
-no_head : (limits : Limits) (bytes text : List ℕ) (scope : Scope) (facts : Facts) → BetweenAs limits bytes text → facts.framing ≢ Upgrade → HasFirst limits bytes (Head scope facts ∷ []) → ⊥
+no_head : (limits : Limits) (bytes text : List ℕ) (scope : Scope) (facts : Facts) → BetweenAs limits bytes text → HasFirst limits bytes (Head scope facts ∷ []) → ⊥
 unfolding BetweenAs
-no_head limits bytes text scope facts (inl x) plain h = nothing_first limits bytes (Head scope facts) x.0 h
-no_head limits bytes text scope facts (inr x) plain h = first_no_head limits bytes x.0 scope facts x.1 plain h
+no_head limits bytes text scope facts (inl x) h = nothing_first limits bytes (Head scope facts) x.0 h
+no_head limits bytes text scope facts (inr x) h = head_not_bad limits bytes scope facts (status_of x.0) h x.1
 
 -- more bytes change nothing of a refusal
 between_grows : (limits : Limits) (bytes more text other : List ℕ) → BetweenAs limits bytes text → BetweenAs limits (bytes ++ more) other → IsPrefix text other
 unfolding BetweenAs
 between_grows limits bytes more text other (inl x) y = (other, ap (λ (l : List ℕ). l ++ other) x.1)
 between_grows limits bytes more text other (inr x) (inl y) =
-    absurd (first_due limits (bytes ++ more) x.0 y.0 (first_as_stays limits bytes more x.0 x.1))
+    absurd (nothing_first limits (bytes ++ more) (Bad (status_of x.0)) y.0 (first_stays limits bytes more (Bad (status_of x.0) ∷ []) x.1))
 between_grows limits bytes more text other (inr x) (inr y) =
     prefix_same text other
-    (x.2 ∙ ap refusal_text (first_status limits (bytes ++ more) x.0 y.0 (first_as_stays limits bytes more x.0 x.1) y.1) ∙ sym y.2)
+    (x.2 ∙ ap refusal_text (same_bad limits (bytes ++ more) (status_of x.0) (status_of y.0) (first_stays limits bytes more (Bad (status_of x.0) ∷ []) x.1) y.1) ∙ sym y.2)
 
-between_no_head : (limits : Limits) (bytes more text other : List ℕ) (scope : Scope) (facts : Facts) → BetweenAs limits bytes text → facts.framing ≢ Upgrade → HasFirst limits (bytes ++ more) (Head scope facts ∷ []) → IsPrefix text other
+between_no_head : (limits : Limits) (bytes more text other : List ℕ) (scope : Scope) (facts : Facts) → BetweenAs limits bytes text → HasFirst limits (bytes ++ more) (Head scope facts ∷ []) → IsPrefix text other
 unfolding BetweenAs
-between_no_head limits bytes more text other scope facts (inl x) plain h = (other, ap (λ (l : List ℕ). l ++ other) x.1)
-between_no_head limits bytes more text other scope facts (inr x) plain h =
-    absurd (first_no_head limits (bytes ++ more) x.0 scope facts (first_as_stays limits bytes more x.0 x.1) plain h)
+between_no_head limits bytes more text other scope facts (inl x) h = (other, ap (λ (l : List ℕ). l ++ other) x.1)
+between_no_head limits bytes more text other scope facts (inr x) h =
+    absurd (head_not_bad limits (bytes ++ more) scope facts (status_of x.0) h (first_stays limits bytes more (Bad (status_of x.0) ∷ []) x.1))
 
 -- the same bytes, ended alike, end between two requests in one way
 one_between : (limits : Limits) (end : InputEnd) (bytes : List ℕ) (o p : Outcome) (text other : List ℕ) → is_cut o ≡ false → is_cut p ≡ false
@@ -225,19 +170,19 @@ module _ (say : List Incoming → List Outgoing) (limits : Limits) (end : InputE
   one bytes [] [] None None text other a b =
       let e = one_between limits end bytes o p text other c d a b in record { texts = e.0; outcomes = e.1; as_many = refl }
   one bytes [] [] None (Some y) text other a b =
-      absurd (no_head limits bytes text y.scope y.facts (between_as o limits end bytes text c a) b.1.serves.head.plain (head_first limits bytes y.scope y.facts b.1.serves.arrived b.1.serves.head))
+      absurd (no_head limits bytes text y.scope y.facts (between_as o limits end bytes text c a) (head_first limits bytes y.scope y.facts b.1.serves.arrived b.1.serves.head))
   one bytes [] [] (Some x) None text other a b =
-      absurd (no_head limits bytes other x.scope x.facts (between_as p limits end bytes other d b) a.1.serves.head.plain (head_first limits bytes x.scope x.facts a.1.serves.arrived a.1.serves.head))
+      absurd (no_head limits bytes other x.scope x.facts (between_as p limits end bytes other d b) (head_first limits bytes x.scope x.facts a.1.serves.arrived a.1.serves.head))
   one bytes [] [] (Some x) (Some y) text other a b =
       let same = same_served say limits bytes x y a.0 b.0 a.1.serves b.1.serves in
       record { texts = a.2 ∙ same.text ∙ sym b.2; outcomes = outcome_of o p (a.1.follows ∙ same.next ∙ sym b.1.follows); as_many = refl }
   one bytes [] (y ∷ ys) None m text other a b =
-      absurd (no_head limits bytes text y.scope y.facts (between_as o limits end bytes text c a) b.1.serves.head.plain (head_first limits bytes y.scope y.facts b.1.serves.arrived b.1.serves.head))
+      absurd (no_head limits bytes text y.scope y.facts (between_as o limits end bytes text c a) (head_first limits bytes y.scope y.facts b.1.serves.arrived b.1.serves.head))
   one bytes [] (y ∷ ys) (Some x) m text other a b =
       let same = same_served say limits bytes x y a.0 (complete b.0) a.1.serves b.1.serves in
       absurd (apart o (a.1.follows ∙ same.next ∙ sym b.1.follows))
   one bytes (x ∷ xs) [] l None text other a b =
-      absurd (no_head limits bytes other x.scope x.facts (between_as p limits end bytes other d b) a.1.serves.head.plain (head_first limits bytes x.scope x.facts a.1.serves.arrived a.1.serves.head))
+      absurd (no_head limits bytes other x.scope x.facts (between_as p limits end bytes other d b) (head_first limits bytes x.scope x.facts a.1.serves.arrived a.1.serves.head))
   one bytes (x ∷ xs) [] l (Some y) text other a b =
       let same = same_served say limits bytes x y (complete a.0) b.0 a.1.serves b.1.serves in
       absurd (apart p (sym (a.1.follows ∙ same.next ∙ sym b.1.follows)))
@@ -271,21 +216,21 @@ module _ (say : List Incoming → List Outgoing) (grows : (events others : List 
       between_grows limits bytes more text other (between_as o limits early bytes text c a) (between_as p limits late (bytes ++ more) other d b)
   first bytes [] [] None (Some y) text other a b =
       between_no_head limits bytes more text other y.scope y.facts (between_as o limits early bytes text c a)
-      b.1.serves.head.plain (head_first limits (bytes ++ more) y.scope y.facts b.1.serves.arrived b.1.serves.head)
+      (head_first limits (bytes ++ more) y.scope y.facts b.1.serves.arrived b.1.serves.head)
   first bytes [] [] (Some x) None text other a b =
-      absurd (no_head limits (bytes ++ more) other x.scope x.facts (between_as p limits late (bytes ++ more) other d b) a.1.serves.head.plain (head_stays bytes x a.0 a.1.serves))
+      absurd (no_head limits (bytes ++ more) other x.scope x.facts (between_as p limits late (bytes ++ more) other d b) (head_stays bytes x a.0 a.1.serves))
   first bytes [] [] (Some x) (Some y) text other a b =
       let front = text_goes_on say limits bytes more x y grows a.0 b.0 a.1.serves b.1.serves in
       subst (λ (t : List ℕ). IsPrefix t other) (sym a.2) (subst (λ (t : List ℕ). IsPrefix (out_text x (input_of a.0)) t) (sym b.2) front)
   first bytes [] (y ∷ ys) None m text other a b =
       between_no_head limits bytes more text other y.scope y.facts (between_as o limits early bytes text c a)
-      b.1.serves.head.plain (head_first limits (bytes ++ more) y.scope y.facts b.1.serves.arrived b.1.serves.head)
+      (head_first limits (bytes ++ more) y.scope y.facts b.1.serves.arrived b.1.serves.head)
   first bytes [] (y ∷ ys) (Some x) m text other a b =
       let front = text_goes_on say limits bytes more x y grows a.0 (complete b.0) a.1.serves b.1.serves in
       let whole = prefix_trans (out_text x (input_of a.0)) (out_text y input.Whole) (out_text y input.Whole ++ b.2.0) front (prefix_front (out_text y input.Whole) b.2.0) in
       subst (λ (t : List ℕ). IsPrefix t other) (sym a.2) (subst (λ (t : List ℕ). IsPrefix (out_text x (input_of a.0)) t) (sym b.2.1) whole)
   first bytes (x ∷ xs) [] l None text other a b =
-      absurd (no_head limits (bytes ++ more) other x.scope x.facts (between_as p limits late (bytes ++ more) other d b) a.1.serves.head.plain (head_stays bytes x (complete a.0) a.1.serves))
+      absurd (no_head limits (bytes ++ more) other x.scope x.facts (between_as p limits late (bytes ++ more) other d b) (head_stays bytes x (complete a.0) a.1.serves))
   first bytes (x ∷ xs) [] l (Some y) text other a b =
       let same = whole_stays say limits bytes more x y a.0 b.0 a.1.serves b.1.serves in
       let there : next_for y.facts (say b.1.serves.events) b.0 ≡ next_for y.facts (say b.1.serves.events) (complete (a.0 ++ more)) =

@@ -119,15 +119,7 @@ behind_is_held limits end read given exchanges behind written held b r = closed_
 pub refusal_due : (limits : Limits) (end : InputEnd) (read : List ℕ) (given : List Next) (exchanges : List Exchanged) (behind written : List ℕ) (place : Place) (held : List ℕ) (status : ℕ)
     → Between limits end read given exchanges behind written → Reaches limits read (given ++ Bad status ∷ []) place held → RefusesWith limits behind status
 refusal_due limits end read given exchanges behind written place held status b r =
-    let why = next_refusal limits read given behind place held status (closed_at limits read given behind b.closed) r in
-    (why.0, inl why.1, why.2)
-
--- an opening handshake that it gives
-pub handshake_due : (limits : Limits) (end : InputEnd) (read : List ℕ) (given : List Next) (exchanges : List Exchanged) (behind written : List ℕ) (place : Place) (held : List ℕ) (scope : Scope) (facts : Facts)
-    → Between limits end read given exchanges behind written → Reaches limits read (given ++ Head scope facts ∷ []) place held → facts.framing ≡ Upgrade → RefusesWith limits behind 501
-handshake_due limits end read given exchanges behind written place held scope facts b r e =
-    let n = next_head limits read given behind place held scope facts [] (closed_at limits read given behind b.closed) r in
-    (NotImplemented, inr ((scope, facts, n.0, begins_with_handshake limits behind scope facts n.0 n.1 e), refl), refl)
+    next_refusal limits read given behind place held status (closed_at limits read given behind b.closed) r
 
 -- ---- the ends between two exchanges
 

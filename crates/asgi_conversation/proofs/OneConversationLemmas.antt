@@ -29,7 +29,7 @@ use Rattle.asgi_conversation.specs.declared.input.InputEnd.{InputEnd}
 use Rattle.asgi_conversation.specs.declared.input.InputEnd.TheVariants.{AtEnd, Failed}
 use Rattle.asgi_conversation.specs.TaskEnds.{is_cut, after_response, after_task}
 use Rattle.asgi_conversation.specs.Exchanges.{Exchanged, ServesFirst, IsFollowed, out_text, AreAnswered, answer_texts}
-use Rattle.asgi_conversation.specs.Persistence.{OpensSession, RefusesFirst, EndsBetween, IsDone, EndsWithin, Ends, listed, Converses}
+use Rattle.asgi_conversation.specs.Persistence.{EndsBetween, IsDone, EndsWithin, Ends, listed, Converses}
 
 -- ---- a request
 
@@ -73,24 +73,12 @@ last_served limits end bytes (y ∷ exchanges) x behind a =
 gives_refusal : (limits : Limits) (bytes : List ℕ) (why : Refusal) → RefusesHead limits bytes why → GivesResults limits bytes (Bad (status_of why) ∷ []) bytes
 gives_refusal limits bytes why r = record { requests = []; behind = bytes; last = Bad (status_of why) ∷ []; whole = refl; goes_on = inl (inr (inl (why, r, refl)), refl); results_are = refl }
 
-never : (limits : Limits) (bytes : List ℕ) (why : Refusal) → RefusesFirst limits bytes why → NothingIsDue limits bytes → ⊥
-never limits bytes why (inr s) n =
-    let h = s.0 in
-    let e = unique_of limits limits.block_in_range.0 bytes (Head h.0 h.1 ∷ Whole ∷ []) [] h.2 n.0 (handshake_alone limits bytes h.2 h.0 h.1 h.3) n.1 in cc e
-never limits bytes why (inl r) n =
+never : (limits : Limits) (bytes : List ℕ) (why : Refusal) → RefusesHead limits bytes why → NothingIsDue limits bytes → ⊥
+never limits bytes why r n =
     let e = unique_of limits limits.block_in_range.0 bytes (Bad (status_of why) ∷ []) [] bytes n.0 (gives_refusal limits bytes why r) n.1 in cc e
 
--- a handshake is no refused head
-not_refused : (limits : Limits) (bytes : List ℕ) (why : Refusal) → RefusesHead limits bytes why → OpensSession limits bytes → ⊥
-not_refused limits bytes why r h =
-    let e = unique_of limits limits.block_in_range.0 bytes (Bad (status_of why) ∷ []) (Head h.0 h.1 ∷ Whole ∷ []) bytes h.2 (gives_refusal limits bytes why r) (handshake_alone limits bytes h.2 h.0 h.1 h.3) in
-    cc e
-
-same_refusal : (limits : Limits) (bytes : List ℕ) (a b : Refusal) → RefusesFirst limits bytes a → RefusesFirst limits bytes b → status_of a ≡ status_of b
-same_refusal limits bytes a b (inr h) (inr g) = ap status_of (h.1 ∙ sym g.1)
-same_refusal limits bytes a b (inr h) (inl s) = absurd (not_refused limits bytes b s h.0)
-same_refusal limits bytes a b (inl r) (inr g) = absurd (not_refused limits bytes a r g.0)
-same_refusal limits bytes a b (inl r) (inl s) =
+same_refusal : (limits : Limits) (bytes : List ℕ) (a b : Refusal) → RefusesHead limits bytes a → RefusesHead limits bytes b → status_of a ≡ status_of b
+same_refusal limits bytes a b r s =
     let e = unique_of limits limits.block_in_range.0 bytes (Bad (status_of a) ∷ []) (Bad (status_of b) ∷ []) bytes bytes (gives_refusal limits bytes a r) (gives_refusal limits bytes b s) in cc e
 
 not_both : (end : InputEnd) (bytes : List ℕ) → end ≡ AtEnd → IsBlank bytes → (end ≡ Failed) ⊎ ((end ≡ AtEnd) × ¬ (IsBlank bytes)) → ⊥

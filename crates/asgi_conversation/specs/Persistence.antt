@@ -10,9 +10,7 @@ use Rattle.asgi_types.specs.declared.scope.Scope.{Scope}
 use Rattle.asgi_request.specs.declared.next.Next.{Next}
 use Rattle.asgi_request.specs.declared.next.Next.TheVariants.{Need, Head, Event, Whole, Bad}
 use Rattle.asgi_request.specs.declared.refusal.Refusal.{Refusal}
-use Rattle.asgi_request.specs.declared.refusal.Refusal.TheVariants.{NotImplemented}
 use Rattle.asgi_request.specs.ChunkedBody.{BodyState}
-use Rattle.asgi_request.specs.Opened.{BeginsWithHandshake}
 use Rattle.asgi_request.specs.Refusals.{status_of}
 use Rattle.asgi_request.specs.Results.{RefusesHead}
 use Rattle.asgi_response.specs.declared.refusal.Input.{Input}
@@ -31,31 +29,23 @@ use Rattle.asgi_conversation.specs.Exchanges.{Exchanged, ServesFirst, IsFollowed
 
 -- ---- the end between two requests
 
--- the bytes begin with an opening handshake
-abbrev pub OpensSession : Limits → List ℕ → Type 0
-OpensSession limits bytes = (scope : Scope) × (facts : Facts) × (frames : List ℕ) × BeginsWithHandshake limits bytes scope facts frames
-
--- What the bytes begin with is refused: a head, or an opening handshake, since no sessions are served.
-abbrev pub RefusesFirst : Limits → List ℕ → Refusal → Type 0
-RefusesFirst limits bytes why = RefusesHead limits bytes why ⊎ (OpensSession limits bytes × (why ≡ NotImplemented))
-
--- it is refused with this status
+-- the head that is due next is refused with this status
 abbrev pub RefusesWith : Limits → List ℕ → ℕ → Type 0
-RefusesWith limits bytes status = (why : Refusal) × RefusesFirst limits bytes why × (status ≡ status_of why)
+RefusesWith limits bytes status = (why : Refusal) × RefusesHead limits bytes why × (status ≡ status_of why)
 
 -- By the bytes behind the answered requests: what is written there.
 abbrev pub EndsBetween : Outcome → Limits → InputEnd → List ℕ → List ℕ → Type 0
 -- the input ended, and no further request was begun
 EndsBetween Finished limits end behind text = (text ≡ []) × NothingIsDue limits behind × (end ≡ AtEnd) × IsBlank behind
--- a head is refused, or an opening handshake
+-- a head is refused
 EndsBetween (Refused status) limits end behind text =
-    (why : Refusal) × RefusesFirst limits behind why × (status ≡ status_of why) × (text ≡ refusal_text status)
+    (why : Refusal) × RefusesHead limits behind why × (status ≡ status_of why) × (text ≡ refusal_text status)
 -- the input failed, or ended inside a head
 EndsBetween InputBroke limits end behind text =
     (text ≡ []) × NothingIsDue limits behind × ((end ≡ Failed) ⊎ ((end ≡ AtEnd) × ¬ (IsBlank behind)))
--- the same, and so much of the refusal was written
+-- a head is refused, and so much of its refusal was written
 EndsBetween (WriteFailed n) limits end behind text =
-    (why : Refusal) × RefusesFirst limits behind why × (n < length (refusal_text (status_of why))) × (text ≡ take n (refusal_text (status_of why)))
+    (why : Refusal) × RefusesHead limits behind why × (n < length (refusal_text (status_of why))) × (text ≡ take n (refusal_text (status_of why)))
 EndsBetween Idle limits end behind text = (text ≡ []) × NothingIsDue limits behind
 EndsBetween NoMemory limits end behind text = text ≡ []
 

@@ -134,8 +134,7 @@ pub fn a_reader_leads_from_exchange_to_exchange()
         → Between reader.limits end read given exchanges behind written → StandsFor reader read given → reader.place ≡ Place.Start → behind ≡ reader.held }
 {}
 
-/// Between two exchanges the refusal that a reader gives, an opening handshake, all given at the end of the input, or a limit
-/// makes a conversation.
+/// Between two exchanges the refusal that a reader gives, all given at the end of the input, or a limit makes a conversation.
 pub fn a_reader_ends_a_conversation()
     ensures refused { (reader : Reading) (end : InputEnd) (read : List ℕ) (given : List Next) (exchanges : List Exchanged) (behind written : List ℕ) (report : Report) (status : ℕ)
         → Between reader.limits end read given exchanges behind written → CountsExchanges report exchanges
@@ -145,10 +144,6 @@ pub fn a_reader_ends_a_conversation()
         → Between reader.limits end read given exchanges behind written → CountsExchanges report exchanges
         → StandsFor reader read (given ++ Next.Bad status ∷ []) → n < length (refusal_text status) → report.outcome ≡ Outcome.WriteFailed n
         → Converses reader.limits end read exchanges (written ++ take n (refusal_text status)) report }
-    ensures handshake { (reader : Reading) (end : InputEnd) (read : List ℕ) (given : List Next) (exchanges : List Exchanged) (behind written : List ℕ) (report : Report) (scope : Scope) (facts : Facts)
-        → Between reader.limits end read given exchanges behind written → CountsExchanges report exchanges
-        → StandsFor reader read (given ++ Next.Head scope facts ∷ []) → facts.framing ≡ Framing.Upgrade → report.outcome ≡ Outcome.Refused 501
-        → Converses reader.limits end read exchanges (written ++ refusal_text 501) report }
     ensures finished { (reader : Reading) (end : InputEnd) (read : List ℕ) (given : List Next) (exchanges : List Exchanged) (behind written : List ℕ) (report : Report)
         → Between reader.limits end read given exchanges behind written → CountsExchanges report exchanges
         → AllGiven reader read given → end ≡ AtEnd → IsBlank behind → report.outcome ≡ Outcome.Finished

@@ -9,11 +9,6 @@ pub returns-clause-refusal_unsent : goal.returns-clause-refusal_unsent
 returns-clause-refusal_unsent c reader end read given exchanges behind written report status k b n r h o = lemma.refusal_failed reader.limits end read given exchanges behind written report b n status k
     (lemma.refusal_due reader.limits end read given exchanges behind written reader.place reader.held status b r) h o
 
-pub returns-clause-handshake : goal.returns-clause-handshake
-returns-clause-handshake c reader end read given exchanges behind written report scope facts b n r e o =
-    lemma.refused reader.limits end read given exchanges behind written report b n 501
-    (lemma.handshake_due reader.limits end read given exchanges behind written reader.place reader.held scope facts b r e) o
-
 pub returns-clause-finished : goal.returns-clause-finished
 returns-clause-finished c reader end read given exchanges behind written report b n g e blank o = lemma.finished reader.limits end read given exchanges behind written report b n g.0 g.1 e blank o
 
