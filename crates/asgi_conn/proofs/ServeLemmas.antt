@@ -211,7 +211,7 @@ module _ (answers : Scope → List Incoming → List Outgoing → Option EndKind
 
       -- an opening handshake
       module _ (scope : Scope) (facts : Facts) (goes_on : ((status : ℕ) → IsRefused wire.requests status → ⊥) → GoesOn wire.requests later (Head scope facts)) (upgrade : facts.framing ≡ Upgrade) where
-        here : (frames : List ℕ) × BeginsWithHandshake limits s.stands.1 scope facts frames
+        pub here : (frames : List ℕ) × BeginsWithHandshake limits s.stands.1 scope facts frames
         here =
             between.handshake_here limits start now wire s.read s.stands.0 s.exchanges s.stands.1 s.written x later scope facts limits_stay (gave (Head scope facts) goes_on) upgrade
 
@@ -219,11 +219,12 @@ module _ (answers : Scope → List Incoming → List Outgoing → Option EndKind
         is_websocket whole is = subst (λ (w : Scope). kind_of w ≡ WebSocket) (sym is) (subst (λ (w : Scope). kind_of (scope_with w client server state) ≡ WebSocket) (sym here.1.scope_is) refl)
 
         abbrev pub handshake_scene : SessionScene
-        handshake_scene = record { limits = limits; start = start; exchanges = s.exchanges; before = s.written; scope = scope; facts = facts; frames = here.0 }
+        handshake_scene = record { limits = limits; start = start; exchanges = s.exchanges; before = s.written; scope = scope; facts = facts; frames = here.0; read = s.read }
 
         pub opens_handshake : OpensHandshake handshake_scene now (record wire { requests = later }) facts s.read
         opens_handshake = record {
           facts_are = refl;
+          read_is = refl;
           limits_are = x.limits_are.0;
           reader_limits = limits_stay;
           moved = x.moved;

@@ -154,6 +154,7 @@ module _ (scene : SessionScene) (was : LineState) (half : SessionHalf) (read : L
           answered = x.fixed.answered;
           head = x.fixed.head;
           before_is = x.fixed.before_is;
+          read_is = x.fixed.read_is;
         } in
         let still : IsSilent new (later out) x.leftover x.handed = record {
           kept = silent.0.kept;
@@ -259,6 +260,7 @@ module _ (scene : SessionScene) (was : LineState) (half : SessionHalf) (read : L
         answered = x.fixed.answered;
         head = x.fixed.head;
         before_is = x.fixed.before_is;
+        read_is = x.fixed.read_is;
       } in
       let new : SessionHalf = record half { answered = Unanswered; wire = record half.wire { out = wire.out }; text = text; stage = Cut NoMemory } in
       let still : IsSilent new (later out) x.leftover x.handed = record {

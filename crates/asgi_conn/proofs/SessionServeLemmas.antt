@@ -78,6 +78,7 @@ module _ (scene : SessionScene) (now : LineState) (wire : Wire) (facts : Facts) 
           answered = o.between.so_far.each;
           head = o.head;
           before_is = o.between.so_far.written_is;
+          read_is = o.read_is;
         };
         moved = o.moved;
         denial = subst (λ (f : Facts). standing.StandsForSession text f []) (copied ∙ o.facts_are) (denial (ap (λ (f : Facts). f.framing) copied ∙ upgrade));
@@ -109,6 +110,11 @@ failed_so answered.Refused outcome scene now half read view s c = ap (λ (l : Op
 failed_so answered.Open outcome scene now half read view s c = ap (λ (l : Option (List ℕ)). failures_in outcome (talk_in half view l s.handed)) (sym c.kept)
 failed_so answered.Closed outcome scene now half read view s c = ap (λ (l : Option (List ℕ)). failures_in outcome (talk_in half view l s.handed)) (sym c.kept)
 
+-- it does not lead to a next request
+pub ends_connection : (scene : SessionScene) (half : SessionHalf) (view : _) → IsAt half.stage scene half view → (following : Following) → half.stage ≡ Over following → (outcome : Outcome) × (half.stage ≡ Over (ConnectionEnds outcome))
+ends_connection scene half view at NextRequest is = absurd (subst (λ (s : Stage). IsAt s scene half view) is at)
+ends_connection scene half view at (ConnectionEnds outcome) is = (outcome, is)
+
 module _ {T E : Type 0} (promise : Scope → List Incoming → List Outgoing → Option EndKind → Type 0) (answers : T → List Incoming → List Outgoing → Option EndKind → Type 0) (ends : Ghosts E)
     (client server : Option Peer) (state : List (List ℕ × StateValue)) (scene : SessionScene) (now : LineState) (half : SessionHalf) (read : List ℕ)
     (side : AppSide T E) (kind : EndKind) (run : HasRun session_half.ghosts answers ends scene now half read side kind) where
@@ -135,11 +141,6 @@ module _ {T E : Type 0} (promise : Scope → List Incoming → List Outgoing →
         ∙ sym (faults_more scene.exchanges one),
   )
 
-  -- it does not lead to a next request
-  pub ends_connection : IsAt half.stage scene half run.world.conn → (following : Following) → half.stage ≡ Over following → (outcome : Outcome) × (half.stage ≡ Over (ConnectionEnds outcome))
-  ends_connection at NextRequest is = absurd (subst (λ (s : Stage). IsAt s scene half run.world.conn) is at)
-  ends_connection at (ConnectionEnds outcome) is = (outcome, is)
-
   ends_so : (outcome : Outcome) → half.stage ≡ Over (ConnectionEnds outcome) → ReadsAhead scene.limits read (requests_of scene.exchanges)
       → EndsSo scene.limits scene.start now read (scene.exchanges ++ one ∷ []) out outcome
   ends_so outcome over ahead =
@@ -153,7 +154,7 @@ module _ {T E : Type 0} (promise : Scope → List Incoming → List Outgoing →
         ahead = subst (λ (l : List (Scope × Facts)). ReadsAhead scene.limits read l) (sym (requests_join scene.exchanges (one ∷ []))) (more_requests scene.limits read (requests_of scene.exchanges) ((scene.scope, scene.facts) ∷ []) ahead);
       }
 
-  pub serves_session : (scope : Scope) (was : E) (old new : Tally) (outcome : Outcome) → ReadsAhead scene.limits read (requests_of scene.exchanges)
+  pub serves_session : (scope : Scope) (was : E) (old new : Tally) (outcome : Outcome) → ReadsAhead scene.limits scene.read (requests_of scene.exchanges)
       → scope ≡ scope_with scene.scope client server state → IsOpened (promise scope) answers ends was side → ends.heard was ≡ [] → ends.said was ≡ []
       → ArePromised promise client server state scene.exchanges → IsTallied old scene.exchanges → new.exchanges ≡ old.exchanges + 1 → new.faults ≡ old.faults + fault_of (Some kind)
       → half.stage ≡ Over (ConnectionEnds outcome) → Serving promise scene.limits client server state scene.start now new (Ended outcome)
@@ -163,5 +164,5 @@ module _ {T E : Type 0} (promise : Scope → List Incoming → List Outgoing →
     exchanges = scene.exchanges ++ one ∷ [];
     promised = all_more (IsPromised promise client server state) scene.exchanges one promised (promised_one scope was is opened none silent);
     counted = counted_one old new tallied exchanges faults;
-    stands = ends_so outcome over ahead;
+    stands = ends_so outcome over (subst (λ (l : List ℕ). ReadsAhead scene.limits l (requests_of scene.exchanges)) (sym run.stands.fixed.read_is) ahead);
   }

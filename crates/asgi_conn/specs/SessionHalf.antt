@@ -57,7 +57,7 @@ use Rattle.asgi_conn.specs.ReadAhead.{ReadsAhead}
 use Rattle.asgi_conn.specs.Talking.{HasTalked}
 
 -- What stays the same in one exchange: what was known of the line when the connection began, the exchanges before this one and
--- what was written for them, the handshake, and the bytes behind it.
+-- what was written for them, the handshake, the bytes behind it, and all that was read: no more text is.
 pub record SessionScene : Type 0 where
   pub limits : Limits
   pub start : LineState
@@ -66,6 +66,7 @@ pub record SessionScene : Type 0 where
   pub scope : Scope
   pub facts : Facts
   pub frames : List ℕ
+  pub read : List ℕ
 
 -- the exchange of the scene
 abbrev pub exchange_of : SessionScene → Exchange Msg Output
@@ -99,6 +100,7 @@ pub record IsOf (scene : SessionScene) (facts : Facts) (wire : Wire) (read : Lis
   pub answered : AreAnswered scene.limits wire.input read scene.exchanges behind
   pub head : BeginsWithHandshake scene.limits behind scene.scope scene.facts scene.frames
   pub before_is : scene.before ≡ answer_texts scene.exchanges
+  pub read_is : read ≡ scene.read
 
 -- ---- the line
 
@@ -216,6 +218,7 @@ pub record OpensSession (scene : SessionScene) (now : LineState) (wire : Wire) (
 -- The reader has given an opening handshake, behind requests that were answered.
 pub record OpensHandshake (scene : SessionScene) (now : LineState) (wire : Wire) (facts : Facts) (read : List ℕ) : Type 0 where
   pub facts_are : facts ≡ scene.facts
+  pub read_is : read ≡ scene.read
   pub limits_are : wire.limits ≡ scene.limits
   pub reader_limits : wire.requests.limits ≡ scene.limits
   pub moved : HasMoved scene.start now wire.input read scene.before 0

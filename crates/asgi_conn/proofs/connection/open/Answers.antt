@@ -1,7 +1,12 @@
 use Rattle.std.proofs.Common.{◌++◌, [], ℕ, List, refl, sym, ap, ◌∙◌, append-nil, subst}
+use Rattle.asgi_io.specs.declared.turns.Turn.{Turn}
+use Rattle.asgi_io.specs.declared.turns.Turns.{Turns}
+use Rattle.asgi_io.specs.Turns.{CountsTurns}
 use Rattle.asgi_exchange.specs.Calls.{IsExchangeOf}
 use Rattle.asgi_exchange.specs.Views.{empty_conn}
+use Rattle.asgi_conversation.specs.Exchanges.{requests_of}
 use Rattle.asgi_conn.specs.Lines.{state_of}
+use Rattle.asgi_conn.specs.ReadAhead.{ReadsAhead}
 use Rattle.asgi_conn.specs.SessionHalf.{exchange_of}
 use Rattle.asgi_conn.proofs.AnswerLemmas.{of_pair, of_request}
 use Rattle.asgi_conn.proofs.HttpHalfLemmas.{over_at}
@@ -9,13 +14,13 @@ use Rattle.asgi_conn.proofs.ServeLemmas.{counts_still}
 use Rattle.asgi_conn.proofs.SessionServeLemmas as lemma
 use Rattle.asgi_conn.proofs.connection.open.Goals as goal
 
-pub returns-in_default-take_frames-clause-serves : goal.returns-in_default-take_frames-clause-serves
-returns-in_default-take_frames-clause-serves g c scene client server state read scope opens promised tallied =
+pub returns-in_default-clause-serves : goal.returns-in_default-clause-serves
+returns-in_default-clause-serves g c scene client server state read scope opens promised tallied =
     lemma.opens_short scene (state_of g.L.Reads g.L.Counts g.L.Messages c.args.line.now) c.args.wire c.args.facts read opens
     (g.A.Application.answers c.args.app.now) client server state c.args.tally.now promised tallied
 
-pub returns-in_default-take_frames-clause-counts : goal.returns-in_default-take_frames-clause-counts
-returns-in_default-take_frames-clause-counts g c turned pauses counts = counts_still _ _ turned pauses _ _ _ counts
+pub returns-in_default-clause-counts : goal.returns-in_default-clause-counts
+returns-in_default-clause-counts g c turned pauses counts = counts_still _ _ turned pauses _ _ _ counts
 
 pub returns-in_default-copy-clause-serves : goal.returns-in_default-copy-clause-serves
 returns-in_default-copy-clause-serves g c scene client server state read scope opens promised tallied =
@@ -25,13 +30,13 @@ returns-in_default-copy-clause-serves g c scene client server state read scope o
 pub returns-in_default-copy-clause-counts : goal.returns-in_default-copy-clause-counts
 returns-in_default-copy-clause-counts g c turned pauses counts = counts_still _ _ turned pauses _ _ _ counts
 
-pub returns-in_default-clause-serves : goal.returns-in_default-clause-serves
-returns-in_default-clause-serves g c scene client server state read scope opens promised tallied =
+pub returns-in_default-make-clause-serves : goal.returns-in_default-make-clause-serves
+returns-in_default-make-clause-serves g c scene client server state read scope opens promised tallied =
     lemma.opens_short scene (state_of g.L.Reads g.L.Counts g.L.Messages c.args.line.now) c.args.wire c.args.facts read opens
     (g.A.Application.answers c.args.app.now) client server state c.args.tally.now promised tallied
 
-pub returns-in_default-clause-counts : goal.returns-in_default-clause-counts
-returns-in_default-clause-counts g c turned pauses counts = counts_still _ _ turned pauses _ _ _ counts
+pub returns-in_default-make-clause-counts : goal.returns-in_default-make-clause-counts
+returns-in_default-make-clause-counts g c turned pauses counts = counts_still _ _ turned pauses _ _ _ counts
 
 pub run-kind-requires-clause-pair : goal.run-kind-requires-clause-pair
 run-kind-requires-clause-pair g c =
@@ -52,15 +57,42 @@ outcome_of-requires g c =
     let made = c.in-Ok-make.ensures in
     let promise = g.A.Application.answers c.args.app.now in
     let side = c.call-side.result in
-    let line = state_of g.L.Reads g.L.Counts g.L.Messages c.run-kind.new.line in
     let half = c.run-kind.new.half in
-    let frames = lemma.frames_are scene (state_of g.L.Reads g.L.Counts g.L.Messages c.args.line.now) c.args.wire c.args.facts read opens c.in-Ok-take_frames.frames.items c.in-Ok-take_frames.ensures.frames in
+    let frames = lemma.frames_are scene (state_of g.L.Reads g.L.Counts g.L.Messages c.args.line.now) c.args.wire c.args.facts read opens c.in-Ok.frames.items c.in-Ok.ensures.frames in
     let starts = lemma.opens_session scene (state_of g.L.Reads g.L.Counts g.L.Messages c.args.line.now) c.args.wire c.args.facts read opens
-    c.take_frames.new.self c.in-Ok-copy.own c.new-text.result c.in-Ok-take_frames.frames.items c.take_frames.ensures.same c.in-Ok-copy.ensures frames c.new-text.ensures.session c.requires.upgrade in
+    c.take_frames.new.self c.in-Ok-copy.own c.new-text.result c.in-Ok.frames.items c.in-Ok.ensures.same c.in-Ok-copy.ensures.same frames c.new-text.ensures.denial c.requires.upgrade in
     let begun = c.begin-half.ensures.begins scene (state_of g.L.Reads g.L.Counts g.L.Messages c.args.line.now) read starts in
     let request = of_request (promise c.args.scope.now) answers ends was (λ app. IsExchangeOf ends app (exchange_of scene))
     (sym made.scope.0, sym (made.scope.1 ∙ opens.facts_are))
     side c.call-side.ensures.opens (λ app same. (sym (same.0 ∙ made.scope.0), sym (same.1 ∙ made.scope.1 ∙ opens.facts_are))) in
     let run = c.run-kind.ensures.runs scene read empty_conn begun (sym made.inward.0, sym made.inward.1, sym made.outward.2) request in
     let over = over_at half.stage c.run-kind.ensures.over in
-    lemma.ends_connection promise answers ends scene line half (read ++ run.0) side c.run-kind.result run.1 run.1.stands.stage over.0 over.1
+    lemma.ends_connection scene half run.1.world.conn run.1.stands.stage over.0 over.1
+
+pub returns-clause-serves : goal.returns-clause-serves
+returns-clause-serves g c scene client server state read scope opens promised tallied =
+    let promise = g.A.Application.answers c.args.app.now in
+    let answers = g.A.Task.AppTask.answers in
+    let ends = g.U.Pipes.App.AppEnd in
+    let was = c.in-Ok-make.app_end in
+    let made = c.in-Ok-make.ensures in
+    let side = c.call-side.result in
+    let now = state_of g.L.Reads g.L.Counts g.L.Messages c.args.line.now in
+    let line = state_of g.L.Reads g.L.Counts g.L.Messages c.run-kind.new.line in
+    let half = c.run-kind.new.half in
+    let frames = lemma.frames_are scene now c.args.wire c.args.facts read opens c.in-Ok.frames.items c.in-Ok.ensures.frames in
+    let starts = lemma.opens_session scene now c.args.wire c.args.facts read opens
+    c.take_frames.new.self c.in-Ok-copy.own c.new-text.result c.in-Ok.frames.items c.in-Ok.ensures.same c.in-Ok-copy.ensures.same frames c.new-text.ensures.denial c.requires.upgrade in
+    let begun = c.begin-half.ensures.begins scene now read starts in
+    let request = of_request (promise c.args.scope.now) answers ends was (λ app. IsExchangeOf ends app (exchange_of scene))
+    (sym made.scope.0, sym (made.scope.1 ∙ opens.facts_are))
+    side c.call-side.ensures.opens (λ app same. (sym (same.0 ∙ made.scope.0), sym (same.1 ∙ made.scope.1 ∙ opens.facts_are))) in
+    let run = c.run-kind.ensures.runs scene read empty_conn begun (sym made.inward.0, sym made.inward.1, sym made.outward.2) request in
+    lemma.serves_session promise answers ends client server state scene line half (read ++ run.0) side c.run-kind.result run.1
+    c.args.scope.now was c.args.tally.now c.count.new.self c.outcome_of.result (subst (λ (l : List ℕ). ReadsAhead scene.limits l (requests_of scene.exchanges)) opens.read_is opens.ahead) scope c.call-side.ensures.opens made.inward.2 made.outward.0 promised tallied
+    c.count.ensures.exchanges c.count.ensures.faults c.outcome_of.ensures
+
+pub returns-clause-counts : goal.returns-clause-counts
+returns-clause-counts g c turned pauses counts =
+    subst (λ (t : Turns). (more : List Turn) × CountsTurns c.args.tally.now.turns.turn_limit c.args.tally.now.turns.idle_limit (turned ++ more) pauses (g.P.Pause.count c.run-kind.new.pause) t.turns t.idle)
+    (sym c.count.ensures.turns) (c.run-kind.ensures.counts turned pauses counts)

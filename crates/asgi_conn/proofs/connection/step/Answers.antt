@@ -82,8 +82,8 @@ returns-in-Ok-Bad-clause-serves g c limits start s =
 pub returns-in-Ok-Bad-clause-counts : goal.returns-in-Ok-Bad-clause-counts
 returns-in-Ok-Bad-clause-counts g c turned pauses counts = lemma.counts_still _ _ turned pauses _ _ _ counts
 
-pub returns-in-Ok-clause-serves : goal.returns-in-Ok-clause-serves
-returns-in-Ok-clause-serves g c limits start s =
+pub returns-in_default-framing-clause-serves : goal.returns-in_default-framing-clause-serves
+returns-in_default-framing-clause-serves g c limits start s =
     let now = state_of g.L.Reads g.L.Counts g.L.Messages c.args.line.now in
     let answers = g.A.Application.answers c.args.app.now in
     let at = lemma.rested answers limits c.args.client.now c.args.server.now c.args.state.now start now c.args.tally.now c.args.place c.in-Between.wire c.in-Between.is s in
