@@ -7,8 +7,9 @@ begins with a line 'refused by: FUNCTION' or 'refused by: FUNCTION, clause NAME'
 itself, and that clause. The last line is 'N passed, M failed'.
 
 Everything is proved once from nothing first, on a copy of crates/ in a new folder: each library that a crate with edits
-stands on, and each such crate. An edit is checked over a clone of that work, so it pays for what it changes and never for
-what another edit changed. What is not refused so is tried once more from nothing, and so is each edit of a crate that
+stands on, unless `rt ci` has just proved the same files over the same libraries on this machine, whose library is taken then;
+and each such crate. An edit is checked over a clone of that work, so it pays for what it changes and never for what another
+edit changed. What is not refused so is tried once more from nothing, and so is each edit of a crate that
 is not proved over its kept work afterwards.
 
 The prover takes each function by itself, by the contracts of what it calls. So edits within the bodies of different
@@ -187,9 +188,18 @@ class Trial:
 
         rt.checked = listened
 
+    def take_libraries(self, wanted):
+        """Takes each library that is needed as `rt ci` kept it, by the toolchain's own checksums of all that it read. Returns whether all were there."""
+        kept = self.rt.Kept(self.crates)
+        for crate in [it for it in self.crates if it in wanted]:
+            if not kept.give(crate, False, kept.key(crate)):
+                return False
+            kept.is_built(crate)
+        return True
+
     def prove_library(self, crate, given, jobs):
         """Proves a library for the crates above it, and keeps that work in its out/."""
-        if not all(given[it.name, "library"] for it in crate.below()):
+        if not all(given[it.name, "proof"] for it in crate.below()):
             return False
         os.makedirs(f"{crate.folder}/out", exist_ok=True)
         with open(f"{self.room}/{crate.name}.library", "w+", errors="replace") as crate.out:
@@ -201,7 +211,7 @@ class Trial:
 
     def keep(self, crate, given, jobs):
         """Checks a crate as it is, over what its build as a library kept. Returns the folder of that work."""
-        if not all(given[it.name, "library"] for it in [*crate.below(), crate] if (it.name, "library") in given):
+        if not all(given[it.name, "proof"] for it in [*crate.below(), crate] if (it.name, "proof") in given):
             return None
         kept = f"{self.room}/{crate.name}.kept"
         if os.path.isdir(f"{crate.folder}/out/incremental"):
@@ -212,17 +222,22 @@ class Trial:
             return None
         return kept
 
+    def try_once(self, crate, edit, kept=None):
+        """Tries an edit over kept work, or from nothing. Returns whether it is refused, whether that is the last word, and what is said."""
+        kind, text = self.rt.must_fail(crate, edit, ONE_JOB, kept)
+        return kind == self.rt.REFUSED, kind in (self.rt.REFUSED, self.rt.BAD), text
+
     def attempt(self, crate, edit, given):
         """Tries an edit. Returns whether it is refused as it says, and what to say."""
-        kept, label = given[crate.name, "kept"], f"must-fail {crate.name}/{os.path.basename(edit)}"
+        kept, label = given[crate.name, "seed"], f"must-fail {crate.name}/{os.path.basename(edit)}"
         if not kept:
             return False, f"{label}: not tried"
         began, over = time.time(), f"{kept}.{os.path.basename(edit)}"
         clone(kept, over)
-        refused, text = self.rt.must_fail(crate, edit, ONE_JOB, over)
+        refused, is_last, text = self.try_once(crate, edit, over)
         shutil.rmtree(over)
-        if not refused and "BAD EDIT" not in text:
-            refused, text = self.rt.must_fail(crate, edit, ONE_JOB)
+        if not is_last:
+            refused, _, text = self.try_once(crate, edit)
         wrong = kept_promise(edit, self.said.log) if refused else None
         if wrong:
             refused, text = False, f"{label}: REFUSED FOR ANOTHER REASON: {wrong}"
@@ -231,7 +246,7 @@ class Trial:
 
     def attempt_all(self, crate, edits, given):
         """Tries a group of edits. Returns, edit by edit, whether it is refused as it says, and what to say."""
-        kept = given[crate.name, "kept"]
+        kept = given[crate.name, "seed"]
         if kept and len(edits) > 1:
             began, over = time.time(), f"{kept}.{os.path.basename(edits[0])}"
             clone(kept, over)
@@ -249,38 +264,40 @@ class Trial:
 
     def is_sound(self, crate, given):
         """Returns whether the crate as it is is proved over the kept work, now that its edits are tried."""
-        kept = given[crate.name, "kept"]
+        kept = given[crate.name, "seed"]
         return bool(kept) and not self.rt.checked(crate, {}, ONE_JOB, kept).returncode
 
     def tasks(self, wanted):
-        """Returns what rt's own lanes are to run: libraries, kept checks, edits, and a last check of each crate."""
-        below = {it for crate, edits in wanted.items() if edits for it in crate.below()}
-        tasks = {}
+        """Returns what rt's own lanes are to run: libraries, kept checks, edits, and a last check of each crate. rt reads the second words of the keys: a
+        proof gets the processors that no other waits for, a seed those that nothing does, and an edit one."""
+        tasks, tried = {}, [it for it, edits in wanted.items() if edits]
+        below = {below for it in tried for below in it.below()}
+        if below and self.take_libraries(below):
+            print("each library is the one that rt ci has proved", flush=True)
+            below = set()
         for crate in self.crates:
-            waits, needs = [(it.name, "library") for it in crate.below()], self.rt.need(crate)
+            waits, needs = [(it.name, "proof") for it in crate.below() if it in below], self.rt.need(crate)
             # About 20 lines of code are proved in a second.
             seconds = crate.count(rb"\n") // 20
             if crate in below:
                 call = lambda given, jobs, it=crate: self.prove_library(it, given, jobs)
-                tasks[crate.name, "library"] = (waits, seconds, needs, call)
+                tasks[crate.name, "proof"] = (waits, seconds, needs, call)
             if not wanted.get(crate):
                 continue
             if crate in below:
-                waits, seconds = [(crate.name, "library")], SECONDS
+                waits, seconds = [(crate.name, "proof")], SECONDS
             call = lambda given, jobs, it=crate: self.keep(it, given, jobs)
-            tasks[crate.name, "kept"] = (waits, seconds, needs, call)
-            # rt gives each task named edits one processor.
-            tried = [(crate.name, "edits", *it) for it in groups_of(wanted[crate], crate.folder)]
-            for key in tried:
+            tasks[crate.name, "seed"] = (waits, seconds, needs, call)
+            groups = [(crate.name, "edits", *it) for it in groups_of(wanted[crate], crate.folder)]
+            for key in groups:
                 call = lambda given, jobs, it=crate, edits=key[2:]: self.attempt_all(it, edits, given)
-                tasks[key] = ([(crate.name, "kept")], SECONDS * len(key[2:]), MEMORY, call)
+                tasks[key] = ([(crate.name, "seed")], SECONDS * len(key[2:]), MEMORY, call)
             call = lambda given, jobs, it=crate: self.is_sound(it, given)
-            tasks[crate.name, "edits"] = (tried, SECONDS, MEMORY, call)
+            tasks[crate.name, "edits"] = (groups, SECONDS, MEMORY, call)
         return tasks
 
     def run(self, wanted):
         """Tries all edits. Returns how many were refused, and what is said of the others."""
-        # rt reads the word edits in the second place of a key, and gives such a task one processor.
         given = self.rt.in_lanes(self.tasks(wanted))
         passed, failed = 0, []
         for crate, edits in wanted.items():
@@ -288,7 +305,7 @@ class Trial:
             for edit in edits:
                 refused, text = of_edit[edit]
                 if refused and not given[crate.name, "edits"]:
-                    refused, text = self.rt.must_fail(crate, edit, ONE_JOB)
+                    refused, _, text = self.try_once(crate, edit)
                 passed += refused
                 failed += [text] * (not refused)
         return passed, failed

@@ -407,8 +407,8 @@ fn open<A: Application, L: Line, U: Runner, P: Pause>(
     };
     let side = call(wire.alloc, app, scope, app_end);
     let mut half = SessionHalf::begin(wire, own, text, frames);
-    let kind = runner.run(&mut half, line, pause, &mut tally.turns, end, side);
-    tally.count(kind);
+    let ended = runner.run(&mut half, line, pause, &mut tally.turns, end, side);
+    tally.count(ended);
     Place::Ended(outcome_of(half))
 }
 

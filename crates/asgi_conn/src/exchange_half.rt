@@ -134,7 +134,7 @@ impl Half for SessionHalf {
     }
 
     fn ring(&self) -> usize {
-        self.wire.limits.ring
+        SessionHalf::ring(self)
     }
 
     ghost keeps = { λ scene now half read view s. s.keeps };

@@ -131,6 +131,13 @@ impl SessionHalf {
         }
     }
 
+    /// How many places a queue has.
+    pub fn ring(&self) -> usize
+        ensures { result ≡ self.now.wire.limits.ring }
+    {
+        self.wire.limits.ring
+    }
+
     /// Takes all that is there and writes it, offers what is due, and reads where it did neither and the
     /// application does not go on. Where it takes the end of the task it winds up in the same turn.
     fn run<L: Line, C: ConnEnd>(&mut self, line: &mut L, end: &mut C, app_goes_on: bool) -> Turn

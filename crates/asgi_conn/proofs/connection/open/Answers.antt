@@ -38,8 +38,8 @@ returns-in_default-make-clause-serves g c scene client server state read scope o
 pub returns-in_default-make-clause-counts : goal.returns-in_default-make-clause-counts
 returns-in_default-make-clause-counts g c turned pauses counts = counts_still _ _ turned pauses _ _ _ counts
 
-pub run-kind-requires-clause-pair : goal.run-kind-requires-clause-pair
-run-kind-requires-clause-pair g c =
+pub run-ended-requires-clause-pair : goal.run-ended-requires-clause-pair
+run-ended-requires-clause-pair g c =
     let was = c.in-Ok-make.app_end in
     let end = c.in-Ok-make.end in
     of_pair (g.A.Application.answers c.args.app.now c.args.scope.now) g.A.Task.AppTask.answers g.U.Pipes.App.AppEnd was (λ app. g.U.Pipes.Pipes.is_pair end app) c.in-Ok-make.ensures.pair
@@ -57,7 +57,7 @@ outcome_of-requires g c =
     let made = c.in-Ok-make.ensures in
     let promise = g.A.Application.answers c.args.app.now in
     let side = c.call-side.result in
-    let half = c.run-kind.new.half in
+    let half = c.run-ended.new.half in
     let frames = lemma.frames_are scene (state_of g.L.Reads g.L.Counts g.L.Messages c.args.line.now) c.args.wire c.args.facts read opens c.in-Ok.frames.items c.in-Ok.ensures.frames in
     let starts = lemma.opens_session scene (state_of g.L.Reads g.L.Counts g.L.Messages c.args.line.now) c.args.wire c.args.facts read opens
     c.take_frames.new.self c.in-Ok-copy.own c.new-text.result c.in-Ok.frames.items c.in-Ok.ensures.same c.in-Ok-copy.ensures.same frames c.new-text.ensures.denial c.requires.upgrade in
@@ -65,8 +65,8 @@ outcome_of-requires g c =
     let request = of_request (promise c.args.scope.now) answers ends was (λ app. IsExchangeOf ends app (exchange_of scene))
     (sym made.scope.0, sym (made.scope.1 ∙ opens.facts_are))
     side c.call-side.ensures.opens (λ app same. (sym (same.0 ∙ made.scope.0), sym (same.1 ∙ made.scope.1 ∙ opens.facts_are))) in
-    let run = c.run-kind.ensures.runs scene read empty_conn begun (sym made.inward.0, sym made.inward.1, sym made.outward.2) request in
-    let over = over_at half.stage c.run-kind.ensures.over in
+    let run = c.run-ended.ensures.runs scene read empty_conn begun (sym made.inward.0, sym made.inward.1, sym made.outward.2) request in
+    let over = over_at half.stage c.run-ended.ensures.over in
     lemma.ends_connection scene half run.1.world.conn run.1.stands.stage over.0 over.1
 
 pub returns-clause-serves : goal.returns-clause-serves
@@ -78,8 +78,8 @@ returns-clause-serves g c scene client server state read scope opens promised ta
     let made = c.in-Ok-make.ensures in
     let side = c.call-side.result in
     let now = state_of g.L.Reads g.L.Counts g.L.Messages c.args.line.now in
-    let line = state_of g.L.Reads g.L.Counts g.L.Messages c.run-kind.new.line in
-    let half = c.run-kind.new.half in
+    let line = state_of g.L.Reads g.L.Counts g.L.Messages c.run-ended.new.line in
+    let half = c.run-ended.new.half in
     let frames = lemma.frames_are scene now c.args.wire c.args.facts read opens c.in-Ok.frames.items c.in-Ok.ensures.frames in
     let starts = lemma.opens_session scene now c.args.wire c.args.facts read opens
     c.take_frames.new.self c.in-Ok-copy.own c.new-text.result c.in-Ok.frames.items c.in-Ok.ensures.same c.in-Ok-copy.ensures.same frames c.new-text.ensures.denial c.requires.upgrade in
@@ -87,12 +87,12 @@ returns-clause-serves g c scene client server state read scope opens promised ta
     let request = of_request (promise c.args.scope.now) answers ends was (λ app. IsExchangeOf ends app (exchange_of scene))
     (sym made.scope.0, sym (made.scope.1 ∙ opens.facts_are))
     side c.call-side.ensures.opens (λ app same. (sym (same.0 ∙ made.scope.0), sym (same.1 ∙ made.scope.1 ∙ opens.facts_are))) in
-    let run = c.run-kind.ensures.runs scene read empty_conn begun (sym made.inward.0, sym made.inward.1, sym made.outward.2) request in
-    lemma.serves_session promise answers ends client server state scene line half (read ++ run.0) side c.run-kind.result run.1
+    let run = c.run-ended.ensures.runs scene read empty_conn begun (sym made.inward.0, sym made.inward.1, sym made.outward.2) request in
+    lemma.serves_session promise answers ends client server state scene line half (read ++ run.0) side c.run-ended.result run.1
     c.args.scope.now was c.args.tally.now c.count.new.self c.outcome_of.result (subst (λ (l : List ℕ). ReadsAhead scene.limits l (requests_of scene.exchanges)) opens.read_is opens.ahead) scope c.call-side.ensures.opens made.inward.2 made.outward.0 promised tallied
     c.count.ensures.exchanges c.count.ensures.faults c.outcome_of.ensures
 
 pub returns-clause-counts : goal.returns-clause-counts
 returns-clause-counts g c turned pauses counts =
-    subst (λ (t : Turns). (more : List Turn) × CountsTurns c.args.tally.now.turns.turn_limit c.args.tally.now.turns.idle_limit (turned ++ more) pauses (g.P.Pause.count c.run-kind.new.pause) t.turns t.idle)
-    (sym c.count.ensures.turns) (c.run-kind.ensures.counts turned pauses counts)
+    subst (λ (t : Turns). (more : List Turn) × CountsTurns c.args.tally.now.turns.turn_limit c.args.tally.now.turns.idle_limit (turned ++ more) pauses (g.P.Pause.count c.run-ended.new.pause) t.turns t.idle)
+    (sym c.count.ensures.turns) (c.run-ended.ensures.counts turned pauses counts)

@@ -124,6 +124,9 @@ open-requires-clause-opens g c =
     let start = c.requires.stands.1 in
     let at = lemma.rested answers limits c.args.client.now c.args.server.now c.args.state.now start now c.args.tally.now c.args.place c.in-Between.wire c.in-Between.is c.requires.stands.2 in
     let head = c.in-Ok-Head in
-    let gave = lemma.given_as c.in-Between.wire.requests c.next.new.self head.field-0 (Head head.scope head.facts) head.field-0-is (λ never. cc) head.ensures.given in
-    (_, at.read, lemma.opens_handshake answers limits c.args.client.now c.args.server.now c.args.state.now start now c.args.tally.now c.in-Between.wire at
-    c.next.new.self c.next.ensures.limits head.scope head.facts gave c.in-Upgrade.is)
+    let gave = lemma.given_as c.in-Between.wire.requests c.next.new.self head.field-0 (Head head.scope head.facts) head.field-0-is (λ never. cc) head.ensures.given in (
+      _,
+      at.read,
+      lemma.opens_handshake answers limits c.args.client.now c.args.server.now c.args.state.now start now c.args.tally.now c.in-Between.wire at
+          c.next.new.self c.next.ensures.limits head.scope head.facts gave c.in-Upgrade.is,
+    )
