@@ -38,6 +38,21 @@ POST = (
 ECHOED = b"HTTP/1.1 100 Continue\r\n\r\n" + ECHO_HEAD + b"2\r\nab\r\n0\r\n\r\n" + ECHO_HEAD + b"0\r\n\r\n"
 NOT_FOUND = b"HTTP/1.1 404 Not Found\r\ncontent-length: 0\r\n\r\n"
 REFUSED = b"HTTP/1.1 400 Bad Request\r\ncontent-length: 0\r\nconnection: close\r\n\r\n"
+# A handshake that offers a subprotocol, a text, the fragments of one, a ping and a close, and their answers.
+HANDSHAKE = (
+    b"GET / HTTP/1.1\r\nHost: a\r\nUpgrade: websocket\r\nConnection: Upgrade\r\nSec-WebSocket-Protocol: a\r\n"
+    b"Sec-WebSocket-Key: dGhlIHNhbXBsZSBub25jZQ==\r\nSec-WebSocket-Version: 13\r\n\r\n"
+)
+MASK = b"\x00\x00\x00\x00"
+SESSION = (
+    HANDSHAKE + b"\x81\x85" + MASK + b"Hello" + b"\x02\x81" + MASK + b"a" + b"\x80\x81" + MASK + b"b"
+    b"\x89\x81" + MASK + b"p" + b"\x88\x83" + MASK + b"\x03\xe8r"
+)
+ANSWERED = (
+    b"HTTP/1.1 101 Switching Protocols\r\nupgrade: websocket\r\nconnection: Upgrade\r\n"
+    b"sec-websocket-accept: s3pPLMBiTxaQ9kYGzzhZRbK+xOo=\r\n\r\n"
+    b"\x81\x05Hello\x82\x02ab\x8a\x01p\x88\x03\x03\xe8r"
+)
 USAGE = b"usage: asgi_demo once APP | asgi_demo serve PORT COUNT APP\n"
 FIELDS = b"".join(b"x-%d: %s\r\n" % (number, b"v" * 100) for number in range(40))
 # The words, the input, and the whole answer: the status, the output and the errors.
@@ -48,6 +63,7 @@ RUNS = [
     (["once", "hello"], b"", (0, b"", b"")),
     (["once", "echo"], POST + GET, (0, ECHOED, b"")),
     (["once", "notfound"], GET + GET, (0, NOT_FOUND + NOT_FOUND, b"")),
+    (["once", "wsecho"], SESSION, (0, ANSWERED, b"")),
     (["once", "nothing"], b"", (2, b"", USAGE)),
     (["serve", "8000", "1", "hello"], GET, (2, b"", USAGE)),
 ]

@@ -141,6 +141,7 @@ class Once(unittest.TestCase):
         rows = [
             ("notfound", GET + GET, NOT_FOUND + NOT_FOUND),
             ("notfound", post(b"Content-Length: 3\r\n", b"abc") + GET, NOT_FOUND + NOT_FOUND),
+            ("wsecho", GET + GET, NOT_FOUND + NOT_FOUND),
             ("echo", GET, echoed(b"")),
             ("echo", post(b"Content-Length: 0\r\n"), echoed(b"")),
             ("echo", post(b"Content-Length: 3\r\n", b"abc") + GET, echoed(b"abc") + echoed(b"")),
@@ -265,7 +266,7 @@ class Usage(unittest.TestCase):
             ["hello"],
             ["once", "nothing"],
             ["once", "Echo"],
-            ["once", "wsecho"],
+            ["once", "wsEcho"],
             ["ONCE", "hello"],
             ["once", "hello", "hello"],
             ["once", "hello", ""],

@@ -7,6 +7,8 @@ use Rattle.asgi_types.specs.declared.outgoing.Outgoing.{Outgoing}
 use Rattle.asgi_types.specs.declared.scope.Scope.{Scope}
 use Rattle.asgi_types.specs.Ranges.{AreLimits}
 use Rattle.asgi_apps.specs.Answers.{Answers, not_found_answer}
+use Rattle.asgi_apps.specs.Scopes.{kind_of}
+use Rattle.asgi_apps.specs.WsEcho.{WsEchoAnswers}
 use Rattle.asgi_conversation.specs.declared.report.Outcome.{Outcome}
 use Rattle.asgi_conversation.specs.declared.report.Outcome.TheVariants.{Finished, Refused, InputBroke, WriteFailed, Idle, NoMemory}
 use Rattle.asgi_conversation.specs.declared.report.Report.{Report}
@@ -22,6 +24,7 @@ abbrev pub word_of : App → List ℕ
 word_of app.Hello = codes "hello"
 word_of app.Echo = codes "echo"
 word_of app.NotFound = codes "notfound"
+word_of app.WsEcho = codes "wsecho"
 
 -- the words are `once` and that of this application
 abbrev pub IsOnce : List (List ℕ) → App → Type 0
@@ -36,6 +39,7 @@ abbrev pub promise : App → Promise
 promise app.Hello = hello_promise
 promise app.Echo = echo_promise
 promise app.NotFound = λ scope. Answers (not_found_answer scope)
+promise app.WsEcho = λ scope. WsEchoAnswers (kind_of scope)
 
 -- the exit status of `once`
 abbrev pub exit_status : Outcome → ℕ

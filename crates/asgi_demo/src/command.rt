@@ -9,7 +9,7 @@ ghost use Rattle.asgi_demo.specs.Telling as telling;
 ghost use Rattle.asgi_demo.specs.Telling.{Tells, TellsOf, writer};
 
 use arrayvec::ArrayString;
-use asgi_apps::{Application, Echo, Hello, NotFound};
+use asgi_apps::{Application, Echo, Hello, NotFound, WsEcho};
 use asgi_conn::{CountingPause, Inline, Line, Outcome, Report, serve_connection};
 use asgi_io::{Counts, write_out};
 use asgi_types::{Limits, State};
@@ -28,6 +28,7 @@ enum App {
     Hello,
     Echo,
     NotFound,
+    WsEcho,
 }
 
 /// Runs the program on the words behind its name, and gives the exit status.
@@ -55,6 +56,7 @@ pub fn command<H: RandomSource + AllocGlobal, L: Line, E: Counts>(
         Some(App::Hello) => once(rt, &Hello, line, errors),
         Some(App::Echo) => once(rt, &Echo, line, errors),
         Some(App::NotFound) => once(rt, &NotFound, line, errors),
+        Some(App::WsEcho) => once(rt, &WsEcho, line, errors),
     }
 }
 
@@ -103,6 +105,9 @@ fn app_named(name: &str) -> Option<App>
     }
     if name == "notfound" {
         return Some(App::NotFound);
+    }
+    if name == "wsecho" {
+        return Some(App::WsEcho);
     }
     None
 }

@@ -53,10 +53,41 @@ fn left_in(line: &Memory) -> usize {
 
 #[test]
 fn once_answers_by_the_application_that_is_named(rt: HostRuntime) -> Result<(), Fail> {
-    let rows: [(&str, &[u8]); 3] = [("hello", GREETING), ("echo", ECHO), ("notfound", NOT_FOUND)];
+    let rows: [(&str, &[u8]); 4] = [
+        ("hello", GREETING),
+        ("echo", ECHO),
+        ("notfound", NOT_FOUND),
+        ("wsecho", NOT_FOUND),
+    ];
     for (name, wanted) in rows {
         let words = words(rt.alloc(), &["once", name])?;
         let mut line = line_of(rt.alloc(), REQUEST);
+        let mut errors = Counted::new(Vec::new(rt.alloc()));
+        let status = command(&rt, &words, &mut line, &mut errors);
+        assert_eq!(rt;
+            (status, text_of(&line), errors.writer.len()),
+            (0, wanted, 0),
+            "{name}"
+        );
+    }
+    Ok(())
+}
+
+#[test]
+fn a_session_is_served_by_the_application_that_is_named(rt: HostRuntime) -> Result<(), Fail> {
+    // Behind the example of RFC 6455, section 1.3, a masked text of "Hello" (section 5.7) and a close without a code.
+    let input =
+        b"GET /chat HTTP/1.1\r\nHost: server.example.com\r\nUpgrade: websocket\r\nConnection: Upgrade\r\n\
+        Sec-WebSocket-Key: dGhlIHNhbXBsZSBub25jZQ==\r\nSec-WebSocket-Version: 13\r\n\r\n\
+        \x81\x85\x37\xfa\x21\x3d\x7f\x9f\x4d\x51\x58\x88\x80\x37\xfa\x21\x3d";
+    let accepted =
+        b"HTTP/1.1 101 Switching Protocols\r\nupgrade: websocket\r\nconnection: Upgrade\r\n\
+        sec-websocket-accept: s3pPLMBiTxaQ9kYGzzhZRbK+xOo=\r\n\r\n\x81\x05Hello\x88\x00";
+    let denied = b"HTTP/1.1 403 Forbidden\r\ncontent-length: 0\r\nconnection: close\r\n\r\n";
+    let rows: [(&str, &[u8]); 2] = [("wsecho", accepted), ("hello", denied)];
+    for (name, wanted) in rows {
+        let words = words(rt.alloc(), &["once", name])?;
+        let mut line = line_of(rt.alloc(), input);
         let mut errors = Counted::new(Vec::new(rt.alloc()));
         let status = command(&rt, &words, &mut line, &mut errors);
         assert_eq!(rt;
@@ -75,7 +106,7 @@ fn any_other_words_give_the_usage(rt: HostRuntime) -> Result<(), Fail> {
         &["once"],
         &["hello", "once"],
         &["once", "nothing"],
-        &["once", "Echo"],
+        &["once", "WsEcho"],
         &["Once", "hello"],
         &["once", "hello", "hello"],
         &["once", "notfound", ""],

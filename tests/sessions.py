@@ -1,0 +1,614 @@
+"""WebSocket sessions of the built program, over real sockets: by Python's `websockets`, and frame by frame.
+
+Usage: sessions.py PROGRAM. The last line is 'N passed, M failed', and the status is 0 only with none failed.
+Each connection of a listener on 127.0.0.1 is the standard input and output of a program of its own, `once APP`, so that
+all that the program reads and writes goes over a socket. The client is the one of Debian's package python3-websockets,
+which is installed by apt-get where it is missing; it is a package of Debian's own Python, which then runs this script.
+Expected bytes are those of RFC 6455, and never what the program wrote before.
+"""
+
+import asyncio
+import os
+import shutil
+import socket
+import struct
+import subprocess
+import sys
+import threading
+import time
+import unittest
+
+PROGRAM = ""
+PYTHON = "/usr/bin/python3"
+# How long a client waits for bytes, and how long a program may take to end once its connection has.
+SECONDS = 30
+
+# The example of RFC 6455, sections 1.2 and 1.3.
+KEY, ACCEPT = b"dGhlIHNhbXBsZSBub25jZQ==", "s3pPLMBiTxaQ9kYGzzhZRbK+xOo="
+EXAMPLE = (
+    b"GET /chat HTTP/1.1\r\nHost: server.example.com\r\nUpgrade: websocket\r\nConnection: Upgrade\r\n"
+    b"Sec-WebSocket-Key: " + KEY + b"\r\nOrigin: http://example.com\r\n"
+    b"Sec-WebSocket-Protocol: chat, superchat\r\nSec-WebSocket-Version: 13\r\n\r\n"
+)
+GET = b"GET / HTTP/1.1\r\nHost: a\r\n\r\n"
+HANDSHAKE = (
+    b"GET / HTTP/1.1\r\nHost: a\r\nUpgrade: websocket\r\nConnection: Upgrade\r\n"
+    b"Sec-WebSocket-Key: " + KEY + b"\r\nSec-WebSocket-Version: 13\r\n\r\n"
+)
+NOT_FOUND = b"HTTP/1.1 404 Not Found\r\ncontent-length: 0\r\n\r\n"
+
+# Opcodes (section 5.2) and close codes (section 7.4.1).
+CONTINUATION, TEXT, BINARY, CLOSE, PING, PONG = 0x0, 0x1, 0x2, 0x8, 0x9, 0xA
+PROTOCOL_ERROR, NOT_CONSISTENT, TOO_BIG = 1002, 1007, 1009
+# The masking key of the examples of section 5.7, and its masked frames: a text of "Hello", and a pong of it.
+MASK = b"\x37\xfa\x21\x3d"
+HELLO, HELLO_BACK = b"\x81\x85\x37\xfa\x21\x3d\x7f\x9f\x4d\x51\x58", b"\x81\x05Hello"
+# A ping of "Hello" as a client sends it, and what answers it.
+PING_HELLO, PONG_BACK = b"\x89\x85\x37\xfa\x21\x3d\x7f\x9f\x4d\x51\x58", b"\x8a\x05Hello"
+
+# On each side of where a length needs more bytes (section 5.2), and a long one.
+SIZES = [0, 1, 125, 126, 65_535, 65_536, 1 << 20]
+# The longest frame that the message layer takes.
+LONGEST = 1 << 24
+
+
+def pattern(size):
+    """So many bytes that differ, so that a piece that is lost or moved shows."""
+    return (bytes(number * number % 251 for number in range(251)) * (size // 251 + 1))[:size]
+
+
+def masked(payload, key=MASK):
+    """A payload under the key (section 5.3)."""
+    wide = (key * (len(payload) // 4 + 1))[: len(payload)]
+    return (int.from_bytes(payload, "big") ^ int.from_bytes(wide, "big")).to_bytes(len(payload), "big")
+
+
+def length_of(size, mask_bit, form=None):
+    """The length of a payload, in its shortest form, or in that of so many further bytes (section 5.2)."""
+    if form is None:
+        form = 0 if size < 126 else 2 if size < 1 << 16 else 8
+    if form == 0:
+        return bytes([mask_bit | size])
+    return bytes([mask_bit | (126 if form == 2 else 127)]) + size.to_bytes(form, "big")
+
+
+def frame(opcode, payload=b"", final=True, reserved=0, mask=True, form=None):
+    """A frame of a client."""
+    first = bytes([(0x80 if final else 0) | reserved << 4 | opcode])
+    head = first + length_of(len(payload), 0x80 if mask else 0, form)
+    return head + (MASK + masked(payload) if mask else payload)
+
+
+def answered(opcode, payload=b""):
+    """A frame of a server: whole, and without a mask."""
+    return bytes([0x80 | opcode]) + length_of(len(payload), 0) + payload
+
+
+class Served:
+    """A listener, and the programs of its connections."""
+
+    def __init__(self, app="wsecho"):
+        self.app, self.programs, self.began = app, [], threading.Condition()
+        self.listener = socket.create_server(("127.0.0.1", 0))
+        self.port = self.listener.getsockname()[1]
+        threading.Thread(target=self.accept, daemon=True).start()
+
+    def accept(self):
+        while True:
+            try:
+                line, _ = self.listener.accept()
+            except OSError:
+                return
+            how = {"stdin": line, "stdout": line, "stderr": subprocess.PIPE}
+            program = subprocess.Popen([PROGRAM, "once", self.app], **how)
+            # The program has the socket alone, so that the connection ends where it does.
+            line.close()
+            with self.began:
+                self.programs.append(program)
+                self.began.notify()
+
+    def __enter__(self):
+        return self
+
+    def __exit__(self, *_):
+        # Closing alone does not wake the thread that accepts.
+        self.listener.shutdown(socket.SHUT_RDWR)
+        self.listener.close()
+        for program in self.programs:
+            program.kill()
+            program.communicate()
+
+    def end(self):
+        """Waits until the program of the first connection has ended, and gives its status and errors."""
+        with self.began:
+            self.began.wait_for(lambda: self.programs, timeout=SECONDS)
+        _, errors = self.programs[0].communicate(timeout=SECONDS)
+        return self.programs[0].returncode, errors
+
+
+class Client:
+    """A connection of bytes."""
+
+    def __init__(self, served):
+        self.line = socket.create_connection(("127.0.0.1", served.port), timeout=SECONDS)
+        self.line.setsockopt(socket.IPPROTO_TCP, socket.TCP_NODELAY, 1)
+
+    def __enter__(self):
+        return self
+
+    def __exit__(self, *_):
+        self.line.close()
+
+    def write(self, given):
+        self.line.sendall(given)
+
+    def read(self, length):
+        """Reads so many bytes, or fewer where the connection ends before."""
+        found = bytearray()
+        while len(found) < length:
+            more = self.line.recv(length - len(found))
+            if not more:
+                break
+            found += more
+        return bytes(found)
+
+    def rest(self):
+        """Reads until the connection ends. That it is reset is an end too: the program did not read all that was sent."""
+        found = b""
+        try:
+            while True:
+                more = self.line.recv(65_536)
+                if not more:
+                    return found
+                found += more
+        except ConnectionResetError:
+            return found
+
+    def head(self):
+        """Reads a head, and gives its status and its fields, the names in lower case."""
+        text = b""
+        while not text.endswith(b"\r\n\r\n"):
+            more = self.read(1)
+            if not more:
+                raise EOFError(f"only {text!r} was answered")
+            text += more
+        status, *fields = text.decode("ascii").removesuffix("\r\n\r\n").split("\r\n")
+        pairs = [it.split(":", 1) for it in fields]
+        return status, {name.lower(): value.strip() for name, value in pairs}
+
+    def open(self, handshake=HANDSHAKE):
+        """Opens a session as a client has to see it (section 4.1): 101, the three fields, and nothing else chosen."""
+        self.write(handshake)
+        status, fields = self.head()
+        if not status.startswith("HTTP/1.1 101 "):
+            raise AssertionError(f"the handshake is answered by {status}, {fields}")
+        told = (fields.get("upgrade", "").lower(), fields.get("connection", "").lower(), fields.get("sec-websocket-accept"))
+        if told != ("websocket", "upgrade", ACCEPT):
+            raise AssertionError(f"the handshake is answered with {fields}")
+        for name in ("sec-websocket-protocol", "sec-websocket-extensions"):
+            if name in fields:
+                raise AssertionError(f"{name}: {fields[name]} was chosen")
+        return self
+
+    def close_with_a_reset(self):
+        self.line.setsockopt(socket.SOL_SOCKET, socket.SO_LINGER, struct.pack("ii", 1, 0))
+        self.line.close()
+
+
+class Case(unittest.TestCase):
+    def session(self, app="wsecho"):
+        """A listener and an open connection to it, until the test ends."""
+        served = self.enterContext(Served(app))
+        return served, self.enterContext(Client(served))
+
+    def ends_well(self, served):
+        self.assertEqual(served.end(), (0, b""))
+
+
+class Handshakes(Case):
+    """The opening handshake, byte by byte."""
+
+    def test_answers_the_example_of_the_standard(self):
+        served, client = self.session()
+        client.open(EXAMPLE)
+        client.write(HELLO)
+        self.assertEqual(client.read(len(HELLO_BACK)), HELLO_BACK)
+        client.write(frame(CLOSE))
+        self.assertEqual(client.rest(), answered(CLOSE))
+        self.ends_well(served)
+
+    def test_answers_however_its_bytes_and_those_of_a_frame_are_cut(self):
+        given = EXAMPLE + HELLO + frame(CLOSE, struct.pack(">H", 1000))
+        wanted = HELLO_BACK + answered(CLOSE, struct.pack(">H", 1000))
+        places = [0, 1, len(EXAMPLE) - 1, len(EXAMPLE), len(EXAMPLE) + 1, len(EXAMPLE) + 7, len(given) - 1]
+        for place in places:
+            with self.subTest(place=place), Served() as served, Client(served) as client:
+                client.write(given[:place])
+                time.sleep(0.05)
+                client.open(given[place:])
+                self.assertEqual(client.rest(), wanted)
+                self.ends_well(served)
+
+    def test_is_answered_behind_plain_requests(self):
+        for apart in (False, True):
+            with self.subTest(apart=apart), Served() as served, Client(served) as client:
+                if apart:
+                    for _ in range(2):
+                        client.write(GET)
+                        self.assertEqual(client.read(len(NOT_FOUND)), NOT_FOUND)
+                    client.open()
+                else:
+                    client.write(GET + GET + HANDSHAKE[:-2])
+                    self.assertEqual(client.read(2 * len(NOT_FOUND)), 2 * NOT_FOUND)
+                    client.open(b"\r\n")
+                client.write(HELLO)
+                self.assertEqual(client.read(len(HELLO_BACK)), HELLO_BACK)
+                client.write(frame(CLOSE))
+                self.assertEqual(client.rest(), answered(CLOSE))
+                self.ends_well(served)
+
+    def test_is_refused_where_it_is_faulty(self):
+        rows = [
+            (b"Sec-WebSocket-Version: 13", b"Sec-WebSocket-Version: 8", "426"),
+            (b"Sec-WebSocket-Version: 13\r\n", b"", "426"),
+            (b"Sec-WebSocket-Key: " + KEY + b"\r\n", b"", "400"),
+            (KEY, KEY[:-4], "400"),
+            (b"GET /", b"POST /", "400"),
+        ]
+        for old, new, wanted in rows:
+            with self.subTest(new=new), Served() as served, Client(served) as client:
+                client.write(HANDSHAKE.replace(old, new))
+                status, fields = client.head()
+                self.assertEqual(status.split(" ")[:2], ["HTTP/1.1", wanted])
+                if wanted == "426":
+                    # The versions that are served (RFC 6455, section 4.4).
+                    self.assertEqual(fields.get("sec-websocket-version"), "13")
+                client.write(HELLO)
+                self.assertNotIn(HELLO_BACK, client.rest())
+                self.ends_well(served)
+
+    def test_is_refused_by_the_other_applications(self):
+        # A close in place of an accept is 403 (ASGI WebSocket, "Close").
+        for app in ("hello", "echo", "notfound"):
+            with self.subTest(app=app), Served(app) as served, Client(served) as client:
+                client.write(HANDSHAKE)
+                self.assertEqual(client.head()[0], "HTTP/1.1 403 Forbidden")
+                client.rest()
+                self.ends_well(served)
+
+
+class Frames(Case):
+    """Sessions frame by frame."""
+
+    def test_lengths_have_their_shortest_form(self):
+        # The examples of section 5.7: 256 bytes have a length of 7 + 16 bits, and 64 KiB one of 7 + 64 bits.
+        rows = [
+            (0, b"\x82\x00"),
+            (1, b"\x82\x01"),
+            (125, b"\x82\x7d"),
+            (126, b"\x82\x7e\x00\x7e"),
+            (256, b"\x82\x7e\x01\x00"),
+            (65_535, b"\x82\x7e\xff\xff"),
+            (65_536, b"\x82\x7f\x00\x00\x00\x00\x00\x01\x00\x00"),
+        ]
+        served, client = self.session()
+        client.open()
+        for size, head in rows:
+            with self.subTest(size=size):
+                client.write(frame(BINARY, pattern(size)))
+                self.assertEqual(client.read(len(head) + size), head + pattern(size))
+        client.write(frame(CLOSE))
+        self.assertEqual(client.rest(), answered(CLOSE))
+        self.ends_well(served)
+
+    def test_the_longest_frame_comes_back(self):
+        # The message layer takes frames of up to 16 MiB; see the faults for one byte more.
+        served, client = self.session()
+        client.open()
+        sending = threading.Thread(target=client.write, args=(frame(BINARY, pattern(LONGEST)),))
+        sending.start()
+        wanted = answered(BINARY, pattern(LONGEST))
+        self.assertTrue(client.read(len(wanted)) == wanted)
+        sending.join()
+        client.write(frame(CLOSE))
+        self.assertEqual(client.rest(), answered(CLOSE))
+        self.ends_well(served)
+
+    def test_fragments_are_one_message(self):
+        rows = [
+            [b"Hel", b"lo"],
+            [b"", b"Hello"],
+            [b"Hello", b""],
+            [b"", b"", b""],
+            [b"H", b"e", b"l", b"l", b"o"],
+            ["\u00e9".encode()[:1], "\u00e9".encode()[1:]],
+            [pattern(65_536), pattern(70_000), pattern(3)],
+        ]
+        for number, parts in enumerate(rows):
+            opcode = BINARY if number == len(rows) - 1 else TEXT
+            with self.subTest(row=number), Served() as served, Client(served) as client:
+                client.open()
+                for place, part in enumerate(parts):
+                    client.write(frame(CONTINUATION if place else opcode, part, final=place == len(parts) - 1))
+                wanted = answered(opcode, b"".join(parts))
+                self.assertEqual(client.read(len(wanted)), wanted)
+                client.write(frame(CLOSE))
+                self.assertEqual(client.rest(), answered(CLOSE))
+                self.ends_well(served)
+
+    def test_a_ping_is_answered_between_fragments(self):
+        served, client = self.session()
+        client.open()
+        client.write(frame(TEXT, b"Hel", final=False) + PING_HELLO)
+        # The pong waits for no further fragment.
+        self.assertEqual(client.read(len(PONG_BACK)), PONG_BACK)
+        client.write(frame(PING) + frame(CONTINUATION, b"lo"))
+        self.assertEqual(client.read(2 + len(HELLO_BACK)), answered(PONG) + HELLO_BACK)
+        client.write(frame(CLOSE))
+        self.assertEqual(client.rest(), answered(CLOSE))
+        self.ends_well(served)
+
+    def test_pings_of_each_length_are_answered_and_pongs_are_not(self):
+        served, client = self.session()
+        client.open()
+        for size in (0, 1, 124, 125):
+            client.write(frame(PONG, pattern(size)) + frame(PING, pattern(size)))
+            wanted = answered(PONG, pattern(size))
+            self.assertEqual(client.read(len(wanted)), wanted)
+        client.write(frame(CLOSE))
+        self.assertEqual(client.rest(), answered(CLOSE))
+        self.ends_well(served)
+
+    def test_a_close_is_answered_by_its_code(self):
+        # Section 5.5.1: the endpoint "typically echos the status code it received".
+        for code in (1000, 1001, 3000, 4999):
+            for reason in (b"", b"r", "\u00e9".encode() + b"n" * 121):
+                with self.subTest(code=code, reason=len(reason)), Served() as served, Client(served) as client:
+                    client.open()
+                    client.write(frame(CLOSE, struct.pack(">H", code) + reason))
+                    back = client.rest()
+                    self.assertEqual(back[:1], b"\x88")
+                    self.assertEqual(back[1], len(back) - 2)
+                    self.assertEqual(back[2:4], struct.pack(">H", code))
+                    # A reason, where there is one, is the one that came.
+                    self.assertIn(back[4:], (b"", reason))
+                    self.ends_well(served)
+
+    def test_nothing_is_answered_behind_a_close(self):
+        for behind in (HELLO, PING_HELLO, frame(CLOSE, struct.pack(">H", 1001)), b"\xff" * 100):
+            with self.subTest(behind=behind[:2]), Served() as served, Client(served) as client:
+                client.open()
+                client.write(HELLO + frame(CLOSE, struct.pack(">H", 1000)) + behind)
+                self.assertEqual(client.rest(), HELLO_BACK + answered(CLOSE, struct.pack(">H", 1000)))
+                self.ends_well(served)
+
+
+# What ends a session: why, the bytes, and the close code that section 7.4.1 has for it. A close may be sent or not.
+FAULTS = [
+    ("no mask", frame(TEXT, b"Hello", mask=False), PROTOCOL_ERROR),
+    ("no mask on a close", frame(CLOSE, mask=False), PROTOCOL_ERROR),
+    *((f"opcode {opcode}", frame(opcode, b"Hello"), PROTOCOL_ERROR) for opcode in (3, 4, 5, 6, 7, 11, 12, 13, 14, 15)),
+    *((f"reserved bits {bits}", frame(TEXT, b"Hello", reserved=bits), PROTOCOL_ERROR) for bits in (1, 2, 4, 7)),
+    ("a reserved bit on a ping", frame(PING, reserved=4), PROTOCOL_ERROR),
+    ("text that is not UTF-8", frame(TEXT, b"Hel\xfflo"), NOT_CONSISTENT),
+    ("text that ends in a character", frame(TEXT, b"Hell\xc3"), NOT_CONSISTENT),
+    ("a surrogate", frame(TEXT, b"\xed\xa0\x80"), NOT_CONSISTENT),
+    ("a long form of a slash", frame(TEXT, b"\xc0\xaf"), NOT_CONSISTENT),
+    ("fragments that are not UTF-8", frame(TEXT, b"\xc3", final=False) + frame(CONTINUATION, b"\xc3"), NOT_CONSISTENT),
+    ("a length of 5 in 16 bits", frame(TEXT, b"Hello", form=2), PROTOCOL_ERROR),
+    ("a length of 5 in 64 bits", frame(TEXT, b"Hello", form=8), PROTOCOL_ERROR),
+    ("a length of 65,535 in 64 bits", frame(BINARY, pattern(65_535), form=8), PROTOCOL_ERROR),
+    ("a length with its highest bit", b"\x82\xff\x80" + bytes(7) + MASK, PROTOCOL_ERROR),
+    ("a ping of 126 bytes", frame(PING, pattern(126)), PROTOCOL_ERROR),
+    ("a pong of 126 bytes", frame(PONG, pattern(126)), PROTOCOL_ERROR),
+    ("a close of 126 bytes", frame(CLOSE, struct.pack(">H", 1000) + b"r" * 124), PROTOCOL_ERROR),
+    ("a ping in fragments", frame(PING, final=False), PROTOCOL_ERROR),
+    ("a close of one byte", frame(CLOSE, b"\x03"), PROTOCOL_ERROR),
+    ("a reason that is not UTF-8", frame(CLOSE, struct.pack(">H", 1000) + b"\xff"), NOT_CONSISTENT),
+    *(
+        (f"the close code {code}", frame(CLOSE, struct.pack(">H", code)), PROTOCOL_ERROR)
+        for code in (0, 999, 1004, 1005, 1006, 1015, 2999, 5000, 65_535)
+    ),
+    ("a continuation of nothing", frame(CONTINUATION, b"lo"), PROTOCOL_ERROR),
+    ("a text within fragments", frame(TEXT, b"Hel", final=False) + frame(TEXT, b"lo"), PROTOCOL_ERROR),
+    # Its header alone is enough: the payload never comes.
+    ("a frame over 16 MiB", b"\x82" + length_of(LONGEST + 1, 0x80) + MASK, TOO_BIG),
+]
+
+
+class Faults(Case):
+    """Sessions that a client ends, in a way that the standard forbids or by leaving."""
+
+    def test_a_faulty_frame_ends_the_session(self):
+        for why, given, code in FAULTS:
+            with self.subTest(why=why), Served() as served, Client(served) as client:
+                client.open()
+                client.write(HELLO)
+                self.assertEqual(client.read(len(HELLO_BACK)), HELLO_BACK)
+                client.write(given)
+                # The client leaves its side open, and the connection ends all the same.
+                back = client.rest()
+                if back:
+                    self.assertEqual((back[0], back[1]), (0x88, len(back) - 2))
+                    self.assertEqual(back[2:4], struct.pack(">H", code))
+                self.ends_well(served)
+
+    def test_what_comes_before_a_faulty_frame_is_answered(self):
+        served, client = self.session()
+        client.open()
+        client.write(HELLO + HELLO + frame(TEXT, b"Hello", mask=False) + HELLO)
+        back = client.rest()
+        self.assertEqual(back[: 2 * len(HELLO_BACK)], 2 * HELLO_BACK)
+        self.assertNotIn(HELLO_BACK, back[2 * len(HELLO_BACK) :])
+        self.ends_well(served)
+
+    def test_a_client_that_leaves_ends_the_program(self):
+        rows = [
+            ("behind the handshake", b""),
+            ("behind a message", HELLO),
+            ("within a header", HELLO + b"\x81"),
+            ("within a payload", HELLO + HELLO[:-1]),
+            ("within fragments", HELLO + frame(TEXT, b"Hel", final=False)),
+        ]
+        for why, given in rows:
+            for leave in (lambda it: it.line.close(), Client.close_with_a_reset):
+                with self.subTest(why=why), Served() as served, Client(served) as client:
+                    client.open()
+                    client.write(given)
+                    if given:
+                        self.assertEqual(client.read(len(HELLO_BACK)), HELLO_BACK)
+                    leave(client)
+                    self.ends_well(served)
+
+    def test_a_client_that_only_stops_sending_gets_its_answers(self):
+        served, client = self.session()
+        client.write(HANDSHAKE + HELLO + PING_HELLO)
+        client.line.shutdown(socket.SHUT_WR)
+        self.assertEqual(client.head()[0].split(" ")[1], "101")
+        self.assertEqual(client.rest(), HELLO_BACK + PONG_BACK)
+        self.ends_well(served)
+
+
+class Messages(Case):
+    """Sessions of Python's `websockets`, with all that it offers by itself."""
+
+    def run_session(self, talk, **options):
+        """Opens a session, runs the talk over it, and sees that both sides end well."""
+        import websockets
+
+        async def run(port):
+            options.setdefault("max_size", None)
+            how = {"ping_interval": None, "open_timeout": SECONDS, "close_timeout": SECONDS, **options}
+            async with websockets.connect(f"ws://127.0.0.1:{port}/", **how) as session:
+                await talk(session)
+            return session.close_code, session.close_reason
+
+        with Served() as served:
+            ended = asyncio.run(asyncio.wait_for(run(served.port), 4 * SECONDS))
+            self.ends_well(served)
+        return ended
+
+    def test_messages_come_back(self):
+        for size in SIZES:
+            for kind in ("text", "wide text", "bytes"):
+                message = {
+                    "text": "".join(chr(32 + number % 95) for number in range(size)),
+                    # Characters of one to four bytes, so that some stand across the ends of reads.
+                    "wide text": ("a\u00e9\u20ac\U0001f600" * (size // 10 + 1))[: size // 3],
+                    "bytes": pattern(size),
+                }[kind]
+
+                async def talk(session):
+                    await session.send(message)
+                    self.assertEqual(await session.recv(), message)
+
+                with self.subTest(size=size, kind=kind):
+                    self.assertEqual(self.run_session(talk), (1000, ""))
+
+    def test_messages_come_back_in_order(self):
+        messages = [number.to_bytes(4, "big") * (number % 40) if number % 2 else f"{number}" for number in range(300)]
+
+        async def talk(session):
+            sending = asyncio.create_task(self.send_all(session, messages))
+            self.assertEqual([await session.recv() for _ in messages], messages)
+            await sending
+
+        self.assertEqual(self.run_session(talk), (1000, ""))
+
+    async def send_all(self, session, messages):
+        for message in messages:
+            await session.send(message)
+
+    def test_fragments_come_back_as_one_message(self):
+        async def talk(session):
+            for parts in (["Hel", "lo"], ["", "a", ""], [b"a" * 70_000, b"b"], ["\u00e9"] * 100):
+                await session.send(parts)
+                self.assertEqual(await session.recv(), parts[0][:0].join(parts))
+
+        self.assertEqual(self.run_session(talk), (1000, ""))
+
+    def test_pings_are_answered_with_their_payload(self):
+        async def talk(session):
+            # Each waits for the pong with this payload.
+            for payload in (b"", b"a", b"Hello", pattern(125)):
+                await asyncio.wait_for(await session.ping(payload), SECONDS)
+            await session.pong(b"unasked")
+            await session.send("a")
+            self.assertEqual(await session.recv(), "a")
+
+        self.assertEqual(self.run_session(talk), (1000, ""))
+
+    def test_a_close_comes_back_with_its_code(self):
+        for code in (1000, 1001, 3000, 4999):
+            for reason in ("", "going"):
+
+                async def talk(session):
+                    await session.close(code, reason)
+
+                with self.subTest(code=code, reason=reason):
+                    ended = self.run_session(talk)
+                    self.assertEqual(ended[0], code)
+                    self.assertIn(ended[1], ("", reason))
+
+    def test_no_subprotocol_and_no_extension_is_chosen(self):
+        async def talk(session):
+            self.assertIsNone(session.subprotocol)
+            self.assertEqual(session.extensions, [])
+            await session.send("a")
+            self.assertEqual(await session.recv(), "a")
+
+        # It offers permessage-deflate by itself.
+        self.assertEqual(self.run_session(talk, subprotocols=["chat", "superchat"]), (1000, ""))
+
+    def test_sessions_run_beside_one_another(self):
+        import websockets
+
+        async def one(port, number):
+            async with websockets.connect(f"ws://127.0.0.1:{port}/", ping_interval=None) as session:
+                for turn in range(20):
+                    await session.send(f"{number} {turn}")
+                    self.assertEqual(await session.recv(), f"{number} {turn}")
+
+        async def all_of(port):
+            await asyncio.gather(*(one(port, number) for number in range(8)))
+
+        with Served() as served:
+            asyncio.run(asyncio.wait_for(all_of(served.port), 4 * SECONDS))
+            for program in served.programs:
+                _, errors = program.communicate(timeout=SECONDS)
+                self.assertEqual((program.returncode, errors), (0, b""))
+            self.assertEqual(len(served.programs), 8)
+
+
+def has_client():
+    if not os.path.isfile(PYTHON):
+        return False
+    words = [PYTHON, "-c", "import websockets"]
+    return subprocess.run(words, stderr=subprocess.DEVNULL, check=False).returncode == 0
+
+
+def go_to_the_client():
+    """Installs Debian's Python and its `websockets` where they are missing, and goes on in that Python."""
+    if not has_client() and shutil.which("apt-get"):
+        subprocess.run(["apt-get", "update", "-qq"], stdout=sys.stderr, check=False)
+        words = ["apt-get", "install", "-y", "-qq", "python3", "python3-websockets"]
+        subprocess.run(words, stdout=sys.stderr, check=False, env={**os.environ, "DEBIAN_FRONTEND": "noninteractive"})
+    if not has_client():
+        sys.exit(f"{PYTHON} has no `websockets`: install Debian's python3-websockets")
+    if os.path.realpath(sys.executable) != os.path.realpath(PYTHON):
+        os.execv(PYTHON, [PYTHON, *sys.argv])
+
+
+def main():
+    global PROGRAM
+    go_to_the_client()
+    PROGRAM = os.path.abspath(sys.argv[1])
+    suite = unittest.defaultTestLoader.loadTestsFromModule(sys.modules[__name__])
+    result = unittest.TextTestRunner(stream=sys.stdout, verbosity=2).run(suite)
+    failed = len(result.failures) + len(result.errors)
+    print(f"{max(result.testsRun - failed, 0)} passed, {failed} failed")
+    return 1 if failed or not result.testsRun else 0
+
+
+if __name__ == "__main__":
+    sys.exit(main())
