@@ -356,8 +356,8 @@ module _ (scene : SessionScene) (was : LineState) (half : SessionHalf) (read : L
     sent_as : (out : Outcome) (result : Put) → answer ≡ result
         → TalksOn scene.start now half.wire.input read (scene.before ++ x.text) (text_failures half.answered (stage.Over (ConnectionEnds out))) (talk_in half view x.leftover (x.handed ++ taken_by message result)) half.spare_reads
     sent_as out result e =
-        subst (λ (a : Put). TalksOn scene.start now half.wire.input read (scene.before ++ x.text) (text_failures half.answered (stage.Over (ConnectionEnds out))) half.spare_reads
-        (talk_in half view x.leftover (x.handed ++ taken_by message a))) e (sent out)
+        subst (λ (a : Put). TalksOn scene.start now half.wire.input read (scene.before ++ x.text) (text_failures half.answered (stage.Over (ConnectionEnds out)))
+        (talk_in half view x.leftover (x.handed ++ taken_by message a)) half.spare_reads) e (sent out)
 
     carried_with : (handed : List Handed) → IsCarried half.answered scene half view x.text x.leftover handed
     carried_with handed =
