@@ -1,5 +1,5 @@
 -- How many reads of messages stand behind a close, with one more call.
-use Rattle.std.proofs.Common.{◌≡◌, ℕ, ◌+◌, ◌≤◌, Bool, true, false, ◌||◌, List, [], ◌∷◌, ◌++◌, map, refl, sym, ap, ◌∙◌, arith}
+use Rattle.std.proofs.Common.{◌≡◌, ℕ, ◌+◌, ◌≤◌, Bool, true, false, ◌||◌, List, [], ◌∷◌, ◌++◌, map, refl, sym, ◌∙◌, arith}
 use Rattle.std.specs.Prelude.{if◌then◌else◌}
 use Rattle.std.specs.List.{count_by, flat_map}
 use Rattle.std.proofs.lemmas.List.Sums.{sum_by-append}
@@ -20,7 +20,6 @@ use Rattle.asgi_ws.specs.declared.messages.Call.TheVariants.{Read, Send}
 use Rattle.asgi_ws.specs.Sessions.{is_close, is_read, messages_in, handed_in, reads_behind_close}
 use Rattle.asgi_exchange.specs.Messages.{has_close}
 use Rattle.asgi_exchange.specs.Session.{Output, Byte, Message, Handshake, message_of, output_of}
-use Rattle.asgi_conn.specs.declared.session_half.Answered.{Answered}
 use Rattle.asgi_conn.specs.declared.session_half.Answered.TheVariants.{Open, Closed}
 use Rattle.asgi_conn.specs.SessionHalf.{answer_to}
 

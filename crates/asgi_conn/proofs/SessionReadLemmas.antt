@@ -379,8 +379,8 @@ module _ (scene : SessionScene) (was now : LineState) (half : SessionHalf) (read
 
 -- the half after a read that is dropped: only whether more may follow, and how many more are read
 pub leads_dropped : (was now : LineState) (half later : SessionHalf) (answer : Got) (is_over : Bool) (spare_reads : ℕ) → MayDrop half → half.is_over ≡ false → HasRead was now answer
-    → is_over ≡ is_end answer → spare_reads < half.spare_reads → later ≡ record half { is_over = is_over; spare_reads = spare_reads } → LeadsOut was half now later
-leads_dropped was now half later answer is_over spare_reads may still call over fewer same scene read view x = (
+    → is_over ≡ is_end answer → later ≡ record half { is_over = is_over; spare_reads = spare_reads } → spare_reads < half.spare_reads → LeadsOut was half now later
+leads_dropped was now half later answer is_over spare_reads may still call over same fewer scene read view x = (
   view.arrived ++ given_by answer,
   view.written,
   subst (λ (h : SessionHalf). Stands scene now h read (record view { arrived = view.arrived ++ given_by answer })) (sym same)
