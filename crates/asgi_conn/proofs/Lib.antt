@@ -22,5 +22,6 @@ pub mod LeaveLemmas
 pub mod PromiseLemmas
 pub mod AnswerLemmas
 pub mod BetweenLemmas
+pub mod CallLemmas
 pub mod SessionServeLemmas
 pub mod ServeLemmas

@@ -15,9 +15,7 @@ use Rattle.asgi_io.specs.declared.write.Wrote.TheVariants as wrote
 use Rattle.asgi_io.specs.Counting.{RoseBy}
 use Rattle.asgi_io.specs.Writing.{IsEnd, IsPart, Part, TriesWrites, part_answers}
 use Rattle.asgi_ws.specs.declared.messages.Msg.{Msg}
-use Rattle.asgi_ws.specs.declared.messages.Got.{Got}
-use Rattle.asgi_ws.specs.declared.messages.Put.{Put}
-use Rattle.asgi_ws.specs.declared.messages.Handed.{Handed}
+use Rattle.asgi_ws.specs.declared.messages.Call.{Call}
 use Rattle.asgi_ws.specs.Sides.{Session}
 use Rattle.asgi_io.proofs.BytesLemmas.{Appends-then, Consumes-nothing, Consumes-then}
 use Rattle.asgi_io.proofs.CountLemmas.{rose_after}
@@ -30,13 +28,11 @@ use Rattle.asgi_conversation.specs.TaskEnds.{has_ended}
 -- ---- the session
 
 -- it is as it was, where each part is
-pub session_is : (old new : Session)
-    → (new.read_answers ≡ old.read_answers) × ((new.send_answers ≡ old.send_answers) × ((new.coming ≡ old.coming) × (new.leftover ≡ old.leftover))) → new ≡ old
+pub session_is : (old new : Session) → (new.calls ≡ old.calls) × ((new.coming ≡ old.coming) × (new.leftover ≡ old.leftover)) → new ≡ old
 session_is old new same =
-    ap (λ (l : List Got). record new { read_answers = l }) same.0
-    ∙ (ap (λ (l : List (Handed × Put)). record new { read_answers = old.read_answers; send_answers = l }) same.1.0
-    ∙ (ap (λ (o : Option (List Msg)). record old { coming = o; leftover = new.leftover }) same.1.1.0
-    ∙ ap (λ (o : Option (List ℕ)). record old { leftover = o }) same.1.1.1))
+    ap (λ (l : List Call). record new { calls = l }) same.0
+    ∙ (ap (λ (o : Option (List Msg)). record old { coming = o; leftover = new.leftover }) same.1.0
+    ∙ ap (λ (o : Option (List ℕ)). record old { leftover = o }) same.1.1)
 
 -- ---- one read
 

@@ -37,7 +37,7 @@ use Rattle.asgi_conn.specs.declared.session_half.SessionHalf.{SessionHalf}
 use Rattle.asgi_conn.specs.declared.wire.Wire.{Wire}
 use Rattle.asgi_conn.specs.Lines.{LineState, how_wrote}
 use Rattle.asgi_conn.specs.SessionHalf.{SessionScene, Stands, IsDenial, Talks, IsAt, IsCarried, IsDue, IsOf, IsSilent, answer_to, exchange_of, said_in, talk_in, text_failures}
-use Rattle.asgi_conn.specs.Talking.{HasTalked}
+use Rattle.asgi_conn.specs.Talking.{TalksOn}
 use Rattle.asgi_conn.proofs.LineLemmas.{tries_front}
 use Rattle.asgi_conn.proofs.SessionPassLemmas.{more_said, denial_is_first, denial_goes_on}
 use Rattle.asgi_conn.proofs.TalkLemmas.{talk_written}
@@ -89,9 +89,9 @@ module _ (scene : SessionScene) (was : LineState) (half : SessionHalf) (read : L
   pub text_before : standing.StandsForSession half.text scene.facts (said_in scene view)
   text_before = at.0.text unanswered
 
-  line : HasTalked scene.start was half.wire.input read (scene.before ++ x.text) 0 (talk_in half view x.leftover x.handed)
+  line : TalksOn scene.start was half.wire.input read (scene.before ++ x.text) 0 (talk_in half view x.leftover x.handed) half.spare_reads
   line =
-      let P : ℕ → Type 0 = λ n. HasTalked scene.start was half.wire.input read (scene.before ++ x.text) n (talk_in half view x.leftover x.handed) in
+      let P : ℕ → Type 0 = λ n. TalksOn scene.start was half.wire.input read (scene.before ++ x.text) n (talk_in half view x.leftover x.handed) half.spare_reads in
       subst (λ (a : Answered). P (text_failures a Running)) unanswered (subst (λ (s : Stage). P (text_failures half.answered s)) running x.line)
 
   silent : IsSilent (record half { judge = before }) view x.leftover x.handed × (half.leftover.items ≡ scene.frames)
@@ -144,7 +144,7 @@ module _ (scene : SessionScene) (was : LineState) (half : SessionHalf) (read : L
         ∙ (append_assoc view.written (map Byte front) (map Byte rest)
         ∙ ap (λ (l : List Output). view.written ++ l) (sym (map-append Byte front rest) ∙ ap (map Byte) front_is))
 
-    stands_so : HasTalked scene.start now half.wire.input read (scene.before ++ (x.text ++ front)) (text_failures Unanswered stage) (talk_in half view x.leftover x.handed)
+    stands_so : TalksOn scene.start now half.wire.input read (scene.before ++ (x.text ++ front)) (text_failures Unanswered stage) (talk_in half view x.leftover x.handed) half.spare_reads
         → IsAt stage scene new (later out) → (written : List Output) × Stands scene now (record half { wire = wire; text = text; stage = stage }) read (later written)
     stands_so talked is_at =
         let fixed : IsOf scene half.facts (record half.wire { out = wire.out }) read = record {
@@ -182,10 +182,10 @@ module _ (scene : SessionScene) (was : LineState) (half : SessionHalf) (read : L
 
   text_moved : (now : LineState) (part : List ℕ) (failures : ℕ) → now.left ≡ was.left → now.reads ≡ was.reads → now.session ≡ was.session → Appends was.written now.written part
       → RoseBy failures was.failed now.failed → TriesWrites was.writes now.writes (length part) (how_wrote failures (length part))
-      → HasTalked scene.start now half.wire.input read (scene.before ++ (x.text ++ part)) failures (talk_in half view x.leftover x.handed)
+      → TalksOn scene.start now half.wire.input read (scene.before ++ (x.text ++ part)) failures (talk_in half view x.leftover x.handed) half.spare_reads
   text_moved now part failures same_left same_reads same_session appends rose tries =
-      subst (λ (l : List ℕ). HasTalked scene.start now half.wire.input read l failures (talk_in half view x.leftover x.handed)) (append_assoc scene.before x.text part)
-      (talk_written scene.start was now half.wire.input read (scene.before ++ x.text) part failures (talk_in half view x.leftover x.handed) line same_left same_reads same_session appends rose tries)
+      subst (λ (l : List ℕ). TalksOn scene.start now half.wire.input read l failures (talk_in half view x.leftover x.handed) half.spare_reads) (append_assoc scene.before x.text part)
+      (talk_written scene.start was now half.wire.input read (scene.before ++ x.text) part failures (talk_in half view x.leftover x.handed) half.spare_reads line same_left same_reads same_session appends rose tries)
 
   -- ---- the text in hand is written
 

@@ -24,6 +24,7 @@ use Rattle.asgi_response.specs.Standing as standing
 use Rattle.asgi_response.specs.Progress.{closes_behind, progress_in}
 use Rattle.asgi_response.proofs.DenialLemmas.{is_lawful_response}
 use Rattle.asgi_response.proofs.LawfulLemmas.{lawful_is_accepted}
+use Rattle.asgi_ws.specs.declared.messages.Call.TheVariants.{Send}
 use Rattle.asgi_ws.specs.declared.messages.Handed.{Handed}
 use Rattle.asgi_ws.specs.declared.messages.Handed.TheVariants as item
 use Rattle.asgi_ws.specs.declared.messages.Msg.{Msg}
@@ -48,7 +49,7 @@ use Rattle.asgi_conn.specs.declared.session_half.SessionHalf.{SessionHalf}
 use Rattle.asgi_conn.specs.Half.{failures_of}
 use Rattle.asgi_conn.specs.Lines.{LineState, how_wrote}
 use Rattle.asgi_conn.specs.SessionHalf.{SessionScene, Stands, Talks, EndsByTask, IsAt, IsCarried, IsCarrying, IsCutShort, IsSilent, answer_to, exchange_of, known, outcome_behind, output_in, said_in, talk_in, text_failures}
-use Rattle.asgi_conn.specs.Talking.{HasTalked}
+use Rattle.asgi_conn.specs.Talking.{TalksOn}
 use Rattle.asgi_conn.proofs.LineLemmas.{tries_front}
 use Rattle.asgi_conn.proofs.TalkLemmas.{LeavesText, talk_written, talk_sent}
 
@@ -227,9 +228,9 @@ module _ (scene : SessionScene) (was : LineState) (half : SessionHalf) (read : L
   abbrev adds : List Output
   adds = session_ending scene.facts (taken_of view) ended (is_by_input view.broken)
 
-  line : HasTalked scene.start was half.wire.input read (scene.before ++ x.text) 0 (talk_in half view x.leftover x.handed)
+  line : TalksOn scene.start was half.wire.input read (scene.before ++ x.text) 0 (talk_in half view x.leftover x.handed) half.spare_reads
   line =
-      let P : ℕ → Type 0 = λ n. HasTalked scene.start was half.wire.input read (scene.before ++ x.text) n (talk_in half view x.leftover x.handed) in
+      let P : ℕ → Type 0 = λ n. TalksOn scene.start was half.wire.input read (scene.before ++ x.text) n (talk_in half view x.leftover x.handed) half.spare_reads in
       subst P (unfailed half.answered ended) (subst (λ (s : Stage). P (text_failures half.answered s)) is x.line)
 
   whole : session_text (handshake_of scene.facts) scene.facts (taken_of view) (end_of view.got) (is_by_input view.broken) ≡ view.written ++ adds
@@ -245,7 +246,7 @@ module _ (scene : SessionScene) (was : LineState) (half : SessionHalf) (read : L
 
   -- this much of it went out
   ends_with : (now : LineState) (out : Outcome) (text : List ℕ) (handed : List Handed) (front rest : List Output)
-      → HasTalked scene.start now half.wire.input read (scene.before ++ text) (text_failures half.answered (stage.Over (ConnectionEnds out))) (talk_in half view x.leftover handed)
+      → TalksOn scene.start now half.wire.input read (scene.before ++ text) (text_failures half.answered (stage.Over (ConnectionEnds out))) (talk_in half view x.leftover handed) half.spare_reads
       → map Byte text ++ map Message handed ≡ view.written ++ front → front ++ rest ≡ adds
       → IsCarried half.answered scene half view text x.leftover handed
       → IsAt (stage.Over (ConnectionEnds out)) scene (ends_so half out) (record view { written = map Byte text ++ map Message handed })
@@ -292,7 +293,7 @@ module _ (scene : SessionScene) (was : LineState) (half : SessionHalf) (read : L
   ends_silent out none nothing follows =
       let gone : map Byte x.text ++ map Message x.handed ≡ view.written ++ [] = sym x.written ∙ sym (append-nil view.written) in
       ends_with was out x.text x.handed [] []
-      (subst (λ (n : ℕ). HasTalked scene.start was half.wire.input read (scene.before ++ x.text) n (talk_in half view x.leftover x.handed)) (sym (unfailing half.answered out none)) line)
+      (subst (λ (n : ℕ). TalksOn scene.start was half.wire.input read (scene.before ++ x.text) n (talk_in half view x.leftover x.handed) half.spare_reads) (sym (unfailing half.answered out none)) line)
       gone (sym nothing) x.carried
       (inl (by_task out (map Byte x.text ++ map Message x.handed) follows (gone ∙ ap (λ (l : List Output). view.written ++ l) (sym nothing))))
 
@@ -315,12 +316,12 @@ module _ (scene : SessionScene) (was : LineState) (half : SessionHalf) (read : L
 
     text_moved : (out : Outcome) (part : List ℕ) (failures : ℕ) → failures ≡ failures_of out → Appends was.written now.written part → RoseBy failures was.failed now.failed
         → TriesWrites was.writes now.writes (length part) (how_wrote failures (length part))
-        → HasTalked scene.start now half.wire.input read (scene.before ++ (x.text ++ part)) (text_failures half.answered (stage.Over (ConnectionEnds out))) (talk_in half view x.leftover x.handed)
+        → TalksOn scene.start now half.wire.input read (scene.before ++ (x.text ++ part)) (text_failures half.answered (stage.Over (ConnectionEnds out))) (talk_in half view x.leftover x.handed) half.spare_reads
     text_moved out part failures count appends rose tries =
-        let P : ℕ → Type 0 = λ n. HasTalked scene.start now half.wire.input read (scene.before ++ (x.text ++ part)) n (talk_in half view x.leftover x.handed) in
+        let P : ℕ → Type 0 = λ n. TalksOn scene.start now half.wire.input read (scene.before ++ (x.text ++ part)) n (talk_in half view x.leftover x.handed) half.spare_reads in
         subst P (count ∙ ap (λ (a : Answered). text_failures a (stage.Over (ConnectionEnds out))) (sym unanswered))
-        (subst (λ (l : List ℕ). HasTalked scene.start now half.wire.input read l failures (talk_in half view x.leftover x.handed)) (append_assoc scene.before x.text part)
-        (talk_written scene.start was now half.wire.input read (scene.before ++ x.text) part failures (talk_in half view x.leftover x.handed) line same_left same_reads same_session appends rose tries))
+        (subst (λ (l : List ℕ). TalksOn scene.start now half.wire.input read l failures (talk_in half view x.leftover x.handed) half.spare_reads) (append_assoc scene.before x.text part)
+        (talk_written scene.start was now half.wire.input read (scene.before ++ x.text) part failures (talk_in half view x.leftover x.handed) half.spare_reads line same_left same_reads same_session appends rose tries))
 
     text_out : (out : Outcome) → failures_of out ≡ 0 → after_session ended (said_in scene view) (is_by_input view.broken) view.arrived ≡ out
         → Appends was.written now.written more → RoseBy 0 was.failed now.failed → TriesWrites was.writes now.writes (length more) wrote.Done → Goes scene now (ends_so half out) read view
@@ -342,21 +343,21 @@ module _ (scene : SessionScene) (was : LineState) (half : SessionHalf) (read : L
 
   -- a message is, in an open session
   module _ (opened : half.answered ≡ Open) (message : Handed) (adds_it : adds ≡ Message message ∷ []) (now : LineState) (same : LeavesText was now) (answer : Put)
-      (told : now.session.send_answers ≡ was.session.send_answers ++ (message, answer) ∷ []) (count : now.failed ≡ count_after was.failed (has_failed answer))
-      (reads : now.session.read_answers ≡ was.session.read_answers) (coming : now.session.coming ≡ was.session.coming) (kept : now.session.leftover ≡ was.session.leftover) where
+      (told : now.session.calls ≡ was.session.calls ++ Send message answer ∷ []) (count : now.failed ≡ count_after was.failed (has_failed answer))
+      (coming : now.session.coming ≡ was.session.coming) (kept : now.session.leftover ≡ was.session.leftover) where
     sent : (out : Outcome)
-        → HasTalked scene.start now half.wire.input read (scene.before ++ x.text) (text_failures half.answered (stage.Over (ConnectionEnds out))) (talk_in half view x.leftover (x.handed ++ taken_by message answer))
+        → TalksOn scene.start now half.wire.input read (scene.before ++ x.text) (text_failures half.answered (stage.Over (ConnectionEnds out))) (talk_in half view x.leftover (x.handed ++ taken_by message answer)) half.spare_reads
     sent out =
-        subst (λ (n : ℕ). HasTalked scene.start now half.wire.input read (scene.before ++ x.text) n (talk_in half view x.leftover (x.handed ++ taken_by message answer)))
+        subst (λ (n : ℕ). TalksOn scene.start now half.wire.input read (scene.before ++ x.text) n (talk_in half view x.leftover (x.handed ++ taken_by message answer)) half.spare_reads)
         (ap (λ (a : Answered). text_failures a (stage.Over (ConnectionEnds out))) (sym opened))
         (talk_sent scene.start was now half.wire.input read (scene.before ++ x.text) 0 (talk_in half view x.leftover x.handed)
-        (talk_in half view x.leftover (x.handed ++ taken_by message answer)) line same message answer told count reads coming kept refl refl refl refl)
+        (talk_in half view x.leftover (x.handed ++ taken_by message answer)) half.spare_reads line same message answer told count coming kept refl refl refl refl)
 
     sent_as : (out : Outcome) (result : Put) → answer ≡ result
-        → HasTalked scene.start now half.wire.input read (scene.before ++ x.text) (text_failures half.answered (stage.Over (ConnectionEnds out))) (talk_in half view x.leftover (x.handed ++ taken_by message result))
+        → TalksOn scene.start now half.wire.input read (scene.before ++ x.text) (text_failures half.answered (stage.Over (ConnectionEnds out))) (talk_in half view x.leftover (x.handed ++ taken_by message result)) half.spare_reads
     sent_as out result e =
-        subst (λ (a : Put). HasTalked scene.start now half.wire.input read (scene.before ++ x.text) (text_failures half.answered (stage.Over (ConnectionEnds out)))
-        (talk_in half view x.leftover (x.handed ++ taken_by message a))) e (sent out)
+        subst (λ (a : Put). TalksOn scene.start now half.wire.input read (scene.before ++ x.text) (text_failures half.answered (stage.Over (ConnectionEnds out)))
+        (talk_in half view x.leftover (x.handed ++ taken_by message a)) half.spare_reads) e (sent out)
 
     carried_with : (handed : List Handed) → IsCarried half.answered scene half view x.text x.leftover handed
     carried_with handed =
@@ -507,17 +508,17 @@ module _ (scene : SessionScene) (was : LineState) (half : SessionHalf) (read : L
         (follows_by true broke ∙ (ap (λ (c : Bool). if c then outcome.Finished else outcome.InputBroke) (sym (talks.closed opened)) ∙ (outcome_if half.client_closed ∙ sym is)))
 
     module _ (unbroke : half.broke ≡ false) (reason : List ℕ) (none : reason ≡ []) (now : LineState) (same : LeavesText was now) (answer : Put)
-        (told : now.session.send_answers ≡ was.session.send_answers ++ (item.Close code reason, answer) ∷ []) (count : now.failed ≡ count_after was.failed (has_failed answer))
-        (reads : now.session.read_answers ≡ was.session.read_answers) (coming : now.session.coming ≡ was.session.coming) (kept : now.session.leftover ≡ was.session.leftover) where
-      told_close : now.session.send_answers ≡ was.session.send_answers ++ (item.Close code [], answer) ∷ []
-      told_close = told ∙ ap (λ (r : List ℕ). was.session.send_answers ++ (item.Close code r, answer) ∷ []) none
+        (told : now.session.calls ≡ was.session.calls ++ Send (item.Close code reason) answer ∷ []) (count : now.failed ≡ count_after was.failed (has_failed answer))
+        (coming : now.session.coming ≡ was.session.coming) (kept : now.session.leftover ≡ was.session.leftover) where
+      told_close : now.session.calls ≡ was.session.calls ++ Send (item.Close code []) answer ∷ []
+      told_close = told ∙ ap (λ (r : List ℕ). was.session.calls ++ Send (item.Close code r) answer ∷ []) none
 
       pub close_done : answer ≡ put.Done → Goes scene now (ends_so half outcome.Finished) read view
       close_done e =
-          message_out scene was half read view x o.ended o.at opened (item.Close code []) (adds_by false unbroke) now same answer told_close count reads coming kept e (follows_by false unbroke)
+          message_out scene was half read view x o.ended o.at opened (item.Close code []) (adds_by false unbroke) now same answer told_close count coming kept e (follows_by false unbroke)
 
       pub close_failed : answer ≡ put.Failed → Goes scene now (ends_so half (outcome.WriteFailed 0)) read view
-      close_failed e = message_cut scene was half read view x o.ended o.at opened (item.Close code []) (adds_by false unbroke) now same answer told_close count reads coming kept e
+      close_failed e = message_cut scene was half read view x o.ended o.at opened (item.Close code []) (adds_by false unbroke) now same answer told_close count coming kept e
 
       pub close_short : answer ≡ put.NoMemory → Goes scene now (ends_so half outcome.NoMemory) read view
-      close_short e = message_short scene was half read view x o.ended o.at opened (item.Close code []) (adds_by false unbroke) now same answer told_close count reads coming kept e
+      close_short e = message_short scene was half read view x o.ended o.at opened (item.Close code []) (adds_by false unbroke) now same answer told_close count coming kept e

@@ -40,7 +40,7 @@ use Rattle.asgi_conn.specs.declared.session_half.SessionHalf.{SessionHalf}
 use Rattle.asgi_conn.specs.Half.{failures_at}
 use Rattle.asgi_conn.specs.Lines.{LineState}
 use Rattle.asgi_conn.specs.SessionHalf.{SessionScene, Stands, Talks, IsAt, IsCarried, IsCutOff, IsCutShort, IsDue, exchange_of, known, output_in, said_in, talk_in, text_failures}
-use Rattle.asgi_conn.specs.Talking.{HasTalked}
+use Rattle.asgi_conn.specs.Talking.{TalksOn}
 use Rattle.asgi_conn.proofs.HalfEndLemmas.{offers_cut}
 
 -- ---- what was taken grows
@@ -115,7 +115,7 @@ module _ (scene : SessionScene) (line : LineState) (half : SessionHalf) (read : 
     text = x.text;
     leftover = x.leftover;
     handed = x.handed;
-    line = subst (λ (n : ℕ). HasTalked scene.start line half.wire.input read (scene.before ++ x.text) n (talk_in half view x.leftover x.handed)) (same_failures half.answered half.stage s failures) x.line;
+    line = subst (λ (n : ℕ). TalksOn scene.start line half.wire.input read (scene.before ++ x.text) n (talk_in half view x.leftover x.handed) half.spare_reads) (same_failures half.answered half.stage s failures) x.line;
     written = x.written;
     carried = carried_on half.answered scene half (record half { due = d; broke = b; stage = s }) view (record view { offered = offered; broken = broken; got = got }) x.text x.leftover x.handed refl refl refl refl more x.carried;
     keeps = keeps;

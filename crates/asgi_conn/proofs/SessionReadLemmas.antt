@@ -1,5 +1,5 @@
 -- The reads of a session: a message arrives and is heard, or it is dropped behind a close.
-use Rattle.std.proofs.Common.{◌≡◌, ℕ, Bool, true, false, ◌||◌, List, [], ◌∷◌, ◌++◌, ◌⊎◌, inl, inr, refl, sym, ap, ◌∙◌, subst, append-nil, Option, Some, None}
+use Rattle.std.proofs.Common.{◌≡◌, ℕ, ◌+◌, ◌<◌, ◌≤◌, Bool, true, false, ◌||◌, List, [], ◌∷◌, ◌++◌, ◌⊎◌, inl, inr, refl, sym, ap, ◌∙◌, subst, append-nil, map, arith, Option, Some, None}
 use mathlib.Core.List.{IsPrefix}
 use Rattle.asgi_io.specs.declared.counts.Counts as counts
 use Rattle.asgi_io.specs.declared.reads.Reads as reads
@@ -10,10 +10,12 @@ use Rattle.asgi_types.specs.declared.incoming.Incoming.TheVariants.{WsReceive, W
 use Rattle.asgi_types.specs.declared.incoming.Payload.TheVariants as payload
 use Rattle.asgi_types.specs.declared.outgoing.Outgoing.{Outgoing}
 use Rattle.asgi_types.specs.declared.outgoing.Outgoing.TheVariants.{ResponseStart, ResponseBody, WsAccept, WsSend, WsClose, DenialStart, DenialBody, StartupComplete, StartupFailed, ShutdownComplete, ShutdownFailed}
+use Rattle.asgi_types.specs.declared.scope.Kind.TheVariants.{WebSocket}
+use Rattle.asgi_protocol.proofs.WordLemmas.{test_of_beginning}
 use Rattle.asgi_exchange.specs.Halves.{IsOffered}
 use Rattle.asgi_exchange.specs.Items.{end_of}
 use Rattle.asgi_exchange.specs.Messages.{events_in, has_close, disconnect_of, session_events, session_disconnect}
-use Rattle.asgi_exchange.specs.Session.{Output}
+use Rattle.asgi_exchange.specs.Session.{Output, Message}
 use Rattle.asgi_exchange.specs.Steps.{is_by_input}
 use Rattle.asgi_exchange.specs.Views.{Break, ByInput, ByCut, ConnView, output, added_by, taken_of}
 use Rattle.asgi_exchange.proofs.ListLemmas.{prefix_same, prefix_trans}
@@ -21,11 +23,12 @@ use Rattle.asgi_exchange.proofs.MessageLemmas.{events_grow, close_is_heard, none
 use Rattle.asgi_exchange.proofs.SessionLemmas.{web_socket_is_steady}
 use Rattle.asgi_ws.specs.declared.messages.Got.{Got}
 use Rattle.asgi_ws.specs.declared.messages.Got.TheVariants as got
+use Rattle.asgi_ws.specs.declared.messages.Call.TheVariants.{Read}
 use Rattle.asgi_ws.specs.declared.messages.Handed.{Handed}
 use Rattle.asgi_ws.specs.declared.messages.Messages as messages
 use Rattle.asgi_ws.specs.declared.messages.Msg.{Msg}
 use Rattle.asgi_ws.specs.declared.messages.Msg.TheVariants.{Text, Bytes, Ping, Pong, Close}
-use Rattle.asgi_ws.specs.Sessions.{given_by, is_failed, count_after, Loses}
+use Rattle.asgi_ws.specs.Sessions.{given_by, is_failed, count_after, reads_behind_close, Loses}
 use Rattle.asgi_conversation.specs.declared.following.Following.TheVariants.{ConnectionEnds}
 use Rattle.asgi_conversation.specs.declared.report.Outcome.TheVariants.{Finished, NoMemory}
 use Rattle.asgi_conversation.specs.Sessions.{handshake_of, session_outcome, after_session}
@@ -38,7 +41,8 @@ use Rattle.asgi_conn.specs.declared.session_half.Due.TheVariants as due
 use Rattle.asgi_conn.specs.declared.session_half.SessionHalf.{SessionHalf}
 use Rattle.asgi_conn.specs.Lines.{LineState, state_of}
 use Rattle.asgi_conn.specs.SessionHalf.{SessionScene, Stands, Talks, EndsByTask, IsAt, IsDue, IsCarrying, IsCarried, MayDrop, LeadsOut, exchange_of, said_in, output_in, talk_in, text_failures, heard_by}
-use Rattle.asgi_conn.specs.Talking.{HasTalked, is_end}
+use Rattle.asgi_conn.specs.Talking.{TalksOn, drop_limit, is_end}
+use Rattle.asgi_conn.proofs.CallLemmas.{closes, closes_behind, none_behind, open_closes, read_behind}
 use Rattle.asgi_conn.proofs.TalkLemmas.{LeavesText, talk_read}
 
 -- ---- a read of a message
@@ -46,25 +50,23 @@ use Rattle.asgi_conn.proofs.TalkLemmas.{LeavesText, talk_read}
 -- The next read of a message was answered so, and the text stays.
 pub record HasRead (was now : LineState) (answer : Got) : Type 0 where
   pub text : LeavesText was now
-  pub told : now.session.read_answers ≡ was.session.read_answers ++ answer ∷ []
+  pub told : now.session.calls ≡ was.session.calls ++ Read answer ∷ []
   pub loses : Loses was.session.coming now.session.coming (given_by answer)
   pub count : now.failed ≡ count_after was.failed (is_failed answer)
-  pub sends : now.session.send_answers ≡ was.session.send_answers
   pub kept : now.session.leftover ≡ was.session.leftover
 
 -- by what a line tells of it
 pub has_read : (L : Type 0) (R : reads.Ghosts L) (W : counts.Ghosts L) (M : messages.Ghosts L) (old new : L) (answer : Got)
-    → M.read_answers new ≡ M.read_answers old ++ answer ∷ [] → Loses (M.coming old) (M.coming new) (given_by answer) → W.failed new ≡ count_after (W.failed old) (is_failed answer)
-    → (M.send_answers new ≡ M.send_answers old) × (M.leftover new ≡ M.leftover old)
+    → M.calls new ≡ M.calls old ++ Read answer ∷ [] → Loses (M.coming old) (M.coming new) (given_by answer) → W.failed new ≡ count_after (W.failed old) (is_failed answer)
+    → M.leftover new ≡ M.leftover old
     → (R.remaining new ≡ R.remaining old) × (W.written new ≡ W.written old) × (R.answers new ≡ R.answers old) × (W.answers new ≡ W.answers old)
     → HasRead (state_of R W M old) (state_of R W M new) answer
-has_read L R W M old new answer told loses count same text = record {
+has_read L R W M old new answer told loses count kept text = record {
   text = record { left = text.0; written = text.1; reads = text.2; writes = text.3 };
   told = told;
   loses = loses;
   count = count;
-  sends = same.0;
-  kept = same.1;
+  kept = kept;
 }
 
 -- ---- more messages
@@ -172,20 +174,21 @@ module _ (scene : SessionScene) (was now : LineState) (half : SessionHalf) (read
     (carries : Carries half.answered) (closed : is_by_input view.broken ≡ true → has_close view.arrived ≡ true) (answer : Got) (call : HasRead was now answer) where
   -- What the answer gave arrived, and all else stays: the half stands again where the later stage does.
   arrives : (next : Due) (client_closed : Bool) (is_over : Bool) (spare_reads : ℕ) (stage : Stage) → is_over ≡ (half.is_over || is_end answer)
+      → reads_behind_close (x.line.talked.calls ++ Read answer ∷ []) + spare_reads ≤ drop_limit
       → IsAt stage scene (record half { due = next; client_closed = client_closed; is_over = is_over; spare_reads = spare_reads; stage = stage }) (record view { arrived = view.arrived ++ given_by answer })
       → Stands scene now (record half { due = next; client_closed = client_closed; is_over = is_over; spare_reads = spare_reads; stage = stage }) read (record view { arrived = view.arrived ++ given_by answer })
-  arrives next client_closed is_over spare_reads stage over stands_at =
+  arrives next client_closed is_over spare_reads stage over few stands_at =
       let later : SessionHalf = record half { due = next; client_closed = client_closed; is_over = is_over; spare_reads = spare_reads; stage = stage } in
       let seen : ConnView Msg Output = record view { arrived = view.arrived ++ given_by answer } in
-      let line : HasTalked scene.start was half.wire.input read (scene.before ++ x.text) (text_failures half.answered stage) (talk_in half view x.leftover x.handed) =
-      subst (λ (n : ℕ). HasTalked scene.start was half.wire.input read (scene.before ++ x.text) n (talk_in half view x.leftover x.handed)) (failures_still half.answered half.stage stage carries) x.line in
+      let line : TalksOn scene.start now half.wire.input read (scene.before ++ x.text) (text_failures half.answered half.stage) (talk_in later seen x.leftover x.handed) spare_reads =
+      talk_read scene.start was now half.wire.input read (scene.before ++ x.text) (text_failures half.answered half.stage) (talk_in half view x.leftover x.handed) (talk_in later seen x.leftover x.handed)
+      half.spare_reads x.line call.text answer call.told call.loses call.count call.kept refl over refl refl spare_reads few in
       record {
         fixed = x.fixed;
         text = x.text;
         leftover = x.leftover;
         handed = x.handed;
-        line = talk_read scene.start was now half.wire.input read (scene.before ++ x.text) (text_failures half.answered stage) (talk_in half view x.leftover x.handed) (talk_in later seen x.leftover x.handed) line call.text
-            answer call.told call.loses call.count call.sends call.kept refl over refl refl;
+        line = subst (λ (n : ℕ). TalksOn scene.start now half.wire.input read (scene.before ++ x.text) n (talk_in later seen x.leftover x.handed) spare_reads) (failures_still half.answered half.stage stage carries) line;
         written = x.written;
         carried = carried_still half.answered scene half later view (view.arrived ++ given_by answer) x.text x.leftover x.handed carries x.carried;
         keeps = record {
@@ -236,6 +239,17 @@ module _ (scene : SessionScene) (was now : LineState) (half : SessionHalf) (read
   all_offered : (view.offered ≡ session_events view.arrived) × (has_close view.arrived ≡ false)
   all_offered = subst (λ (d : Due). IsDue d half view) free at_running.2 (not_closed half.answered open_still) unbroke
 
+  -- no close was read, and none went out
+  few : (answer : Got) → reads_behind_close (x.line.talked.calls ++ Read answer ∷ []) + half.spare_reads ≤ drop_limit
+  few answer =
+      let t = at_running.0 in
+      let out : closes (map Message x.handed) ≡ false =
+      sym (closes_behind x.text (map Message x.handed)) ∙ ap closes (sym x.written ∙ t.written)
+      ∙ open_closes (handshake_of scene.facts) scene.facts (said_in scene view) (test_of_beginning WebSocket (said_in scene view) t.judged.lawful.begins) (sym t.answered ∙ open_still) in
+      let none : reads_behind_close (x.line.talked.calls ++ Read answer ∷ []) ≡ 0 =
+      none_behind x.line.talked.calls (sym (ap has_close x.line.talked.received) ∙ all_offered.1) (sym (ap (λ (l : List Handed). closes (map Message l)) x.line.talked.handed) ∙ out) answer in
+      omega (arith, none, x.line.within)
+
   no_break : is_by_input view.broken ≡ true → has_close view.arrived ≡ true
   no_break e = absurd (not_both half.broke unbroke (at_running.0.broke ∙ e))
 
@@ -245,7 +259,7 @@ module _ (scene : SessionScene) (was now : LineState) (half : SessionHalf) (read
       → IsDue next (record half { due = next; client_closed = client_closed; is_over = is_over }) (record view { arrived = view.arrived ++ given_by answer })
       → Stands scene now (record half { due = next; client_closed = client_closed; is_over = is_over }) read (record view { arrived = view.arrived ++ given_by answer })
   goes_on answer call next client_closed is_over over closed is_due =
-      arrives scene was now half read view x (inl open_still) no_break answer call next client_closed is_over half.spare_reads half.stage over
+      arrives scene was now half read view x (inl open_still) no_break answer call next client_closed is_over half.spare_reads half.stage over (few answer)
       (subst (λ (s : Stage). IsAt s scene (record half { due = next; client_closed = client_closed; is_over = is_over }) (record view { arrived = view.arrived ++ given_by answer })) (sym is)
       (talks_still scene half view (given_by answer) next client_closed is_over half.spare_reads half.stage at_running.0 (λ o. closed), at_running.1, is_due))
 
@@ -298,7 +312,7 @@ module _ (scene : SessionScene) (was now : LineState) (half : SessionHalf) (read
   -- memory was refused
   pub read_short : HasRead was now got.NoMemory → Stands scene now (record half { stage = Cut NoMemory }) read (record view { arrived = view.arrived ++ [] })
   read_short call =
-      arrives scene was now half read view x (inl open_still) no_break got.NoMemory call half.due half.client_closed half.is_over half.spare_reads (Cut NoMemory) (still_over half.is_over)
+      arrives scene was now half read view x (inl open_still) no_break got.NoMemory call half.due half.client_closed half.is_over half.spare_reads (Cut NoMemory) (still_over half.is_over) (few got.NoMemory)
       (prefix_same view.written (output_in scene view) at_running.0.written, at_running.1)
 
 -- ---- it is dropped
@@ -356,20 +370,21 @@ module _ (scene : SessionScene) (was now : LineState) (half : SessionHalf) (read
       subst (λ (s : Stage). IsAt s scene (record half { is_over = is_over; spare_reads = spare_reads }) (record view { arrived = view.arrived ++ more })) (sym over)
       (over_on more (record half { is_over = is_over; spare_reads = spare_reads }) (subst (λ (s : Stage). IsAt s scene half view) over x.stage))
 
-  pub dropped : MayDrop half → (answer : Got) → HasRead was now answer → (is_over : Bool) (spare_reads : ℕ) → is_over ≡ (half.is_over || is_end answer)
+  pub dropped : MayDrop half → (answer : Got) → HasRead was now answer → (is_over : Bool) (spare_reads : ℕ) → is_over ≡ (half.is_over || is_end answer) → spare_reads < half.spare_reads
       → Stands scene now (record half { is_over = is_over; spare_reads = spare_reads }) read (record view { arrived = view.arrived ++ given_by answer })
-  dropped may answer call is_over spare_reads over =
+  dropped may answer call is_over spare_reads over fewer =
       arrives scene was now half read view x (carries_there half may) closed_before answer call half.due half.client_closed is_over spare_reads half.stage over
+      (omega (arith, read_behind x.line.talked.calls answer, x.line.within, fewer))
       (stage_on (given_by answer) is_over spare_reads may)
 
 -- the half after a read that is dropped: only whether more may follow, and how many more are read
 pub leads_dropped : (was now : LineState) (half later : SessionHalf) (answer : Got) (is_over : Bool) (spare_reads : ℕ) → MayDrop half → half.is_over ≡ false → HasRead was now answer
-    → is_over ≡ is_end answer → later ≡ record half { is_over = is_over; spare_reads = spare_reads } → LeadsOut was half now later
-leads_dropped was now half later answer is_over spare_reads may still call over same scene read view x = (
+    → is_over ≡ is_end answer → later ≡ record half { is_over = is_over; spare_reads = spare_reads } → spare_reads < half.spare_reads → LeadsOut was half now later
+leads_dropped was now half later answer is_over spare_reads may still call over same fewer scene read view x = (
   view.arrived ++ given_by answer,
   view.written,
   subst (λ (h : SessionHalf). Stands scene now h read (record view { arrived = view.arrived ++ given_by answer })) (sym same)
-      (dropped scene was now half read view x still may answer call is_over spare_reads (over ∙ ap (λ (b : Bool). b || is_end answer) (sym still))),
+      (dropped scene was now half read view x still may answer call is_over spare_reads (over ∙ ap (λ (b : Bool). b || is_end answer) (sym still)) fewer),
 )
 
 -- ---- one step behind the other

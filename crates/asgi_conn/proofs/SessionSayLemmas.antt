@@ -21,6 +21,7 @@ use Rattle.asgi_protocol.specs.Stages as judging
 use Rattle.asgi_response.specs.Exchange.{refusal_text}
 use Rattle.asgi_pipes.specs.declared.items.OutItem.{OutItem}
 use Rattle.asgi_pipes.specs.declared.items.OutItem.TheVariants.{Event}
+use Rattle.asgi_ws.specs.declared.messages.Call.TheVariants.{Send}
 use Rattle.asgi_ws.specs.declared.messages.Handed.{Handed}
 use Rattle.asgi_ws.specs.declared.messages.Handed.TheVariants as item
 use Rattle.asgi_ws.specs.declared.messages.Msg.{Msg}
@@ -45,7 +46,7 @@ use Rattle.asgi_conn.specs.declared.session_half.Due.TheVariants as due
 use Rattle.asgi_conn.specs.declared.session_half.SessionHalf.{SessionHalf}
 use Rattle.asgi_conn.specs.Lines.{LineState, how_wrote}
 use Rattle.asgi_conn.specs.SessionHalf.{SessionScene, Stands, IsAccept, Talks, IsAt, IsCarried, IsCarrying, IsDue, IsSilent, answer_to, exchange_of, known, output_in, said_in, stage_of, talk_in, text_failures}
-use Rattle.asgi_conn.specs.Talking.{HasTalked}
+use Rattle.asgi_conn.specs.Talking.{TalksOn}
 use Rattle.asgi_conn.proofs.LineLemmas.{tries_front}
 use Rattle.asgi_conn.proofs.SessionPassLemmas.{more_said, accept_is_first, close_has_place, send_is_in_session, open_is_accepted, not_closed, open_behind_send, closed_behind_close}
 use Rattle.asgi_conn.proofs.TalkLemmas.{LeavesText, talk_written, talk_sent, talk_upgraded}
@@ -113,9 +114,9 @@ module _ (scene : SessionScene) (was : LineState) (half : SessionHalf) (read : L
   at : Talks scene (record half { judge = before }) view × (end_of view.got ≡ None) × IsDue half.due (record half { judge = before }) view
   at = running_of scene was half read view before x running
 
-  line : HasTalked scene.start was half.wire.input read (scene.before ++ x.text) 0 (talk_in half view x.leftover x.handed)
+  line : TalksOn scene.start was half.wire.input read (scene.before ++ x.text) 0 (talk_in half view x.leftover x.handed) half.spare_reads
   line =
-      let P : ℕ → Type 0 = λ n. HasTalked scene.start was half.wire.input read (scene.before ++ x.text) n (talk_in half view x.leftover x.handed) in
+      let P : ℕ → Type 0 = λ n. TalksOn scene.start was half.wire.input read (scene.before ++ x.text) n (talk_in half view x.leftover x.handed) half.spare_reads in
       subst P (no_failures half.answered) (subst (λ (s : Stage). P (text_failures half.answered s)) running x.line)
 
   more_taken : (written : List Output) → taken_of (later written) ≡ taken_of view ++ event ∷ []
@@ -144,7 +145,7 @@ module _ (scene : SessionScene) (was : LineState) (half : SessionHalf) (read : L
 
   -- this much of it went out, as text or as a message
   spoken : (now : LineState) (leftover : _) (progress : Answered) (waits : Due) (stage : Stage) (text : List ℕ) (kept : Option (List ℕ)) (handed : List Handed) (front rest : List Output)
-      → HasTalked scene.start now half.wire.input read (scene.before ++ text) (text_failures progress stage) (talk_in half view kept handed)
+      → TalksOn scene.start now half.wire.input read (scene.before ++ text) (text_failures progress stage) (talk_in half view kept handed) half.spare_reads
       → map Byte text ++ map Message handed ≡ view.written ++ front → front ++ rest ≡ adds
       → IsCarried progress scene (record half { leftover = leftover; answered = progress; due = waits; stage = stage }) (later (map Byte text ++ map Message handed)) text kept handed
       → IsAt stage scene (record half { leftover = leftover; answered = progress; due = waits; stage = stage }) (later (map Byte text ++ map Message handed))
@@ -223,18 +224,18 @@ module _ (scene : SessionScene) (was : LineState) (half : SessionHalf) (read : L
         }
 
     module _ (now : LineState) (message : Handed) (adds_it : adds ≡ Message message ∷ []) (answer : Put) (same : LeavesText was now)
-        (told : now.session.send_answers ≡ was.session.send_answers ++ (message, answer) ∷ []) (count : now.failed ≡ count_after was.failed (has_failed answer))
-        (reads : now.session.read_answers ≡ was.session.read_answers) (coming : now.session.coming ≡ was.session.coming) (kept : now.session.leftover ≡ was.session.leftover) where
-      sent : HasTalked scene.start now half.wire.input read (scene.before ++ x.text) 0 (talk_in half view x.leftover (x.handed ++ taken_by message answer))
+        (told : now.session.calls ≡ was.session.calls ++ Send message answer ∷ []) (count : now.failed ≡ count_after was.failed (has_failed answer))
+        (coming : now.session.coming ≡ was.session.coming) (kept : now.session.leftover ≡ was.session.leftover) where
+      sent : TalksOn scene.start now half.wire.input read (scene.before ++ x.text) 0 (talk_in half view x.leftover (x.handed ++ taken_by message answer)) half.spare_reads
       sent = talk_sent scene.start was now half.wire.input read (scene.before ++ x.text) 0 (talk_in half view x.leftover x.handed)
-          (talk_in half view x.leftover (x.handed ++ taken_by message answer)) line same message answer told count reads coming kept refl refl refl refl
+          (talk_in half view x.leftover (x.handed ++ taken_by message answer)) half.spare_reads line same message answer told count coming kept refl refl refl refl
 
       talked : (result : Put) → answer ≡ result → (stage : Stage) (progress : Answered) → IsUpgraded progress
-          → HasTalked scene.start now half.wire.input read (scene.before ++ x.text) (text_failures progress stage) (talk_in half view x.leftover (x.handed ++ taken_by message result))
+          → TalksOn scene.start now half.wire.input read (scene.before ++ x.text) (text_failures progress stage) (talk_in half view x.leftover (x.handed ++ taken_by message result)) half.spare_reads
       talked result is stage progress upgraded =
-          subst (λ (n : ℕ). HasTalked scene.start now half.wire.input read (scene.before ++ x.text) n (talk_in half view x.leftover (x.handed ++ taken_by message result)))
+          subst (λ (n : ℕ). TalksOn scene.start now half.wire.input read (scene.before ++ x.text) n (talk_in half view x.leftover (x.handed ++ taken_by message result)) half.spare_reads)
           (quiet progress stage upgraded)
-          (subst (λ (a : Put). HasTalked scene.start now half.wire.input read (scene.before ++ x.text) 0 (talk_in half view x.leftover (x.handed ++ taken_by message a))) is sent)
+          (subst (λ (a : Put). TalksOn scene.start now half.wire.input read (scene.before ++ x.text) 0 (talk_in half view x.leftover (x.handed ++ taken_by message a)) half.spare_reads) is sent)
 
       out_with : (handed : List Handed) → map Byte x.text ++ map Message (x.handed ++ handed) ≡ view.written ++ map Message handed
       out_with handed =
@@ -337,14 +338,14 @@ module _ (scene : SessionScene) (was : LineState) (half : SessionHalf) (read : L
     module _ (now : LineState) (same_left : now.left ≡ was.left) (same_reads : now.reads ≡ was.reads) (same_session : now.session ≡ was.session) where
       text_moved : (part : List ℕ) (failures : ℕ) → Appends was.written now.written part → RoseBy failures was.failed now.failed
           → TriesWrites was.writes now.writes (length part) (how_wrote failures (length part))
-          → HasTalked scene.start now half.wire.input read (scene.before ++ (x.text ++ part)) failures (talk_in half view x.leftover x.handed)
+          → TalksOn scene.start now half.wire.input read (scene.before ++ (x.text ++ part)) failures (talk_in half view x.leftover x.handed) half.spare_reads
       text_moved part failures appends rose tries =
-          subst (λ (l : List ℕ). HasTalked scene.start now half.wire.input read l failures (talk_in half view x.leftover x.handed)) (append_assoc scene.before x.text part)
-          (talk_written scene.start was now half.wire.input read (scene.before ++ x.text) part failures (talk_in half view x.leftover x.handed) line same_left same_reads same_session appends rose tries)
+          subst (λ (l : List ℕ). TalksOn scene.start now half.wire.input read l failures (talk_in half view x.leftover x.handed) half.spare_reads) (append_assoc scene.before x.text part)
+          (talk_written scene.start was now half.wire.input read (scene.before ++ x.text) part failures (talk_in half view x.leftover x.handed) half.spare_reads line same_left same_reads same_session appends rose tries)
 
       -- its first n bytes went out
       cut_by : (progress : Answered) (n : ℕ) → n < length more
-          → HasTalked scene.start now half.wire.input read (scene.before ++ (x.text ++ take n more)) (text_failures progress (Cut (WriteFailed n))) (talk_in half view x.leftover x.handed)
+          → TalksOn scene.start now half.wire.input read (scene.before ++ (x.text ++ take n more)) (text_failures progress (Cut (WriteFailed n))) (talk_in half view x.leftover x.handed) half.spare_reads
           → IsCarried progress scene (record half { answered = progress; stage = Cut (WriteFailed n) }) (later (map Byte (x.text ++ take n more) ++ map Message x.handed)) (x.text ++ take n more) x.leftover x.handed
           → (written : List Output) × Stands scene now (record half { answered = progress; stage = Cut (WriteFailed n) }) read (later written)
       cut_by progress n less talked carried =
@@ -356,7 +357,7 @@ module _ (scene : SessionScene) (was : LineState) (half : SessionHalf) (read : L
           (stops n written within out, still_open)
 
       module _ (n : ℕ) (less : n < length more) (appends : Appends was.written now.written (take n more)) (rose : RoseBy 1 was.failed now.failed) (tries : TriesWrites was.writes now.writes n (wrote.Failed n)) where
-        moved_part : HasTalked scene.start now half.wire.input read (scene.before ++ (x.text ++ take n more)) 1 (talk_in half view x.leftover x.handed)
+        moved_part : TalksOn scene.start now half.wire.input read (scene.before ++ (x.text ++ take n more)) 1 (talk_in half view x.leftover x.handed) half.spare_reads
         moved_part = text_moved (take n more) 1 appends rose (tries_front was.writes now.writes n more less tries)
 
         pub accept_cut : (written : List Output) × Stands scene now (record half { stage = Cut (WriteFailed n) }) read (later written)
@@ -381,16 +382,16 @@ module _ (scene : SessionScene) (was : LineState) (half : SessionHalf) (read : L
 
         -- the line carries messages from here on
         pub accept_out : (after : LineState) (leftover : _) → LeavesText now after → after.session.leftover ≡ kept_by now.session.leftover half.leftover.items → after.failed ≡ now.failed
-            → after.session.read_answers ≡ now.session.read_answers → after.session.send_answers ≡ now.session.send_answers → after.session.coming ≡ now.session.coming
+            → after.session.calls ≡ now.session.calls → after.session.coming ≡ now.session.coming
             → answer_to (said_in scene view ++ event ∷ []) ≡ Open → (subprotocol : Option (List ℕ)) (headers : List HeaderField) → event ≡ WsAccept subprotocol headers
             → more ≡ handshake_of scene.facts subprotocol headers → (stage : Stage) → stage ≡ Running
             → (written : List Output) × Stands scene after (record half { leftover = leftover; answered = Open; stage = stage }) read (later written)
-        accept_out after leftover same kept count reads sends coming becomes subprotocol headers accepts text_is stage is =
+        accept_out after leftover same kept count calls coming becomes subprotocol headers accepts text_is stage is =
             let written : List Output = map Byte (x.text ++ more) ++ map Message x.handed in
             let none : x.text ≡ [] = no_text x.text x.handed (sym x.written ∙ (at.0.written ∙ ap (output_of (handshake_of scene.facts) scene.facts) first)) in
-            let talked : HasTalked scene.start after half.wire.input read (scene.before ++ (x.text ++ more)) 0 (talk_in half view (Some scene.frames) x.handed) =
+            let talked : TalksOn scene.start after half.wire.input read (scene.before ++ (x.text ++ more)) 0 (talk_in half view (Some scene.frames) x.handed) half.spare_reads =
             talk_upgraded scene.start now after half.wire.input read (scene.before ++ (x.text ++ more)) 0 (talk_in half view x.leftover x.handed) (talk_in half view (Some scene.frames) x.handed)
-            (text_moved more 0 appends rose tries) same half.leftover.items silent.0.kept kept count reads sends coming (ap (λ (l : List ℕ). Some l) (sym silent.1)) refl refl refl in
+            half.spare_reads (text_moved more 0 appends rose tries) same half.leftover.items silent.0.kept kept count calls coming (ap (λ (l : List ℕ). Some l) (sym silent.1)) refl refl refl in
             let carried : IsCarrying scene (later written) (x.text ++ more) (Some scene.frames) = record {
               kept = refl;
               subprotocol = subprotocol;
@@ -408,21 +409,21 @@ module _ (scene : SessionScene) (was : LineState) (half : SessionHalf) (read : L
 
 module _ (scene : SessionScene) (was now : LineState) (half : SessionHalf) (read : List ℕ) (view : ConnView Msg Output) (before : Judge) (x : Stands scene was (record half { judge = before }) read view)
     (running : half.stage ≡ Running) (answer : Put) (same : LeavesText was now) (count : now.failed ≡ count_after was.failed (has_failed answer))
-    (reads : now.session.read_answers ≡ was.session.read_answers) (coming : now.session.coming ≡ was.session.coming) (kept : now.session.leftover ≡ was.session.leftover) where
+    (coming : now.session.coming ≡ was.session.coming) (kept : now.session.leftover ≡ was.session.leftover) where
   pub payload_sent : (payload : Payload) → passes WebSocket scene.facts (said_in scene view) (WsSend payload) ≡ true
       → judging.StandsFor half.judge WebSocket scene.facts (said_in scene view ++ WsSend payload ∷ []) false
-      → now.session.send_answers ≡ was.session.send_answers ++ (item.Payload payload, answer) ∷ [] → (stage : Stage) → stage ≡ stage_of answer
+      → now.session.calls ≡ was.session.calls ++ Send (item.Payload payload) answer ∷ [] → (stage : Stage) → stage ≡ stage_of answer
       → (written : List Output) × Stands scene now (record half { stage = stage }) read (record view { got = view.got ++ Event (WsSend payload) ∷ []; written = written })
   payload_sent payload pass judged told stage is =
       let s = send_is_in_session scene.facts (said_in scene view) payload pass in
       sent_on scene was half read view before x running (WsSend payload) pass judged
       (is_open scene was half read view before x running (WsSend payload) pass judged s)
       now (item.Payload payload) (ap (λ (l : List Outgoing). event_output (handshake_of scene.facts) scene.facts l (WsSend payload)) s.3)
-      answer same told count reads coming kept (open_behind_send scene.facts (said_in scene view) payload pass) stage is
+      answer same told count coming kept (open_behind_send scene.facts (said_in scene view) payload pass) stage is
 
   pub close_sent : (code : ℕ) (reason : List ℕ) → passes WebSocket scene.facts (said_in scene view) (WsClose code reason) ≡ true
       → judging.StandsFor half.judge WebSocket scene.facts (said_in scene view ++ WsClose code reason ∷ []) false → half.answered ≡ Open
-      → (copy : List ℕ) → copy ≡ reason → now.session.send_answers ≡ was.session.send_answers ++ (item.Close code copy, answer) ∷ [] → (stage : Stage) → stage ≡ stage_of answer
+      → (copy : List ℕ) → copy ≡ reason → now.session.calls ≡ was.session.calls ++ Send (item.Close code copy) answer ∷ [] → (stage : Stage) → stage ≡ stage_of answer
       → (written : List Output)
       × Stands scene now (record half { answered = Closed; due = due.Nothing; stage = stage }) read (record view { got = view.got ++ Event (WsClose code reason) ∷ []; written = written })
   close_sent code reason pass judged opened copy copied told stage is =
@@ -430,7 +431,7 @@ module _ (scene : SessionScene) (was now : LineState) (half : SessionHalf) (read
       let s = open_is_accepted (said_in scene view) (sym t.0.answered ∙ opened) in
       closed_by scene was half read view before x running (WsClose code reason) pass judged opened
       now (item.Close code reason) (ap (λ (l : List Outgoing). event_output (handshake_of scene.facts) scene.facts l (WsClose code reason)) s.3)
-      answer same (told ∙ ap (λ (r : List ℕ). was.session.send_answers ++ (item.Close code r, answer) ∷ []) copied) count reads coming kept (closed_behind_close scene.facts (said_in scene view) code reason s.0 s.1 s.2 s.3 pass) stage is
+      answer same (told ∙ ap (λ (r : List ℕ). was.session.calls ++ Send (item.Close code r) answer ∷ []) copied) count coming kept (closed_behind_close scene.facts (said_in scene view) code reason s.0 s.1 s.2 s.3 pass) stage is
 
 -- ---- a close in place of an accept
 
@@ -496,12 +497,12 @@ module _ (scene : SessionScene) (was : LineState) (half : SessionHalf) (read : L
     pub accepted : Appends was.written now.written text → RoseBy 0 was.failed now.failed → TriesWrites was.writes now.writes (length text) wrote.Done
         → (after : LineState) (new : SessionHalf) (bytes : List ℕ) → LeavesText now after → after.session.leftover ≡ kept_by now.session.leftover bytes → bytes ≡ half.leftover.items
         → after.failed ≡ now.failed
-        → after.session.read_answers ≡ now.session.read_answers → after.session.send_answers ≡ now.session.send_answers → after.session.coming ≡ now.session.coming
+        → after.session.calls ≡ now.session.calls → after.session.coming ≡ now.session.coming
         → (written : List Output)
         × Stands scene after (record half { leftover = new.leftover; answered = Open }) read (record view { got = view.got ++ Event event ∷ []; written = written })
-    accepted appends rose tries after new bytes same kept bytes_are count reads sends coming =
+    accepted appends rose tries after new bytes same kept bytes_are count calls coming =
         let a = accept_of event accepts in
         accept_out scene was half read view before x running event pass judged none_before text (adds_handshake text text_is) now same_left same_reads same_session appends rose tries
-        after new.leftover same (kept ∙ ap (λ (l : List ℕ). kept_by now.session.leftover l) bytes_are) count reads sends coming
+        after new.leftover same (kept ∙ ap (λ (l : List ℕ). kept_by now.session.leftover l) bytes_are) count calls coming
         (ap (λ (l : List Outgoing). answer_to (l ++ event ∷ [])) none_before ∙ ap (λ (e : Outgoing). answer_to (e ∷ [])) a.2)
         a.0 a.1 a.2 (text_is ∙ (ap (λ (f : Facts). accept_text f event) x.fixed.facts_are ∙ ap (λ (e : Outgoing). accept_text scene.facts e) a.2)) half.stage running

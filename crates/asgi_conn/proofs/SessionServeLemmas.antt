@@ -45,7 +45,7 @@ use Rattle.asgi_conn.specs.Loop.{EndsSo, IsTallied, Serving}
 use Rattle.asgi_conn.specs.ReadAhead.{ReadsAhead}
 use Rattle.asgi_conn.specs.Running.{IsOpened, HasRun}
 use Rattle.asgi_conn.specs.SessionHalf.{SessionScene, Stands, IsAt, IsCarried, OpensHandshake, OpensSession, IsOf, session_of, talk_in, text_failures}
-use Rattle.asgi_conn.specs.Talking.{HasTalked, failures_in}
+use Rattle.asgi_conn.specs.Talking.{TalksOn, failures_in}
 use Rattle.asgi_conn.proofs.HttpEndLemmas.{http_ends}
 use Rattle.asgi_conn.proofs.PromiseLemmas.{is_kept, all_more, length_more, faults_more}
 use Rattle.asgi_conn.proofs.ReadAheadLemmas.{more_requests}
@@ -149,7 +149,7 @@ module _ {T E : Type 0} (promise : Scope → List Incoming → List Outgoing →
       record {
         end = half.wire.input;
         talk = talk_in half run.world.conn s.leftover s.handed;
-        talked = subst (λ (n : ℕ). HasTalked scene.start now half.wire.input read out n (talk_in half run.world.conn s.leftover s.handed)) failures s.line;
+        talked = (subst (λ (n : ℕ). TalksOn scene.start now half.wire.input read out n (talk_in half run.world.conn s.leftover s.handed) half.spare_reads) failures s.line).talked;
         converses = λ report o c. inr (leave.converses scene now half read run.world outcome s in_session over report o c);
         ahead = subst (λ (l : List (Scope × Facts)). ReadsAhead scene.limits read l) (sym (requests_join scene.exchanges (one ∷ []))) (more_requests scene.limits read (requests_of scene.exchanges) ((scene.scope, scene.facts) ∷ []) ahead);
       }

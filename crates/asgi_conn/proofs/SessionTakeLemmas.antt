@@ -1,5 +1,5 @@
 -- What the half of a session takes: nothing, the end of the task, or an event, which says nothing where the judge does not pass it.
-use Rattle.std.proofs.Common.{◌≡◌, ◌≢◌, ℕ, true, false, Bool, List, [], ◌∷◌, ◌++◌, refl, sym, ap, ◌∙◌, subst, Option, Some, None, Vec, Global}
+use Rattle.std.proofs.Common.{◌≡◌, ◌≢◌, ◌≤◌, ℕ, true, false, Bool, List, [], ◌∷◌, ◌++◌, refl, sym, ap, ◌∙◌, subst, Option, Some, None, Vec, Global}
 use Rattle.std.proofs.lemmas.List.{append-nil}
 use Rattle.asgi_types.specs.Fields.{HeaderField}
 use Rattle.asgi_types.specs.declared.end_kind.EndKind.{EndKind}
@@ -41,7 +41,7 @@ use Rattle.asgi_conn.specs.declared.wire.Wire.{Wire}
 use Rattle.asgi_conn.specs.Half.{failures_at}
 use Rattle.asgi_conn.specs.Lines.{LineState}
 use Rattle.asgi_conn.specs.SessionHalf.{SessionScene, Stands, OpensSession, Talks, IsAt, IsCarried, IsCarrying, IsDue, IsSilent, answer_to, exchange_of, output_in, said_in, talk_in, text_failures}
-use Rattle.asgi_conn.specs.Talking.{HasTalked}
+use Rattle.asgi_conn.specs.Talking.{TalksOn, drop_limit}
 use Rattle.asgi_conn.proofs.SessionPassLemmas.{same_said}
 use Rattle.asgi_conn.proofs.TalkLemmas.{talk_begins}
 
@@ -117,9 +117,9 @@ module _ (scene : SessionScene) (now : LineState) (half : SessionHalf) (read : L
   at = running_of scene now half read view x is
 
   line_at : (stage : Stage) → failures_at stage ≡ 0
-      → HasTalked scene.start now half.wire.input read (scene.before ++ x.text) (text_failures half.answered stage) (talk_in half view x.leftover x.handed)
+      → TalksOn scene.start now half.wire.input read (scene.before ++ x.text) (text_failures half.answered stage) (talk_in half view x.leftover x.handed) half.spare_reads
   line_at stage none =
-      subst (λ (n : ℕ). HasTalked scene.start now half.wire.input read (scene.before ++ x.text) n (talk_in half view x.leftover x.handed))
+      subst (λ (n : ℕ). TalksOn scene.start now half.wire.input read (scene.before ++ x.text) n (talk_in half view x.leftover x.handed) half.spare_reads)
       (same_failures half.answered half.stage stage (ap failures_at is ∙ sym none)) x.line
 
   -- the end of the task
@@ -227,7 +227,7 @@ module _ (E : Type 0) (C : conn_end.Ghosts E) (scene : SessionScene) (now : Line
 -- ---- an exchange begins
 
 pub begun : (scene : SessionScene) (now : LineState) (wire : Wire) (facts : Facts) (text : ResponseText) (leftover : Vec ℕ Global) (read : List ℕ) (judge : Judge) (spare_reads : ℕ)
-    → OpensSession scene now wire facts text leftover.items read → judging.StandsFor judge WebSocket scene.facts [] false
+    → spare_reads ≤ drop_limit → OpensSession scene now wire facts text leftover.items read → judging.StandsFor judge WebSocket scene.facts [] false
     → Stands scene now
     (record {
       wire = wire;
@@ -244,12 +244,12 @@ pub begun : (scene : SessionScene) (now : LineState) (wire : Wire) (facts : Fact
       stage = Running;
     })
     read empty_conn
-begun scene now wire facts text leftover read judge spare_reads o judged = record {
+begun scene now wire facts text leftover read judge spare_reads within o judged = record {
   fixed = o.fixed;
   text = [];
   leftover = None;
   handed = [];
-  line = subst (λ (l : List ℕ). HasTalked scene.start now wire.input read l 0 silence) (sym (append-nil scene.before)) (talk_begins scene.start now wire.input read scene.before o.moved);
+  line = subst (λ (l : List ℕ). TalksOn scene.start now wire.input read l 0 silence spare_reads) (sym (append-nil scene.before)) (talk_begins scene.start now wire.input read scene.before spare_reads within o.moved);
   written = refl;
   carried = (record { kept = refl; received = refl; over = refl; unclosed = refl; sent = refl }, o.frames);
   keeps = record { offered = (session_events [], refl); written = (output (exchange_of scene) empty_conn, refl) };

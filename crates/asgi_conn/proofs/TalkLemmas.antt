@@ -1,6 +1,7 @@
 -- What passed over a line behind one more text, and behind one more call of its session.
-use Rattle.std.proofs.Common.{◌≡◌, ℕ, Bool, true, false, ◌||◌, List, [], ◌∷◌, ◌++◌, length, refl, sym, ap, ◌∙◌, subst, inl, inr, append_assoc, append-nil, Option, Some, None, arith}
+use Rattle.std.proofs.Common.{◌≡◌, ℕ, ◌+◌, ◌≤◌, Bool, true, false, ◌||◌, List, [], ◌∷◌, ◌++◌, length, refl, sym, ap, ◌∙◌, subst, inl, inr, append_assoc, append-nil, Option, Some, None, arith}
 use Rattle.std.specs.Io.KnownBytes.{Appends, Consumes}
+use Rattle.std.specs.List.{flat_map}
 use Rattle.asgi_io.specs.declared.answer.Answer.{Answer}
 use Rattle.asgi_io.specs.Counting.{RoseBy}
 use Rattle.asgi_io.specs.Writing.{TriesWrites}
@@ -9,13 +10,16 @@ use Rattle.asgi_ws.specs.declared.messages.Got.{Got}
 use Rattle.asgi_ws.specs.declared.messages.Put.{Put}
 use Rattle.asgi_ws.specs.declared.messages.Msg.{Msg}
 use Rattle.asgi_ws.specs.declared.messages.Handed.{Handed}
+use Rattle.asgi_ws.specs.declared.messages.Call.{Call}
+use Rattle.asgi_ws.specs.declared.messages.Call.TheVariants.{Read, Send}
 use Rattle.asgi_ws.specs.Sides.{Session}
-use Rattle.asgi_ws.specs.Sessions.{given_by, taken_by, is_failed, has_failed, count_after, kept_by, Loses}
-use Rattle.asgi_ws.proofs.ListLemmas.{messages_behind, handed_behind}
+use Rattle.asgi_ws.specs.Sessions.{given_by, taken_by, read_by, sent_by, is_failed, has_failed, count_after, kept_by, reads_behind_close, Loses}
+use Rattle.asgi_ws.proofs.ListLemmas.{given_behind}
 use Rattle.asgi_conversation.specs.declared.input.InputEnd.{InputEnd}
 use Rattle.asgi_conversation.specs.Sessions.{Talk, silence}
 use Rattle.asgi_conn.specs.Lines.{LineState, HasMoved, EndsAs, how_wrote}
-use Rattle.asgi_conn.specs.Talking.{HasTalked, is_end, says_over, kept_with, text_of_line}
+use Rattle.asgi_conn.specs.Talking.{HasTalked, TalksOn, drop_limit, is_end, says_over, kept_with, text_of_line}
+use Rattle.asgi_conn.proofs.CallLemmas.{send_behind}
 use Rattle.asgi_conn.proofs.LineLemmas.{moved_by_write}
 
 -- ---- the count of failures
@@ -40,9 +44,21 @@ or_assoc : (a b c : Bool) → (a || (b || c)) ≡ ((a || b) || c)
 or_assoc true b c = refl
 or_assoc false b c = refl
 
-over_behind : (gots : List Got) (answer : Got) → says_over (gots ++ answer ∷ []) ≡ (says_over gots || is_end answer)
+over_behind : (calls : List Call) (answer : Got) → says_over (calls ++ Read answer ∷ []) ≡ (says_over calls || is_end answer)
 over_behind [] answer = or_none (is_end answer)
-over_behind (first ∷ gots) answer = ap (λ (b : Bool). is_end first || b) (over_behind gots answer) ∙ or_assoc (is_end first) (says_over gots) (is_end answer)
+over_behind (Read first ∷ calls) answer = ap (λ (b : Bool). is_end first || b) (over_behind calls answer) ∙ or_assoc (is_end first) (says_over calls) (is_end answer)
+over_behind (Send item first ∷ calls) answer = over_behind calls answer
+
+still_over : (calls : List Call) (item : Handed) (answer : Put) → says_over (calls ++ Send item answer ∷ []) ≡ says_over calls
+still_over [] item answer = refl
+still_over (Read first ∷ calls) item answer = ap (λ (b : Bool). is_end first || b) (still_over calls item answer)
+still_over (Send other first ∷ calls) item answer = still_over calls item answer
+
+told_behind : (start was now calls : List Call) (c : Call) → now ≡ was ++ c ∷ [] → was ≡ start ++ calls → now ≡ start ++ (calls ++ c ∷ [])
+told_behind start was now calls c told before = told ∙ ap (λ (l : List Call). l ++ c ∷ []) before ∙ append_assoc start calls (c ∷ [])
+
+fewer : (reads spare : ℕ) → reads + spare ≤ drop_limit → reads ≤ drop_limit
+fewer reads spare h = omega arith
 
 loses_nothing : (all : Option (List Msg)) → Loses all all []
 loses_nothing None = tt
@@ -59,37 +75,43 @@ loses_then (Some xs) (Some ys) (Some zs) front more x y = x ∙ ap (λ (l : List
 pub talk_silent : (start now : LineState) (end : InputEnd) (read before : List ℕ) (failures : ℕ) → HasMoved start now end read before failures → HasTalked start now end read before failures silence
 talk_silent start now end read before failures x = record {
   moved = subst (λ (s : Session). HasMoved start (record now { session = s }) end read before failures) x.quiet x;
-  gots = [];
-  told = ap (λ (s : Session). s.read_answers) x.quiet ∙ sym (append-nil start.session.read_answers);
+  calls = [];
+  told = ap (λ (s : Session). s.calls) x.quiet ∙ sym (append-nil start.session.calls);
   received = refl;
   over = refl;
-  coming = subst (λ (s : Session). Loses start.session.coming s.coming []) (sym x.quiet) (loses_nothing start.session.coming);
-  sents = [];
-  sent = ap (λ (s : Session). s.send_answers) x.quiet ∙ sym (append-nil start.session.send_answers);
   handed = refl;
+  few = omega arith;
+  coming = subst (λ (s : Session). Loses start.session.coming s.coming []) (sym x.quiet) (loses_nothing start.session.coming);
   kept = ap (λ (s : Session). s.leftover) x.quiet;
 }
 
-pub talk_begins : (start now : LineState) (end : InputEnd) (read before : List ℕ) → HasMoved start now end read before 0 → HasTalked start now end read before 0 silence
-talk_begins start now end read before x = talk_silent start now end read before 0 x
+pub talk_begins : (start now : LineState) (end : InputEnd) (read before : List ℕ) (spare : ℕ) → spare ≤ drop_limit → HasMoved start now end read before 0 → TalksOn start now end read before 0 silence spare
+unfolding talk_silent
+talk_begins start now end read before spare within x =
+    let none : 0 + spare ≤ drop_limit = omega (arith, within) in
+    record { talked = talk_silent start now end read before 0 x; within = none }
 
 -- one more text
-pub talk_written : (start was now : LineState) (end : InputEnd) (read text more : List ℕ) (failures : ℕ) (talk : Talk)
-    → HasTalked start was end read text 0 talk → now.left ≡ was.left → now.reads ≡ was.reads → now.session ≡ was.session → Appends was.written now.written more → RoseBy failures was.failed now.failed
+pub talk_written : (start was now : LineState) (end : InputEnd) (read text more : List ℕ) (failures : ℕ) (talk : Talk) (spare : ℕ)
+    → TalksOn start was end read text 0 talk spare → now.left ≡ was.left → now.reads ≡ was.reads → now.session ≡ was.session → Appends was.written now.written more → RoseBy failures was.failed now.failed
     → TriesWrites was.writes now.writes (length more) (how_wrote failures (length more))
-    → HasTalked start now end read (text ++ more) failures talk
-talk_written start was now end read text more failures talk x same_left same_reads same_session appends rose tries = record {
-  moved = moved_by_write start (text_of_line start was) (text_of_line start now) end read text more failures x.moved same_left same_reads refl appends rose tries;
-  gots = x.gots;
-  told = ap (λ (s : Session). s.read_answers) same_session ∙ x.told;
-  received = x.received;
-  over = x.over;
-  coming = subst (λ (s : Session). Loses start.session.coming s.coming talk.received) (sym same_session) x.coming;
-  sents = x.sents;
-  sent = ap (λ (s : Session). s.send_answers) same_session ∙ x.sent;
-  handed = x.handed;
-  kept = ap (λ (s : Session). s.leftover) same_session ∙ x.kept;
-}
+    → TalksOn start now end read (text ++ more) failures talk spare
+talk_written start was now end read text more failures talk spare on same_left same_reads same_session appends rose tries =
+    let x = on.talked in
+    record {
+      talked = record {
+        moved = moved_by_write start (text_of_line start was) (text_of_line start now) end read text more failures x.moved same_left same_reads refl appends rose tries;
+        calls = x.calls;
+        told = ap (λ (s : Session). s.calls) same_session ∙ x.told;
+        received = x.received;
+        over = x.over;
+        handed = x.handed;
+        few = x.few;
+        coming = subst (λ (s : Session). Loses start.session.coming s.coming talk.received) (sym same_session) x.coming;
+        kept = ap (λ (s : Session). s.leftover) same_session ∙ x.kept;
+      };
+      within = on.within;
+    }
 
 -- a call of a session leaves the text
 pub record LeavesText (was now : LineState) : Type 0 where
@@ -112,62 +134,75 @@ text_kept start was now end read text failures fails x same count = record {
   quiet = refl;
 }
 
-module _ (start was now : LineState) (end : InputEnd) (read text : List ℕ) (failures : ℕ) (talk later : Talk) (x : HasTalked start was end read text failures talk) (same : LeavesText was now) where
+module _ (start was now : LineState) (end : InputEnd) (read text : List ℕ) (failures : ℕ) (talk later : Talk) (spare : ℕ) (on : TalksOn start was end read text failures talk spare)
+    (same : LeavesText was now) where
   -- one more read of a message
-  pub talk_read : (answer : Got) → now.session.read_answers ≡ was.session.read_answers ++ answer ∷ [] → Loses was.session.coming now.session.coming (given_by answer)
-      → now.failed ≡ count_after was.failed (is_failed answer) → now.session.send_answers ≡ was.session.send_answers → now.session.leftover ≡ was.session.leftover
+  pub talk_read : (answer : Got) → now.session.calls ≡ was.session.calls ++ Read answer ∷ [] → Loses was.session.coming now.session.coming (given_by answer)
+      → now.failed ≡ count_after was.failed (is_failed answer) → now.session.leftover ≡ was.session.leftover
       → later.received ≡ talk.received ++ given_by answer → later.is_over ≡ (talk.is_over || is_end answer) → later.handed ≡ talk.handed → later.leftover ≡ talk.leftover
-      → HasTalked start now end read text failures later
-  talk_read answer told loses count sends kept received over handed leftover = record {
-    moved = text_kept start was now end read text failures (is_failed answer) x.moved same count;
-    gots = x.gots ++ answer ∷ [];
-    told = told ∙ ap (λ (l : List Got). l ++ answer ∷ []) x.told ∙ append_assoc start.session.read_answers x.gots (answer ∷ []);
-    received = received ∙ ap (λ (l : List Msg). l ++ given_by answer) x.received ∙ sym (messages_behind x.gots answer);
-    over = over ∙ ap (λ (b : Bool). b || is_end answer) x.over ∙ sym (over_behind x.gots answer);
-    coming = subst (λ (l : List Msg). Loses start.session.coming now.session.coming l) (sym received)
-        (loses_then start.session.coming was.session.coming now.session.coming talk.received (given_by answer) x.coming loses);
-    sents = x.sents;
-    sent = sends ∙ x.sent;
-    handed = handed ∙ x.handed;
-    kept = kept ∙ x.kept ∙ ap (λ (o : Option (List ℕ)). kept_with start.session.leftover o) (sym leftover);
+      → (left : ℕ) → reads_behind_close (on.talked.calls ++ Read answer ∷ []) + left ≤ drop_limit → TalksOn start now end read text failures later left
+  talk_read answer told loses count kept received over handed leftover left within = record {
+    talked = record {
+      moved = text_kept start was now end read text failures (is_failed answer) on.talked.moved same count;
+      calls = on.talked.calls ++ Read answer ∷ [];
+      told = told_behind start.session.calls was.session.calls now.session.calls on.talked.calls (Read answer) told on.talked.told;
+      received = received ∙ ap (λ (l : List Msg). l ++ given_by answer) on.talked.received ∙ sym (given_behind read_by on.talked.calls (Read answer));
+      over = over ∙ ap (λ (b : Bool). b || is_end answer) on.talked.over ∙ sym (over_behind on.talked.calls answer);
+      handed = handed ∙ on.talked.handed ∙ sym (append-nil (flat_map sent_by on.talked.calls)) ∙ sym (given_behind sent_by on.talked.calls (Read answer));
+      few = fewer (reads_behind_close (on.talked.calls ++ Read answer ∷ [])) left within;
+      coming = subst (λ (l : List Msg). Loses start.session.coming now.session.coming l) (sym received)
+          (loses_then start.session.coming was.session.coming now.session.coming talk.received (given_by answer) on.talked.coming loses);
+      kept = kept ∙ on.talked.kept ∙ ap (λ (o : Option (List ℕ)). kept_with start.session.leftover o) (sym leftover);
+    };
+    within = within;
   }
 
+  coming_still : now.session.coming ≡ was.session.coming → later.received ≡ talk.received → Loses start.session.coming now.session.coming later.received
+  coming_still coming received =
+      subst (λ (l : List Msg). Loses start.session.coming now.session.coming l) (sym received)
+      (subst (λ (o : Option (List Msg)). Loses start.session.coming o talk.received) (sym coming) on.talked.coming)
+
   -- one more message that was handed over
-  pub talk_sent : (item : Handed) (answer : Put) → now.session.send_answers ≡ was.session.send_answers ++ (item, answer) ∷ [] → now.failed ≡ count_after was.failed (has_failed answer)
-      → now.session.read_answers ≡ was.session.read_answers → now.session.coming ≡ was.session.coming → now.session.leftover ≡ was.session.leftover
+  pub talk_sent : (item : Handed) (answer : Put) → now.session.calls ≡ was.session.calls ++ Send item answer ∷ [] → now.failed ≡ count_after was.failed (has_failed answer)
+      → now.session.coming ≡ was.session.coming → now.session.leftover ≡ was.session.leftover
       → later.handed ≡ talk.handed ++ taken_by item answer → later.received ≡ talk.received → later.is_over ≡ talk.is_over → later.leftover ≡ talk.leftover
-      → HasTalked start now end read text failures later
-  talk_sent item answer told count reads coming kept handed received over leftover = record {
-    moved = text_kept start was now end read text failures (has_failed answer) x.moved same count;
-    gots = x.gots;
-    told = reads ∙ x.told;
-    received = received ∙ x.received;
-    over = over ∙ x.over;
-    coming = subst (λ (l : List Msg). Loses start.session.coming now.session.coming l) (sym received)
-        (subst (λ (o : Option (List Msg)). Loses start.session.coming o talk.received) (sym coming) x.coming);
-    sents = x.sents ++ (item, answer) ∷ [];
-    sent = told ∙ ap (λ (l : List (Handed × Put)). l ++ (item, answer) ∷ []) x.sent ∙ append_assoc start.session.send_answers x.sents ((item, answer) ∷ []);
-    handed = handed ∙ ap (λ (l : List Handed). l ++ taken_by item answer) x.handed ∙ sym (handed_behind x.sents item answer);
-    kept = kept ∙ x.kept ∙ ap (λ (o : Option (List ℕ)). kept_with start.session.leftover o) (sym leftover);
-  }
+      → TalksOn start now end read text failures later spare
+  talk_sent item answer told count coming kept handed received over leftover =
+      let same_reads : reads_behind_close (on.talked.calls ++ Send item answer ∷ []) ≡ reads_behind_close on.talked.calls = send_behind on.talked.calls item answer in
+      let within : reads_behind_close (on.talked.calls ++ Send item answer ∷ []) + spare ≤ drop_limit = subst (λ (n : ℕ). n + spare ≤ drop_limit) (sym same_reads) on.within in
+      record {
+        talked = record {
+          moved = text_kept start was now end read text failures (has_failed answer) on.talked.moved same count;
+          calls = on.talked.calls ++ Send item answer ∷ [];
+          told = told_behind start.session.calls was.session.calls now.session.calls on.talked.calls (Send item answer) told on.talked.told;
+          received = received ∙ on.talked.received ∙ sym (append-nil (flat_map read_by on.talked.calls)) ∙ sym (given_behind read_by on.talked.calls (Send item answer));
+          over = over ∙ on.talked.over ∙ sym (still_over on.talked.calls item answer);
+          handed = handed ∙ ap (λ (l : List Handed). l ++ taken_by item answer) on.talked.handed ∙ sym (given_behind sent_by on.talked.calls (Send item answer));
+          few = fewer (reads_behind_close (on.talked.calls ++ Send item answer ∷ [])) spare within;
+          coming = coming_still coming received;
+          kept = kept ∙ on.talked.kept ∙ ap (λ (o : Option (List ℕ)). kept_with start.session.leftover o) (sym leftover);
+        };
+        within = within;
+      }
 
   -- the line carries messages from here on
   pub talk_upgraded : (bytes : List ℕ) → talk.leftover ≡ None → now.session.leftover ≡ kept_by was.session.leftover bytes → now.failed ≡ was.failed
-      → now.session.read_answers ≡ was.session.read_answers → now.session.send_answers ≡ was.session.send_answers → now.session.coming ≡ was.session.coming
+      → now.session.calls ≡ was.session.calls → now.session.coming ≡ was.session.coming
       → later.leftover ≡ Some bytes → later.handed ≡ talk.handed → later.received ≡ talk.received → later.is_over ≡ talk.is_over
-      → HasTalked start now end read text failures later
-  talk_upgraded bytes none kept count reads sends coming leftover handed received over =
-      let before : was.session.leftover ≡ start.session.leftover = x.kept ∙ ap (λ (o : Option (List ℕ)). kept_with start.session.leftover o) none in
+      → TalksOn start now end read text failures later spare
+  talk_upgraded bytes none kept count calls coming leftover handed received over =
+      let before : was.session.leftover ≡ start.session.leftover = on.talked.kept ∙ ap (λ (o : Option (List ℕ)). kept_with start.session.leftover o) none in
       record {
-        moved = text_kept start was now end read text failures false x.moved same count;
-        gots = x.gots;
-        told = reads ∙ x.told;
-        received = received ∙ x.received;
-        over = over ∙ x.over;
-        coming = subst (λ (l : List Msg). Loses start.session.coming now.session.coming l) (sym received)
-            (subst (λ (o : Option (List Msg)). Loses start.session.coming o talk.received) (sym coming) x.coming);
-        sents = x.sents;
-        sent = sends ∙ x.sent;
-        handed = handed ∙ x.handed;
-        kept = kept ∙ ap (λ (o : Option (List ℕ)). kept_by o bytes) before ∙ ap (λ (o : Option (List ℕ)). kept_with start.session.leftover o) (sym leftover);
+        talked = record {
+          moved = text_kept start was now end read text failures false on.talked.moved same count;
+          calls = on.talked.calls;
+          told = calls ∙ on.talked.told;
+          received = received ∙ on.talked.received;
+          over = over ∙ on.talked.over;
+          handed = handed ∙ on.talked.handed;
+          few = on.talked.few;
+          coming = coming_still coming received;
+          kept = kept ∙ ap (λ (o : Option (List ℕ)). kept_by o bytes) before ∙ ap (λ (o : Option (List ℕ)). kept_with start.session.leftover o) (sym leftover);
+        };
+        within = on.within;
       }

@@ -24,11 +24,11 @@ pub record LineState : Type 0 where
   pub written : Option (List ℕ)
   pub writes : List Answer
   pub failed : ℕ
-  -- its session: how each read of a message and each send was answered, the messages to come, and what `upgrade` kept
+  -- its session: the reads of messages and the sends, each with its answer, the messages to come, and what `upgrade` kept
   pub session : Session
 
 abbrev pub session_of : {L : Type 0} → messages.Ghosts L → L → Session
-session_of M line = record { read_answers = M.read_answers line; send_answers = M.send_answers line; coming = M.coming line; leftover = M.leftover line }
+session_of M line = record { calls = M.calls line; coming = M.coming line; leftover = M.leftover line }
 
 abbrev pub state_of : {L : Type 0} → reads.Ghosts L → counts.Ghosts L → messages.Ghosts L → L → LineState
 state_of R W M line = record {

@@ -54,7 +54,7 @@ use Rattle.asgi_conn.specs.AnyHalf.{LeadsOn, LeadsInLine}
 use Rattle.asgi_conn.specs.Half.{failures_at}
 use Rattle.asgi_conn.specs.Lines.{LineState, HasMoved}
 use Rattle.asgi_conn.specs.ReadAhead.{ReadsAhead}
-use Rattle.asgi_conn.specs.Talking.{HasTalked}
+use Rattle.asgi_conn.specs.Talking.{TalksOn}
 
 -- What stays the same in one exchange: what was known of the line when the connection began, the exchanges before this one and
 -- what was written for them, the handshake, the bytes behind it, and all that was read: no more text is.
@@ -199,7 +199,7 @@ pub record Stands (scene : SessionScene) (now : LineState) (half : SessionHalf) 
   pub text : List ℕ
   pub leftover : Option (List ℕ)
   pub handed : List Handed
-  pub line : HasTalked scene.start now half.wire.input read (scene.before ++ text) (text_failures half.answered half.stage) (talk_in half view leftover handed)
+  pub line : TalksOn scene.start now half.wire.input read (scene.before ++ text) (text_failures half.answered half.stage) (talk_in half view leftover handed) half.spare_reads
   pub written : view.written ≡ map Byte text ++ map Message handed
   pub carried : IsCarried half.answered scene half view text leftover handed
   pub keeps : ConnKeeps (exchange_of scene) view

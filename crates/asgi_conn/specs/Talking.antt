@@ -1,10 +1,10 @@
 -- What passed over a line from the first byte of a connection to the end of its session.
-use Rattle.std.specs.Prelude.{◌≡◌, ℕ, Bool, true, false, ◌||◌, List, [], ◌∷◌, ◌++◌, Option, Some, None, is_none, if◌then◌else◌}
+use Rattle.std.specs.Prelude.{◌≡◌, ℕ, ◌+◌, ◌≤◌, Bool, true, false, ◌||◌, List, [], ◌∷◌, ◌++◌, Option, Some, None, is_none, if◌then◌else◌}
 use Rattle.asgi_ws.specs.declared.messages.Got.{Got}
 use Rattle.asgi_ws.specs.declared.messages.Got.TheVariants as got
-use Rattle.asgi_ws.specs.declared.messages.Put.{Put}
-use Rattle.asgi_ws.specs.declared.messages.Handed.{Handed}
-use Rattle.asgi_ws.specs.Sessions.{messages_in, handed_in, kept_by, Loses}
+use Rattle.asgi_ws.specs.declared.messages.Call.{Call}
+use Rattle.asgi_ws.specs.declared.messages.Call.TheVariants as call
+use Rattle.asgi_ws.specs.Sessions.{messages_in, handed_in, kept_by, reads_behind_close, Loses}
 use Rattle.asgi_conversation.specs.declared.input.InputEnd.{InputEnd}
 use Rattle.asgi_conversation.specs.declared.report.Outcome.{Outcome}
 use Rattle.asgi_conversation.specs.Sessions.{Talk}
@@ -20,9 +20,14 @@ is_end got.Failed = true
 is_end got.NoMemory = false
 
 -- a read said so
-abbrev pub says_over : List Got → Bool
+abbrev pub says_over : List Call → Bool
 says_over [] = false
-says_over (answer ∷ answers) = is_end answer || says_over answers
+says_over (call.Read answer ∷ calls) = is_end answer || says_over calls
+says_over (call.Send item answer ∷ calls) = says_over calls
+
+-- the most messages that are read, and dropped, behind a close of either side
+abbrev pub drop_limit : ℕ
+drop_limit = 64
 
 -- the first bytes of a session that a line keeps, once it was given these
 abbrev pub kept_with : Option (List ℕ) → Option (List ℕ) → Option (List ℕ)
@@ -41,15 +46,23 @@ failures_in outcome talk = if is_none talk.leftover then failures_of outcome els
 -- The text moved so, and this talk passed by.
 pub record HasTalked (start now : LineState) (end : InputEnd) (read text : List ℕ) (failures : ℕ) (talk : Talk) : Type 0 where
   pub moved : HasMoved start (text_of_line start now) end read text failures
-  -- the answers to the reads of messages: what they gave, and whether no more come
-  pub gots : List Got
-  pub told : now.session.read_answers ≡ start.session.read_answers ++ gots
-  pub received : talk.received ≡ messages_in gots
-  pub over : talk.is_over ≡ says_over gots
+  -- the reads of messages and the sends, each with its answer
+  pub calls : List Call
+  pub told : now.session.calls ≡ start.session.calls ++ calls
+  -- what the reads gave, and whether no more messages come
+  pub received : talk.received ≡ messages_in calls
+  pub over : talk.is_over ≡ says_over calls
   -- where the messages to come are known, they were the first of them
   pub coming : Loses start.session.coming now.session.coming talk.received
-  -- what was handed over, and how that was answered: what went out
-  pub sents : List (Handed × Put)
-  pub sent : now.session.send_answers ≡ start.session.send_answers ++ sents
-  pub handed : talk.handed ≡ handed_in sents
+  -- what went out
+  pub handed : talk.handed ≡ handed_in calls
+  -- behind a close of either side so many messages are read at most, those that gave nothing yet counted
+  pub few : reads_behind_close calls ≤ drop_limit
   pub kept : now.session.leftover ≡ kept_with start.session.leftover talk.leftover
+
+-- ---- what the connection's half of a session keeps of it: no promise is stated by it
+
+-- so many more messages may be read behind a close
+pub record TalksOn (start now : LineState) (end : InputEnd) (read text : List ℕ) (failures : ℕ) (talk : Talk) (spare : ℕ) : Type 0 where
+  pub talked : HasTalked start now end read text failures talk
+  pub within : reads_behind_close talked.calls + spare ≤ drop_limit

@@ -1,11 +1,16 @@
 -- What a call of a session does to the lists of its line.
-use Rattle.std.specs.Prelude.{◌≡◌, ℕ, ◌+◌, ◌-◌, ◌^◌, min, Bool, true, false, List, [], ◌∷◌, ◌++◌, Option, Some, None, ⊤}
+use Rattle.std.specs.Prelude.{◌≡◌, ℕ, ◌+◌, ◌-◌, ◌^◌, min, Bool, true, false, List, [], ◌∷◌, ◌++◌, Option, Some, None, ⊤, if◌then◌else◌}
+use Rattle.std.specs.List.{count_by, flat_map}
 use Rattle.asgi_ws.specs.declared.messages.Msg.{Msg}
+use Rattle.asgi_ws.specs.declared.messages.Msg.TheVariants as msg
 use Rattle.asgi_ws.specs.declared.messages.Got.{Got}
 use Rattle.asgi_ws.specs.declared.messages.Got.TheVariants as got
 use Rattle.asgi_ws.specs.declared.messages.Put.{Put}
 use Rattle.asgi_ws.specs.declared.messages.Put.TheVariants as put
 use Rattle.asgi_ws.specs.declared.messages.Handed.{Handed}
+use Rattle.asgi_ws.specs.declared.messages.Handed.TheVariants as item
+use Rattle.asgi_ws.specs.declared.messages.Call.{Call}
+use Rattle.asgi_ws.specs.declared.messages.Call.TheVariants as call
 
 -- the messages that an answer gives: one or none
 abbrev pub given_by : Got → List Msg
@@ -15,21 +20,44 @@ given_by got.Ended = []
 given_by got.Failed = []
 given_by got.NoMemory = []
 
--- the messages that were read, in order
-abbrev pub messages_in : List Got → List Msg
-messages_in [] = []
-messages_in (answer ∷ answers) = given_by answer ++ messages_in answers
-
 -- what went out with an answer: the item or nothing
 abbrev pub taken_by : Handed → Put → List Handed
 taken_by item put.Done = item ∷ []
 taken_by item put.Failed = []
 taken_by item put.NoMemory = []
 
+-- what one call read, and what went out by it
+abbrev pub read_by : Call → List Msg
+read_by (call.Read answer) = given_by answer
+read_by (call.Send item answer) = []
+
+abbrev pub sent_by : Call → List Handed
+sent_by (call.Read answer) = []
+sent_by (call.Send item answer) = taken_by item answer
+
+-- the messages that were read, in order
+abbrev pub messages_in : List Call → List Msg
+messages_in calls = flat_map read_by calls
+
 -- what went out, in order
-abbrev pub handed_in : List (Handed × Put) → List Handed
-handed_in [] = []
-handed_in (sent ∷ more) = taken_by sent.0 sent.1 ++ handed_in more
+abbrev pub handed_in : List Call → List Handed
+handed_in calls = flat_map sent_by calls
+
+-- a close that was read, or that went out (RFC 6455, section 5.5.1)
+abbrev pub is_close : Call → Bool
+is_close (call.Read (got.Message (msg.Close close))) = true
+is_close (call.Send (item.Close code reason) put.Done) = true
+is_close _ = false
+
+abbrev pub is_read : Call → Bool
+is_read (call.Read answer) = true
+is_read (call.Send item answer) = false
+
+-- How many reads stand behind the first close. No data follows a close (RFC 6455, section 5.5.1), and who closes the connection
+-- discards what is still received (section 7.1.1); how much of it is read is the limit of this server.
+abbrev pub reads_behind_close : List Call → ℕ
+reads_behind_close [] = 0
+reads_behind_close (c ∷ calls) = if is_close c then count_by is_read calls else reads_behind_close calls
 
 abbrev pub is_failed : Got → Bool
 is_failed (got.Message m) = false

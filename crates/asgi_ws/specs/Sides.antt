@@ -3,13 +3,10 @@ use Rattle.std.specs.Prelude.{◌≡◌, ℕ, List, Option, ◌⊎◌}
 use Rattle.std.proofs.Common.{ap, sym, ◌∙◌, inl, inr}
 use Rattle.asgi_io.specs.declared.answer.Answer.{Answer}
 use Rattle.asgi_ws.specs.declared.messages.Msg.{Msg}
-use Rattle.asgi_ws.specs.declared.messages.Got.{Got}
-use Rattle.asgi_ws.specs.declared.messages.Put.{Put}
-use Rattle.asgi_ws.specs.declared.messages.Handed.{Handed}
+use Rattle.asgi_ws.specs.declared.messages.Call.{Call}
 
 pub record Session : Type 0 where
-  pub read_answers : List Got
-  pub send_answers : List (Handed × Put)
+  pub calls : List Call
   pub coming : Option (List Msg)
   pub leftover : Option (List ℕ)
 
@@ -34,14 +31,11 @@ read_side same = (ap (λ (s : ReadSide). s.remaining) same, ap (λ (s : ReadSide
 pub write_side : {old new : WriteSide} → new ≡ old → (new.written ≡ old.written) × ((new.failed ≡ old.failed) × (new.answers ≡ old.answers))
 write_side same = (ap (λ (s : WriteSide). s.written) same, (ap (λ (s : WriteSide). s.failed) same, ap (λ (s : WriteSide). s.answers) same))
 
-pub same_session : {old new : Session} → new ≡ old
-    → (new.read_answers ≡ old.read_answers) × ((new.send_answers ≡ old.send_answers) × ((new.coming ≡ old.coming) × (new.leftover ≡ old.leftover)))
-same_session same =
-    (ap (λ (s : Session). s.read_answers) same, (ap (λ (s : Session). s.send_answers) same, (ap (λ (s : Session). s.coming) same, ap (λ (s : Session). s.leftover) same)))
+pub same_session : {old new : Session} → new ≡ old → (new.calls ≡ old.calls) × ((new.coming ≡ old.coming) × (new.leftover ≡ old.leftover))
+same_session same = (ap (λ (s : Session). s.calls) same, (ap (λ (s : Session). s.coming) same, ap (λ (s : Session). s.leftover) same))
 
 -- either side holds the session
 pub session_beside : {w v : WriteSide} {r s : ReadSide} → (v ≡ w) ⊎ (s ≡ r) → w.session ≡ r.session → v.session ≡ s.session
-    → (v.session.read_answers ≡ w.session.read_answers) × ((v.session.send_answers ≡ w.session.send_answers)
-    × ((v.session.coming ≡ w.session.coming) × (v.session.leftover ≡ w.session.leftover)))
+    → (v.session.calls ≡ w.session.calls) × ((v.session.coming ≡ w.session.coming) × (v.session.leftover ≡ w.session.leftover))
 session_beside (inl same) before after = same_session (ap (λ (s : WriteSide). s.session) same)
 session_beside (inr same) before after = same_session (after ∙ ap (λ (s : ReadSide). s.session) same ∙ sym before)

@@ -3,6 +3,7 @@
 #![tactic(auto)]
 
 mod accept;
+mod calls;
 mod convert;
 mod handshake;
 mod laws;
@@ -20,7 +21,7 @@ pub use accept::accept_value;
 pub use handshake::{accept_text, denied_text};
 pub use laws::{accept_value_example, handshake_is_read_back, headers_are_read_back};
 pub use lists::Turn;
-pub use messages::{Got, Handed, Line, Messages, Msg, Put};
+pub use messages::{Call, Got, Handed, Line, Messages, Msg, Put};
 pub use pieces::Piece;
 pub use script::Script;
 pub use stream::{Pair, Stream};

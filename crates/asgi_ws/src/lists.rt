@@ -3,10 +3,12 @@ ghost use Rattle.std.specs.Prelude.{◌≡◌, ◌≢◌, IsTrue, IsSome, ◌<�
 ghost use Rattle.std.specs.Vec.{vec_len, vec_capacity};
 ghost use Rattle.asgi_ws.specs.declared.messages.Got.TheVariants as got;
 ghost use Rattle.asgi_ws.specs.declared.messages.Put.TheVariants as put;
+ghost use Rattle.asgi_ws.specs.declared.messages.Call.TheVariants as call;
 ghost use Rattle.asgi_ws.specs.Scripts.{messages_of, first_message};
 ghost use Rattle.asgi_ws.specs.Sessions.{given_by, messages_in, handed_in, EndsAt};
 
-use crate::messages::{Got, Handed, Msg, Put};
+use crate::calls::{note_read, note_send};
+use crate::messages::{Call, Got, Handed, Msg, Put};
 use asgi_io::History;
 use std::alloc::{AllocError, Global};
 use std::collections::VecDeque;
@@ -21,43 +23,64 @@ pub enum Turn {
     Fault,
 }
 
-/// The messages that were read, and how each read was answered.
+/// What went by in a session: each call, the messages that were read, and what went out.
 #[derive(Drop)]
-pub struct Received {
-    pub messages: Vec<Msg>,
-    pub answers: History<Got>,
-    ghost kept: { messages.items ≡ messages_in answers.items },
+pub struct Lists {
+    pub calls: History<Call>,
+    pub received: Vec<Msg>,
+    pub handed: Vec<Handed>,
+    // How many sends succeed; None: all.
+    pub left: Option<u64>,
+    ghost read: { received.items ≡ messages_in calls.items },
+    ghost sent: { handed.items ≡ handed_in calls.items },
 }
 
-impl Received {
-    /// No message was read yet.
+impl Lists {
+    /// Nothing went by yet.
     pub fn new(alloc: Global) -> Self
-        ensures { result.answers.items ≡ [] }
+        ensures { (result.calls.items ≡ []) × (result.left ≡ None) }
     {
-        Received {
-            messages: Vec::new(alloc),
-            answers: History::new(),
+        Lists {
+            calls: History::new(),
+            received: Vec::new(alloc),
+            handed: Vec::new(alloc),
+            left: None,
         }
     }
 
-    /// The next turn.
+    /// Reads the next turn.
     pub fn next(&mut self, alloc: Global, turns: &mut VecDeque<Turn>) -> Got
-        ensures told { self.new.answers.items ≡ self.old.answers.items ++ result ∷ [] }
+        ensures told { self.new.calls.items ≡ self.old.calls.items ++ call.Read result ∷ [] }
         ensures gives { messages_of turns.old.items ≡ given_by result ++ messages_of turns.new.items }
         ensures ends { EndsAt result (Some (messages_of turns.new.items)) }
     {
-        let answer = next_turn(alloc, turns, &mut self.messages);
-        self.answers = History::with(&self.answers, &answer);
-        answer
+        let answer = next_turn(alloc, turns, &mut self.received);
+        note_read(&mut self.calls, answer)
     }
 
     /// A read that fails.
     pub fn fail(&mut self) -> Got
         ensures answer { result ≡ got.Failed }
-        ensures told { self.new.answers.items ≡ self.old.answers.items ++ got.Failed ∷ [] }
+        ensures told { self.new.calls.items ≡ self.old.calls.items ++ call.Read got.Failed ∷ [] }
     {
-        let answer = Got::Failed;
-        self.answers = History::with(&self.answers, &answer);
+        note_read(&mut self.calls, Got::Failed)
+    }
+
+    /// Takes what is handed over, where the line is open and not every send that succeeds was made.
+    pub fn hand_over(&mut self, is_open: bool, item: Handed) -> Put
+        ensures told { self.new.calls.items ≡ self.old.calls.items ++ call.Send item result ∷ [] }
+        ensures shut { is_open ≡ false → result ≡ put.Failed }
+    {
+        let answer = answer_to(is_open, &mut self.left, &mut self.handed);
+        let item = note_send(&mut self.calls, item, answer);
+        match answer {
+            Put::Done => match self.handed.push(item) {
+                Ok(()) => {}
+                Err(_) => unreachable!(),
+            },
+            Put::Failed => {}
+            Put::NoMemory => {}
+        }
         answer
     }
 }
@@ -97,51 +120,6 @@ fn keep_next(
         Some(Turn::Idle) => Ok(()),
         Some(Turn::Fault) => Ok(()),
         None => Ok(()),
-    }
-}
-
-/// What went out, and how each send was answered.
-#[derive(Drop)]
-pub struct Sent {
-    pub items: Vec<Handed>,
-    // How many sends succeed; None: all.
-    pub left: Option<u64>,
-    pub answers: History<(Handed, Put)>,
-    ghost kept: { items.items ≡ handed_in answers.items },
-}
-
-impl Sent {
-    /// Nothing went out yet.
-    pub fn new(alloc: Global) -> Self
-        ensures { (result.answers.items ≡ []) × (result.left ≡ None) }
-    {
-        Sent {
-            items: Vec::new(alloc),
-            left: None,
-            answers: History::new(),
-        }
-    }
-
-    /// Takes what is handed over, where the line is open and not every send that succeeds was made.
-    pub fn hand_over(&mut self, is_open: bool, item: Handed) -> Put
-        ensures told { self.new.answers.items ≡ self.old.answers.items ++ (item, result) ∷ [] }
-        ensures shut { is_open ≡ false → result ≡ put.Failed }
-    {
-        let answer = answer_to(is_open, &mut self.left, &mut self.items);
-        let sent = (item, answer);
-        self.answers = History::with(&self.answers, &sent);
-        match answer {
-            Put::Done => {
-                let (item, _) = sent;
-                match self.items.push(item) {
-                    Ok(()) => {}
-                    Err(_) => unreachable!(),
-                }
-            }
-            Put::Failed => {}
-            Put::NoMemory => {}
-        }
-        answer
     }
 }
 

@@ -1,12 +1,11 @@
 //! The messages of a session, and the line that carries the text of a connection and then messages.
 ghost use Rattle.std.specs.Prelude.{◌≡◌, ℕ, ◌⊎◌, List, [], ◌∷◌, ◌++◌, Option, None, IsSome, IfOk};
 ghost use Rattle.asgi_ws.specs.declared.messages.Msg.{Msg};
-ghost use Rattle.asgi_ws.specs.declared.messages.Got.{Got};
 ghost use Rattle.asgi_ws.specs.declared.messages.Got.TheVariants as got;
-ghost use Rattle.asgi_ws.specs.declared.messages.Put.{Put};
 ghost use Rattle.asgi_ws.specs.declared.messages.Put.TheVariants as put;
-ghost use Rattle.asgi_ws.specs.declared.messages.Handed.{Handed};
 ghost use Rattle.asgi_ws.specs.declared.messages.Handed.TheVariants as item;
+ghost use Rattle.asgi_ws.specs.declared.messages.Call.{Call};
+ghost use Rattle.asgi_ws.specs.declared.messages.Call.TheVariants as call;
 ghost use Rattle.asgi_ws.specs.Sessions.{given_by, is_failed, has_failed, count_after, Loses, EndsAt, kept_by};
 
 use asgi_io::{Counts, Reads};
@@ -72,13 +71,17 @@ pub enum Handed {
     Close(u16, Reason),
 }
 
-/// Messages in and out, told answer by answer. Before `upgrade` of `Line` each call answers Failed.
-pub trait Messages: Reads + Counts {
-    /// How each read of a message was answered, the oldest first.
-    ghost read_answers: { Self → List Got };
+/// A call of a session, with its answer.
+#[derive(Debug, Drop)]
+pub enum Call {
+    Read(Got),
+    Send(Handed, Put),
+}
 
-    /// What was handed over and how that was answered, the oldest first.
-    ghost send_answers: { Self → List (Handed × Put) };
+/// Messages in and out, told call by call. Before `upgrade` of `Line` each call answers Failed.
+pub trait Messages: Reads + Counts {
+    /// The reads and the sends, each with its answer, the oldest first.
+    ghost calls: { Self → List Call };
 
     /// The messages that reads will give from here on, where they are known.
     ghost coming: { Self → Option (List Msg) };
@@ -88,29 +91,29 @@ pub trait Messages: Reads + Counts {
 
     /// The next message.
     fn read_message(&mut self) -> Got
-        ensures told { read_answers self.new ≡ read_answers self.old ++ result ∷ [] }
+        ensures told { calls self.new ≡ calls self.old ++ call.Read result ∷ [] }
         ensures coming { Loses (coming self.old) (coming self.new) (given_by result) × EndsAt result (coming self.new) }
         ensures counts { Self.failed self.new ≡ count_after (Self.failed self.old) (is_failed result) }
         ensures shut { leftover self.old ≡ None → result ≡ got.Failed }
-        ensures same { (send_answers self.new ≡ send_answers self.old) × (leftover self.new ≡ leftover self.old) }
+        ensures same { leftover self.new ≡ leftover self.old }
         ensures text { (Self.remaining self.new ≡ Self.remaining self.old) × (Self.written self.new ≡ Self.written self.old)
             × (Self.Reads.answers self.new ≡ Self.Reads.answers self.old) × (Self.Counts.answers self.new ≡ Self.Counts.answers self.old) };
 
     /// Sends a payload.
     fn send_message(&mut self, payload: Payload) -> Put
-        ensures told { send_answers self.new ≡ send_answers self.old ++ (item.Payload payload, result) ∷ [] }
+        ensures told { calls self.new ≡ calls self.old ++ call.Send (item.Payload payload) result ∷ [] }
         ensures counts { Self.failed self.new ≡ count_after (Self.failed self.old) (has_failed result) }
         ensures shut { leftover self.old ≡ None → result ≡ put.Failed }
-        ensures same { (read_answers self.new ≡ read_answers self.old) × (coming self.new ≡ coming self.old) × (leftover self.new ≡ leftover self.old) }
+        ensures same { (coming self.new ≡ coming self.old) × (leftover self.new ≡ leftover self.old) }
         ensures text { (Self.remaining self.new ≡ Self.remaining self.old) × (Self.written self.new ≡ Self.written self.old)
             × (Self.Reads.answers self.new ≡ Self.Reads.answers self.old) × (Self.Counts.answers self.new ≡ Self.Counts.answers self.old) };
 
     /// Sends a close.
     fn send_close(&mut self, code: u16, reason: Reason) -> Put
-        ensures told { send_answers self.new ≡ send_answers self.old ++ (item.Close code reason, result) ∷ [] }
+        ensures told { calls self.new ≡ calls self.old ++ call.Send (item.Close code reason) result ∷ [] }
         ensures counts { Self.failed self.new ≡ count_after (Self.failed self.old) (has_failed result) }
         ensures shut { leftover self.old ≡ None → result ≡ put.Failed }
-        ensures same { (read_answers self.new ≡ read_answers self.old) × (coming self.new ≡ coming self.old) × (leftover self.new ≡ leftover self.old) }
+        ensures same { (coming self.new ≡ coming self.old) × (leftover self.new ≡ leftover self.old) }
         ensures text { (Self.remaining self.new ≡ Self.remaining self.old) × (Self.written self.new ≡ Self.written self.old)
             × (Self.Reads.answers self.new ≡ Self.Reads.answers self.old) × (Self.Counts.answers self.new ≡ Self.Counts.answers self.old) };
 }
@@ -123,8 +126,7 @@ pub trait Line: Messages {
     fn upgrade(&mut self, leftover: Vec<u8>)
         ensures keeps { Self.leftover self.new ≡ kept_by (Self.leftover self.old) leftover.items }
         ensures again { IsSome (Self.leftover self.old) → self.new ≡ self.old }
-        ensures session { (Self.read_answers self.new ≡ Self.read_answers self.old) × (Self.send_answers self.new ≡ Self.send_answers self.old)
-            × (Self.coming self.new ≡ Self.coming self.old) }
+        ensures session { (Self.calls self.new ≡ Self.calls self.old) × (Self.coming self.new ≡ Self.coming self.old) }
         ensures counts { Self.failed self.new ≡ Self.failed self.old }
         ensures text { (Self.remaining self.new ≡ Self.remaining self.old) × (Self.written self.new ≡ Self.written self.old)
             × (Self.Reads.answers self.new ≡ Self.Reads.answers self.old) × (Self.Counts.answers self.new ≡ Self.Counts.answers self.old) };
@@ -138,6 +140,5 @@ pub trait Line: Messages {
 
     // Both leave the session.
     ghost session_stays: { (old new : Self) → (Self.Reads.beside new ≡ Self.Reads.beside old) ⊎ (Self.Counts.beside new ≡ Self.Counts.beside old)
-        → (Self.read_answers new ≡ Self.read_answers old) × ((Self.send_answers new ≡ Self.send_answers old)
-        × ((Self.coming new ≡ Self.coming old) × (Self.leftover new ≡ Self.leftover old))) };
+        → (Self.calls new ≡ Self.calls old) × ((Self.coming new ≡ Self.coming old) × (Self.leftover new ≡ Self.leftover old)) };
 }

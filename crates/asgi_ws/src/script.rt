@@ -7,7 +7,7 @@ ghost use Rattle.asgi_io.specs.Counting.{CountsFailures};
 ghost use Rattle.asgi_ws.specs.Scripts.{bytes_of, messages_of, IsHeldUp};
 ghost use Rattle.asgi_ws.specs.Sessions.{messages_in, handed_in};
 
-use crate::lists::{Received, Sent, Turn, is_allowed};
+use crate::lists::{Lists, Turn, is_allowed};
 use crate::messages::{Got, Handed, Line, Messages, Msg, Put};
 use crate::pieces::{Piece, Pieces};
 use crate::tally::Tally;
@@ -29,8 +29,7 @@ pub struct Script {
     text: Vec<u8>,
     leftover: Option<Vec<u8>>,
     tally: Tally,
-    received: Received,
-    sent: Sent,
+    lists: Lists,
 }
 
 impl Script {
@@ -38,9 +37,9 @@ impl Script {
     pub fn new(alloc: Global, pieces: VecDeque<Piece>, turns: VecDeque<Turn>) -> Self
         ensures pieces { (result.pieces.current.items ≡ []) × (result.pieces.pieces ≡ pieces) }
         ensures turns { result.turns ≡ turns }
-        ensures nothing { (result.text.items ≡ []) × (result.received.answers.items ≡ []) × (result.sent.answers.items ≡ []) }
+        ensures nothing { (result.text.items ≡ []) × (result.lists.calls.items ≡ []) }
         ensures fresh { (result.leftover ≡ None) × (result.tally.failures ≡ 0) × (result.tally.reads.items ≡ []) × (result.tally.writes.items ≡ []) }
-        ensures takes_all { (result.writes_left ≡ None) × (result.sent.left ≡ None) }
+        ensures takes_all { (result.writes_left ≡ None) × (result.lists.left ≡ None) }
     {
         Script {
             alloc,
@@ -51,8 +50,7 @@ impl Script {
             text: Vec::new(alloc),
             leftover: None,
             tally: Tally::new(),
-            received: Received::new(alloc),
-            sent: Sent::new(alloc),
+            lists: Lists::new(alloc),
         }
     }
 
@@ -67,10 +65,10 @@ impl Script {
 
     /// So many sends succeed; from then on each fails.
     pub fn failing_send(mut self, after: u64) -> Self
-        ensures sends { result.sent.left ≡ Some after }
-        ensures same { (result.sent.answers ≡ self.sent.answers) × (result ≡ record self { sent = result.sent }) }
+        ensures sends { result.lists.left ≡ Some after }
+        ensures same { (result.lists.calls ≡ self.lists.calls) × (result ≡ record self { lists = result.lists }) }
     {
-        self.sent.left = Some(after);
+        self.lists.left = Some(after);
         self
     }
 
@@ -93,16 +91,16 @@ impl Script {
 
     /// The messages that were read, the oldest first.
     pub fn received(&self) -> &[Msg]
-        ensures { result.now ≡ messages_in self.now.received.answers.items }
+        ensures { result.now ≡ messages_in self.now.lists.calls.items }
     {
-        self.received.messages.as_slice()
+        self.lists.received.as_slice()
     }
 
     /// What went out, the oldest first.
     pub fn handed(&self) -> &[Handed]
-        ensures { result.now ≡ handed_in self.now.sent.answers.items }
+        ensures { result.now ≡ handed_in self.now.lists.calls.items }
     {
-        self.sent.items.as_slice()
+        self.lists.handed.as_slice()
     }
 }
 
@@ -123,7 +121,7 @@ impl Reads for Script {
       written = Some s.text.items;
       failed = s.tally.failures;
       answers = s.tally.writes.items;
-      session = record { read_answers = s.received.answers.items; send_answers = s.sent.answers.items; coming = Some (messages_of s.turns.items); leftover = option_map (λ v. v.items) s.leftover };
+      session = record { calls = s.lists.calls.items; coming = Some (messages_of s.turns.items); leftover = option_map (λ v. v.items) s.leftover };
     } };
 
     fn read_some(&mut self, buf: &mut [u8]) -> io::Result<usize>
@@ -164,7 +162,7 @@ impl Counts for Script {
     ghost beside = { λ s. record {
       remaining = Some (drop s.pieces.at s.pieces.current.items ++ bytes_of s.pieces.pieces.items);
       answers = s.tally.reads.items;
-      session = record { read_answers = s.received.answers.items; send_answers = s.sent.answers.items; coming = Some (messages_of s.turns.items); leftover = option_map (λ v. v.items) s.leftover };
+      session = record { calls = s.lists.calls.items; coming = Some (messages_of s.turns.items); leftover = option_map (λ v. v.items) s.leftover };
     } };
 
     fn write_some(&mut self, bytes: &[u8]) -> io::Result<usize>
@@ -206,9 +204,7 @@ impl Script {
 }
 
 impl Messages for Script {
-    ghost read_answers = { λ s. s.received.answers.items };
-
-    ghost send_answers = { λ s. s.sent.answers.items };
+    ghost calls = { λ s. s.lists.calls.items };
 
     ghost coming = { λ s. Some (messages_of s.turns.items) };
 
@@ -217,9 +213,9 @@ impl Messages for Script {
     fn read_message(&mut self) -> Got {
         if self.leftover.is_none() {
             self.tally.note_failure();
-            return self.received.fail();
+            return self.lists.fail();
         }
-        let answer = self.received.next(self.alloc, &mut self.turns);
+        let answer = self.lists.next(self.alloc, &mut self.turns);
         if let Got::Failed = &answer {
             self.tally.note_failure();
         }
@@ -238,15 +234,16 @@ impl Messages for Script {
 impl Script {
     ghost use Rattle.asgi_ws.specs.Sessions.{has_failed, count_after};
     ghost use Rattle.asgi_ws.specs.declared.messages.Put.TheVariants as put;
+    ghost use Rattle.asgi_ws.specs.declared.messages.Call.TheVariants as call;
 
     fn hand_over(&mut self, item: Handed) -> Put
-        ensures told { self.new.sent.answers.items ≡ self.old.sent.answers.items ++ (item, result) ∷ [] }
+        ensures told { self.new.lists.calls.items ≡ self.old.lists.calls.items ++ call.Send item result ∷ [] }
         ensures counts { self.new.tally.failures ≡ count_after self.old.tally.failures (has_failed result) }
         ensures shut { self.old.leftover ≡ None → result ≡ put.Failed }
-        ensures stays { self.new ≡ record self.old { sent = self.new.sent; tally = self.new.tally } }
+        ensures stays { self.new ≡ record self.old { lists = self.new.lists; tally = self.new.tally } }
         ensures text { (self.new.tally.reads ≡ self.old.tally.reads) × (self.new.tally.writes ≡ self.old.tally.writes) }
     {
-        let answer = self.sent.hand_over(self.leftover.is_some(), item);
+        let answer = self.lists.hand_over(self.leftover.is_some(), item);
         if answer == Put::Failed {
             self.tally.note_failure();
         }

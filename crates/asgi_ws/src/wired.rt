@@ -6,7 +6,8 @@ ghost use Rattle.asgi_io.specs.Answers.{answer_of};
 ghost use Rattle.asgi_io.specs.Counting.{CountsFailures};
 ghost use Rattle.asgi_ws.specs.Wires.{told_by, leftover_by};
 
-use crate::messages::{Got, Handed, Line, Messages, Put};
+use crate::calls::{note_read, note_send};
+use crate::messages::{Call, Got, Handed, Line, Messages, Put};
 use crate::session::{Session, close, read, send, session_on};
 use crate::stream::Stream;
 use crate::tally::Tally;
@@ -27,16 +28,14 @@ pub struct Wired<S> {
     before: History<S>,
     kept: History<Octets>,
     tally: Tally,
-    read_answers: History<Got>,
-    send_answers: History<(Handed, Put)>,
+    calls: History<Call>,
 }
 
 impl<S> Wired<S> {
     /// A line of text over the stream.
     pub fn new(alloc: Global, stream: S) -> Self
         ensures stream { result.stream ≡ Some stream }
-        ensures nothing { (result.read_answers.items ≡ []) × (result.send_answers.items ≡ []) × (result.tally.failures ≡ 0)
-            × (result.tally.reads.items ≡ []) × (result.tally.writes.items ≡ []) }
+        ensures nothing { (result.calls.items ≡ []) × (result.tally.failures ≡ 0) × (result.tally.reads.items ≡ []) × (result.tally.writes.items ≡ []) }
     {
         Wired {
             alloc,
@@ -45,8 +44,7 @@ impl<S> Wired<S> {
             before: History::new(),
             kept: History::new(),
             tally: Tally::new(),
-            read_answers: History::new(),
-            send_answers: History::new(),
+            calls: History::new(),
         }
     }
 }
@@ -106,7 +104,7 @@ impl<S: Stream> Reads for Wired<S> {
       written = told_by S.contents w.stream w.before.items;
       failed = w.tally.failures;
       answers = w.tally.writes.items;
-      session = record { read_answers = w.read_answers.items; send_answers = w.send_answers.items; coming = None; leftover = leftover_by w.stream w.kept.items };
+      session = record { calls = w.calls.items; coming = None; leftover = leftover_by w.stream w.kept.items };
     } };
 
     fn read_some(&mut self, buf: &mut [u8]) -> io::Result<usize>
@@ -115,8 +113,7 @@ impl<S: Stream> Reads for Wired<S> {
         ensures told { self.new.tally.reads.items ≡ self.old.tally.reads.items ++ answer_of (length buf.new) result ∷ [] }
         ensures written { told_by S.contents self.new.stream self.new.before.items ≡ told_by S.contents self.old.stream self.old.before.items }
         ensures counts { (self.new.tally.failures ≡ self.old.tally.failures) × (self.new.tally.writes ≡ self.old.tally.writes) }
-        ensures session { (self.new.read_answers ≡ self.old.read_answers) × (self.new.send_answers ≡ self.old.send_answers)
-            × (leftover_by self.new.stream self.new.kept.items ≡ leftover_by self.old.stream self.old.kept.items) }
+        ensures session { (self.new.calls ≡ self.old.calls) × (leftover_by self.new.stream self.new.kept.items ≡ leftover_by self.old.stream self.old.kept.items) }
         ensures closed { IsNone self.old.stream → IsErr result }
     {
         let read = read_text(&mut self.stream, buf);
@@ -143,7 +140,7 @@ impl<S: Stream> Counts for Wired<S> {
     ghost beside = { λ w. record {
       remaining = told_by S.remaining w.stream w.before.items;
       answers = w.tally.reads.items;
-      session = record { read_answers = w.read_answers.items; send_answers = w.send_answers.items; coming = None; leftover = leftover_by w.stream w.kept.items };
+      session = record { calls = w.calls.items; coming = None; leftover = leftover_by w.stream w.kept.items };
     } };
 
     fn write_some(&mut self, bytes: &[u8]) -> io::Result<usize>
@@ -153,8 +150,7 @@ impl<S: Stream> Counts for Wired<S> {
         ensures told { self.new.tally.writes.items ≡ self.old.tally.writes.items ++ answer_of (length bytes.now) result ∷ [] }
         ensures remaining { told_by S.remaining self.new.stream self.new.before.items ≡ told_by S.remaining self.old.stream self.old.before.items }
         ensures reads { self.new.tally.reads ≡ self.old.tally.reads }
-        ensures session { (self.new.read_answers ≡ self.old.read_answers) × (self.new.send_answers ≡ self.old.send_answers)
-            × (leftover_by self.new.stream self.new.kept.items ≡ leftover_by self.old.stream self.old.kept.items) }
+        ensures session { (self.new.calls ≡ self.old.calls) × (leftover_by self.new.stream self.new.kept.items ≡ leftover_by self.old.stream self.old.kept.items) }
         ensures closed { IsNone self.old.stream → IsErr result }
     {
         let wrote = write_text(&mut self.stream, bytes);
@@ -171,12 +167,11 @@ impl<S: Stream + Drop> Messages for Wired<S> {
     ghost use Rattle.asgi_ws.specs.declared.messages.Got.TheVariants as got;
     ghost use Rattle.asgi_ws.specs.declared.messages.Put.TheVariants as put;
     ghost use Rattle.asgi_ws.specs.declared.messages.Handed.TheVariants as item;
+    ghost use Rattle.asgi_ws.specs.declared.messages.Call.TheVariants as call;
     ghost use Rattle.asgi_ws.specs.Sessions.{is_failed, has_failed, count_after};
     ghost use Rattle.asgi_ws.specs.Wires.{AnswersRead, IsSent, IfDone, IfFailed, IsRefused, payload_step, closing_step};
 
-    ghost read_answers = { λ w. w.read_answers.items };
-
-    ghost send_answers = { λ w. w.send_answers.items };
+    ghost calls = { λ w. w.calls.items };
 
     ghost coming = { λ _. None };
 
@@ -185,31 +180,30 @@ impl<S: Stream + Drop> Messages for Wired<S> {
     fn read_message(&mut self) -> Got
         ensures answers { IsNone self.old.stream → AnswersRead (λ t. S.remaining t.stream) self.old.session self.new.session result }
         ensures shut { IsSome self.old.stream → result ≡ got.Failed }
-        ensures kept { self.new.read_answers.items ≡ self.old.read_answers.items ++ result ∷ [] }
+        ensures kept { self.new.calls.items ≡ self.old.calls.items ++ call.Read result ∷ [] }
         ensures after { self.new.tally.failures ≡ count_after self.old.tally.failures (is_failed result) }
         ensures stays { (self.new.stream ≡ self.old.stream) × (self.new.before ≡ self.old.before) × (self.new.kept ≡ self.old.kept)
-            × (self.new.send_answers ≡ self.old.send_answers) × (self.new.tally.reads ≡ self.old.tally.reads) × (self.new.tally.writes ≡ self.old.tally.writes) }
+            × (self.new.tally.reads ≡ self.old.tally.reads) × (self.new.tally.writes ≡ self.old.tally.writes) }
     {
         let answer = if self.stream.is_some() {
             Got::Failed
         } else {
             read(self.alloc, &mut self.session)
         };
-        self.read_answers = History::with(&self.read_answers, &answer);
         if let Got::Failed = &answer {
             self.tally.note_failure();
         }
-        answer
+        note_read(&mut self.calls, answer)
     }
 
     fn send_message(&mut self, payload: Payload) -> Put
         ensures sent { IfDone result (IsSent (λ t. S.contents t.stream) self.old.session self.new.session (payload_step payload)) }
         ensures refused { IsNone self.old.stream → IfFailed result (IsRefused self.old.session (payload_step payload)) }
         ensures shut { IsSome self.old.stream → result ≡ put.Failed }
-        ensures kept { self.new.send_answers.items ≡ self.old.send_answers.items ++ (item.Payload payload, result) ∷ [] }
+        ensures kept { self.new.calls.items ≡ self.old.calls.items ++ call.Send (item.Payload payload) result ∷ [] }
         ensures after { self.new.tally.failures ≡ count_after self.old.tally.failures (has_failed result) }
         ensures stays { (self.new.stream ≡ self.old.stream) × (self.new.before ≡ self.old.before) × (self.new.kept ≡ self.old.kept)
-            × (self.new.read_answers ≡ self.old.read_answers) × (self.new.tally.reads ≡ self.old.tally.reads) × (self.new.tally.writes ≡ self.old.tally.writes) }
+            × (self.new.tally.reads ≡ self.old.tally.reads) × (self.new.tally.writes ≡ self.old.tally.writes) }
     {
         let answer = if self.stream.is_some() {
             Put::Failed
@@ -223,10 +217,10 @@ impl<S: Stream + Drop> Messages for Wired<S> {
         ensures sent { IfDone result (IsSent (λ t. S.contents t.stream) self.old.session self.new.session (closing_step code reason)) }
         ensures refused { IsNone self.old.stream → IfFailed result (IsRefused self.old.session (closing_step code reason)) }
         ensures shut { IsSome self.old.stream → result ≡ put.Failed }
-        ensures kept { self.new.send_answers.items ≡ self.old.send_answers.items ++ (item.Close code reason, result) ∷ [] }
+        ensures kept { self.new.calls.items ≡ self.old.calls.items ++ call.Send (item.Close code reason) result ∷ [] }
         ensures after { self.new.tally.failures ≡ count_after self.old.tally.failures (has_failed result) }
         ensures stays { (self.new.stream ≡ self.old.stream) × (self.new.before ≡ self.old.before) × (self.new.kept ≡ self.old.kept)
-            × (self.new.read_answers ≡ self.old.read_answers) × (self.new.tally.reads ≡ self.old.tally.reads) × (self.new.tally.writes ≡ self.old.tally.writes) }
+            × (self.new.tally.reads ≡ self.old.tally.reads) × (self.new.tally.writes ≡ self.old.tally.writes) }
     {
         let answer = if self.stream.is_some() {
             Put::Failed
@@ -238,17 +232,18 @@ impl<S: Stream + Drop> Messages for Wired<S> {
 }
 
 impl<S: Stream + Drop> Wired<S> {
+    ghost use Rattle.asgi_ws.specs.declared.messages.Call.TheVariants as call;
     ghost use Rattle.asgi_ws.specs.Sessions.{has_failed, count_after};
 
     // Keeps what was handed over and its answer, and counts a failure.
     fn note(&mut self, answer: Put, item: Handed) -> Put
         ensures answer { result ≡ answer }
-        ensures kept { self.new.send_answers.items ≡ self.old.send_answers.items ++ (item, answer) ∷ [] }
+        ensures kept { self.new.calls.items ≡ self.old.calls.items ++ call.Send item answer ∷ [] }
         ensures after { self.new.tally.failures ≡ count_after self.old.tally.failures (has_failed answer) }
         ensures stays { (self.new.stream ≡ self.old.stream) × (self.new.session ≡ self.old.session) × (self.new.before ≡ self.old.before) × (self.new.kept ≡ self.old.kept)
-            × (self.new.read_answers ≡ self.old.read_answers) × (self.new.tally.reads ≡ self.old.tally.reads) × (self.new.tally.writes ≡ self.old.tally.writes) }
+            × (self.new.tally.reads ≡ self.old.tally.reads) × (self.new.tally.writes ≡ self.old.tally.writes) }
     {
-        self.send_answers = History::with(&self.send_answers, &(item, answer));
+        let _item = note_send(&mut self.calls, item, answer);
         if answer == Put::Failed {
             self.tally.note_failure();
         }
@@ -266,7 +261,7 @@ impl<S: Stream + Drop> Line for Wired<S> {
         ensures begins { BeginsSession self.old.stream self.new.stream self.new.session leftover.items }
         ensures again { IsNone self.old.stream → self.new ≡ self.old }
         ensures keeps { leftover_by self.new.stream self.new.kept.items ≡ kept_by (leftover_by self.old.stream self.old.kept.items) leftover.items }
-        ensures same { (self.new.read_answers ≡ self.old.read_answers) × (self.new.send_answers ≡ self.old.send_answers) × (self.new.tally ≡ self.old.tally) }
+        ensures same { (self.new.calls ≡ self.old.calls) × (self.new.tally ≡ self.old.tally) }
         ensures text { (told_by S.remaining self.new.stream self.new.before.items ≡ told_by S.remaining self.old.stream self.old.before.items)
             × (told_by S.contents self.new.stream self.new.before.items ≡ told_by S.contents self.old.stream self.old.before.items) }
     {

@@ -27,5 +27,5 @@ returns g c = record {
       accepted scene (state_of g.L.Reads g.L.Counts g.L.Messages c.args.line.now) c.args.self.now read view before x c.requires.running c.args.event.now c.requires.accepts pass judged
       (state_of g.L.Reads g.L.Counts g.L.Messages c.write.new.line) c.deref.result.now (c.deref.ensures.value ∙ c.in-Ok.ensures.text) c.write.ensures.reads.0 c.write.ensures.reads.1 c.write.ensures.session
       e.none.0 e.none.1 e.tries (state_of g.L.Reads g.L.Counts g.L.Messages c.upgrade.new.self) (record c.args.self.now { leftover = c.replace.new.dest }) c.replace.result.items
-      (record { left = u.text.0; written = u.text.1; reads = u.text.2; writes = u.text.3 }) u.keeps (ap (λ (v : Vec ℕ Global). v.items) c.replace.ensures.value) u.counts u.session.0 u.session.1 u.session.2;
+      (record { left = u.text.0; written = u.text.1; reads = u.text.2; writes = u.text.3 }) u.keeps (ap (λ (v : Vec ℕ Global). v.items) c.replace.ensures.value) u.counts u.session.0 u.session.1;
 }

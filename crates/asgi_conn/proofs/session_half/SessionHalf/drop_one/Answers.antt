@@ -1,4 +1,4 @@
-use Rattle.std.proofs.Common.{◌-◌, ◌∙◌, true, ap, refl, sym}
+use Rattle.std.proofs.Common.{◌∙◌, true, ap, arith, refl, sym}
 use Rattle.asgi_conn.specs.Lines.{state_of}
 use Rattle.asgi_conn.specs.Talking.{is_end}
 use Rattle.asgi_conn.proofs.SessionReadLemmas.{HasRead, has_read, leads_dropped, out_none}
@@ -11,9 +11,9 @@ returns-then-self-clause-leads g c = out_none (state_of g.L.Reads g.L.Counts g.L
 pub returns-in-Idle-clause-leads : goal.returns-in-Idle-clause-leads
 returns-in-Idle-clause-leads g c =
     leads_dropped (state_of g.L.Reads g.L.Counts g.L.Messages c.args.line.now) (state_of g.L.Reads g.L.Counts g.L.Messages c.read_message.new.self) c.args.self.now _ c.read_message.result
-    c.args.self.now.is_over (c.args.self.now.spare_reads - 1) c.requires.may c.if-self.false
+    c.args.self.now.is_over _ c.requires.may c.if-self.false
     (has_read _ g.L.Reads g.L.Counts g.L.Messages c.args.line.now c.read_message.new.self c.read_message.result c.read_message.ensures.told c.read_message.ensures.coming.0 c.read_message.ensures.counts c.read_message.ensures.same c.read_message.ensures.text)
-    (c.if-self.false ∙ ap is_end (sym c.in-Idle.is)) refl
+    (c.if-self.false ∙ ap is_end (sym c.in-Idle.is)) refl (omega arith)
 
 pub returns-clause-leads : goal.returns-clause-leads
 returns-clause-leads g c =
@@ -22,14 +22,14 @@ returns-clause-leads g c =
     elim c.match-read_message.branch [
       | in-Message w ↦
           leads_dropped (state_of g.L.Reads g.L.Counts g.L.Messages c.args.line.now) (state_of g.L.Reads g.L.Counts g.L.Messages c.read_message.new.self) c.args.self.now c.match-read_message.self c.read_message.result
-          c.args.self.now.is_over (c.args.self.now.spare_reads - 1) c.requires.may c.if-self.false call (c.if-self.false ∙ ap is_end (sym w.in-Message.is)) w.self-is
+          c.args.self.now.is_over _ c.requires.may c.if-self.false call (c.if-self.false ∙ ap is_end (sym w.in-Message.is)) w.self-is (omega arith)
       | in-Ended w ↦
           leads_dropped (state_of g.L.Reads g.L.Counts g.L.Messages c.args.line.now) (state_of g.L.Reads g.L.Counts g.L.Messages c.read_message.new.self) c.args.self.now c.match-read_message.self c.read_message.result
-          true (c.args.self.now.spare_reads - 1) c.requires.may c.if-self.false call (ap is_end (sym w.in-Ended.is)) w.self-is
+          true _ c.requires.may c.if-self.false call (ap is_end (sym w.in-Ended.is)) w.self-is (omega arith)
       | in-Failed w ↦
           leads_dropped (state_of g.L.Reads g.L.Counts g.L.Messages c.args.line.now) (state_of g.L.Reads g.L.Counts g.L.Messages c.read_message.new.self) c.args.self.now c.match-read_message.self c.read_message.result
-          true (c.args.self.now.spare_reads - 1) c.requires.may c.if-self.false call (ap is_end (sym w.in-Failed.is)) w.self-is
+          true _ c.requires.may c.if-self.false call (ap is_end (sym w.in-Failed.is)) w.self-is (omega arith)
       | in-NoMemory w ↦
           leads_dropped (state_of g.L.Reads g.L.Counts g.L.Messages c.args.line.now) (state_of g.L.Reads g.L.Counts g.L.Messages c.read_message.new.self) c.args.self.now c.match-read_message.self c.read_message.result
-          c.args.self.now.is_over 0 c.requires.may c.if-self.false call (c.if-self.false ∙ ap is_end (sym w.in-NoMemory.is)) w.self-is
+          c.args.self.now.is_over _ c.requires.may c.if-self.false call (c.if-self.false ∙ ap is_end (sym w.in-NoMemory.is)) w.self-is (omega arith)
     ]

@@ -14,7 +14,7 @@ returns-in-Failed g c = record {
       let s = c.send_close.ensures in
       close_failed scene (state_of g.L.Reads g.L.Counts g.L.Messages c.args.line.now) c.args.self.now read view x c.args.code c.requires.ending c.requires.open c.if-self.false c.no_reason.result c.no_reason.ensures
       (state_of g.L.Reads g.L.Counts g.L.Messages c.send_close.new.self) (record { left = s.text.0; written = s.text.1; reads = s.text.2; writes = s.text.3 })
-      c.send_close.result s.told s.counts s.same.0 s.same.1 s.same.2 c.in-Failed.is;
+      c.send_close.result s.told s.counts s.same.0 s.same.1 c.in-Failed.is;
 }
 
 pub returns-in-NoMemory : goal.returns-in-NoMemory
@@ -23,7 +23,7 @@ returns-in-NoMemory g c = record {
       let s = c.send_close.ensures in
       close_short scene (state_of g.L.Reads g.L.Counts g.L.Messages c.args.line.now) c.args.self.now read view x c.args.code c.requires.ending c.requires.open c.if-self.false c.no_reason.result c.no_reason.ensures
       (state_of g.L.Reads g.L.Counts g.L.Messages c.send_close.new.self) (record { left = s.text.0; written = s.text.1; reads = s.text.2; writes = s.text.3 })
-      c.send_close.result s.told s.counts s.same.0 s.same.1 s.same.2 c.in-NoMemory.is;
+      c.send_close.result s.told s.counts s.same.0 s.same.1 c.in-NoMemory.is;
 }
 
 pub returns-in-Done : goal.returns-in-Done
@@ -32,5 +32,5 @@ returns-in-Done g c = record {
       let s = c.send_close.ensures in
       close_done scene (state_of g.L.Reads g.L.Counts g.L.Messages c.args.line.now) c.args.self.now read view x c.args.code c.requires.ending c.requires.open c.if-self.false c.no_reason.result c.no_reason.ensures
       (state_of g.L.Reads g.L.Counts g.L.Messages c.send_close.new.self) (record { left = s.text.0; written = s.text.1; reads = s.text.2; writes = s.text.3 })
-      c.send_close.result s.told s.counts s.same.0 s.same.1 s.same.2 c.in-Done.is;
+      c.send_close.result s.told s.counts s.same.0 s.same.1 c.in-Done.is;
 }
