@@ -46,7 +46,7 @@ use Rattle.asgi_conversation.proofs.ServedLemmas.{Served, same_served, whole_sta
 
 -- ---- what the bytes begin with
 
-head_first : (limits : Limits) (bytes : List ℕ) (scope : Scope) (facts : Facts) (arrived : List ℕ) → BeginsWith limits bytes scope facts arrived → HasFirst limits bytes (Head scope facts ∷ [])
+pub head_first : (limits : Limits) (bytes : List ℕ) (scope : Scope) (facts : Facts) (arrived : List ℕ) → BeginsWith limits bytes scope facts arrived → HasFirst limits bytes (Head scope facts ∷ [])
 head_first limits bytes scope facts arrived b =
     first_of limits bytes (Head scope facts ∷ []) (body_place facts.framing) arrived
     (opened_at limits bytes (Head scope facts ∷ []) facts.framing arrived (opens_behind limits bytes [] bytes scope facts arrived (none_closed limits bytes) b))
@@ -77,7 +77,7 @@ head_not_bad : (limits : Limits) (bytes : List ℕ) (scope : Scope) (facts : Fac
 head_not_bad limits bytes scope facts status x y = let e = one_first limits bytes (Head scope facts) (Bad status) [] [] x y in cc e
 
 -- an opening handshake comes first
-handshake_first : (limits : Limits) (bytes : List ℕ) (scope : Scope) (facts : Facts) (frames : List ℕ) → BeginsWithHandshake limits bytes scope facts frames
+pub handshake_first : (limits : Limits) (bytes : List ℕ) (scope : Scope) (facts : Facts) (frames : List ℕ) → BeginsWithHandshake limits bytes scope facts frames
     → HasFirst limits bytes (Head scope facts ∷ [])
 handshake_first limits bytes scope facts frames x = record {
   front = bytes;
@@ -108,7 +108,7 @@ first_as limits bytes why (inr s) =
     let x = h.3 in
     inr (h.0, h.1, handshake_first limits bytes h.0 h.1 h.2 x, ap (λ (f : Facts). f.framing) x.facts_are, s.1)
 
-same_framing : (limits : Limits) (bytes : List ℕ) (scope other : Scope) (facts others : Facts) → HasFirst limits bytes (Head scope facts ∷ []) → HasFirst limits bytes (Head other others ∷ [])
+pub same_framing : (limits : Limits) (bytes : List ℕ) (scope other : Scope) (facts others : Facts) → HasFirst limits bytes (Head scope facts ∷ []) → HasFirst limits bytes (Head other others ∷ [])
     → facts.framing ≡ others.framing
 same_framing limits bytes scope other facts others x y =
     let e = one_first limits bytes (Head scope facts) (Head other others) [] [] x y in
@@ -210,7 +210,7 @@ apart o e = cc
 outcome_of : (o p : Outcome) → ConnectionEnds o ≡ ConnectionEnds p → o ≡ p
 outcome_of o p e = cc
 
-rest_of : (a b : List ℕ) → complete a ≡ complete b → a ≡ b
+pub rest_of : (a b : List ℕ) → complete a ≡ complete b → a ≡ b
 rest_of a b e = cc
 
 -- the texts, the outcomes and the number of exchanges are the same
