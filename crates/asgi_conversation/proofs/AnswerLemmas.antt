@@ -8,14 +8,15 @@ use Rattle.asgi_types.specs.declared.limits.Limits.{Limits}
 use Rattle.asgi_types.specs.declared.outgoing.Outgoing.{Outgoing}
 use Rattle.asgi_types.specs.declared.scope.Scope.{Scope}
 use Rattle.asgi_request.specs.declared.next.Next.{Next}
-use Rattle.asgi_request.specs.declared.next.Next.TheVariants.{Head, Bad}
+use Rattle.asgi_request.specs.declared.next.Next.TheVariants.{Head, Whole, Bad}
 use Rattle.asgi_request.specs.declared.refusal.Refusal.{Refusal}
 use Rattle.asgi_request.specs.ChunkedBody.{BodyState, complete}
-use Rattle.asgi_request.specs.Opened.{BeginsWith}
+use Rattle.asgi_request.specs.Opened.{BeginsWith, BeginsWithHandshake}
 use Rattle.asgi_request.specs.Places.{body_place}
 use Rattle.asgi_request.specs.Refusals.{status_of}
 use Rattle.asgi_request.specs.Results.{RefusesHead, GivesResults, HasFirst}
 use Rattle.asgi_request.proofs.FirstLemmas.{first_of}
+use Rattle.asgi_request.proofs.HandshakeLemmas.{handshake_alone}
 use Rattle.asgi_request.proofs.OpenedLemmas.{opens_behind, opened_at}
 use Rattle.asgi_request.proofs.OpeningLemmas.{one_first, first_stays}
 use Rattle.asgi_request.proofs.ResultsLemmas.{prefix_of}
@@ -43,7 +44,7 @@ use Rattle.asgi_conversation.proofs.ServedLemmas.{Served, same_served, whole_sta
 
 -- ---- what the bytes begin with
 
-head_first : (limits : Limits) (bytes : List ℕ) (scope : Scope) (facts : Facts) (arrived : List ℕ) → BeginsWith limits bytes scope facts arrived → HasFirst limits bytes (Head scope facts ∷ [])
+pub head_first : (limits : Limits) (bytes : List ℕ) (scope : Scope) (facts : Facts) (arrived : List ℕ) → BeginsWith limits bytes scope facts arrived → HasFirst limits bytes (Head scope facts ∷ [])
 head_first limits bytes scope facts arrived b =
     first_of limits bytes (Head scope facts ∷ []) (body_place facts.framing) arrived
     (opened_at limits bytes (Head scope facts ∷ []) facts.framing arrived (opens_behind limits bytes [] bytes scope facts arrived (none_closed limits bytes) b))
@@ -72,6 +73,25 @@ same_bad limits bytes a b x y = let e = one_first limits bytes (Bad a) (Bad b) [
 
 head_not_bad : (limits : Limits) (bytes : List ℕ) (scope : Scope) (facts : Facts) (status : ℕ) → HasFirst limits bytes (Head scope facts ∷ []) → HasFirst limits bytes (Bad status ∷ []) → ⊥
 head_not_bad limits bytes scope facts status x y = let e = one_first limits bytes (Head scope facts) (Bad status) [] [] x y in cc e
+
+-- an opening handshake comes first
+pub handshake_first : (limits : Limits) (bytes : List ℕ) (scope : Scope) (facts : Facts) (frames : List ℕ) → BeginsWithHandshake limits bytes scope facts frames
+    → HasFirst limits bytes (Head scope facts ∷ [])
+handshake_first limits bytes scope facts frames x = record {
+  front = bytes;
+  behind = [];
+  further = Whole ∷ [];
+  rest = frames;
+  splits = sym (append-nil bytes);
+  gives = handshake_alone limits bytes frames scope facts x;
+}
+
+pub same_framing : (limits : Limits) (bytes : List ℕ) (scope other : Scope) (facts others : Facts) → HasFirst limits bytes (Head scope facts ∷ []) → HasFirst limits bytes (Head other others ∷ [])
+    → facts.framing ≡ others.framing
+same_framing limits bytes scope other facts others x y =
+    let e = one_first limits bytes (Head scope facts) (Head other others) [] [] x y in
+    let same : facts ≡ others = cc e in
+    ap (λ (f : Facts). f.framing) same
 
 -- ---- the end between two requests
 
@@ -155,7 +175,7 @@ apart o e = cc
 outcome_of : (o p : Outcome) → ConnectionEnds o ≡ ConnectionEnds p → o ≡ p
 outcome_of o p e = cc
 
-rest_of : (a b : List ℕ) → complete a ≡ complete b → a ≡ b
+pub rest_of : (a b : List ℕ) → complete a ≡ complete b → a ≡ b
 rest_of a b e = cc
 
 -- the texts, the outcomes and the number of exchanges are the same

@@ -18,3 +18,5 @@ pub mod TaskEndLemmas
 pub mod ConversationExample
 pub mod BeginningLemmas
 pub mod SessionExample
+pub mod SessionEchoLemmas
+pub mod SessionAnswerLemmas

@@ -1,4 +1,4 @@
--- Where a task of `Echo` or `Hello` returned and the connection was not cut short, what it said is a function of the events of
+-- Where a task of `Echo`, `Hello` or `WsEcho` returned and the connection was not cut short, what it said is a function of the events of
 -- the body, and so is what follows.
 use Rattle.std.proofs.Common.{◌≡◌, ℕ, Bool, true, false, List, [], ◌∷◌, ◌++◌, ◌⊎◌, inl, inr, map, refl, sym, ap, ◌∙◌, subst, append-nil, Option, Some, zero, suc}
 use Rattle.std.specs.Prelude.{replicate, codes}
@@ -25,15 +25,15 @@ use Rattle.asgi_response.specs.declared.progress.Progress.{Progress}
 use Rattle.asgi_response.specs.declared.progress.Progress.TheVariants.{Nothing, Begun, Complete}
 use Rattle.asgi_response.proofs.LawfulLemmas.{lawful_is_accepted}
 use Rattle.asgi_exchange.proofs.ListLemmas.{prefix_self}
-use Rattle.asgi_apps.specs.Answers.{start_of, hello_events}
+use Rattle.asgi_apps.specs.Answers.{start_of, hello_events, not_found_events}
 use Rattle.asgi_apps.specs.Echo.{bodies_of, echo_events, ends_request, HeardAll}
-use Rattle.asgi_apps.proofs.AnswerLemmas.{text_is_lawful}
+use Rattle.asgi_apps.proofs.AnswerLemmas.{text_is_lawful, not_found_is_lawful}
 use Rattle.asgi_apps.proofs.EchoLemmas.{bodies-append}
 use Rattle.asgi_conversation.specs.declared.following.Following.{Following}
 use Rattle.asgi_conversation.specs.declared.input.InputEnd.{InputEnd}
 use Rattle.asgi_conversation.specs.TaskEnds.{after_response, after_task}
 use Rattle.asgi_conversation.specs.Exchanges.{Exchanged, ServesFirst, IsFollowed}
-use Rattle.asgi_conversation.specs.Promised.{task_end, IsPromised, echo_promise, hello_promise}
+use Rattle.asgi_conversation.specs.Promised.{task_end, IsPromised, echo_promise, hello_promise, ws_echo_promise}
 use Rattle.asgi_conversation.proofs.BodyShapeLemmas.{AreParts, body_shape, front_or_all, open_parts}
 
 -- ---- what is to be shown of an application
@@ -66,32 +66,46 @@ followed x state next r f =
     let kinds : f.0 ≡ Returned = cc (sym f.1 ∙ r) in
     sym (ap (λ (k : EndKind). after_task k (progress_of x.facts x.said) state x.broke) kinds) ∙ f.2
 
--- ---- Hello
-
-hello_completes : (facts : Facts) → progress_of facts hello_events ≡ Complete (closes_behind facts hello_events)
-hello_completes facts = ap (progress_in facts) (lawful_is_accepted facts hello_events (text_is_lawful _ facts))
+-- ---- one whole response, whatever the request is: Hello, and WsEcho over HTTP
 
 complete_needs_no_break : (close : Bool) (state : BodyState) (broke : Bool) → after_response (Complete close) state broke ≡ after_response (Complete close) state true
 complete_needs_no_break true state broke = refl
 complete_needs_no_break false state broke = refl
 
+told_whole : (response : List Outgoing) → ((facts : Facts) → progress_of facts response ≡ Complete (closes_behind facts response))
+    → (x : Exchanged) (state : BodyState) → x.ended ≡ Some Returned → x.said ≡ response → Told x response state
+told_whole response completes x state r said = record {
+  said_is = said;
+  next = λ next f.
+      let done = ap (progress_of x.facts) said ∙ completes x.facts in
+      let closing = closes_behind x.facts response in
+      sym (followed x state next r f)
+      ∙ ap (λ (q : Progress). after_response q state x.broke) done
+      ∙ complete_needs_no_break closing state x.broke
+      ∙ sym (ap (λ (q : Progress). after_response q state true) (completes x.facts));
+}
+
+hello_completes : (facts : Facts) → progress_of facts hello_events ≡ Complete (closes_behind facts hello_events)
+hello_completes facts = ap (progress_in facts) (lawful_is_accepted facts hello_events (text_is_lawful _ facts))
+
 hello_tells : (limits : Limits) (end : InputEnd) (bytes : List ℕ) (x : Exchanged) (state : BodyState) (client server : Option Peer) (values : List (List ℕ × StateValue))
     → (s : ServesFirst limits end false bytes x state) → x.ended ≡ Some Returned → IsPromised hello_promise client server values x → Told x hello_events state
 hello_tells limits end bytes x state client server values s r p =
-    let said : x.said ≡ hello_events = returned hello_promise client server values x _ (http_scope limits bytes x.scope x.facts s.arrived s.head) r p in
-    record {
-      said_is = said;
-      next = λ next f.
-          let done = ap (progress_of x.facts) said ∙ hello_completes x.facts in
-          let closing = closes_behind x.facts hello_events in
-          sym (followed x state next r f)
-          ∙ ap (λ (q : Progress). after_response q state x.broke) done
-          ∙ complete_needs_no_break closing state x.broke
-          ∙ sym (ap (λ (q : Progress). after_response q state true) (hello_completes x.facts));
-    }
+    told_whole hello_events hello_completes x state r (returned hello_promise client server values x _ (http_scope limits bytes x.scope x.facts s.arrived s.head) r p)
 
 pub hello_says : SaysOf hello_promise (λ events. hello_events)
 hello_says = record { tells = hello_tells; grows = λ events others p. prefix_self hello_events }
+
+not_found_completes : (facts : Facts) → progress_of facts not_found_events ≡ Complete (closes_behind facts not_found_events)
+not_found_completes facts = ap (progress_in facts) (lawful_is_accepted facts not_found_events (not_found_is_lawful facts))
+
+ws_echo_tells : (limits : Limits) (end : InputEnd) (bytes : List ℕ) (x : Exchanged) (state : BodyState) (client server : Option Peer) (values : List (List ℕ × StateValue))
+    → (s : ServesFirst limits end false bytes x state) → x.ended ≡ Some Returned → IsPromised ws_echo_promise client server values x → Told x not_found_events state
+ws_echo_tells limits end bytes x state client server values s r p =
+    told_whole not_found_events not_found_completes x state r (returned ws_echo_promise client server values x _ (http_scope limits bytes x.scope x.facts s.arrived s.head) r p)
+
+pub ws_echo_says : SaysOf ws_echo_promise (λ events. not_found_events)
+ws_echo_says = record { tells = ws_echo_tells; grows = λ events others p. prefix_self not_found_events }
 
 -- ---- Echo: what it says to parts and disconnects
 

@@ -7,3 +7,4 @@ pub mod SoFar
 pub mod Promised
 pub mod Sessions
 pub mod ReadResponses
+pub mod SessionEcho

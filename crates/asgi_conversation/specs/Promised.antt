@@ -13,11 +13,13 @@ use Rattle.asgi_apps.specs.Answers.{Answers, hello_answer}
 use Rattle.asgi_apps.specs.Echo.{EchoAnswers}
 use Rattle.asgi_apps.specs.Ends.{own_end}
 use Rattle.asgi_apps.specs.Scopes.{kind_of}
+use Rattle.asgi_apps.specs.WsEcho.{WsEchoAnswers}
 use Rattle.asgi_conversation.specs.declared.report.Report.{Report}
 use Rattle.asgi_conversation.specs.declared.input.InputEnd.{InputEnd}
 use Rattle.asgi_conversation.specs.TaskEnds.{is_cut}
 use Rattle.asgi_conversation.specs.Exchanges.{Exchanged}
 use Rattle.asgi_conversation.specs.Persistence.{Converses}
+use Rattle.asgi_conversation.specs.Sessions.{Talk, ConversesInSession}
 
 -- ---- of one exchange
 
@@ -48,7 +50,18 @@ pub record ConversesWith (answers : Scope → List Incoming → List Outgoing �
   pub state : List (List ℕ × StateValue)
   pub promised : ArePromised answers client server state exchanges
 
--- ---- of two applications
+-- the same of a conversation that ends in a session
+pub record ConversesInSessionWith (answers : Scope → List Incoming → List Outgoing → Option EndKind → Type 0) (limits : Limits) (end : InputEnd) (read : List ℕ) (exchanges : List Exchanged)
+    (talk : Talk) (written : List ℕ) (report : Report) : Type 0 where
+  pub converses : ConversesInSession limits end read exchanges talk written report
+  pub uncut : is_cut report.outcome ≡ false
+  pub no_faults : report.faults ≡ 0
+  pub client : Option Peer
+  pub server : Option Peer
+  pub state : List (List ℕ × StateValue)
+  pub promised : ArePromised answers client server state exchanges
+
+-- ---- of three applications
 
 -- the promise of `Echo`
 abbrev pub echo_promise : Scope → List Incoming → List Outgoing → Option EndKind → Type 0
@@ -57,3 +70,7 @@ echo_promise scope heard said ended = EchoAnswers (kind_of scope) heard said end
 -- the promise of `Hello`
 abbrev pub hello_promise : Scope → List Incoming → List Outgoing → Option EndKind → Type 0
 hello_promise scope heard said ended = Answers (hello_answer scope) heard said ended
+
+-- the promise of `WsEcho`: over HTTP that of `NotFound`
+abbrev pub ws_echo_promise : Scope → List Incoming → List Outgoing → Option EndKind → Type 0
+ws_echo_promise scope heard said ended = WsEchoAnswers (kind_of scope) heard said ended

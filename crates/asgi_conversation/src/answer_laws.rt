@@ -18,7 +18,8 @@ ghost use Rattle.asgi_apps.specs.Echo.{echo_events};
 ghost use Rattle.asgi_conversation.specs.declared.report.Report.{Report};
 ghost use Rattle.asgi_conversation.specs.Exchanges.{Exchanged, ServesFirst, AreAnswered, answer_texts};
 ghost use Rattle.asgi_conversation.specs.Persistence.{Converses};
-ghost use Rattle.asgi_conversation.specs.Promised.{IsPromised, ConversesWith, echo_promise, hello_promise};
+ghost use Rattle.asgi_conversation.specs.Promised.{IsPromised, ConversesWith, ConversesInSessionWith, echo_promise, hello_promise, ws_echo_promise};
+ghost use Rattle.asgi_conversation.specs.Sessions.{Talk};
 ghost use Rattle.asgi_conversation.specs.ReadResponses.{ReadsAnswer, AreRead, AllCanBeSent, refusal_fields};
 ghost use Rattle.asgi_conversation.specs.declared.input.InputEnd.{InputEnd};
 ghost use Rattle.asgi_conversation.specs.TaskEnds.{is_cut};
@@ -31,14 +32,17 @@ pub fn echo_says_the_body_back()
         → BeginsWith limits bytes x.scope x.facts arrived → ReadsBody limits x.facts.framing arrived events body → x.said ≡ echo_events events }
 {}
 
-/// The bytes that `Echo` and `Hello` have written, how the connection ended and how many exchanges it had are one function of
-/// the bytes read and of how reading ended, where no outcome cut the connection short and no exchange faulted.
+/// The bytes that `Echo`, `Hello` and, over HTTP, `WsEcho` have written, how the connection ended and how many exchanges it had
+/// are one function of the bytes read and of how reading ended, where no outcome cut the connection short and no exchange faulted.
 pub fn answers_are_one()
     ensures echo { (limits : Limits) (end : InputEnd) (read : List ℕ) (exchanges others : List Exchanged) (written other : List ℕ) (report another : Report)
         → ConversesWith echo_promise limits end read exchanges written report → ConversesWith echo_promise limits end read others other another
         → (written ≡ other) × (report.outcome ≡ another.outcome) × (report.exchanges ≡ another.exchanges) }
     ensures hello { (limits : Limits) (end : InputEnd) (read : List ℕ) (exchanges others : List Exchanged) (written other : List ℕ) (report another : Report)
         → ConversesWith hello_promise limits end read exchanges written report → ConversesWith hello_promise limits end read others other another
+        → (written ≡ other) × (report.outcome ≡ another.outcome) × (report.exchanges ≡ another.exchanges) }
+    ensures ws_echo { (limits : Limits) (end : InputEnd) (read : List ℕ) (exchanges others : List Exchanged) (written other : List ℕ) (report another : Report)
+        → ConversesWith ws_echo_promise limits end read exchanges written report → ConversesWith ws_echo_promise limits end read others other another
         → (written ≡ other) × (report.outcome ≡ another.outcome) × (report.exchanges ≡ another.exchanges) }
 {}
 
@@ -48,6 +52,12 @@ pub fn same_bytes_are_answered_alike()
         → ConversesWith echo_promise limits end read exchanges written report → ConversesWith echo_promise limits late read others other another → written ≡ other }
     ensures hello { (limits : Limits) (end late : InputEnd) (read : List ℕ) (exchanges others : List Exchanged) (written other : List ℕ) (report another : Report)
         → ConversesWith hello_promise limits end read exchanges written report → ConversesWith hello_promise limits late read others other another → written ≡ other }
+    ensures ws_echo { (limits : Limits) (end late : InputEnd) (read : List ℕ) (exchanges others : List Exchanged) (written other : List ℕ) (report another : Report)
+        → ConversesWith ws_echo_promise limits end read exchanges written report → ConversesWith ws_echo_promise limits late read others other another → written ≡ other }
+    // the same where it came to a session: the text in front of the messages
+    ensures session { (limits : Limits) (end late : InputEnd) (read : List ℕ) (exchanges others : List Exchanged) (talk other_talk : Talk) (written other : List ℕ) (report another : Report)
+        → ConversesInSessionWith ws_echo_promise limits end read exchanges talk written report → ConversesInSessionWith ws_echo_promise limits late read others other_talk other another
+        → (written ≡ other) × (report.exchanges ≡ another.exchanges) }
 {}
 
 /// What they have written for a front of the input is a beginning of what they write for the whole, however reading ended
@@ -58,6 +68,9 @@ pub fn answers_to_a_front_come_first()
         → IsPrefix written other }
     ensures hello { (limits : Limits) (early late : InputEnd) (read more : List ℕ) (exchanges others : List Exchanged) (written other : List ℕ) (report another : Report)
         → ConversesWith hello_promise limits early read exchanges written report → ConversesWith hello_promise limits late (read ++ more) others other another
+        → IsPrefix written other }
+    ensures ws_echo { (limits : Limits) (early late : InputEnd) (read more : List ℕ) (exchanges others : List Exchanged) (written other : List ℕ) (report another : Report)
+        → ConversesWith ws_echo_promise limits early read exchanges written report → ConversesWith ws_echo_promise limits late (read ++ more) others other another
         → IsPrefix written other }
 {}
 

@@ -38,6 +38,7 @@ pub use crate::answer_laws::{
     answers_are_one, answers_to_a_front_come_first, echo_says_the_body_back,
     refusals_are_read_back, responses_are_read_back, same_bytes_are_answered_alike,
 };
+pub use crate::session_laws::{same_messages_are_answered_alike, ws_echo_sends_the_messages_back};
 pub use asgi_exchange::laws::every_schedule;
 
 /// The bytes read, the end of the input and the exchanges say what is written and how the connection ended, where it was not

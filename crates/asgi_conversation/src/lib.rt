@@ -7,6 +7,7 @@ mod following;
 mod input;
 pub mod laws;
 mod report;
+pub mod session_laws;
 
 pub use following::{Following, after_task};
 pub use input::InputEnd;
