@@ -1,0 +1,343 @@
+//! Applications that a row needs: they promise nothing.
+use asgi_apps::{AppFault, AppTask, Application};
+use asgi_pipes::{AppEnd, Sent};
+use asgi_types::{Chars, HeaderError, Headers, Incoming, Octets, Outgoing, Payload, Reason, Scope};
+use futures::task::{Context, Poll};
+use std::alloc::{AllocError, Global};
+
+type Fields = &'static [(&'static str, &'static str)];
+
+/// An event that is said.
+#[derive(Clone, Copy)]
+pub enum Said {
+    /// An accept with this subprotocol, or with none where it is empty, and these fields.
+    Accept(&'static str, Fields),
+    Text(&'static str),
+    Close(u16, &'static str),
+    /// The start of a denial with this status and these fields.
+    Denial(u16, Fields),
+    /// A part of its body, behind which more follows.
+    Part(&'static str),
+    /// The last part.
+    Last(&'static str),
+    /// The start of a response.
+    Start(u16, Fields),
+    /// The whole body of it.
+    Body(&'static str),
+}
+
+/// An event that is heard.
+#[derive(Clone, Copy)]
+pub enum Heard {
+    Connect,
+    Text(&'static str),
+    Bytes(&'static [u8]),
+    Disconnect(u16, &'static str),
+}
+
+/// What a task does next.
+#[derive(Clone, Copy)]
+pub enum Step {
+    Says(Said),
+    /// It says this, which is refused by this number. Where it is not, the task faults.
+    IsRefused(Said, u8),
+    /// It hears this. Where it is anything else, the task faults, which the report of a connection counts.
+    Hears(Heard),
+    /// So many polls do nothing.
+    Rests(u32),
+    Faults,
+    /// It goes no further.
+    Waits,
+}
+
+impl Said {
+    fn event(self, alloc: Global) -> Result<Outgoing, HeaderError> {
+        match self {
+            Said::Accept(name, fields) => accept(alloc, name, fields),
+            Said::Text(text) => Ok(Outgoing::WsSend {
+                payload: Payload::Text(chars(alloc, text)?),
+            }),
+            Said::Close(code, reason) => Ok(Outgoing::WsClose {
+                code,
+                reason: chars(alloc, reason)?,
+            }),
+            Said::Denial(status, fields) => Ok(Outgoing::DenialStart {
+                status,
+                headers: headers(alloc, fields)?,
+            }),
+            Said::Part(text) => Ok(Outgoing::DenialBody {
+                body: octets(alloc, text)?,
+                more_body: true,
+            }),
+            Said::Last(text) => Ok(Outgoing::DenialBody {
+                body: octets(alloc, text)?,
+                more_body: false,
+            }),
+            Said::Start(status, fields) => Ok(Outgoing::ResponseStart {
+                status,
+                headers: headers(alloc, fields)?,
+            }),
+            Said::Body(text) => Ok(Outgoing::ResponseBody {
+                body: octets(alloc, text)?,
+                more_body: false,
+            }),
+        }
+    }
+}
+
+fn chars(alloc: Global, text: &str) -> Result<Chars, AllocError> {
+    Ok(Chars::new(String::from_str(alloc, text)?))
+}
+
+fn octets(alloc: Global, text: &str) -> Result<Octets, AllocError> {
+    Ok(Octets::new(Vec::from_slice(alloc, text.as_bytes())?))
+}
+
+fn headers(alloc: Global, fields: Fields) -> Result<Headers, HeaderError> {
+    let mut headers = Headers::new(alloc);
+    for (name, value) in fields {
+        headers.push(name.as_bytes(), value.as_bytes())?;
+    }
+    Ok(headers)
+}
+
+fn subprotocol(alloc: Global, name: &str) -> Result<Option<Chars>, AllocError> {
+    if name.is_empty() {
+        return Ok(None);
+    }
+    Ok(Some(chars(alloc, name)?))
+}
+
+fn accept(alloc: Global, name: &str, fields: Fields) -> Result<Outgoing, HeaderError> {
+    let headers = headers(alloc, fields)?;
+    Ok(Outgoing::WsAccept {
+        subprotocol: subprotocol(alloc, name)?,
+        headers,
+    })
+}
+
+impl Heard {
+    /// Whether the event is this one.
+    fn is(self, event: &Incoming) -> bool {
+        match event {
+            Incoming::WsConnect => matches!(self, Heard::Connect),
+            Incoming::WsReceive { payload } => self.is_payload(payload),
+            Incoming::WsDisconnect { code, reason } => self.is_disconnect(*code, reason),
+            _ => false,
+        }
+    }
+
+    fn is_payload(self, payload: &Payload) -> bool {
+        match (self, payload) {
+            (Heard::Text(text), Payload::Text(given)) => given.as_str() == text,
+            (Heard::Bytes(bytes), Payload::Bytes(given)) => given.bytes() == bytes,
+            _ => false,
+        }
+    }
+
+    fn is_disconnect(self, given: u16, why: &Reason) -> bool {
+        match self {
+            Heard::Disconnect(code, reason) => code == given && why.as_str() == reason,
+            _ => false,
+        }
+    }
+}
+
+/// Takes these steps in a session, and returns behind the last one. A request is answered with 404.
+#[derive(Clone, Copy)]
+pub struct Scripted(pub &'static [Step]);
+
+#[derive(Drop)]
+pub struct ScriptedTask {
+    alloc: Global,
+    steps: &'static [Step],
+    at: usize,
+    /// How many polls of a rest were made.
+    rested: u32,
+}
+
+const NOT_FOUND: &[Step] = &[
+    Step::Says(Said::Start(404, &[("content-length", "0")])),
+    Step::Says(Said::Body("")),
+];
+
+impl Application for Scripted {
+    type Task = ScriptedTask;
+
+    fn call(&self, alloc: Global, scope: &Scope) -> Result<ScriptedTask, AppFault> {
+        let steps = match scope {
+            Scope::WebSocket(_) => self.0,
+            _ => NOT_FOUND,
+        };
+        Ok(ScriptedTask {
+            alloc,
+            steps,
+            at: 0,
+            rested: 0,
+        })
+    }
+}
+
+impl ScriptedTask {
+    fn next(&self) -> Option<Step> {
+        Some(*self.steps.get(self.at)?)
+    }
+
+    /// The next step is taken.
+    fn pass(&mut self) {
+        self.at = self.at.saturating_add(1);
+    }
+
+    /// One poll of a rest of so many.
+    fn rest(&mut self, polls: u32) {
+        self.rested = self.rested.saturating_add(1);
+        if self.rested >= polls {
+            self.rested = 0;
+            self.pass();
+        }
+    }
+}
+
+impl AppTask for ScriptedTask {
+    fn poll<E: AppEnd>(&mut self, cx: &mut Context<'_>, end: &mut E) -> Poll<Result<(), AppFault>> {
+        match self.next() {
+            None => Poll::Ready(Ok(())),
+            Some(Step::Faults) => Poll::Ready(Err(AppFault::Failed)),
+            Some(Step::Waits) => cx.yield_now(),
+            Some(Step::Rests(polls)) => {
+                self.rest(polls);
+                cx.yield_now()
+            }
+            Some(Step::Hears(wanted)) => {
+                let Poll::Ready(event) = end.poll_receive(cx) else {
+                    return Poll::Pending;
+                };
+                if !wanted.is(&event) {
+                    return Poll::Ready(Err(AppFault::Failed));
+                }
+                self.pass();
+                cx.yield_now()
+            }
+            Some(Step::Says(said)) => {
+                let Ok(event) = said.event(self.alloc) else {
+                    return Poll::Ready(Err(AppFault::Failed));
+                };
+                match end.poll_send(cx, event) {
+                    Sent::Done => {
+                        self.pass();
+                        cx.yield_now()
+                    }
+                    Sent::Full(_) => Poll::Pending,
+                    Sent::Ignored => Poll::Ready(Err(AppFault::Failed)),
+                    Sent::Refused(_, _) => Poll::Ready(Err(AppFault::Failed)),
+                }
+            }
+            Some(Step::IsRefused(said, number)) => {
+                let Ok(event) = said.event(self.alloc) else {
+                    return Poll::Ready(Err(AppFault::Failed));
+                };
+                let Sent::Refused(given, _) = end.poll_send(cx, event) else {
+                    return Poll::Ready(Err(AppFault::Failed));
+                };
+                if given != number {
+                    return Poll::Ready(Err(AppFault::Failed));
+                }
+                self.pass();
+                cx.yield_now()
+            }
+        }
+    }
+
+    ghost keeps = { λ _ _ _ _ _. tt };
+}
+
+/// Its call faults.
+#[derive(Clone, Copy)]
+pub struct Refuses;
+
+impl Application for Refuses {
+    type Task = ScriptedTask;
+
+    fn call(&self, _alloc: Global, _scope: &Scope) -> Result<ScriptedTask, AppFault> {
+        Err(AppFault::Failed)
+    }
+}
+
+/// Answers as `WsEcho`, and faults where it hears anything but these events. It returns behind the last one.
+#[derive(Clone, Copy)]
+pub struct Listens(pub &'static [Heard]);
+
+#[derive(Drop)]
+pub struct ListeningTask {
+    alloc: Global,
+    events: &'static [Heard],
+    at: usize,
+    /// What is to be said next.
+    waiting: Option<Outgoing>,
+}
+
+impl Application for Listens {
+    type Task = ListeningTask;
+
+    fn call(&self, alloc: Global, scope: &Scope) -> Result<ListeningTask, AppFault> {
+        let Scope::WebSocket(_) = scope else {
+            return Err(AppFault::Failed);
+        };
+        Ok(ListeningTask {
+            alloc,
+            events: self.0,
+            at: 0,
+            waiting: None,
+        })
+    }
+}
+
+impl ListeningTask {
+    fn next(&self) -> Option<Heard> {
+        Some(*self.events.get(self.at)?)
+    }
+
+    /// Makes the event's answer the next to be said.
+    fn hear(&mut self, event: Incoming) {
+        self.at = self.at.saturating_add(1);
+        match event {
+            Incoming::WsConnect => {
+                self.waiting = Some(Outgoing::WsAccept {
+                    subprotocol: None,
+                    headers: Headers::new(self.alloc),
+                });
+            }
+            Incoming::WsReceive { payload } => self.waiting = Some(Outgoing::WsSend { payload }),
+            _ => {}
+        }
+    }
+}
+
+impl AppTask for ListeningTask {
+    fn poll<E: AppEnd>(&mut self, cx: &mut Context<'_>, end: &mut E) -> Poll<Result<(), AppFault>> {
+        if let Some(event) = self.waiting.take() {
+            return match end.poll_send(cx, event) {
+                Sent::Done => cx.yield_now(),
+                Sent::Full(event) => {
+                    self.waiting = Some(event);
+                    Poll::Pending
+                }
+                Sent::Ignored => Poll::Ready(Err(AppFault::Failed)),
+                Sent::Refused(_, _) => Poll::Ready(Err(AppFault::Failed)),
+            };
+        }
+        let Some(wanted) = self.next() else {
+            return Poll::Ready(Ok(()));
+        };
+        let Poll::Ready(event) = end.poll_receive(cx) else {
+            return Poll::Pending;
+        };
+        if !wanted.is(&event) {
+            return Poll::Ready(Err(AppFault::Failed));
+        }
+        self.hear(event);
+        cx.yield_now()
+    }
+
+    ghost keeps = { λ _ _ _ _ _. tt };
+}

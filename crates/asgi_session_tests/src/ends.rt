@@ -1,0 +1,418 @@
+//! How a session ends, over lines in memory: what is handed over, and the outcome.
+use crate::apps::{Heard, Said, Step};
+use crate::fakes::{App, serve_by};
+use crate::scripts::{Given, Out, is_handed, script_of};
+use crate::texts::{ACCEPTED, HANDSHAKE};
+use asgi_conn::Outcome;
+use asgi_types::{BadLimit, Limits};
+use asgi_ws::Script;
+use std::alloc::AllocGlobal;
+use std::process::Abort;
+use std::random::RandomSource;
+use std::test::Fail;
+
+/// The application, the messages, what is handed over, and the outcome and the faults.
+type Row = (App, &'static [Given], &'static [Out], (Outcome, u64));
+
+/// Serves a handshake that is accepted, with one exchange, and compares.
+fn is_served<H: Abort + RandomSource + AllocGlobal>(
+    rt: &H,
+    limits: &Limits,
+    row: &Row,
+    line: &mut Script,
+) -> Result<bool, Fail> {
+    let report = serve_by(rt, limits, row.0, line)?;
+    let ended = (report.outcome, report.faults) == row.3 && report.exchanges == 1;
+    Ok(ended && is_handed(line, row.2) && line.text() == ACCEPTED)
+}
+
+fn check<H: Abort + RandomSource + AllocGlobal>(rt: &H, rows: &[Row]) -> Result<(), Fail> {
+    for (place, row) in rows.iter().enumerate() {
+        let mut line = script_of(rt.alloc(), HANDSHAKE, row.1)?;
+        let served = is_served(rt, &Limits::usual(), row, &mut line)?;
+        assert!(rt; served, "row {place}");
+    }
+    Ok(())
+}
+
+const CONNECTS: Step = Step::Hears(Heard::Connect);
+
+const ACCEPTS: Step = Step::Says(Said::Accept("", &[]));
+
+const SAYS_BYE: Step = Step::Says(Said::Close(1000, "bye"));
+
+/// Nothing is heard of an accepted session for some polls, in which the connection reads on.
+const RESTS: Step = Step::Rests(100);
+
+const HEARS_1000: Step = Step::Hears(Heard::Disconnect(1000, ""));
+
+const HEARS_1006: Step = Step::Hears(Heard::Disconnect(1006, ""));
+
+const BYE: Out = Out::Close(1000, "bye");
+
+/// `WsEcho`, and tasks that hear just these events and send what they do.
+const ECHOED: &[Row] = &[
+    (
+        App::WsEcho,
+        &[Given::Text("Hello")],
+        &[Out::Text("Hello")],
+        (Outcome::InputBroke, 0),
+    ),
+    (
+        App::Listens(&[
+            Heard::Connect,
+            Heard::Text("Hello"),
+            Heard::Disconnect(1006, ""),
+        ]),
+        &[Given::Text("Hello")],
+        &[Out::Text("Hello")],
+        (Outcome::InputBroke, 0),
+    ),
+    (
+        App::Listens(&[
+            Heard::Connect,
+            Heard::Text("a"),
+            Heard::Text("b"),
+            Heard::Disconnect(1001, "by"),
+        ]),
+        &[
+            Given::Idle,
+            Given::Text("a"),
+            Given::Ping,
+            Given::Text("b"),
+            Given::Pong,
+            Given::Close(1001, "by"),
+        ],
+        &[Out::Text("a"), Out::Text("b")],
+        (Outcome::Finished, 0),
+    ),
+    (
+        App::Listens(&[Heard::Connect, Heard::Disconnect(1005, "")]),
+        &[Given::BareClose, Given::Text("x")],
+        &[],
+        (Outcome::Finished, 0),
+    ),
+    (
+        App::Listens(&[
+            Heard::Connect,
+            Heard::Text("a"),
+            Heard::Disconnect(1006, ""),
+        ]),
+        &[Given::Text("a"), Given::Fault, Given::Text("x")],
+        &[Out::Text("a")],
+        (Outcome::InputBroke, 0),
+    ),
+];
+
+#[test]
+fn messages_are_heard_and_handed_over(rt: HostRuntime) -> Result<(), Fail> {
+    check(&rt, ECHOED)
+}
+
+/// A task ends while its session is open: the server closes, with 1000 where it returned and with 1011 where it faulted.
+const OPEN: &[Row] = &[
+    (
+        App::Scripted(&[CONNECTS, ACCEPTS]),
+        &[],
+        &[Out::Close(1000, "")],
+        (Outcome::Finished, 0),
+    ),
+    (
+        App::Scripted(&[CONNECTS, ACCEPTS, Step::Faults]),
+        &[Given::Text("x")],
+        &[Out::Close(1011, "")],
+        (Outcome::Finished, 1),
+    ),
+    (
+        App::Scripted(&[
+            CONNECTS,
+            ACCEPTS,
+            Step::Says(Said::Text("a")),
+            Step::Hears(Heard::Text("x")),
+        ]),
+        &[Given::Text("x"), Given::Close(1001, "")],
+        &[Out::Text("a"), Out::Close(1000, "")],
+        (Outcome::Finished, 0),
+    ),
+];
+
+#[test]
+fn a_task_that_ends_in_an_open_session_closes_it(rt: HostRuntime) -> Result<(), Fail> {
+    check(&rt, OPEN)
+}
+
+/// A task ends behind a close, or behind the end of the input: nothing more is handed over. It need not have heard of it.
+const BROKEN: &[Row] = &[
+    (
+        App::Scripted(&[CONNECTS, ACCEPTS, SAYS_BYE]),
+        &[Given::Text("x"), Given::Close(1000, "bye")],
+        &[BYE],
+        (Outcome::Finished, 0),
+    ),
+    (
+        App::Scripted(&[CONNECTS, ACCEPTS, SAYS_BYE, Step::Faults]),
+        &[Given::Fault],
+        &[BYE],
+        (Outcome::Finished, 1),
+    ),
+    (
+        App::Scripted(&[CONNECTS, ACCEPTS, HEARS_1000]),
+        &[Given::Close(1000, "")],
+        &[],
+        (Outcome::Finished, 0),
+    ),
+    (
+        App::Scripted(&[CONNECTS, ACCEPTS, HEARS_1000, Step::Faults]),
+        &[Given::Close(1000, ""), Given::Fault],
+        &[],
+        (Outcome::Finished, 1),
+    ),
+    (
+        App::Scripted(&[CONNECTS, ACCEPTS, RESTS]),
+        &[Given::Close(1000, "")],
+        &[],
+        (Outcome::Finished, 0),
+    ),
+    (
+        App::Scripted(&[CONNECTS, ACCEPTS, HEARS_1006]),
+        &[],
+        &[],
+        (Outcome::InputBroke, 0),
+    ),
+    (
+        App::Scripted(&[CONNECTS, ACCEPTS, HEARS_1006, Step::Faults]),
+        &[Given::Fault, Given::Close(1000, "")],
+        &[],
+        (Outcome::InputBroke, 1),
+    ),
+    (
+        App::Scripted(&[CONNECTS, ACCEPTS, RESTS]),
+        &[Given::Ping],
+        &[],
+        (Outcome::InputBroke, 0),
+    ),
+    (
+        App::Scripted(&[CONNECTS, ACCEPTS, RESTS, Step::Faults]),
+        &[Given::Fault],
+        &[],
+        (Outcome::InputBroke, 1),
+    ),
+];
+
+#[test]
+fn a_task_that_ends_behind_a_close_adds_nothing(rt: HostRuntime) -> Result<(), Fail> {
+    check(&rt, BROKEN)
+}
+
+/// Each receive behind a disconnect gives an equal one, and nothing can be said: behind the client's, and behind one's own.
+const AGAIN: &[Row] = &[
+    (
+        App::Scripted(&[
+            CONNECTS,
+            ACCEPTS,
+            Step::Hears(Heard::Disconnect(1001, "by")),
+            Step::Hears(Heard::Disconnect(1001, "by")),
+            Step::IsRefused(Said::Text("x"), 2),
+            Step::IsRefused(Said::Close(1000, ""), 2),
+            Step::Hears(Heard::Disconnect(1001, "by")),
+        ]),
+        &[Given::Close(1001, "by"), Given::Text("y")],
+        &[],
+        (Outcome::Finished, 0),
+    ),
+    (
+        App::Scripted(&[
+            CONNECTS,
+            ACCEPTS,
+            HEARS_1006,
+            HEARS_1006,
+            Step::IsRefused(Said::Text("x"), 2),
+            HEARS_1006,
+        ]),
+        &[],
+        &[],
+        (Outcome::InputBroke, 0),
+    ),
+    (
+        App::Scripted(&[CONNECTS, ACCEPTS, SAYS_BYE, HEARS_1000]),
+        &[Given::Text("x")],
+        &[BYE],
+        (Outcome::Finished, 0),
+    ),
+    (
+        App::Scripted(&[
+            CONNECTS,
+            ACCEPTS,
+            Step::Says(Said::Close(4999, "")),
+            Step::Hears(Heard::Disconnect(4999, "")),
+            Step::IsRefused(Said::Text("x"), 1),
+            Step::IsRefused(Said::Close(1000, ""), 1),
+            Step::Rests(100),
+            Step::Hears(Heard::Disconnect(4999, "")),
+        ]),
+        &[Given::Text("x"), Given::Close(1000, "bye")],
+        &[Out::Close(4999, "")],
+        (Outcome::Finished, 0),
+    ),
+];
+
+#[test]
+fn each_receive_behind_a_disconnect_is_equal(rt: HostRuntime) -> Result<(), Fail> {
+    check(&rt, AGAIN)
+}
+
+const PINGS: &[Given] = &[Given::Ping; 100];
+
+/// Tasks that close, and end or go on for a while.
+const CLOSING: &[Row] = &[
+    (
+        App::Scripted(&[CONNECTS, ACCEPTS, SAYS_BYE]),
+        PINGS,
+        &[BYE],
+        (Outcome::Finished, 0),
+    ),
+    (
+        App::Scripted(&[CONNECTS, ACCEPTS, SAYS_BYE, Step::Rests(20), HEARS_1000]),
+        PINGS,
+        &[BYE],
+        (Outcome::Finished, 0),
+    ),
+    (
+        App::Scripted(&[CONNECTS, ACCEPTS, SAYS_BYE, Step::Rests(200), HEARS_1000]),
+        PINGS,
+        &[BYE],
+        (Outcome::Finished, 0),
+    ),
+];
+
+#[test]
+fn of_100_pings_behind_a_close_64_are_read(rt: HostRuntime) -> Result<(), Fail> {
+    for (place, row) in CLOSING.iter().enumerate() {
+        let mut line = script_of(rt.alloc(), HANDSHAKE, row.1)?;
+        let served = is_served(&rt, &Limits::usual(), row, &mut line)?;
+        assert_eq!(rt; (served, line.received().len()), (true, 64), "row {place}");
+    }
+    Ok(())
+}
+
+/// More texts than there are places, and a close behind them.
+const MANY: &[Given] = &[
+    Given::Text("a"),
+    Given::Text("b"),
+    Given::Text("c"),
+    Given::Text("d"),
+    Given::Close(1001, ""),
+];
+
+/// A task that hears none of them and one that hears all, with two places.
+const CROWDED: &[(Row, usize)] = &[
+    // The connect and one text have a place, and another text waits for one: the close is not read before the task has
+    // ended, and then all is dropped.
+    (
+        (
+            App::Scripted(&[ACCEPTS, RESTS]),
+            MANY,
+            &[Out::Close(1000, "")],
+            (Outcome::Finished, 0),
+        ),
+        5,
+    ),
+    (
+        (
+            App::Scripted(&[
+                ACCEPTS,
+                RESTS,
+                CONNECTS,
+                Step::Hears(Heard::Text("a")),
+                Step::Hears(Heard::Text("b")),
+                Step::Hears(Heard::Text("c")),
+                Step::Hears(Heard::Text("d")),
+                Step::Hears(Heard::Disconnect(1001, "")),
+            ]),
+            MANY,
+            &[],
+            (Outcome::Finished, 0),
+        ),
+        5,
+    ),
+];
+
+#[test]
+fn a_message_waits_for_a_place(rt: HostRuntime) -> Result<(), Fail> {
+    let limits = Limits::new(16_384, 64, 0, 1, 2, 30_000, 1_000_000)?;
+    for (place, (row, read)) in CROWDED.iter().enumerate() {
+        let mut line = script_of(rt.alloc(), HANDSHAKE, row.1)?;
+        let served = is_served(&rt, &limits, row, &mut line)?;
+        assert_eq!(rt;
+            (served, line.received().len()),
+            (true, *read),
+            "row {place}"
+        );
+    }
+    Ok(())
+}
+
+fn limits_with(idle_turns: u32, turns: u64) -> Result<Limits, BadLimit> {
+    Limits::new(16_384, 64, 0, 1, 2, idle_turns, turns)
+}
+
+/// Tasks that go no further: none is answered in its place, and an open session is not closed.
+const WAITING: &[(Row, &[u8])] = &[
+    (
+        (App::Scripted(&[Step::Waits]), &[], &[], (Outcome::Idle, 0)),
+        b"",
+    ),
+    (
+        (
+            App::Scripted(&[Step::Says(Said::Denial(401, &[])), Step::Waits]),
+            &[],
+            &[],
+            (Outcome::Idle, 0),
+        ),
+        b"",
+    ),
+    (
+        (
+            App::Scripted(&[CONNECTS, ACCEPTS, Step::Waits]),
+            &[Given::Text("x"), Given::Close(1000, "")],
+            &[],
+            (Outcome::Idle, 0),
+        ),
+        ACCEPTED,
+    ),
+    (
+        (
+            App::Scripted(&[CONNECTS, ACCEPTS, SAYS_BYE, Step::Waits]),
+            &[],
+            &[BYE],
+            (Outcome::Idle, 0),
+        ),
+        ACCEPTED,
+    ),
+    (
+        (
+            App::WsEcho,
+            &[Given::Idle, Given::Idle, Given::Idle, Given::Idle],
+            &[],
+            (Outcome::Idle, 0),
+        ),
+        ACCEPTED,
+    ),
+];
+
+#[test]
+fn a_session_at_a_limit_is_given_up(rt: HostRuntime) -> Result<(), Fail> {
+    let three_idle = limits_with(3, 1_000)?;
+    for (place, (row, text)) in WAITING.iter().enumerate() {
+        let mut line = script_of(rt.alloc(), HANDSHAKE, row.1)?;
+        let report = serve_by(&rt, &three_idle, row.0, &mut line)?;
+        let is_so = is_handed(&line, row.2) && line.text() == *text;
+        let counts = (report.exchanges, report.faults, report.idle);
+        assert_eq!(rt;
+            (is_so, report.outcome, counts),
+            (true, Outcome::Idle, (1, 0, 3)),
+            "row {place}"
+        );
+    }
+    Ok(())
+}

@@ -1,0 +1,182 @@
+//! Readers and writers whose every step a test sets, and a connection over them.
+ghost use Rattle.std.specs.Prelude.{◌≤◌, length};
+
+use crate::apps::{Heard, Listens, Refuses, Scripted, Step};
+use asgi_apps::{Application, Hello, WsEcho};
+use asgi_conn::{Inline, Line, Report, serve_connection};
+use asgi_io::CountingPause;
+use asgi_types::{Limits, State};
+use asgi_ws::{Pair, Wired};
+use futures::task::{Doorbell, Solo};
+use std::alloc::{AllocError, AllocGlobal};
+use std::io::{self, ErrorKind, Read, Write};
+use std::random::RandomSource;
+
+/// A reader that gives its bytes in pieces.
+#[derive(Drop)]
+pub struct Pieces<'a> {
+    pub bytes: &'a [u8],
+    /// The most bytes of the first read, and of each later one.
+    pub first: usize,
+    pub later: usize,
+    /// The fault that comes before each read, if any.
+    pub before: Option<ErrorKind>,
+    /// The read that fails, counted from 1, if any.
+    pub fails_at: u64,
+    /// How many reads gave bytes, the end or that failure.
+    pub reads: u64,
+    is_ready: bool,
+}
+
+impl<'a> Pieces<'a> {
+    /// The bytes, at most `first` of them in the first read and at most `later` in each other.
+    pub fn new(bytes: &'a [u8], first: usize, later: usize) -> Self {
+        Pieces {
+            bytes,
+            first,
+            later,
+            before: None,
+            fails_at: 0,
+            reads: 0,
+            is_ready: false,
+        }
+    }
+}
+
+impl Read for Pieces<'_> {
+    fn read(&mut self, buf: &mut [u8]) -> io::Result<usize> {
+        if let Some(kind) = self.before {
+            self.is_ready = !self.is_ready;
+            if self.is_ready {
+                return Err(io::Error::from(kind));
+            }
+        }
+        self.reads = self.reads.saturating_add(1);
+        if self.reads == self.fails_at {
+            return Err(io::Error::from(ErrorKind::ConnectionReset));
+        }
+        let most = if self.reads == 1 {
+            self.first
+        } else {
+            self.later
+        };
+        Ok(give(&mut self.bytes, most, buf))
+    }
+}
+
+/// Moves at most `most` bytes into the buffer, and says how many.
+fn give(bytes: &mut &[u8], most: usize, buf: &mut [u8]) -> usize
+    ensures { result ≤ length buf.new }
+{
+    let n = most.min(bytes.len()).min(buf.len());
+    let (now, rest) = bytes.split_at(n);
+    buf[..n].copy_from_slice(now);
+    *bytes = rest;
+    n
+}
+
+/// A writer that keeps what it takes.
+#[derive(Drop)]
+pub struct Sink {
+    pub taken: Vec<u8>,
+    /// The most bytes that a call takes.
+    pub most: usize,
+    /// The call that fails, counted from 1, if any.
+    pub fails_at: u64,
+    pub calls: u64,
+}
+
+impl Write for Sink {
+    fn write(&mut self, buf: &[u8]) -> io::Result<usize> {
+        self.calls = self.calls.saturating_add(1);
+        if self.calls == self.fails_at {
+            return Err(io::Error::from(ErrorKind::BrokenPipe));
+        }
+        let n = self.most.min(buf.len());
+        self.taken.extend_from_slice(&buf[..n])?;
+        Ok(n)
+    }
+
+    fn flush(&mut self) -> io::Result<()> {
+        Ok(())
+    }
+}
+
+/// A line of a reader, and of a writer that keeps what it takes.
+pub type Memory<R> = Wired<Pair<R, Vec<u8>>>;
+
+/// Nothing was read or written yet.
+pub fn line_of<H: AllocGlobal, R: Read + Drop>(rt: &H, reader: R) -> Result<Memory<R>, AllocError> {
+    let writer = Vec::with_capacity(rt.alloc(), 256)?;
+    Ok(Wired::new(rt.alloc(), Pair { reader, writer }))
+}
+
+/// What was written to the line.
+pub fn text_of<R: Drop>(line: &Memory<R>) -> &[u8] {
+    match line.stream() {
+        Some(pair) => pair.writer.as_slice(),
+        None => &[],
+    }
+}
+
+/// Serves one connection with no client, no server and an empty state, and gives the report.
+pub fn serve<H: RandomSource + AllocGlobal, A: Application, L: Line>(
+    rt: &H,
+    limits: &Limits,
+    app: &A,
+    line: &mut L,
+) -> io::Result<Report> {
+    let solo = Solo::new(rt, Doorbell::spinning())?;
+    Ok(serve_in(rt, &solo, limits, app, line))
+}
+
+fn serve_in<H: AllocGlobal, A: Application, L: Line>(
+    rt: &H,
+    solo: &Solo,
+    limits: &Limits,
+    app: &A,
+    line: &mut L,
+) -> Report {
+    let state = State::new(rt.alloc());
+    let mut runner = Inline::new(solo.begin());
+    let mut pause = CountingPause::new();
+    let report = serve_connection(
+        rt,
+        limits,
+        &None,
+        &None,
+        &state,
+        app,
+        line,
+        &mut runner,
+        &mut pause,
+    );
+    runner.end();
+    report
+}
+
+/// The application of a row.
+#[derive(Clone, Copy)]
+pub enum App {
+    Hello,
+    WsEcho,
+    Refuses,
+    Scripted(&'static [Step]),
+    Listens(&'static [Heard]),
+}
+
+/// Serves one connection by the application of a row.
+pub fn serve_by<H: RandomSource + AllocGlobal, L: Line>(
+    rt: &H,
+    limits: &Limits,
+    app: App,
+    line: &mut L,
+) -> io::Result<Report> {
+    match app {
+        App::Hello => serve(rt, limits, &Hello, line),
+        App::WsEcho => serve(rt, limits, &WsEcho, line),
+        App::Refuses => serve(rt, limits, &Refuses, line),
+        App::Scripted(steps) => serve(rt, limits, &Scripted(steps), line),
+        App::Listens(events) => serve(rt, limits, &Listens(events), line),
+    }
+}
