@@ -19,4 +19,5 @@ pub mod ConversationExample
 pub mod BeginningLemmas
 pub mod SessionExample
 pub mod SessionEchoLemmas
+pub mod SessionEchoExample
 pub mod SessionAnswerLemmas

@@ -6,9 +6,6 @@ use Rattle.asgi_types.specs.Scopes.{scope_with}
 use Rattle.asgi_types.specs.declared.end_kind.EndKind.{EndKind}
 use Rattle.asgi_types.specs.declared.end_kind.EndKind.TheVariants as kind
 use Rattle.asgi_types.specs.declared.facts.Facts.{Facts}
-use Rattle.asgi_types.specs.declared.facts.Framing.{Framing}
-use Rattle.asgi_types.specs.declared.facts.Framing.TheVariants.{Upgrade}
-use Rattle.asgi_types.specs.declared.incoming.Incoming.{Incoming}
 use Rattle.asgi_types.specs.declared.incoming.Payload.TheVariants as payload
 use Rattle.asgi_types.specs.declared.limits.Limits.{Limits}
 use Rattle.asgi_types.specs.declared.outgoing.Outgoing.{Outgoing}
@@ -28,7 +25,6 @@ use Rattle.asgi_ws.specs.declared.messages.Msg.{Msg}
 use Rattle.asgi_ws.specs.declared.messages.Msg.TheVariants as msg
 use Rattle.asgi_exchange.specs.Messages.{has_close}
 use Rattle.asgi_apps.specs.Answers.{not_found_events}
-use Rattle.asgi_conversation.specs.declared.following.Following.{Following}
 use Rattle.asgi_conversation.specs.declared.following.Following.TheVariants.{NextRequest, ConnectionEnds}
 use Rattle.asgi_conversation.specs.declared.input.InputEnd.{InputEnd}
 use Rattle.asgi_conversation.specs.declared.report.Outcome.{Outcome}

@@ -1,6 +1,6 @@
 -- A session with `WsEcho` hands over the payloads received, in order, and the client's own close ends it.
 use Rattle.std.proofs.Common.{◌≡◌, ℕ, ◌<◌, Bool, true, false, List, [], ◌∷◌, ◌++◌, ◌⊎◌, inl, inr, length, take, drop, map, flat_map, refl, sym, ap, ◌∙◌, subst, append_assoc, append-nil, take-append-drop, Option, Some, None, zero, suc, arith, All}
-use Rattle.std.specs.Prelude.{◌&&◌, ◌||◌, replicate, is_some, if◌then◌else◌}
+use Rattle.std.specs.Prelude.{◌||◌, replicate, is_some, if◌then◌else◌}
 use Rattle.std.proofs.lemmas.List.Elements.{All-head, All-tail}
 use mathlib.Core.List.{IsPrefix}
 use Rattle.asgi_types.specs.Fields.{HeaderField}
@@ -10,6 +10,7 @@ use Rattle.asgi_types.specs.declared.end_kind.EndKind.TheVariants as kind
 use Rattle.asgi_types.specs.declared.facts.Facts.{Facts}
 use Rattle.asgi_types.specs.declared.incoming.Incoming.{Incoming}
 use Rattle.asgi_types.specs.declared.incoming.Incoming.TheVariants.{HttpRequest, HttpDisconnect, WsConnect, WsReceive, WsDisconnect, LifespanStartup, LifespanShutdown}
+use Rattle.asgi_types.specs.declared.incoming.Payload as payloads
 use Rattle.asgi_types.specs.declared.incoming.Payload.TheVariants as payload
 use Rattle.asgi_types.specs.declared.limits.Limits.{Limits}
 use Rattle.asgi_types.specs.declared.outgoing.Outgoing.{Outgoing}
@@ -19,7 +20,7 @@ use Rattle.asgi_types.specs.declared.scope.Peer.{Peer}
 use Rattle.asgi_types.specs.declared.scope.Scope.{Scope}
 use Rattle.asgi_types.specs.declared.state.StateValue.{StateValue}
 use Rattle.asgi_protocol.specs.Lawful.{IsLawful}
-use Rattle.asgi_protocol.specs.Shapes.{is_closed, is_row, is_message, is_close, is_empty}
+use Rattle.asgi_protocol.specs.Shapes.{is_closed, is_row, is_message, is_close}
 use Rattle.asgi_protocol.specs.Verdicts.{is_disconnect}
 use Rattle.asgi_protocol.proofs.PassingLemmas.{fronts_are_lawful}
 use Rattle.asgi_protocol.proofs.WordLemmas.{test_of_word}
@@ -30,9 +31,9 @@ use Rattle.asgi_ws.specs.declared.messages.Handed.TheVariants.{Payload, Close}
 use Rattle.asgi_ws.specs.declared.messages.Msg.{Msg}
 use Rattle.asgi_ws.specs.declared.messages.Msg.TheVariants as msg
 use Rattle.asgi_exchange.specs.Messages.{events_in, before_close, first_close, has_close, session_events, disconnect_of, session_disconnect}
-use Rattle.asgi_exchange.specs.Session.{Output, Byte, Message, accepted_session, message_of, output_of, session_output, ending_of, session_ending}
+use Rattle.asgi_exchange.specs.Session.{Output, Byte, Message, message_of, output_of, session_output, ending_of, session_ending}
 use Rattle.asgi_exchange.specs.SessionExchange.{ending_behind}
-use Rattle.asgi_exchange.proofs.ListLemmas.{prefix_behind, prefix_same, prefix_trans, prefix_one_more}
+use Rattle.asgi_exchange.proofs.ListLemmas.{prefix_self, prefix_behind, prefix_same, prefix_trans, prefix_one_more}
 use Rattle.asgi_exchange.proofs.SessionLemmas.{lawful_is_accepted}
 use Rattle.asgi_apps.specs.Answers.{Answers}
 use Rattle.asgi_apps.specs.WsEcho.{accept_events, messages_of, session_echo, HeardDisconnect, SessionAnswers}
@@ -43,7 +44,7 @@ use Rattle.asgi_conversation.specs.declared.report.Report.{Report}
 use Rattle.asgi_conversation.specs.TaskEnds.{is_cut}
 use Rattle.asgi_conversation.specs.Exchanges.{Exchanged}
 use Rattle.asgi_conversation.specs.Promised.{IsPromised, ArePromised, task_end, ws_echo_promise}
-use Rattle.asgi_conversation.specs.SessionEcho.{payloads_in, IsEchoed, IsRefused, IsOpened, IsBegun, IsBegunAndClosed, EchoesUntil}
+use Rattle.asgi_conversation.specs.SessionEcho.{payloads_in, IsEchoed, IsRefused, IsBegun, IsBegunAndClosed, EchoesUntil}
 use Rattle.asgi_conversation.specs.Sessions.{Talk, silence, spoken, IsLeft, ByApplication, ByClient, ByCut, ServesHandshake, Opens, Accepted, Silent, handshake_of, session_out, session_outcome, open_outcome, after_session, IsDoneTalking, IsNext, Saying, Ending, StopsTalking, EndsInSession, ConversesInSession}
 
 -- ---- a text and the messages behind it
@@ -78,6 +79,12 @@ front_outputs (c ∷ text) [] a [] p = absurd (cc (p.1))
 front_outputs (c ∷ text) [] a (y ∷ b) p = absurd (cc (p.1))
 front_outputs (c ∷ text) (d ∷ other) a b p = front_outputs text other a b (p.0, cc (p.1))
 
+front_text : (text other : List ℕ) (a b : List Handed) → IsPrefix (outputs text a) (outputs other b) → IsPrefix text other
+front_text [] other a b p = (other, refl)
+front_text (c ∷ text) [] a [] p = absurd (cc (p.1))
+front_text (c ∷ text) [] a (y ∷ b) p = absurd (cc (p.1))
+front_text (c ∷ text) (d ∷ other) a b p = let rest = front_text text other a b (p.0, cc (p.1)) in (rest.0, cc (p.1, rest.1))
+
 one_more_message : (text : List ℕ) (a : List Handed) (last : Handed) → outputs text a ++ Message last ∷ [] ≡ outputs text (a ++ last ∷ [])
 one_more_message [] [] last = refl
 one_more_message [] (x ∷ a) last = ap (λ (l : List Output). Message x ∷ l) (one_more_message [] a last)
@@ -97,25 +104,23 @@ sent_back (msg.Ping ∷ received) = sent_back received
 sent_back (msg.Pong ∷ received) = sent_back received
 sent_back (msg.Close close ∷ received) = refl
 
+-- these are sent as a beginning of the payloads
+abbrev IsSentAs : List Outgoing → List Handed → Type 0
+IsSentAs sends payloads = (sent : List Handed) × (flat_map message_of sends ≡ map Message sent) × IsPrefix sent payloads
+
+one_more_sent : (p : payloads.Payload) (send : Outgoing) (sends : List Outgoing) (more : List Handed) → send ≡ WsSend p → IsSentAs sends more → IsSentAs (send ∷ sends) (Payload p ∷ more)
+one_more_sent p send sends more same on = (
+  Payload p ∷ on.0,
+  ap (λ (o : Outgoing). message_of o ++ flat_map message_of sends) same ∙ ap (λ (l : List Output). Message (Payload p) ∷ l) on.1,
+  (on.2.0, ap (λ (l : List Handed). Payload p ∷ l) on.2.1),
+)
+
 -- and a front of it
-sent_front : (received : List Msg) (sends rest : List Outgoing) → sends ++ rest ≡ messages_of (events_of received)
-    → (sent : List Handed) × (flat_map message_of sends ≡ map Message sent) × IsPrefix sent (payloads_in received)
+sent_front : (received : List Msg) (sends rest : List Outgoing) → sends ++ rest ≡ messages_of (events_of received) → IsSentAs sends (payloads_in received)
 sent_front received [] rest e = ([], refl, (payloads_in received, refl))
 sent_front [] (s ∷ sends) rest e = absurd (cc (e))
-sent_front (msg.Text text ∷ received) (s ∷ sends) rest e =
-    let on = sent_front received sends rest (cc (e)) in
-    let same : s ≡ WsSend (payload.Text text) = cc (e) in (
-      Payload (payload.Text text) ∷ on.0,
-      ap (λ (o : Outgoing). message_of o ++ flat_map message_of sends) same ∙ ap (λ (l : List Output). Message (Payload (payload.Text text)) ∷ l) on.1,
-      (on.2.0, ap (λ (l : List Handed). Payload (payload.Text text) ∷ l) on.2.1),
-    )
-sent_front (msg.Bytes bytes ∷ received) (s ∷ sends) rest e =
-    let on = sent_front received sends rest (cc (e)) in
-    let same : s ≡ WsSend (payload.Bytes bytes) = cc (e) in (
-      Payload (payload.Bytes bytes) ∷ on.0,
-      ap (λ (o : Outgoing). message_of o ++ flat_map message_of sends) same ∙ ap (λ (l : List Output). Message (Payload (payload.Bytes bytes)) ∷ l) on.1,
-      (on.2.0, ap (λ (l : List Handed). Payload (payload.Bytes bytes) ∷ l) on.2.1),
-    )
+sent_front (msg.Text text ∷ received) (s ∷ sends) rest e = one_more_sent (payload.Text text) s sends (payloads_in received) (cc (e)) (sent_front received sends rest (cc (e)))
+sent_front (msg.Bytes bytes ∷ received) (s ∷ sends) rest e = one_more_sent (payload.Bytes bytes) s sends (payloads_in received) (cc (e)) (sent_front received sends rest (cc (e)))
 sent_front (msg.Ping ∷ received) (s ∷ sends) rest e = sent_front received (s ∷ sends) rest e
 sent_front (msg.Pong ∷ received) (s ∷ sends) rest e = sent_front received (s ∷ sends) rest e
 sent_front (msg.Close close ∷ received) (s ∷ sends) rest e = absurd (cc (e))
@@ -245,10 +250,11 @@ record FrontOut (facts : Facts) (received : List Msg) (said : List Outgoing) : T
   pub text : List ℕ
   pub sent : List Handed
   pub out_is : session_output (handshake_of facts) facts said ≡ outputs text sent
+  pub text_first : IsPrefix text (handshake_of facts None [])
   pub first : IsPrefix sent (payloads_in received)
 
 front_out : (facts : Facts) (received : List Msg) (said rest : List Outgoing) → IsLawful WebSocket facts said → said ++ rest ≡ all_said received → FrontOut facts received said
-front_out facts received [] rest lawful e = record { text = []; sent = []; out_is = refl; first = (payloads_in received, refl) }
+front_out facts received [] rest lawful e = record { text = []; sent = []; out_is = refl; text_first = (handshake_of facts None [], refl); first = (payloads_in received, refl) }
 front_out facts received (s ∷ said) rest lawful e =
     let same : s ≡ WsAccept None [] = cc (e) in
     let on = sent_front received said rest (cc (e)) in
@@ -258,6 +264,7 @@ front_out facts received (s ∷ said) rest lawful e =
       out_is = ap (output_of (handshake_of facts) facts) (lawful_is_accepted facts (s ∷ said) lawful)
           ∙ ap (λ (o : Outgoing). output_of (handshake_of facts) facts (o ∷ said)) same
           ∙ ap (λ (l : List Output). map Byte (handshake_of facts None []) ++ l) on.1;
+      text_first = prefix_self (handshake_of facts None []);
       first = on.2;
     }
 
@@ -316,10 +323,10 @@ module _ (limits : Limits) (cut : Bool) (bytes : List ℕ) (x : Exchanged) (talk
   said_out : FrontOut x.facts talk.received x.said
   said_out = front_out x.facts talk.received x.said said_due.0 s.lawful said_due.1
 
-  opened : IsOpened x talk text
-  opened = by s.opens
+  messages_follow : (talk ≡ silence) ⊎ (text ≡ handshake_of x.facts None [])
+  messages_follow = by s.opens
     where
-      by : Opens s.frames x talk text → IsOpened x talk text
+      by : Opens s.frames x talk text → (talk ≡ silence) ⊎ (text ≡ handshake_of x.facts None [])
       by (Silent quiet) = inl quiet
       by (Accepted subprotocol headers events said text_is left) =
           let all : (WsAccept subprotocol headers ∷ events) ++ said_due.0 ≡ all_said talk.received = ap (λ (l : List Outgoing). l ++ said_due.0) (sym said) ∙ said_due.1 in
@@ -330,7 +337,7 @@ module _ (limits : Limits) (cut : Bool) (bytes : List ℕ) (x : Exchanged) (talk
   -- ---- what the end of the task adds
 
   abbrev EndAs : List Output → Type 0
-  EndAs more = ((x.said ≡ []) × ((refusal : List ℕ) × (more ≡ map Byte refusal))) ⊎ ((more ≡ []) ⊎ (more ≡ Message (Close 1000 []) ∷ []))
+  EndAs more = ((x.said ≡ []) × (more ≡ map Byte (refusal_text 500))) ⊎ ((more ≡ []) ⊎ (more ≡ Message (Close 1000 []) ∷ []))
 
   returned_adds : EndAs (session_ending x.facts x.said kind.Returned x.broke)
   returned_adds =
@@ -342,7 +349,7 @@ module _ (limits : Limits) (cut : Bool) (bytes : List ℕ) (x : Exchanged) (talk
       close false false = inr refl
 
       by : (said : List Outgoing) → x.said ≡ said → EndAs (ending_of 1000 x.broke said)
-      by [] e = inl (e, (refusal_text 500, refl))
+      by [] e = inl (e, refl)
       by (o ∷ said) e =
           let all : (o ∷ said) ++ said_due.0 ≡ all_said talk.received = ap (λ (l : List Outgoing). l ++ said_due.0) (sym e) ∙ said_due.1 in
           let same : o ≡ WsAccept None [] = cc (all) in
@@ -352,34 +359,40 @@ module _ (limits : Limits) (cut : Bool) (bytes : List ℕ) (x : Exchanged) (talk
   end_adds kind.Returned e = returned_adds
   end_adds kind.Faulted e =
       let none : x.said ≡ [] = (promised_at kind.Faulted e).0.1 in
-      inl (none, (refusal_text 500, ap (λ (l : List Outgoing). session_ending x.facts l kind.Faulted x.broke) none))
+      inl (none, ap (λ (l : List Outgoing). session_ending x.facts l kind.Faulted x.broke) none)
   end_adds kind.Idle e = inr (inl refl)
 
   -- ---- a beginning of that
 
+  abbrev TextIs : Type 0
+  TextIs = IsPrefix text (handshake_of x.facts None []) ⊎ IsPrefix text (refusal_text 500)
+
   begun_of : (other : List ℕ) (sent : List Handed) → IsPrefix (spoken text talk) (outputs other sent) → IsPrefix sent (payloads_in talk.received) → IsBegun talk
   begun_of other sent q first = prefix_trans talk.handed sent (payloads_in talk.received) (front_outputs text other talk.handed sent q) first
 
-  begun_in : (said : List Outgoing) → FrontOut x.facts talk.received said → IsPrefix (spoken text talk) (session_output (handshake_of x.facts) x.facts said) → IsBegun talk
-  begun_in said out q = begun_of out.text out.sent (subst (λ (l : List Output). IsPrefix (spoken text talk) l) out.out_is q) out.first
+  begun_in : (said : List Outgoing) → FrontOut x.facts talk.received said → IsPrefix (spoken text talk) (session_output (handshake_of x.facts) x.facts said) → TextIs × IsBegun talk
+  begun_in said out q =
+      let w = subst (λ (l : List Output). IsPrefix (spoken text talk) l) out.out_is q in
+      (inl (prefix_trans text out.text (handshake_of x.facts None []) (front_text text out.text talk.handed out.sent w) out.text_first), begun_of out.text out.sent w out.first)
 
-  -- nothing was said, and this is a text
-  begun_refusal : (more : List Output) → (x.said ≡ []) × ((refusal : List ℕ) × (more ≡ map Byte refusal))
-      → IsPrefix (spoken text talk) (session_output (handshake_of x.facts) x.facts x.said ++ more) → IsBegun talk
+  -- nothing was said, and the server answered
+  begun_refusal : (more : List Output) → (x.said ≡ []) × (more ≡ map Byte (refusal_text 500))
+      → IsPrefix (spoken text talk) (session_output (handshake_of x.facts) x.facts x.said ++ more) → TextIs × IsBegun talk
   begun_refusal more r q =
-      let all : session_output (handshake_of x.facts) x.facts x.said ++ more ≡ outputs r.1.0 [] =
-      ap (λ (l : List Outgoing). session_output (handshake_of x.facts) x.facts l ++ more) r.0 ∙ r.1.1 ∙ sym (append-nil (map Byte r.1.0)) in
-      begun_of r.1.0 [] (subst (λ (l : List Output). IsPrefix (spoken text talk) l) all q) (payloads_in talk.received, refl)
+      let all : session_output (handshake_of x.facts) x.facts x.said ++ more ≡ outputs (refusal_text 500) [] =
+      ap (λ (l : List Outgoing). session_output (handshake_of x.facts) x.facts l ++ more) r.0 ∙ r.1 ∙ sym (append-nil (map Byte (refusal_text 500))) in
+      let w = subst (λ (l : List Output). IsPrefix (spoken text talk) l) all q in
+      (inr (front_text text (refusal_text 500) talk.handed [] w), begun_of (refusal_text 500) [] w (payloads_in talk.received, refl))
 
   -- a write failed
-  stops : (n : ℕ) → StopsTalking n x (spoken text talk) → IsBegun talk
+  stops : (n : ℕ) → StopsTalking n x (spoken text talk) → TextIs × IsBegun talk
   stops n t = by t.is_next
     where
       within : IsPrefix (spoken text talk) (t.out ++ t.more)
       within =
           subst (λ (l : List Output). IsPrefix l (t.out ++ t.more)) (sym t.written_is) (prefix_behind t.out (take n t.more) t.more (drop n t.more, take-append-drop n t.more))
 
-      ending : (k : EndKind) → t.out ≡ session_output (handshake_of x.facts) x.facts x.said → EndAs t.more → IsBegun talk
+      ending : (k : EndKind) → t.out ≡ session_output (handshake_of x.facts) x.facts x.said → EndAs t.more → TextIs × IsBegun talk
       ending k out (inl r) =
           begun_refusal t.more r (subst (λ (l : List Output). IsPrefix (spoken text talk) (l ++ t.more)) out within)
       ending k out (inr (inl none)) =
@@ -392,7 +405,7 @@ module _ (limits : Limits) (cut : Bool) (bytes : List ℕ) (x : Exchanged) (talk
           (prefix_same (spoken text talk) (session_output (handshake_of x.facts) x.facts x.said)
           (t.written_is ∙ ap (λ (k : ℕ). t.out ++ take k t.more) zero_is ∙ append-nil t.out ∙ out))
 
-      by : IsNext x t.out t.more → IsBegun talk
+      by : IsNext x t.out t.more → TextIs × IsBegun talk
       by (Saying before after event said out next) =
           let front : (before ++ event ∷ []) ++ after ≡ x.said = append_assoc before (event ∷ []) after ∙ sym said in
           let lawful = fronts_are_lawful WebSocket x.facts (before ++ event ∷ []) after (subst (λ (l : List Outgoing). IsLawful WebSocket x.facts l) (sym front) s.lawful) in
@@ -405,25 +418,28 @@ module _ (limits : Limits) (cut : Bool) (bytes : List ℕ) (x : Exchanged) (talk
   out = session_output (handshake_of x.facts) x.facts x.said
 
   -- it was given up
-  gives_up : IsPrefix (spoken text talk) (session_out x) → IsBegun talk ⊎ IsBegunAndClosed talk
+  gives_up : IsPrefix (spoken text talk) (session_out x) → TextIs × (IsBegun talk ⊎ IsBegunAndClosed talk)
   gives_up q = by x.ended refl
     where
-      with_end : (more : List Output) → EndAs more → IsPrefix (spoken text talk) (out ++ more) → IsBegun talk ⊎ IsBegunAndClosed talk
-      with_end more (inl r) w = inl (begun_refusal more r w)
+      with_end : (more : List Output) → EndAs more → IsPrefix (spoken text talk) (out ++ more) → TextIs × (IsBegun talk ⊎ IsBegunAndClosed talk)
+      with_end more (inl r) w = let b = begun_refusal more r w in (b.0, inl b.1)
       with_end more (inr (inl none)) w =
-          inl (begun_in x.said said_out (subst (λ (l : List Output). IsPrefix (spoken text talk) l) (ap (λ (l : List Output). out ++ l) none ∙ append-nil out) w))
+          let b = begun_in x.said said_out (subst (λ (l : List Output). IsPrefix (spoken text talk) l) (ap (λ (l : List Output). out ++ l) none ∙ append-nil out) w) in (b.0, inl b.1)
       with_end more (inr (inr close)) w =
           let all : out ++ more ≡ outputs said_out.text (said_out.sent ++ Close 1000 [] ∷ []) =
           ap (λ (l : List Output). out ++ l) close ∙ ap (λ (l : List Output). l ++ Message (Close 1000 []) ∷ []) said_out.out_is
           ∙ one_more_message said_out.text said_out.sent (Close 1000 []) in
-          let handed = front_outputs text said_out.text talk.handed (said_out.sent ++ Close 1000 [] ∷ []) (subst (λ (l : List Output). IsPrefix (spoken text talk) l) all w) in
-          either (prefix_one_more talk.handed said_out.sent (Close 1000 []) handed)
+          let front = subst (λ (l : List Output). IsPrefix (spoken text talk) l) all w in
+          let handed = front_outputs text said_out.text talk.handed (said_out.sent ++ Close 1000 [] ∷ []) front in (
+            inl (prefix_trans text said_out.text (handshake_of x.facts None []) (front_text text said_out.text talk.handed (said_out.sent ++ Close 1000 [] ∷ []) front) said_out.text_first),
+            either (prefix_one_more talk.handed said_out.sent (Close 1000 []) handed),
+          )
         where
           either : IsPrefix talk.handed said_out.sent ⊎ (talk.handed ≡ said_out.sent ++ Close 1000 [] ∷ []) → IsBegun talk ⊎ IsBegunAndClosed talk
           either (inl first) = inl (prefix_trans talk.handed said_out.sent (payloads_in talk.received) first said_out.first)
           either (inr all) = inr (said_out.sent, said_out.first, all)
 
-      by : (ended : Option EndKind) → x.ended ≡ ended → IsBegun talk ⊎ IsBegunAndClosed talk
+      by : (ended : Option EndKind) → x.ended ≡ ended → TextIs × (IsBegun talk ⊎ IsBegunAndClosed talk)
       by None e =
           with_end [] (inr (inl refl)) (subst (λ (k : Option EndKind). IsPrefix (spoken text talk) (out ++ ending_behind x.facts x.said k x.broke)) e q)
       by (Some k) e =
@@ -596,9 +612,15 @@ module _ (limits : Limits) (bytes : List ℕ) (x : Exchanged) (talk : Talk) (tex
   echoes (Refused status) s e = refused_with limits bytes x talk text s client server values p status (done limits bytes x talk text s client server values p (Refused status) e)
   echoes InputBroke s e =
       let all = input_broke limits bytes x talk text s client server values p (done limits bytes x talk text s client server values p InputBroke e.0) in (all.0, all.1, e.1)
-  echoes (WriteFailed n) s e = (opened limits true bytes x talk text s client server values p, stops limits true bytes x talk text s client server values p n e)
-  echoes Idle s e = (opened limits true bytes x talk text s client server values p, gives_up limits true bytes x talk text s client server values p e)
-  echoes NoMemory s e = (opened limits true bytes x talk text s client server values p, gives_up limits true bytes x talk text s client server values p e)
+  echoes (WriteFailed n) s e =
+      let b = stops limits true bytes x talk text s client server values p n e in
+      (record { text_is = b.0; messages_follow = messages_follow limits true bytes x talk text s client server values p }, b.1)
+  echoes Idle s e =
+      let b = gives_up limits true bytes x talk text s client server values p e in
+      (record { text_is = b.0; messages_follow = messages_follow limits true bytes x talk text s client server values p }, b.1)
+  echoes NoMemory s e =
+      let b = gives_up limits true bytes x talk text s client server values p e in
+      (record { text_is = b.0; messages_follow = messages_follow limits true bytes x talk text s client server values p }, b.1)
 
 pub session_echoes : (limits : Limits) (end : InputEnd) (read : List ℕ) (exchanges : List Exchanged) (talk : Talk) (written : List ℕ) (report : Report)
     (client server : Option Peer) (values : List (List ℕ × StateValue)) (c : ConversesInSession limits end read exchanges talk written report)

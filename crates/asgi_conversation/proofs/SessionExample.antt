@@ -48,12 +48,12 @@ use Rattle.asgi_conversation.specs.Exchanges.{Exchanged}
 use Rattle.asgi_conversation.specs.Sessions.{Talk, Accepted, ByClient, ServesHandshake, ConversesInSession, handshake_of, spoken, session_out, after_session}
 
 -- room for five fields
-limits : Limits
+pub limits : Limits
 limits = record example_limits { max_headers = 8; headers_in_range = (omega arith, omega arith) }
 
 -- ---- the handshake
 
-key : List ℕ
+pub key : List ℕ
 key = codes "dGhlIHNhbXBsZSBub25jZQ=="
 
 field : List ℕ → List ℕ → Field
@@ -74,10 +74,10 @@ upgrade_field = field (codes "Upgrade") (codes " websocket") ∷ connection_fiel
 fields : List Field
 fields = field (codes "Host") (codes " a") ∷ upgrade_field
 
-asked : RequestHead
+pub asked : RequestHead
 asked = record { blank = []; method = codes "GET"; target = codes "/c"; minor = 1; line_end = crlf; fields = fields; last = crlf }
 
-asked_text : List ℕ
+pub asked_text : List ℕ
 asked_text =
     codes "GET /c HTTP/1.1" ++ crlf_bytes ++ codes "Host: a" ++ crlf_bytes ++ codes "Upgrade: websocket" ++ crlf_bytes ++ codes "Connection: Upgrade" ++ crlf_bytes
     ++ codes "Sec-WebSocket-Key: dGhlIHNhbXBsZSBub25jZQ==" ++ crlf_bytes ++ codes "Sec-WebSocket-Version: 13" ++ crlf_bytes ++ crlf_bytes
@@ -121,13 +121,13 @@ asked_is_a_head = record {
   fields = all_are_fields;
 }
 
-facts : Facts
+unfoldable pub facts : Facts
 facts = record { version = V11; head_only = false; close = false; expect = false; framing = Upgrade; key = key; subprotocols = [] }
 
-scope : Scope
+unfoldable pub scope : Scope
 scope = scope_of (record_of asked) Upgrade
 
-asked_begins : (frames : List ℕ) → BeginsWithHandshake limits (asked_text ++ frames) scope facts frames
+pub asked_begins : (frames : List ℕ) → BeginsWithHandshake limits (asked_text ++ frames) scope facts frames
 unfolding asked facts scope limits example_limits fields upgrade_field connection_field key_field version_field field trim_ows key decoded_of groups_error scan_steps groups_bytes
 asked_begins frames = record {
   head = asked;
@@ -143,7 +143,7 @@ asked_begins frames = record {
 
 -- ---- the session
 
-hello : List ℕ
+unfoldable pub hello : List ℕ
 hello = codes "Hello"
 
 -- the application accepted it, sent the message back, and returned where it heard that the client was gone
@@ -158,7 +158,7 @@ echoed = record {
 }
 
 -- section 5.7: a masked text
-frame : List ℕ
+pub frame : List ℕ
 frame = 129 ∷ 133 ∷ 55 ∷ 250 ∷ 33 ∷ 61 ∷ 127 ∷ 159 ∷ 77 ∷ 81 ∷ 88 ∷ []
 
 -- the line was given the frame, gave the message, and took it back
@@ -166,7 +166,7 @@ talk : Talk
 talk = record { leftover = Some frame; received = Text hello ∷ []; is_over = true; handed = Payload (payload.Text hello) ∷ [] }
 
 -- section 1.3
-accepted_text : List ℕ
+pub accepted_text : List ℕ
 accepted_text =
     codes "HTTP/1.1 101 Switching Protocols" ++ crlf_bytes ++ codes "upgrade: websocket" ++ crlf_bytes ++ codes "connection: Upgrade" ++ crlf_bytes
     ++ codes "sec-websocket-accept: s3pPLMBiTxaQ9kYGzzhZRbK+xOo=" ++ crlf_bytes ++ crlf_bytes
@@ -174,11 +174,11 @@ accepted_text =
 reported : Report
 reported = record { exchanges = 1; faults = 0; turns = 4; idle = 0; outcome = InputBroke }
 
-said_is_lawful : IsLawful WebSocket facts (WsAccept None [] ∷ WsSend (payload.Text hello) ∷ [])
+pub said_is_lawful : IsLawful WebSocket facts (WsAccept None [] ∷ WsSend (payload.Text hello) ∷ [])
 unfolding facts hello
 said_is_lawful = (lawful_lists_are_decided WebSocket facts (WsAccept None [] ∷ WsSend (payload.Text hello) ∷ [])).0 refl
 
-text_is : accepted_text ≡ handshake_of facts None []
+pub text_is : accepted_text ≡ handshake_of facts None []
 unfolding facts key accepted_text digits base64 encode_symbols first_words schedule rounds compress hash_after digest_bytes sha1
 text_is = refl
 

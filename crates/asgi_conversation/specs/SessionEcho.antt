@@ -35,16 +35,18 @@ pub record IsEchoed (frames : List ℕ) (session : Exchanged) (talk : Talk) (tex
   -- each payload was handed over, once and in order, and nothing else: no close of the server
   pub handed : talk.handed ≡ payloads_in talk.received
 
--- No memory was had for a task, and the server answered in its place.
+-- The call gave no task, and the server answered in its place.
 pub record IsRefused (status : ℕ) (session : Exchanged) (talk : Talk) (text : List ℕ) : Type 0 where
   pub failed : session.ended ≡ Some Faulted
   pub status_is : status ≡ 500
   pub text_is : text ≡ refusal_text 500
   pub quiet : talk ≡ silence
 
--- nothing but text passed, or the handshake was accepted
-abbrev pub IsOpened : Exchanged → Talk → List ℕ → Type 0
-IsOpened session talk text = (talk ≡ silence) ⊎ (text ≡ handshake_of session.facts None [])
+-- The text is a beginning of the answer to the handshake, and messages passed only behind all of it.
+pub record IsOpened (session : Exchanged) (talk : Talk) (text : List ℕ) : Type 0 where
+  -- it is accepted, or the server answers in place of a task that said nothing
+  pub text_is : IsPrefix text (handshake_of session.facts None []) ⊎ IsPrefix text (refusal_text 500)
+  pub messages_follow : (talk ≡ silence) ⊎ (text ≡ handshake_of session.facts None [])
 
 -- what was handed over is a beginning of the payloads
 abbrev pub IsBegun : Talk → Type 0

@@ -34,7 +34,7 @@ pub fn ws_echo_sends_the_messages_back()
 {}
 
 /// What `WsEcho` has handed over, and how the connection ended, is one function of the messages received, whatever was read in
-/// front of them and however they were cut; and what was handed over for a front of the messages comes first for all of them.
+/// front of them; and what was handed over for a front of the messages comes first for all of them.
 pub fn same_messages_are_answered_alike()
     ensures messages { (limits : Limits) (end late : InputEnd) (read other_read : List ℕ) (exchanges others : List Exchanged) (talk other_talk : Talk) (written other : List ℕ) (report another : Report)
         → ConversesInSessionWith ws_echo_promise limits end read exchanges talk written report → ConversesInSessionWith ws_echo_promise limits late other_read others other_talk other another
