@@ -15,10 +15,10 @@ use Rattle.asgi_protocol.proofs.PassingLemmas.{fronts_are_lawful}
 use Rattle.asgi_exchange.specs.Items.{end_of}
 use Rattle.asgi_exchange.specs.Messages.{has_close}
 use Rattle.asgi_exchange.specs.Session.{Output, session_output, session_ending}
-use Rattle.asgi_exchange.specs.SessionExchange.{HasSessionCause, IsSessionExchange, ending_behind, session_text}
+use Rattle.asgi_exchange.specs.SessionExchange.{HasSessionCause, IsSessionExchange, session_text}
 use Rattle.asgi_exchange.specs.Steps.{is_by_input}
 use Rattle.asgi_exchange.specs.Views.{ByCut, World, said_of, taken_of}
-use Rattle.asgi_exchange.proofs.ListLemmas.{prefix_same, prefix_trans, prefix_front}
+use Rattle.asgi_exchange.proofs.ListLemmas.{prefix_same, prefix_trans}
 use Rattle.asgi_exchange.proofs.SessionLemmas.{lawful_is_accepted, web_socket_is_steady}
 use Rattle.asgi_ws.specs.declared.messages.Handed.{Handed}
 use Rattle.asgi_ws.specs.declared.messages.Msg.{Msg}
@@ -28,7 +28,7 @@ use Rattle.asgi_conversation.specs.declared.report.Outcome.TheVariants.{Finished
 use Rattle.asgi_conversation.specs.declared.report.Report.{Report}
 use Rattle.asgi_conversation.specs.Exchanges.{Exchanged}
 use Rattle.asgi_conversation.specs.Persistence.{CountsExchanges}
-use Rattle.asgi_conversation.specs.Sessions.{Talk, silence, handshake_of, HearsSession, IsLeft, ByApplication, ByClient, ByCut as left_by_cut, IsDoneTalking, IsNext, Saying, Ending, StopsTalking, Opens, Accepted, Silent, ServesHandshake, EndsInSession, ConversesInSession, after_session, session_outcome, open_outcome, session_out, spoken}
+use Rattle.asgi_conversation.specs.Sessions.{Talk, silence, handshake_of, HearsSession, IsLeft, ByApplication, ByClient, ByCut as left_by_cut, IsDoneTalking, IsNext, Saying, Ending, StopsTalking, Opens, Accepted, Silent, ServesHandshake, EndsInSession, ConversesInSession, after_session, session_outcome, open_outcome, said_out, spoken}
 use Rattle.asgi_conversation.specs.TaskEnds.{is_cut}
 use Rattle.asgi_conn.specs.declared.half.Stage.{Stage}
 use Rattle.asgi_conn.specs.declared.half.Stage.TheVariants.{Over}
@@ -93,6 +93,27 @@ never_fails : (ended : EndKind) (said : List Outgoing) (broke : Bool) (received 
 never_fails kind.Returned said broke received n e = no_failure said broke received n (session_ways said broke received) e
 never_fails kind.Faulted said broke received n e = no_failure said broke received n (session_ways said broke received) e
 never_fails kind.Idle said broke received n e = cc e
+
+no_idle : (said : List Outgoing) (broke : Bool) (received : List Msg) → Ways said broke received → session_outcome said broke received ≡ Idle → ⊥
+no_idle said broke received (IsFinished is) e = cc (is, e)
+no_idle said broke received (IsRefused is) e = cc (is, e)
+no_idle said broke received (IsBroken is by none) e = cc (is, e)
+
+-- a task that was given up adds nothing
+given_up : (facts : Facts) (ended : EndKind) (said all : List Outgoing) (broke : Bool) (received : List Msg) → after_session ended said broke received ≡ Idle → session_ending facts all ended broke ≡ []
+given_up facts kind.Returned said all broke received e = absurd (no_idle said broke received (session_ways said broke received) e)
+given_up facts kind.Faulted said all broke received e = absurd (no_idle said broke received (session_ways said broke received) e)
+given_up facts kind.Idle said all broke received e = refl
+
+no_want : (said : List Outgoing) (broke : Bool) (received : List Msg) → Ways said broke received → session_outcome said broke received ≡ NoMemory → ⊥
+no_want said broke received (IsFinished is) e = cc (is, e)
+no_want said broke received (IsRefused is) e = cc (is, e)
+no_want said broke received (IsBroken is by none) e = cc (is, e)
+
+never_lacks : (ended : EndKind) (said : List Outgoing) (broke : Bool) (received : List Msg) → after_session ended said broke received ≡ NoMemory → ⊥
+never_lacks kind.Returned said broke received e = no_want said broke received (session_ways said broke received) e
+never_lacks kind.Faulted said broke received e = no_want said broke received (session_ways said broke received) e
+never_lacks kind.Idle said broke received e = cc e
 
 -- ---- the text of more
 
@@ -204,8 +225,12 @@ module _ (scene : SessionScene) (now : LineState) (half : SessionHalf) (read : L
   ends_by_task (Refused status) is t d = d
   ends_by_task InputBroke is t d = (d, no_more t is)
   ends_by_task (WriteFailed n) is t d = absurd (never_fails t.kind (said_in scene w.conn) (is_by_input w.conn.broken) w.conn.arrived n (t.follows ∙ is))
-  ends_by_task Idle is t d = prefix_same (spoken s.text talk) (session_out one) d.3
-  ends_by_task NoMemory is t d = prefix_same (spoken s.text talk) (session_out one) d.3
+  ends_by_task Idle is t d =
+      prefix_same (spoken s.text talk) (said_out one)
+      (d.3 ∙ ap (λ (o : Option EndKind). session_text (handshake_of scene.facts) scene.facts (said_of w.app) o (is_by_input w.conn.broken)) (ended_put t.kind t.taken)
+      ∙ ap (λ (l : List Output). said_out one ++ l) (given_up scene.facts t.kind (said_in scene w.conn) (said_of w.app) (is_by_input w.conn.broken) w.conn.arrived (t.follows ∙ is))
+      ∙ append-nil (said_out one))
+  ends_by_task NoMemory is t d = absurd (never_lacks t.kind (said_in scene w.conn) (is_by_input w.conn.broken) w.conn.arrived (t.follows ∙ is))
 
   -- what was next of what was taken is next of what was said
   next : (out more : List Output) → IsNext (known scene w.conn) out more → IsNext one out more
@@ -215,14 +240,11 @@ module _ (scene : SessionScene) (now : LineState) (half : SessionHalf) (read : L
       let all = i.ended (taken_end ended put) in
       Ending ended (ended_put ended put) (is ∙ ap (session_output (handshake_of scene.facts) scene.facts) all) (adds ∙ ap (λ (l : List Outgoing). session_ending scene.facts l ended (is_by_input w.conn.broken)) all)
 
-  front : IsPrefix w.conn.written (output_in scene w.conn) → IsPrefix (spoken s.text talk) (session_out one)
+  front : IsPrefix w.conn.written (output_in scene w.conn) → IsPrefix (spoken s.text talk) (said_out one)
   front p =
       let taken = output_in scene w.conn in
-      let said = session_output (handshake_of scene.facts) scene.facts (said_of w.app) in
-      let grown : IsPrefix taken said = subst (λ (l : List Outgoing). IsPrefix taken (session_output (handshake_of scene.facts) scene.facts l)) i.taken.1 (output_grows scene.facts scene.limits.ring (taken_of w.conn) i.taken.0) in
-      subst (λ (l : List Output). IsPrefix l (session_out one)) s.written
-      (prefix_trans w.conn.written said (session_out one) (prefix_trans w.conn.written taken said p grown)
-      (prefix_front said (ending_behind scene.facts (said_of w.app) (end_of w.app.put) (is_by_input w.conn.broken))))
+      let grown : IsPrefix taken (said_out one) = subst (λ (l : List Outgoing). IsPrefix taken (session_output (handshake_of scene.facts) scene.facts l)) i.taken.1 (output_grows scene.facts scene.limits.ring (taken_of w.conn) i.taken.0) in
+      subst (λ (l : List Output). IsPrefix l (said_out one)) s.written (prefix_trans w.conn.written taken (said_out one) p grown)
 
   ends_cut : (o : Outcome) → IsCutShort scene w.conn o → EndsInSession o one talk s.text
   ends_cut (WriteFailed n) c = record { out = c.out; more = c.more; is_next = next c.out c.more c.is_next; within = c.within; written_is = sym s.written ∙ c.written_is }

@@ -44,8 +44,8 @@ use Rattle.asgi_conversation.specs.declared.report.Report.{Report}
 use Rattle.asgi_conversation.specs.TaskEnds.{is_cut}
 use Rattle.asgi_conversation.specs.Exchanges.{Exchanged}
 use Rattle.asgi_conversation.specs.Promised.{IsPromised, ArePromised, task_end, ws_echo_promise}
-use Rattle.asgi_conversation.specs.SessionEcho.{payloads_in, IsEchoed, IsRefused, IsBegun, IsBegunAndClosed, EchoesUntil}
-use Rattle.asgi_conversation.specs.Sessions.{Talk, silence, spoken, IsLeft, ByApplication, ByClient, ByCut, ServesHandshake, Opens, Accepted, Silent, handshake_of, session_out, session_outcome, open_outcome, after_session, IsDoneTalking, IsNext, Saying, Ending, StopsTalking, EndsInSession, ConversesInSession}
+use Rattle.asgi_conversation.specs.SessionEcho.{payloads_in, IsEchoed, IsRefused, IsBegun, EchoesUntil}
+use Rattle.asgi_conversation.specs.Sessions.{Talk, silence, spoken, IsLeft, ByApplication, ByClient, ByCut, ServesHandshake, Opens, Accepted, Silent, handshake_of, said_out, session_out, session_outcome, open_outcome, after_session, IsDoneTalking, IsNext, Saying, Ending, StopsTalking, EndsInSession, ConversesInSession}
 
 -- ---- a text and the messages behind it
 
@@ -320,8 +320,8 @@ module _ (limits : Limits) (cut : Bool) (bytes : List ℕ) (x : Exchanged) (talk
       prefix_trans x.said (session_echo s.hears.first) (all_said talk.received)
       (subst (λ (l : List Outgoing). IsPrefix x.said l) echo_is said_echo) due
 
-  said_out : FrontOut x.facts talk.received x.said
-  said_out = front_out x.facts talk.received x.said said_due.0 s.lawful said_due.1
+  said_out_is : FrontOut x.facts talk.received x.said
+  said_out_is = front_out x.facts talk.received x.said said_due.0 s.lawful said_due.1
 
   messages_follow : (talk ≡ silence) ⊎ (text ≡ handshake_of x.facts None [])
   messages_follow = by s.opens
@@ -396,12 +396,12 @@ module _ (limits : Limits) (cut : Bool) (bytes : List ℕ) (x : Exchanged) (talk
       ending k out (inl r) =
           begun_refusal t.more r (subst (λ (l : List Output). IsPrefix (spoken text talk) (l ++ t.more)) out within)
       ending k out (inr (inl none)) =
-          begun_in x.said said_out
+          begun_in x.said said_out_is
           (subst (λ (l : List Output). IsPrefix (spoken text talk) l) (ap (λ (l : List Output). t.out ++ l) none ∙ append-nil t.out ∙ out) within)
       ending k out (inr (inr close)) =
           let short : n < length (Message (Close 1000 []) ∷ []) = subst (λ (l : List Output). n < length l) close t.within in
           let zero_is : n ≡ 0 = omega (arith, short) in
-          begun_in x.said said_out
+          begun_in x.said said_out_is
           (prefix_same (spoken text talk) (session_output (handshake_of x.facts) x.facts x.said)
           (t.written_is ∙ ap (λ (k : ℕ). t.out ++ take k t.more) zero_is ∙ append-nil t.out ∙ out))
 
@@ -414,37 +414,9 @@ module _ (limits : Limits) (cut : Bool) (bytes : List ℕ) (x : Exchanged) (talk
           (subst (λ (l : List Output). IsPrefix (spoken text talk) l) (sym next) within)
       by (Ending k ended out more) = ending k out (subst EndAs (sym more) (end_adds k ended))
 
-  abbrev out : List Output
-  out = session_output (handshake_of x.facts) x.facts x.said
-
   -- it was given up
-  gives_up : IsPrefix (spoken text talk) (session_out x) → TextIs × (IsBegun talk ⊎ IsBegunAndClosed talk)
-  gives_up q = by x.ended refl
-    where
-      with_end : (more : List Output) → EndAs more → IsPrefix (spoken text talk) (out ++ more) → TextIs × (IsBegun talk ⊎ IsBegunAndClosed talk)
-      with_end more (inl r) w = let b = begun_refusal more r w in (b.0, inl b.1)
-      with_end more (inr (inl none)) w =
-          let b = begun_in x.said said_out (subst (λ (l : List Output). IsPrefix (spoken text talk) l) (ap (λ (l : List Output). out ++ l) none ∙ append-nil out) w) in (b.0, inl b.1)
-      with_end more (inr (inr close)) w =
-          let all : out ++ more ≡ outputs said_out.text (said_out.sent ++ Close 1000 [] ∷ []) =
-          ap (λ (l : List Output). out ++ l) close ∙ ap (λ (l : List Output). l ++ Message (Close 1000 []) ∷ []) said_out.out_is
-          ∙ one_more_message said_out.text said_out.sent (Close 1000 []) in
-          let front = subst (λ (l : List Output). IsPrefix (spoken text talk) l) all w in
-          let handed = front_outputs text said_out.text talk.handed (said_out.sent ++ Close 1000 [] ∷ []) front in (
-            inl (prefix_trans text said_out.text (handshake_of x.facts None []) (front_text text said_out.text talk.handed (said_out.sent ++ Close 1000 [] ∷ []) front) said_out.text_first),
-            either (prefix_one_more talk.handed said_out.sent (Close 1000 []) handed),
-          )
-        where
-          either : IsPrefix talk.handed said_out.sent ⊎ (talk.handed ≡ said_out.sent ++ Close 1000 [] ∷ []) → IsBegun talk ⊎ IsBegunAndClosed talk
-          either (inl first) = inl (prefix_trans talk.handed said_out.sent (payloads_in talk.received) first said_out.first)
-          either (inr all) = inr (said_out.sent, said_out.first, all)
-
-      by : (ended : Option EndKind) → x.ended ≡ ended → TextIs × (IsBegun talk ⊎ IsBegunAndClosed talk)
-      by None e =
-          with_end [] (inr (inl refl)) (subst (λ (k : Option EndKind). IsPrefix (spoken text talk) (out ++ ending_behind x.facts x.said k x.broke)) e q)
-      by (Some k) e =
-          with_end (session_ending x.facts x.said k x.broke) (end_adds k e)
-          (subst (λ (k : Option EndKind). IsPrefix (spoken text talk) (out ++ ending_behind x.facts x.said k x.broke)) e q)
+  gives_up : IsPrefix (spoken text talk) (said_out x) → TextIs × IsBegun talk
+  gives_up q = begun_in x.said said_out_is q
 
 -- ---- one that nothing cut short
 

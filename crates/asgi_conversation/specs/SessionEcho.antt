@@ -6,7 +6,7 @@ use Rattle.asgi_types.specs.declared.end_kind.EndKind.TheVariants.{Faulted}
 use Rattle.asgi_types.specs.declared.incoming.Payload.TheVariants as payload
 use Rattle.asgi_response.specs.Exchange.{refusal_text}
 use Rattle.asgi_ws.specs.declared.messages.Handed.{Handed}
-use Rattle.asgi_ws.specs.declared.messages.Handed.TheVariants.{Payload, Close}
+use Rattle.asgi_ws.specs.declared.messages.Handed.TheVariants.{Payload}
 use Rattle.asgi_ws.specs.declared.messages.Msg.{Msg}
 use Rattle.asgi_ws.specs.declared.messages.Msg.TheVariants as msg
 use Rattle.asgi_exchange.specs.Messages.{has_close, session_events, session_disconnect}
@@ -52,10 +52,6 @@ pub record IsOpened (session : Exchanged) (talk : Talk) (text : List ℕ) : Type
 abbrev pub IsBegun : Talk → Type 0
 IsBegun talk = IsPrefix talk.handed (payloads_in talk.received)
 
--- it is a beginning of them and then the server's close, since the task heard that the connection was cut short, and returned
-abbrev pub IsBegunAndClosed : Talk → Type 0
-IsBegunAndClosed talk = (sent : List Handed) × IsPrefix sent (payloads_in talk.received) × (talk.handed ≡ sent ++ Close 1000 [] ∷ [])
-
 -- what the client got, by the outcome of the connection
 abbrev pub EchoesUntil : Outcome → List ℕ → Exchanged → Talk → List ℕ → Type 0
 -- it closed the session
@@ -65,5 +61,5 @@ EchoesUntil InputBroke frames session talk text = IsEchoed frames session talk t
 EchoesUntil (Refused status) frames session talk text = IsRefused status session talk text
 -- cut short by a write, a limit or want of memory
 EchoesUntil (WriteFailed n) frames session talk text = IsOpened session talk text × IsBegun talk
-EchoesUntil Idle frames session talk text = IsOpened session talk text × (IsBegun talk ⊎ IsBegunAndClosed talk)
-EchoesUntil NoMemory frames session talk text = IsOpened session talk text × (IsBegun talk ⊎ IsBegunAndClosed talk)
+EchoesUntil Idle frames session talk text = IsOpened session talk text × IsBegun talk
+EchoesUntil NoMemory frames session talk text = IsOpened session talk text × IsBegun talk

@@ -75,7 +75,11 @@ pub record HearsSession (cut : Bool) (x : Exchanged) (received : List Msg) : Typ
 abbrev pub handshake_of : Facts → Handshake
 handshake_of facts = handshake_text facts.key
 
--- all that is to be written for it
+-- all that is to be written of what was said
+abbrev pub said_out : Exchanged → List Output
+said_out x = session_output (handshake_of x.facts) x.facts x.said
+
+-- the same, and what the end of its task adds
 abbrev pub session_out : Exchanged → List Output
 session_out x = session_text (handshake_of x.facts) x.facts x.said x.ended x.broke
 
@@ -144,8 +148,9 @@ EndsInSession Finished x talk text = IsDoneTalking Finished x talk text
 EndsInSession (Refused status) x talk text = IsDoneTalking (Refused status) x talk text
 EndsInSession InputBroke x talk text = IsDoneTalking InputBroke x talk text × (talk.is_over ≡ true)
 EndsInSession (WriteFailed n) x talk text = StopsTalking n x (spoken text talk)
-EndsInSession Idle x talk text = IsPrefix (spoken text talk) (session_out x)
-EndsInSession NoMemory x talk text = IsPrefix (spoken text talk) (session_out x)
+-- it was given up, or memory was refused: the end of the task adds nothing
+EndsInSession Idle x talk text = IsPrefix (spoken text talk) (said_out x)
+EndsInSession NoMemory x talk text = IsPrefix (spoken text talk) (said_out x)
 
 -- ---- the conversation
 
