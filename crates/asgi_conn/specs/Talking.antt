@@ -56,7 +56,7 @@ pub record HasTalked (start now : LineState) (end : InputEnd) (read text : List 
   pub coming : Loses start.session.coming now.session.coming talk.received
   -- what went out
   pub handed : talk.handed ≡ handed_in calls
-  -- behind a close of either side so many messages are read at most, those that gave nothing yet counted
+  -- at most so many reads of messages stand behind a close of either side, those that found nothing yet counted
   pub few : reads_behind_close calls ≤ drop_limit
   pub kept : now.session.leftover ≡ kept_with start.session.leftover talk.leftover
 
