@@ -1,8 +1,9 @@
 //! How a session ends, over lines in memory: what is handed over, and the outcome.
 use crate::apps::{Heard, Said, Step};
 use crate::fakes::{App, serve_by};
+use crate::rows::{Parts, joined};
 use crate::scripts::{Given, Out, is_handed, script_of};
-use crate::texts::{ACCEPTED, HANDSHAKE};
+use crate::texts::{ACCEPTED, DENIED, FORBIDDEN, HANDSHAKE, HELLO, LAST_CHUNK, SERVER_ERROR};
 use asgi_conn::Outcome;
 use asgi_types::{BadLimit, Limits};
 use asgi_ws::Script;
@@ -107,6 +108,64 @@ const ECHOED: &[Row] = &[
 #[test]
 fn messages_are_heard_and_handed_over(rt: HostRuntime) -> Result<(), Fail> {
     check(&rt, ECHOED)
+}
+
+#[test]
+fn the_bytes_behind_a_handshake_are_handed_on(rt: HostRuntime) -> Result<(), Fail> {
+    let text = joined(rt.alloc(), HANDSHAKE, &[HELLO])?;
+    let mut line = script_of(rt.alloc(), &text, &[Given::Text("a")])?;
+    let report = serve_by(&rt, &Limits::usual(), App::WsEcho, &mut line)?;
+    let is_so = is_handed(&line, &[Out::Text("a")]) && report.outcome == Outcome::InputBroke;
+    assert_eq!(rt; (is_so, line.leftover()), (true, Some(HELLO)));
+    Ok(())
+}
+
+/// The application, what is written, and the outcome and the faults.
+type Answer = (App, Parts, (Outcome, u64));
+
+/// Answers in place of a session.
+const ANSWERS: &[Answer] = &[
+    (App::Hello, &[FORBIDDEN], (Outcome::Finished, 0)),
+    (
+        App::Scripted(&[]),
+        &[SERVER_ERROR],
+        (Outcome::Refused(500), 0),
+    ),
+    (App::Refuses, &[SERVER_ERROR], (Outcome::Refused(500), 1)),
+    (
+        App::Scripted(&[
+            Step::Says(Said::Denial(401, &[])),
+            Step::Says(Said::Last("no")),
+        ]),
+        &[DENIED, LAST_CHUNK],
+        (Outcome::Finished, 0),
+    ),
+    (
+        App::Scripted(&[
+            Step::Says(Said::Denial(401, &[])),
+            Step::Says(Said::Part("no")),
+            Step::Faults,
+        ]),
+        &[DENIED],
+        (Outcome::Finished, 1),
+    ),
+];
+
+#[test]
+fn an_answer_in_place_of_a_session_is_text_alone(rt: HostRuntime) -> Result<(), Fail> {
+    for (place, (app, parts, end)) in ANSWERS.iter().enumerate() {
+        let mut line = script_of(rt.alloc(), HANDSHAKE, &[Given::Text("x")])?;
+        let report = serve_by(&rt, &Limits::usual(), *app, &mut line)?;
+        let text = joined(rt.alloc(), b"", parts)?;
+        let is_silent = line.leftover().is_none() && line.received().is_empty();
+        let is_so = is_silent && is_handed(&line, &[]) && line.text() == text.as_slice();
+        assert_eq!(rt;
+            (is_so, report.exchanges, (report.outcome, report.faults)),
+            (true, 1, *end),
+            "row {place}"
+        );
+    }
+    Ok(())
 }
 
 /// A task ends while its session is open: the server closes, with 1000 where it returned and with 1011 where it faulted.

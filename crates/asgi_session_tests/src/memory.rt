@@ -1,9 +1,9 @@
 //! Memory refused to a session. `tests/memory.py` runs this with each allocation refused in turn; with ample memory none is
 //! refused.
 use crate::fakes::{App, Pieces, line_of, serve_by, text_of};
-use crate::rows::joined;
+use crate::rows::{Parts, joined};
 use crate::scripts::{Given, Out, is_front, is_handed, script_of};
-use crate::texts::{ACCEPTED, HANDSHAKE, HELLO, HELLO_BACK, SERVER_ERROR};
+use crate::texts::{ACCEPTED, FORBIDDEN, HANDSHAKE, HELLO, HELLO_BACK, OFFERING, SERVER_ERROR};
 use asgi_conn::Outcome;
 use asgi_types::Limits;
 use std::alloc::AllocGlobal;
@@ -11,41 +11,62 @@ use std::process::Abort;
 use std::random::RandomSource;
 use std::test::Fail;
 
-/// Behind a beginning of what is due, either nothing more, or the refusal of a request whose application had no memory.
+/// Behind a beginning of what is due nothing more; or the refusal of a request whose application had no memory; or nothing,
+/// where a line in memory had none for the text.
 fn is_cut_off(written: &[u8], wanted: &[u8], outcome: Outcome) -> bool {
     match outcome {
         Outcome::NoMemory => wanted.starts_with(written),
-        // A line in memory had none for the text.
-        Outcome::WriteFailed(0) => written.is_empty(),
         Outcome::Refused(500) => written == SERVER_ERROR,
+        Outcome::WriteFailed(0) => written.is_empty(),
         _ => false,
     }
 }
 
+/// The application, the input, what is written, and the outcome.
+type Row = (App, Parts, Parts, Outcome);
+
+const ROWS: &[Row] = &[
+    (
+        App::WsEcho,
+        &[HANDSHAKE, HELLO],
+        &[ACCEPTED, HELLO_BACK],
+        Outcome::InputBroke,
+    ),
+    (App::Hello, &[OFFERING], &[FORBIDDEN], Outcome::Finished),
+];
+
 /// Serves a session over a stream, whose input comes in two pieces. False where memory was refused.
-fn is_wired<H: Abort + RandomSource + AllocGlobal>(rt: &H) -> bool {
-    let Ok(input) = joined(rt.alloc(), HANDSHAKE, &[HELLO]) else {
+fn is_wired<H: Abort + RandomSource + AllocGlobal>(rt: &H, row: &Row) -> bool {
+    let Ok(input) = joined(rt.alloc(), b"", row.1) else {
         return false;
     };
-    let Ok(wanted) = joined(rt.alloc(), ACCEPTED, &[HELLO_BACK]) else {
+    let Ok(wanted) = joined(rt.alloc(), b"", row.2) else {
         return false;
     };
     let Ok(mut line) = line_of(rt, Pieces::new(&input, 9, 4_096)) else {
         return false;
     };
-    let Ok(report) = serve_by(rt, &Limits::usual(), App::WsEcho, &mut line) else {
+    let Ok(report) = serve_by(rt, &Limits::usual(), row.0, &mut line) else {
         return false;
     };
     let written = text_of(&line);
-    if report.outcome != Outcome::InputBroke {
+    if report.outcome != row.3 {
         assert!(rt; is_cut_off(written, &wanted, report.outcome));
         return false;
     }
-    assert_eq!(rt;
-        (written, report.exchanges, report.faults),
-        (wanted.as_slice(), 1, 0)
-    );
+    let is_so = written == wanted.as_slice();
+    assert_eq!(rt; (is_so, report.exchanges, report.faults), (true, 1, 0));
     true
+}
+
+/// Only one allocation is refused, so of two sessions one is served.
+#[test]
+fn memory_for_a_session_over_a_stream(rt: HostRuntime) -> Result<(), Fail> {
+    for (place, row) in ROWS.iter().enumerate() {
+        let served = is_wired(&rt, row) || is_wired(&rt, row);
+        assert!(rt; served, "row {place}");
+    }
+    Ok(())
 }
 
 const ECHO: &[Out] = &[Out::Text("Hello")];
@@ -66,14 +87,6 @@ fn is_scripted<H: Abort + RandomSource + AllocGlobal>(rt: &H) -> bool {
     let is_so = line.text() == ACCEPTED && is_handed(&line, ECHO);
     assert_eq!(rt; (is_so, report.exchanges, report.faults), (true, 1, 0));
     true
-}
-
-/// Only one allocation is refused, so of two sessions one is served.
-#[test]
-fn memory_for_a_session_over_a_stream(rt: HostRuntime) -> Result<(), Fail> {
-    let served = is_wired(&rt) || is_wired(&rt);
-    assert!(rt; served);
-    Ok(())
 }
 
 #[test]

@@ -1,7 +1,7 @@
 //! Memory refused to a connection. `tests/memory.py` runs this with each allocation refused in turn; with ample memory
 //! none is refused.
 use crate::fakes::{App, Pieces, line_of, serve_by, text_of};
-use crate::texts::{BAD_REQUEST, GET, HELLO, HELLO_HEAD, NOT_IMPLEMENTED, SERVER_ERROR};
+use crate::texts::{BAD_REQUEST, GET, HELLO, HELLO_HEAD, SERVER_ERROR};
 use asgi_conn::Outcome;
 use asgi_types::Limits;
 use std::alloc::AllocGlobal;
@@ -10,9 +10,6 @@ use std::random::RandomSource;
 use std::test::Fail;
 
 const HEAD: &[u8] = b"HEAD /a%20b?c HTTP/1.1\r\nHost: a\r\nX: y\r\nX: z\r\n\r\n";
-
-const UPGRADE: &[u8] =
-    b"GET /c HTTP/1.1\r\nHost: a\r\nUpgrade: websocket\r\nConnection: Upgrade\r\nSec-WebSocket-Key: dGhlIHNhbXBsZSBub25jZQ==\r\nSec-WebSocket-Version: 13\r\nSec-WebSocket-Protocol: chat, superchat\r\n\r\n";
 
 const LENGTH: &[u8] = b"POST / HTTP/1.1\r\nHost: a\r\nContent-Length: 3\r\n\r\nabc";
 
@@ -30,13 +27,6 @@ type Row = (App, &'static [u8], &'static [u8], Outcome, u64);
 const ROWS: &[Row] = &[
     (App::Hello, GET, HELLO, Outcome::Finished, 1),
     (App::Hello, HEAD, HELLO_HEAD, Outcome::Finished, 1),
-    (
-        App::Hello,
-        UPGRADE,
-        NOT_IMPLEMENTED,
-        Outcome::Refused(501),
-        0,
-    ),
     (App::Hello, LENGTH, HELLO, Outcome::Finished, 1),
     (App::Hello, NO_HOST, BAD_REQUEST, Outcome::Refused(400), 0),
     (App::Echo, PIPELINED, ECHOED, Outcome::Finished, 2),

@@ -50,23 +50,6 @@ fn a_request_is_answered(rt: HostRuntime) -> Result<(), Fail> {
 }
 
 #[test]
-fn an_opening_handshake_is_not_served(rt: HostRuntime) -> Result<(), Fail> {
-    let handshakes: [&[u8]; 2] = [
-        b"GET /c HTTP/1.1\r\nHost: a\r\nUpgrade: websocket\r\nConnection: Upgrade\r\nSec-WebSocket-Key: dGhlIHNhbXBsZSBub25jZQ==\r\nSec-WebSocket-Version: 13\r\n\r\n",
-        b"GET /c HTTP/1.1\r\nHost: a\r\nUpgrade: websocket\r\nConnection: Upgrade\r\nSec-WebSocket-Key: dGhlIHNhbXBsZSBub25jZQ==\r\nSec-WebSocket-Version: 13\r\n\r\nGET / HTTP/1.1\r\nHost: a\r\n\r\n",
-    ];
-    let outcome = Outcome::Refused(501);
-    check(
-        &rt,
-        &handshakes,
-        &Limits::usual(),
-        NOT_IMPLEMENTED,
-        outcome,
-        0,
-    )
-}
-
-#[test]
 fn a_faulty_handshake_is_refused(rt: HostRuntime) -> Result<(), Fail> {
     let other: [&[u8]; 1] = [
         b"GET /c HTTP/1.1\r\nHost: a\r\nUpgrade: websocket\r\nConnection: Upgrade\r\nSec-WebSocket-Key: AAAA\r\nSec-WebSocket-Version: 8\r\n\r\n",
