@@ -6,10 +6,10 @@ form of an edit, the verdict and its words are the toolchain's, by the code of `
 begins with a line 'refused by: FUNCTION' or 'refused by: FUNCTION, clause NAME', and the prover must refuse that function
 itself, and that clause. The last line is 'N passed, M failed'.
 
-Everything is proved once from nothing first, on a copy of crates/ in a new folder: each library that a crate with edits
-stands on, unless `rt ci` has just proved the same files over the same libraries on this machine, whose library is taken then;
-and each such crate. An edit is checked over a clone of that work, so it pays for what it changes and never for what another
-edit changed. What is not refused so is tried once more from nothing, and so is each edit of a crate that
+Each crate with edits is proved once from nothing first, on a copy of crates/ in a new folder. The libraries that it stands
+on are those that `rt ci` proved and built on this machine of the very same files, over the very same libraries: it keeps
+them by the checksums of all that they were made from. Where one is lacking, all are proved once from nothing too. An edit
+is checked over a clone of that work, so it pays for what it changes and never for what another edit changed. What is not refused so is tried once more from nothing, and so is each edit of a crate that
 is not proved over its kept work afterwards.
 
 The prover takes each function by itself, by the contracts of what it calls. So edits within the bodies of different
@@ -175,8 +175,8 @@ class Edits:
 class Trial:
     """Tries edits over what it has proved once."""
 
-    def __init__(self, rt, room, crates):
-        self.rt, self.room, self.crates = rt, room, crates
+    def __init__(self, rt, room, crates, is_warm):
+        self.rt, self.room, self.crates, self.is_warm = rt, room, crates, is_warm
         # What the prover said last in this thread: rt's verdict has only its first line.
         self.said = threading.local()
         checked = rt.checked
@@ -188,11 +188,15 @@ class Trial:
 
         rt.checked = listened
 
-    def take_libraries(self, wanted):
-        """Takes each library that is needed as `rt ci` kept it, by the toolchain's own checksums of all that it read. Returns whether all were there."""
-        kept = self.rt.Kept(self.crates)
-        for crate in [it for it in self.crates if it in wanted]:
+    def take_libraries(self, below):
+        """Gives these crates, lowest first, the libraries that `rt ci` keeps of the same files, and returns whether it could for all. Some alone would not do: they
+        hold statements and no proofs, and serve beside those that they were built over."""
+        kept = self.rt.Kept(below)
+        for crate in below:
+            os.makedirs(f"{crate.folder}/out", exist_ok=True)
             if not kept.give(crate, False, kept.key(crate)):
+                for it in below:
+                    shutil.rmtree(f"{it.folder}/out/rlib", ignore_errors=True)
                 return False
             kept.is_built(crate)
         return True
@@ -210,7 +214,7 @@ class Trial:
         return not status
 
     def keep(self, crate, given, jobs):
-        """Checks a crate as it is, over what its build as a library kept. Returns the folder of that work."""
+        """Checks a crate as it is, over what its build as a library kept, if it was built here. Returns the folder of that work."""
         if not all(given[it.name, "proof"] for it in [*crate.below(), crate] if (it.name, "proof") in given):
             return None
         kept = f"{self.room}/{crate.name}.kept"
@@ -222,31 +226,34 @@ class Trial:
             return None
         return kept
 
-    def try_once(self, crate, edit, kept=None):
-        """Tries an edit over kept work, or from nothing. Returns whether it is refused, whether that is the last word, and what is said."""
-        kind, text = self.rt.must_fail(crate, edit, ONE_JOB, kept)
-        return kind == self.rt.REFUSED, kind in (self.rt.REFUSED, self.rt.BAD), text
+    def verdict(self, crate, edit, over=None):
+        """Returns what a try of an edit comes to, one of rt's words, and what to say. One that is refused for another reason than it says is none of them."""
+        kind, text = self.rt.must_fail(crate, edit, ONE_JOB, over)
+        label = f"must-fail {crate.name}/{os.path.basename(edit)}"
+        wrong = kept_promise(edit, self.said.log) if kind == self.rt.REFUSED else None
+        if wrong:
+            return "", f"{label}: REFUSED FOR ANOTHER REASON: {wrong}"
+        if kind == self.rt.AT_LIMIT:
+            return kind, f"{label}: REFUSED ONLY BY A LIMIT of the prover, which gave no verdict: choose a change that it refuses sooner"
+        return kind, text
 
     def attempt(self, crate, edit, given):
         """Tries an edit. Returns whether it is refused as it says, and what to say."""
-        kept, label = given[crate.name, "seed"], f"must-fail {crate.name}/{os.path.basename(edit)}"
+        kept = given[crate.name, "tests"]
         if not kept:
-            return False, f"{label}: not tried"
+            return False, f"must-fail {crate.name}/{os.path.basename(edit)}: not tried"
         began, over = time.time(), f"{kept}.{os.path.basename(edit)}"
         clone(kept, over)
-        refused, is_last, text = self.try_once(crate, edit, over)
+        kind, text = self.verdict(crate, edit, over)
         shutil.rmtree(over)
-        if not is_last:
-            refused, _, text = self.try_once(crate, edit)
-        wrong = kept_promise(edit, self.said.log) if refused else None
-        if wrong:
-            refused, text = False, f"{label}: REFUSED FOR ANOTHER REASON: {wrong}"
+        if kind not in (self.rt.REFUSED, self.rt.BAD):
+            kind, text = self.verdict(crate, edit)
         print(f"{text} ({time.time() - began:.0f} s)", flush=True)
-        return refused, text
+        return kind == self.rt.REFUSED, text
 
     def attempt_all(self, crate, edits, given):
         """Tries a group of edits. Returns, edit by edit, whether it is refused as it says, and what to say."""
-        kept = given[crate.name, "seed"]
+        kept = given[crate.name, "tests"]
         if kept and len(edits) > 1:
             began, over = time.time(), f"{kept}.{os.path.basename(edits[0])}"
             clone(kept, over)
@@ -264,18 +271,18 @@ class Trial:
 
     def is_sound(self, crate, given):
         """Returns whether the crate as it is is proved over the kept work, now that its edits are tried."""
-        kept = given[crate.name, "seed"]
+        kept = given[crate.name, "tests"]
         return bool(kept) and not self.rt.checked(crate, {}, ONE_JOB, kept).returncode
 
     def tasks(self, wanted):
-        """Returns what rt's own lanes are to run: libraries, kept checks, edits, and a last check of each crate. rt reads the second words of the keys: a
-        proof gets the processors that no other waits for, a seed those that nothing does, and an edit one."""
-        tasks, tried = {}, [it for it, edits in wanted.items() if edits]
-        below = {below for it in tried for below in it.below()}
-        if below and self.take_libraries(below):
-            print("each library is the one that rt ci has proved", flush=True)
+        """Returns what rt's own lanes are to run: libraries that `rt ci` did not leave, kept checks, edits, and a last check of each crate."""
+        below = {it for crate, edits in wanted.items() if edits for it in crate.below()}
+        if not self.is_warm and self.take_libraries([it for it in self.crates if it in below]):
+            print(f"{len(below)} libraries are those that rt ci proved and built of the same files", flush=True)
             below = set()
+        tasks = {}
         for crate in self.crates:
+            # rt gives its words proof and tests the processors that are idle, and one to each task named edits.
             waits, needs = [(it.name, "proof") for it in crate.below() if it in below], self.rt.need(crate)
             # About 20 lines of code are proved in a second.
             seconds = crate.count(rb"\n") // 20
@@ -287,17 +294,18 @@ class Trial:
             if crate in below:
                 waits, seconds = [(crate.name, "proof")], SECONDS
             call = lambda given, jobs, it=crate: self.keep(it, given, jobs)
-            tasks[crate.name, "seed"] = (waits, seconds, needs, call)
-            groups = [(crate.name, "edits", *it) for it in groups_of(wanted[crate], crate.folder)]
-            for key in groups:
+            tasks[crate.name, "tests"] = (waits, seconds, needs, call)
+            tried = [(crate.name, "edits", *it) for it in groups_of(wanted[crate], crate.folder)]
+            for key in tried:
                 call = lambda given, jobs, it=crate, edits=key[2:]: self.attempt_all(it, edits, given)
-                tasks[key] = ([(crate.name, "seed")], SECONDS * len(key[2:]), MEMORY, call)
+                tasks[key] = ([(crate.name, "tests")], SECONDS * len(key[2:]), MEMORY, call)
             call = lambda given, jobs, it=crate: self.is_sound(it, given)
-            tasks[crate.name, "edits"] = (groups, SECONDS, MEMORY, call)
+            tasks[crate.name, "edits"] = (tried, SECONDS, MEMORY, call)
         return tasks
 
     def run(self, wanted):
         """Tries all edits. Returns how many were refused, and what is said of the others."""
+        # rt reads the word edits in the second place of a key, and gives such a task one processor.
         given = self.rt.in_lanes(self.tasks(wanted))
         passed, failed = 0, []
         for crate, edits in wanted.items():
@@ -305,7 +313,8 @@ class Trial:
             for edit in edits:
                 refused, text = of_edit[edit]
                 if refused and not given[crate.name, "edits"]:
-                    refused, _, text = self.try_once(crate, edit)
+                    kind, text = self.verdict(crate, edit)
+                    refused = kind == self.rt.REFUSED
                 passed += refused
                 failed += [text] * (not refused)
         return passed, failed
@@ -333,7 +342,7 @@ def try_edits(rt, root, asked):
         passed = edits.read()
         if asked.read or edits.failed:
             return passed * asked.read, edits.failed
-        return Trial(rt, room, crates).run(edits.wanted)
+        return Trial(rt, room, crates, asked.warm).run(edits.wanted)
 
 
 SMALL = """//! A crate to try edits on.
