@@ -43,17 +43,24 @@ def run(words):
 
 
 def counts_of_ci(lines, failed):
-    """Returns what the numbers of `rt ci` are. Its own sum has each crate's proofs and tests as one."""
-    crates = sum(bool(re.fullmatch(r"rt: \w+ proved", it)) for it in lines)
-    suites = sum(bool(re.fullmatch(r"rt: \w+: its tests are proved", it)) for it in lines)
-    edits = sum(bool(re.match(r"rt: must-fail \S+: refused, as it must be", it)) for it in lines)
+    """Returns what the numbers of `rt ci` are. Its own sum has each crate's proofs and tests as one.
+
+    What an earlier run on this machine proved of the same files is told in other words, and counts as well; of tests that
+    it proved nothing is told but that they ran. An edit that is refused only by a limit of the prover, or that can't be
+    tried, is no failure of `rt ci`, and is one here."""
+    of_crate = r"rt: (\w+)(?: proved| is kept: an earlier run on this machine proved the same .*)"
+    crates = {it[1] for it in (re.fullmatch(of_crate, line) for line in lines) if it}
+    suites = {it[1] for it in (re.fullmatch(r"rt: (\w+): its tests (?:are proved|passed|FAILED)", line) for line in lines) if it}
+    said = [it for it in lines if re.match(r"rt: must-fail \S+: refused, as it must be", it)]
+    limits = sum("refused, as it must be (only by a limit" in it for it in said)
+    bad = sum(bool(re.match(r"rt: [^:]*: BAD EDIT: ", it)) for it in lines)
     tests = sum(bool(re.fullmatch(r"test \S+ \.\.\. ok", it)) for it in lines)
     runs = sum(" ran" in it and it.endswith("wrote what its file stdout has") for it in lines)
     faults = sum(bool(re.fullmatch(r"test \S+ \.\.\. FAILED", it)) for it in lines)
     return {
-        "crates proved": (crates, 0),
-        "crates' tests proved": (suites, 0),
-        "edits refused": (edits, 0),
+        "crates proved": (len(crates), 0),
+        "crates' tests proved": (len(suites), 0),
+        "edits refused": (len(said) - limits, limits + bad),
         "tests": (tests, faults),
         "stored runs": (runs, 0),
         "what rt ci says has failed": (0, failed),

@@ -357,15 +357,26 @@ pub fn next(number: u8) -> Option<u8>
     let step = 1;
     number.checked_add(step)
 }
+
+/// The number before this one, `None` at 0.
+pub fn previous(number: u8) -> Option<u8>
+    ensures value { IfSome result (λ found. found + 1 ≡ number) }
+{
+    let back = 1;
+    number.checked_sub(back)
+}
 """
-# The edits of the small crate: what refuses it, the old text and the new one, and what must be said of it. The first
-# group can't even be read; of the second the prover is asked.
+# The edits of the small crate: what refuses it, the old text and the new one, and what must be said of it. Those of UNREAD
+# can't even be read; of TRIED the prover is asked. There `adds_two` and `back_by_three` stand in one check, and
+# `back_by_two` in one with `changes_nothing`, which has to be found out beside it.
 UNREAD = {
     "has_no_such_text": ("refused by: next", "let step = 3;", "let step = 2;", "BAD EDIT"),
     "says_nothing_of_why": ("", "let step = 1;", "let step = 2;", "BAD EDIT"),
 }
 TRIED = {
-    "skips_a_number": ("refused by: next, clause value", "let step = 1;", "let step = 2;", ""),
+    "adds_two": ("refused by: next, clause value", "let step = 1;", "let step = 2;", ""),
+    "back_by_two": ("refused by: previous", "let back = 1;", "let back = 2;", ""),
+    "back_by_three": ("refused by: previous", "let back = 1;", "let back = 3;", ""),
     "changes_nothing": ("refused by: next", "let step = 1;", "let step = 2 - 1;", "NOT REFUSED"),
     "does_not_compile": ("refused by: next", "let step = 1;", "let step = one;", "BAD EDIT"),
     "names_another_function": ("refused by: other", "let step = 1;", "let step = 2;", "ANOTHER REASON"),
