@@ -236,14 +236,18 @@ impl AppTask for ScriptedTask {
                 let Ok(event) = said.event(self.alloc) else {
                     return Poll::Ready(Err(AppFault::Failed));
                 };
-                let Sent::Refused(given, _) = end.poll_send(cx, event) else {
-                    return Poll::Ready(Err(AppFault::Failed));
-                };
-                if given != number {
-                    return Poll::Ready(Err(AppFault::Failed));
+                match end.poll_send(cx, event) {
+                    Sent::Refused(given, _) => {
+                        if given != number {
+                            return Poll::Ready(Err(AppFault::Failed));
+                        }
+                        self.pass();
+                        cx.yield_now()
+                    }
+                    Sent::Done => Poll::Ready(Err(AppFault::Failed)),
+                    Sent::Full(_) => Poll::Ready(Err(AppFault::Failed)),
+                    Sent::Ignored => Poll::Ready(Err(AppFault::Failed)),
                 }
-                self.pass();
-                cx.yield_now()
             }
         }
     }
@@ -315,8 +319,8 @@ impl ListeningTask {
 
 impl AppTask for ListeningTask {
     fn poll<E: AppEnd>(&mut self, cx: &mut Context<'_>, end: &mut E) -> Poll<Result<(), AppFault>> {
-        if let Some(event) = self.waiting.take() {
-            return match end.poll_send(cx, event) {
+        match self.waiting.take() {
+            Some(event) => match end.poll_send(cx, event) {
                 Sent::Done => cx.yield_now(),
                 Sent::Full(event) => {
                     self.waiting = Some(event);
@@ -324,19 +328,21 @@ impl AppTask for ListeningTask {
                 }
                 Sent::Ignored => Poll::Ready(Err(AppFault::Failed)),
                 Sent::Refused(_, _) => Poll::Ready(Err(AppFault::Failed)),
-            };
+            },
+            None => {
+                let Some(wanted) = self.next() else {
+                    return Poll::Ready(Ok(()));
+                };
+                let Poll::Ready(event) = end.poll_receive(cx) else {
+                    return Poll::Pending;
+                };
+                if !wanted.is(&event) {
+                    return Poll::Ready(Err(AppFault::Failed));
+                }
+                self.hear(event);
+                cx.yield_now()
+            }
         }
-        let Some(wanted) = self.next() else {
-            return Poll::Ready(Ok(()));
-        };
-        let Poll::Ready(event) = end.poll_receive(cx) else {
-            return Poll::Pending;
-        };
-        if !wanted.is(&event) {
-            return Poll::Ready(Err(AppFault::Failed));
-        }
-        self.hear(event);
-        cx.yield_now()
     }
 
     ghost keeps = { λ _ _ _ _ _. tt };

@@ -36,17 +36,19 @@ const ANSWERS: &[(App, &[u8])] = &[
 #[test]
 fn an_answer_may_go_out_in_part(rt: HostRuntime) -> Result<(), Fail> {
     for (place, (app, text)) in ANSWERS.iter().enumerate() {
-        for writes in 0..text.len().div_ceil(3) {
+        for out in 0..text.len() {
+            if out % 3 != 0 {
+                continue;
+            }
             let line = script_of(rt.alloc(), HANDSHAKE, &[Given::Text("x")])?;
-            let mut line = line.failing_write(writes as u64, 3);
+            let mut line = line.failing_write((out / 3) as u64, 3);
             let report = serve_by(&rt, &Limits::usual(), *app, &mut line)?;
-            let out = writes * 3;
             let is_silent = line.leftover().is_none() && line.received().is_empty();
             let counts = (report.exchanges, report.faults, line.failures());
             assert_eq!(rt;
                 (Some(line.text()), report.outcome, counts, is_silent),
                 (text.get(..out), Outcome::WriteFailed(out), (1, 0, 1), true),
-                "row {place}, {writes} writes"
+                "row {place}, {out} bytes"
             );
         }
     }
