@@ -1,7 +1,7 @@
 //! What is answered to an opening handshake, over a stream.
 use crate::apps::{Heard, Said, Step};
-use crate::fakes::App;
 use crate::rows::{Row, Written, check};
+use crate::serving::App;
 use crate::texts::{
     ACCEPTED, CHAT_ACCEPTED, DENIED, FORBIDDEN, GET, HANDSHAKE, HELLO, HELLO_BACK, LAST_CHUNK,
     NOT_FOUND, OFFERING, SERVER_ERROR,

@@ -1,7 +1,7 @@
 //! Closes of the client and of the application, over a stream (RFC 6455, sections 5.5.1 and 7).
 use crate::apps::{Heard, Said, Step};
-use crate::fakes::App;
 use crate::rows::{Row, Session, Written, check, check_sessions};
+use crate::serving::App;
 use crate::texts::{ACCEPTED, CLOSE, HANDSHAKE, HELLO, HELLO_BACK};
 use asgi_conn::Outcome;
 use std::test::Fail;

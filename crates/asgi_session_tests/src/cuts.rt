@@ -1,7 +1,7 @@
 //! The same session however its input is cut in two: the bytes behind the handshake are not lost.
 use crate::apps::Heard;
-use crate::fakes::App;
 use crate::rows::{Row, Written, check_halves};
+use crate::serving::App;
 use crate::texts::{ACCEPTED, GET, HANDSHAKE, HELLO, HELLO_BACK, NOT_FOUND};
 use asgi_conn::Outcome;
 use std::io::ErrorKind;

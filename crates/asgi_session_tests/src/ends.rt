@@ -1,8 +1,8 @@
 //! How a session ends, over lines in memory: what is handed over, and the outcome.
 use crate::apps::{Heard, Said, Step};
-use crate::fakes::{App, serve_by};
 use crate::rows::{Parts, joined};
 use crate::scripts::{Given, Out, is_handed, script_of};
+use crate::serving::{App, serve_by};
 use crate::texts::{ACCEPTED, DENIED, FORBIDDEN, HANDSHAKE, HELLO, LAST_CHUNK, SERVER_ERROR};
 use asgi_conn::Outcome;
 use asgi_types::{BadLimit, Limits};
@@ -22,7 +22,7 @@ fn is_served<H: Abort + RandomSource + AllocGlobal>(
     row: &Row,
     line: &mut Script,
 ) -> Result<bool, Fail> {
-    let report = serve_by(rt, limits, row.0, line)?;
+    let (report, _) = serve_by(rt, limits, row.0, line)?;
     let ended = (report.outcome, report.faults) == row.3 && report.exchanges == 1;
     Ok(ended && is_handed(line, row.2) && line.text() == ACCEPTED)
 }
@@ -114,7 +114,7 @@ fn messages_are_heard_and_handed_over(rt: HostRuntime) -> Result<(), Fail> {
 fn the_bytes_behind_a_handshake_are_handed_on(rt: HostRuntime) -> Result<(), Fail> {
     let text = joined(rt.alloc(), HANDSHAKE, &[HELLO])?;
     let mut line = script_of(rt.alloc(), &text, &[Given::Text("a")])?;
-    let report = serve_by(&rt, &Limits::usual(), App::WsEcho, &mut line)?;
+    let (report, _) = serve_by(&rt, &Limits::usual(), App::WsEcho, &mut line)?;
     let is_so = is_handed(&line, &[Out::Text("a")]) && report.outcome == Outcome::InputBroke;
     assert_eq!(rt; (is_so, line.leftover()), (true, Some(HELLO)));
     Ok(())
@@ -155,7 +155,7 @@ const ANSWERS: &[Answer] = &[
 fn an_answer_in_place_of_a_session_is_text_alone(rt: HostRuntime) -> Result<(), Fail> {
     for (place, (app, parts, end)) in ANSWERS.iter().enumerate() {
         let mut line = script_of(rt.alloc(), HANDSHAKE, &[Given::Text("x")])?;
-        let report = serve_by(&rt, &Limits::usual(), *app, &mut line)?;
+        let (report, _) = serve_by(&rt, &Limits::usual(), *app, &mut line)?;
         let text = joined(rt.alloc(), b"", parts)?;
         let is_silent = line.leftover().is_none() && line.received().is_empty();
         let is_so = is_silent && is_handed(&line, &[]) && line.text() == text.as_slice();
@@ -464,7 +464,7 @@ fn a_session_at_a_limit_is_given_up(rt: HostRuntime) -> Result<(), Fail> {
     let three_idle = limits_with(3, 1_000)?;
     for (place, (row, text)) in WAITING.iter().enumerate() {
         let mut line = script_of(rt.alloc(), HANDSHAKE, row.1)?;
-        let report = serve_by(&rt, &three_idle, row.0, &mut line)?;
+        let (report, _) = serve_by(&rt, &three_idle, row.0, &mut line)?;
         let is_so = is_handed(&line, row.2) && line.text() == *text;
         let counts = (report.exchanges, report.faults, report.idle);
         assert_eq!(rt;

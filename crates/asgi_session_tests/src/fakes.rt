@@ -1,10 +1,9 @@
 //! Readers and writers whose every step a test sets, and a connection over them.
 ghost use Rattle.std.specs.Prelude.{◌≤◌, length};
 
-use crate::apps::{Heard, Listens, Refuses, Scripted, Step};
-use asgi_apps::{Application, Hello, WsEcho};
+use asgi_apps::Application;
 use asgi_conn::{Inline, Line, Report, serve_connection};
-use asgi_io::CountingPause;
+use asgi_io::{CountingPause, Pause};
 use asgi_types::{Limits, State};
 use asgi_ws::{Pair, Wired};
 use futures::task::{Doorbell, Solo};
@@ -83,15 +82,25 @@ pub struct Sink {
     pub most: usize,
     /// The call that fails, counted from 1, if any.
     pub fails_at: u64,
+    /// How many calls answer this fault before the next that takes.
+    pub faults: u64,
+    /// How many do so again behind each call that takes.
+    pub again: u64,
+    pub fault: ErrorKind,
     pub calls: u64,
 }
 
 impl Write for Sink {
     fn write(&mut self, buf: &[u8]) -> io::Result<usize> {
+        if self.faults > 0 {
+            self.faults -= 1;
+            return Err(io::Error::from(self.fault));
+        }
         self.calls = self.calls.saturating_add(1);
         if self.calls == self.fails_at {
             return Err(io::Error::from(ErrorKind::BrokenPipe));
         }
+        self.faults = self.again;
         let n = self.most.min(buf.len());
         self.taken.extend_from_slice(&buf[..n])?;
         Ok(n)
@@ -119,13 +128,13 @@ pub fn text_of<R: Drop>(line: &Memory<R>) -> &[u8] {
     }
 }
 
-/// Serves one connection with no client, no server and an empty state, and gives the report.
+/// Serves one connection with no client, no server and an empty state, and gives the report and the pauses made.
 pub fn serve<H: RandomSource + AllocGlobal, A: Application, L: Line>(
     rt: &H,
     limits: &Limits,
     app: &A,
     line: &mut L,
-) -> io::Result<Report> {
+) -> io::Result<(Report, u64)> {
     let solo = Solo::new(rt, Doorbell::spinning())?;
     Ok(serve_in(rt, &solo, limits, app, line))
 }
@@ -136,7 +145,7 @@ fn serve_in<H: AllocGlobal, A: Application, L: Line>(
     limits: &Limits,
     app: &A,
     line: &mut L,
-) -> Report {
+) -> (Report, u64) {
     let state = State::new(rt.alloc());
     let mut runner = Inline::new(solo.begin());
     let mut pause = CountingPause::new();
@@ -152,31 +161,5 @@ fn serve_in<H: AllocGlobal, A: Application, L: Line>(
         &mut pause,
     );
     runner.end();
-    report
-}
-
-/// The application of a row.
-#[derive(Clone, Copy)]
-pub enum App {
-    Hello,
-    WsEcho,
-    Refuses,
-    Scripted(&'static [Step]),
-    Listens(&'static [Heard]),
-}
-
-/// Serves one connection by the application of a row.
-pub fn serve_by<H: RandomSource + AllocGlobal, L: Line>(
-    rt: &H,
-    limits: &Limits,
-    app: App,
-    line: &mut L,
-) -> io::Result<Report> {
-    match app {
-        App::Hello => serve(rt, limits, &Hello, line),
-        App::WsEcho => serve(rt, limits, &WsEcho, line),
-        App::Refuses => serve(rt, limits, &Refuses, line),
-        App::Scripted(steps) => serve(rt, limits, &Scripted(steps), line),
-        App::Listens(events) => serve(rt, limits, &Listens(events), line),
-    }
+    (report, pause.paused())
 }

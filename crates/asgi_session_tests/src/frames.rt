@@ -1,7 +1,8 @@
 //! Frames of a client, over a stream: those of RFC 6455, section 5.7, and those that its rules refuse.
 use crate::apps::Heard;
-use crate::fakes::{App, Pieces, line_of, serve_by, text_of};
+use crate::fakes::{Pieces, line_of, text_of};
 use crate::rows::{Session, Written, check_sessions};
+use crate::serving::{App, serve_by};
 use crate::texts::{ACCEPTED, HANDSHAKE, HELLO, HELLO_BACK};
 use asgi_conn::Outcome;
 use asgi_types::Limits;
@@ -311,7 +312,7 @@ fn a_message_of_each_length_is_echoed(rt: HostRuntime) -> Result<(), Fail> {
         let wanted = frame(rt.alloc(), ACCEPTED, back, *count)?;
         for piece in [100_000, 4_096, 1_000] {
             let mut line = line_of(&rt, Pieces::new(&input, piece, piece))?;
-            let report = serve_by(&rt, &Limits::usual(), App::WsEcho, &mut line)?;
+            let (report, _) = serve_by(&rt, &Limits::usual(), App::WsEcho, &mut line)?;
             let is_so = report.outcome == Outcome::InputBroke
                 && text_of(&line) == wanted.as_slice();
             assert!(rt; is_so, "{count} bytes in pieces of {piece}");

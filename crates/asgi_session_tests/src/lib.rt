@@ -24,6 +24,8 @@ mod rows;
 #[cfg(test)]
 mod scripts;
 #[cfg(test)]
+mod serving;
+#[cfg(test)]
 mod texts;
 #[cfg(test)]
 mod writes;

@@ -1,8 +1,9 @@
 //! Memory refused to a session. `tests/memory.py` runs this with each allocation refused in turn; with ample memory none is
 //! refused.
-use crate::fakes::{App, Pieces, line_of, serve_by, text_of};
+use crate::fakes::{Pieces, line_of, text_of};
 use crate::rows::{Parts, joined};
 use crate::scripts::{Given, Out, is_front, is_handed, script_of};
+use crate::serving::{App, serve_by};
 use crate::texts::{ACCEPTED, FORBIDDEN, HANDSHAKE, HELLO, HELLO_BACK, OFFERING, SERVER_ERROR};
 use asgi_conn::Outcome;
 use asgi_types::Limits;
@@ -46,7 +47,7 @@ fn is_wired<H: Abort + RandomSource + AllocGlobal>(rt: &H, row: &Row) -> bool {
     let Ok(mut line) = line_of(rt, Pieces::new(&input, 9, 4_096)) else {
         return false;
     };
-    let Ok(report) = serve_by(rt, &Limits::usual(), row.0, &mut line) else {
+    let Ok((report, _)) = serve_by(rt, &Limits::usual(), row.0, &mut line) else {
         return false;
     };
     let written = text_of(&line);
@@ -76,7 +77,7 @@ fn is_scripted<H: Abort + RandomSource + AllocGlobal>(rt: &H) -> bool {
     let Ok(mut line) = script_of(rt.alloc(), HANDSHAKE, &[Given::Text("Hello")]) else {
         return false;
     };
-    let Ok(report) = serve_by(rt, &Limits::usual(), App::WsEcho, &mut line) else {
+    let Ok((report, _)) = serve_by(rt, &Limits::usual(), App::WsEcho, &mut line) else {
         return false;
     };
     if report.outcome != Outcome::InputBroke {

@@ -1,7 +1,8 @@
 //! Reads that fail, before a session and in one.
 use crate::apps::Heard;
-use crate::fakes::{App, Pieces, line_of, serve_by, text_of};
+use crate::fakes::{Pieces, line_of, text_of};
 use crate::rows::joined;
+use crate::serving::{App, serve_by};
 use crate::texts::{ACCEPTED, HANDSHAKE, HELLO, HELLO_BACK};
 use asgi_conn::Outcome;
 use asgi_types::Limits;
@@ -32,7 +33,7 @@ fn a_read_that_fails_is_a_lost_client(rt: HostRuntime) -> Result<(), Fail> {
         let mut pieces = Pieces::new(&input, 1, 1);
         pieces.fails_at = (read as u64).saturating_add(1);
         let mut line = line_of(&rt, pieces)?;
-        let report = serve_by(&rt, &Limits::usual(), app, &mut line)?;
+        let (report, _) = serve_by(&rt, &Limits::usual(), app, &mut line)?;
         let wanted = joined(rt.alloc(), accepted, &[echo])?;
         let is_so = text_of(&line) == wanted.as_slice();
         let counts = (report.exchanges, report.faults);

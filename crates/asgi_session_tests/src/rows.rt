@@ -1,6 +1,7 @@
 //! Rows over a stream, and how they are compared, in pieces and cut in two at each place.
 use crate::apps::Heard;
-use crate::fakes::{App, Pieces, line_of, serve_by, text_of};
+use crate::fakes::{Pieces, line_of, text_of};
+use crate::serving::{App, serve_by};
 use crate::texts::HANDSHAKE;
 use asgi_conn::Outcome;
 use asgi_types::Limits;
@@ -63,7 +64,7 @@ fn is_served<H: Abort + RandomSource + AllocGlobal>(
     end: (Outcome, u64, u64),
 ) -> Result<bool, Fail> {
     let mut line = line_of(rt, pieces)?;
-    let report = serve_by(rt, &Limits::usual(), app, &mut line)?;
+    let (report, _) = serve_by(rt, &Limits::usual(), app, &mut line)?;
     let ended = (report.outcome, report.exchanges, report.faults);
     Ok(ended == end && is_written(text_of(&line), written))
 }

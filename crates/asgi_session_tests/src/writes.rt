@@ -1,14 +1,16 @@
 //! Answers and messages that go out in part, or not at all.
 use crate::apps::{Heard, Said, Step};
-use crate::fakes::{App, Pieces, Sink, serve_by};
+use crate::fakes::{Pieces, Sink};
 use crate::rows::joined;
 use crate::scripts::{Given, Out, is_handed, script_of};
+use crate::serving::{App, serve_by};
 use crate::texts::{ACCEPTED, CLOSE, DENIED, FORBIDDEN, HANDSHAKE, HELLO, SERVER_ERROR};
 use asgi_conn::Outcome;
 use asgi_io::Counts;
 use asgi_types::Limits;
 use asgi_ws::{Pair, Wired};
 use std::alloc::AllocGlobal;
+use std::io::ErrorKind;
 use std::test::Fail;
 
 const CONNECTS: Step = Step::Hears(Heard::Connect);
@@ -42,7 +44,7 @@ fn an_answer_may_go_out_in_part(rt: HostRuntime) -> Result<(), Fail> {
             }
             let line = script_of(rt.alloc(), HANDSHAKE, &[Given::Text("x")])?;
             let mut line = line.failing_write((out / 3) as u64, 3);
-            let report = serve_by(&rt, &Limits::usual(), *app, &mut line)?;
+            let (report, _) = serve_by(&rt, &Limits::usual(), *app, &mut line)?;
             let is_silent = line.leftover().is_none() && line.received().is_empty();
             let counts = (report.exchanges, report.faults, line.failures());
             assert_eq!(rt;
@@ -112,7 +114,7 @@ fn a_message_that_is_refused_is_a_failed_write(rt: HostRuntime) -> Result<(), Fa
     for (place, (app, sends, given, handed, faults)) in REFUSED.iter().enumerate() {
         let line = script_of(rt.alloc(), HANDSHAKE, given)?;
         let mut line = line.failing_send(*sends);
-        let report = serve_by(&rt, &Limits::usual(), *app, &mut line)?;
+        let (report, _) = serve_by(&rt, &Limits::usual(), *app, &mut line)?;
         let is_so = is_handed(&line, handed) && line.text() == ACCEPTED;
         let counts = (report.exchanges, report.faults);
         assert_eq!(rt;
@@ -139,6 +141,9 @@ fn line_to<'a, H: AllocGlobal>(
         taken,
         most,
         fails_at,
+        faults: 0,
+        again: 0,
+        fault: ErrorKind::WouldBlock,
         calls: 0,
     };
     Ok(Wired::new(rt.alloc(), Pair { reader, writer }))
@@ -170,7 +175,7 @@ fn a_frame_that_goes_out_in_part_is_a_failed_write(rt: HostRuntime) -> Result<()
     let input = joined(rt.alloc(), HANDSHAKE, &[HELLO])?;
     for (place, (most, fails_at, echo)) in FRAMES.iter().enumerate() {
         let mut line = line_to(&rt, &input, *most, *fails_at)?;
-        let report = serve_by(&rt, &Limits::usual(), hears, &mut line)?;
+        let (report, _) = serve_by(&rt, &Limits::usual(), hears, &mut line)?;
         let wanted = joined(rt.alloc(), ACCEPTED, &[*echo])?;
         let is_so = taken_by(&line) == wanted.as_slice();
         let counts = (report.exchanges, report.faults);
@@ -196,7 +201,7 @@ const LATE: App = App::Scripted(&[
 fn a_message_behind_the_clients_close_is_a_failed_write(rt: HostRuntime) -> Result<(), Fail> {
     let input = joined(rt.alloc(), HANDSHAKE, &[CLOSE])?;
     let mut line = line_to(&rt, &input, 200, 0)?;
-    let report = serve_by(&rt, &Limits::usual(), LATE, &mut line)?;
+    let (report, _) = serve_by(&rt, &Limits::usual(), LATE, &mut line)?;
     let is_so = taken_by(&line).starts_with(ACCEPTED);
     let counts = (report.exchanges, report.faults);
     assert_eq!(rt;
