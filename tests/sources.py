@@ -134,7 +134,7 @@ def unknown_names(text, names):
 
 
 def is_source(path):
-    return not path.startswith(("crates/asgi_tests/", "crates/asgi_request_tests/")) and not re.search(r"/tests(_\w+)?(\.rt$|/)", path)
+    return not re.search(r"^crates/\w+_tests/|/tests(_\w+)?(\.rt$|/)", path)
 
 
 def main(words):

@@ -1,12 +1,11 @@
 //! The same answer however the input is cut.
-use crate::fakes::{Pieces, line_of, serve, text_of};
-use crate::texts::{BAD_REQUEST, GET, HELLO, HELLO_AND_CLOSE};
-use asgi_apps::Hello;
 use asgi_conn::Outcome;
+use asgi_fakes::texts::{BAD_REQUEST, GET, HELLO, HELLO_AND_CLOSE};
+use asgi_fakes::{App, End, Memory, Pieces, is_served, line_of, serve_by, text_of};
 use asgi_io::Reads;
 use asgi_types::Limits;
 use std::alloc::AllocGlobal;
-use std::io::ErrorKind;
+use std::io::{self, ErrorKind};
 use std::process::Abort;
 use std::random::RandomSource;
 use std::test::Fail;
@@ -19,80 +18,103 @@ const NO_HOST: &[u8] = b"GET / HTTP/1.1\r\n\r\n";
 
 const LENGTH: &[u8] = b"POST / HTTP/1.1\r\nHost: a\r\nContent-Length: 3\r\n\r\nabc";
 
-/// Serves the input cut so, and compares with the answer to the whole.
-fn check<H: Abort + RandomSource + AllocGlobal>(
+/// The input, what is written, and the end.
+type Row = (&'static [u8], &'static [u8], End);
+
+const ROWS: &[Row] = &[
+    (GET, HELLO, (Outcome::Finished, 1, 0)),
+    (CLOSE, HELLO_AND_CLOSE, (Outcome::Finished, 1, 0)),
+    (MIXED, HELLO, (Outcome::Finished, 1, 0)),
+    (NO_HOST, BAD_REQUEST, (Outcome::Refused(400), 0, 0)),
+    (LENGTH, HELLO, (Outcome::Finished, 1, 0)),
+];
+
+/// Whether the input, cut so, gets the answer to the whole.
+fn is_row<H: RandomSource + AllocGlobal>(rt: &H, row: &Row, reader: Pieces) -> io::Result<bool> {
+    let (_, wanted, end) = *row;
+    is_served(rt, &Limits::usual(), App::Hello, reader, wanted, end)
+}
+
+fn check_halves<H: Abort + RandomSource + AllocGlobal>(rt: &H, row: &Row) -> Result<(), Fail> {
+    for place in 1..row.0.len() {
+        let two = Pieces::new(row.0, place, 4_096);
+        assert!(rt; is_row(rt, row, two)?, "cut at {place}");
+    }
+    Ok(())
+}
+
+/// Pieces of four sizes, with this fault before each read, if any.
+fn check_pieces<H: Abort + RandomSource + AllocGlobal>(
     rt: &H,
-    reader: Pieces,
-    wanted: &[u8],
-    outcome: Outcome,
-    place: usize,
+    row: &Row,
+    before: Option<ErrorKind>,
 ) -> Result<(), Fail> {
-    let mut line = line_of(rt, reader)?;
-    let (report, _) = serve(rt, &Limits::usual(), &Hello, &mut line)?;
-    assert_eq!(rt;
-        (text_of(&line), report.outcome),
-        (wanted, outcome),
-        "cut at {place}"
-    );
+    for size in [1, 2, 7, 1_000] {
+        let mut pieces = Pieces::new(row.0, size, size);
+        pieces.before = before;
+        assert!(rt; is_row(rt, row, pieces)?, "pieces of {size}");
+    }
     Ok(())
 }
 
 #[test]
 fn cuts_change_nothing(rt: HostRuntime) -> Result<(), Fail> {
-    let rows: [(&[u8], &[u8], Outcome); 5] = [
-        (GET, HELLO, Outcome::Finished),
-        (CLOSE, HELLO_AND_CLOSE, Outcome::Finished),
-        (MIXED, HELLO, Outcome::Finished),
-        (NO_HOST, BAD_REQUEST, Outcome::Refused(400)),
-        (LENGTH, HELLO, Outcome::Finished),
-    ];
-    for (input, wanted, outcome) in rows {
-        for place in 1..input.len() {
-            let two = Pieces::new(input, place, 4_096);
-            check(&rt, two, wanted, outcome, place)?;
-        }
-        for size in [1, 2, 7, 1_000] {
-            check(&rt, Pieces::new(input, size, size), wanted, outcome, size)?;
-            for kind in [ErrorKind::WouldBlock, ErrorKind::Interrupted] {
-                let mut slow = Pieces::new(input, size, size);
-                slow.before = Some(kind);
-                check(&rt, slow, wanted, outcome, size)?;
-            }
-        }
+    for row in ROWS {
+        check_halves(&rt, row)?;
+        check_pieces(&rt, row, None)?;
+        check_pieces(&rt, row, Some(ErrorKind::WouldBlock))?;
+        check_pieces(&rt, row, Some(ErrorKind::Interrupted))?;
     }
     Ok(())
+}
+
+/// One that gives a byte at a time, and whose read of this number fails.
+fn failing_at(bytes: &[u8], fails_at: u64) -> Pieces {
+    let mut pieces = Pieces::new(bytes, 1, 1);
+    pieces.fails_at = fails_at;
+    pieces
+}
+
+/// Whether nothing is answered, and each read is told, where the read of this number fails.
+fn is_unanswered<H: RandomSource + AllocGlobal>(rt: &H, failing: u64) -> io::Result<bool> {
+    let mut line = line_of(rt, failing_at(GET, failing))?;
+    is_line_unanswered(rt, &mut line, failing)
+}
+
+fn is_line_unanswered<H: RandomSource + AllocGlobal>(
+    rt: &H,
+    line: &mut Memory<Pieces>,
+    failing: u64,
+) -> io::Result<bool> {
+    let (report, _) = serve_by(rt, &Limits::usual(), App::Hello, line)?;
+    let counts = (report.exchanges, report.turns, line.faults());
+    let ended = report.outcome == Outcome::InputBroke && counts == (0, failing, 1);
+    Ok(ended && text_of(line).is_empty())
 }
 
 #[test]
 fn a_read_that_fails_gets_no_answer(rt: HostRuntime) -> Result<(), Fail> {
     for failing in 1..=27 {
-        let mut pieces = Pieces::new(GET, 1, 1);
-        pieces.fails_at = failing;
-        let mut line = line_of(&rt, pieces)?;
-        let (report, _) = serve(&rt, &Limits::usual(), &Hello, &mut line)?;
-        let counts = (report.exchanges, report.turns, line.faults());
-        assert_eq!(rt;
-            (text_of(&line).len(), report.outcome, counts),
-            (0, Outcome::InputBroke, (0, failing, 1)),
-            "read {failing}"
-        );
+        assert!(rt; is_unanswered(&rt, failing)?, "read {failing}");
     }
     Ok(())
+}
+
+/// Whether the request is answered, with this outcome, where the read of this number fails.
+fn is_answered<H: RandomSource + AllocGlobal>(
+    rt: &H,
+    failing: u64,
+    outcome: Outcome,
+) -> io::Result<bool> {
+    let pieces = failing_at(GET, failing);
+    let end = (outcome, 1, 0);
+    is_served(rt, &Limits::usual(), App::Hello, pieces, HELLO, end)
 }
 
 #[test]
 fn a_read_that_fails_behind_a_request_leaves_its_answer(rt: HostRuntime) -> Result<(), Fail> {
     // The read behind the request, and one more, which is not made.
-    for (failing, outcome) in [(28, Outcome::InputBroke), (29, Outcome::Finished)] {
-        let mut pieces = Pieces::new(GET, 1, 1);
-        pieces.fails_at = failing;
-        let mut line = line_of(&rt, pieces)?;
-        let (report, _) = serve(&rt, &Limits::usual(), &Hello, &mut line)?;
-        assert_eq!(rt;
-            (text_of(&line), report.outcome, report.exchanges),
-            (HELLO, outcome, 1),
-            "read {failing}"
-        );
-    }
+    assert!(rt; is_answered(&rt, 28, Outcome::InputBroke)?);
+    assert!(rt; is_answered(&rt, 29, Outcome::Finished)?);
     Ok(())
 }

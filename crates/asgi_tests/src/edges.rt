@@ -1,13 +1,13 @@
 //! The greatest heads and bodies that a connection takes, and the largest responses. With ample memory each is served whole.
-use crate::fakes::{App, Pieces, line_of, serve_by, text_of};
-use crate::texts::{BAD_REQUEST, ECHO_HEAD, GET, HELLO, LAST_CHUNK, POST, TOO_LARGE};
 use asgi_conn::{Outcome, Report};
+use asgi_fakes::texts::{BAD_REQUEST, ECHO_HEAD, GET, HELLO, LAST_CHUNK, POST, TOO_LARGE};
+use asgi_fakes::{App, Memory, Pieces, is_served, line_of, serve_by, text_of};
 use asgi_response::ResponseText;
 use asgi_types::{
     Facts, Framing, HeaderError, Headers, HttpVersion, Limits, Names, Octets, Outgoing,
 };
 use std::alloc::{AllocError, AllocGlobal, Global};
-use std::process::Abort;
+use std::io;
 use std::random::RandomSource;
 use std::test::Fail;
 
@@ -92,17 +92,26 @@ fn is_report(report: &Report, served: Served) -> bool {
 }
 
 /// Whether the input is served so, under the greatest limits on heads.
-fn is_served<H: Abort + RandomSource + AllocGlobal>(
+fn is_head_served<H: RandomSource + AllocGlobal>(
     rt: &H,
     input: &[u8],
     served: Served,
 ) -> Result<bool, Fail> {
     let limits = Limits::new(65_535, 128, 0, 1, 2, 1, 100_000)?;
     let mut line = line_of(rt, Pieces::new(input, served.piece, served.piece))?;
-    let (report, pauses) = serve_by(rt, &limits, App::Hello, &mut line)?;
+    Ok(is_line_served(rt, &limits, &mut line, served)?)
+}
+
+fn is_line_served<H: RandomSource + AllocGlobal>(
+    rt: &H,
+    limits: &Limits,
+    line: &mut Memory<Pieces>,
+    served: Served,
+) -> io::Result<bool> {
+    let (report, pauses) = serve_by(rt, limits, App::Hello, line)?;
     let reads = line.stream().map(|pair| pair.reader.reads);
     let is_so = is_report(&report, served) && reads == Some(served.reads);
-    Ok(is_so && text_of(&line) == served.wanted && pauses == 0)
+    Ok(is_so && text_of(line) == served.wanted && pauses == 0)
 }
 
 #[test]
@@ -117,7 +126,7 @@ fn a_head_of_65535_bytes_is_served(rt: HostRuntime) -> Result<(), Fail> {
     ];
     for (length, served) in rows {
         let head = head_of(rt.alloc(), length)?;
-        assert!(rt; is_served(&rt, &head, served)?, "{length} bytes");
+        assert!(rt; is_head_served(&rt, &head, served)?, "{length} bytes");
     }
     Ok(())
 }
@@ -132,7 +141,10 @@ fn a_head_of_128_fields_is_served(rt: HostRuntime) -> Result<(), Fail> {
     ];
     for (others, served) in rows {
         let head = head_with(rt.alloc(), others)?;
-        assert!(rt; is_served(&rt, &head, served)?, "{others} other fields");
+        assert!(rt;
+            is_head_served(&rt, &head, served)?,
+            "{others} other fields"
+        );
     }
     Ok(())
 }
@@ -161,7 +173,7 @@ fn of_1_mib_behind_a_request_a_head_is_read(rt: HostRuntime) -> Result<(), Fail>
         reads: 17,
         more: 3,
     };
-    assert!(rt; is_served(&rt, &input, served)?);
+    assert!(rt; is_head_served(&rt, &input, served)?);
     Ok(())
 }
 
@@ -197,16 +209,27 @@ fn long_answer(alloc: Global) -> Result<Vec<u8>, AllocError> {
     Ok(text)
 }
 
+/// Whether the two requests are answered so, read in such pieces.
+fn is_echoed<H: RandomSource + AllocGlobal>(
+    rt: &H,
+    input: &[u8],
+    piece: usize,
+    wanted: &[u8],
+) -> io::Result<bool> {
+    let pieces = Pieces::new(input, piece, piece);
+    let end = (Outcome::Finished, 2, 0);
+    is_served(rt, &Limits::usual(), App::Echo, pieces, wanted, end)
+}
+
 #[test]
 fn a_body_of_1_mib_is_echoed(rt: HostRuntime) -> Result<(), Fail> {
     let input = long_request(rt.alloc())?;
     let wanted = long_answer(rt.alloc())?;
     for piece in [4_096, 1_000] {
-        let mut line = line_of(&rt, Pieces::new(&input, piece, piece))?;
-        let (report, _) = serve_by(&rt, &Limits::usual(), App::Echo, &mut line)?;
-        assert!(rt; text_of(&line) == wanted.as_slice(), "pieces of {piece}");
-        let ended = (report.outcome, report.exchanges, report.faults);
-        assert_eq!(rt; ended, (Outcome::Finished, 2, 0), "pieces of {piece}");
+        assert!(rt;
+            is_echoed(&rt, &input, piece, &wanted)?,
+            "pieces of {piece}"
+        );
     }
     Ok(())
 }

@@ -1,23 +1,9 @@
-//! Tests of the crates together, as tables on their public calls.
+//! Tests of a connection by its heads: what each form of one is answered, however the input is cut, and how large it may be.
 #![tactic(auto)]
 
-#[cfg(test)]
-mod apps;
-#[cfg(test)]
-mod conversation;
 #[cfg(test)]
 mod cut;
 #[cfg(test)]
 mod edges;
 #[cfg(test)]
-mod fakes;
-#[cfg(test)]
-mod memory;
-#[cfg(test)]
 mod rows;
-#[cfg(test)]
-mod texts;
-#[cfg(test)]
-mod turns;
-#[cfg(test)]
-mod writes;

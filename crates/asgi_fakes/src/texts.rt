@@ -1,6 +1,9 @@
 //! The requests and the answers that the tables name.
 pub const GET: &[u8] = b"GET / HTTP/1.1\r\nHost: a\r\n\r\n";
 
+pub const TWO_REQUESTS: &[u8] =
+    b"GET / HTTP/1.1\r\nHost: a\r\n\r\nGET / HTTP/1.1\r\nHost: a\r\n\r\n";
+
 /// The front of a request with more fields behind it.
 pub const POST: &[u8] = b"POST / HTTP/1.1\r\nHost: a\r\n";
 

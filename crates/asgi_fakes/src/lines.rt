@@ -1,16 +1,9 @@
-//! Readers and writers whose every step a test sets, and a connection over them.
+//! Readers and writers whose every step a test sets, and a line of them.
 ghost use Rattle.std.specs.Prelude.{◌≤◌, length};
 
-use crate::apps::{Refuses, Scripted, Step, Targets};
-use asgi_apps::{Application, Echo, Hello, NotFound};
-use asgi_conn::{Inline, Line, Report, serve_connection};
-use asgi_io::{CountingPause, Pause};
-use asgi_types::{Limits, State};
 use asgi_ws::{Pair, Wired};
-use futures::task::{Doorbell, Solo};
 use std::alloc::{AllocError, AllocGlobal};
 use std::io::{self, ErrorKind, Read, Write};
-use std::random::RandomSource;
 
 /// A reader that gives its bytes in pieces.
 #[derive(Drop)]
@@ -136,69 +129,5 @@ pub fn text_of<R: Drop>(line: &Memory<R>) -> &[u8] {
     match line.stream() {
         Some(pair) => pair.writer.as_slice(),
         None => &[],
-    }
-}
-
-/// Serves one connection with no client, no server and an empty state, and gives the report and the pauses made.
-pub fn serve<H: RandomSource + AllocGlobal, A: Application, L: Line>(
-    rt: &H,
-    limits: &Limits,
-    app: &A,
-    line: &mut L,
-) -> io::Result<(Report, u64)> {
-    let solo = Solo::new(rt, Doorbell::spinning())?;
-    Ok(serve_in(rt, &solo, limits, app, line))
-}
-
-fn serve_in<H: AllocGlobal, A: Application, L: Line>(
-    rt: &H,
-    solo: &Solo,
-    limits: &Limits,
-    app: &A,
-    line: &mut L,
-) -> (Report, u64) {
-    let state = State::new(rt.alloc());
-    let mut runner = Inline::new(solo.begin());
-    let mut pause = CountingPause::new();
-    let report = serve_connection(
-        rt,
-        limits,
-        &None,
-        &None,
-        &state,
-        app,
-        line,
-        &mut runner,
-        &mut pause,
-    );
-    runner.end();
-    (report, pause.paused())
-}
-
-/// The application of a row.
-#[derive(Clone, Copy)]
-pub enum App {
-    Hello,
-    Echo,
-    NotFound,
-    Targets,
-    Refuses,
-    Scripted(&'static [Step]),
-}
-
-/// Serves one connection by the application of a row.
-pub fn serve_by<H: RandomSource + AllocGlobal, L: Line>(
-    rt: &H,
-    limits: &Limits,
-    app: App,
-    line: &mut L,
-) -> io::Result<(Report, u64)> {
-    match app {
-        App::Hello => serve(rt, limits, &Hello, line),
-        App::Echo => serve(rt, limits, &Echo, line),
-        App::NotFound => serve(rt, limits, &NotFound, line),
-        App::Targets => serve(rt, limits, &Targets, line),
-        App::Refuses => serve(rt, limits, &Refuses, line),
-        App::Scripted(steps) => serve(rt, limits, &Scripted(steps), line),
     }
 }

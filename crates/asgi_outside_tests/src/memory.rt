@@ -1,8 +1,8 @@
 //! Memory refused to a connection. `tests/memory.py` runs this with each allocation refused in turn; with ample memory
 //! none is refused.
-use crate::fakes::{App, Pieces, line_of, serve_by, text_of};
-use crate::texts::{BAD_REQUEST, GET, HELLO, HELLO_HEAD, SERVER_ERROR};
-use asgi_conn::Outcome;
+use asgi_conn::{Outcome, Report};
+use asgi_fakes::texts::{BAD_REQUEST, GET, HELLO, HELLO_HEAD, SERVER_ERROR};
+use asgi_fakes::{App, Memory, Pieces, line_of, serve_by, text_of};
 use asgi_types::Limits;
 use std::alloc::AllocGlobal;
 use std::process::Abort;
@@ -46,25 +46,35 @@ fn is_cut_off(written: &[u8], wanted: &[u8], outcome: Outcome) -> bool {
     }
 }
 
+fn is_end(report: &Report, row: &Row) -> bool {
+    report.exchanges == row.4 && report.faults == 0
+}
+
 /// Serves a connection that comes in two pieces, and compares with its answer. False where memory was refused.
 fn is_served<H: Abort + RandomSource + AllocGlobal>(rt: &H, row: &Row) -> bool {
-    let (app, input, wanted, outcome, exchanges) = *row;
-    let Ok(mut line) = line_of(rt, Pieces::new(input, 9, 4_096)) else {
+    let Ok(mut line) = line_of(rt, Pieces::new(row.1, 9, 4_096)) else {
         return false;
     };
-    let Ok((report, _)) = serve_by(rt, &Limits::usual(), app, &mut line) else {
+    is_line_served(rt, &mut line, row)
+}
+
+fn is_line_served<H: Abort + RandomSource + AllocGlobal>(
+    rt: &H,
+    line: &mut Memory<Pieces>,
+    row: &Row,
+) -> bool {
+    let Ok((report, _)) = serve_by(rt, &Limits::usual(), row.0, line) else {
         return false;
     };
-    let written = text_of(&line);
-    if report.outcome != outcome {
-        assert!(rt; is_cut_off(written, wanted, report.outcome));
-        return false;
-    }
-    assert_eq!(rt;
-        (written, report.exchanges, report.faults),
-        (wanted, exchanges, 0)
-    );
-    true
+    let written = text_of(line);
+    let is_whole = report.outcome == row.3;
+    let holds = if is_whole {
+        is_end(&report, row) && written == row.2
+    } else {
+        is_cut_off(written, row.2, report.outcome)
+    };
+    assert!(rt; holds);
+    is_whole
 }
 
 /// Only one allocation is refused, so of two connections one is served.

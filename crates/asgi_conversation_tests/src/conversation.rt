@@ -1,12 +1,11 @@
 //! Whole conversations: what is written, the outcome, the exchanges and the faults, however the input is cut.
-use crate::apps::{Heard, Said, Step};
-use crate::fakes::{App, Pieces, line_of, serve_by, text_of};
-use crate::texts::{
+use asgi_conn::Outcome;
+use asgi_fakes::texts::{
     BAD_REQUEST, CONTINUE, ECHO_HEAD, END, GET, GET_AND_CLOSE, HELLO, HELLO_AND_CLOSE, HELLO_HEAD,
     LAST_CHUNK, NOT_IMPLEMENTED, OLD_HELLO, PLAIN_HEAD, POST, SERVER_ERROR, TOO_LARGE,
     TOO_LARGE_CONTENT,
 };
-use asgi_conn::Outcome;
+use asgi_fakes::{App, End, Heard, Pieces, Said, Step, is_served};
 use asgi_types::{BadLimit, Limits};
 use std::alloc::{AllocError, AllocGlobal, Global};
 use std::io::ErrorKind;
@@ -37,8 +36,8 @@ fn limits_of(under: Under) -> Result<Limits, BadLimit> {
 
 type Parts = &'static [&'static [u8]];
 
-/// The limits, the application, the input, what is written, and the outcome, the exchanges and the faults.
-type Row = (Under, App, Parts, Parts, (Outcome, u64, u64));
+/// The limits, the application, the input, what is written, and the end.
+type Row = (Under, App, Parts, Parts, End);
 
 fn joined(alloc: Global, parts: &[&[u8]]) -> Result<Vec<u8>, AllocError> {
     let mut bytes = Vec::new(alloc);
@@ -49,7 +48,7 @@ fn joined(alloc: Global, parts: &[&[u8]]) -> Result<Vec<u8>, AllocError> {
 }
 
 /// Serves the input in such pieces, and compares.
-fn is_served<H: Abort + RandomSource + AllocGlobal>(
+fn is_row<H: RandomSource + AllocGlobal>(
     rt: &H,
     row: &Row,
     pieces: Pieces,
@@ -57,10 +56,7 @@ fn is_served<H: Abort + RandomSource + AllocGlobal>(
 ) -> Result<bool, Fail> {
     let (under, app, _, _, end) = *row;
     let limits = limits_of(under)?;
-    let mut line = line_of(rt, pieces)?;
-    let (report, _) = serve_by(rt, &limits, app, &mut line)?;
-    let ended = (report.outcome, report.exchanges, report.faults);
-    Ok(ended == end && text_of(&line) == wanted)
+    Ok(is_served(rt, &limits, app, pieces, wanted, end)?)
 }
 
 /// Each row, whole and in pieces of three sizes, and byte by byte with a read that would block before each.
@@ -71,16 +67,13 @@ fn check<H: Abort + RandomSource + AllocGlobal>(rt: &H, rows: &[Row]) -> Result<
         for size in [4_096, 1, 7, 11] {
             let pieces = Pieces::new(&input, size, size);
             assert!(rt;
-                is_served(rt, row, pieces, &wanted)?,
+                is_row(rt, row, pieces, &wanted)?,
                 "row {place}, pieces of {size}"
             );
         }
         let mut slow = Pieces::new(&input, 1, 1);
         slow.before = Some(ErrorKind::WouldBlock);
-        assert!(rt;
-            is_served(rt, row, slow, &wanted)?,
-            "row {place}, with waits"
-        );
+        assert!(rt; is_row(rt, row, slow, &wanted)?, "row {place}, with waits");
     }
     Ok(())
 }
@@ -92,10 +85,7 @@ fn check_halves<H: Abort + RandomSource + AllocGlobal>(rt: &H, rows: &[Row]) -> 
         let wanted = joined(rt.alloc(), row.3)?;
         for cut in 1..input.len() {
             let two = Pieces::new(&input, cut, 4_096);
-            assert!(rt;
-                is_served(rt, row, two, &wanted)?,
-                "row {place}, cut at {cut}"
-            );
+            assert!(rt; is_row(rt, row, two, &wanted)?, "row {place}, cut at {cut}");
         }
     }
     Ok(())

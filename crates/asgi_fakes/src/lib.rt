@@ -1,0 +1,12 @@
+//! What the tests across crates share: readers and a writer whose every step a row sets, applications by the steps of their
+//! tasks, a connection over them, and the texts that rows name.
+#![tactic(auto)]
+
+mod apps;
+mod lines;
+mod serving;
+pub mod texts;
+
+pub use apps::{Heard, Refuses, Said, Scripted, ScriptedTask, Step, Targets};
+pub use lines::{Memory, Never, Pieces, Sink, line_of, text_of};
+pub use serving::{App, End, is_served, serve, serve_by};
