@@ -1,5 +1,7 @@
-//! Tests of whole conversations of a connection, as tables on its public calls.
+//! Tests of whole conversations of a connection, and of its turns, as tables on its public calls.
 #![tactic(auto)]
 
 #[cfg(test)]
 mod conversation;
+#[cfg(test)]
+mod turns;

@@ -12,7 +12,7 @@ use std::random::RandomSource;
 use std::test::Fail;
 
 /// A head of so many bytes, its last field filled up with letters.
-fn head_of(alloc: Global, length: usize) -> Result<Vec<u8>, AllocError> {
+pub fn head_of(alloc: Global, length: usize) -> Result<Vec<u8>, AllocError> {
     let mut head = Vec::from_slice(alloc, b"GET / HTTP/1.1\r\nHost: a\r\nX: ")?;
     for _ in head.len()..length.saturating_sub(4) {
         head.push(b'a')?;

@@ -1,4 +1,5 @@
 //! What is answered to each form of a head, given whole.
+use crate::edges::head_of;
 use asgi_conn::Outcome;
 use asgi_fakes::texts::{
     BAD_REQUEST, GET, HELLO, HELLO_AND_CLOSE, HELLO_HEAD, NOT_IMPLEMENTED, OLD_HELLO,
@@ -330,17 +331,6 @@ fn an_input_that_ends_early_gets_no_answer(rt: HostRuntime) -> Result<(), Fail> 
     check(&rt, &Limits::usual(), ENDS_EARLY)
 }
 
-/// A head of `length` bytes whose last field is filled up with letters.
-fn head_of<H: AllocGlobal>(rt: &H, length: usize) -> Result<Vec<u8>, Fail> {
-    let mut head = Vec::with_capacity(rt.alloc(), 256)?;
-    head.extend_from_slice(b"GET / HTTP/1.1\r\nHost: a\r\nX: ")?;
-    for _ in head.len()..length.saturating_sub(4) {
-        head.push(b'a')?;
-    }
-    head.extend_from_slice(b"\r\n\r\n")?;
-    Ok(head)
-}
-
 /// Whether a head of `length` bytes is served so.
 fn is_head_served<H: RandomSource + AllocGlobal>(
     rt: &H,
@@ -348,7 +338,7 @@ fn is_head_served<H: RandomSource + AllocGlobal>(
     length: usize,
     case: &Case,
 ) -> Result<bool, Fail> {
-    let head = head_of(rt, length)?;
+    let head = head_of(rt.alloc(), length)?;
     Ok(is_case(rt, limits, &head, case)?)
 }
 
