@@ -31,6 +31,14 @@ impl Chars {
         self.text.as_str()
     }
 
+    /// The text, taken out. It takes no memory.
+    pub fn into_string(self) -> String
+        ensures { string_bytes result ≡ self }
+    {
+        let Self { text: taken } = self;
+        taken
+    }
+
     /// The same text once more, in memory of its own.
     pub fn copy(&self, alloc: Global) -> Result<Self, AllocError>
         ensures { IfOk result (λ copied. copied ≡ self.now) }

@@ -53,6 +53,15 @@ abbrev pub is_read : Call → Bool
 is_read (call.Read answer) = true
 is_read (call.Send item answer) = false
 
+abbrev pub is_payload : Call → Bool
+is_payload (call.Send (item.Payload payload) answer) = true
+is_payload _ = false
+
+-- the same send, answered otherwise
+abbrev pub with_answer : Call → Put → Call
+with_answer (call.Read answer) other = call.Read answer
+with_answer (call.Send item answer) other = call.Send item other
+
 -- How many reads stand behind the first close. No data follows a close (RFC 6455, section 5.5.1), and who closes the connection
 -- discards what is still received (section 7.1.1); how much of it is read is the limit of this server.
 abbrev pub reads_behind_close : List Call → ℕ

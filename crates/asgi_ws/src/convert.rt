@@ -9,7 +9,7 @@ use crate::tap::Stop;
 use asgi_io::is_passing;
 use asgi_types::{Chars, Octets, Payload, Reason};
 use std::alloc::{AllocError, Global};
-use tungstenite::{CloseFrame, Error, Message};
+use tungstenite::{Bytes, CloseFrame, Error, Message, Utf8Bytes};
 
 /// The message that was read, in memory of its own.
 pub fn got_of(alloc: Global, message: &Message) -> Got
@@ -70,12 +70,12 @@ fn wait(stop: Option<Stop>) -> Got
     }
 }
 
-/// The payload as the message layer takes it, in memory of its own.
-pub fn message_with(alloc: Global, payload: &Payload) -> Result<Message, AllocError>
-    ensures { IfOk result (λ m. content_of m ≡ content_of_payload payload.now) }
+/// The payload as the message layer takes it, in the memory that it has.
+pub fn message_with(payload: Payload) -> Result<Message, AllocError>
+    ensures { IfOk result (λ m. content_of m ≡ content_of_payload payload) }
 {
     match payload {
-        Payload::Text(text) => Message::text(alloc, text.as_str()),
-        Payload::Bytes(bytes) => Message::binary(alloc, bytes.bytes()),
+        Payload::Text(text) => Ok(Message::Text(Utf8Bytes::from_string(text.into_string())?)),
+        Payload::Bytes(bytes) => Ok(Message::Binary(Bytes::from_vec(bytes.into_vec())?)),
     }
 }

@@ -49,18 +49,14 @@ fn read_next<S: Stream + Drop>(alloc: Global, socket: &mut Session<S>) -> Got
 }
 
 /// Sends a payload.
-pub fn send<S: Stream + Drop>(
-    alloc: Global,
-    session: &mut Option<Session<S>>,
-    payload: &Payload,
-) -> Put
-    ensures sent { IfDone result (IsSent (λ t. S.contents t.stream) session.old session.new (payload_step payload.now)) }
-    ensures refused { IfFailed result (IsRefused session.old (payload_step payload.now)) }
+pub fn send<S: Stream + Drop>(session: &mut Option<Session<S>>, payload: Payload) -> Put
+    ensures sent { IfDone result (IsSent (λ t. S.contents t.stream) session.old session.new (payload_step payload)) }
+    ensures refused { IfFailed result (IsRefused session.old (payload_step payload)) }
 {
     let Some(socket) = session else {
         return Put::Failed;
     };
-    let Ok(message) = message_with(alloc, payload) else {
+    let Ok(message) = message_with(payload) else {
         return Put::NoMemory;
     };
     put_of(socket.send(message))

@@ -6,7 +6,7 @@ ghost use Rattle.asgi_io.specs.Answers.{answer_of};
 ghost use Rattle.asgi_io.specs.Counting.{CountsFailures};
 ghost use Rattle.asgi_ws.specs.Wires.{told_by, leftover_by};
 
-use crate::calls::{note_read, note_send};
+use crate::calls::{Sending, note_read, note_send};
 use crate::messages::{Call, Got, Handed, Line, Messages, Put};
 use crate::session::{Session, close, read, send, session_on};
 use crate::stream::Stream;
@@ -205,12 +205,14 @@ impl<S: Stream + Drop> Messages for Wired<S> {
         ensures stays { (self.new.stream ≡ self.old.stream) × (self.new.before ≡ self.old.before) × (self.new.kept ≡ self.old.kept)
             × (self.new.tally.reads ≡ self.old.tally.reads) × (self.new.tally.writes ≡ self.old.tally.writes) }
     {
+        let (sending, payload) = Sending::of(&self.calls, payload);
         let answer = if self.stream.is_some() {
             Put::Failed
         } else {
-            send(self.alloc, &mut self.session, &payload)
+            send(&mut self.session, payload)
         };
-        self.note(answer, Handed::Payload(payload))
+        self.calls = sending.answered(answer);
+        self.count(answer)
     }
 
     fn send_close(&mut self, code: u16, reason: Reason) -> Put
@@ -235,6 +237,19 @@ impl<S: Stream + Drop> Wired<S> {
     ghost use Rattle.asgi_ws.specs.declared.messages.Call.TheVariants as call;
     ghost use Rattle.asgi_ws.specs.Sessions.{has_failed, count_after};
 
+    // Counts a send that failed.
+    fn count(&mut self, answer: Put) -> Put
+        ensures answer { result ≡ answer }
+        ensures after { self.new.tally.failures ≡ count_after self.old.tally.failures (has_failed answer) }
+        ensures stays { (self.new.calls ≡ self.old.calls) × (self.new.stream ≡ self.old.stream) × (self.new.session ≡ self.old.session) × (self.new.before ≡ self.old.before) × (self.new.kept ≡ self.old.kept)
+            × (self.new.tally.reads ≡ self.old.tally.reads) × (self.new.tally.writes ≡ self.old.tally.writes) }
+    {
+        if answer == Put::Failed {
+            self.tally.note_failure();
+        }
+        answer
+    }
+
     // Keeps what was handed over and its answer, and counts a failure.
     fn note(&mut self, answer: Put, item: Handed) -> Put
         ensures answer { result ≡ answer }
@@ -244,10 +259,7 @@ impl<S: Stream + Drop> Wired<S> {
             × (self.new.tally.reads ≡ self.old.tally.reads) × (self.new.tally.writes ≡ self.old.tally.writes) }
     {
         let _item = note_send(&mut self.calls, item, answer);
-        if answer == Put::Failed {
-            self.tally.note_failure();
-        }
-        answer
+        self.count(answer)
     }
 }
 
