@@ -1,5 +1,5 @@
 //! Messages of the message layer, and of a session.
-ghost use Rattle.std.specs.Prelude.{◌≡◌, Some, IfOk, string_bytes};
+ghost use Rattle.std.specs.Prelude.{◌≡◌, Some, IfOk};
 ghost use Rattle.tungstenite.specs.Socket.{content_of};
 ghost use Rattle.tungstenite.specs.declared.message.Message.TheVariants as wire;
 ghost use Rattle.asgi_ws.specs.Wires.{IsGotOf, IsAnswerTo, waited_for, content_of_payload};
@@ -11,39 +11,23 @@ use asgi_types::{Chars, Octets, Payload, Reason};
 use std::alloc::{AllocError, Global};
 use tungstenite::{Bytes, CloseFrame, Error, Message, Utf8Bytes};
 
-/// The message that was read, in the memory that it has, unless others own that too.
-pub fn got_of(alloc: Global, message: Message) -> Got
-    ensures { IsGotOf message result }
+/// The message that was read, in memory of its own.
+pub fn got_of(alloc: Global, message: &Message) -> Got
+    ensures { IsGotOf message.now result }
 {
     match message {
-        Message::Text(text) => match string_of(alloc, text) {
+        Message::Text(text) => match String::from_str(alloc, text.as_str()) {
             Ok(text) => Got::Message(Msg::Text(Chars::new(text))),
             Err(_) => Got::NoMemory,
         },
-        Message::Binary(bytes) => match vec_of(alloc, bytes) {
+        Message::Binary(bytes) => match Vec::from_slice(alloc, bytes.as_slice()) {
             Ok(bytes) => Got::Message(Msg::Bytes(Octets::new(bytes))),
             Err(_) => Got::NoMemory,
         },
         Message::Ping(_) => Got::Message(Msg::Ping),
         Message::Pong(_) => Got::Message(Msg::Pong),
         Message::Close(None) => Got::Message(Msg::Close(None)),
-        Message::Close(Some(frame)) => close_of(&frame),
-    }
-}
-
-fn string_of(alloc: Global, text: Utf8Bytes) -> Result<String, AllocError>
-    ensures { IfOk result (λ s. string_bytes s ≡ text) }
-{
-    let bytes = vec_of(alloc, text.into_bytes())?;
-    Ok(unsafe { String::from_utf8_unchecked(bytes) })
-}
-
-fn vec_of(alloc: Global, bytes: Bytes) -> Result<Vec<u8>, AllocError>
-    ensures { IfOk result (λ v. v.items ≡ bytes) }
-{
-    match bytes.try_into_mut() {
-        Ok(buffer) => Ok(buffer.into_vec()?),
-        Err(shared) => Vec::from_slice(alloc, shared.as_slice()),
+        Message::Close(Some(frame)) => close_of(frame),
     }
 }
 
@@ -62,7 +46,7 @@ pub fn answer_to(alloc: Global, given: Result<Message, Error>, stop: Option<Stop
     ensures { IsAnswerTo given stop result }
 {
     match given {
-        Ok(message) => got_of(alloc, message),
+        Ok(message) => got_of(alloc, &message),
         Err(Error::OutOfMemory) => Got::NoMemory,
         Err(Error::ConnectionClosed) => Got::Ended,
         Err(Error::Io(e)) => {
