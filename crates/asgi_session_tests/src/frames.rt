@@ -1,10 +1,10 @@
 //! Frames of a client, over a stream: those of RFC 6455, section 5.7, and those that its rules refuse.
 use crate::apps::Heard;
-use crate::fakes::{Pieces, line_of, text_of};
 use crate::rows::{Session, Written, check_sessions};
 use crate::serving::{App, serve_by};
 use crate::texts::{ACCEPTED, HANDSHAKE, HELLO, HELLO_BACK};
 use asgi_conn::Outcome;
+use asgi_fakes::{Pieces, line_of, text_of};
 use asgi_types::Limits;
 use std::alloc::{AllocError, AllocGlobal, Global};
 use std::test::Fail;

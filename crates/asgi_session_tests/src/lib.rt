@@ -12,8 +12,6 @@ mod cuts;
 #[cfg(test)]
 mod ends;
 #[cfg(test)]
-mod fakes;
-#[cfg(test)]
 mod frames;
 #[cfg(test)]
 mod memory;

@@ -1,11 +1,11 @@
 //! Memory refused to a session. `tests/memory.py` runs this with each allocation refused in turn; with ample memory none is
 //! refused.
-use crate::fakes::{Pieces, line_of, text_of};
 use crate::rows::{Parts, joined};
 use crate::scripts::{Given, Out, is_front, is_handed, script_of};
 use crate::serving::{App, serve_by};
 use crate::texts::{ACCEPTED, FORBIDDEN, HANDSHAKE, HELLO, HELLO_BACK, OFFERING, SERVER_ERROR};
 use asgi_conn::Outcome;
+use asgi_fakes::{Pieces, line_of, text_of};
 use asgi_types::Limits;
 use std::alloc::AllocGlobal;
 use std::process::Abort;

@@ -1,10 +1,10 @@
 //! Reads that fail, before a session and in one.
 use crate::apps::Heard;
-use crate::fakes::{Pieces, line_of, text_of};
 use crate::rows::joined;
 use crate::serving::{App, serve_by};
 use crate::texts::{ACCEPTED, HANDSHAKE, HELLO, HELLO_BACK};
 use asgi_conn::Outcome;
+use asgi_fakes::{Pieces, line_of, text_of};
 use asgi_types::Limits;
 use std::test::Fail;
 

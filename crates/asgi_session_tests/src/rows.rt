@@ -1,9 +1,9 @@
 //! Rows over a stream, and how they are compared, in pieces and cut in two at each place.
 use crate::apps::Heard;
-use crate::fakes::{Pieces, line_of, text_of};
 use crate::serving::{App, serve_by};
 use crate::texts::HANDSHAKE;
 use asgi_conn::Outcome;
+use asgi_fakes::{Pieces, line_of, text_of};
 use asgi_types::Limits;
 use std::alloc::{AllocError, AllocGlobal, Global};
 use std::io::ErrorKind;

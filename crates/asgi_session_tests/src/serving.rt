@@ -1,8 +1,8 @@
 //! A connection over a line, served by the application of a row.
 use crate::apps::{Heard, Listens, Refuses, Scripted, Step};
-use crate::fakes::serve;
 use asgi_apps::{Hello, WsEcho};
 use asgi_conn::{Line, Report};
+use asgi_fakes::serve;
 use asgi_types::Limits;
 use std::alloc::AllocGlobal;
 use std::io;

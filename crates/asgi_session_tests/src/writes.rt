@@ -1,11 +1,11 @@
 //! Answers and messages that go out in part, or not at all.
 use crate::apps::{Heard, Said, Step};
-use crate::fakes::{Pieces, Sink};
 use crate::rows::joined;
 use crate::scripts::{Given, Out, is_handed, script_of};
 use crate::serving::{App, serve_by};
 use crate::texts::{ACCEPTED, CLOSE, DENIED, FORBIDDEN, HANDSHAKE, HELLO, SERVER_ERROR};
 use asgi_conn::Outcome;
+use asgi_fakes::{Pieces, Sink};
 use asgi_io::Counts;
 use asgi_types::Limits;
 use asgi_ws::{Pair, Wired};
