@@ -452,7 +452,7 @@ impl SessionHalf {
 
     /// Whether the line carries messages.
     fn carries(&self) -> bool
-        ensures { IsTrue result → (self.now.answered ≡ Answered.Open) ⊎ (self.now.answered ≡ Answered.Closed) }
+        ensures { IsTrue result ↔ ((self.now.answered ≡ Answered.Open) ⊎ (self.now.answered ≡ Answered.Closed)) }
     {
         match self.answered {
             Answered::Open => true,
