@@ -351,7 +351,8 @@ module _ (scene : SessionScene) (was : LineState) (half : SessionHalf) (read : L
         subst (λ (n : ℕ). TalksOn scene.start now half.wire.input read (scene.before ++ x.text) n (talk_in half view x.leftover (x.handed ++ taken_by message answer)) half.spare_reads)
         (ap (λ (a : Answered). text_failures a (stage.Over (ConnectionEnds out))) (sym opened))
         (talk_sent scene.start was now half.wire.input read (scene.before ++ x.text) 0 (talk_in half view x.leftover x.handed)
-        (talk_in half view x.leftover (x.handed ++ taken_by message answer)) half.spare_reads line same message answer told count coming kept refl refl refl refl)
+        (talk_in half view x.leftover (x.handed ++ taken_by message answer)) half.spare_reads line same message answer told count coming kept refl refl refl refl
+        scene.frames (subst (λ (a : Answered). IsCarried a scene half view x.text x.leftover x.handed) opened x.carried).kept)
 
     sent_as : (out : Outcome) (result : Put) → answer ≡ result
         → TalksOn scene.start now half.wire.input read (scene.before ++ x.text) (text_failures half.answered (stage.Over (ConnectionEnds out))) (talk_in half view x.leftover (x.handed ++ taken_by message result)) half.spare_reads

@@ -170,6 +170,12 @@ carried_still state scene old new view arrived text leftover handed (inr e) x =
     subst (λ (a : Answered). IsCarried a scene new (record view { arrived = arrived }) text leftover handed) (sym e)
     (carrying_still scene view arrived text leftover (subst (λ (a : Answered). IsCarried a scene old view text leftover handed) e x))
 
+-- and was given the bytes behind the handshake
+kept_there : (state : Answered) (scene : SessionScene) (half : SessionHalf) (view : ConnView Msg Output) (text : List ℕ) (leftover : Option (List ℕ)) (handed : List Handed)
+    → Carries state → IsCarried state scene half view text leftover handed → leftover ≡ Some scene.frames
+kept_there state scene half view text leftover handed (inl e) x = (subst (λ (a : Answered). IsCarried a scene half view text leftover handed) e x).kept
+kept_there state scene half view text leftover handed (inr e) x = (subst (λ (a : Answered). IsCarried a scene half view text leftover handed) e x).kept
+
 module _ (scene : SessionScene) (was now : LineState) (half : SessionHalf) (read : List ℕ) (view : ConnView Msg Output) (x : Stands scene was half read view)
     (carries : Carries half.answered) (closed : is_by_input view.broken ≡ true → has_close view.arrived ≡ true) (answer : Got) (call : HasRead was now answer) where
   -- What the answer gave arrived, and all else stays: the half stands again where the later stage does.
@@ -182,7 +188,8 @@ module _ (scene : SessionScene) (was now : LineState) (half : SessionHalf) (read
       let seen : ConnView Msg Output = record view { arrived = view.arrived ++ given_by answer } in
       let line : TalksOn scene.start now half.wire.input read (scene.before ++ x.text) (text_failures half.answered half.stage) (talk_in later seen x.leftover x.handed) spare_reads =
       talk_read scene.start was now half.wire.input read (scene.before ++ x.text) (text_failures half.answered half.stage) (talk_in half view x.leftover x.handed) (talk_in later seen x.leftover x.handed)
-      half.spare_reads x.line call.text answer call.told call.loses call.count call.kept refl over refl refl spare_reads few in
+      half.spare_reads x.line call.text answer call.told call.loses call.count call.kept refl over refl refl spare_reads few
+      scene.frames (kept_there half.answered scene half view x.text x.leftover x.handed carries x.carried) in
       record {
         fixed = x.fixed;
         text = x.text;

@@ -229,6 +229,7 @@ module _ (scene : SessionScene) (was : LineState) (half : SessionHalf) (read : L
       sent : TalksOn scene.start now half.wire.input read (scene.before ++ x.text) 0 (talk_in half view x.leftover (x.handed ++ taken_by message answer)) half.spare_reads
       sent = talk_sent scene.start was now half.wire.input read (scene.before ++ x.text) 0 (talk_in half view x.leftover x.handed)
           (talk_in half view x.leftover (x.handed ++ taken_by message answer)) half.spare_reads line same message answer told count coming kept refl refl refl refl
+          scene.frames (subst (λ (a : Answered). IsCarried a scene (record half { judge = before }) view x.text x.leftover x.handed) opened x.carried).kept
 
       talked : (result : Put) → answer ≡ result → (stage : Stage) (progress : Answered) → IsUpgraded progress
           → TalksOn scene.start now half.wire.input read (scene.before ++ x.text) (text_failures progress stage) (talk_in half view x.leftover (x.handed ++ taken_by message result)) half.spare_reads

@@ -70,6 +70,10 @@ loses_then (Some xs) None c front more x y = absurd x
 loses_then (Some xs) (Some ys) None front more x y = absurd y
 loses_then (Some xs) (Some ys) (Some zs) front more x y = x ∙ ap (λ (l : List Msg). front ++ l) y ∙ sym (append_assoc front more zs)
 
+-- it is there
+there : (kept : Option (List ℕ)) (bytes : List ℕ) → kept ≡ None → kept ≡ Some bytes → ⊥
+there kept bytes none some_ = cc (none, some_)
+
 -- ---- one step
 
 pub talk_silent : (start now : LineState) (end : InputEnd) (read before : List ℕ) (failures : ℕ) → HasMoved start now end read before failures → HasTalked start now end read before failures silence
@@ -83,6 +87,7 @@ talk_silent start now end read before failures x = record {
   few = omega arith;
   coming = subst (λ (s : Session). Loses start.session.coming s.coming []) (sym x.quiet) (loses_nothing start.session.coming);
   kept = ap (λ (s : Session). s.leftover) x.quiet;
+  quiet = λ none. refl;
 }
 
 pub talk_begins : (start now : LineState) (end : InputEnd) (read before : List ℕ) (spare : ℕ) → spare ≤ drop_limit → HasMoved start now end read before 0 → TalksOn start now end read before 0 silence spare
@@ -109,6 +114,7 @@ talk_written start was now end read text more failures talk spare on same_left s
         few = x.few;
         coming = subst (λ (s : Session). Loses start.session.coming s.coming talk.received) (sym same_session) x.coming;
         kept = ap (λ (s : Session). s.leftover) same_session ∙ x.kept;
+        quiet = x.quiet;
       };
       within = on.within;
     }
@@ -140,8 +146,9 @@ module _ (start was now : LineState) (end : InputEnd) (read text : List ℕ) (fa
   pub talk_read : (answer : Got) → now.session.calls ≡ was.session.calls ++ Read answer ∷ [] → Loses was.session.coming now.session.coming (given_by answer)
       → now.failed ≡ count_after was.failed (is_failed answer) → now.session.leftover ≡ was.session.leftover
       → later.received ≡ talk.received ++ given_by answer → later.is_over ≡ (talk.is_over || is_end answer) → later.handed ≡ talk.handed → later.leftover ≡ talk.leftover
-      → (left : ℕ) → reads_behind_close (on.talked.calls ++ Read answer ∷ []) + left ≤ drop_limit → TalksOn start now end read text failures later left
-  talk_read answer told loses count kept received over handed leftover left within = record {
+      → (left : ℕ) → reads_behind_close (on.talked.calls ++ Read answer ∷ []) + left ≤ drop_limit → (bytes : List ℕ) → later.leftover ≡ Some bytes
+      → TalksOn start now end read text failures later left
+  talk_read answer told loses count kept received over handed leftover left within bytes carries = record {
     talked = record {
       moved = text_kept start was now end read text failures (is_failed answer) on.talked.moved same count;
       calls = on.talked.calls ++ Read answer ∷ [];
@@ -153,6 +160,7 @@ module _ (start was now : LineState) (end : InputEnd) (read text : List ℕ) (fa
       coming = subst (λ (l : List Msg). Loses start.session.coming now.session.coming l) (sym received)
           (loses_then start.session.coming was.session.coming now.session.coming talk.received (given_by answer) on.talked.coming loses);
       kept = kept ∙ on.talked.kept ∙ ap (λ (o : Option (List ℕ)). kept_with start.session.leftover o) (sym leftover);
+      quiet = λ none. absurd (there later.leftover bytes none carries);
     };
     within = within;
   }
@@ -166,8 +174,8 @@ module _ (start was now : LineState) (end : InputEnd) (read text : List ℕ) (fa
   pub talk_sent : (item : Handed) (answer : Put) → now.session.calls ≡ was.session.calls ++ Send item answer ∷ [] → now.failed ≡ count_after was.failed (has_failed answer)
       → now.session.coming ≡ was.session.coming → now.session.leftover ≡ was.session.leftover
       → later.handed ≡ talk.handed ++ taken_by item answer → later.received ≡ talk.received → later.is_over ≡ talk.is_over → later.leftover ≡ talk.leftover
-      → TalksOn start now end read text failures later spare
-  talk_sent item answer told count coming kept handed received over leftover =
+      → (bytes : List ℕ) → later.leftover ≡ Some bytes → TalksOn start now end read text failures later spare
+  talk_sent item answer told count coming kept handed received over leftover bytes carries =
       let same_reads : reads_behind_close (on.talked.calls ++ Send item answer ∷ []) ≡ reads_behind_close on.talked.calls = send_behind on.talked.calls item answer in
       let within : reads_behind_close (on.talked.calls ++ Send item answer ∷ []) + spare ≤ drop_limit = subst (λ (n : ℕ). n + spare ≤ drop_limit) (sym same_reads) on.within in
       record {
@@ -181,6 +189,7 @@ module _ (start was now : LineState) (end : InputEnd) (read text : List ℕ) (fa
           few = fewer (reads_behind_close (on.talked.calls ++ Send item answer ∷ [])) spare within;
           coming = coming_still coming received;
           kept = kept ∙ on.talked.kept ∙ ap (λ (o : Option (List ℕ)). kept_with start.session.leftover o) (sym leftover);
+          quiet = λ none. absurd (there later.leftover bytes none carries);
         };
         within = within;
       }
@@ -203,6 +212,7 @@ module _ (start was now : LineState) (end : InputEnd) (read text : List ℕ) (fa
           few = on.talked.few;
           coming = coming_still coming received;
           kept = kept ∙ ap (λ (o : Option (List ℕ)). kept_by o bytes) before ∙ ap (λ (o : Option (List ℕ)). kept_with start.session.leftover o) (sym leftover);
+          quiet = λ absent. absurd (there later.leftover bytes absent leftover);
         };
         within = on.within;
       }

@@ -59,6 +59,8 @@ pub record HasTalked (start now : LineState) (end : InputEnd) (read text : List 
   -- at most so many reads of messages stand behind a close of either side, those that found nothing yet counted
   pub few : reads_behind_close calls ≤ drop_limit
   pub kept : now.session.leftover ≡ kept_with start.session.leftover talk.leftover
+  -- no message was read or sent where the line did not come to carry messages
+  pub quiet : talk.leftover ≡ None → calls ≡ []
 
 -- ---- what the connection's half of a session keeps of it: no promise is stated by it
 
