@@ -29,6 +29,17 @@ PARTS = [
     ("further edits refused", ["python3", "tests/must_fail.py"]),
 ]
 SUM = re.compile(r"(\d+) passed, (\d+) failed")
+# What a check takes at the most, in bytes, by what was seen: 2 to 4 GB.
+CHECK = 4_000_000_000
+
+
+def side_by_side():
+    """Returns how many checks go side by side: one a processor, as many as memory holds.
+
+    By itself `rt` plans with up to 16 GB for a check over large crates, so that it would run one at a time."""
+    with open("/proc/meminfo", encoding="utf-8") as it:
+        free = 1024 * int(re.search(r"MemAvailable:\s+(\d+)", it.read())[1])
+    return max(1, min(len(os.sched_getaffinity(0)), free // CHECK))
 
 
 def run(words):
@@ -78,6 +89,7 @@ def counts_of(what, status, lines):
 
 
 def main():
+    os.environ.setdefault("RT_JOBS", str(side_by_side()))
     counts, times, began = {}, [], time.time()
     for what, words in PARTS:
         started = time.time()
