@@ -25,6 +25,7 @@ PARTS = [
     ("runs with an allocation refused", ["python3", "tests/memory.py"]),
     ("tests from outside", ["python3", "tests/program.py", PROGRAM]),
     ("tests from outside", ["python3", "tests/sessions.py", PROGRAM]),
+    ("tests from outside", ["python3", "tests/servers.py", PROGRAM]),
     ("tests from outside", ["python3", "tests/keys.py", KEYS]),
     ("further edits refused", ["python3", "tests/must_fail.py"]),
 ]

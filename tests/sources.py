@@ -21,7 +21,7 @@ TOP = os.path.dirname(os.path.dirname(os.path.realpath(__file__)))
 # Where an `AllocError` is built with no growth refused: a number of bytes or places that no `usize` says.
 BUILDS = {"crates/asgi_pipes/src/plain.rt": 1, "crates/asgi_response/src/append.rt": 1}
 # Where an answer is thrown away: what can't be written on standard error can be told nowhere.
-THROWS = {"crates/asgi_demo/src/command.rt": 1}
+THROWS = {"crates/asgi_demo/src/command.rt": 1, "crates/asgi_demo/src/ending.rt": 1}
 # A value of the type: not where it is brought in, nor the end of a type's arguments, nor the field that an error keeps.
 BUILT = re.compile(r"(?<!\] )\bAllocError\b(?!>)")
 GROWS = re.compile(r"\b(with_capacity|reserve|reserve_exact|shrink_to|shrink_to_fit)\s*\(")

@@ -1,3 +1,4 @@
 pub mod WordLemmas
 pub mod ServingLemmas
 pub mod TellingLemmas
+pub mod LivesLemmas

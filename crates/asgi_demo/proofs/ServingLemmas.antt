@@ -1,12 +1,13 @@
 -- One connection was served, with a pause that begins at none and a state that is empty.
-use Rattle.std.proofs.Common.{◌≡◌, ℕ, List, [], None, subst}
+use Rattle.std.proofs.Common.{◌≡◌, ◌⊎◌, ℕ, List, [], None, subst, sym}
 use Rattle.asgi_types.specs.declared.limits.Limits.{Limits}
 use Rattle.asgi_types.specs.declared.state.StateValue.{StateValue}
 use Rattle.asgi_types.specs.Ranges.{AreLimits}
 use Rattle.asgi_conversation.specs.declared.report.Report.{Report}
 use Rattle.asgi_conn.specs.Lines.{LineState}
 use Rattle.asgi_conn.specs.Serving.{Serves}
-use Rattle.asgi_demo.specs.Command.{Promise, ServesWhole}
+use Rattle.asgi_demo.specs.declared.words.App.{App}
+use Rattle.asgi_demo.specs.Command.{Promise, Streams, ServesWhole, ServesOnce, BeginsNone, promise}
 
 pub served_whole : (answers : Promise) (limits : Limits) (state : List (List ℕ × StateValue)) (old new : LineState) (paused pauses : ℕ) (report : Report)
     → AreLimits limits 16384 64 1048576 16384 16 30000 1099511627776 → state ≡ [] → paused ≡ 0
@@ -15,3 +16,8 @@ served_whole answers limits state old new paused pauses report usual empty no_pa
     let S : List (List ℕ × StateValue) → Type 0 = λ s. Serves answers limits None None s old new paused pauses report in
     let P : ℕ → Type 0 = λ k. Serves answers limits None None [] old new k pauses report in
     record { limits = limits; usual = usual; pauses = pauses; serves = subst P no_pause (subst S empty x) }
+
+-- what is served by an application is served by the one that is named so
+pub as_named : (a b : App) (before after : Streams) (status : ℕ) → a ≡ b → ServesOnce (promise b) before after status ⊎ BeginsNone before after status
+    → ServesOnce (promise a) before after status ⊎ BeginsNone before after status
+as_named a b before after status same served = subst (λ x. ServesOnce (promise x) before after status ⊎ BeginsNone before after status) (sym same) served

@@ -15,20 +15,9 @@ use Rattle.asgi_conversation.specs.declared.report.Report.{Report}
 use Rattle.asgi_conversation.specs.Promised.{echo_promise, hello_promise}
 use Rattle.asgi_conn.specs.Lines.{LineState}
 use Rattle.asgi_conn.specs.Serving.{Serves}
-use Rattle.asgi_demo.specs.declared.command.App.{App}
-use Rattle.asgi_demo.specs.declared.command.App.TheVariants as app
+use Rattle.asgi_demo.specs.declared.words.App.{App}
+use Rattle.asgi_demo.specs.declared.words.App.TheVariants as app
 use Rattle.asgi_demo.specs.Telling.{Writer, Tells, TellsOf, device_fault, of_outcome}
-
--- the word that names an application
-abbrev pub word_of : App → List ℕ
-word_of app.Hello = codes "hello"
-word_of app.Echo = codes "echo"
-word_of app.NotFound = codes "notfound"
-word_of app.WsEcho = codes "wsecho"
-
--- the words are `once` and that of this application
-abbrev pub IsOnce : List (List ℕ) → App → Type 0
-IsOnce words named = words ≡ codes "once" ∷ word_of named ∷ []
 
 -- what an application promises in a scope
 abbrev pub Promise : Type 1

@@ -1,2 +1,4 @@
+pub mod Words
 pub mod Command
 pub mod Telling
+pub mod Serving

@@ -1,62 +1,102 @@
 //! The command line.
-ghost use Rattle.std.specs.Prelude.{◌≡◌, ◌↔◌, ◌⊎◌, ◌++◌, IsTrue, IfSome, IfNone, List, ℕ, codes, map, string_bytes};
+ghost use Rattle.std.specs.Prelude.{◌≡◌, ◌⊎◌, ◌++◌, map, string_bytes};
 ghost use Rattle.std.specs.IoError.{error_kind};
 ghost use Rattle.std.specs.declared.io.ErrorKind.TheVariants.{OutOfMemory};
 ghost use Rattle.asgi_conn.specs.Lines.{state_of};
 ghost use Rattle.asgi_demo.specs.Command as spec;
-ghost use Rattle.asgi_demo.specs.Command.{IsOnce, ServesOnce, ServesWhole, BeginsNone, promise, streams};
+ghost use Rattle.asgi_demo.specs.Command.{ServesOnce, ServesWhole, BeginsNone, promise, streams};
 ghost use Rattle.asgi_demo.specs.Telling as telling;
 ghost use Rattle.asgi_demo.specs.Telling.{Tells, TellsOf, writer};
+ghost use Rattle.asgi_demo.specs.Words.{Asks, IsOnce};
+ghost use Rattle.asgi_demo.specs.declared.words.App.{App};
+ghost use Rattle.asgi_demo.specs.declared.words.Command.{Command};
 
+use crate::listens::Listens;
+use crate::serve::serve_on;
+use crate::words::{App, Command, command_of};
 use arrayvec::ArrayString;
 use asgi_apps::{Application, Echo, Hello, NotFound, WsEcho};
 use asgi_conn::{CountingPause, Inline, Line, Outcome, Report, serve_connection};
 use asgi_io::{Counts, write_out};
+use asgi_server::Accepts;
 use asgi_types::{Limits, State};
 use futures::task::{Doorbell, Solo};
 use std::alloc::AllocGlobal;
 use std::io::{self, ErrorKind};
 use std::random::RandomSource;
+use std::time::Clock;
 
 const USAGE: &[u8] = b"usage: asgi_demo once APP | asgi_demo serve PORT COUNT APP\n";
 
 const DEVICE_FAULT: &[u8] = b"device fault\n";
 
-/// The applications that a word names.
-#[derive(Clone, Copy, Debug, PartialEq, Eq)]
-enum App {
-    Hello,
-    Echo,
-    NotFound,
-    WsEcho,
-}
-
 /// Runs the program on the words behind its name, and gives the exit status.
 ///
 /// `once APP` serves one connection over the line by that application, and tells on `errors` why the
-/// connection stopped, where it did. Any other words give the usage text on `errors`, and nothing else
-/// is done.
-pub fn command<H: RandomSource + AllocGlobal, L: Line, E: Counts>(
+/// connection stopped, where it did. `serve PORT COUNT APP` starts the application, serves so many
+/// connections of that port, tells a line of each on `output`, stops the application, and tells on
+/// `errors` what went wrong. Any other words give the usage text on `errors`, and nothing else is done.
+pub fn command<H: RandomSource + AllocGlobal + Clock, L: Line, N: Listens, W: Counts, E: Counts>(
     rt: &H,
     words: &[String],
     line: &mut L,
+    listener: &mut N,
+    output: &mut W,
     errors: &mut E,
 ) -> u8
     ensures serves { (app : App) → IsOnce (map string_bytes words.now) app → (
         let before = streams (state_of L.Reads L.Counts L.Messages.own line.old) (writer (E.written errors.old) (E.answers errors.old) (E.failed errors.old)) in
         let after = streams (state_of L.Reads L.Counts L.Messages.own line.new) (writer (E.written errors.new) (E.answers errors.new) (E.failed errors.new)) in
         (ServesOnce (promise app) before after result) ⊎ (BeginsNone before after result)) }
-    ensures usage { ((app : App) → ¬ (IsOnce (map string_bytes words.now) app)) → (result ≡ 2) × Tells telling.usage
+    ensures usage { ((asked : Command) → ¬ (Asks (map string_bytes words.now) asked)) → (result ≡ 2) × Tells telling.usage
         (writer (E.written errors.old) (E.answers errors.old) (E.failed errors.old))
         (writer (E.written errors.new) (E.answers errors.new) (E.failed errors.new)) }
-    ensures kept { ((app : App) → ¬ (IsOnce (map string_bytes words.now) app)) → line.new ≡ line.old }
+    ensures kept { ((asked : Command) → ¬ (Asks (map string_bytes words.now) asked)) → (line.new ≡ line.old) × (listener.new ≡ listener.old) × (output.new ≡ output.old) }
+    ensures once { (app : App) → IsOnce (map string_bytes words.now) app → (listener.new ≡ listener.old) × (output.new ≡ output.old) }
 {
-    match app_of(words) {
+    match command_of(words) {
         None => usage(errors),
-        Some(App::Hello) => once(rt, &Hello, line, errors),
-        Some(App::Echo) => once(rt, &Echo, line, errors),
-        Some(App::NotFound) => once(rt, &NotFound, line, errors),
-        Some(App::WsEcho) => once(rt, &WsEcho, line, errors),
+        Some(Command::Once(app)) => once_by(rt, app, line, errors),
+        Some(Command::Serve { port, count, app }) => {
+            listener.listen_on(port, count);
+            serve_by(rt, app, listener, output, errors)
+        }
+    }
+}
+
+/// Serves one connection over the line by the application that is named.
+fn once_by<H: RandomSource + AllocGlobal, L: Line, E: Counts>(
+    rt: &H,
+    app: App,
+    line: &mut L,
+    errors: &mut E,
+) -> u8
+    ensures { let before = streams (state_of L.Reads L.Counts L.Messages.own line.old) (writer (E.written errors.old) (E.answers errors.old) (E.failed errors.old)) in
+        let after = streams (state_of L.Reads L.Counts L.Messages.own line.new) (writer (E.written errors.new) (E.answers errors.new) (E.failed errors.new)) in
+        (ServesOnce (promise app) before after result) ⊎ (BeginsNone before after result) }
+{
+    match app {
+        App::Hello => once(rt, &Hello, line, errors),
+        App::Echo => once(rt, &Echo, line, errors),
+        App::NotFound => once(rt, &NotFound, line, errors),
+        App::WsEcho => once(rt, &WsEcho, line, errors),
+    }
+}
+
+/// Serves the connections of the listener by the application that is named, with the usual limits.
+fn serve_by<H: RandomSource + AllocGlobal + Clock, N: Accepts, W: Counts, E: Counts>(
+    rt: &H,
+    app: App,
+    listener: &mut N,
+    output: &mut W,
+    errors: &mut E,
+) -> u8 {
+    let limits = Limits::usual();
+    match app {
+        App::Hello => serve_on(rt, &limits, &Hello, listener, output, errors),
+        App::Echo => serve_on(rt, &limits, &Echo, listener, output, errors),
+        App::NotFound => serve_on(rt, &limits, &NotFound, listener, output, errors),
+        App::WsEcho => serve_on(rt, &limits, &WsEcho, listener, output, errors),
     }
 }
 
@@ -74,42 +114,6 @@ pub fn without_words<E: Counts>(e: &io::Error, errors: &mut E) -> u8
         return device_fault(errors);
     }
     usage(errors)
-}
-
-// ---- the words
-
-/// The application that is to serve, where the words are `once` and its name.
-fn app_of(words: &[String]) -> Option<App>
-    ensures some { IfSome result (λ app. IsOnce (map string_bytes words.now) app) }
-    ensures none { IfNone result ((app : App) → ¬ (IsOnce (map string_bytes words.now) app)) }
-{
-    let [once, name] = words else {
-        return None;
-    };
-    if once.as_str() != "once" {
-        return None;
-    }
-    app_named(name.as_str())
-}
-
-/// The application of this name.
-fn app_named(name: &str) -> Option<App>
-    ensures some { IfSome result (λ app. name.now ≡ spec.word_of app) }
-    ensures none { IfNone result ((app : App) → ¬ (name.now ≡ spec.word_of app)) }
-{
-    if name == "hello" {
-        return Some(App::Hello);
-    }
-    if name == "echo" {
-        return Some(App::Echo);
-    }
-    if name == "notfound" {
-        return Some(App::NotFound);
-    }
-    if name == "wsecho" {
-        return Some(App::WsEcho);
-    }
-    None
 }
 
 // ---- one connection

@@ -1,5 +1,7 @@
 use super::*;
-use asgi_io::Counted;
+use asgi_io::{Counted, History};
+use asgi_server::Listener;
+use asgi_types::Peer;
 use asgi_ws::{Pair, Wired};
 use std::alloc::Global;
 use std::io::{Read, Write};
@@ -51,6 +53,50 @@ fn left_in(line: &Memory) -> usize {
     }
 }
 
+/// Where no connection comes from.
+#[derive(Drop)]
+struct Nowhere {
+    told: History<Option<(Memory<'static>, Option<Peer>, Option<Peer>)>>,
+}
+
+impl Listener for Nowhere {
+    type L = Memory<'static>;
+
+    ghost answers = { λ n. n.told.items };
+
+    fn next(&mut self) -> Option<(Memory<'static>, Option<Peer>, Option<Peer>)> {
+        let given = None;
+        self.told = History::with(&self.told, &given);
+        given
+    }
+}
+
+impl Accepts for Nowhere {
+    ghost has_failed = { λ _. false };
+
+    fn failed(&self) -> bool {
+        false
+    }
+}
+
+impl Listens for Nowhere {
+    fn listen_on(&mut self, _port: u16, _count: u64) {}
+}
+
+/// Runs the program, where no connection comes from its port.
+fn run<H: RandomSource + AllocGlobal + Clock, L: Line, E: Counts>(
+    rt: &H,
+    words: &[String],
+    line: &mut L,
+    errors: &mut E,
+) -> u8 {
+    let mut nowhere = Nowhere {
+        told: History::new(),
+    };
+    let mut output = Counted::new(Vec::new(rt.alloc()));
+    command(rt, words, line, &mut nowhere, &mut output, errors)
+}
+
 #[test]
 fn once_answers_by_the_application_that_is_named(rt: HostRuntime) -> Result<(), Fail> {
     let rows: [(&str, &[u8]); 4] = [
@@ -63,7 +109,7 @@ fn once_answers_by_the_application_that_is_named(rt: HostRuntime) -> Result<(), 
         let words = words(rt.alloc(), &["once", name])?;
         let mut line = line_of(rt.alloc(), REQUEST);
         let mut errors = Counted::new(Vec::new(rt.alloc()));
-        let status = command(&rt, &words, &mut line, &mut errors);
+        let status = run(&rt, &words, &mut line, &mut errors);
         assert_eq!(rt;
             (status, text_of(&line), errors.writer.len()),
             (0, wanted, 0),
@@ -89,7 +135,7 @@ fn a_session_is_served_by_the_application_that_is_named(rt: HostRuntime) -> Resu
         let words = words(rt.alloc(), &["once", name])?;
         let mut line = line_of(rt.alloc(), input);
         let mut errors = Counted::new(Vec::new(rt.alloc()));
-        let status = command(&rt, &words, &mut line, &mut errors);
+        let status = run(&rt, &words, &mut line, &mut errors);
         assert_eq!(rt;
             (status, text_of(&line), errors.writer.len()),
             (0, wanted, 0),
@@ -110,13 +156,13 @@ fn any_other_words_give_the_usage(rt: HostRuntime) -> Result<(), Fail> {
         &["Once", "hello"],
         &["once", "hello", "hello"],
         &["once", "notfound", ""],
-        &["serve", "8000", "1", "hello"],
+        &["serve", "0", "1", "hello"],
     ];
     for (row, texts) in wrong.iter().enumerate() {
         let words = words(rt.alloc(), texts)?;
         let mut line = line_of(rt.alloc(), REQUEST);
         let mut errors = Counted::new(Vec::new(rt.alloc()));
-        let status = command(&rt, &words, &mut line, &mut errors);
+        let status = run(&rt, &words, &mut line, &mut errors);
         let kept = (left_in(&line), text_of(&line).len());
         assert_eq!(rt;
             (status, kept, errors.writer.as_slice()),
@@ -157,7 +203,7 @@ fn an_answer_that_is_not_written_is_said_so(rt: HostRuntime) -> Result<(), Fail>
         kind: ErrorKind::BrokenPipe,
     };
     let mut line = line_between(rt.alloc(), REQUEST, stuck);
-    let status = command(&rt, &words, &mut line, &mut errors);
+    let status = run(&rt, &words, &mut line, &mut errors);
     assert_eq!(rt;
         (status, errors.writer.as_slice()),
         (5, b"stopped: write-failed 0\n".as_slice())
@@ -177,7 +223,7 @@ fn an_input_that_gives_nothing_is_said_so(rt: HostRuntime) -> Result<(), Fail> {
         let mut errors = Counted::new(Vec::new(rt.alloc()));
         let stuck = Stuck { kind: *kind };
         let mut line = line_between(rt.alloc(), stuck, Vec::new(rt.alloc()));
-        let gave = command(&rt, &words, &mut line, &mut errors);
+        let gave = run(&rt, &words, &mut line, &mut errors);
         assert_eq!(rt;
             (gave, errors.writer.as_slice()),
             (*status, *text),
@@ -218,10 +264,27 @@ fn a_text_that_cannot_be_told_changes_no_status(rt: HostRuntime) -> Result<(), F
     let none = words(rt.alloc(), &[])?;
     let once = words(rt.alloc(), &["once", "hello"])?;
     let statuses = [
-        command(&rt, &none, &mut line, &mut errors),
-        command(&rt, &once, &mut line, &mut errors),
+        run(&rt, &none, &mut line, &mut errors),
+        run(&rt, &once, &mut line, &mut errors),
         without_words(&io::Error::from(ErrorKind::OutOfMemory), &mut errors),
     ];
     assert_eq!(rt; (statuses, errors.failures()), ([2, 5, 5], 3));
+    Ok(())
+}
+
+#[test]
+fn a_server_of_no_connections_starts_and_stops(rt: HostRuntime) -> Result<(), Fail> {
+    let rows: [(&str, u8, &[u8]); 2] = [("hello", 0, b""), ("wsecho", 0, b"")];
+    for (name, status, text) in rows {
+        let words = words(rt.alloc(), &["serve", "08000", "0001", name])?;
+        let mut line = line_of(rt.alloc(), REQUEST);
+        let mut errors = Counted::new(Vec::new(rt.alloc()));
+        let gave = run(&rt, &words, &mut line, &mut errors);
+        assert_eq!(rt;
+            (gave, errors.writer.as_slice(), left_in(&line)),
+            (status, text, REQUEST.len()),
+            "{name}"
+        );
+    }
     Ok(())
 }

@@ -1,8 +1,8 @@
 use Rattle.std.proofs.Common.{arith, sym, ◌∙◌, ap}
 use Rattle.std.specs.Prelude.{string_bytes, codes, not, bytes_eq}
-use Rattle.asgi_demo.specs.Command.{word_of}
+use Rattle.asgi_demo.specs.Words.{word_of}
 use Rattle.asgi_demo.proofs.WordLemmas.{both_have}
-use Rattle.asgi_demo.proofs.command.app_of.Goals as goal
+use Rattle.asgi_demo.proofs.words.once_of.Goals as goal
 
 pub returns-clause-some : goal.returns-clause-some
 returns-clause-some c =

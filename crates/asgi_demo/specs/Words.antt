@@ -1,0 +1,45 @@
+-- The words behind the program's name, and what they ask for.
+use Rattle.std.specs.Prelude.{◌≡◌, ℕ, ◌&&◌, nat_le, if◌then◌else◌, List, [], ◌∷◌, length, codes, Option, Some, None}
+use Rattle.std.specs.List.{list_all}
+use Rattle.asgi_types.specs.Lengths.{is_digit, number_of}
+use Rattle.asgi_demo.specs.declared.words.App.{App}
+use Rattle.asgi_demo.specs.declared.words.App.TheVariants as app
+use Rattle.asgi_demo.specs.declared.words.Command.{Command}
+use Rattle.asgi_demo.specs.declared.words.Command.TheVariants.{Once, Serve}
+
+-- the word that names an application
+abbrev pub word_of : App → List ℕ
+word_of app.Hello = codes "hello"
+word_of app.Echo = codes "echo"
+word_of app.NotFound = codes "notfound"
+word_of app.WsEcho = codes "wsecho"
+
+-- a number in a word: 1 to 5 digits, which may begin with zeros
+abbrev pub number_of_word : List ℕ → Option ℕ
+number_of_word word = if nat_le 1 (length word) && nat_le (length word) 5 && list_all is_digit word then Some (number_of word) else None
+
+-- the number, where it is within these bounds
+abbrev pub within : ℕ → ℕ → Option ℕ → Option ℕ
+within least most None = None
+within least most (Some n) = if nat_le least n && nat_le n most then Some n else None
+
+abbrev pub number_in : ℕ → ℕ → List ℕ → Option ℕ
+number_in least most word = within least most (number_of_word word)
+
+-- the words are `once` and the name of this application
+abbrev pub IsOnce : List (List ℕ) → App → Type 0
+IsOnce words named = words ≡ codes "once" ∷ word_of named ∷ []
+
+-- a port, a number of connections and the name of an application, in words
+abbrev pub IsServeWith : (port count name : List ℕ) → Command → Type 0
+IsServeWith port count name (Once named) = ⊥
+IsServeWith port count name (Serve p c named) = (number_in 1 65535 port ≡ Some p) × (number_in 1 1000 count ≡ Some c) × (name ≡ word_of named)
+
+-- the words are `serve` and these three
+abbrev pub IsServe : List (List ℕ) → Command → Type 0
+IsServe words command = (port count name : List ℕ) × (words ≡ codes "serve" ∷ port ∷ count ∷ name ∷ []) × IsServeWith port count name command
+
+-- the words ask for this
+abbrev pub Asks : List (List ℕ) → Command → Type 0
+Asks words (Once named) = IsOnce words named
+Asks words (Serve port count named) = IsServe words (Serve port count named)

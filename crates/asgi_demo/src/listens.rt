@@ -1,0 +1,18 @@
+//! Where the program listens.
+ghost use Rattle.std.specs.Prelude.{◌≡◌};
+
+use asgi_server::{Accepts, Sockets};
+use std::net::Net;
+
+/// A listener that is told where to listen.
+pub trait Listens: Accepts {
+    /// Gives so many connections of this port from here on.
+    fn listen_on(&mut self, port: u16, count: u64)
+        ensures { Self.Listener.answers self.new ≡ Self.Listener.answers self.old };
+}
+
+impl<'a, R: Net> Listens for Sockets<'a, R> {
+    fn listen_on(&mut self, port: u16, count: u64) {
+        Sockets::listen_on(self, port, count);
+    }
+}

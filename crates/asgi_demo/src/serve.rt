@@ -1,0 +1,108 @@
+//! The server: its lifespan, its connections, and how it ended.
+ghost use Rattle.std.specs.Prelude.{◌≡◌};
+ghost use Rattle.asgi_demo.specs.Serving.{Lives, ServesOn, ServesEach, ending_of};
+ghost use Rattle.asgi_types.specs.declared.limits.Limits.{Limits};
+
+use crate::ending::Ending;
+use crate::reports::print;
+use crate::waiting::Waiting;
+use asgi_apps::Application;
+use asgi_conn::Inline;
+use asgi_io::{Counts, Pause};
+use asgi_lifespan::{Lifespan, Start, Stop};
+use asgi_server::{Accepts, serve_all};
+use asgi_types::{Limits, State};
+use futures::task::{Context, Doorbell, Solo};
+use std::alloc::AllocGlobal;
+use std::random::RandomSource;
+use std::time::Clock;
+
+/// Serves the connections of the listener by this application: starts it, serves each connection, tells
+/// a line of each on `output`, stops the application, and tells on `errors` what went wrong. It gives
+/// the exit status.
+pub fn serve_on<
+    H: RandomSource + AllocGlobal + Clock,
+    A: Application,
+    N: Accepts,
+    W: Counts,
+    E: Counts,
+>(rt: &H, limits: &Limits, app: &A, listener: &mut N, output: &mut W, errors: &mut E) -> u8
+    ensures { ServesOn N.L.Reads N.L.Counts N.L.Messages.own (A.answers app.now) limits.now A.Task.AppTask (N.Listener.own.answers listener.old) (N.Listener.own.answers listener.new) result }
+{
+    let Ok(solo) = Solo::new(rt, Doorbell::spinning()) else {
+        return Ending::DeviceFault.tell(errors);
+    };
+    let mut pause = Waiting::new(rt);
+    let mut cx = solo.begin();
+    let ending = live(rt, limits, app, listener, &mut cx, &mut pause, output);
+    cx.cancel();
+    ending.tell(errors)
+}
+
+/// Starts the application, serves, and stops it.
+fn live<H: RandomSource + AllocGlobal, A: Application, N: Accepts, P: Pause, W: Counts>(
+    rt: &H,
+    limits: &Limits,
+    app: &A,
+    listener: &mut N,
+    cx: &mut Context<'_>,
+    pause: &mut P,
+    output: &mut W,
+) -> Ending
+    ensures { Lives N.L.Reads N.L.Counts N.L.Messages.own (A.answers app.now) limits.now A.Task.AppTask (N.Listener.own.answers listener.old) (N.Listener.own.answers listener.new)
+        (P.count pause.old) (P.count pause.new) result }
+{
+    match Lifespan::start(rt.alloc(), app, limits, cx, pause) {
+        Start::Started(lifespan, state) => {
+            let served = serve(rt, limits, &state, app, listener, pause, output);
+            ending_of(served, lifespan.stop(cx, pause))
+        }
+        Start::Unsupported => {
+            let state = State::new(rt.alloc());
+            let served = serve(rt, limits, &state, app, listener, pause, output);
+            ending_of(served, Stop::Stopped)
+        }
+        Start::Failed(message) => Ending::StartupFailed(message),
+        Start::Idle(_) => Ending::NoStartup,
+        Start::NoMemory => Ending::DeviceFault,
+    }
+}
+
+/// Serves each connection, and tells the reports. It says whether all went well.
+fn serve<H: RandomSource + AllocGlobal, A: Application, N: Accepts, P: Pause, W: Counts>(
+    rt: &H,
+    limits: &Limits,
+    state: &State,
+    app: &A,
+    listener: &mut N,
+    pause: &mut P,
+    output: &mut W,
+) -> bool
+    ensures { ServesEach N.L.Reads N.L.Counts N.L.Messages.own (A.answers app.now) limits.now state.now (N.Listener.own.answers listener.old) (N.Listener.own.answers listener.new)
+        (P.count pause.old) (P.count pause.new) result }
+{
+    let Ok(solo) = Solo::new(rt, Doorbell::spinning()) else {
+        return false;
+    };
+    let mut runner = Inline::new(solo.begin());
+    let reports = serve_all(rt, limits, state, app, listener, &mut runner, pause);
+    runner.end();
+    let Ok(reports) = reports else {
+        return false;
+    };
+    print(&reports, output) && !listener.failed()
+}
+
+/// How the server ended, whose application was stopped with this answer.
+fn ending_of(served: bool, stop: Stop) -> Ending
+    ensures { result ≡ ending_of served stop }
+{
+    if !served {
+        return Ending::DeviceFault;
+    }
+    match stop {
+        Stop::Stopped => Ending::Done,
+        Stop::Failed(message) => Ending::ShutdownFailed(message),
+        Stop::Idle(_) => Ending::NoShutdown,
+    }
+}

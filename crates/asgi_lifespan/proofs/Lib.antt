@@ -1,0 +1,4 @@
+pub mod HostLemmas
+pub mod WordLemmas
+pub mod StartLemmas
+pub mod StopLemmas

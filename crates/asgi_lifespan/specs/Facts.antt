@@ -1,0 +1,16 @@
+-- The scope of a lifespan task, and what stands for the facts of a request there.
+use Rattle.std.specs.Prelude.{false, [], replicate}
+use Rattle.asgi_types.specs.declared.facts.Facts.{Facts}
+use Rattle.asgi_types.specs.declared.facts.Framing.TheVariants.{Length}
+use Rattle.asgi_types.specs.declared.outgoing.HttpVersion.TheVariants.{V11}
+use Rattle.asgi_types.specs.declared.scope.Kind.TheVariants as kind
+use Rattle.asgi_types.specs.declared.scope.Scope.{Scope}
+use Rattle.asgi_types.specs.declared.scope.Scope.TheVariants.{Lifespan}
+
+-- "Scope": the versions of ASGI and of this format, and a state with nothing in it
+abbrev pub lifespan_scope : Scope
+lifespan_scope = Lifespan (record { asgi = kind.Lifespan; state = [] })
+
+-- there is no request
+abbrev pub no_request : Facts
+no_request = record { version = V11; head_only = false; close = false; expect = false; framing = Length 0; key = replicate 24 0; subprotocols = [] }

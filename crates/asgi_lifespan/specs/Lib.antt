@@ -1,0 +1,7 @@
+pub mod Ends
+pub mod Facts
+pub mod Hosting
+pub mod Lifespan
+pub mod Starting
+pub mod Stopping
+pub mod Turning

@@ -1,0 +1,13 @@
+//! The start and the stop of an application (ASGI lifespan protocol 2.0), in the caller's thread.
+//! Contracts speak of all that was heard and said in the lifespan scope.
+#![tactic(auto)]
+
+mod hosted;
+mod lifespan;
+mod stop;
+
+pub use lifespan::{Lifespan, Start};
+pub use stop::Stop;
+
+#[cfg(test)]
+mod tests;

@@ -1,0 +1,55 @@
+//! The response writer alone: the text of events, with no server around it.
+#![tactic(auto)]
+
+ghost use Rattle.std.specs.Prelude.{◌≡◌, ◌≢◌, ◌∷◌, [], IfOk};
+ghost use Rattle.asgi_types.specs.declared.facts.Framing.TheVariants.{Upgrade};
+ghost use Rattle.asgi_response.specs.Response.{response_text};
+
+use asgi_response::ResponseText;
+use asgi_types::{Facts, Framing, Headers, HttpVersion, Names, Octets, Outgoing};
+use std::alloc::{AllocError, Global};
+use std::io::{self, Write};
+
+/// The text of two events, in answer to this request.
+fn text_of(
+    alloc: Global,
+    facts: &Facts,
+    one: &Outgoing,
+    other: &Outgoing,
+) -> Result<Vec<u8>, AllocError>
+    ensures { facts.now.framing ≢ Upgrade → IfOk result (λ text. text.items ≡ response_text facts.now (one.now ∷ other.now ∷ [])) }
+{
+    let mut out = Vec::new(alloc);
+    let mut text = ResponseText::new(alloc, facts);
+    text.begin(&mut out)?;
+    text.take(one, &mut out)?;
+    text.take(other, &mut out)?;
+    Ok(out)
+}
+
+/// A plain request without a body.
+fn request(alloc: Global) -> Facts {
+    Facts {
+        version: HttpVersion::V11,
+        head_only: false,
+        close: false,
+        expect: false,
+        framing: Framing::Length(0),
+        key: [0; 24],
+        subprotocols: Names::new(alloc),
+    }
+}
+
+fn main(rt: HostRuntime) -> io::Result<()> {
+    let start = Outgoing::ResponseStart {
+        status: 200,
+        headers: Headers::new(rt.alloc()),
+    };
+    let body = Outgoing::ResponseBody {
+        body: Octets::new(Vec::from_slice(rt.alloc(), b"hello\n")?),
+        more_body: false,
+    };
+    let facts = request(rt.alloc());
+    let text = text_of(rt.alloc(), &facts, &start, &body)?;
+    io::writer(&rt).write_all(&text)
+}

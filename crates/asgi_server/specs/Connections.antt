@@ -1,0 +1,67 @@
+-- What a server promises of its connections: each one that the listener gave is served once, and has one report.
+use Rattle.std.specs.Prelude.{◌≡◌, ℕ, ◌+◌, List, [], ◌∷◌, ◌++◌, map, Option, Some, None}
+use Rattle.asgi_io.specs.declared.counts.Counts as counts
+use Rattle.asgi_io.specs.declared.reads.Reads as reads
+use Rattle.asgi_types.specs.declared.end_kind.EndKind.{EndKind}
+use Rattle.asgi_types.specs.declared.incoming.Incoming.{Incoming}
+use Rattle.asgi_types.specs.declared.limits.Limits.{Limits}
+use Rattle.asgi_types.specs.declared.outgoing.Outgoing.{Outgoing}
+use Rattle.asgi_types.specs.declared.scope.Peer.{Peer}
+use Rattle.asgi_types.specs.declared.scope.Scope.{Scope}
+use Rattle.asgi_types.specs.declared.state.StateValue.{StateValue}
+use Rattle.asgi_ws.specs.declared.messages.Messages as messages
+use Rattle.asgi_conversation.specs.declared.report.Report.{Report}
+use Rattle.asgi_conn.specs.Lines.{LineState, state_of}
+use Rattle.asgi_conn.specs.Serving.{Serves}
+
+-- what an application promises in a scope
+abbrev pub Promise : Type 1
+Promise = Scope → List Incoming → List Outgoing → Option EndKind → Type 0
+
+-- a connection as a listener gives it: its line, the client and the server
+abbrev pub Given : Type 0 → Type 0
+Given L = L × Option Peer × Option Peer
+
+-- What is known of a connection before it is served.
+pub record Arrived : Type 0 where
+  pub line : LineState
+  pub client : Option Peer
+  pub server : Option Peer
+
+abbrev pub arrived : {L : Type 0} → reads.Ghosts L → counts.Ghosts L → messages.Ghosts L → Given L → Arrived
+arrived R W M (line, client, server) = record { line = state_of R W M line; client = client; server = server }
+
+-- One connection was served, with each scope's client, server and state its own: this is its report, and the count of pauses rose
+-- so far.
+pub record IsServed (answers : Promise) (limits : Limits) (state : List (List ℕ × StateValue)) (connection : Arrived) (before after : ℕ) (report : Report) : Type 0 where
+  -- what is known of its line behind it
+  pub line : LineState
+  pub serves : Serves answers limits connection.client connection.server state connection.line line before after report
+
+-- The connections were served one after another, in the order in which they came: each has one report, and they are numbered
+-- from this number on.
+abbrev pub EachConnectionOnce : Promise → Limits → List (List ℕ × StateValue) → ℕ → List Arrived → ℕ → ℕ → List (ℕ × Report) → Type 0
+EachConnectionOnce answers limits state number [] before after reports = (after ≡ before) × (reports ≡ [])
+EachConnectionOnce answers limits state number (connection ∷ connections) before after reports =
+    (report : Report) × (between : ℕ) × (others : List (ℕ × Report))
+    × (reports ≡ (number, report) ∷ others)
+    × IsServed answers limits state connection before between report
+    × EachConnectionOnce answers limits state (number + 1) connections between after others
+
+-- what the listener answered at last: that there is no connection any more, but where memory for one more report was refused
+-- and it was not asked
+abbrev pub last_answer : {L : Type 0} → Option (List (ℕ × Report)) → List (Option (Given L))
+last_answer (Some reports) = None ∷ []
+last_answer None = []
+
+-- All connections of a listener were served: its answers, the count of pauses, and the reports that are returned, where memory
+-- for them sufficed.
+pub record ServesAll {L : Type 0} (R : reads.Ghosts L) (W : counts.Ghosts L) (M : messages.Ghosts L) (answers : Promise) (limits : Limits) (state : List (List ℕ × StateValue))
+    (asked_old asked_new : List (Option (Given L))) (pauses_old pauses_new : ℕ) (returned : Option (List (ℕ × Report))) : Type 0 where
+  -- the connections that the listener gave, and then none
+  pub given : List (Given L)
+  pub asked : asked_new ≡ asked_old ++ map Some given ++ last_answer returned
+  -- each was served, and reported once, with the numbers 1 upwards
+  pub reports : List (ℕ × Report)
+  pub each : EachConnectionOnce answers limits state 1 (map (arrived R W M) given) pauses_old pauses_new reports
+  pub all : (list : List (ℕ × Report)) → returned ≡ Some list → list ≡ reports

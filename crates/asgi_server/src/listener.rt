@@ -1,0 +1,31 @@
+//! Where connections come from.
+ghost use Rattle.std.specs.Prelude.{◌≡◌, ◌++◌, ◌∷◌, [], Bool, List, Option};
+ghost use Rattle.asgi_server.specs.Connections.{Given};
+
+use asgi_types::Peer;
+use asgi_ws::Line;
+
+/// Gives connections, one after another.
+pub trait Listener {
+    /// What carries the bytes of a connection.
+    type L: Line + Drop;
+
+    // How each call of `next` was answered, in order.
+    ghost answers: { Self → List (Option (Given Self.L)) };
+
+    /// The line of the next connection, its client and its server where they are known (ASGI HTTP
+    /// connection scope, `client` and `server`); None where there is no connection any more. It may
+    /// wait for one.
+    fn next(&mut self) -> Option<(Self::L, Option<Peer>, Option<Peer>)>
+        ensures told { answers self.new ≡ answers self.old ++ result ∷ [] };
+}
+
+/// A listener that may fail.
+pub trait Accepts: Listener {
+    // Whether a connection could not be accepted.
+    ghost has_failed: { Self → Bool };
+
+    /// Whether a connection could not be accepted, so that `next` gives none any more.
+    fn failed(&self) -> bool
+        ensures { result ≡ has_failed self.now };
+}

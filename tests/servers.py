@@ -1,0 +1,449 @@
+"""The built program as a server, by real clients: `serve PORT COUNT APP` on this machine's loopback address.
+
+Usage: servers.py PROGRAM. The last line is 'N passed, M failed', and the status is 0 only with none failed.
+The clients are curl, ab, wrk and nginx of Debian's packages, Python's `http.client`, and the `websockets` of Debian's
+package python3-websockets; what is missing is installed by apt-get. A client that can't be had is told as skipped, and
+counts neither as passed nor as failed. Each server is started by its test, and has ended at its end: what it printed, and
+its status, are a part of each test. Expected texts are those of the RFCs and of the program's documentation.
+"""
+
+import asyncio
+import contextlib
+import http.client
+import os
+import re
+import shutil
+import socket
+import struct
+import subprocess
+import sys
+import tempfile
+import time
+import unittest
+
+PROGRAM = ""
+PYTHON = "/usr/bin/python3"
+PACKAGES = {"curl": "curl", "ab": "apache2-utils", "wrk": "wrk", "nginx": "nginx-light"}
+SECONDS = 60
+# The largest body that the usual limits take.
+MEBIBYTE = bytes(number * number % 251 for number in range(251)) * (1 << 12)
+MEBIBYTE = (MEBIBYTE * 2)[: 1 << 20]
+GET = b"GET / HTTP/1.1\r\nHost: a\r\n\r\n"
+GREETING = b"6\r\nhello\n\r\n0\r\n\r\n"
+
+
+def free_port():
+    with socket.create_server(("127.0.0.1", 0)) as it:
+        return it.getsockname()[1]
+
+
+def listens(port):
+    """Whether a socket listens on this port of the loopback address, with no connection made to find out."""
+    with open("/proc/net/tcp", encoding="ascii") as it:
+        rows = [line.split() for line in it.readlines()[1:]]
+    return any(row[1] == f"0100007F:{port:04X}" and row[3] == "0A" for row in rows)
+
+
+def wait_for(what, why):
+    until = time.monotonic() + SECONDS
+    while not what():
+        if time.monotonic() > until:
+            raise AssertionError(why)
+        time.sleep(0.01)
+
+
+class Server:
+    """The program, which serves so many connections, and then ends by itself."""
+
+    def __init__(self, app, count=1, port=None, zeros=0):
+        self.port = port or free_port()
+        self.url = f"http://127.0.0.1:{self.port}/"
+        words = [PROGRAM, "serve", f"{self.port:0{zeros}}", f"{count:0{zeros}}", app]
+        self.ran = subprocess.Popen(words, stdin=subprocess.DEVNULL, stdout=subprocess.PIPE, stderr=subprocess.PIPE)
+
+    def __enter__(self):
+        wait_for(lambda: listens(self.port) or self.ran.poll() is not None, "the server does not listen")
+        return self
+
+    def __exit__(self, *_):
+        self.ran.kill()
+        self.ran.communicate()
+
+    def connect(self):
+        return socket.create_connection(("127.0.0.1", self.port), timeout=SECONDS)
+
+    def ended(self):
+        """What it printed, and its status, once it has ended."""
+        output, errors = self.ran.communicate(timeout=SECONDS)
+        return output.decode().splitlines(), errors.decode(), self.ran.returncode
+
+    def used_up(self, at_most):
+        """The same, where the number of connections that a client makes is not known: further ones are made, up to so many."""
+        for _ in range(at_most):
+            if self.ran.poll() is not None:
+                break
+            with contextlib.suppress(OSError):
+                self.connect().close()
+            time.sleep(0.02)
+        return self.ended()
+
+
+def read_all(line):
+    pieces = []
+    while piece := line.recv(1 << 16):
+        pieces.append(piece)
+    return b"".join(pieces)
+
+
+def run(words, **options):
+    done = subprocess.run(words, stdout=subprocess.PIPE, stderr=subprocess.PIPE, timeout=SECONDS, check=False, **options)
+    return done.returncode, done.stdout, done.stderr.decode(errors="replace")
+
+
+def needs(name):
+    return unittest.skipUnless(shutil.which(name), f"{name} can't be had")
+
+
+class Program(unittest.TestCase):
+    """What the program prints, and its status."""
+
+    def test_wrong_words_give_the_usage_text(self):
+        usage = b"usage: asgi_demo once APP | asgi_demo serve PORT COUNT APP\n"
+        port = str(free_port())
+        for words in (
+            [],
+            ["serve"],
+            ["serve", port, "1"],
+            ["serve", port, "1", "hello", "more"],
+            ["serve", "0", "1", "hello"],
+            ["serve", "65536", "1", "hello"],
+            ["serve", "080000", "1", "hello"],
+            ["serve", "+80", "1", "hello"],
+            ["serve", " 80", "1", "hello"],
+            ["serve", "", "1", "hello"],
+            ["serve", port, "0", "hello"],
+            ["serve", port, "1001", "hello"],
+            ["serve", port, "one", "hello"],
+            ["serve", port, "1", "Hello"],
+            ["serve", port, "1", ""],
+            ["server", port, "1", "hello"],
+        ):
+            with self.subTest(words=words):
+                done = subprocess.run([PROGRAM, *words], capture_output=True, timeout=SECONDS, check=False)
+                self.assertEqual((done.returncode, done.stdout, done.stderr), (2, b"", usage))
+
+    def test_leading_zeros_are_a_number(self):
+        with Server("hello", zeros=5) as server:
+            with server.connect() as line:
+                line.sendall(GET)
+                line.shutdown(socket.SHUT_WR)
+                self.assertTrue(read_all(line).endswith(GREETING))
+            self.assertEqual(server.ended(), (["1 1 finished"], "", 0))
+
+    def test_a_port_that_is_taken_is_a_device_fault(self):
+        with socket.create_server(("127.0.0.1", 0)) as taken:
+            port = taken.getsockname()[1]
+            with Server("hello", 1, port) as server:
+                self.assertEqual(server.ended(), ([], "device fault\n", 5))
+
+    def test_reports_that_cannot_be_written_are_a_device_fault(self):
+        port = free_port()
+        with open("/dev/full", "wb") as full:
+            words = [PROGRAM, "serve", str(port), "1", "hello"]
+            with subprocess.Popen(words, stdin=subprocess.DEVNULL, stdout=full, stderr=subprocess.PIPE) as ran:
+                wait_for(lambda: listens(port), "the server does not listen")
+                with socket.create_connection(("127.0.0.1", port), timeout=SECONDS) as line:
+                    line.sendall(GET)
+                    line.shutdown(socket.SHUT_WR)
+                    self.assertTrue(read_all(line).endswith(b"0\r\n\r\n"))
+                _, errors = ran.communicate(timeout=SECONDS)
+                self.assertEqual((errors, ran.returncode), (b"device fault\n", 5))
+
+    def test_each_connection_has_its_report(self):
+        rows = [
+            (GET, "1 finished"),
+            (GET + GET, "2 finished"),
+            (b"", "0 finished"),
+            (b"GET / HTTP/1.1\r\n\r\n", "0 refused 400"),
+            (b"GE", "0 input-broke"),
+            (b"POST / HTTP/1.1\r\nHost: a\r\nContent-Length: 9\r\n\r\nabc", "1 input-broke"),
+        ]
+        with Server("echo", len(rows)) as server:
+            for given, _ in rows:
+                with server.connect() as line:
+                    line.sendall(given)
+                    line.shutdown(socket.SHUT_WR)
+                    read_all(line)
+            wanted = [f"{number} {report}" for number, (_, report) in enumerate(rows, 1)]
+            self.assertEqual(server.ended(), (wanted, "", 0))
+
+    def test_a_client_that_goes_away_is_reported_and_the_next_is_served(self):
+        with Server("echo", 2) as server:
+            with server.connect() as line:
+                # It takes nothing of its echo, until the server can write no more, and is then gone at once.
+                line.setsockopt(socket.SOL_SOCKET, socket.SO_LINGER, struct.pack("ii", 1, 0))
+                line.sendall(b"POST / HTTP/1.1\r\nHost: a\r\nContent-Length: %d\r\n\r\n" % len(MEBIBYTE))
+                line.settimeout(1)
+                with contextlib.suppress(TimeoutError):
+                    line.sendall(MEBIBYTE[:-1])
+            with server.connect() as line:
+                line.sendall(GET)
+                line.shutdown(socket.SHUT_WR)
+                self.assertTrue(read_all(line).endswith(b"0\r\n\r\n"))
+            lines, errors, status = server.ended()
+            self.assertRegex(lines[0], r"^1 1 (write-failed \d+|input-broke)$")
+            self.assertEqual((lines[1:], errors, status), (["2 1 finished"], "", 0))
+
+    def test_a_refused_client_gets_its_text_though_it_sends_on(self):
+        with Server("echo") as server:
+            with server.connect() as line:
+                line.sendall(b"POST / HTTP/1.1\r\nHost: a\r\nContent-Length: %d\r\n\r\n" % (1 << 21))
+                with contextlib.suppress(OSError):
+                    line.sendall(MEBIBYTE[: 1 << 19])
+                text = read_all(line)
+            self.assertTrue(text.startswith(b"HTTP/1.1 413 Content Too Large\r\n"), text[:80])
+            self.assertEqual(server.ended(), (["1 0 refused 413"], "", 0))
+
+
+@needs("curl")
+class Curl(unittest.TestCase):
+    def curl(self, *words):
+        status, output, errors = run(["curl", "-sS", "-i", "--max-time", "30", *words])
+        self.assertEqual((status, errors), (0, ""))
+        return output
+
+    def check_body(self, output, body):
+        head, _, found = output.rpartition(b"\r\n\r\n") if body == b"" else output.partition(b"\r\n\r\n")
+        self.assertTrue(head.startswith(b"HTTP/1.1 200 OK"), head)
+        self.assertEqual(found, body)
+
+    def test_http_1_1(self):
+        with Server("hello") as server:
+            self.check_body(self.curl(server.url), b"hello\n")
+            self.assertEqual(server.ended(), (["1 1 finished"], "", 0))
+
+    def test_http_1_0(self):
+        with Server("hello") as server:
+            output = self.curl("--http1.0", server.url)
+            self.check_body(output, b"hello\n")
+            self.assertIn(b"\r\nconnection: close\r\n", output)
+            self.assertEqual(server.ended(), (["1 1 finished"], "", 0))
+
+    def test_three_requests_of_one_connection(self):
+        with Server("hello") as server:
+            output = self.curl(server.url, server.url, server.url)
+            self.assertEqual(output.count(b"\r\n\r\nhello\n"), 3)
+            self.assertEqual(server.ended(), (["1 3 finished"], "", 0))
+
+    def test_a_mebibyte_by_length_and_in_chunks(self):
+        with tempfile.NamedTemporaryFile() as file:
+            file.write(MEBIBYTE)
+            file.flush()
+            for fields in (["-H", "Expect:"], ["-H", "Expect:", "-H", "Transfer-Encoding: chunked"]):
+                with self.subTest(fields=fields), Server("echo") as server:
+                    output = self.curl(*fields, "--data-binary", f"@{file.name}", server.url)
+                    self.check_body(output, MEBIBYTE)
+                    self.assertEqual(server.ended(), (["1 1 finished"], "", 0))
+
+    def test_a_client_that_expects_to_be_told_to_continue(self):
+        with Server("echo") as server:
+            output = self.curl("-H", "Expect: 100-continue", "--expect100-timeout", "20", "--data-binary", "abc", server.url)
+            first, _, rest = output.partition(b"\r\n\r\n")
+            self.assertEqual(first, b"HTTP/1.1 100 Continue")
+            self.check_body(rest, b"abc")
+            self.assertEqual(server.ended(), (["1 1 finished"], "", 0))
+
+    def test_head(self):
+        with Server("hello") as server:
+            self.check_body(self.curl("-I", server.url), b"")
+            self.assertEqual(server.ended(), (["1 1 finished"], "", 0))
+
+
+
+class Python(unittest.TestCase):
+    def test_http_client(self):
+        with Server("echo") as server:
+            line = http.client.HTTPConnection("127.0.0.1", server.port, timeout=SECONDS)
+            for body in (b"", b"abc", MEBIBYTE[:70_000]):
+                line.request("POST", "/", body)
+                answer = line.getresponse()
+                self.assertEqual((answer.status, answer.read()), (200, body))
+            line.request("POST", "/", iter([b"ab", b"cde"]), encode_chunked=True, headers={"Transfer-Encoding": "chunked"})
+            answer = line.getresponse()
+            self.assertEqual((answer.status, answer.read()), (200, b"abcde"))
+            line.request("HEAD", "/")
+            answer = line.getresponse()
+            self.assertEqual((answer.status, answer.read()), (200, b""))
+            line.close()
+            self.assertEqual(server.ended(), (["1 5 finished"], "", 0))
+
+    def talk(self, url):
+        import websockets
+
+        async def messages():
+            async with websockets.connect(url, ping_interval=None) as session:
+                for message in ("", "Hello", "\u20ac" * 300, b"\x00\xff" * 40_000):
+                    await session.send(message)
+                    self.assertEqual(await session.recv(), message)
+                await session.ping()
+                await session.close(3001, "done")
+                return session.close_code
+
+        return asyncio.run(asyncio.wait_for(messages(), SECONDS))
+
+    def test_websockets(self):
+        with Server("wsecho", 2) as server:
+            for _ in range(2):
+                self.assertEqual(self.talk(server.url.replace("http", "ws")), 3001)
+            self.assertEqual(server.ended(), (["1 1 finished", "2 1 finished"], "", 0))
+
+
+class Load(unittest.TestCase):
+    @needs("ab")
+    def test_a_thousand_requests_of_ab(self):
+        with Server("hello", 1_000) as server:
+            status, output, _ = run(["ab", "-q", "-k", "-n", "1000", "-c", "1", server.url])
+            text = output.decode()
+            self.assertEqual(status, 0)
+            self.assertRegex(text, r"Complete requests:\s+1000\n")
+            self.assertRegex(text, r"Failed requests:\s+0\n")
+            self.assertNotIn("Non-2xx", text)
+            lines, errors, status = server.ended()
+            self.assertEqual((lines, errors, status), ([f"{number} 1 finished" for number in range(1, 1_001)], "", 0))
+
+    @needs("wrk")
+    def test_a_second_of_wrk(self):
+        # Its first connection carries nothing; it ends where wrk has found the address.
+        with Server("hello", 2) as server:
+            status, output, _ = run(["wrk", "-t1", "-c1", "-d1s", server.url])
+            text = output.decode()
+            self.assertEqual(status, 0)
+            self.assertNotIn("Socket errors", text)
+            self.assertNotIn("Non-2xx", text)
+            self.assertGreater(int(re.search(r"(\d+) requests in", text)[1]), 1)
+            lines, errors, status = server.used_up(2)
+            self.assertEqual((lines[0], len(lines), errors, status), ("1 0 finished", 2, "", 0))
+            self.assertGreater(int(lines[1].split()[1]), 1)
+
+
+NGINX = """
+daemon off;
+pid {folder}/pid;
+error_log {folder}/errors;
+events {{}}
+http {{
+  access_log off;
+  client_body_temp_path {folder}/body;
+  proxy_temp_path {folder}/proxy;
+  fastcgi_temp_path {folder}/fastcgi;
+  uwsgi_temp_path {folder}/uwsgi;
+  scgi_temp_path {folder}/scgi;
+  client_max_body_size 2m;
+  map $http_upgrade $upgrade {{ default upgrade; '' ''; }}
+  upstream app {{ server 127.0.0.1:{to}; keepalive 1; }}
+  server {{
+    listen 127.0.0.1:{port};
+    location / {{
+      proxy_pass http://app;
+      proxy_http_version 1.1;
+      proxy_set_header Host $host;
+      proxy_set_header Upgrade $http_upgrade;
+      proxy_set_header Connection $upgrade;
+    }}
+  }}
+}}
+"""
+
+
+class Proxy:
+    """nginx in front of a server on this port."""
+
+    def __init__(self, to):
+        self.folder, self.port = tempfile.TemporaryDirectory(), free_port()
+        os.chmod(self.folder.name, 0o777)
+        path = f"{self.folder.name}/conf"
+        with open(path, "w", encoding="utf-8") as it:
+            it.write(NGINX.format(folder=self.folder.name, port=self.port, to=to))
+        how = {"stdin": subprocess.DEVNULL, "stdout": subprocess.DEVNULL, "stderr": subprocess.DEVNULL}
+        self.ran = subprocess.Popen(["nginx", "-c", path], **how)
+
+    def __enter__(self):
+        wait_for(lambda: listens(self.port), "nginx does not listen")
+        return self
+
+    def __exit__(self, *_):
+        self.ran.terminate()
+        self.ran.wait(timeout=SECONDS)
+        self.folder.cleanup()
+
+
+@needs("nginx")
+class BehindNginx(unittest.TestCase):
+    def test_requests(self):
+        with Server("echo", 1) as server:
+            with Proxy(server.port) as proxy:
+                line = http.client.HTTPConnection("127.0.0.1", proxy.port, timeout=SECONDS)
+                for body in (b"", b"abc", MEBIBYTE):
+                    line.request("POST", "/", body)
+                    answer = line.getresponse()
+                    self.assertEqual((answer.status, answer.read()), (200, body))
+                line.close()
+            # It keeps its own connection for all three.
+            self.assertEqual(server.ended(), (["1 3 finished"], "", 0))
+
+    def test_a_session(self):
+        with Server("wsecho", 1) as server:
+            with Proxy(server.port) as proxy:
+                self.assertEqual(Python.talk(self, f"ws://127.0.0.1:{proxy.port}/"), 3001)
+            self.assertEqual(server.ended(), (["1 1 finished"], "", 0))
+
+
+def has_websockets():
+    words = [PYTHON, "-c", "import websockets"]
+    return os.path.isfile(PYTHON) and subprocess.run(words, stderr=subprocess.DEVNULL, check=False).returncode == 0
+
+
+def install():
+    """Installs what is missing, as far as it can be had, and goes on in Debian's Python."""
+    missing = [package for name, package in PACKAGES.items() if not shutil.which(name)]
+    missing += [] if has_websockets() else ["python3", "python3-websockets"]
+    if missing and shutil.which("apt-get"):
+        how = {"stdout": sys.stderr, "check": False, "env": {**os.environ, "DEBIAN_FRONTEND": "noninteractive"}}
+        subprocess.run(["apt-get", "update", "-qq"], **how)
+        for package in missing:
+            # One that can't be had does not keep the others away; nginx is not to serve by itself.
+            words = ["apt-get", "install", "-y", "-qq", "--no-install-recommends", package]
+            subprocess.run(words, **{**how, "env": {**how["env"], "RUNLEVEL": "1"}})
+    if has_websockets() and os.path.realpath(sys.executable) != os.path.realpath(PYTHON):
+        os.execv(PYTHON, [PYTHON, *sys.argv])
+
+
+def versions():
+    """Shows which clients there are."""
+    asked = {"curl": ["curl", "--version"], "ab": ["ab", "-V"], "wrk": ["wrk", "-v"], "nginx": ["nginx", "-v"]}
+    print(f"python: {sys.version.split()[0]}")
+    for name, words in asked.items():
+        found = run(words) if shutil.which(name) else (0, b"", "can't be had")
+        print(f"{name}: {(found[1].decode() + found[2]).strip().splitlines()[0]}")
+    with contextlib.suppress(ImportError):
+        import websockets
+
+        print(f"websockets: {getattr(websockets, '__version__', '') or websockets.version.version}")
+
+
+def main():
+    global PROGRAM
+    install()
+    versions()
+    PROGRAM = os.path.abspath(sys.argv[1])
+    suite = unittest.defaultTestLoader.loadTestsFromModule(sys.modules[__name__])
+    result = unittest.TextTestRunner(stream=sys.stdout, verbosity=2).run(suite)
+    failed, skipped = len(result.failures) + len(result.errors), len(result.skipped)
+    for test, why in result.skipped:
+        print(f"skipped: {test}: {why}")
+    print(f"{max(result.testsRun - failed - skipped, 0)} passed, {failed} failed")
+    return 1 if failed or not result.testsRun else 0
+
+
+if __name__ == "__main__":
+    sys.exit(main())
