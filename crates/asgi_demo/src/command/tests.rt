@@ -1,3 +1,5 @@
+ghost use Rattle.std.specs.Prelude.{false};
+
 use super::*;
 use asgi_io::{Counted, History};
 use asgi_server::Listener;
