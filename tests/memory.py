@@ -65,7 +65,7 @@ RUNS = [
     (["once", "notfound"], GET + GET, (0, NOT_FOUND + NOT_FOUND, b"")),
     (["once", "wsecho"], SESSION, (0, ANSWERED, b"")),
     (["once", "nothing"], b"", (2, b"", USAGE)),
-    (["serve", "8000", "1", "hello"], GET, (2, b"", USAGE)),
+    (["serve", "0", "1", "hello"], GET, (2, b"", USAGE)),
 ]
 # What is said of want of memory: on the connection, and before there is one.
 LACKING = [b"stopped: no-memory\n", b"device fault\n"]

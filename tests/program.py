@@ -270,7 +270,7 @@ class Usage(unittest.TestCase):
             ["ONCE", "hello"],
             ["once", "hello", "hello"],
             ["once", "hello", ""],
-            ["serve", "8000", "1", "hello"],
+            ["serve", "0", "1", "hello"],
             ["once", b"hello\xff"],
             [b"\xff", "hello"],
             ["once", "hello", b"\xc3"],
