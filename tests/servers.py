@@ -140,16 +140,36 @@ class Program(unittest.TestCase):
                 self.assertTrue(read_all(line).endswith(GREETING))
             self.assertEqual(server.ended(), (["1 1 finished"], "", 0))
 
+    def test_the_state_of_the_startup_is_in_each_scope(self):
+        with Server("life", 2) as server:
+            for _ in range(2):
+                with server.connect() as line:
+                    line.sendall(b"GET / HTTP/1.0\r\n\r\n")
+                    self.assertTrue(read_all(line).endswith(b"\r\n\r\nn=7\n"))
+            self.assertEqual(server.ended(), (["1 1 finished", "2 1 finished"], "", 0))
+
+    def test_a_start_that_fails_takes_no_connection(self):
+        with Server("nostart") as server:
+            self.assertEqual(server.ended(), ([], "startup failed: no table\n", 3))
+
+    def test_a_stop_that_fails_is_told_behind_the_reports(self):
+        with Server("nostop", 1) as server:
+            with server.connect() as line:
+                line.sendall(b"GET / HTTP/1.0\r\n\r\n")
+                self.assertTrue(read_all(line).endswith(b"\r\n\r\nn=7\n"))
+            self.assertEqual(server.ended(), (["1 1 finished"], "shutdown failed: still busy\n", 4))
+
     def test_a_port_that_is_taken_is_a_device_fault(self):
         with socket.create_server(("127.0.0.1", 0)) as taken:
             port = taken.getsockname()[1]
-            with Server("hello", 1, port) as server:
-                self.assertEqual(server.ended(), ([], "device fault\n", 5))
+            for app, errors in (("hello", "device fault\n"), ("life", "device fault\n"), ("nostop", "device fault\n")):
+                with self.subTest(app=app), Server(app, 1, port) as server:
+                    self.assertEqual(server.ended(), ([], errors, 5))
 
     def test_reports_that_cannot_be_written_are_a_device_fault(self):
         port = free_port()
         with open("/dev/full", "wb") as full:
-            words = [PROGRAM, "serve", str(port), "1", "hello"]
+            words = [PROGRAM, "serve", str(port), "1", "life"]
             with subprocess.Popen(words, stdin=subprocess.DEVNULL, stdout=full, stderr=subprocess.PIPE) as ran:
                 wait_for(lambda: listens(port), "the server does not listen")
                 with socket.create_connection(("127.0.0.1", port), timeout=SECONDS) as line:
@@ -258,6 +278,14 @@ class Curl(unittest.TestCase):
             self.check_body(self.curl("-I", server.url), b"")
             self.assertEqual(server.ended(), (["1 1 finished"], "", 0))
 
+    def test_mounts(self):
+        with Server("mounts") as server:
+            urls = [f"{server.url}{path}" for path in ("a/bc", "a/b", "a/b/c", "ab", "x")]
+            output = self.curl(*urls)
+            bodies = re.findall(rb"\r\n\r\n(\S*)\n", output)
+            self.assertEqual(bodies, [b"/a", b"/a/b", b"/a/b"])
+            self.assertEqual(output.count(b"HTTP/1.1 404 Not Found\r\n"), 2)
+            self.assertEqual(server.ended(), (["1 5 finished"], "", 0))
 
 
 class Python(unittest.TestCase):

@@ -2,7 +2,7 @@
 """sources.py [--self-test]: what no clause can see, held by the text of the sources.
 
 - Want of memory is said only where a growth was refused: no crate builds an `AllocError` itself, but for the two places
-  that docs/DECISIONS.md names, where no memory could hold so much.
+  that docs/DECISIONS.md names, where no memory could hold so much, and where a push that was refused answers otherwise.
 - Nothing is kept from being let go: no `forget`, `leak` or `ManuallyDrop`.
 - A call that has no answer for want of memory takes none: it contains no `with_capacity`, `reserve` or `shrink`.
 - No answer of a call is thrown away, but for what is written on standard error.
@@ -18,10 +18,11 @@ import re
 import sys
 
 TOP = os.path.dirname(os.path.dirname(os.path.realpath(__file__)))
-# Where an `AllocError` is built with no growth refused: a number of bytes or places that no `usize` says.
-BUILDS = {"crates/asgi_pipes/src/plain.rt": 1, "crates/asgi_response/src/append.rt": 1}
+# Where an `AllocError` is built: with no growth refused, for a number of bytes or places that no `usize` says; and where a
+# push was refused, whose error is the element.
+BUILDS = {"crates/asgi_apps/src/mounts.rt": 1, "crates/asgi_pipes/src/plain.rt": 1, "crates/asgi_response/src/append.rt": 1}
 # Where an answer is thrown away: what can't be written on standard error can be told nowhere.
-THROWS = {"crates/asgi_demo/src/command.rt": 1, "crates/asgi_demo/src/ending.rt": 1}
+THROWS = {"crates/asgi_demo/src/telling.rt": 1}
 # A value of the type: not where it is brought in, nor the end of a type's arguments, nor the field that an error keeps.
 BUILT = re.compile(r"(?<!\] )\bAllocError\b(?!>)")
 GROWS = re.compile(r"\b(with_capacity|reserve|reserve_exact|shrink_to|shrink_to_fit)\s*\(")

@@ -38,7 +38,7 @@ one_passes kind facts x p [] after event split = let same : x ≡ event = cc in 
 one_passes kind facts x p (b ∷ []) after event split = absurd cc
 one_passes kind facts x p (b ∷ c ∷ rest) after event split = absurd cc
 
-two_pass : (kind : Kind) (facts : Facts) (x y : Outgoing) → passes_behind kind facts [] x → passes_behind kind facts (x ∷ []) y → EachPasses kind facts (x ∷ y ∷ [])
+pub two_pass : (kind : Kind) (facts : Facts) (x y : Outgoing) → passes_behind kind facts [] x → passes_behind kind facts (x ∷ []) y → EachPasses kind facts (x ∷ y ∷ [])
 two_pass kind facts x y p q [] after event split = let same : x ≡ event = cc in subst (λ (e : Outgoing). passes_behind kind facts [] e) same p
 two_pass kind facts x y p q (b ∷ []) after event split =
     let first : x ≡ b = cc in let same : y ≡ event = cc in

@@ -2,6 +2,8 @@ pub mod AnswerLemmas
 pub mod EchoLemmas
 pub mod EchoSteps
 pub mod EndLemmas
+pub mod LifeLemmas
+pub mod MountLemmas
 pub mod PauseLemmas
 pub mod SayLemmas
 pub mod WsEchoLemmas

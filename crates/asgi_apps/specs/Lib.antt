@@ -3,6 +3,10 @@ pub mod Driving
 pub mod Echo
 pub mod Echoing
 pub mod Ends
+pub mod Life
+pub mod Living
+pub mod Mounting
+pub mod Mounts
 pub mod Saying
 pub mod Scopes
 pub mod WsEcho

@@ -17,7 +17,8 @@ const CONTENT_TYPE: &[u8] = b"content-type";
 
 const OCTET_STREAM: &[u8] = b"application/octet-stream";
 
-/// Answers each request with its own body, as it comes, and refuses each session.
+/// Answers each request with 200 and its own body, event by event as it comes, and refuses each
+/// session. In a lifespan scope its call fails.
 #[derive(Clone, Copy, Debug)]
 pub struct Echo;
 

@@ -12,7 +12,7 @@ use asgi_pipes::{AppEnd, Sent};
 use asgi_types::{Incoming, Outgoing};
 use futures::task::{Context, Poll};
 
-/// Says an event that passes. It comes back where no place is free for it.
+/// Says an event that passes. It comes back, unsaid, where no place is free for it.
 pub fn say<E: AppEnd>(cx: &mut Context<'_>, end: &mut E, event: Outgoing) -> Option<Outgoing>
     requires open { E.ended end.old ≡ None }
     requires passes { verdict_on (E.kind end.old) (E.facts end.old) (E.said end.old) (has_disconnect (E.heard end.old)) event ≡ Verdict.Pass }
@@ -33,7 +33,7 @@ pub fn say<E: AppEnd>(cx: &mut Context<'_>, end: &mut E, event: Outgoing) -> Opt
     }
 }
 
-/// The next event.
+/// The next event; pending until one is there.
 pub fn receive<E: AppEnd>(cx: &mut Context<'_>, end: &mut E) -> Poll<Incoming>
     requires { E.ended end.old ≡ None }
     ensures ready { IfReady result (λ event. E.heard end.new ≡ E.heard end.old ++ event ∷ []) }

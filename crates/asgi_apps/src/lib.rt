@@ -5,6 +5,10 @@
 mod echo;
 mod echoing;
 mod hello;
+pub mod laws;
+mod life;
+mod mounting;
+mod mounts;
 mod not_found;
 mod responses;
 mod root_path;
@@ -16,6 +20,8 @@ mod ws_echo;
 pub use asgi_io::Pause;
 pub use echo::{Echo, EchoTask};
 pub use hello::Hello;
+pub use life::{Life, LifeTask};
+pub use mounts::{MountError, MountTask, Mounts};
 pub use not_found::NotFound;
 pub use root_path::RootPath;
 pub use running::{Ended, Lent, Running, drive};
@@ -25,5 +31,9 @@ pub use ws_echo::{WsEcho, WsEchoTask};
 
 #[cfg(test)]
 mod tests;
+#[cfg(test)]
+mod tests_life;
+#[cfg(test)]
+mod tests_mounts;
 #[cfg(test)]
 mod tests_own;

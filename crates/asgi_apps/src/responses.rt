@@ -20,7 +20,8 @@ const CONTENT_LENGTH: &[u8] = b"content-length";
 
 const ZERO: &[u8] = b"0";
 
-/// Answers a request with a line of text.
+/// Answers a request with 200 and a line of text, these bytes and a line feed, as `text/plain`.
+/// `NoMemory` where memory is refused; there is no other fault.
 pub fn respond_line(alloc: Global, text: &[u8]) -> Result<Says, AppFault>
     ensures gives { IfOk result (λ says. Gives says kind.Http (text_events (text.now ++ line_feed ∷ []))) }
     ensures failed { ¬ (IsErrOf result AppFault.Failed) }
@@ -28,7 +29,8 @@ pub fn respond_line(alloc: Global, text: &[u8]) -> Result<Says, AppFault>
     granted(line_response(alloc, text))
 }
 
-/// Answers a request with 404 and no content.
+/// Answers a request with 404 and no content. `NoMemory` where memory is refused; there is no other
+/// fault.
 pub fn respond_not_found(alloc: Global) -> Result<Says, AppFault>
     ensures gives { IfOk result (λ says. Gives says kind.Http not_found_events) }
     ensures failed { ¬ (IsErrOf result AppFault.Failed) }
@@ -36,7 +38,8 @@ pub fn respond_not_found(alloc: Global) -> Result<Says, AppFault>
     granted(response_of(alloc, 404, CONTENT_LENGTH, ZERO, Vec::new(alloc)))
 }
 
-/// Refuses a session.
+/// Refuses a session, whose handshake the server then answers with 403 (ASGI HTTP and WebSocket
+/// message format 2.4, "Close"). `NoMemory` where memory is refused; there is no other fault.
 pub fn refuse(alloc: Global) -> Result<Says, AppFault>
     ensures gives { IfOk result (λ says. Gives says kind.WebSocket close_events) }
     ensures failed { ¬ (IsErrOf result AppFault.Failed) }
@@ -85,7 +88,8 @@ fn response_of(
     Ok(says)
 }
 
-/// A start with one field.
+/// A "Response Start" of this status with one field (ASGI HTTP and WebSocket message format 2.4).
+/// `AllocError` where memory is refused.
 pub fn start(alloc: Global, status: u16, name: &[u8], value: &[u8]) -> Result<Outgoing, AllocError>
     requires name { IsFieldName name.now }
     requires value { IsFieldValue value.now }
@@ -104,7 +108,8 @@ fn refusal(alloc: Global) -> Result<Says, AllocError>
     Ok(says)
 }
 
-/// The event that refuses a session.
+/// The event that refuses a session: a "Close" with the code 1000 and no reason (ASGI HTTP and
+/// WebSocket message format 2.4).
 pub fn close(alloc: Global) -> Outgoing
     ensures { close_events ≡ result ∷ [] }
 {

@@ -10,7 +10,8 @@ use crate::task::{AppFault, Application};
 use asgi_types::Scope;
 use std::alloc::Global;
 
-/// Answers each request with the scope's `root_path`, as a line, and refuses each session.
+/// Answers each request with 200 and the scope's `root_path`, as a line, and refuses each session.
+/// In a lifespan scope its call fails.
 #[derive(Clone, Copy, Debug)]
 pub struct RootPath;
 

@@ -18,7 +18,9 @@ use futures::task::{Context, Poll};
 /// A task, and the end that it is lent.
 #[derive(Drop)]
 pub struct Lent<T, E> {
+    /// The task.
     pub task: T,
+    /// The end that it is lent.
     pub app_end: E,
 }
 
@@ -34,8 +36,11 @@ pub struct Running<T, E> {
 /// A task that ended, with its end, on which `finish` was called.
 #[derive(Drop)]
 pub struct Ended<T, E> {
+    /// The task.
     pub task: T,
+    /// The end that it was lent.
     pub app_end: E,
+    /// How the task ended.
     pub kind: EndKind,
     /// The polls that were made.
     pub turns: u64,
@@ -90,7 +95,8 @@ impl<T: AppTask, E: AppEnd> Running<T, E> {
         }
     }
 
-    /// Polls the task once. Where it ended, `finish` was called on its end, and it may be polled no more.
+    /// Polls the task once. Ready, it gives how the task ended, never as `Idle`: then `finish` was
+    /// called on its end, and it may be polled no more.
     pub fn turn(&mut self, cx: &mut Context<'_>) -> Poll<EndKind>
         requires { IsSomeAnd self.old.lent (λ was. MayGoOn T.stands E.AppEnd was.task was.app_end) }
         ensures ready { IfReady result (λ kind. IsSomeAnd self.old.lent (λ was. IsSomeAnd self.new.lent (λ is. GoesOn E.AppEnd (Some kind) was.app_end is.app_end))) }
@@ -110,7 +116,7 @@ impl<T: AppTask, E: AppEnd> Running<T, E> {
         lent.turn(cx)
     }
 
-    /// What the polls since this was last asked did.
+    /// What the polls since this was last asked did: `Moved` or `Idle`.
     pub fn moved(&mut self) -> Turn
         requires { IsSomeAnd self.old.lent (λ was. MayGoOn T.stands E.AppEnd was.task was.app_end) }
         ensures turn { IsSomeAnd self.old.lent (λ was. result ≡ turn_of (E.has_moved was.app_end)) }
@@ -192,8 +198,9 @@ impl<T: AppTask, E: AppEnd> Future for Running<T, E> {
     }
 }
 
-/// Polls the task until it ends, so many polls were made, or so many polls in a row moved nothing.
-/// Behind each poll that moved nothing it pauses. `turns` of the result counts the polls of this call.
+/// Polls the task until it ends, or until `turns` polls were made or `idle_turns` polls in a row
+/// moved nothing, where it is ended as `Idle`. Behind each poll that moved nothing it pauses.
+/// `turns` of the result counts the polls of this call.
 pub fn drive<T: AppTask, E: AppEnd, P: Pause>(
     cx: &mut Context<'_>,
     running: Running<T, E>,

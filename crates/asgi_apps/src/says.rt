@@ -9,7 +9,8 @@ use futures::task::{Context, Poll};
 use std::alloc::{AllocError, Global};
 use std::collections::VecDeque;
 
-/// Says a list of events, one a poll, and returns. It hears nothing.
+/// Says a list of events, one a poll, and returns. It hears nothing. Where an event is refused or
+/// ignored, it fails.
 #[derive(Drop)]
 pub struct Says {
     kind: Kind,
@@ -23,7 +24,8 @@ impl Says {
     ghost use Rattle.asgi_types.specs.declared.outgoing.Outgoing.{Outgoing};
     ghost use Rattle.asgi_apps.specs.Saying.{IsToSay, left_of, script};
 
-    /// Nothing to say yet, in a scope of this kind, with room for so many events.
+    /// Nothing to say yet, in a scope of this kind, with room for so many events. `AllocError`
+    /// where memory for them is refused.
     pub fn with_room(alloc: Global, kind: Kind, events: usize) -> Result<Self, AllocError>
         ensures { IfOk result (λ says. IsToSay says kind []) }
     {
@@ -36,7 +38,8 @@ impl Says {
         })
     }
 
-    /// One more event to say, behind the others.
+    /// One more event to say, behind the others. `AllocError` where memory is refused; then what is
+    /// to be said is as before.
     pub fn add(&mut self, event: Outgoing) -> Result<(), AllocError>
         ensures ok { OnOk result ((script self.new ≡ script self.old ++ event ∷ []) × (left_of self.new ≡ left_of self.old ++ event ∷ [])) }
         ensures err { OnErr result ((script self.new ≡ script self.old) × (left_of self.new ≡ left_of self.old)) }

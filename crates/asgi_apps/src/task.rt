@@ -40,7 +40,8 @@ pub trait AppTask: Drop {
     // The promise: that this was heard and said, and that the task ended so; while it runs, None.
     ghost answers: { Self → List Incoming → List Outgoing → Option EndKind → Type 0 } = { λ _ _ _ _. ⊤ };
 
-    /// Goes on with the work, with the end that it is lent.
+    /// Goes on with the work, with the end that it is lent. Ready, the task has returned, or has
+    /// faulted.
     fn poll<E: AppEnd>(&mut self, cx: &mut Context<'_>, end: &mut E) -> Poll<Result<(), AppFault>>
         requires open { E.ended end.old ≡ None }
         requires stands { stands self.old (E.kind end.old) (E.heard end.old) (E.said end.old) }
@@ -56,7 +57,7 @@ pub trait AppTask: Drop {
     ghost keeps: { (task : Self) (kind : Kind) (heard : List Incoming) (said : List Outgoing) → stands task kind heard said → answers task heard said None };
 }
 
-/// What is called once for each scope.
+/// What is called once for each scope (ASGI 3.0, "Applications").
 pub trait Application {
     /// What it does in one scope.
     type Task: AppTask;
@@ -67,7 +68,8 @@ pub trait Application {
     // The scopes whose call may fail by its own judgement.
     ghost refuses: { Self → Scope → Type 0 } = { λ _ _. ⊤ };
 
-    /// A task for the scope. It keeps the allocator, where it needs one later.
+    /// A task for the scope. It keeps the allocator, where it needs one later. `Failed` by the
+    /// application's own judgement, `NoMemory` where memory is refused.
     fn call(&self, alloc: Global, scope: &Scope) -> Result<Self::Task, AppFault>
         ensures stands { IfOk result (λ task. Self.Task.stands task (kind_of scope.now) [] []) }
         ensures answers { IfOk result (λ task. (heard : List Incoming) (said : List Outgoing) (ended : Option EndKind) → Self.Task.answers task heard said ended → answers self.now scope.now heard said ended) }

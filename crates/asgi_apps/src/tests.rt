@@ -11,7 +11,7 @@ use asgi_io::CountingPause;
 use asgi_pipes::{ConnEnd, EndKind, OutItem, Pipes, Plain, PlainApp, PlainConn};
 use asgi_types::{
     Asgi, Chars, Extensions, Facts, Framing, Headers, HttpScope, HttpVersion, Incoming, Kind,
-    LifespanScope, Names, Octets, Outgoing, Payload, Reason, Scope, State, WsScope,
+    LifespanScope, Names, Octets, Outgoing, Payload, Reason, Scope, State, StateValue, WsScope,
 };
 use futures::task::{Context, Poll};
 use futures::{Future, FutureExt};
@@ -31,9 +31,33 @@ pub enum Offered {
     Text(&'static str),
     Bytes(&'static str),
     Close(u16),
+    Startup,
+    Shutdown,
 }
 
 use Offered::{Bytes, Close, Connect, Disconnect, Last, Part, Text};
+
+/// What stands under the name `n` of a state.
+#[derive(Clone, Copy, Debug)]
+pub enum Held {
+    Nothing,
+    Number(u64),
+    Text(&'static str),
+}
+
+/// What a scope says of its request.
+#[derive(Clone, Copy, Debug)]
+pub struct Asked {
+    pub path: &'static str,
+    pub root_path: &'static str,
+    pub held: Held,
+}
+
+pub const USUAL: Asked = Asked {
+    path: "/a/b",
+    root_path: "/a",
+    held: Held::Nothing,
+};
 
 /// A task that is driven within one poll, which is where a context comes from.
 #[derive(Drop)]
@@ -41,6 +65,7 @@ struct Served<A> {
     alloc: Global,
     app: A,
     kind: Kind,
+    asked: Asked,
     offered: &'static [Offered],
 }
 
@@ -48,7 +73,14 @@ impl<A: Application + Drop> Future for Served<A> {
     type Output = Result<Vec<u8>, AppFault>;
 
     fn poll(&mut self, cx: &mut Context<'_>) -> Poll<Result<Vec<u8>, AppFault>> {
-        Poll::Ready(serve(self.alloc, cx, &self.app, self.kind, self.offered))
+        Poll::Ready(serve(
+            self.alloc,
+            cx,
+            &self.app,
+            self.kind,
+            self.asked,
+            self.offered,
+        ))
     }
 }
 
@@ -96,33 +128,45 @@ const NO_EXTENSIONS: Extensions = Extensions {
     http_response_trailers: false,
 };
 
-fn http_scope(alloc: Global) -> HttpScope {
+fn state_of(alloc: Global, held: Held) -> State {
+    let mut state = State::new(alloc);
+    let value = match held {
+        Held::Nothing => return state,
+        Held::Number(number) => StateValue::Number(number),
+        Held::Text(text) => StateValue::Text(chars(alloc, text)),
+    };
+    // A refused value is not held, and the row fails but where memory was refused.
+    let _set = state.set("n", value);
+    state
+}
+
+fn http_scope(alloc: Global, asked: Asked) -> HttpScope {
     HttpScope {
         asgi: Asgi::of(Kind::Http),
         http_version: HttpVersion::V11,
         method: chars(alloc, "POST"),
         scheme: chars(alloc, "http"),
-        path: chars(alloc, "/a/b"),
+        path: chars(alloc, asked.path),
         raw_path: octets(alloc, "/a/b"),
         query_string: octets(alloc, ""),
-        root_path: chars(alloc, "/a"),
+        root_path: chars(alloc, asked.root_path),
         headers: Headers::new(alloc),
         client: None,
         server: None,
-        state: State::new(alloc),
+        state: state_of(alloc, asked.held),
         extensions: NO_EXTENSIONS,
     }
 }
 
-fn ws_scope(alloc: Global) -> WsScope {
+fn ws_scope(alloc: Global, asked: Asked) -> WsScope {
     WsScope {
         asgi: Asgi::of(Kind::WebSocket),
         http_version: HttpVersion::V11,
         scheme: chars(alloc, "ws"),
-        path: chars(alloc, "/a/b"),
+        path: chars(alloc, asked.path),
         raw_path: octets(alloc, "/a/b"),
         query_string: octets(alloc, ""),
-        root_path: chars(alloc, "/a"),
+        root_path: chars(alloc, asked.root_path),
         headers: Headers::new(alloc),
         client: None,
         server: None,
@@ -139,12 +183,12 @@ fn lifespan_scope(alloc: Global) -> LifespanScope {
     }
 }
 
-fn scope_of(alloc: Global, kind: Kind) -> Scope
+fn scope_of(alloc: Global, kind: Kind, asked: Asked) -> Scope
     ensures { kind_of result ≡ kind }
 {
     match kind {
-        Kind::Http => Scope::Http(http_scope(alloc)),
-        Kind::WebSocket => Scope::WebSocket(ws_scope(alloc)),
+        Kind::Http => Scope::Http(http_scope(alloc, asked)),
+        Kind::WebSocket => Scope::WebSocket(ws_scope(alloc, asked)),
         Kind::Lifespan => Scope::Lifespan(lifespan_scope(alloc)),
     }
 }
@@ -166,6 +210,8 @@ fn event_of(alloc: Global, offered: Offered) -> Option<Incoming> {
         Offered::Text(text) => Some(message(Payload::Text(chars(alloc, text)))),
         Offered::Bytes(text) => Some(message(Payload::Bytes(octets(alloc, text)))),
         Offered::Close(code) => closed(code),
+        Offered::Startup => Some(Incoming::LifespanStartup),
+        Offered::Shutdown => Some(Incoming::LifespanShutdown),
     }
 }
 
@@ -211,10 +257,15 @@ fn pair_of(alloc: Global, kind: Kind, offered: &[Offered]) -> Result<Pair, Alloc
     Ok(Pair { conn, app })
 }
 
-fn task_of<A: Application>(alloc: Global, app: &A, kind: Kind) -> Result<A::Task, AppFault>
+fn task_of<A: Application>(
+    alloc: Global,
+    app: &A,
+    kind: Kind,
+    asked: Asked,
+) -> Result<A::Task, AppFault>
     ensures { IfOk result (λ task. A.Task.stands task kind [] []) }
 {
-    let scope = scope_of(alloc, kind);
+    let scope = scope_of(alloc, kind, asked);
     app.call(alloc, &scope)
 }
 
@@ -224,11 +275,12 @@ fn serve<A: Application>(
     cx: &mut Context<'_>,
     app: &A,
     kind: Kind,
+    asked: Asked,
     offered: &[Offered],
 ) -> Result<Vec<u8>, AppFault>
     ensures { Keeps cx.old cx.new }
 {
-    let task = task_of(alloc, app, kind)?;
+    let task = task_of(alloc, app, kind, asked)?;
     let pair = pair_of(alloc, kind, offered)?;
     Ok(told(alloc, cx, task, pair)?)
 }
@@ -299,6 +351,10 @@ fn tell(alloc: Global, text: &mut Vec<u8>, event: &Outgoing) -> Result<(), Alloc
         } => tell_accept(text, subprotocol, headers),
         Outgoing::WsSend { payload } => tell_message(text, payload),
         Outgoing::WsClose { code, reason } => tell_close(alloc, text, *code, reason.as_str()),
+        Outgoing::StartupComplete { state } => tell_started(alloc, text, state),
+        Outgoing::StartupFailed { message } => tell_line(text, b"start failed ", message),
+        Outgoing::ShutdownComplete => text.extend_from_slice(b"stopped|"),
+        Outgoing::ShutdownFailed { message } => tell_line(text, b"stop failed ", message),
         _ => text.extend_from_slice(b"other|"),
     }
 }
@@ -355,6 +411,19 @@ fn tell_close(
     add(text, &[word.as_bytes(), reason.as_bytes(), b"|"])
 }
 
+fn tell_started(alloc: Global, text: &mut Vec<u8>, state: &State) -> Result<(), AllocError> {
+    text.extend_from_slice(b"started")?;
+    if let Some(StateValue::Number(number)) = state.get("n") {
+        let held = format!(in alloc; " n={number}")?;
+        text.extend_from_slice(held.as_bytes())?;
+    }
+    text.extend_from_slice(b"|")
+}
+
+fn tell_line(text: &mut Vec<u8>, word: &[u8], message: &Chars) -> Result<(), AllocError> {
+    add(text, &[word, message.as_str().as_bytes(), b"|"])
+}
+
 fn add(text: &mut Vec<u8>, parts: &[&[u8]]) -> Result<(), AllocError> {
     for part in parts {
         text.extend_from_slice(part)?;
@@ -369,10 +438,21 @@ fn run<R: RandomSource + AllocGlobal, A: Application + Drop>(
     kind: Kind,
     offered: &'static [Offered],
 ) -> Result<Vec<u8>, AppFault> {
+    run_asked(rt, app, kind, USUAL, offered)
+}
+
+pub fn run_asked<R: RandomSource + AllocGlobal, A: Application + Drop>(
+    rt: &R,
+    app: A,
+    kind: Kind,
+    asked: Asked,
+    offered: &'static [Offered],
+) -> Result<Vec<u8>, AppFault> {
     let served = Served {
         alloc: rt.alloc(),
         app,
         kind,
+        asked,
         offered,
     };
     match served.now_or_never(rt) {
@@ -515,7 +595,7 @@ fn ws_echo_sends_each_message_back(rt: HostRuntime) -> Result<(), Fail> {
 }
 
 /// Where an allocation is refused, the fault says so, and the next call answers whole.
-fn check_memory<R: Abort + RandomSource + AllocGlobal, A: Application + Copy + Drop>(
+pub fn check_memory<R: Abort + RandomSource + AllocGlobal, A: Application + Copy + Drop>(
     rt: &R,
     app: A,
     row: &Row,

@@ -16,7 +16,8 @@ use asgi_types::{Headers, Incoming, Outgoing, Scope};
 use futures::task::{Context, Poll};
 use std::alloc::Global;
 
-/// Accepts each session and sends each of its messages back, and answers each request with 404.
+/// Accepts each session and sends each of its messages back, and answers each request with 404. In
+/// a lifespan scope its call fails.
 #[derive(Clone, Copy, Debug)]
 pub struct WsEcho;
 

@@ -78,7 +78,8 @@ impl Place {
     }
 }
 
-/// Serves one connection to its end, request by request, and reports how it went.
+/// Serves one connection to its end, request by request, and reports how it went (RFC 9112, section
+/// 9.3). An opening handshake is its last request (RFC 6455, section 4.2).
 ///
 /// Each scope has this client and server, and a state equal to this one. The runner runs each
 /// exchange; where nothing moves in a turn the pause is called. The caller closes the line.

@@ -22,7 +22,8 @@ use asgi_io::Turn;
 use asgi_pipes::ConnEnd;
 use asgi_ws::Line;
 
-/// The connection's half of one exchange, as a runner sees it. It knows its own end of the pair alone.
+/// The connection's half of one exchange, as a runner sees it. It knows its own end of the pair
+/// alone.
 pub trait Half {
     // What arrives, and what is written: bytes, or messages.
     ghost In: { Type 0 };
@@ -40,7 +41,8 @@ pub trait Half {
     // What follows the exchange, once it is over.
     ghost following: { Self → Option Following };
 
-    /// Takes one turn, and says whether it moved anything. Where the application goes on nothing is read.
+    /// Takes one turn, and says whether it moved anything. Where the application goes on nothing is
+    /// read.
     fn turn<L: Line, C: ConnEnd>(&mut self, line: &mut L, end: &mut C, app_goes_on: bool) -> Turn
         ensures leads { LeadsOn stands (state_of L.Reads L.Counts L.Messages.own line.old) self.old (IsViewOf C.ConnEnd end.old) (state_of L.Reads L.Counts L.Messages.own line.new) self.new (IsViewOf C.ConnEnd end.new) }
         ensures over { IsSome (following self.old) → self.new ≡ self.old }
@@ -50,7 +52,7 @@ pub trait Half {
     fn is_settled(&self) -> bool
         ensures { IsTrue result ↔ IsSettled (following self.now) };
 
-    /// Gives the exchange up, where it is not over: a limit on turns was reached.
+    /// Gives the exchange up, where it is not over: a limit on turns was reached. Then it is over.
     fn give_up<C: ConnEnd>(&mut self, end: &mut C)
         ensures leads { LeadsInLine stands self.old (IsViewOf C.ConnEnd end.old) self.new (IsViewOf C.ConnEnd end.new) }
         ensures over { IsSome (following self.new) }

@@ -44,7 +44,7 @@ pub enum Body {
     Waits(Incoming),
     /// It is whole.
     Whole,
-    /// It is refused with this status.
+    /// The reader refused it with this status.
     Refused(u16),
     /// The input ended or failed inside of it.
     BrokenOff,
@@ -66,16 +66,21 @@ pub enum Stage {
 /// The connection's half of an exchange.
 #[derive(Drop)]
 pub struct ConnHalf {
+    /// What the connection keeps from exchange to exchange.
     pub wire: Wire,
+    /// How far the body of the request is.
     pub body: Body,
+    /// How far the text of the response is.
     pub text: ResponseText,
     /// A disconnect was offered, since the input ended, failed or was faulty.
     pub broke: bool,
+    /// How far the exchange is.
     pub stage: Stage,
 }
 
 impl ConnHalf {
-    /// Begins an exchange: a client that waits for `100 Continue` is told to go on.
+    /// Begins an exchange: a client that waits for `100 Continue` is told to go on (RFC 9110,
+    /// section 10.1.1). Where memory is refused or the write fails, the connection is cut short.
     pub fn begin<L: Line>(wire: Wire, text: ResponseText, line: &mut L) -> ConnHalf
         ensures begins { (scene : Scene) (facts : Facts) (read arrived : List ℕ) → Opens scene (state_of L.Reads L.Counts L.Messages.own line.old) wire facts read arrived → standing.StandsFor text facts []
             → (written : List ℕ) × Stands scene (state_of L.Reads L.Counts L.Messages.own line.new) result read (record empty_conn { arrived = arrived; written = written }) }
@@ -117,7 +122,7 @@ impl ConnHalf {
         }
     }
 
-    /// Nothing more is done, and not for a limit on turns.
+    /// Whether nothing more is done, and not for a limit on turns.
     pub fn is_settled(&self) -> bool
         ensures { IsTrue result ↔ turn_limits.IsSettled (following_of self.now.stage) }
     {
@@ -522,7 +527,8 @@ impl ConnHalf {
         }
     }
 
-    /// Gives the exchange up, where it is not over: a limit on turns was reached.
+    /// Gives the exchange up, where it is not over: a limit on turns was reached. The connection
+    /// ends as idle, or as it was cut short, and the disconnect is offered.
     pub fn give_up<C: ConnEnd>(&mut self, end: &mut C)
         ensures leads { LeadsIn self.old (IsViewOf C.ConnEnd end.old) self.new (IsViewOf C.ConnEnd end.new) }
         ensures over { (following : Following) × (self.new.stage ≡ Stage.Over following) }

@@ -22,8 +22,9 @@ use asgi_ws::Line;
 use futures::task::{Context, Poll};
 use std::alloc::{AllocError, Global};
 
-/// Runs both halves in the caller's thread, turn by turn. In a turn the connection's half takes one, and then
-/// the task is polled, by this context, while each poll moves something, at most as often as the ring has places.
+/// Runs both halves in the caller's thread, turn by turn. In a turn the connection's half takes
+/// one, and then the task is polled, by this context, while each poll moves something, at most as
+/// often as the ring has places.
 pub struct Inline<'q> {
     cx: Context<'q>,
     /// The ends of the last exchange: the next one may have their places.
@@ -31,7 +32,7 @@ pub struct Inline<'q> {
 }
 
 impl<'q> Inline<'q> {
-    /// Polls tasks by this context.
+    /// Polls tasks by this context. It takes no memory.
     pub fn new(cx: Context<'q>) -> Self {
         Inline { cx, spare: None }
     }

@@ -25,14 +25,15 @@ impl Model for Piece {
 }
 
 impl Piece {
-    /// It takes no memory before the first read.
+    /// No place yet. It takes no memory before the first read.
     pub fn new(alloc: Global) -> Piece {
         Piece {
             bytes: Vec::new(alloc),
         }
     }
 
-    /// Lends the place of a piece. Only the first time it takes memory.
+    /// Lends the place of a piece, of `PIECE` bytes. It takes memory only where none came back, so
+    /// the first time. `AllocError` where that is refused.
     pub fn lend(&mut self, alloc: Global) -> Result<Vec<u8>, AllocError>
         ensures { IfOk result (λ place. length place.items ≡ 4096) }
     {
@@ -43,7 +44,7 @@ impl Piece {
         Ok(place)
     }
 
-    /// Takes the place back.
+    /// Takes the place back, of `PIECE` bytes.
     pub fn take_back(&mut self, place: Vec<u8>)
         requires { length place.items ≡ 4096 }
     {

@@ -40,8 +40,9 @@ pub trait Runner {
     // The turns of the last task that it drove by itself.
     ghost driven: { Self → ℕ };
 
-    /// The ends of an exchange, as `make` of those pairs gives them. Memory of the exchange before may
-    /// serve again.
+    /// The ends of an exchange, as `make` of those pairs gives them, with `ring` places for events
+    /// each way. Memory of the exchange before may serve again. `AllocError` where memory is
+    /// refused.
     fn make(
         &mut self,
         alloc: Global,
@@ -57,8 +58,9 @@ pub trait Runner {
         ensures pair { IfOk result (λ ends. Self.Pipes.is_pair ends.0 ends.1) }
         ensures counts { (not_met self.new ≡ not_met self.old) × (pauses self.new ≡ pauses self.old) × (driven self.new ≡ driven self.old) };
 
-    /// Runs both halves of an exchange until it is over, or a limit on turns is reached, where it is
-    /// given up, and a task that still runs is ended as idle. The answer says how the task ended.
+    /// Runs both halves of an exchange until it is over, or a limit on turns is reached, where it
+    /// is given up, and a task that still runs is ended as idle. The answer says how the task
+    /// ended.
     fn run<H: Half, L: Line, P: Pause, T: AppTask>(
         &mut self,
         half: &mut H,

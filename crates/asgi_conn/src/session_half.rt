@@ -39,7 +39,7 @@ pub enum Answered {
     Open,
     /// It was accepted, and the application closed the session.
     Closed,
-    /// It was refused.
+    /// The application refused it, and the answer is 403.
     Refused,
 }
 
@@ -57,14 +57,20 @@ pub enum Due {
 /// The connection's half of the exchange of an opening handshake.
 #[derive(Drop)]
 pub struct SessionHalf {
+    /// What the connection keeps.
     pub wire: Wire,
+    /// The facts of the handshake.
     pub facts: Facts,
     /// Of what is taken, it passes what is written.
     pub judge: Judge,
+    /// How far the text of a denial is.
     pub text: ResponseText,
-    /// The bytes behind the handshake, which the line gets with the accept.
+    /// The bytes behind the handshake, which the line gets with the accept: the first of its
+    /// frames.
     pub leftover: Vec<u8>,
+    /// How far the answer to the handshake is.
     pub answered: Answered,
+    /// What is due to the application.
     pub due: Due,
     /// A disconnect was offered, since the client closed or no message follows.
     pub broke: bool,
@@ -72,8 +78,9 @@ pub struct SessionHalf {
     pub client_closed: bool,
     /// The line said that no message follows.
     pub is_over: bool,
-    /// How many more messages are read and dropped.
+    /// How many more messages are read and dropped behind a close.
     pub spare_reads: u32,
+    /// How far the exchange is.
     pub stage: Stage,
 }
 
@@ -120,7 +127,7 @@ impl SessionHalf {
         }
     }
 
-    /// Nothing more is done, and not for a limit on turns.
+    /// Whether nothing more is done, and not for a limit on turns.
     pub fn is_settled(&self) -> bool
         ensures { IsTrue result ↔ turn_limits.IsSettled (following_of self.now.stage) }
     {
@@ -131,7 +138,7 @@ impl SessionHalf {
         }
     }
 
-    /// How many places a queue has.
+    /// How many events each queue of the exchange holds.
     pub fn ring(&self) -> usize
         ensures { result ≡ self.now.wire.limits.ring }
     {
@@ -536,7 +543,9 @@ impl SessionHalf {
         }
     }
 
-    /// Gives the exchange up, where it is not over: a limit on turns was reached.
+    /// Gives the exchange up, where it is not over: a limit on turns was reached. The connection
+    /// ends as idle, or as it was cut short, and the disconnect is offered, with the code 1006 (RFC
+    /// 6455, section 7.1.5).
     pub fn give_up<C: ConnEnd>(&mut self, end: &mut C)
         ensures leads { LeadsIn self.old (IsViewOf C.ConnEnd end.old) self.new (IsViewOf C.ConnEnd end.new) }
         ensures over { (following : Following) × (self.new.stage ≡ Stage.Over following) }

@@ -8,8 +8,11 @@ use asgi_types::EndKind;
 /// What is counted of a connection.
 #[derive(Clone, Copy, Debug, PartialEq, Eq)]
 pub struct Tally {
+    /// Exchanges that were run.
     pub exchanges: u64,
+    /// Those of them whose task faulted.
     pub faults: u64,
+    /// Turns of the connection, and their limits.
     pub turns: Turns,
     pub ghost in_exchanges: { faults ≤ exchanges },
 }

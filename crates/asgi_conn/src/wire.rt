@@ -24,12 +24,17 @@ use std::mem;
 /// What a connection keeps from its first byte to its last.
 #[derive(Drop)]
 pub struct Wire {
+    /// Where memory is taken.
     pub alloc: Global,
+    /// What the connection may take.
     pub limits: Limits,
+    /// What makes requests of the bytes that are read.
     pub requests: RequestReader,
+    /// How far the input has come.
     pub input: InputEnd,
-    /// The text in hand, empty between two.
+    /// The bytes of the text in hand, empty between two.
     pub out: Vec<u8>,
+    /// Where a read puts its bytes.
     pub piece: Piece,
 }
 
@@ -50,7 +55,8 @@ impl Wire {
         }
     }
 
-    /// Reads once, and feeds what came to the reader of requests.
+    /// Reads once, at most `PIECE` bytes, and feeds what came to the reader of requests.
+    /// `AllocError` where memory is refused; then what was read may be lost.
     pub fn read<L: Line>(&mut self, line: &mut L) -> Result<Turn, AllocError>
         requires { has_ended self.old.input ≡ false }
         ensures moved { (more : List ℕ)
@@ -95,7 +101,8 @@ impl Wire {
         }
     }
 
-    /// The bytes behind an opening handshake, whose head was given last: the first of its frames.
+    /// The bytes behind an opening handshake, whose head was given last: the first of its frames
+    /// (RFC 6455, section 5). `AllocError` where memory is refused.
     pub fn take_frames(&mut self) -> Result<Vec<u8>, AllocError>
         ensures frames { IfOk result (λ taken. (bytes : List ℕ) (given : List Next) (behind : List ℕ) (scope : Scope) (facts : Facts) (frames : List ℕ)
             → HasClosed self.old.requests.limits bytes given behind → BeginsWithHandshake self.old.requests.limits behind scope facts frames
@@ -107,7 +114,8 @@ impl Wire {
         Ok(mem::replace(&mut self.requests, fresh).rest())
     }
 
-    /// Writes the text in hand, and answers how much of it went out where a write failed.
+    /// Writes the text in hand, which is empty then. Where a write failed, the answer is how many
+    /// of its bytes went out; None where all of them did.
     pub fn put<L: Line>(&mut self, line: &mut L) -> Option<usize>
         ensures none { IfNone result (Appends (L.written line.old) (L.written line.new) self.old.out.items × RoseBy 0 (L.failed line.old) (L.failed line.new)) }
         ensures some { IfSome result (λ n. (n < length self.old.out.items) × Appends (L.written line.old) (L.written line.new) (take n self.old.out.items) × RoseBy 1 (L.failed line.old) (L.failed line.new)) }
@@ -123,7 +131,8 @@ impl Wire {
     }
 }
 
-/// Writes a text, and answers how much of it went out where a write failed.
+/// Writes a text. Where a write failed, the answer is how many of its bytes went out; None where
+/// all of them did.
 pub fn write<L: Line>(line: &mut L, text: &[u8]) -> Option<usize>
     ensures none { IfNone result (Appends (L.written line.old) (L.written line.new) text.now × RoseBy 0 (L.failed line.old) (L.failed line.new)) }
     ensures some { IfSome result (λ n. (n < length text.now) × Appends (L.written line.old) (L.written line.new) (take n text.now) × RoseBy 1 (L.failed line.old) (L.failed line.new)) }

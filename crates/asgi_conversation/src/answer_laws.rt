@@ -24,7 +24,8 @@ ghost use Rattle.asgi_conversation.specs.ReadResponses.{ReadsAnswer, AreRead, Al
 ghost use Rattle.asgi_conversation.specs.declared.input.InputEnd.{InputEnd};
 ghost use Rattle.asgi_conversation.specs.TaskEnds.{is_cut};
 
-/// `Echo` says back all of the body that came, event by event, where its task returned and the connection was not cut short.
+/// `Echo` says back all of the body that came, event by event, where its task returned and the
+/// connection was not cut short.
 pub fn echo_says_the_body_back()
     ensures { (limits : Limits) (end : InputEnd) (bytes : List ℕ) (x : Exchanged) (body : BodyState) (client server : Option Peer) (state : List (List ℕ × StateValue))
         (arrived : List ℕ) (events : List Incoming)
@@ -32,8 +33,9 @@ pub fn echo_says_the_body_back()
         → BeginsWith limits bytes x.scope x.facts arrived → ReadsBody limits x.facts.framing arrived events body → x.said ≡ echo_events events }
 {}
 
-/// The bytes that `Echo`, `Hello` and, over HTTP, `WsEcho` have written, how the connection ended and how many exchanges it had
-/// are one function of the bytes read and of how reading ended, where no outcome cut the connection short and no exchange faulted.
+/// The bytes that `Echo`, `Hello` and, over HTTP, `WsEcho` have written, how the connection ended
+/// and how many exchanges it had are one function of the bytes read and of how reading ended, where
+/// no outcome cut the connection short and no exchange faulted.
 pub fn answers_are_one()
     ensures echo { (limits : Limits) (end : InputEnd) (read : List ℕ) (exchanges others : List Exchanged) (written other : List ℕ) (report another : Report)
         → ConversesWith echo_promise limits end read exchanges written report → ConversesWith echo_promise limits end read others other another
@@ -46,7 +48,8 @@ pub fn answers_are_one()
         → (written ≡ other) × (report.outcome ≡ another.outcome) × (report.exchanges ≡ another.exchanges) }
 {}
 
-/// However reading ended behind the same bytes, they have written the same: only the outcome tells of it.
+/// However reading ended behind the same bytes, they have written the same: only the outcome tells
+/// of it.
 pub fn same_bytes_are_answered_alike()
     ensures echo { (limits : Limits) (end late : InputEnd) (read : List ℕ) (exchanges others : List Exchanged) (written other : List ℕ) (report another : Report)
         → ConversesWith echo_promise limits end read exchanges written report → ConversesWith echo_promise limits late read others other another → written ≡ other }
@@ -60,8 +63,8 @@ pub fn same_bytes_are_answered_alike()
         → (written ≡ other) × (report.exchanges ≡ another.exchanges) }
 {}
 
-/// What they have written for a front of the input is a beginning of what they write for the whole, however reading ended
-/// behind the front: what was answered stays answered.
+/// What they have written for a front of the input is a beginning of what they write for the whole,
+/// however reading ended behind the front: what was answered stays answered.
 pub fn answers_to_a_front_come_first()
     ensures echo { (limits : Limits) (early late : InputEnd) (read more : List ℕ) (exchanges others : List Exchanged) (written other : List ℕ) (report another : Report)
         → ConversesWith echo_promise limits early read exchanges written report → ConversesWith echo_promise limits late (read ++ more) others other another
@@ -74,9 +77,10 @@ pub fn answers_to_a_front_come_first()
         → IsPrefix written other }
 {}
 
-/// Whatever the application is, the responses of a connection are read back one behind the other, each as its own status, its
-/// own fields and the bytes of its own bodies: no body can be taken for a head. It needs fields as each `Headers` has them,
-/// bodies whose size fits 64 bits, and a recipient that knows which request was HEAD.
+/// Whatever the application is, the responses of a connection are read back one behind the other,
+/// each as its own status, its own fields and the bytes of its own bodies: no body can be taken for
+/// a head (RFC 9112, section 6.3). It needs fields as each `Headers` has them, bodies whose size
+/// fits 64 bits, and a recipient that knows which request was HEAD.
 pub fn responses_are_read_back()
     ensures answered { (limits : Limits) (end : InputEnd) (read : List ℕ) (exchanges : List Exchanged) (behind more : List ℕ)
         → AreAnswered limits end read exchanges behind → AllCanBeSent exchanges → AreRead (answer_texts exchanges ++ more) exchanges more }

@@ -18,7 +18,8 @@ pub enum Following {
 }
 
 /// What follows the end of a task, by how it ended, how far the response and the body of the
-/// request are, and whether the input broke before that end was taken (RFC 9112, sections 9.3 to 9.6).
+/// request are, and whether the input broke before that end was taken (RFC 9112, sections 9.3 to
+/// 9.6).
 pub fn after_task(kind: EndKind, progress: Progress, body: Input, broke: bool) -> Following
     ensures { (state : BodyState) → input_of state ≡ body → result ≡ spec.after_task kind progress state broke }
 {

@@ -41,8 +41,9 @@ pub use crate::answer_laws::{
 pub use crate::session_laws::{same_messages_are_answered_alike, ws_echo_sends_the_messages_back};
 pub use asgi_exchange::laws::every_schedule;
 
-/// The bytes read, the end of the input and the exchanges say what is written and how the connection ended, where it was not
-/// cut short; and the next request follows only a whole one whose response is complete and keeps the connection.
+/// The bytes read, the end of the input and the exchanges say what is written and how the
+/// connection ended, where it was not cut short; and the next request follows only a whole one
+/// whose response is complete and keeps the connection (RFC 9112, section 9.3).
 pub fn conversation_is_one()
     ensures one { (limits : Limits) (end : InputEnd) (read : List ℕ) (exchanges : List Exchanged) (written other : List ℕ) (report another : Report)
         → Converses limits end read exchanges written report → Converses limits end read exchanges other another
@@ -51,14 +52,15 @@ pub fn conversation_is_one()
         → (progress_of x.facts x.said ≡ Progress.Complete false) × ((behind : List ℕ) × (state ≡ BodyState.complete behind)) }
 {}
 
-/// However the connection ends in an exchange, what is written there is a beginning of the text of the exchange.
+/// However the connection ends in an exchange, what is written there is a beginning of the text of
+/// the exchange.
 pub fn what_is_written_is_a_beginning()
     ensures { (outcome : Outcome) (end : InputEnd) (x : Exchanged) (state : BodyState) (text : List ℕ)
         → EndsWithin outcome end x state text → IsPrefix text (out_text x (input_of state)) }
 {}
 
-/// The requests of a conversation are the first heads among the results of the bytes read, in order; where nothing is due
-/// behind those that were answered, they are all.
+/// The requests of a conversation are the first heads among the results of the bytes read, in
+/// order; where nothing is due behind those that were answered, they are all.
 pub fn requests_are_the_first_heads()
     ensures first { (limits : Limits) (end : InputEnd) (read : List ℕ) (exchanges : List Exchanged) (written : List ℕ) (report : Report) (results : List Next) (rest : List ℕ)
         → Converses limits end read exchanges written report → GivesResults limits read results rest → IsPrefix (requests_of exchanges) (heads_of results) }
@@ -66,8 +68,8 @@ pub fn requests_are_the_first_heads()
         → SoFar limits end read exchanges behind written → NothingIsDue limits behind → GivesResults limits read results rest → requests_of exchanges ≡ heads_of results }
 {}
 
-/// Between two exchanges: it holds of nothing read, more bytes stand behind, and one more exchange that the next request
-/// follows takes it on.
+/// Between two exchanges: it holds of nothing read, more bytes stand behind, and one more exchange
+/// that the next request follows takes it on.
 pub fn exchanges_make_a_conversation_so_far()
     ensures starts { (limits : Limits) (end : InputEnd) → SoFar limits end [] [] [] [] }
     ensures grows { (limits : Limits) (end : InputEnd) (read more : List ℕ) (exchanges : List Exchanged) (behind written : List ℕ)
@@ -84,8 +86,8 @@ pub fn exchanges_make_a_conversation_so_far()
         → SoFar limits end read (exchanges ++ exchanged scope facts w ∷ []) behind (written ++ w.conn.written) }
 {}
 
-/// The end makes a conversation: between two requests; in an exchange, as the end of its task says; and where the connection
-/// was cut short.
+/// The end makes a conversation: between two requests; in an exchange, as the end of its task says;
+/// and where the connection was cut short.
 pub fn ends_make_a_conversation()
     ensures between { (limits : Limits) (end : InputEnd) (read : List ℕ) (exchanges : List Exchanged) (behind written text : List ℕ) (report : Report)
         → SoFar limits end read exchanges behind written → EndsBetween report.outcome limits end behind text → CountsExchanges report exchanges
@@ -107,9 +109,9 @@ pub fn ends_make_a_conversation()
         → ConversesLast limits end read exchanges written scope facts w report }
 {}
 
-/// What a loop over a reader carries: it begins with nothing, reads more, begins an exchange with the head that the reader
-/// gives, and comes to the next one where the request is whole and the response is complete and keeps the connection. The
-/// bytes behind are those that the reader holds.
+/// What a loop over a reader carries: it begins with nothing, reads more, begins an exchange with
+/// the head that the reader gives, and comes to the next one where the request is whole and the
+/// response is complete and keeps the connection. The bytes behind are those that the reader holds.
 pub fn a_reader_leads_from_exchange_to_exchange()
     ensures starts { (limits : Limits) (end : InputEnd) → Between limits end [] [] [] [] [] }
     ensures reads_more { (limits : Limits) (end : InputEnd) (read more : List ℕ) (given : List Next) (exchanges : List Exchanged) (behind written : List ℕ)
@@ -135,7 +137,8 @@ pub fn a_reader_leads_from_exchange_to_exchange()
         → Between reader.limits end read given exchanges behind written → StandsFor reader read given → reader.place ≡ Place.Start → behind ≡ reader.held }
 {}
 
-/// Between two exchanges the refusal that a reader gives, all given at the end of the input, or a limit makes a conversation.
+/// Between two exchanges the refusal that a reader gives, all given at the end of the input, a
+/// limit or want of memory makes a conversation.
 pub fn a_reader_ends_a_conversation()
     ensures refused { (reader : Reading) (end : InputEnd) (read : List ℕ) (given : List Next) (exchanges : List Exchanged) (behind written : List ℕ) (report : Report) (status : ℕ)
         → Between reader.limits end read given exchanges behind written → CountsExchanges report exchanges
@@ -161,8 +164,8 @@ pub fn a_reader_ends_a_conversation()
         → report.outcome ≡ Outcome.NoMemory → Converses limits end read exchanges written report }
 {}
 
-/// In an exchange whose task returned or faulted: a response that has begun stays as it is, what never began is answered by
-/// the server, and an input that broke ends the connection.
+/// In an exchange whose task returned or faulted: a response that has begun stays as it is, what
+/// never began is answered by the server, and an input that broke ends the connection.
 pub fn a_reader_ends_an_exchange()
     // the response is complete and closes, whatever the body is
     ensures closes { (limits : Limits) (end : InputEnd) (read : List ℕ) (opened : List Next) (exchanges : List Exchanged) (written : List ℕ) (scope : Scope) (facts : Facts) (w : World ℕ ℕ) (report : Report) (kind : EndKind)
@@ -209,8 +212,8 @@ pub fn a_reader_ends_an_exchange()
         → ConversesLast reader.limits end read exchanges written scope facts w report }
 {}
 
-/// Where a write failed in an exchange, n bytes of the text in hand are out: of the beginning, of the last event that was
-/// taken, or of the answer in place of a response that never began.
+/// Where a write failed in an exchange, n bytes of the text in hand are out: of the beginning, of
+/// the last event that was taken, or of the answer in place of a response that never began.
 pub fn a_failed_write_ends_an_exchange()
     ensures beginning { (limits : Limits) (end : InputEnd) (read : List ℕ) (opened : List Next) (exchanges : List Exchanged) (written : List ℕ) (scope : Scope) (facts : Facts) (w : World ℕ ℕ) (report : Report) (n : ℕ)
         → IsLast limits end read opened exchanges written scope facts w report → HasBrokenIn limits end facts w

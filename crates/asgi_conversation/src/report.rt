@@ -14,9 +14,11 @@ pub enum Outcome {
     Finished,
     /// The text of a refusal of this status was written.
     Refused(u16),
-    /// The input ended or failed before the head was whole.
+    /// The input failed, or ended inside of a request or of a session, or a body was faulty when it
+    /// was too late for a refusal.
     InputBroke,
-    /// A write failed once this many bytes of the text in hand were out.
+    /// A write failed once this many bytes of the text in hand were out: 0 where it was a message
+    /// or a close of a session.
     WriteFailed(usize),
     /// A limit on turns was reached.
     Idle,
@@ -25,7 +27,8 @@ pub enum Outcome {
 }
 
 impl Outcome {
-    /// The words of the outcome, as a program prints them: `write-failed 9`. It takes no memory.
+    /// The words of the outcome, as a program prints them: `write-failed 9`. They are ASCII, of at
+    /// most 33 bytes. It takes no memory.
     pub fn words(self) -> ArrayString<40>
         ensures words { result.bytes ≡ outcome_words self }
         ensures short { length result.bytes ≤ 33 }

@@ -14,8 +14,9 @@ ghost use Rattle.asgi_conversation.specs.Promised.{ArePromised, ConversesInSessi
 ghost use Rattle.asgi_conversation.specs.SessionEcho.{payloads_in, EchoesUntil};
 ghost use Rattle.asgi_conversation.specs.Sessions.{Talk, ConversesInSession, handshake_of};
 
-/// `WsEcho` accepts each session and sends back the payloads of its messages, each once and in order, and nothing else, until
-/// the client closes it. The requests in front of the handshake are answered with 404.
+/// `WsEcho` accepts each session and sends back the payloads of its messages, each once and in
+/// order, and nothing else, until the client closes it. The requests in front of the handshake are
+/// answered with 404.
 pub fn ws_echo_sends_the_messages_back()
     // nothing cut the connection short and no task faulted
     ensures whole { (limits : Limits) (end : InputEnd) (read : List ℕ) (exchanges : List Exchanged) (talk : Talk) (written : List ℕ) (report : Report)
@@ -33,8 +34,9 @@ pub fn ws_echo_sends_the_messages_back()
         → All (λ (x : Exchanged). x.said ≡ not_found_events) c.answered }
 {}
 
-/// What `WsEcho` has handed over, and how the connection ended, is one function of the messages received, whatever was read in
-/// front of them; and what was handed over for a front of the messages comes first for all of them.
+/// What `WsEcho` has handed over, and how the connection ended, is one function of the messages
+/// received, whatever was read in front of them; and what was handed over for a front of the
+/// messages comes first for all of them.
 pub fn same_messages_are_answered_alike()
     ensures messages { (limits : Limits) (end late : InputEnd) (read other_read : List ℕ) (exchanges others : List Exchanged) (talk other_talk : Talk) (written other : List ℕ) (report another : Report)
         → ConversesInSessionWith ws_echo_promise limits end read exchanges talk written report → ConversesInSessionWith ws_echo_promise limits late other_read others other_talk other another

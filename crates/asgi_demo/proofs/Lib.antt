@@ -1,4 +1,5 @@
 pub mod WordLemmas
 pub mod ServingLemmas
 pub mod TellingLemmas
+pub mod PutLemmas
 pub mod LivesLemmas

@@ -1,38 +1,110 @@
 -- What followed the answer to the start is what the program promises.
-use Rattle.std.proofs.Common.{◌≡◌, ◌⊎◌, inl, inr, ℕ, Bool, List, Option, subst}
+use Rattle.std.proofs.Common.{◌≡◌, ◌⊎◌, inl, inr, ℕ, Bool, List, [], Option, Some, None, subst, sym, refl}
 use Rattle.asgi_io.specs.declared.counts.Counts as counts
 use Rattle.asgi_io.specs.declared.reads.Reads as reads
+use Rattle.asgi_types.specs.declared.end_kind.EndKind.{EndKind}
+use Rattle.asgi_types.specs.declared.incoming.Incoming.{Incoming}
 use Rattle.asgi_types.specs.declared.limits.Limits.{Limits}
+use Rattle.asgi_types.specs.declared.outgoing.Outgoing.{Outgoing}
 use Rattle.asgi_types.specs.declared.state.StateValue.{StateValue}
 use Rattle.asgi_ws.specs.declared.messages.Messages as messages
 use Rattle.asgi_apps.specs.declared.task.AppTask as tasks
+use Rattle.asgi_lifespan.specs.declared.lifespan.Lifespan.{Lifespan}
 use Rattle.asgi_lifespan.specs.declared.lifespan.Start.{Start}
+use Rattle.asgi_lifespan.specs.declared.lifespan.Start.TheVariants as start
+use Rattle.asgi_lifespan.specs.declared.stop.Stop.{Stop}
+use Rattle.asgi_lifespan.specs.declared.stop.Stop.TheVariants as stop
 use Rattle.asgi_lifespan.specs.Facts.{lifespan_scope}
-use Rattle.asgi_lifespan.specs.Starting.{Starts, IsNoMemory}
+use Rattle.asgi_lifespan.specs.Lifespan.{StartAnswer, started, failed, unsupported, start_answer}
+use Rattle.asgi_lifespan.specs.Starting.{Starts, StandsFor, PromiseOf, IsNoMemory, turns_in}
+use Rattle.asgi_lifespan.specs.Stopping.{Stops}
 use Rattle.asgi_server.specs.Connections.{Promise, Given}
 use Rattle.asgi_demo.specs.declared.ending.Ending.{Ending}
-use Rattle.asgi_demo.specs.Serving.{Lives, Follows, ServesEach}
-
-pub lives_by : {L T : Type 0} (R : reads.Ghosts L) (W : counts.Ghosts L) (M : messages.Ghosts L) (answers : Promise) (limits : Limits) (g : tasks.Ghosts T)
-    (asked_old asked_new : List (Option (Given L))) (pauses_old between pauses_new : ℕ) (ending : Ending) (answer it : Start T g) → answer ≡ it
-    → IsNoMemory answer ⊎ Starts (answers lifespan_scope) limits pauses_old between answer
-    → Follows R W M answers limits it asked_old asked_new between pauses_new ending
-    → Lives R W M answers limits g asked_old asked_new pauses_old pauses_new ending
-lives_by R W M answers limits g asked_old asked_new pauses_old between pauses_new ending answer it same starts follows = record {
-  answer = it;
-  between = between;
-  starts = subst (λ a. IsNoMemory a ⊎ Starts (answers lifespan_scope) limits pauses_old between a) same starts;
-  follows = follows;
-}
+use Rattle.asgi_demo.specs.declared.ending.Ending.TheVariants.{StartupFailed, NoStartup}
+use Rattle.asgi_demo.specs.Serving.{Around, Lives, LivesOrNot, Follows, ServesOrNot, ending_of}
 
 -- what holds beside the one case is left aside
 pub aside : {A B C : Type 0} → (A × B) ⊎ C → A ⊎ C
 aside (inl (a, b)) = inl a
 aside (inr c) = inr c
 
--- an equal state is the same
-pub with_state : {L : Type 0} (R : reads.Ghosts L) (W : counts.Ghosts L) (M : messages.Ghosts L) (answers : Promise) (limits : Limits) (one other : List (List ℕ × StateValue))
-    (asked_old asked_new : List (Option (Given L))) (before after : ℕ) (well : Bool) → one ≡ other
-    → ServesEach R W M answers limits one asked_old asked_new before after well → ServesEach R W M answers limits other asked_old asked_new before after well
-with_state R W M answers limits one other asked_old asked_new before after well same served =
-    subst (λ state. ServesEach R W M answers limits state asked_old asked_new before after well) same served
+-- a task that was stopped kept what is promised of it
+kept_within : (one other : List Incoming → List Outgoing → Option EndKind → Type 0) (limits : Limits) (heard : List Incoming) (said : List Outgoing) (before after : ℕ) (answer : Stop)
+    → ((h : List Incoming) (s : List Outgoing) (e : Option EndKind) → one h s e → other h s e) → Stops one limits heard said before after answer → Stops other limits heard said before after answer
+kept_within one other limits heard said before after answer within x = record {
+  heard = x.heard;
+  said = x.said;
+  ended = x.ended;
+  heard_on = x.heard_on;
+  said_on = x.said_on;
+  hears = x.hears;
+  lawful = x.lawful;
+  promised = within x.heard x.said x.ended x.promised;
+  answered = x.answered;
+  turns = x.turns;
+}
+
+module _ {L T : Type 0} (R : reads.Ghosts L) (W : counts.Ghosts L) (M : messages.Ghosts L) (answers : Promise) (limits : Limits) (has_failed : Bool) (g : tasks.Ghosts T)
+    (old new : Around L) (before between after : ℕ) (ending : Ending) where
+  -- an application that was started so, and what followed
+  lives_by : (answer : Start T g) (x : Starts (answers lifespan_scope) limits before between answer)
+      → Follows R W M answers limits has_failed (start_answer x.said x.ended) x.heard x.said old new between after ending → LivesOrNot R W M answers limits has_failed old new before after ending
+  lives_by answer x follows = inl record {
+    heard = x.heard;
+    said = x.said;
+    ended = x.ended;
+    hears = x.hears;
+    lawful = x.lawful;
+    promised = x.promised;
+    gave_up = turns_in answer;
+    between = between;
+    turns = x.turns;
+    follows = follows;
+  }
+
+  -- the same by what follows the answer that it gave
+  follows_by : (answer : Start T g) (told : Option StartAnswer) (x : Starts (answers lifespan_scope) limits before between answer) → start_answer x.said x.ended ≡ told
+      → Follows R W M answers limits has_failed told x.heard x.said old new between after ending → LivesOrNot R W M answers limits has_failed old new before after ending
+  follows_by answer told x is follows =
+      lives_by answer x (subst (λ a. Follows R W M answers limits has_failed a x.heard x.said old new between after ending) (sym is) follows)
+
+  as_started : (life : Lifespan T g) (state : List (List ℕ × StateValue)) (well : Bool) (at : ℕ) (stopped : Stop) → Starts (answers lifespan_scope) limits before between (start.Started life state)
+      → ServesOrNot R W M answers limits has_failed state old new between at well
+      → ((heard : List Incoming) (said : List Outgoing) (ended : Option EndKind) → StandsFor limits life heard said ended → Stops (PromiseOf life) limits heard said at after stopped)
+      → ending ≡ ending_of well stopped → LivesOrNot R W M answers limits has_failed old new before after ending
+  as_started life state well at stopped x served stops ends =
+      follows_by (start.Started life state) (Some (started state)) x x.answered
+      (well, at, stopped, served, kept_within (PromiseOf life) (answers lifespan_scope) limits x.heard x.said at after stopped x.stands.1 (stops x.heard x.said x.ended x.stands.0), ends)
+
+  pub lives_started : (answer : Start T g) (life : Lifespan T g) (state : List (List ℕ × StateValue)) (well : Bool) (at : ℕ) (stopped : Stop) → answer ≡ start.Started life state
+      → IsNoMemory answer ⊎ Starts (answers lifespan_scope) limits before between answer
+      → ServesOrNot R W M answers limits has_failed state old new between at well
+      → ((heard : List Incoming) (said : List Outgoing) (ended : Option EndKind) → StandsFor limits life heard said ended → Stops (PromiseOf life) limits heard said at after stopped)
+      → ending ≡ ending_of well stopped → LivesOrNot R W M answers limits has_failed old new before after ending
+  lives_started answer life state well at stopped same (inl none) served stops ends = absurd (subst (λ a. IsNoMemory a) same none)
+  lives_started answer life state well at stopped same (inr x) served stops ends =
+      as_started life state well at stopped (subst (λ a. Starts (answers lifespan_scope) limits before between a) same x) served stops ends
+
+  pub lives_unsupported : (answer : Start T g) (state : List (List ℕ × StateValue)) (well : Bool) → answer ≡ start.Unsupported → state ≡ []
+      → IsNoMemory answer ⊎ Starts (answers lifespan_scope) limits before between answer
+      → ServesOrNot R W M answers limits has_failed state old new between after well
+      → ending ≡ ending_of well stop.Stopped → LivesOrNot R W M answers limits has_failed old new before after ending
+  lives_unsupported answer state well same empty (inl none) served ends = absurd (subst (λ a. IsNoMemory a) same none)
+  lives_unsupported answer state well same empty (inr x) served ends =
+      let X : Starts (answers lifespan_scope) limits before between start.Unsupported = subst (λ a. Starts (answers lifespan_scope) limits before between a) same x in
+      follows_by start.Unsupported (Some unsupported) X X.answered
+      (well, subst (λ s. ServesOrNot R W M answers limits has_failed s old new between after well) empty served, ends)
+
+  pub lives_failed : (answer : Start T g) (message : List ℕ) → answer ≡ start.Failed message → IsNoMemory answer ⊎ Starts (answers lifespan_scope) limits before between answer
+      → new ≡ old → after ≡ between → ending ≡ StartupFailed message → LivesOrNot R W M answers limits has_failed old new before after ending
+  lives_failed answer message same (inl none) kept rests ends = absurd (subst (λ a. IsNoMemory a) same none)
+  lives_failed answer message same (inr x) kept rests ends =
+      let X : Starts (answers lifespan_scope) limits before between (start.Failed message) = subst (λ a. Starts (answers lifespan_scope) limits before between a) same x in
+      follows_by (start.Failed message) (Some (failed message)) X X.answered (kept, rests, ends)
+
+  pub lives_idle : (answer : Start T g) (turns : ℕ) → answer ≡ start.Idle turns → IsNoMemory answer ⊎ Starts (answers lifespan_scope) limits before between answer
+      → new ≡ old → after ≡ between → ending ≡ NoStartup → LivesOrNot R W M answers limits has_failed old new before after ending
+  lives_idle answer turns same (inl none) kept rests ends = absurd (subst (λ a. IsNoMemory a) same none)
+  lives_idle answer turns same (inr x) kept rests ends =
+      let X : Starts (answers lifespan_scope) limits before between (start.Idle turns) = subst (λ a. Starts (answers lifespan_scope) limits before between a) same x in
+      follows_by (start.Idle turns) None X X.answered (kept, rests, ends)

@@ -41,13 +41,18 @@ four_words f (v ∷ w ∷ s ∷ t ∷ r ∷ rest) a b c d n x y z u = absurd (om
 abbrev named : List ℕ → Option App
 named word = if bytes_eq word (codes "hello") then Some app.Hello else if bytes_eq word (codes "echo") then Some app.Echo
     else if bytes_eq word (codes "notfound") then Some app.NotFound else if bytes_eq word (codes "wsecho") then Some app.WsEcho
-    else None
+    else if bytes_eq word (codes "mounts") then Some app.Mounts else if bytes_eq word (codes "life") then Some app.Life
+    else if bytes_eq word (codes "nostart") then Some app.NoStart else if bytes_eq word (codes "nostop") then Some app.NoStop else None
 
 is_named : (a : App) → named (word_of a) ≡ Some a
 is_named app.Hello = refl
 is_named app.Echo = refl
 is_named app.NotFound = refl
 is_named app.WsEcho = refl
+is_named app.Mounts = refl
+is_named app.Life = refl
+is_named app.NoStart = refl
+is_named app.NoStop = refl
 
 -- each word names one application
 pub one_name : (a b : App) → word_of a ≡ word_of b → a ≡ b

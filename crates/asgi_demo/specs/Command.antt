@@ -1,12 +1,16 @@
 -- What the program does with its words.
-use Rattle.std.specs.Prelude.{◌≡◌, ℕ, List, [], ◌∷◌, codes, Option, None}
-use Rattle.asgi_types.specs.declared.end_kind.EndKind.{EndKind}
-use Rattle.asgi_types.specs.declared.incoming.Incoming.{Incoming}
+use Rattle.std.specs.Prelude.{◌≡◌, ℕ, Bool, List, [], ◌∷◌, codes, None}
+use Rattle.asgi_io.specs.declared.counts.Counts as counts
+use Rattle.asgi_io.specs.declared.reads.Reads as reads
 use Rattle.asgi_types.specs.declared.limits.Limits.{Limits}
-use Rattle.asgi_types.specs.declared.outgoing.Outgoing.{Outgoing}
-use Rattle.asgi_types.specs.declared.scope.Scope.{Scope}
 use Rattle.asgi_types.specs.Ranges.{AreLimits}
-use Rattle.asgi_apps.specs.Answers.{Answers, not_found_answer}
+use Rattle.asgi_ws.specs.declared.messages.Messages as messages
+use Rattle.asgi_apps.specs.declared.life.Life.TheVariants.{Works, NoStart, NoStop}
+use Rattle.asgi_apps.specs.declared.mounting.Mount.{Mount}
+use Rattle.asgi_apps.specs.declared.root_path.RootPath.{RootPath}
+use Rattle.asgi_apps.specs.Answers.{Answers, not_found_answer, root_path_answer}
+use Rattle.asgi_apps.specs.Life.{LifeAnswers}
+use Rattle.asgi_apps.specs.Mounts.{MountsAnswer}
 use Rattle.asgi_apps.specs.Scopes.{kind_of}
 use Rattle.asgi_apps.specs.WsEcho.{WsEchoAnswers}
 use Rattle.asgi_conversation.specs.declared.report.Outcome.{Outcome}
@@ -15,13 +19,15 @@ use Rattle.asgi_conversation.specs.declared.report.Report.{Report}
 use Rattle.asgi_conversation.specs.Promised.{echo_promise, hello_promise}
 use Rattle.asgi_conn.specs.Lines.{LineState}
 use Rattle.asgi_conn.specs.Serving.{Serves}
+use Rattle.asgi_server.specs.Connections.{Promise}
 use Rattle.asgi_demo.specs.declared.words.App.{App}
 use Rattle.asgi_demo.specs.declared.words.App.TheVariants as app
+use Rattle.asgi_demo.specs.Serving.{Around, ServesOn}
 use Rattle.asgi_demo.specs.Telling.{Writer, Tells, TellsOf, device_fault, of_outcome}
 
--- what an application promises in a scope
-abbrev pub Promise : Type 1
-Promise = Scope → List Incoming → List Outgoing → Option EndKind → Type 0
+-- `RootPath` under two prefixes
+abbrev pub two_mounts : List (Mount RootPath)
+two_mounts = record { prefix = codes "/a"; app = root_path } ∷ record { prefix = codes "/a/b"; app = root_path } ∷ []
 
 -- the promise of the application that is named
 abbrev pub promise : App → Promise
@@ -29,6 +35,10 @@ promise app.Hello = hello_promise
 promise app.Echo = echo_promise
 promise app.NotFound = λ scope. Answers (not_found_answer scope)
 promise app.WsEcho = λ scope. WsEchoAnswers (kind_of scope)
+promise app.Mounts = λ scope. MountsAnswer (λ _ taken. Answers (root_path_answer taken)) two_mounts scope
+promise app.Life = LifeAnswers Works
+promise app.NoStart = LifeAnswers NoStart
+promise app.NoStop = LifeAnswers NoStop
 
 -- the exit status of `once`
 abbrev pub exit_status : Outcome → ℕ
@@ -67,3 +77,10 @@ pub record BeginsNone (old new : Streams) (status : ℕ) : Type 0 where
   pub line_is : new.line ≡ old.line
   pub tells : Tells device_fault old.errors new.errors
   pub status_is : status ≡ 5
+
+-- The connections of a port were served with the usual limits, by an application of this promise.
+pub record ServesPort {L : Type 0} (R : reads.Ghosts L) (W : counts.Ghosts L) (M : messages.Ghosts L) (answers : Promise) (has_failed : Bool)
+    (old new : Around L) (errors_old errors_new : Writer) (status : ℕ) : Type 0 where
+  pub limits : Limits
+  pub usual : AreLimits limits 16384 64 1048576 16384 16 30000 1099511627776
+  pub serves : ServesOn R W M answers limits has_failed old new errors_old errors_new status

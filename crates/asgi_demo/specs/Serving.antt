@@ -1,26 +1,31 @@
--- How the program serves the connections of a listener: the application is started, each connection is served, and the application
--- is stopped, whatever happened in between.
-use Rattle.std.specs.Prelude.{◌≡◌, ◌⊎◌, ℕ, Bool, true, false, List, [], Option}
+-- How the program serves the connections of a listener: the application is started, each connection is served and reported, and the
+-- application is stopped, whatever happened in between (ASGI lifespan protocol 2.0).
+use Rattle.std.specs.Prelude.{◌≡◌, ◌⊎◌, ◌&&◌, ◌++◌, ℕ, Bool, true, false, not, List, [], ◌∷◌, codes, Option, Some, None}
+use mathlib.Core.List.{IsPrefix}
 use Rattle.asgi_io.specs.declared.counts.Counts as counts
 use Rattle.asgi_io.specs.declared.reads.Reads as reads
 use Rattle.asgi_types.specs.declared.end_kind.EndKind.{EndKind}
 use Rattle.asgi_types.specs.declared.incoming.Incoming.{Incoming}
+use Rattle.asgi_types.specs.declared.incoming.Incoming.TheVariants.{LifespanStartup}
 use Rattle.asgi_types.specs.declared.limits.Limits.{Limits}
 use Rattle.asgi_types.specs.declared.outgoing.Outgoing.{Outgoing}
+use Rattle.asgi_types.specs.declared.scope.Kind.TheVariants as kind
 use Rattle.asgi_types.specs.declared.state.StateValue.{StateValue}
+use Rattle.asgi_protocol.specs.Lawful.{IsLawful}
 use Rattle.asgi_ws.specs.declared.messages.Messages as messages
-use Rattle.asgi_apps.specs.declared.task.AppTask as tasks
 use Rattle.asgi_conversation.specs.declared.report.Report.{Report}
-use Rattle.asgi_lifespan.specs.declared.lifespan.Start.{Start}
-use Rattle.asgi_lifespan.specs.declared.lifespan.Start.TheVariants as start
 use Rattle.asgi_lifespan.specs.declared.stop.Stop.{Stop}
 use Rattle.asgi_lifespan.specs.declared.stop.Stop.TheVariants as stop
-use Rattle.asgi_lifespan.specs.Facts.{lifespan_scope}
-use Rattle.asgi_lifespan.specs.Starting.{Starts, StandsFor, PromiseOf, IsNoMemory}
+use Rattle.asgi_lifespan.specs.Facts.{lifespan_scope, no_request}
+use Rattle.asgi_lifespan.specs.Lifespan.{StartAnswer, started, failed, unsupported, start_answer}
 use Rattle.asgi_lifespan.specs.Stopping.{Stops}
+use Rattle.asgi_lifespan.specs.Turning.{TakesTurns}
 use Rattle.asgi_server.specs.Connections.{Promise, Given, ServesAll}
 use Rattle.asgi_demo.specs.declared.ending.Ending.{Ending}
 use Rattle.asgi_demo.specs.declared.ending.Ending.TheVariants.{Done, StartupFailed, NoStartup, ShutdownFailed, NoShutdown, DeviceFault}
+use Rattle.asgi_demo.specs.Telling.{Writer, Tells, TellsOf, Puts, report_lines, device_fault}
+
+-- ---- how the server ended
 
 -- the exit status
 abbrev pub status_of : Ending → ℕ
@@ -30,6 +35,15 @@ status_of NoStartup = 3
 status_of (ShutdownFailed message) = 4
 status_of NoShutdown = 4
 status_of DeviceFault = 5
+
+-- what is told on standard error: nothing where all went well
+abbrev pub of_ending : Ending → Option (List ℕ)
+of_ending Done = None
+of_ending (StartupFailed message) = Some (codes "startup failed: " ++ message ++ codes "\n")
+of_ending NoStartup = Some (codes "startup failed: no answer\n")
+of_ending (ShutdownFailed message) = Some (codes "shutdown failed: " ++ message ++ codes "\n")
+of_ending NoShutdown = Some (codes "shutdown failed: no answer\n")
+of_ending DeviceFault = Some device_fault
 
 -- the end by how the application was stopped
 abbrev pub end_by_stop : Stop → Ending
@@ -42,35 +56,74 @@ abbrev pub ending_of : Bool → Stop → Ending
 ending_of true answer = end_by_stop answer
 ending_of false answer = DeviceFault
 
-module _ {L : Type 0} (R : reads.Ghosts L) (W : counts.Ghosts L) (M : messages.Ghosts L) (answers : Promise) (limits : Limits) where
-  -- All connections of the listener were served with this state; or nothing can run a task, and it was not asked.
-  abbrev pub ServesEach : List (List ℕ × StateValue) → List (Option (Given L)) → List (Option (Given L)) → ℕ → ℕ → Bool → Type 0
-  ServesEach state asked_old asked_new before after well =
-      ((returned : Option (List (ℕ × Report))) × ServesAll R W M answers limits state asked_old asked_new before after returned)
-      ⊎ ((asked_new ≡ asked_old) × (after ≡ before) × (well ≡ false))
+-- ---- the connections and their reports
 
-  -- What follows the answer to the start: where it failed, or there was none, the listener is not asked.
-  abbrev pub Follows : {T : Type 0} {g : tasks.Ghosts T} → Start T g → List (Option (Given L)) → List (Option (Given L)) → ℕ → ℕ → Ending → Type 0
-  Follows (start.Started life state) asked_old asked_new before after ending =
-      (well : Bool) × (between : ℕ) × (answer : Stop) × ServesEach state asked_old asked_new before between well
-      × ((heard : List Incoming) (said : List Outgoing) (ended : Option EndKind) → StandsFor limits life heard said ended
-      → Stops (PromiseOf life) limits heard said between after answer)
-      × (ending ≡ ending_of well answer)
-  Follows start.Unsupported asked_old asked_new before after ending =
-      (well : Bool) × ServesEach [] asked_old asked_new before after well × (ending ≡ ending_of well stop.Stopped)
-  Follows (start.Failed message) asked_old asked_new before after ending = (asked_new ≡ asked_old) × (ending ≡ StartupFailed message)
-  Follows (start.Idle turns) asked_old asked_new before after ending = (asked_new ≡ asked_old) × (ending ≡ NoStartup)
-  Follows start.NoMemory asked_old asked_new before after ending = (asked_new ≡ asked_old) × (ending ≡ DeviceFault)
+-- What is known of the listener and of standard output at one time: how each call for a connection was answered, and what was
+-- written.
+pub record Around (L : Type 0) : Type 0 where
+  pub asked : List (Option (Given L))
+  pub output : Writer
+
+abbrev pub around : {L : Type 0} → List (Option (Given L)) → Writer → Around L
+around asked output = record { asked = asked; output = output }
+
+-- The lines of the reports were written, all of them or as much as the writer took; nothing was where memory for them was refused.
+abbrev pub TellsReports : Option (List (ℕ × Report)) → Writer → Writer → Bool → Type 0
+TellsReports None old new told = (new ≡ old) × (told ≡ false)
+TellsReports (Some reports) old new told = Puts (report_lines reports) old new told
+
+module _ {L : Type 0} (R : reads.Ghosts L) (W : counts.Ghosts L) (M : messages.Ghosts L) (answers : Promise) (limits : Limits) (has_failed : Bool) where
+  -- All connections of the listener were served with this state, and their reports told; all went well where each line went out
+  -- and the listener has not failed.
+  pub record ServesEach (state : List (List ℕ × StateValue)) (old new : Around L) (before after : ℕ) (well : Bool) : Type 0 where
+    pub returned : Option (List (ℕ × Report))
+    pub serves : ServesAll R W M answers limits state old.asked new.asked before after returned
+    pub told : Bool
+    pub tells : TellsReports returned old.output new.output told
+    pub well_is : well ≡ (told && not has_failed)
+
+  -- or nothing can run a task, and the listener was not asked
+  abbrev pub ServesOrNot : List (List ℕ × StateValue) → Around L → Around L → ℕ → ℕ → Bool → Type 0
+  ServesOrNot state old new before after well =
+      ServesEach state old new before after well ⊎ ((new ≡ old) × (after ≡ before) × (well ≡ false))
+
+  -- ---- the life of the application
+
+  -- What follows the answer to "Startup", behind what was heard and said up to it: where the start failed, or there was no answer,
+  -- the listener is not asked.
+  abbrev pub Follows : Option StartAnswer → List Incoming → List Outgoing → Around L → Around L → ℕ → ℕ → Ending → Type 0
+  Follows (Some (started state)) heard said old new before after ending =
+      (well : Bool) × (between : ℕ) × (answer : Stop) × ServesOrNot state old new before between well
+      × Stops (answers lifespan_scope) limits heard said between after answer × (ending ≡ ending_of well answer)
+  Follows (Some unsupported) heard said old new before after ending =
+      (well : Bool) × ServesOrNot [] old new before after well × (ending ≡ ending_of well stop.Stopped)
+  Follows (Some (failed message)) heard said old new before after ending = (new ≡ old) × (after ≡ before) × (ending ≡ StartupFailed message)
+  Follows None heard said old new before after ending = (new ≡ old) × (after ≡ before) × (ending ≡ NoStartup)
 
   -- The application was started, and what followed is that of the answer.
-  pub record Lives {T : Type 0} (g : tasks.Ghosts T) (asked_old asked_new : List (Option (Given L))) (pauses_old pauses_new : ℕ) (ending : Ending) : Type 0 where
-    pub answer : Start T g
+  pub record Lives (old new : Around L) (before after : ℕ) (ending : Ending) : Type 0 where
+    -- It was offered "Startup", and all that it said by then is lawful, and as it promises.
+    pub heard : List Incoming
+    pub said : List Outgoing
+    pub ended : Option EndKind
+    pub hears : IsPrefix heard (LifespanStartup ∷ [])
+    pub lawful : IsLawful kind.Lifespan no_request said
+    pub promised : answers lifespan_scope heard said ended
+    -- the start took turns within the limits; it gave up behind so many, where it did
+    pub gave_up : Option ℕ
     pub between : ℕ
-    pub starts : IsNoMemory answer ⊎ Starts (answers lifespan_scope) limits pauses_old between answer
-    pub follows : Follows answer asked_old asked_new between pauses_new ending
+    pub turns : TakesTurns limits.turns limits.idle_turns before between gave_up
+    pub follows : Follows (start_answer said ended) heard said old new between after ending
 
-  -- The server ran to such an end, whose status is given; or nothing can run a task, and the listener was not asked.
-  abbrev pub ServesOn : {T : Type 0} → tasks.Ghosts T → List (Option (Given L)) → List (Option (Given L)) → ℕ → Type 0
-  ServesOn g asked_old asked_new status =
-      ((ending : Ending) × (pauses : ℕ) × Lives g asked_old asked_new 0 pauses ending × (status ≡ status_of ending))
-      ⊎ ((asked_new ≡ asked_old) × (status ≡ 5))
+  -- or memory for its start was refused, and the listener was not asked
+  abbrev pub LivesOrNot : Around L → Around L → ℕ → ℕ → Ending → Type 0
+  LivesOrNot old new before after ending = Lives old new before after ending ⊎ ((new ≡ old) × (ending ≡ DeviceFault))
+
+  -- ---- the program
+
+  -- The server ran to such an end, which was told; the status is that of it. Or nothing can run a task: this was told, and the
+  -- listener was not asked.
+  abbrev pub ServesOn : Around L → Around L → Writer → Writer → ℕ → Type 0
+  ServesOn old new errors_old errors_new status =
+      ((ending : Ending) × (pauses : ℕ) × LivesOrNot old new 0 pauses ending × TellsOf (of_ending ending) errors_old errors_new × (status ≡ status_of ending))
+      ⊎ ((new ≡ old) × Tells device_fault errors_old errors_new × (status ≡ 5))

@@ -1,10 +1,14 @@
--- What is told on standard error: which text for which case, and how much of it goes out.
-use Rattle.std.specs.Prelude.{◌≡◌, ℕ, List, ◌++◌, codes, Option, Some, None}
+-- What is told on standard error and standard output: which text for which case, and how much of it goes out.
+use Rattle.std.specs.Prelude.{◌≡◌, ℕ, Bool, true, false, List, ◌++◌, codes, Option, Some, None}
+use Rattle.std.specs.Fmt.{decimal}
+use Rattle.std.specs.List.{flat_map}
 use Rattle.asgi_io.specs.declared.answer.Answer.{Answer}
 use Rattle.asgi_io.specs.declared.write.Wrote.{Wrote}
+use Rattle.asgi_io.specs.declared.write.Wrote.TheVariants.{Done, Failed}
 use Rattle.asgi_io.specs.Writing.{WritesOut, TriesWrites, out_of}
 use Rattle.asgi_conversation.specs.declared.report.Outcome.{Outcome}
 use Rattle.asgi_conversation.specs.declared.report.Outcome.TheVariants.{Finished, Refused, InputBroke, WriteFailed, Idle, NoMemory}
+use Rattle.asgi_conversation.specs.declared.report.Report.{Report}
 use Rattle.asgi_conversation.specs.OutcomeWords.{outcome_words}
 
 -- the texts, each a line
@@ -26,6 +30,13 @@ of_outcome (WriteFailed n) = Some (stopped (WriteFailed n))
 of_outcome Idle = Some (stopped Idle)
 of_outcome NoMemory = Some (stopped NoMemory)
 
+-- the line of a report: the number of the connection, that of its exchanges, and the words of its outcome
+abbrev pub report_line : ℕ × Report → List ℕ
+report_line (number, report) = decimal number ++ codes " " ++ decimal report.exchanges ++ codes " " ++ outcome_words report.outcome ++ codes "\n"
+
+abbrev pub report_lines : List (ℕ × Report) → List ℕ
+report_lines reports = flat_map report_line reports
+
 -- what is known of a writer at one time: the bytes that it holds, how each write was answered, and how many failed
 pub record Writer : Type 0 where
   pub written : Option (List ℕ)
@@ -45,3 +56,15 @@ pub record Tells (text : List ℕ) (old new : Writer) : Type 0 where
 abbrev pub TellsOf : Option (List ℕ) → Writer → Writer → Type 0
 TellsOf None old new = new ≡ old
 TellsOf (Some text) old new = Tells text old new
+
+-- whether all of a text went out
+abbrev pub is_whole : Wrote → Bool
+is_whole Done = true
+is_whole (Failed n) = false
+
+-- A text was written, all of it or as much as the writer took; this is whether all of it was.
+pub record Puts (text : List ℕ) (old new : Writer) (whole : Bool) : Type 0 where
+  pub wrote : Wrote
+  pub writes : WritesOut old.written new.written old.failed new.failed text wrote
+  pub tries : TriesWrites old.writes new.writes (out_of text wrote) wrote
+  pub whole_is : whole ≡ is_whole wrote

@@ -13,6 +13,10 @@ word_of app.Hello = codes "hello"
 word_of app.Echo = codes "echo"
 word_of app.NotFound = codes "notfound"
 word_of app.WsEcho = codes "wsecho"
+word_of app.Mounts = codes "mounts"
+word_of app.Life = codes "life"
+word_of app.NoStart = codes "nostart"
+word_of app.NoStop = codes "nostop"
 
 -- a number in a word: 1 to 5 digits, which may begin with zeros
 abbrev pub number_of_word : List ℕ → Option ℕ
@@ -38,6 +42,10 @@ IsServeWith port count name (Serve p c named) = (number_in 1 65535 port ≡ Some
 -- the words are `serve` and these three
 abbrev pub IsServe : List (List ℕ) → Command → Type 0
 IsServe words command = (port count name : List ℕ) × (words ≡ codes "serve" ∷ port ∷ count ∷ name ∷ []) × IsServeWith port count name command
+
+-- the words ask to serve some connections of some port by this application
+abbrev pub IsServing : List (List ℕ) → App → Type 0
+IsServing words named = (port count : ℕ) × IsServe words (Serve port count named)
 
 -- the words ask for this
 abbrev pub Asks : List (List ℕ) → Command → Type 0

@@ -4,20 +4,23 @@ ghost use Rattle.std.specs.IoError.{error_kind};
 ghost use Rattle.std.specs.declared.io.ErrorKind.TheVariants.{OutOfMemory};
 ghost use Rattle.asgi_conn.specs.Lines.{state_of};
 ghost use Rattle.asgi_demo.specs.Command as spec;
-ghost use Rattle.asgi_demo.specs.Command.{ServesOnce, ServesWhole, BeginsNone, promise, streams};
+ghost use Rattle.asgi_demo.specs.Command.{ServesOnce, ServesWhole, ServesPort, BeginsNone, promise, streams};
+ghost use Rattle.asgi_demo.specs.Serving.{around};
 ghost use Rattle.asgi_demo.specs.Telling as telling;
 ghost use Rattle.asgi_demo.specs.Telling.{Tells, TellsOf, writer};
-ghost use Rattle.asgi_demo.specs.Words.{Asks, IsOnce};
+ghost use Rattle.asgi_demo.specs.Words.{Asks, IsOnce, IsServing};
 ghost use Rattle.asgi_demo.specs.declared.words.App.{App};
 ghost use Rattle.asgi_demo.specs.declared.words.Command.{Command};
 
+use crate::apps::mounts;
 use crate::listens::Listens;
 use crate::serve::serve_on;
+use crate::telling::{device_fault, tell};
 use crate::words::{App, Command, command_of};
 use arrayvec::ArrayString;
-use asgi_apps::{Application, Echo, Hello, NotFound, WsEcho};
+use asgi_apps::{Application, Echo, Hello, Life, NotFound, WsEcho};
 use asgi_conn::{CountingPause, Inline, Line, Outcome, Report, serve_connection};
-use asgi_io::{Counts, write_out};
+use asgi_io::Counts;
 use asgi_server::Accepts;
 use asgi_types::{Limits, State};
 use futures::task::{Doorbell, Solo};
@@ -27,8 +30,6 @@ use std::random::RandomSource;
 use std::time::Clock;
 
 const USAGE: &[u8] = b"usage: asgi_demo once APP | asgi_demo serve PORT COUNT APP\n";
-
-const DEVICE_FAULT: &[u8] = b"device fault\n";
 
 /// Runs the program on the words behind its name, and gives the exit status.
 ///
@@ -48,10 +49,16 @@ pub fn command<H: RandomSource + AllocGlobal + Clock, L: Line, N: Listens, W: Co
         let before = streams (state_of L.Reads L.Counts L.Messages.own line.old) (writer (E.written errors.old) (E.answers errors.old) (E.failed errors.old)) in
         let after = streams (state_of L.Reads L.Counts L.Messages.own line.new) (writer (E.written errors.new) (E.answers errors.new) (E.failed errors.new)) in
         (ServesOnce (promise app) before after result) ⊎ (BeginsNone before after result)) }
+    ensures serves_port { (app : App) → IsServing (map string_bytes words.now) app → ServesPort N.L.Reads N.L.Counts N.L.Messages.own (promise app) (N.has_failed listener.new)
+        (around (N.Listener.own.answers listener.old) (writer (W.written output.old) (W.answers output.old) (W.failed output.old)))
+        (around (N.Listener.own.answers listener.new) (writer (W.written output.new) (W.answers output.new) (W.failed output.new)))
+        (writer (E.written errors.old) (E.answers errors.old) (E.failed errors.old))
+        (writer (E.written errors.new) (E.answers errors.new) (E.failed errors.new)) result }
     ensures usage { ((asked : Command) → ¬ (Asks (map string_bytes words.now) asked)) → (result ≡ 2) × Tells telling.usage
         (writer (E.written errors.old) (E.answers errors.old) (E.failed errors.old))
         (writer (E.written errors.new) (E.answers errors.new) (E.failed errors.new)) }
     ensures kept { ((asked : Command) → ¬ (Asks (map string_bytes words.now) asked)) → (line.new ≡ line.old) × (listener.new ≡ listener.old) × (output.new ≡ output.old) }
+    ensures port { (app : App) → IsServing (map string_bytes words.now) app → line.new ≡ line.old }
     ensures once { (app : App) → IsOnce (map string_bytes words.now) app → (listener.new ≡ listener.old) × (output.new ≡ output.old) }
 {
     match command_of(words) {
@@ -80,6 +87,13 @@ fn once_by<H: RandomSource + AllocGlobal, L: Line, E: Counts>(
         App::Echo => once(rt, &Echo, line, errors),
         App::NotFound => once(rt, &NotFound, line, errors),
         App::WsEcho => once(rt, &WsEcho, line, errors),
+        App::Mounts => match mounts(rt.alloc()) {
+            Ok(app) => once(rt, &app, line, errors),
+            Err(_) => device_fault(errors),
+        },
+        App::Life => once(rt, &Life::Works, line, errors),
+        App::NoStart => once(rt, &Life::NoStart, line, errors),
+        App::NoStop => once(rt, &Life::NoStop, line, errors),
     }
 }
 
@@ -90,13 +104,26 @@ fn serve_by<H: RandomSource + AllocGlobal + Clock, N: Accepts, W: Counts, E: Cou
     listener: &mut N,
     output: &mut W,
     errors: &mut E,
-) -> u8 {
+) -> u8
+    ensures { ServesPort N.L.Reads N.L.Counts N.L.Messages.own (promise app) (N.has_failed listener.new)
+        (around (N.Listener.own.answers listener.old) (writer (W.written output.old) (W.answers output.old) (W.failed output.old)))
+        (around (N.Listener.own.answers listener.new) (writer (W.written output.new) (W.answers output.new) (W.failed output.new)))
+        (writer (E.written errors.old) (E.answers errors.old) (E.failed errors.old))
+        (writer (E.written errors.new) (E.answers errors.new) (E.failed errors.new)) result }
+{
     let limits = Limits::usual();
     match app {
         App::Hello => serve_on(rt, &limits, &Hello, listener, output, errors),
         App::Echo => serve_on(rt, &limits, &Echo, listener, output, errors),
         App::NotFound => serve_on(rt, &limits, &NotFound, listener, output, errors),
         App::WsEcho => serve_on(rt, &limits, &WsEcho, listener, output, errors),
+        App::Mounts => match mounts(rt.alloc()) {
+            Ok(app) => serve_on(rt, &limits, &app, listener, output, errors),
+            Err(_) => device_fault(errors),
+        },
+        App::Life => serve_on(rt, &limits, &Life::Works, listener, output, errors),
+        App::NoStart => serve_on(rt, &limits, &Life::NoStart, listener, output, errors),
+        App::NoStop => serve_on(rt, &limits, &Life::NoStop, listener, output, errors),
     }
 }
 
@@ -177,17 +204,6 @@ fn usage<E: Counts>(errors: &mut E) -> u8
     2
 }
 
-/// Tells that the system can't give what the program needs, and gives the status of that.
-fn device_fault<E: Counts>(errors: &mut E) -> u8
-    ensures status { result ≡ 5 }
-    ensures tells { Tells telling.device_fault
-        (writer (E.written errors.old) (E.answers errors.old) (E.failed errors.old))
-        (writer (E.written errors.new) (E.answers errors.new) (E.failed errors.new)) }
-{
-    tell(DEVICE_FAULT, errors);
-    5
-}
-
 /// Tells why a connection stopped, where it did, and gives the exit status of `once`.
 #[tactic(auto, using(crate::proofs::TellingLemmas::stopped_is_told, crate::proofs::TellingLemmas::nothing_is_told))]
 fn tell_end<E: Counts>(outcome: Outcome, errors: &mut E) -> u8
@@ -222,15 +238,6 @@ fn stopped(outcome: Outcome) -> ArrayString<64>
     text.push_str(outcome.words().as_str());
     text.push_str("\n");
     text
-}
-
-/// Writes a text, as far as the writer takes it: what can't be told does not change the status.
-fn tell<E: Counts>(text: &[u8], errors: &mut E)
-    ensures { Tells text.now
-        (writer (E.written errors.old) (E.answers errors.old) (E.failed errors.old))
-        (writer (E.written errors.new) (E.answers errors.new) (E.failed errors.new)) }
-{
-    let _ = write_out(errors, text);
 }
 
 #[cfg(test)]

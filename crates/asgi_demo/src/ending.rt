@@ -1,8 +1,10 @@
 //! How the server ended.
 ghost use Rattle.std.specs.Prelude.{◌≡◌};
-ghost use Rattle.asgi_demo.specs.Serving.{status_of};
+ghost use Rattle.asgi_demo.specs.Serving.{of_ending, status_of};
+ghost use Rattle.asgi_demo.specs.Telling.{TellsOf, writer};
 
-use asgi_io::{Counts, write_out};
+use crate::telling::{device_fault, tell_failure};
+use asgi_io::Counts;
 use asgi_types::Chars;
 
 const STARTUP: &[u8] = b"startup failed: ";
@@ -10,10 +12,6 @@ const STARTUP: &[u8] = b"startup failed: ";
 const SHUTDOWN: &[u8] = b"shutdown failed: ";
 
 const NO_ANSWER: &[u8] = b"no answer";
-
-const LINE_FEED: &[u8] = b"\n";
-
-const DEVICE_FAULT: &[u8] = b"device fault\n";
 
 /// How the server ended.
 #[derive(Drop)]
@@ -35,7 +33,10 @@ pub enum Ending {
 impl Ending {
     /// Tells what went wrong, where something did, and gives the exit status.
     pub fn tell<E: Counts>(self, errors: &mut E) -> u8
-        ensures { result ≡ status_of self }
+        ensures status { result ≡ status_of self }
+        ensures tells { TellsOf (of_ending self)
+            (writer (E.written errors.old) (E.answers errors.old) (E.failed errors.old))
+            (writer (E.written errors.new) (E.answers errors.new) (E.failed errors.new)) }
     {
         match self {
             Ending::Done => 0,
@@ -55,22 +56,7 @@ impl Ending {
                 tell_failure(SHUTDOWN, NO_ANSWER, errors);
                 4
             }
-            Ending::DeviceFault => {
-                tell(DEVICE_FAULT, errors);
-                5
-            }
+            Ending::DeviceFault => device_fault(errors),
         }
     }
-}
-
-/// Tells what failed, and why.
-fn tell_failure<E: Counts>(what: &[u8], why: &[u8], errors: &mut E) {
-    tell(what, errors);
-    tell(why, errors);
-    tell(LINE_FEED, errors);
-}
-
-/// Writes a text, as far as the writer takes it: what can't be told does not change the status.
-fn tell<E: Counts>(text: &[u8], errors: &mut E) {
-    let _ = write_out(errors, text);
 }

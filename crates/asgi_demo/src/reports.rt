@@ -1,16 +1,22 @@
 //! The lines that tell how connections ended.
-ghost use Rattle.std.specs.Prelude.{◌≡◌, ◌++◌, ◌∷◌};
+ghost use Rattle.std.specs.Prelude.{◌≡◌};
+ghost use Rattle.asgi_demo.specs.Telling.{Puts, report_line, report_lines, writer};
 
+use crate::telling::put;
 use arrayvec::ArrayString;
 use asgi_conn::Report;
-use asgi_io::{Counts, Wrote, write_out};
+use asgi_io::Counts;
 use itoa::Buffer;
 
 /// Writes a line for each report: the number of the connection, that of its exchanges, and the words of
 /// its outcome. It says whether all of them were written.
-pub fn print<W: Counts>(reports: &[(u64, Report)], output: &mut W) -> bool {
+pub fn print<W: Counts>(reports: &[(u64, Report)], output: &mut W) -> bool
+    ensures { Puts (report_lines reports.now)
+        (writer (W.written output.old) (W.answers output.old) (W.failed output.old))
+        (writer (W.written output.new) (W.answers output.new) (W.failed output.new)) result }
+{
     for (number, report) in reports {
-        if write_out(output, line_of(*number, report).as_bytes()) != Wrote::Done {
+        if !put(line_of(*number, report).as_bytes(), output) {
             return false;
         }
     }
@@ -18,7 +24,9 @@ pub fn print<W: Counts>(reports: &[(u64, Report)], output: &mut W) -> bool {
 }
 
 /// The line of a report.
-fn line_of(number: u64, report: &Report) -> ArrayString<96> {
+fn line_of(number: u64, report: &Report) -> ArrayString<96>
+    ensures { result.bytes ≡ report_line (number, report.now) }
+{
     let mut line = ArrayString::new();
     let mut digits = Buffer::new();
     line.push_str(digits.format(number));

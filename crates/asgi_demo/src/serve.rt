@@ -1,10 +1,12 @@
 //! The server: its lifespan, its connections, and how it ended.
 ghost use Rattle.std.specs.Prelude.{◌≡◌};
-ghost use Rattle.asgi_demo.specs.Serving.{Lives, ServesOn, ServesEach, ending_of};
+ghost use Rattle.asgi_demo.specs.Serving.{LivesOrNot, ServesOn, ServesOrNot, around, ending_of};
+ghost use Rattle.asgi_demo.specs.Telling.{writer};
 ghost use Rattle.asgi_types.specs.declared.limits.Limits.{Limits};
 
 use crate::ending::Ending;
 use crate::reports::print;
+use crate::telling::device_fault;
 use crate::waiting::Waiting;
 use asgi_apps::Application;
 use asgi_conn::Inline;
@@ -27,10 +29,14 @@ pub fn serve_on<
     W: Counts,
     E: Counts,
 >(rt: &H, limits: &Limits, app: &A, listener: &mut N, output: &mut W, errors: &mut E) -> u8
-    ensures { ServesOn N.L.Reads N.L.Counts N.L.Messages.own (A.answers app.now) limits.now A.Task.AppTask (N.Listener.own.answers listener.old) (N.Listener.own.answers listener.new) result }
+    ensures { ServesOn N.L.Reads N.L.Counts N.L.Messages.own (A.answers app.now) limits.now (N.has_failed listener.new)
+        (around (N.Listener.own.answers listener.old) (writer (W.written output.old) (W.answers output.old) (W.failed output.old)))
+        (around (N.Listener.own.answers listener.new) (writer (W.written output.new) (W.answers output.new) (W.failed output.new)))
+        (writer (E.written errors.old) (E.answers errors.old) (E.failed errors.old))
+        (writer (E.written errors.new) (E.answers errors.new) (E.failed errors.new)) result }
 {
     let Ok(solo) = Solo::new(rt, Doorbell::spinning()) else {
-        return Ending::DeviceFault.tell(errors);
+        return device_fault(errors);
     };
     let mut pause = Waiting::new(rt);
     let mut cx = solo.begin();
@@ -49,7 +55,9 @@ fn live<H: RandomSource + AllocGlobal, A: Application, N: Accepts, P: Pause, W: 
     pause: &mut P,
     output: &mut W,
 ) -> Ending
-    ensures { Lives N.L.Reads N.L.Counts N.L.Messages.own (A.answers app.now) limits.now A.Task.AppTask (N.Listener.own.answers listener.old) (N.Listener.own.answers listener.new)
+    ensures { LivesOrNot N.L.Reads N.L.Counts N.L.Messages.own (A.answers app.now) limits.now (N.has_failed listener.new)
+        (around (N.Listener.own.answers listener.old) (writer (W.written output.old) (W.answers output.old) (W.failed output.old)))
+        (around (N.Listener.own.answers listener.new) (writer (W.written output.new) (W.answers output.new) (W.failed output.new)))
         (P.count pause.old) (P.count pause.new) result }
 {
     match Lifespan::start(rt.alloc(), app, limits, cx, pause) {
@@ -63,7 +71,7 @@ fn live<H: RandomSource + AllocGlobal, A: Application, N: Accepts, P: Pause, W: 
             ending_of(served, Stop::Stopped)
         }
         Start::Failed(message) => Ending::StartupFailed(message),
-        Start::Idle(_) => Ending::NoStartup,
+        Start::Idle(_turns) => Ending::NoStartup,
         Start::NoMemory => Ending::DeviceFault,
     }
 }
@@ -78,7 +86,9 @@ fn serve<H: RandomSource + AllocGlobal, A: Application, N: Accepts, P: Pause, W:
     pause: &mut P,
     output: &mut W,
 ) -> bool
-    ensures { ServesEach N.L.Reads N.L.Counts N.L.Messages.own (A.answers app.now) limits.now state.now (N.Listener.own.answers listener.old) (N.Listener.own.answers listener.new)
+    ensures { ServesOrNot N.L.Reads N.L.Counts N.L.Messages.own (A.answers app.now) limits.now (N.has_failed listener.new) state.now
+        (around (N.Listener.own.answers listener.old) (writer (W.written output.old) (W.answers output.old) (W.failed output.old)))
+        (around (N.Listener.own.answers listener.new) (writer (W.written output.new) (W.answers output.new) (W.failed output.new)))
         (P.count pause.old) (P.count pause.new) result }
 {
     let Ok(solo) = Solo::new(rt, Doorbell::spinning()) else {
@@ -106,3 +116,6 @@ fn ending_of(served: bool, stop: Stop) -> Ending
         Stop::Idle(_) => Ending::NoShutdown,
     }
 }
+
+#[cfg(test)]
+mod tests;

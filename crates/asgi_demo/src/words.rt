@@ -12,6 +12,11 @@ pub enum App {
     Echo,
     NotFound,
     WsEcho,
+    /// `RootPath` under `/a` and under `/a/b`.
+    Mounts,
+    Life,
+    NoStart,
+    NoStop,
 }
 
 /// What the program is asked to do.
@@ -108,6 +113,18 @@ fn app_named(name: &str) -> Option<App>
     }
     if name == "wsecho" {
         return Some(App::WsEcho);
+    }
+    if name == "mounts" {
+        return Some(App::Mounts);
+    }
+    if name == "life" {
+        return Some(App::Life);
+    }
+    if name == "nostart" {
+        return Some(App::NoStart);
+    }
+    if name == "nostop" {
+        return Some(App::NoStop);
     }
     None
 }

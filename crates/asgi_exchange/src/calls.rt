@@ -21,7 +21,8 @@ use asgi_types::{Facts, Incoming, Kind, Outgoing};
 use futures::task::{Context, Poll};
 use std::alloc::{AllocError, Global};
 
-/// Makes the ends of an exchange. Both halves begin with the empty view.
+/// Makes the ends of an exchange, with `ring` event places each way. Both halves begin with the
+/// empty view. `AllocError` where memory is refused.
 pub fn make<A, W, P: Pipes>(
     pipes: &P,
     alloc: Global,
@@ -41,7 +42,7 @@ pub fn make<A, W, P: Pipes>(
 }
 
 /// Offers the event that is due next. The view takes the step of an offer, which finds a place or
-/// not as the answer says.
+/// not as the answer says: the event comes back where none is free, or after the disconnect.
 pub fn offer<A, W, C: ConnEnd>(conn: &mut C, event: Incoming) -> Result<(), Incoming>
     ensures step { (x : Exchange A W) (view : ConnView A W) → IsViewOf C.ConnEnd conn.old view → step.next_of (x.due view.arrived) view.offered ≡ Some event
         → IsViewOf C.ConnEnd conn.new (step.offer x view (is_ok result)) }
@@ -55,7 +56,7 @@ pub fn offer<A, W, C: ConnEnd>(conn: &mut C, event: Incoming) -> Result<(), Inco
 }
 
 /// Offers the disconnect of a break, which is due where there was none before. The view takes the
-/// step of that break.
+/// step of that break. The answer is true the first time; after that nothing changes.
 pub fn offer_disconnect<A, W, C: ConnEnd>(conn: &mut C, event: Incoming) -> bool
     ensures step { (x : Exchange A W) (view : ConnView A W) (cause : Break) → IsViewOf C.ConnEnd conn.old view → (C.is_broken conn.old ≡ false → IsDueTo x view cause event)
         → IsViewOf C.ConnEnd conn.new (step.break_off x view cause) }
@@ -70,7 +71,8 @@ pub fn offer_disconnect<A, W, C: ConnEnd>(conn: &mut C, event: Incoming) -> bool
     conn.offer_disconnect(event)
 }
 
-/// Takes the oldest item, before the end was taken. The view takes the step of that item, or none.
+/// Takes the oldest item, before the end was taken. The view takes the step of that item, or none
+/// where the answer is `None`.
 pub fn take<A, W, C: ConnEnd>(conn: &mut C) -> Option<OutItem>
     ensures step { (view : ConnView A W) → IsViewOf C.ConnEnd conn.old view → end_of view.got ≡ None → IsViewOf C.ConnEnd conn.new (step.take_next view result) }
     ensures some { IfSome result (λ item. (C.got conn.new ≡ C.got conn.old ++ item ∷ []) × IsPrefix (C.seen conn.old) (item ∷ C.seen conn.new)) }
@@ -82,7 +84,8 @@ pub fn take<A, W, C: ConnEnd>(conn: &mut C) -> Option<OutItem>
     conn.take()
 }
 
-/// The next event for the application. Its view takes the step of hearing it, or none.
+/// The next event for the application, or pending where there is none. Its view takes the step of
+/// hearing it, or none.
 pub fn poll_receive<A, W, E: AppEnd>(app: &mut E, cx: &mut Context<'_>) -> Poll<Incoming>
     ensures step { (x : Exchange A W) → IsExchangeOf E.AppEnd app.old x → view_of E.AppEnd app.new ≡ step.hear x (view_of E.AppEnd app.old) (event_in result) }
     ensures ready { IfReady result (λ event. E.heard app.new ≡ E.heard app.old ++ event ∷ []) }
@@ -101,7 +104,8 @@ pub fn poll_receive<A, W, E: AppEnd>(app: &mut E, cx: &mut Context<'_>) -> Poll<
     app.poll_receive(cx)
 }
 
-/// Says an event, before the end. The view takes the step of saying it, or none.
+/// Says an event, before the end; the answer is that of `AppEnd::poll_send`. The view takes the
+/// step of saying it, or none.
 pub fn poll_send<A, W, E: AppEnd>(app: &mut E, cx: &mut Context<'_>, event: Outgoing) -> Sent
     requires { E.ended app.old ≡ None }
     ensures step { (x : Exchange A W) → IsExchangeOf E.AppEnd app.old x → view_of E.AppEnd app.new ≡ step.say x (view_of E.AppEnd app.old) event (finds_place result) }
@@ -119,7 +123,8 @@ pub fn poll_send<A, W, E: AppEnd>(app: &mut E, cx: &mut Context<'_>, event: Outg
     app.poll_send(cx, event)
 }
 
-/// Ends the task. The view takes the step of that end, which changes nothing behind another one.
+/// Ends the task. The view takes the step of that end, which changes nothing behind another one:
+/// the answer is true the first time.
 pub fn finish<E: AppEnd>(app: &mut E, end: EndKind) -> bool
     ensures step { view_of E.AppEnd app.new ≡ step.finish (view_of E.AppEnd app.old) end }
     ensures first { result ≡ is_none (E.ended app.old) }

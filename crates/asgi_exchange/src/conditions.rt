@@ -15,8 +15,9 @@ ghost use Rattle.asgi_ws.specs.declared.messages.Msg.TheVariants.{Text, Close};
 ghost use Rattle.asgi_exchange.specs.Schedules.{run, Arrive, Offer, BreakOff, Take, Hear, Say, End, conn_run, Takes, Writes};
 ghost use Rattle.asgi_exchange.specs.Views.{ByInput, ByCut, empty_world, empty_conn};
 
-/// What a break by the input rests on: it stands behind all that is due, nothing more is due behind it, and no other break
-/// follows. Else the disconnect that was heard is not the one that its cause gives.
+/// What a break by the input rests on: it stands behind all that is due, nothing more is due behind
+/// it, and no other break follows. Else the disconnect that was heard is not the one that its cause
+/// gives.
 pub fn breaks_are_last()
     ensures behind_all_that_is_due { (let x = http usual_limits (facts_with (Length 2)) in
         ¬ (IsExchange x (run x (Hear ∷ []) (with_conn (run x (Arrive (codes "ab") ∷ []) empty_world) (λ conn. break_early x conn))))) }
@@ -28,8 +29,8 @@ pub fn breaks_are_last()
         (offer_ever bare_session (let w = run bare_session (Arrive (Text (codes "late") ∷ []) ∷ BreakOff ByCut ∷ []) empty_world in w.conn) true)) }
 {}
 
-/// What the end of a task rests on: nothing is said and nothing is taken behind it. Else not all that was said was taken, or
-/// what was written is no beginning of what is to be written.
+/// What the end of a task rests on: nothing is said and nothing is taken behind it. Else not all
+/// that was said was taken, or what was written is no beginning of what is to be written.
 pub fn ends_are_last()
     ensures nothing_said_behind { (let x = http usual_limits (facts_with (Length 0)) in
         ¬ (IsExchange x (run x (Take ∷ []) (with_app (run x (End Returned ∷ []) empty_world) (λ app. say_ever x app hello_start true))))) }
@@ -37,8 +38,8 @@ pub fn ends_are_last()
         (take_ever (conn_run bare_session (Takes (Some (Event accept)) ∷ Takes (Some (Ended Returned)) ∷ Writes 1 ∷ []) empty_conn) (Some (Event (WsSend (payload.Text (codes "late"))))))) }
 {}
 
-/// What is said passes the judge, which knows of a heard disconnect. Else what was said is not lawful, or one disconnect is
-/// heard behind another.
+/// What is said passes the judge, which knows of a heard disconnect. Else what was said is not
+/// lawful, or one disconnect is heard behind another.
 pub fn events_are_judged()
     ensures each_passes { (let x = http usual_limits (facts_with (Length 0)) in
         ¬ (IsExchange x (with_app empty_world (λ app. say_unjudged app hello_body true)))) }

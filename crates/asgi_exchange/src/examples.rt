@@ -14,14 +14,15 @@ ghost use Rattle.asgi_exchange.specs.Session as session;
 ghost use Rattle.asgi_exchange.specs.Views.{empty_world};
 ghost use Rattle.asgi_exchange.specs.WebSocket.{web_socket};
 
-/// A body that is broken off, and one that grows too large inside a chunk: a disconnect is heard, and nothing of the body.
+/// A body that is broken off, and one that grows too large inside a chunk: a disconnect is heard,
+/// and nothing of the body (ASGI HTTP and WebSocket message format 2.4, "Disconnect").
 pub fn bodies_that_fail()
     ensures broken_off { Shows (run (http usual_limits (facts_with (Length 10))) body_broken_off empty_world) (HttpDisconnect ∷ []) (echo_start ∷ []) (echo_start ∷ []) [] }
     ensures too_large { Shows (run (http limits_of_4_bytes (facts_with Chunked)) chunk_too_large empty_world) (HttpDisconnect ∷ []) (echo_start ∷ []) (echo_start ∷ [])
         (codes "HTTP/1.1 413 Content Too Large\r\ncontent-length: 0\r\nconnection: close\r\n\r\n") }
 {}
 
-/// Chunks come back in blocks of their own, however they arrive.
+/// Chunks come back in blocks of their own, however they arrive (RFC 9112, section 7.1).
 pub fn chunks_come_back()
     ensures whole { ShowsChunks (run (http limits_of_blocks (facts_with Chunked)) (chunks_arrive (Arrive chunked_bytes ∷ [])) empty_world) }
     ensures byte_by_byte { ShowsChunks (run (http limits_of_blocks (facts_with Chunked)) (chunks_arrive (map (λ byte. Arrive (byte ∷ [])) chunked_bytes)) empty_world) }
@@ -44,8 +45,9 @@ pub fn tasks_that_fault()
         (codes "HTTP/1.1 200 OK\r\ntransfer-encoding: chunked\r\n\r\n1\r\nx\r\n") }
 {}
 
-/// A close of the client is heard with its code, or as 1005 where it has none, once more at each receive; an end without a
-/// close is 1006. What is said behind it is refused, and the server adds no close.
+/// A close of the client is heard with its code, or as 1005 where it has none, once more at each
+/// receive; an end without a close is 1006 (RFC 6455, section 7.4.1). What is said behind it is
+/// refused, and the server adds no close.
 pub fn clients_that_close()
     ensures with_code { Shows (run (web_socket answer_handshake session_facts 16) (client_closes (Some (1000, []))) empty_world)
         (WsConnect ∷ WsDisconnect 1000 [] ∷ WsDisconnect 1000 [] ∷ []) (accept ∷ []) (accept ∷ []) (map session.Byte session_answer) }
@@ -57,7 +59,9 @@ pub fn clients_that_close()
         (map session.Byte session_answer ++ session.Message (handed.Payload (payload.Text (codes "Hello"))) ∷ []) }
 {}
 
-/// An open session is closed by the application, or by the server where its task ended, but not where it was given up.
+/// An open session is closed by the application, or by the server where its task ended, but not
+/// where it was given up. The server's code is 1000 where the task returned, and 1011 where it
+/// faulted (RFC 6455, section 7.4.1).
 pub fn servers_that_close()
     ensures said { Shows (run (web_socket answer_handshake session_facts 16) server_closes empty_world)
         (WsConnect ∷ WsDisconnect 1000 [] ∷ []) (accept ∷ WsClose 1000 (codes "bye") ∷ []) (accept ∷ WsClose 1000 (codes "bye") ∷ [])
@@ -70,7 +74,8 @@ pub fn servers_that_close()
         (WsConnect ∷ []) (accept ∷ []) (accept ∷ []) (map session.Byte session_answer) }
 {}
 
-/// A session that is refused, one that is denied by a response, and tasks that fault inside the response or before it.
+/// A session that is refused, one that is denied by a response, and tasks that fault inside the
+/// response or before it: these leave 403, the response, what was begun of it, and 500.
 pub fn sessions_that_never_open()
     ensures refused { Shows (run (web_socket answer_handshake session_facts 16) session_refused empty_world) [] (WsClose 1000 [] ∷ []) (WsClose 1000 [] ∷ [])
         (map session.Byte (codes "HTTP/1.1 403 Forbidden\r\ncontent-length: 0\r\nconnection: close\r\n\r\n")) }

@@ -17,8 +17,9 @@ ghost use Rattle.asgi_exchange.specs.WebSocket.{web_socket};
 
 use asgi_pipes::{Met, Pipes};
 
-/// Brings the ends of one exchange together. What the connection's half kept and what the ends say of their lists make an
-/// exchange, with no step of the application's half.
+/// Brings the ends of one exchange together, and counts what was left between them: it is never
+/// `None`. What the connection's half kept and what the ends say of their lists make an exchange,
+/// with no step of the application's half.
 pub fn join<P: Pipes>(conn: &P::Conn, app: &P::App) -> Option<Met>
     requires { P.is_pair conn.now app.now }
     ensures met { IsSome result }

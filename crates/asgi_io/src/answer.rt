@@ -9,7 +9,7 @@ use std::io::{self, ErrorKind};
 /// How a reader or a writer answered one call.
 #[derive(Clone, Copy, Debug, PartialEq, Eq)]
 pub enum Answer {
-    /// So many bytes were moved.
+    /// So many bytes were moved; 0 where the call had none to move.
     Moved(usize),
     /// None were, where some could be: the end of what is read, or a writer that takes nothing.
     Nothing,
@@ -20,7 +20,8 @@ pub enum Answer {
 }
 
 impl Answer {
-    /// What a turn that made one such call did.
+    /// What a turn that made one such call did: a fault that passes is idle, and behind `Nothing`
+    /// and `Failed` nothing will move any more.
     pub fn turn(self) -> Turn
         ensures { result ≡ turn_of self }
     {
@@ -33,7 +34,7 @@ impl Answer {
     }
 }
 
-/// The answer to a call with so many bytes to move.
+/// The answer to a call with so many bytes to move: the length of its buffer or of what it writes.
 pub fn answer_of(answered: &io::Result<usize>, room: usize) -> Answer
     ensures { result ≡ answer_of room answered.now }
 {
@@ -53,7 +54,8 @@ pub fn answer_of(answered: &io::Result<usize>, room: usize) -> Answer
     }
 }
 
-/// Whether the fault passes, so that the call may be tried again: an interruption, or a call that would block.
+/// Whether the fault passes, so that the call may be tried again: an interruption, or a call that
+/// would block.
 pub fn is_passing(e: &io::Error) -> bool
     ensures { result ≡ passes (error_kind e.now) }
 {

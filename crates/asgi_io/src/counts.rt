@@ -26,7 +26,8 @@ pub trait Counts {
 
     ghost beside: { Self → Beside };
 
-    /// Writes some of the bytes, and answers how many. A failure is an error, or that none of some bytes were taken.
+    /// Writes some of the bytes, from the first on, and answers how many. A failure is an error,
+    /// also one that passes, or that none of some bytes were taken.
     fn write_some(&mut self, bytes: &[u8]) -> io::Result<usize>
         ensures bound { WritesAtMost result bytes.now }
         ensures bytes { WriteAppends (written self.old) (written self.new) result bytes.now }
@@ -34,7 +35,7 @@ pub trait Counts {
         ensures told { answers self.new ≡ answers self.old ++ answer_of (length bytes.now) result ∷ [] }
         ensures beside { beside self.new ≡ beside self.old };
 
-    /// The count of failures.
+    /// How many writes failed.
     fn failures(&self) -> u64
         ensures { result ≡ failed self.now };
 }

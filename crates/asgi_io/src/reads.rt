@@ -23,14 +23,16 @@ pub trait Reads {
 
     ghost beside: { Self → Beside };
 
-    /// Reads some bytes, and answers how many: none at the end.
+    /// Reads some bytes to the front of the buffer, and answers how many: none at the end, or where
+    /// the buffer is empty.
     fn read_some(&mut self, buf: &mut [u8]) -> io::Result<usize>
         ensures bound { ReadsAtMost result buf.new }
         ensures bytes { ReadConsumes (remaining self.old) (remaining self.new) result buf.new }
         ensures told { answers self.new ≡ answers self.old ++ answer_of (length buf.new) result ∷ [] }
         ensures beside { beside self.new ≡ beside self.old };
 
-    /// How often a read failed with a fault that does not pass. The count stops at the greatest `u64`.
+    /// How often a read failed with a fault that does not pass. The count stops at the greatest
+    /// `u64`.
     fn faults(&self) -> u64
         ensures { result ≡ counted (failed_in (answers self.now)) };
 }

@@ -17,9 +17,13 @@ pub enum Turn {
 /// How many turns a loop took, how many of the last ones in a row were idle, and their limits.
 #[derive(Clone, Copy, Debug, PartialEq, Eq)]
 pub struct Turns {
+    /// Turns that were taken.
     pub turns: u64,
+    /// Idle turns in a row at the end.
     pub idle: u32,
+    /// Turns that may be taken.
     pub turn_limit: u64,
+    /// Idle turns in a row that may be taken.
     pub idle_limit: u32,
     pub ghost in_turns: { turns ≤ turn_limit },
     pub ghost in_idle: { idle ≤ idle_limit },
@@ -29,7 +33,7 @@ impl Turns {
     ghost use Rattle.asgi_io.specs.declared.turns.Turn.{Turn};
     ghost use Rattle.asgi_io.specs.Turns.{CountsTurns};
 
-    /// No turn was taken yet.
+    /// No turn was taken yet. The limits are of all turns and of idle ones in a row.
     pub fn new(turn_limit: u64, idle_limit: u32) -> Self
         ensures none { (pauses : ℕ) → CountsTurns turn_limit idle_limit [] pauses pauses result.turns result.idle }
         ensures turn_limit { result.turn_limit ≡ turn_limit }
@@ -43,14 +47,15 @@ impl Turns {
         }
     }
 
-    /// Whether a limit is reached.
+    /// Whether the turns, or the idle ones in a row, have reached their limit.
     pub fn is_over(&self) -> bool
         ensures { IsTrue result ↔ ((self.now.turns ≡ self.now.turn_limit) ⊎ (self.now.idle ≡ self.now.idle_limit)) }
     {
         self.turns == self.turn_limit || self.idle == self.idle_limit
     }
 
-    /// Counts a turn, and makes a pause where it was idle.
+    /// Counts a turn, where no limit is reached yet, and makes a pause where it was idle. A turn
+    /// that moved something ends the row of idle ones, the last turn does not.
     pub fn take<P: Pause>(&mut self, turn: Turn, pause: &mut P)
         requires turns { self.old.turns < self.old.turn_limit }
         requires idle { self.old.idle < self.old.idle_limit }

@@ -15,11 +15,12 @@ const RETRIES: u32 = 1_000;
 pub enum Wrote {
     /// All of the text went out.
     Done,
-    /// This many bytes of the text went out.
+    /// A write failed behind this many bytes of the text, and not all went out.
     Failed(usize),
 }
 
-/// Writes the text, each part behind the one before, and says how much of it went out where a write failed.
+/// Writes the text, each part behind the one before, and says how much of it went out where a write
+/// failed: at a fault that does not pass, or where none of the bytes were taken.
 ///
 /// A write that is interrupted or would block is tried again, at most 1,000 times in a row.
 pub fn write_out<W: Counts>(writer: &mut W, text: &[u8]) -> Wrote

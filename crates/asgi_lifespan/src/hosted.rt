@@ -19,8 +19,11 @@ use futures::task::{Context, Poll};
 /// A lifespan task, and both of its ends.
 #[derive(Drop)]
 pub struct Hosted<T> {
+    /// The task.
     pub task: T,
+    /// Its own end of the pair.
     pub app_end: PlainApp,
+    /// The server's end of the pair.
     pub conn: PlainConn,
     /// How the task ended; None while it runs.
     pub ended: Option<EndKind>,
@@ -83,7 +86,8 @@ impl<T: AppTask> Hosted<T> {
         Plain::carry(&mut self.conn, &mut self.app_end);
     }
 
-    /// Takes turns until the task says something or has ended, or a limit is reached.
+    /// Takes turns until the task says something or has ended, or `turns` turns or `idle_turns`
+    /// idle ones in a row were taken. Behind each idle turn it pauses.
     pub fn run<P: Pause>(
         &mut self,
         cx: &mut Context<'_>,

@@ -21,7 +21,8 @@ use asgi_types::{
 use futures::task::Context;
 use std::alloc::{AllocError, Global};
 
-/// An application that was started and not yet stopped. Its task is polled by `start` and `stop` alone.
+/// An application that was started and not yet stopped. Its task is polled by `start` and `stop`
+/// alone.
 #[derive(Drop)]
 pub struct Lifespan<T: AppTask> {
     hosted: Hosted<T>,
@@ -31,12 +32,13 @@ pub struct Lifespan<T: AppTask> {
     ghost kept: { ∥ IsStarted T.stands hosted ∥₁ },
 }
 
-/// How the start of an application was answered (ASGI lifespan protocol 2.0, "Startup Complete" and "Startup Failed").
+/// How the start of an application was answered (ASGI lifespan protocol 2.0, "Startup Complete" and
+/// "Startup Failed").
 #[derive(Drop)]
 pub enum Start<T: AppTask> {
-    /// It started, with the state of which each later scope gets a copy.
+    /// It started, with the state of which each later scope gets a copy ("Lifespan State").
     Started(Lifespan<T>, State),
-    /// It has no lifespan scope: its call faulted, or its task ended before it answered.
+    /// It has no lifespan scope: its call faulted, or its task ended before it answered ("Scope").
     Unsupported,
     /// It failed, with this message.
     Failed(Chars),
@@ -50,8 +52,9 @@ impl<T: AppTask> Lifespan<T> {
     ghost use Rattle.asgi_lifespan.specs.Starting.{Starts, StandsFor, PromiseOf, IsNoMemory, IfStarted, IsAnswer, turns_in};
     ghost use Rattle.asgi_lifespan.specs.Stopping.{Stops};
 
-    /// Starts an application: it is called, offered "Startup", and polled until it answers, within the limits on turns.
-    /// The two ends take memory, and so may the application; nothing else does.
+    /// Starts an application: it is called, offered "Startup", and polled until it answers, within
+    /// the limits on turns (ASGI lifespan protocol 2.0, "Startup"). The two ends take memory, and
+    /// so may the application; nothing else does.
     pub fn start<A: Application<Task = T>, P: Pause>(
         alloc: Global,
         app: &A,
@@ -93,8 +96,9 @@ impl<T: AppTask> Lifespan<T> {
         }
     }
 
-    /// Stops the application: it is offered "Shutdown", and polled until it answers, within the limits of its start,
-    /// which are counted anew. It takes no memory.
+    /// Stops the application: it is offered "Shutdown", and polled until it answers, within the
+    /// limits of its start, which are counted anew (ASGI lifespan protocol 2.0, "Shutdown"). It
+    /// takes no memory.
     pub fn stop<P: Pause>(self, cx: &mut Context<'_>, pause: &mut P) -> Stop
         ensures stops { (limits : _) (heard : _) (said : _) (ended : _) → StandsFor limits self heard said ended
             → Stops (PromiseOf self) limits heard said (P.count pause.old) (P.count pause.new) result }

@@ -1,7 +1,8 @@
 //! How the stop of an application was answered.
 use asgi_types::Chars;
 
-/// How the stop of an application was answered (ASGI lifespan protocol 2.0, "Shutdown Complete" and "Shutdown Failed").
+/// How the stop of an application was answered (ASGI lifespan protocol 2.0, "Shutdown Complete" and
+/// "Shutdown Failed").
 #[derive(Debug, Drop)]
 pub enum Stop {
     /// It stopped, or its task returned.

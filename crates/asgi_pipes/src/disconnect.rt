@@ -6,10 +6,13 @@ ghost use Rattle.asgi_pipes.specs.Closings.{closing_of, is_closing as is_closing
 
 use asgi_types::{Incoming, Outgoing, Reason};
 
-/// A disconnect. It takes no memory, so that it can be heard at any time.
+/// A disconnect (ASGI HTTP and WebSocket message format 2.4, "Disconnect"). It takes no memory, so
+/// that it can be heard at any time.
 #[derive(Clone, Copy, Debug)]
 pub enum Disconnect {
+    /// Of a request.
     Http,
+    /// Of a session, with its close code and its reason (RFC 6455, section 7.4).
     WebSocket { code: u16, reason: Reason },
 }
 
@@ -24,7 +27,7 @@ impl Disconnect {
         }
     }
 
-    /// The disconnect that the event is, if it is one.
+    /// The disconnect that the event is, or `None` where it is none.
     pub fn of(event: &Incoming) -> Option<Disconnect>
         ensures { option_map event_of result ≡ disconnect_in event.now }
     {
@@ -38,8 +41,8 @@ impl Disconnect {
         }
     }
 
-    /// Keeps what is heard from then on behind the event, which passed: before it nothing was kept. Most events close
-    /// nothing, and then nothing is moved.
+    /// Keeps what is heard from then on behind the event, which passed: before it nothing was kept.
+    /// Most events close nothing, and then nothing is moved.
     #[tactic(auto, using(crate::proofs::ClosingLemmas::not_closing))]
     pub fn keep_behind(kept: &mut Option<Disconnect>, is_open: bool, event: &Outgoing)
         requires { kept.old ≡ None }
@@ -50,7 +53,9 @@ impl Disconnect {
         }
     }
 
-    /// What is heard from then on where the event, which passed, closes the scope.
+    /// What is heard from then on where the event, which passed, closes the scope, or `None` where
+    /// it does not. A session that was refused or denied, and so never open, has the code 1006
+    /// (RFC 6455, section 7.4.1); no reason is heard.
     pub fn behind(is_open: bool, event: &Outgoing) -> Option<Disconnect>
         ensures { option_map event_of result ≡ closing_of is_open event.now }
     {
@@ -105,7 +110,7 @@ fn is_closing(event: &Outgoing) -> bool
     }
 }
 
-/// The event accepts a session.
+/// Whether the event accepts a session (ASGI HTTP and WebSocket message format 2.4, "Accept").
 pub fn is_accept(event: &Outgoing) -> bool
     ensures { result ≡ is_accept_event event.now }
 {

@@ -20,7 +20,8 @@ use crate::items::{OutItem, Sent};
 use asgi_types::{EndKind, Incoming, Outgoing};
 use futures::task::{Context, Poll};
 
-/// The end of the connection. No call takes memory or waits.
+/// The end of the connection, which offers events and takes what the application says. No call
+/// takes memory or waits.
 pub trait ConnEnd: Drop {
     // What names the pair that the end belongs to.
     ghost Tag: { Type 0 };
@@ -48,8 +49,8 @@ pub trait ConnEnd: Drop {
     // What the end knows to wait for a take, oldest first.
     ghost seen: { Self → List OutItem };
 
-    /// Offers an event behind those before it. It comes back where no place is free, and after
-    /// the disconnect was offered.
+    /// Offers an event behind those before it, in one place. It comes back where no place is free,
+    /// and after the disconnect was offered; then nothing was offered.
     fn offer(&mut self, event: Incoming) -> Result<(), Incoming>
         ensures ok { OnOk result ((offered self.new ≡ offered self.old ++ event ∷ []) × (is_broken self.old ≡ false) × (room self.old ≤ room self.new + 1)) }
         ensures err { IfErr result (λ back. (back ≡ event) × (offered self.new ≡ offered self.old) × ((is_broken self.old ≡ true) ⊎ ((room self.old ≡ 0) × (room self.new ≡ 0)))) }
@@ -57,8 +58,9 @@ pub trait ConnEnd: Drop {
         ensures tag { (tag self.new ≡ tag self.old) × (ring self.new ≡ ring self.old) }
         ensures capacity { capacity self.new ≡ capacity self.old };
 
-    /// Offers the one disconnect, behind all events, in the reserved place. The answer is true
-    /// the first time; after that nothing changes.
+    /// Offers the one disconnect, behind all events, in the reserved place (ASGI HTTP and WebSocket
+    /// message format 2.4, "Disconnect"). The answer is true the first time; after that nothing
+    /// changes.
     fn offer_disconnect(&mut self, event: Incoming) -> bool
         ensures first { result ≡ not (is_broken self.old) }
         ensures yes { IsTrue result → offered self.new ≡ offered self.old ++ event ∷ [] }
@@ -68,7 +70,7 @@ pub trait ConnEnd: Drop {
         ensures tag { (tag self.new ≡ tag self.old) × (ring self.new ≡ ring self.old) }
         ensures capacity { capacity self.new ≡ capacity self.old };
 
-    /// Takes the oldest item.
+    /// Takes the oldest item, or `None` where none is there.
     fn take(&mut self) -> Option<OutItem>
         ensures some { IfSome result (λ item. (got self.new ≡ got self.old ++ item ∷ []) × IsPrefix (seen self.old) (item ∷ seen self.new)) }
         ensures none { IfNone result ((got self.new ≡ got self.old) × (seen self.old ≡ []) × (seen self.new ≡ [])) }
@@ -77,7 +79,8 @@ pub trait ConnEnd: Drop {
         ensures capacity { capacity self.new ≡ capacity self.old };
 }
 
-/// The end of the application. The polls take no memory of their own, and no call waits.
+/// The end of the application, which hears events and says others. The polls take no memory of
+/// their own, and no call waits.
 pub trait AppEnd: Drop {
     // What names the pair that the end belongs to.
     ghost Tag: { Type 0 };
@@ -122,9 +125,9 @@ pub trait AppEnd: Drop {
     ghost vacancies: { Self → ℕ };
 
     /// The next event. Behind the application's own closing event that is its disconnect, and
-    /// behind a heard disconnect an equal one; else the front of the queue. Where the queue is
-    /// empty the poll is pending, and has registered with the source of arrivals or asked for
-    /// another poll.
+    /// behind a heard disconnect an equal one, but not in a lifespan scope (ASGI HTTP and WebSocket
+    /// message format 2.4, "Disconnect"); else the front of the queue. Where the queue is empty the
+    /// poll is pending, and has registered with the source of arrivals or asked for another poll.
     fn poll_receive(&mut self, cx: &mut Context<'_>) -> Poll<Incoming>
         ensures ready { IfReady result (λ event. heard self.new ≡ heard self.old ++ event ∷ []) }
         ensures at_once { (event : Incoming) → answer_at_once (kind self.old) (said self.old) (heard self.old) ≡ Some event
@@ -139,9 +142,10 @@ pub trait AppEnd: Drop {
         ensures sources { (arrivals self.new ≡ arrivals self.old) × (vacancies self.new ≡ vacancies self.old) }
         ensures kept { Keeps cx.old cx.new };
 
-    /// Says an event, before `finish`. The judge looks first; `Full` comes only for an event that
-    /// would pass, which is then not said, and has registered with the source of vacancies or
-    /// asked for another poll.
+    /// Says an event, before `finish`. The judge looks first, whether it may follow what was said
+    /// (ASGI HTTP and WebSocket message format 2.4, lifespan protocol 2.0). `Full` comes only for
+    /// an event that would pass, which is then not said, and has registered with the source of
+    /// vacancies or asked for another poll; `Ignored` and `Refused` change nothing.
     fn poll_send(&mut self, cx: &mut Context<'_>, event: Outgoing) -> Sent
         requires { ended self.old ≡ None }
         ensures verdict { Answers (verdict_on (kind self.old) (facts self.old) (said self.old) (has_disconnect (heard self.old)) event) event (said self.old) (said self.new) result }
@@ -167,7 +171,8 @@ pub trait AppEnd: Drop {
         ensures capacity { capacity self.new ≡ capacity self.old }
         ensures sources { (arrivals self.new ≡ arrivals self.old) × (vacancies self.new ≡ vacancies self.old) };
 
-    /// A call of this end put an item into a queue or took one out since this was last asked.
+    /// Whether a call of this end put an item into a queue or took one out since this was last
+    /// asked.
     fn moved(&mut self) -> bool
         ensures said { result ≡ has_moved self.old }
         ensures cleared { has_moved self.new ≡ false }

@@ -6,6 +6,7 @@ use asgi_io::History;
 use std::alloc::{AllocError, Global};
 use std::collections::VecDeque;
 
+/// Items that were carried to one end, oldest first, each in one place.
 #[derive(Drop)]
 pub struct Inbox<T> {
     queue: VecDeque<T>,
@@ -23,7 +24,8 @@ pub struct Inbox<T> {
 impl<T: Drop> Inbox<T> {
     ghost use Rattle.asgi_pipes.specs.Boxes.{IsNewInbox};
 
-    /// An empty one. All its places are reserved here, and no later call takes memory.
+    /// An empty one, for so many items. All its places are reserved here, and no later call takes
+    /// memory; `AllocError` where that memory is refused.
     pub fn with_places(alloc: Global, places: usize) -> Result<Inbox<T>, AllocError>
         ensures { IfOk result (λ made. IsNewInbox places made) }
     {
@@ -45,7 +47,7 @@ impl<T: Drop> Inbox<T> {
         self.taken = History::new();
     }
 
-    /// Takes the oldest item.
+    /// Takes the oldest item, or `None` where none waits.
     pub fn take(&mut self) -> Option<T>
         ensures some { IfSome result (λ item. (self.new.taken.items ≡ self.old.taken.items ++ item ∷ []) × (self.old.queue.items ≡ item ∷ self.new.queue.items)) }
         ensures none { IfNone result ((self.old.queue.items ≡ []) × (self.new.queue.items ≡ []) × (self.new.taken.items ≡ self.old.taken.items)) }
@@ -57,7 +59,7 @@ impl<T: Drop> Inbox<T> {
         Some(item)
     }
 
-    /// The items that wait to be taken.
+    /// How many items wait to be taken.
     pub fn len(&self) -> usize
         ensures { result ≡ length self.now.queue.items }
     {

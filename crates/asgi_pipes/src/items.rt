@@ -13,12 +13,13 @@ pub enum OutItem {
 /// What became of an event that was said.
 #[derive(Debug, Drop)]
 pub enum Sent {
-    /// It went into the queue.
+    /// It went into the queue, in one place.
     Done,
-    /// The response is complete: the event has no effect.
+    /// The response is complete: the event has no effect, and is dropped (ASGI HTTP and WebSocket
+    /// message format 2.4, "Response Body").
     Ignored,
-    /// It would pass, but no place is free.
+    /// It would pass, but no place is free: here it is back, for another try.
     Full(Outgoing),
-    /// It is refused, by the number of a `Violation`.
+    /// It is refused, by the number of a `Violation`, and here it is back; the queue is as before.
     Refused(u8, Outgoing),
 }

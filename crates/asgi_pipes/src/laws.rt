@@ -6,12 +6,14 @@ pub fn heard_is_offered_in_order()
     ensures { HeardIsOfferedInOrder }
 {}
 
-/// Behind the application's own closing event its disconnect is heard at once.
+/// Behind the application's own closing event its disconnect is heard at once (ASGI HTTP and
+/// WebSocket message format 2.4, "Disconnect"). In a lifespan scope there is none.
 pub fn closed_scope_hears_its_disconnect()
     ensures { ClosedScopeHearsItsDisconnect }
 {}
 
-/// A heard disconnect is heard again.
+/// A heard disconnect is heard again, whatever waits in the queue. In a lifespan scope there is
+/// none.
 pub fn disconnect_is_heard_again()
     ensures { DisconnectIsHeardAgain }
 {}

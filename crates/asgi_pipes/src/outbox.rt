@@ -6,6 +6,7 @@ use asgi_io::History;
 use std::alloc::{AllocError, Global};
 use std::collections::VecDeque;
 
+/// Items that one end has put, oldest first, each in one place.
 #[derive(Drop)]
 pub struct Outbox<T> {
     queue: VecDeque<T>,
@@ -22,7 +23,8 @@ pub struct Outbox<T> {
 impl<T: Drop> Outbox<T> {
     ghost use Rattle.asgi_pipes.specs.Boxes.{put_by, free_in, IsNewOutbox};
 
-    /// An empty one. All its places are reserved here, and no later call takes memory.
+    /// An empty one, for so many items. All its places are reserved here, and no later call takes
+    /// memory; `AllocError` where that memory is refused.
     pub fn with_places(alloc: Global, places: usize) -> Result<Outbox<T>, AllocError>
         ensures { IfOk result (λ made. IsNewOutbox places made) }
     {
@@ -44,7 +46,7 @@ impl<T: Drop> Outbox<T> {
         self.passed = History::new();
     }
 
-    /// Whether it has places for so many events, and the reserved one.
+    /// Whether it has places for `ring` events, and the reserved one.
     pub fn has_ring(&self, ring: usize) -> bool
         ensures { IsTrue result ↔ (self.now.places ≡ ring + 1) }
     {
@@ -79,7 +81,8 @@ impl<T: Drop> Outbox<T> {
         self.queue.len()
     }
 
-    /// Lets the oldest item go to the other end.
+    /// Lets the oldest item go to the other end, or `None` where none waits. Its place counts as
+    /// taken there.
     pub fn pass(&mut self) -> Option<T>
         ensures some { IfSome result (λ item. (self.new.passed.items ≡ self.old.passed.items ++ item ∷ []) × (self.old.queue.items ≡ item ∷ self.new.queue.items) × (self.new.away ≡ self.old.away + 1)) }
         ensures none { IfNone result ((self.old.queue.items ≡ []) × (self.new.queue.items ≡ []) × (self.new.passed.items ≡ self.old.passed.items) × (self.new.away ≡ self.old.away)) }
@@ -92,7 +95,7 @@ impl<T: Drop> Outbox<T> {
         Some(item)
     }
 
-    /// Tells how many items wait at the other end.
+    /// Tells how many items wait at the other end, so that the places of all others are free.
     pub fn hear_of(&mut self, away: usize)
         requires { length self.old.queue.items + away ≤ self.old.places }
         ensures away { self.new.away ≡ away }

@@ -10,12 +10,12 @@ use crate::ends::{AppEnd, ConnEnd};
 use asgi_types::{Facts, Kind};
 use std::alloc::{AllocError, Global};
 
-/// What was left in the two queues.
+/// How many items were left in the two queues.
 #[derive(Clone, Copy, Debug, PartialEq, Eq)]
 pub struct Met {
-    /// What was offered and not heard.
+    /// Events that were offered and not heard, the disconnect among them.
     pub left_in: usize,
-    /// What was put and not taken.
+    /// Items that were put and not taken, the end among them.
     pub left_out: usize,
 }
 
@@ -34,7 +34,8 @@ pub trait Pipes {
     ghost serves_again: { Self.Conn → Self.App → ℕ → Type 0 };
 
     /// The two ends of an exchange in a scope of this kind, whose request has these facts, with
-    /// so many event places each way. Every place of every queue is reserved here.
+    /// `ring` event places each way. Every place of every queue is reserved here, the one for the
+    /// disconnect or the end too. `AllocError` where memory is refused.
     fn make(
         &self,
         alloc: Global,
@@ -49,8 +50,9 @@ pub trait Pipes {
         ensures scope { IfOk result (λ ends. (Self.App.kind ends.1 ≡ kind) × (Self.App.facts ends.1 ≡ facts) × (Self.App.has_moved ends.1 ≡ false)) }
         ensures pair { IfOk result (λ ends. is_pair ends.0 ends.1) };
 
-    /// The ends of a new exchange, as `make` gives them, out of those of one that is over: memory that
-    /// these hold may serve again. What was left between them is dropped.
+    /// The ends of a new exchange, as `make` gives them, out of those of one that is over: memory
+    /// that these hold may serve again. What was left between them is dropped. `AllocError` where
+    /// memory must be taken and is refused; then the old ends are gone too.
     fn renew(
         &self,
         alloc: Global,
@@ -69,8 +71,8 @@ pub trait Pipes {
         ensures again { serves_again conn app ring → IsOk result }
         ensures pair { IfOk result (λ ends. is_pair ends.0 ends.1) };
 
-    /// Brings the ends of one pair together, and counts what was left between them. Only the
-    /// disconnect or the end is ever in a reserved place.
+    /// Brings the ends of one pair together, and counts what was left between them: it is never
+    /// `None`. Only the disconnect or the end is ever in a reserved place.
     fn meet(conn: &Self::Conn, app: &Self::App) -> Option<Met>
         requires { is_pair conn.now app.now }
         ensures met { IsSome result }

@@ -14,7 +14,7 @@ use crate::plain_conn::PlainConn;
 use asgi_types::{Facts, Kind};
 use std::alloc::{AllocError, Global};
 
-/// Ends with queues of their own.
+/// Makes ends with queues of their own, which `carry` joins: they are for one thread.
 #[derive(Clone, Copy, Debug)]
 pub struct Plain;
 

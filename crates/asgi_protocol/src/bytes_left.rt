@@ -3,7 +3,8 @@ ghost use Rattle.std.specs.Prelude.{◌≡◌, ℕ, Option};
 
 use std::marker::Model;
 
-/// The bytes that content-length promises and that are not there yet, or any number of them.
+/// The bytes that content-length promises and that are not there yet, or any number of them
+/// (RFC 9110, section 8.6).
 #[derive(Clone, Copy, Debug, PartialEq, Eq)]
 pub struct BytesLeft {
     count: Option<u64>,
@@ -47,7 +48,7 @@ impl BytesLeft {
         }
     }
 
-    /// What is left behind a body of so many bytes.
+    /// What is left behind a body of so many bytes; 0 where it goes past them.
     pub fn behind(self, len: usize) -> Self
         ensures { result ≡ left_behind self len }
     {

@@ -11,7 +11,7 @@ pub(crate) const CONTENT_LENGTH: &[u8] = b"content-length";
 pub enum ContentLength {
     /// There is none.
     Absent,
-    /// There is one, and it is a number of 1 to 19 digits.
+    /// There is one, and it is a number of bytes in 1 to 19 digits.
     Given(u64),
     /// There is more than one, or one that is no such number.
     Faulty,
@@ -21,7 +21,7 @@ impl ContentLength {
     ghost use Rattle.asgi_protocol.specs.ContentLengths.{content_length};
     ghost use Rattle.asgi_protocol.specs.Rules as rules;
 
-    /// What the fields say.
+    /// What the fields say. Only those count whose name is `content-length`.
     pub fn of(headers: &Headers) -> Self
         ensures { result ≡ content_length headers.now }
     {
@@ -63,7 +63,8 @@ impl ContentLength {
         }
     }
 
-    /// How many bytes the bodies behind a start of this status must have; `None` for any number, as at 204 and 304.
+    /// How many bytes the bodies behind a start of this status must have; `None` for any number, as
+    /// at 204 and 304 (RFC 9110, sections 15.3.5 and 15.4.5).
     pub fn promised_at(self, status: u16) -> Option<u64>
         ensures { result ≡ rules.promised_at status self }
     {

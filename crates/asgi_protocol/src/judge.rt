@@ -30,7 +30,8 @@ enum Stage {
     Ended,
 }
 
-/// Passes the events that go on lawfully with those that it passed before. It takes no memory.
+/// Passes the events that go on lawfully with those that it passed before (ASGI HTTP and WebSocket
+/// message format 2.4, lifespan protocol 2.0). It takes no memory.
 #[derive(Clone, Copy, Debug)]
 pub struct Judge {
     kind: Kind,
@@ -50,7 +51,8 @@ impl Judge {
         }
     }
 
-    /// The verdict on the event, which is not said by this.
+    /// The verdict on the event, which is not said by this. The facts are those of the request that
+    /// the scope is of, the same at each call.
     pub fn look(&self, facts: &Facts, event: &Outgoing) -> Verdict
         ensures { (kind : Kind) → (said : List Outgoing) → (disconnected : Bool)
             → StandsFor self.now kind facts.now said disconnected
@@ -59,7 +61,8 @@ impl Judge {
         self.verdict(facts, event)
     }
 
-    /// The verdict on the event, which is said where it passes.
+    /// The verdict on the event, which is said where it passes; at any other verdict the judge
+    /// stays as it was. The facts are those of the request, the same at each call.
     pub fn judge(&mut self, facts: &Facts, event: &Outgoing) -> Verdict
         ensures verdict { (kind : Kind) → (said : List Outgoing) → (disconnected : Bool)
             → StandsFor self.old kind facts.now said disconnected
@@ -77,7 +80,8 @@ impl Judge {
         verdict
     }
 
-    /// The application has heard the event.
+    /// The application has heard the event. Behind a disconnect nothing passes any more (ASGI HTTP
+    /// and WebSocket message format 2.4, "Disconnected Client"); any other event changes nothing.
     pub fn heard(&mut self, event: &Incoming)
         ensures { (kind : Kind) → (facts : Facts) → (said : List Outgoing) → (disconnected : Bool)
             → StandsFor self.old kind facts said disconnected

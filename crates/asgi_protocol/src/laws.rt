@@ -21,7 +21,8 @@ pub fn fronts_of_lawful_lists_are_lawful()
     ensures { FrontsAreLawful }
 {}
 
-/// Nothing passes behind a closed list: in HTTP each event is ignored there, elsewhere it is refused.
+/// Nothing passes behind a closed list: in HTTP each event is ignored there (ASGI HTTP and
+/// WebSocket message format 2.4, "Response Body"), elsewhere it is refused.
 pub fn nothing_passes_behind_a_closed_list()
     ensures { NothingPassesBehindClosed }
 {}

@@ -93,7 +93,8 @@ fn given_length(status: u16, headers: &Headers) -> Option<u64>
     ContentLength::of(headers).promised_at(status)
 }
 
-/// Whether a response of the status has no content.
+/// Whether the status is 204 or 304, whose responses have no content (RFC 9110, sections 15.3.5 and
+/// 15.4.5).
 pub fn has_no_content(status: u16) -> bool
     ensures { result ≡ is_bare status }
 {

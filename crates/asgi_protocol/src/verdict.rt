@@ -10,9 +10,10 @@ use thiserror::Error;
 pub enum Verdict {
     /// The event goes on with what was said.
     Pass,
-    /// The response is complete, and the event has no effect.
+    /// The response is complete, and the event has no effect (ASGI HTTP and WebSocket message
+    /// format 2.4, "Response Body").
     Ignored,
-    /// The event is refused, by the number of a `Violation`.
+    /// The event is refused, by the number of a `Violation`, from 1 to 11.
     Refused(u8),
 }
 
@@ -22,34 +23,42 @@ pub enum Violation {
     /// All was said, and the scope is none of HTTP.
     #[error("the conversation is closed")]
     Closed,
-    /// The application has heard that its client is gone.
+    /// The application has heard that its client is gone (ASGI HTTP and WebSocket message format
+    /// 2.4, "Disconnected Client").
     #[error("a disconnect was heard")]
     Disconnected,
-    /// A response belongs to HTTP, a session or a denial to WebSocket, the answers of a start and a stop to lifespan.
+    /// A response belongs to HTTP, a session or a denial to WebSocket, the answers of a start and a
+    /// stop to lifespan.
     #[error("the event belongs to another kind of scope")]
     WrongScope,
     /// No event of this sort may follow what was said.
     #[error("the event is out of order")]
     OutOfOrder,
-    /// A start does not have the status of a final response.
+    /// A start does not have the status of a final response, 200 to 599 (RFC 9110, section 15).
     #[error("the status is outside 200 to 599")]
     BadStatus,
-    /// A start has a faulty content-length, or an accept has a field of the handshake or of a content.
+    /// A start has a faulty content-length (RFC 9110, section 8.6), or an accept has a field of the
+    /// handshake (RFC 6455, section 4.2.2) or of a content.
     #[error("a field is not allowed here, or content-length is not one field of 1 to 19 digits")]
     BadHeader,
-    /// A close has a code that is reserved or unknown.
+    /// A close has a code that is reserved or unknown (RFC 6455, section 7.4): one outside 1000 to
+    /// 1003, 1007 to 1011 and 3000 to 4999.
     #[error("an application may not send this close code")]
     BadCode,
-    /// A control frame has no room for the reason (RFC 6455, section 5.5).
+    /// A control frame has no room for the reason, which has more than 123 bytes (RFC 6455,
+    /// section 5.5).
     #[error("the close reason has more than 123 bytes")]
     BadReason,
-    /// An accept chooses a subprotocol that is none of the offers, byte for byte.
+    /// An accept chooses a subprotocol that is none of the offers, byte for byte (RFC 6455,
+    /// section 4.2.2).
     #[error("the client did not offer this subprotocol")]
     BadSubprotocol,
-    /// A body goes past the length that the start gave.
+    /// A body goes past the bytes that the start promised by content-length (RFC 9110,
+    /// section 8.6).
     #[error("the bodies have more bytes than content-length says")]
     TooMuchBody,
-    /// The last body ends before the length that the start gave.
+    /// The last body ends before the bytes that the start promised by content-length (RFC 9110,
+    /// section 8.6).
     #[error("the bodies have fewer bytes than content-length says")]
     TooLittleBody,
 }

@@ -4,14 +4,16 @@ ghost use Rattle.asgi_request.specs.FieldValues as spec;
 
 use asgi_types::Headers;
 
-/// How many fields have the name.
+/// How many fields have the name, which is in lower case as names in `Headers` are (RFC 9110,
+/// section 5.1).
 pub fn count_named(headers: &Headers, name: &[u8]) -> usize
     ensures { result ≡ spec.count_named headers.now name.now }
 {
     headers.iter().filter(|field| field.0 == name).count()
 }
 
-/// The value of the first field of the name, or nothing where there is none.
+/// The bytes of the value of the first field of the name, which is in lower case; no bytes where
+/// there is no such field.
 pub fn value_named<'h>(headers: &'h Headers, name: &[u8]) -> &'h [u8]
     ensures { result.now ≡ spec.value_named headers.now name.now }
 {

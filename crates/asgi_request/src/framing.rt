@@ -21,18 +21,22 @@ const TRANSFER_ENCODING: &[u8] = b"transfer-encoding";
 
 const CHUNKED: &[u8] = b"chunked";
 
-/// How the body of a request is delimited, or the status with which its head is refused.
+/// How the body of a request is delimited, or the status with which its head is refused (RFC 9112,
+/// section 6.3).
 #[derive(Clone, Copy, Debug, PartialEq, Eq)]
 pub enum HeadFraming {
-    /// So many bytes.
+    /// So many bytes; 0 where there is no body.
     Length(u64),
-    /// The chunked transfer coding.
+    /// The chunked transfer coding (RFC 9112, section 7.1).
     Chunked,
     /// The head is refused with this status: 400, 413 or 501.
     Bad(u16),
 }
 
-/// How the body of the request is delimited, or with which status its head is refused. It takes no memory.
+/// How the body of the request is delimited, or with which status its head is refused: 501 for
+/// CONNECT and for a coding other than `chunked` alone, 413 where `content-length` is above
+/// `max_body`, 400 for a target, a Host field or a framing that is faulty (RFC 9112, sections 3.2,
+/// 6.1 and 6.3). It takes no memory.
 pub fn framing_of(head: &HeadRecord, limits: &Limits) -> HeadFraming
     ensures { result ≡ framings.framing_of head.now limits.now }
 {
@@ -44,7 +48,7 @@ pub fn framing_of(head: &HeadRecord, limits: &Limits) -> HeadFraming
     }
 }
 
-/// The same, with the reason of a refusal: the first case that holds.
+/// The same, with the reason of a refusal: the first case that holds. It is never `Upgrade`.
 pub fn framing_or_refusal(head: &HeadRecord, limits: &Limits) -> Result<Framing, Refusal>
     ensures first { result ≡ spec.framing_or_refusal head.now limits.now }
     ensures body { result ≢ Ok Framing.Upgrade }

@@ -12,24 +12,26 @@ use httparse::Status;
 use httparse::spans::{EMPTY_HEADER_SPAN, HeaderSpan, RequestSpans, parse_request};
 use std::alloc::{AllocError, Global};
 
-/// The parts of a request's head.
+/// The parts of a request's head (RFC 9112, sections 3 and 5).
 #[derive(Drop)]
 pub struct HeadRecord {
-    /// HTTP/1.0 or HTTP/1.1.
+    /// HTTP/1.0 or HTTP/1.1 (RFC 9112, section 2.3).
     pub version: HttpVersion,
-    /// In upper case.
+    /// In upper case, as a scope shows it.
     pub method: Chars,
-    /// As received.
+    /// As received, in any form (RFC 9112, section 3.2).
     pub target: Octets,
-    /// In the order received, with names in lower case.
+    /// In the order received, with names in lower case and values without the blanks around them.
     pub headers: Headers,
 }
 
 /// The most fields of most heads. To clear room for more would cost more than to read such a head.
 const FEW: usize = 32;
 
-/// The record of a head text, or `None` where it is no head. A text that has more than a few fields, or that is no head,
-/// is parsed twice.
+/// The record of a head text, from the empty lines in front of it to the one behind it (RFC 9112,
+/// sections 2.1 and 2.2), or `None` where it is no head of at most `max_headers` fields. A text
+/// that has more than 32 fields, or that is no head, is parsed twice where more than 32 may come.
+/// `AllocError` where memory is refused.
 #[tactic(auto, using(crate::proofs::RecordLemmas::more_room))]
 pub fn parse_head(
     alloc: Global,

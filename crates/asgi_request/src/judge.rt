@@ -11,7 +11,8 @@ use asgi_types::{Framing, Limits};
 
 const CRLF: &[u8] = b"\r\n";
 
-/// Why bytes without a text within its limit are refused.
+/// Why bytes without a text within its limit are refused: 431 for a head (RFC 6585, section 5),
+/// else 400.
 pub fn why_too_long(place: Place) -> Refusal
     ensures { spec.bad result ≡ spec.after_too_long place }
 {
@@ -21,7 +22,7 @@ pub fn why_too_long(place: Place) -> Refusal
     }
 }
 
-/// The place behind the head.
+/// The place behind the head: the body, or the end of an opening handshake.
 pub fn body_place(framing: Framing) -> Place
     ensures { result ≡ spec.body_place framing }
 {
@@ -32,7 +33,9 @@ pub fn body_place(framing: Framing) -> Place
     }
 }
 
-/// The place behind a whole text that gives no result.
+/// The place behind a whole text that gives no result: a size line, or CR LF behind the data of a
+/// chunk (RFC 9112, section 7.1). `Stopped` with 400 where it is none, and with 413 where the data
+/// of all chunks has more bytes than `max_body`.
 pub fn after_silent(limits: &Limits, place: Place, text: &[u8]) -> Place
     requires { is_silent place ≡ true }
     ensures { JudgesText limits.now place text.now (passing result) }

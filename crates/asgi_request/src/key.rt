@@ -7,7 +7,8 @@ ghost use Rattle.base64.specs.GeneralPurpose.{decoded_of};
 
 use base64::engine::general_purpose::STANDARD;
 
-/// Whether the bytes are a key: the base64 of 16 bytes (RFC 6455, section 4.2.1). It takes no memory.
+/// Whether the bytes are a key: the base64 of 16 bytes, which is 24 bytes (RFC 6455,
+/// section 4.2.1). It takes no memory.
 pub fn is_key(key: &[u8]) -> bool
     ensures decides { result ≡ spec.is_key key.now }
     ensures key { IsTrue result ↔ IsKey key.now }

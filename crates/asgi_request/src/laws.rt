@@ -71,7 +71,8 @@ pub fn first_results_are_one_list()
         → HasFirst limits bytes first → HasFirst limits (bytes ++ more) first }
 {}
 
-/// The first result of bytes is one, it opens a request or refuses it, and it stays where more bytes follow.
+/// The first result of bytes is one, it opens a request or refuses it, and it stays where more
+/// bytes follow.
 pub fn first_result_is_one()
     ensures one { (limits : Limits) (bytes : List ℕ) (first other : Next)
         → HasFirst limits bytes (first ∷ []) → HasFirst limits bytes (other ∷ []) → first ≡ other }
@@ -107,7 +108,8 @@ pub fn places_give_the_results()
         → GivesResults limits bytes results rest → ResultsOf limits bytes results }
 {}
 
-/// Tests decide whether a whole text is a size line, and of which size, and whether it is a trailer section.
+/// Tests decide whether a whole text is a size line, and of which size, and whether it is a trailer
+/// section (RFC 9112, section 7.1).
 pub fn body_texts_are_decided()
     ensures size { (text : List ℕ) (size : ℕ) → (size_in text ≡ Some size) ↔ ((line : ChunkLine) × ReadsChunkLine text line [] × (size ≡ chunk_size line)) }
     ensures trailers { (max_headers : ℕ) (text : List ℕ)
@@ -120,13 +122,14 @@ pub fn body_is_computed()
         → ReadsBody limits framing bytes events state ↔ ((events ≡ body_events limits framing bytes) × (state ≡ body_state limits framing bytes)) }
 {}
 
-/// Bytes are one body.
+/// Bytes are one body: they have one list of events, and one answer to how far it has come.
 pub fn body_is_one()
     ensures { (limits : Limits) (framing : Framing) (bytes : List ℕ) (events others : List Incoming) (state other : BodyState)
         → ReadsBody limits framing bytes events state → ReadsBody limits framing bytes others other → (events ≡ others) × (state ≡ other) }
 {}
 
-/// However the bytes of a body are cut, what was due stays due and comes first; a body that is whole or faulty stays so.
+/// However the bytes of a body are cut, what was due stays due and comes first; a body that is
+/// whole or faulty stays so.
 pub fn body_only_grows()
     ensures grows { (limits : Limits) (framing : Framing) (bytes more : List ℕ) (events others : List Incoming) (state other : BodyState)
         → ReadsBody limits framing bytes events state → ReadsBody limits framing (bytes ++ more) others other
@@ -138,14 +141,15 @@ pub fn body_only_grows()
         → ReadsBody limits framing bytes events (BodyState.faulty why) → ReadsBody limits framing (bytes ++ more) events (BodyState.faulty why) }
 {}
 
-/// Each event of a body is a part of it, and none a disconnect.
+/// Each event of a body is a part of it, and none a disconnect (ASGI HTTP and WebSocket message
+/// format 2.4, "Request").
 pub fn body_events_are_no_disconnects()
     ensures { (limits : Limits) (framing : Framing) (bytes : List ℕ) (events : List Incoming) (state : BodyState)
         → ReadsBody limits framing bytes events state → All IsRequestEvent events }
 {}
 
-/// Behind the head of a request that was given stand the bytes of its body, and those that are fed come behind them; behind a whole body
-/// stands the next head.
+/// Behind the head of a request that was given stand the bytes of its body, and those that are fed
+/// come behind them; behind a whole body stands the next head (RFC 9112, section 9.3.2).
 pub fn head_opens_a_body()
     ensures opens { (reader : Reading) (bytes : List ℕ) (before behind : List Next) (scope : Scope) (facts : Facts)
         → StandsFor reader bytes (before ++ Next.Head scope facts ∷ behind) → facts.framing ≢ Framing.Upgrade
@@ -161,8 +165,8 @@ pub fn head_opens_a_body()
         × HasOpened reader.limits bytes (closed ++ Next.Head scope facts ∷ []) facts.framing arrived }
 {}
 
-/// An opening handshake that was given stands behind whole requests: the bytes begin with it there, nothing follows its `Whole`,
-/// and its key is one.
+/// An opening handshake that was given stands behind whole requests: the bytes begin with it there,
+/// nothing follows its `Whole`, and its key is one (RFC 6455, section 4.2.1).
 pub fn handshake_is_last()
     ensures begins { (reader : Reading) (bytes : List ℕ) (closed more : List Next) (behind : List ℕ) (scope : Scope) (facts : Facts)
         → HasClosed reader.limits bytes closed behind → StandsFor reader bytes (closed ++ Next.Head scope facts ∷ more) → facts.framing ≡ Framing.Upgrade
@@ -173,8 +177,9 @@ pub fn handshake_is_last()
         → BeginsWithHandshake limits bytes scope facts frames → is_key facts.key ≡ true }
 {}
 
-/// Behind whole requests, or where none was given, a head is due: one that the bytes begin with opens a body; a refusal says
-/// why they begin with none that is served; and where the reader needs more, the head is not whole.
+/// Behind whole requests, or where none was given, a head is due: one that the bytes begin with
+/// opens a body; a refusal says why they begin with none that is served; and where the reader needs
+/// more, the head is not whole.
 pub fn behind_a_request_a_head_is_due()
     ensures starts { (limits : Limits) (bytes : List ℕ) → HasClosed limits bytes [] bytes }
     ensures grows { (limits : Limits) (bytes more : List ℕ) (closed : List Next) (behind : List ℕ)
@@ -189,7 +194,8 @@ pub fn behind_a_request_a_head_is_due()
         → HasClosed reader.limits bytes closed behind → AllGiven reader bytes closed → IsUnfinished EndsAsHead reader.limits.max_head behind }
 {}
 
-/// Behind whole requests the same bytes stand, however they are told apart, and behind a head the same bytes of its body.
+/// Behind whole requests the same bytes stand, however they are told apart, and behind a head the
+/// same bytes of its body.
 pub fn bytes_behind_results_are_one()
     ensures closed { (limits : Limits) (bytes : List ℕ) (closed : List Next) (behind others : List ℕ)
         → HasClosed limits bytes closed behind → HasClosed limits bytes closed others → behind ≡ others }
@@ -206,8 +212,9 @@ pub fn first_head_is_one()
         → BeginsWith limits bytes scope facts arrived → BeginsWith limits (bytes ++ more) scope facts (arrived ++ more) }
 {}
 
-/// What a reader gave behind a head are the first events that are due of the body: all of them where it needs more, where the
-/// request is whole and where it is refused. Inside a body it gives no head.
+/// What a reader gave behind a head are the first events that are due of the body: all of them
+/// where it needs more, where the request is whole and where it is refused. Inside a body it gives
+/// no head.
 pub fn given_events_are_due()
     ensures events { (reader : Reading) (bytes : List ℕ) (opened : List Next) (framing : Framing) (arrived : List ℕ) (events due : List Incoming) (state : BodyState)
         → HasOpened reader.limits bytes opened framing arrived → ReadsBody reader.limits framing arrived due state

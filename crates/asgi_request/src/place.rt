@@ -14,9 +14,9 @@ pub enum Place {
     SizeLine(u64),
     /// So many bytes of a chunk; `sum` is the data of all chunks, this one whole.
     Chunk { left: u64, sum: u64 },
-    /// CR LF behind the data of a chunk.
+    /// CR LF behind the data of a chunk, of which all chunks have so many bytes altogether.
     ChunkEnd(u64),
-    /// The trailer section behind the last chunk.
+    /// The trailer section behind the last chunk (RFC 9112, section 7.1.2).
     Trailers,
     /// Nothing more of this request.
     BodyEnd,
@@ -35,7 +35,7 @@ pub enum Advance {
     Waits,
     /// The bytes are refused.
     Refuses(Refusal),
-    /// Up to a text of this length, which gives a result.
+    /// Up to a text of so many bytes, which gives a result.
     Gives(usize),
 }
 

@@ -28,7 +28,8 @@ use asgi_types::{Framing, Incoming, Limits, Octets};
 use std::alloc::{AllocError, Global};
 use std::marker::Model;
 
-/// Reads requests out of bytes that come in any pieces.
+/// Reads requests out of bytes that come in any pieces (RFC 9112): heads, bodies and opening
+/// handshakes, one request behind the other.
 #[derive(Drop)]
 pub struct RequestReader {
     alloc: Global,
@@ -54,7 +55,7 @@ impl Model for RequestReader {
 }
 
 impl RequestReader {
-    /// A reader that was fed nothing. It takes no memory.
+    /// A reader that was fed nothing, with the limits of its connection. It takes no memory.
     pub fn new(alloc: Global, limits: Limits) -> Self
         ensures limits { result.limits ≡ limits }
         ensures empty { StandsFor result [] [] }
@@ -70,7 +71,8 @@ impl RequestReader {
         }
     }
 
-    /// Takes the next piece.
+    /// Takes the next bytes that came, a piece of any length. `AllocError` where memory for the
+    /// bytes held and these is refused; then the reader is as before, without the piece.
     pub fn feed(&mut self, piece: &[u8]) -> Result<(), AllocError>
         ensures fed { OnOk result ((bytes : List ℕ) (given : List Next) → StandsFor self.old bytes given → StandsFor self.new (bytes ++ piece.now) given) }
         ensures refused { (status : ℕ) → IsRefused self.old status → IsRefused self.new status }
@@ -128,7 +130,9 @@ impl RequestReader {
         }
     }
 
-    /// The next result, `Need` where more bytes are needed and ever after an opening handshake, or the last `Bad` again.
+    /// The next result, `Need` where more bytes are needed and ever after an opening handshake, or
+    /// the last `Bad` again. `AllocError` where memory is refused for a head or a body event; then
+    /// no result is lost, and the call may be made again. A `Bad` is given again without memory.
     pub fn next(&mut self) -> Result<Next, AllocError>
         ensures need { IfOk result (λ next. next ≡ Next.Need → (bytes : List ℕ) (given : List Next) → StandsFor self.old bytes given → StandsFor self.new bytes given × AllGiven self.new bytes given) }
         ensures waits { IfOk result (λ next. next ≡ Next.Need → IsWaiting self.new) }
@@ -150,7 +154,9 @@ impl RequestReader {
         }
     }
 
-    /// Whether more bytes are needed before anything else comes of those fed. It takes no memory.
+    /// Whether all that comes of the bytes fed was given: where more bytes are needed, behind a
+    /// refusal, and behind the `Whole` of an opening handshake. It is false while a whole text that
+    /// gives no result, such as a size line, is still to be passed. It takes no memory.
     pub fn is_waiting(&mut self) -> bool
         ensures waits { IsTrue result ↔ IsWaiting self.old }
         ensures all { IsTrue result → (bytes : List ℕ) (given : List Next) → StandsFor self.old bytes given → AllGiven self.old bytes given }
@@ -393,8 +399,8 @@ impl RequestReader {
         &self.bytes[self.start..self.start + n]
     }
 
-    /// The bytes behind the last `Whole`, or all of them where none was given yet; to be called while no
-    /// `Head` or `Bad` has followed. It takes no memory.
+    /// The bytes behind the last `Whole`, or all of them where none was given yet; to be called
+    /// while no `Head` or `Bad` has followed. It takes no memory.
     pub fn held(&self) -> &[u8]
         ensures { (bytes : List ℕ) (given : List Next) → StandsFor self.now bytes given → EndsWhole given → WholeGiven self.now bytes given result.now }
     {
@@ -402,8 +408,8 @@ impl RequestReader {
         &self.bytes[start..]
     }
 
-    /// The same bytes, in the reader's own memory: behind an opening handshake they are the first of its frames. It takes no
-    /// memory.
+    /// The same bytes, in the reader's own memory: behind an opening handshake they are the first
+    /// of its frames (RFC 6455, section 5). It takes no memory.
     pub fn rest(self) -> Vec<u8>
         ensures { (bytes : List ℕ) (given : List Next) → StandsFor self bytes given → EndsWhole given → WholeGiven self bytes given result.items }
     {

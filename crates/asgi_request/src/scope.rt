@@ -27,7 +27,9 @@ const EXPECT: &[u8] = b"expect";
 
 const CONTINUE: &[u8] = b"100-continue";
 
-/// The scope of a request that is no opening handshake, without a client, a server and a state.
+/// The scope of a request that is no opening handshake, without a client, a server and a state
+/// (ASGI HTTP and WebSocket message format 2.4, "HTTP Connection Scope"). `AllocError` where memory
+/// is refused.
 pub fn http_scope_of(alloc: Global, head: HeadRecord) -> Result<Scope, AllocError>
     ensures { IfOk result (λ scope. scope ≡ spec.http_scope_of head) }
 {
@@ -55,7 +57,9 @@ pub fn http_scope_of(alloc: Global, head: HeadRecord) -> Result<Scope, AllocErro
     }))
 }
 
-/// The scope of an opening handshake, without a client, a server and a state.
+/// The scope of an opening handshake, without a client, a server and a state (ASGI HTTP and
+/// WebSocket message format 2.4, "WebSocket Connection Scope"). `AllocError` where memory is
+/// refused.
 pub fn websocket_scope_of(alloc: Global, head: HeadRecord) -> Result<Scope, AllocError>
     ensures { IfOk result (λ scope. scope ≡ spec.websocket_scope_of head) }
 {
@@ -127,7 +131,8 @@ pub fn facts_of(alloc: Global, head: &HeadRecord, framing: Framing) -> Facts
     }
 }
 
-/// What the server keeps of an opening handshake. It takes memory only for the subprotocols that it offers.
+/// What the server keeps of an opening handshake, whose head has a key. It takes memory only for
+/// the subprotocols that the client offers; `AllocError` where that is refused.
 pub fn handshake_facts_of(alloc: Global, head: &HeadRecord) -> Result<Facts, AllocError>
     requires key { IsKey (upgrade.key_of head.now.headers) }
     ensures { IfOk result (λ facts. facts ≡ spec.facts_of head.now Framing.Upgrade) }
@@ -161,7 +166,8 @@ fn expects(head: &HeadRecord, framing: Framing) -> bool
         && head.headers.has_token(EXPECT, CONTINUE)
 }
 
-/// Whether the framing announces a body.
+/// Whether the framing announces a body: more than 0 bytes, or chunks, even where these turn out to
+/// be empty. An opening handshake has none.
 pub fn has_body(framing: Framing) -> bool
     ensures { result ≡ spec.has_body framing }
 {

@@ -18,19 +18,20 @@ const CR: u8 = b'\r';
 /// The most bytes of a size line.
 const SIZE_LINE_LIMIT: usize = 256;
 
-/// How far a search has come: no text ends whose line feed stands before `at`.
+/// How far a search has come, in bytes: no text ends whose line feed stands before `at`.
 #[derive(Clone, Copy, Debug, PartialEq, Eq)]
 pub struct Search {
+    /// How many bytes the search has behind it.
     pub at: usize,
-    /// Of a head: whether a byte that is neither CR nor LF stands before `at`. Of a trailer section: whether its
-    /// front is known to be no empty line.
+    /// Of a head: whether a byte that is neither CR nor LF stands before `at`. Of a trailer
+    /// section: whether its front is known to be no empty line.
     pub begun: bool,
 }
 
 /// What the bytes begin with.
 #[derive(Clone, Copy, Debug, PartialEq, Eq)]
 pub enum Arrival {
-    /// A whole text of this length.
+    /// A whole text of so many bytes.
     Text(usize),
     /// No text ends within the limit.
     TooLong,
@@ -43,7 +44,8 @@ pub const NEW_SEARCH: Search = Search {
     begun: false,
 };
 
-/// What the bytes begin with at this place, and how far the search has come.
+/// What the bytes begin with at this place, by its limit in bytes, and how far the search has come.
+/// An empty line ends with CR LF or with LF alone (RFC 9112, section 2.2).
 pub fn arrive(limits: &Limits, place: Place, bytes: &[u8], search: &mut Search) -> Arrival
     requires { Resumes place search.old bytes.now }
     ensures front { front_of bytes.now result ≡ front limits.now place bytes.now }

@@ -11,7 +11,9 @@ use std::alloc::{AllocError, Global};
 
 const SEC_WEBSOCKET_PROTOCOL: &[u8] = b"sec-websocket-protocol";
 
-/// The subprotocols that the client offers, in its order.
+/// The subprotocols that the client offers, each a token as it is spelled, in its order over all
+/// `sec-websocket-protocol` fields (RFC 6455, section 4.2.1); what is no token is left out. It
+/// takes memory only where there are some; `AllocError` where that is refused.
 pub fn subprotocols_of(alloc: Global, headers: &Headers) -> Result<Names, AllocError>
     ensures same { IfOk result (λ names. names ≡ spec.subprotocols_of headers.now) }
     ensures needed { OnErr result (¬ (spec.subprotocols_of headers.now ≡ [])) }

@@ -10,7 +10,9 @@ const HTTPS: &[u8] = b"https://";
 
 const ROOT: &[u8] = b"/";
 
-/// Whether the target has one of the forms that are taken with the method.
+/// Whether the target has a form that is taken with the method, which is in upper case:
+/// origin-form, absolute-form of `http` or `https`, or `*` with OPTIONS alone (RFC 9112,
+/// sections 3.2.1, 3.2.2 and 3.2.4).
 pub fn is_target(method: &[u8], target: &[u8]) -> bool
     ensures { result ≡ spec.is_target method.now target.now }
 {
@@ -38,15 +40,16 @@ fn has_authority(target: &[u8], scheme: &[u8]) -> bool
         && target[scheme.len()] != b'?'
 }
 
-/// The path as it was received.
+/// The path as it was received, still percent-encoded and without the query; `/` where it is empty
+/// (RFC 9110, section 4.2.3).
 pub fn path_of(target: &[u8]) -> &[u8]
     ensures { result.now ≡ spec.path_of target.now }
 {
     or_root(before_query(path_and_query(target)))
 }
 
-/// How many bytes the path has, where the target begins with it: it has a scheme in front, or the path is empty, where it
-/// does not.
+/// How many bytes the path has, where the target begins with it. `None` where it does not: a scheme
+/// stands in front, or the path is empty.
 #[tactic(auto, using(crate::proofs::TargetLemmas::path_in_front))]
 pub fn path_in_front(target: &[u8]) -> Option<usize>
     ensures front { IfSome result (λ n. (n ≤ length target.now) × (spec.path_of target.now ≡ take n target.now)) }
@@ -72,7 +75,8 @@ fn or_root(path: &[u8]) -> &[u8]
     }
 }
 
-/// The query as it was received, empty where there is none.
+/// The query as it was received, still percent-encoded and without the `?`; empty where there is
+/// none.
 pub fn query_of(target: &[u8]) -> &[u8]
     ensures { result.now ≡ spec.query_of target.now }
 {

@@ -30,24 +30,26 @@ const VERSION: &[u8] = b"13";
 
 const SEC_WEBSOCKET_KEY: &[u8] = b"sec-websocket-key";
 
-/// Whether a request asks for WebSocket.
+/// Whether a request asks for WebSocket (RFC 6455, section 4.2.1).
 #[derive(Debug, Drop)]
 pub enum UpgradeAsk {
-    /// It does not.
+    /// It does not: it is an HTTP request.
     Plain,
     /// It is an opening handshake.
     Upgrade {
-        /// The value of `sec-websocket-key`.
+        /// The value of `sec-websocket-key`: 16 bytes in base64.
         key: [u8; 24],
-        /// The subprotocols that the client offers, in its order.
+        /// The subprotocols that the client offers, in its order; none where it offers none.
         subprotocols: Names,
     },
-    /// It asks for it and is refused with this status: 400 or 426.
+    /// The request is refused with this status: 400 or 426 for its opening handshake, or the status
+    /// with which its framing is refused.
     Bad(u16),
 }
 
-/// Whether the request asks for WebSocket, and with what. It takes memory only where subprotocols are offered. A head
-/// whose framing is refused stays refused.
+/// Whether the request asks for WebSocket, and with what (RFC 6455, section 4.2.1); `framing` is
+/// that of its body, by `framing_of`. A head whose framing is refused stays refused, with the same
+/// status. It takes memory only where subprotocols are offered; `AllocError` where that is refused.
 pub fn check_upgrade(
     alloc: Global,
     head: &HeadRecord,
@@ -89,7 +91,8 @@ fn handshake(alloc: Global, headers: &Headers) -> Result<UpgradeAsk, AllocError>
     Ok(UpgradeAsk::Upgrade { key, subprotocols })
 }
 
-/// The key of an opening handshake.
+/// The key of an opening handshake, as the first `sec-websocket-key` field has it: the field is
+/// there, and its value is a key.
 pub fn key_of(headers: &Headers) -> [u8; 24]
     requires { IsKey (spec.key_of headers.now) }
     ensures { result ≡ spec.key_of headers.now }
@@ -99,8 +102,8 @@ pub fn key_of(headers: &Headers) -> [u8; 24]
     key
 }
 
-/// What follows the head of a request, or why it is refused: for its body first, and then as an opening handshake. It takes
-/// no memory.
+/// What follows the head of a request, or why it is refused: for its body first (RFC 9112,
+/// section 6.3), and then as an opening handshake (RFC 6455, section 4.2.1). It takes no memory.
 pub fn request_framing(head: &HeadRecord, limits: &Limits) -> Result<Framing, Refusal>
     ensures framing { result ≡ framings.request_framing head.now limits.now }
     ensures key { result ≡ Ok Framing.Upgrade → IsKey (spec.key_of head.now.headers) }
@@ -112,7 +115,10 @@ pub fn request_framing(head: &HeadRecord, limits: &Limits) -> Result<Framing, Re
     Ok(framing)
 }
 
-/// Whether the request is an opening handshake, or why it is refused: the first case that holds. It takes no memory.
+/// Whether the request is an opening handshake, or why it is refused: the first case that holds
+/// (RFC 6455, section 4.2.1). `BadRequest` comes for a method other than GET, for a body, and where
+/// `sec-websocket-key` is not there just once with a key; `UpgradeRequired` where
+/// `sec-websocket-version` is not there just once with 13. It takes no memory.
 pub fn handshake_or_refusal(head: &HeadRecord, has_body: bool) -> Result<bool, Refusal>
     ensures first { result ≡ spec.handshake_or_refusal head.now has_body }
     ensures key { result ≡ Ok true → IsKey (spec.key_of head.now.headers) }

@@ -6,18 +6,21 @@ use asgi_protocol::BytesLeft;
 /// How the bodies are written (RFC 9112, section 6).
 #[derive(Clone, Copy, Debug, PartialEq, Eq)]
 pub enum Coding {
-    /// The response has no content: an answer to HEAD, 204 or 304.
+    /// The response has no content: an answer to HEAD, 204 or 304 (RFC 9112, section 6.3).
     Nothing,
-    /// The bytes as they are: by their length, or until the connection closes.
+    /// The bytes as they are: by their length, or until the connection closes (RFC 9112,
+    /// section 6.3).
     Plain,
-    /// The chunked transfer coding.
+    /// The chunked transfer coding (RFC 9112, section 7.1).
     Chunked,
 }
 
 /// What the bodies behind a start may be.
 #[derive(Clone, Copy, Debug, PartialEq, Eq)]
 pub struct Content {
+    /// How the bodies are written.
     pub coding: Coding,
+    /// The bytes that are left of those that `content-length` promised, where it promised any.
     pub left: BytesLeft,
 }
 
@@ -25,7 +28,8 @@ impl Content {
     ghost use Rattle.asgi_protocol.specs.BytesLeft.{left_behind};
     ghost use Rattle.asgi_response.specs.Steps.{is_allowed};
 
-    /// Whether a body of so many bytes is neither too much nor, where it is the last, too little.
+    /// Whether a body of `len` bytes is neither too much nor, where it is the last, too little for
+    /// what `content-length` promised (RFC 9110, section 8.6).
     pub fn allows(&self, len: usize, more_body: bool) -> bool
         ensures { result ≡ is_allowed self.now.left len more_body }
     {
@@ -35,7 +39,7 @@ impl Content {
         more_body || !self.left.exceeds(len)
     }
 
-    /// What the bodies may be behind one of so many bytes.
+    /// What the bodies may be behind one of `len` bytes.
     pub fn behind(self, len: usize) -> Self
         ensures coding { result.coding ≡ self.coding }
         ensures left { result.left ≡ left_behind self.left len }

@@ -12,14 +12,17 @@ pub const CONNECTION: &[u8] = b"connection";
 
 const CLOSE: &[u8] = b"close";
 
-/// Whether a field of the name is the application's to say.
+/// Whether a field of the name, in lower case, is the application's to say: the server alone says
+/// `transfer-encoding` (ASGI HTTP and WebSocket message format 2.4, "Response Start") and
+/// `connection`, and 204 has no `content-length` (RFC 9110, section 8.6).
 pub fn is_shown(status: u16, name: &[u8]) -> bool
     ensures { result ≡ fields.is_shown status name.now }
 {
     name != TRANSFER_ENCODING && name != CONNECTION && !(status == 204 && name == CONTENT_LENGTH)
 }
 
-/// Whether the response says `close`.
+/// Whether the response says `close`: where the connection closes for the request, or a
+/// `connection` field of the application says it (RFC 9112, section 9.6).
 pub fn closes(close: bool, headers: &Headers) -> bool
     ensures { result ≡ fields.closes close headers.now }
 {

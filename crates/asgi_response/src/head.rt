@@ -24,7 +24,9 @@ const CHUNKED_LINE: &[u8] = b"transfer-encoding: chunked\r\n";
 
 const CLOSE_LINE: &[u8] = b"connection: close\r\n";
 
-/// The head of a response, in memory of its own.
+/// The bytes of the head of a response, with its empty line, in memory of its own (RFC 9112,
+/// sections 4 and 5): the application's fields, less those that `is_shown` leaves out, then the
+/// coding and `close` where they are wanted. `AllocError` where memory is refused.
 pub fn head_text(
     alloc: Global,
     chunked: bool,
@@ -176,7 +178,8 @@ fn ok_line() -> &'static [u8]
     OK_LINE
 }
 
-/// The reason phrase of a status.
+/// The reason phrase of a status, without a line end (RFC 9110, section 15; RFC 6585); empty where
+/// none is known.
 pub fn reason_phrase(status: u16) -> &'static str
     ensures { result.now ≡ line.reason_phrase status }
 {
@@ -231,7 +234,8 @@ fn write_fields(out: &mut Vec<u8>, status: u16, headers: &Headers) -> Result<(),
     Ok(())
 }
 
-/// Appends the line of a field. It is for the crates of this repository only.
+/// Appends the line of a field, with its CR LF (RFC 9112, section 5). `AllocError` where memory is
+/// refused; then a part of the line may be there. It is for the crates of this repository only.
 #[doc(hidden)]
 pub fn write_field<'a>(out: &mut Vec<u8>, name: &'a [u8], value: &'a [u8]) -> Result<(), AllocError>
     ensures ok { OnOk result (out.new.items ≡ out.old.items ++ spec.field_line (record { name = name.now; value = value.now })) }

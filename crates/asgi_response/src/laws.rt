@@ -33,7 +33,8 @@ pub fn lawful_is_accepted()
     ensures { LawfulIsAccepted }
 {}
 
-/// Behind a closed list nothing more is accepted, and its text stays, whatever events follow.
+/// Behind a closed list nothing more is accepted, and its text stays, whatever events follow (ASGI
+/// HTTP and WebSocket message format 2.4, "Response Body").
 pub fn closed_text_stays()
     ensures { ClosedTextStays }
 {}
@@ -53,17 +54,20 @@ pub fn added_text_only_grows()
     ensures { AddedTextOnlyGrows }
 {}
 
-/// A recipient reads the status and just the fields that were sent: no value can add a line, and no other head is read.
+/// A recipient reads the status and just the fields that were sent: no value can add a line, and no
+/// other head is read (RFC 9112, sections 4 and 5).
 pub fn head_is_read_back()
     ensures { HeadIsReadBack }
 {}
 
-/// A recipient of a complete response reads its status, its fields, and just the bytes of its bodies, in one way only.
+/// A recipient of a complete response reads its status, its fields, and just the bytes of its
+/// bodies, in one way only (RFC 9112, sections 6 and 7).
 pub fn response_is_read_back()
     ensures { ResponseIsReadBack }
 {}
 
-/// The same of the fields of any `Headers`, with nothing asked of them: that they can be sent is its own law.
+/// The same of the fields of any `Headers`, with nothing asked of them: that they can be sent is
+/// its own law.
 pub fn headers_are_read_back(headers: &Headers)
     ensures sendable { All IsSendable headers.now }
     ensures head { IsHeadReadBack headers.now }
@@ -72,7 +76,8 @@ pub fn headers_are_read_back(headers: &Headers)
     headers.fields_are_valid();
 }
 
-/// A denial is lawful as the response that it stands for is, behind which the connection closes, and has its text.
+/// A denial is lawful as the response that it stands for is, behind which the connection closes,
+/// and has its text.
 pub fn denials_are_responses()
     ensures lawful { (facts : Facts) (status : ℕ) (headers : List HeaderField) (bodies : List Outgoing)
         → (let denial = Outgoing.DenialStart status headers ∷ bodies in IsLawful WebSocket facts denial → IsLawful Http (closing_facts facts) (map as_response denial)) }
@@ -81,7 +86,8 @@ pub fn denials_are_responses()
         IsLawful WebSocket facts denial → response_text (closing_facts facts) (map as_response denial) ≡ continue_text facts.expect ++ denial_text facts denial) }
 {}
 
-/// A recipient of a whole denial reads its status, its fields, and just the bytes of its bodies, and that it closes.
+/// A recipient of a whole denial reads its status, its fields, and just the bytes of its bodies,
+/// and that it closes.
 pub fn denial_is_read_back()
     ensures { DenialIsReadBack }
 {}

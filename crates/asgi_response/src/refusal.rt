@@ -15,7 +15,7 @@ use std::alloc::AllocError;
 pub enum Input {
     /// All of it was there.
     Whole,
-    /// It is faulty, and this status says why.
+    /// It is faulty, and this status says why: the one with which the reader refused it.
     Faulty(u16),
     /// The input ended or failed inside of it.
     Broken,
@@ -44,7 +44,9 @@ const REFUSED_501: &[u8] =
 
 const CLOSING_FIELDS: &[u8] = b"content-length: 0\r\nconnection: close\r\n";
 
-/// The text of a refusal: of 400, 403, 413, 426, 431, 500 or 501.
+/// The bytes of a refusal, a whole response without content behind which the connection closes
+/// (RFC 9112, section 9.6): of 400, 403, 413, 426, 431, 500 or 501. 426 says which version is
+/// served (RFC 6455, section 4.4).
 pub fn refusal_text(status: u16) -> &'static [u8]
     requires { IsTrue (is_refusal status) }
     ensures { result.now ≡ spec.refusal_text status }
@@ -70,7 +72,8 @@ pub fn refusal_text(status: u16) -> &'static [u8]
     REFUSED_500
 }
 
-/// Appends the text of a refusal, of any status. On an error the vector is as before.
+/// Appends the text of a refusal, of any status. `AllocError` where memory is refused; then the
+/// vector is as before.
 pub fn append_refusal(status: u16, out: &mut Vec<u8>) -> Result<(), AllocError>
     ensures ok { OnOk result (out.new.items ≡ out.old.items ++ spec.refusal_text status) }
     ensures err { OnErr result (out.new.items ≡ out.old.items) }

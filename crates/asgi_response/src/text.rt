@@ -34,7 +34,8 @@ const LAST_CHUNK: &[u8] = b"0\r\n\r\n";
 pub enum Phase {
     /// There is no start.
     Waiting,
-    /// There is a start alone: its head is written with the first body.
+    /// There is a start alone: its head is written with the first body (ASGI HTTP and WebSocket
+    /// message format 2.4, "Response Start").
     Started(Content),
     /// The head and a body are written, and another body may follow.
     Begun(Content),
@@ -44,7 +45,7 @@ pub enum Phase {
     Elsewhere,
 }
 
-/// The text of one response, event by event.
+/// The text of one response, event by event (RFC 9112, sections 4 to 7).
 #[derive(Debug, Drop)]
 pub struct ResponseText {
     alloc: Global,
@@ -70,7 +71,8 @@ impl ResponseText {
     ghost use Rattle.asgi_response.specs.Response.{response_text};
     ghost use Rattle.asgi_response.specs.Standing.{StandsFor, StandsForSession, Grows};
 
-    /// No event is taken yet. It takes no memory. The facts tell whether a request or an opening handshake is answered.
+    /// No event is taken yet. It takes no memory. The facts tell whether a request or an opening
+    /// handshake is answered.
     pub fn new(alloc: Global, facts: &Facts) -> Self
         ensures response { facts.now.framing ≢ framings.Upgrade → StandsFor result facts.now [] }
         ensures denial { facts.now.framing ≡ framings.Upgrade → StandsForSession result facts.now [] }
@@ -88,10 +90,11 @@ impl ResponseText {
         }
     }
 
-    /// Appends what the event adds to the text of the events before it.
-    ///
-    /// An event that is not lawful in its place has no text; of an answer to an opening handshake, a judge has passed
-    /// the events. A denial is the text of the response that it stands for, behind which the connection closes.
+    /// Appends the bytes that the event adds: none where it is not lawful in its place, and none
+    /// for a start, whose head comes with the first body (ASGI HTTP and WebSocket message format
+    /// 2.4, "Response Start"). Of an answer to an opening handshake a judge has passed the events;
+    /// a denial is a response behind which the connection closes. `AllocError` where memory is
+    /// refused; then the text and `out` are as before.
     pub fn take(&mut self, event: &Outgoing, out: &mut Vec<u8>) -> Result<(), AllocError>
         ensures ok { OnOk result ((facts : Facts) (events : List Outgoing) → StandsFor self.old facts events
             → StandsFor self.new facts (events ++ event.now ∷ [])) }
@@ -112,7 +115,9 @@ impl ResponseText {
         self.step(event, out)
     }
 
-    /// Appends the text in front of every event: `100 Continue` where the client waits for it.
+    /// Appends the text in front of every event: `100 Continue` where the client waits for it
+    /// (RFC 9110, section 10.1.1), nothing where an opening handshake is answered. `AllocError`
+    /// where memory is refused; then `out` is as before.
     pub fn begin(&self, out: &mut Vec<u8>) -> Result<(), AllocError>
         ensures ok { OnOk result ((facts : Facts) (events : List Outgoing) → StandsFor self.now facts events
             → out.new.items ≡ out.old.items ++ response_text facts []) }
@@ -128,7 +133,9 @@ impl ResponseText {
         Ok(())
     }
 
-    /// Appends what the end of the task adds: a refusal where no body was taken.
+    /// Appends what the end of the task adds: a refusal where no body was taken, and no accept or
+    /// close. It is 500 for a whole input, has the status of a faulty one, and is nothing for a
+    /// broken one. `AllocError` where memory is refused; then `out` is as before.
     pub fn end(&self, input: Input, out: &mut Vec<u8>) -> Result<(), AllocError>
         ensures ok { OnOk result ((facts : Facts) (events : List Outgoing) → StandsFor self.now facts events
             → out.new.items ≡ out.old.items ++ end_text facts events input) }
@@ -146,7 +153,7 @@ impl ResponseText {
         append_answer(input, out)
     }
 
-    /// How far the response is.
+    /// How far the response is; behind an accept or a close it is `Begun`.
     pub fn progress(&self) -> Progress
         ensures response { (facts : Facts) (events : List Outgoing) → StandsFor self.now facts events → result ≡ progress_of facts events }
         ensures denial { (facts : Facts) (events : List Outgoing) → StandsForSession self.now facts events → result ≡ denial_progress facts events }

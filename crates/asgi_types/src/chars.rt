@@ -39,7 +39,7 @@ impl Chars {
         taken
     }
 
-    /// The same text once more, in memory of its own.
+    /// The same text once more, in memory of its own; `AllocError` where that is refused.
     pub fn copy(&self, alloc: Global) -> Result<Self, AllocError>
         ensures { IfOk result (λ copied. copied ≡ self.now) }
     {

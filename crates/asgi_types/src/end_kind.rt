@@ -7,6 +7,6 @@ pub enum EndKind {
     Returned,
     /// It faulted.
     Faulted,
-    /// It reached a limit of turns.
+    /// It reached a limit of turns, or of idle turns in a row.
     Idle,
 }

@@ -16,10 +16,11 @@ use thiserror::Error;
 /// Why a field was not added.
 #[derive(Clone, Copy, Debug, PartialEq, Eq, Error)]
 pub enum HeaderError {
-    /// The name is empty, is no token, or has more than 65,535 bytes.
+    /// The name is no token (RFC 9110, sections 5.1 and 5.6.2), as an empty one is none, or has
+    /// more than 65,535 bytes.
     #[error("the field name is no token of at most 65,535 bytes")]
     BadName,
-    /// The value has a control byte other than the tab.
+    /// The value has a control byte other than the tab (RFC 9110, section 5.5).
     #[error("the field value has a control byte")]
     BadValue,
     /// Memory was refused.
@@ -35,7 +36,8 @@ pub struct Span {
     end: usize,
 }
 
-/// Header fields in the order in which they were added, their names in lower case.
+/// Header fields in the order in which they were added, their names in lower case (RFC 9110,
+/// section 5).
 #[derive(Debug, Drop)]
 pub struct Headers {
     text: Vec<u8>,
@@ -65,7 +67,8 @@ impl Headers {
         }
     }
 
-    /// No fields, with room for so many of so many bytes. It is for the crates of this repository only.
+    /// No fields, with room for so many fields, whose names and values have so many bytes in all.
+    /// `AllocError` where memory is refused. It is for the crates of this repository only.
     #[doc(hidden)]
     pub fn with_room(alloc: Global, fields: usize, bytes: usize) -> Result<Self, AllocError>
         ensures { IfOk result (λ headers. headers ≡ []) }
@@ -75,9 +78,11 @@ impl Headers {
         Ok(Headers { text, spans })
     }
 
-    /// Adds a field at the end, its name in lower case.
+    /// Adds a field at the end: its name, without the colon, in lower case, and its value as it is.
     ///
-    /// A name is a token of RFC 9110, section 5.6.2. A value has no control byte but the tab.
+    /// A name is a token of RFC 9110, section 5.6.2, of at most 65,535 bytes, else `BadName` comes.
+    /// A value has no control byte but the tab (section 5.5), else `BadValue` comes. `NoMemory`
+    /// comes where memory is refused. On an error nothing is added.
     pub fn push(&mut self, name: &[u8], value: &[u8]) -> Result<(), HeaderError>
         ensures ok { OnOk result (self.new ≡ self.old ++ field_of name.now value.now ∷ []) }
 
@@ -98,7 +103,8 @@ impl Headers {
         Ok(())
     }
 
-    /// The same for a name and a value that were judged already. It is for the crates of this repository only.
+    /// The same for a name and a value that were judged already; `AllocError` where memory is
+    /// refused, and then nothing is added. It is for the crates of this repository only.
     #[doc(hidden)]
     pub fn push_valid(&mut self, name: &[u8], value: &[u8]) -> Result<(), AllocError>
         requires name { IsFieldName name.now }
@@ -126,7 +132,8 @@ impl Headers {
         self.spans.is_empty()
     }
 
-    /// The name and the value of the field at the index.
+    /// The name, in lower case, and the value of the field at the index, which counts from 0;
+    /// `None` behind the last.
     pub fn at(&self, index: usize) -> Option<(&[u8], &[u8])>
         ensures missing { IsNone result ↔ (length self.now ≤ index) }
         ensures found { IfSome result (λ field. slice_get self.now index ≡ Some (shown field)) }
@@ -135,7 +142,7 @@ impl Headers {
         Some((span.name(&self.text), span.value(&self.text)))
     }
 
-    /// The fields in their order, each as its name and its value.
+    /// The fields in their order, each as its name, in lower case, and its value.
     pub fn iter(&self) -> Fields<'_>
         ensures { result ≡ self.now }
     {
@@ -145,14 +152,16 @@ impl Headers {
         }
     }
 
-    /// The law of every list: whoever made it, no byte of a field ends its line.
+    /// The law of every list: whoever made it, no byte of a field ends its line (RFC 9110,
+    /// sections 5.1 and 5.5).
     pub fn fields_are_valid(&self)
         ensures { All IsValidField self.now }
     {
         let _ = &self.text;
     }
 
-    /// The same fields once more, in memory of their own. To copy no fields takes no memory.
+    /// The same fields once more, in memory of their own; `AllocError` where that is refused. To
+    /// copy no fields takes no memory.
     pub fn copy(&self, alloc: Global) -> Result<Self, AllocError>
         ensures same { IfOk result (λ copied. copied ≡ self.now) }
         ensures empty { self.now ≡ [] → IsOk result }
@@ -223,7 +232,7 @@ fn is_field_value(value: &[u8]) -> bool
         .all(|b| *b == b'\t' || (*b >= b' ' && *b != 127))
 }
 
-/// The fields that are left, each as its name and its value.
+/// The fields that are left, each as its name, in lower case, and its value.
 #[derive(Debug, Drop)]
 pub struct Fields<'a> {
     text: &'a [u8],

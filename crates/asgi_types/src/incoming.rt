@@ -4,7 +4,7 @@ use crate::{Chars, Octets, Reason};
 /// The content of a WebSocket message (RFC 6455, section 5.6).
 #[derive(Debug, Drop)]
 pub enum Payload {
-    /// A text message.
+    /// A text message, in UTF-8.
     Text(Chars),
     /// A binary message.
     Bytes(Octets),
@@ -14,15 +14,17 @@ pub enum Payload {
 /// lifespan protocol 2.0).
 #[derive(Debug, Drop)]
 pub enum Incoming {
-    /// "Request": a part of the body, the last where `more_body` is false.
+    /// "Request": a part of the body, the bytes of the content and not of its framing. It may be
+    /// empty; it is the last where `more_body` is false.
     HttpRequest { body: Octets, more_body: bool },
-    /// "Disconnect" of a request.
+    /// "Disconnect" of a request: the client is gone, or the response is complete.
     HttpDisconnect,
-    /// "Connect": the client asks for a session.
+    /// "Connect": the client asks for a session, with its opening handshake.
     WsConnect,
-    /// "Receive": a message of the client.
+    /// "Receive": a whole message of the client.
     WsReceive { payload: Payload },
-    /// "Disconnect" of a session: the close code and the reason.
+    /// "Disconnect" of a session: the close code and the reason. 1005 stands for a close without a
+    /// code, 1006 for an end without a close (RFC 6455, section 7.1.5).
     WsDisconnect { code: u16, reason: Reason },
     /// "Startup": the server is about to serve.
     LifespanStartup,

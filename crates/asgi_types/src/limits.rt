@@ -15,7 +15,7 @@ pub struct Limits {
     pub max_head: usize,
     /// Fields of a head, and of a trailer section: 1 to 128.
     pub max_headers: usize,
-    /// Bytes of a request's body: at most 2^40.
+    /// Bytes of a request's body, without the framing of its chunks: at most 2^40.
     pub max_body: u64,
     /// Bytes of one body event: 1 to 65,536.
     pub block: usize,
@@ -23,7 +23,7 @@ pub struct Limits {
     pub ring: usize,
     /// Idle turns in a row: at least 1.
     pub idle_turns: u32,
-    /// Turns of one connection: 1 to 2^48.
+    /// Turns of one connection, and of each start and stop of an application: 1 to 2^48.
     pub turns: u64,
     pub ghost head_in_range: { (64 ≤ max_head) × (max_head ≤ 65535) },
     pub ghost headers_in_range: { (1 ≤ max_headers) × (max_headers ≤ 128) },
@@ -37,7 +37,8 @@ pub struct Limits {
 impl Limits {
     ghost use Rattle.asgi_types.specs.Ranges.{AreInRange, AreLimits};
 
-    /// The limits given, or `BadLimit` where one is outside its range.
+    /// The limits given, each in the unit of its field, or `BadLimit` where one is outside its
+    /// range.
     pub fn new(
         max_head: usize,
         max_headers: usize,
@@ -70,7 +71,9 @@ impl Limits {
         })
     }
 
-    /// The limits that a server takes unless told otherwise.
+    /// The limits that a server takes unless told otherwise: heads of 16,384 bytes and 64 fields,
+    /// bodies of 1,048,576 bytes, body events of 16,384 bytes, 16 events each way, 30,000 idle
+    /// turns in a row and 2^40 turns.
     pub fn usual() -> Self
         ensures { AreLimits result 16384 64 1048576 16384 16 30000 (2 ^ 40) }
     {

@@ -39,7 +39,7 @@ impl Octets {
         taken
     }
 
-    /// The same bytes once more, in memory of their own.
+    /// The same bytes once more, in memory of their own; `AllocError` where that is refused.
     pub fn copy(&self, alloc: Global) -> Result<Self, AllocError>
         ensures { IfOk result (λ copied. copied ≡ self.now) }
     {

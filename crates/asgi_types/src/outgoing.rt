@@ -14,12 +14,14 @@ pub enum HttpVersion {
 /// protocol 2.0).
 #[derive(Debug, Drop)]
 pub enum Outgoing {
-    /// "Response Start": the status code and the fields of the response.
+    /// "Response Start": the status code of a final response (RFC 9110, section 15), and its
+    /// fields.
     ResponseStart {
         status: u16,
         headers: Headers,
     },
-    /// "Response Body": a part of the content, the last where `more_body` is false.
+    /// "Response Body": a part of the content, without its framing, the last where `more_body` is
+    /// false.
     ResponseBody {
         body: Octets,
         more_body: bool,
@@ -29,36 +31,39 @@ pub enum Outgoing {
         subprotocol: Option<Chars>,
         headers: Headers,
     },
-    /// "Send": a message to the client.
+    /// "Send": a whole message to the client.
     WsSend {
         payload: Payload,
     },
-    /// "Close": the session ends; before "Accept" the handshake is refused.
+    /// "Close": the session ends, with a close code (RFC 6455, section 7.4) and a reason of at most
+    /// 123 bytes (section 5.5); before "Accept" the handshake is refused.
     WsClose {
         code: u16,
         reason: Chars,
     },
-    /// "Response Start" in place of "Accept" (extension `websocket.http.response`).
+    /// "Response Start" in place of "Accept" (extension `websocket.http.response`): the status code
+    /// of a final response, and its fields.
     DenialStart {
         status: u16,
         headers: Headers,
     },
-    /// "Response Body" behind that start, the last where `more_body` is false.
+    /// "Response Body" behind that start: a part of the content, the last where `more_body` is
+    /// false.
     DenialBody {
         body: Octets,
         more_body: bool,
     },
-    /// "Startup Complete", with the state that each later scope gets a copy of.
+    /// "Startup Complete", with the state that each later scope gets a copy of ("Lifespan State").
     StartupComplete {
         state: State,
     },
-    /// "Startup Failed".
+    /// "Startup Failed", with what is to be said of it.
     StartupFailed {
         message: Chars,
     },
     /// "Shutdown Complete".
     ShutdownComplete,
-    /// "Shutdown Failed".
+    /// "Shutdown Failed", with what is to be said of it.
     ShutdownFailed {
         message: Chars,
     },

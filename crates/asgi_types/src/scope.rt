@@ -7,7 +7,7 @@ use crate::{Chars, Headers, HttpVersion, Names, Octets, State};
 use std::alloc::{AllocError, Global};
 use std::marker::Model;
 
-/// One side of a connection.
+/// One side of a connection (ASGI HTTP and WebSocket message format 2.4, `client` and `server`).
 #[derive(Debug, Drop)]
 pub struct Peer {
     /// The address of the host, as a text.
@@ -71,7 +71,7 @@ impl Asgi {
     }
 }
 
-/// The extensions that a server has for a scope.
+/// The extensions that a server has for a scope (ASGI 3.0, "Extensions").
 #[derive(Clone, Copy, Debug, PartialEq, Eq)]
 pub struct Extensions {
     /// `websocket.http.response`: an application may answer the handshake with a response.
@@ -80,38 +80,41 @@ pub struct Extensions {
     pub http_response_trailers: bool,
 }
 
-/// The scope of one HTTP request (ASGI HTTP message format 2.4, connection scope).
+/// The scope of one HTTP request (ASGI HTTP and WebSocket message format 2.4, "HTTP Connection
+/// Scope").
 #[derive(Debug, Drop)]
 pub struct HttpScope {
     /// The versions of ASGI and of the message format.
     pub asgi: Asgi,
     /// The version that the request is of.
     pub http_version: HttpVersion,
-    /// In upper case.
+    /// The method of the request, in upper case.
     pub method: Chars,
     /// The scheme of the request's URL, such as `http`.
     pub scheme: Chars,
-    /// Percent-decoded.
+    /// The path of the target, percent-decoded, without the query.
     pub path: Chars,
-    /// As it was received, without the query.
+    /// The path as it was received, still percent-encoded, without the query.
     pub raw_path: Octets,
-    /// What stands behind the first `?`, still percent-encoded.
+    /// What stands behind the first `?`, still percent-encoded; empty where there is none.
     pub query_string: Octets,
-    /// The prefix under which the application is mounted.
+    /// The prefix under which the application is mounted; empty where there is none.
     pub root_path: Chars,
-    /// The fields of the request, in its order.
+    /// The fields of the request, in its order, their names in lower case.
     pub headers: Headers,
     /// The client's side of the connection, where it is known.
     pub client: Option<Peer>,
     /// The server's side of the connection, where it is known.
     pub server: Option<Peer>,
-    /// A copy of what the application kept at its start.
+    /// A copy of what the application kept at its start (ASGI lifespan protocol 2.0, "Lifespan
+    /// State").
     pub state: State,
     /// What the server has beside the events that each server has.
     pub extensions: Extensions,
 }
 
-/// The scope of one WebSocket session (ASGI WebSocket message format 2.4, connection scope).
+/// The scope of one WebSocket session (ASGI HTTP and WebSocket message format 2.4, "WebSocket
+/// Connection Scope").
 #[derive(Debug, Drop)]
 pub struct WsScope {
     /// The versions of ASGI and of the message format.
@@ -120,34 +123,35 @@ pub struct WsScope {
     pub http_version: HttpVersion,
     /// The scheme of the session's URL, such as `ws`.
     pub scheme: Chars,
-    /// Percent-decoded.
+    /// The path of the target, percent-decoded, without the query.
     pub path: Chars,
-    /// As it was received, without the query.
+    /// The path as it was received, still percent-encoded, without the query.
     pub raw_path: Octets,
-    /// What stands behind the first `?`, still percent-encoded.
+    /// What stands behind the first `?`, still percent-encoded; empty where there is none.
     pub query_string: Octets,
-    /// The prefix under which the application is mounted.
+    /// The prefix under which the application is mounted; empty where there is none.
     pub root_path: Chars,
-    /// The fields of the request, in its order.
+    /// The fields of the request, in its order, their names in lower case.
     pub headers: Headers,
     /// The client's side of the connection, where it is known.
     pub client: Option<Peer>,
     /// The server's side of the connection, where it is known.
     pub server: Option<Peer>,
-    /// The subprotocols that the client offers, in its order.
+    /// The subprotocols that the client offers, in its order (RFC 6455, section 4.1).
     pub subprotocols: Names,
-    /// A copy of what the application kept at its start.
+    /// A copy of what the application kept at its start (ASGI lifespan protocol 2.0, "Lifespan
+    /// State").
     pub state: State,
     /// What the server has beside the events that each server has.
     pub extensions: Extensions,
 }
 
-/// The scope of the server's start and stop (ASGI lifespan protocol 2.0, scope).
+/// The scope of the server's start and stop (ASGI lifespan protocol 2.0, "Scope").
 #[derive(Debug, Drop)]
 pub struct LifespanScope {
     /// The versions of ASGI and of the message format.
     pub asgi: Asgi,
-    /// What the application keeps for each later scope.
+    /// What the application keeps for each later scope ("Lifespan State").
     pub state: State,
 }
 
@@ -184,7 +188,8 @@ impl Scope {
         }
     }
 
-    /// The same scope once more, in memory of its own. To copy a lifespan scope with an empty state takes no memory.
+    /// The same scope once more, in memory of its own; `AllocError` where that is refused. To copy
+    /// a lifespan scope with an empty state takes no memory.
     pub fn copy(&self, alloc: Global) -> Result<Self, AllocError>
         ensures same { IfOk result (λ copied. copied ≡ self.now) }
         ensures lifespan { (scope : LifespanScope) → self.now ≡ Scope.Lifespan scope → scope.state ≡ [] → IsOk result }
@@ -198,7 +203,7 @@ impl Scope {
 }
 
 impl Peer {
-    /// The same peer once more, in memory of its own.
+    /// The same peer once more, in memory of its own; `AllocError` where that is refused.
     pub fn copy(&self, alloc: Global) -> Result<Self, AllocError>
         ensures { IfOk result (λ copied. copied ≡ self.now) }
     {

@@ -35,7 +35,7 @@ pub enum StateError {
 /// The names that a state holds at most.
 const MOST: usize = 64;
 
-/// At most 64 names, each with its value.
+/// At most 64 names, each with its value (ASGI lifespan protocol 2.0, "Lifespan State").
 #[derive(Debug, Drop)]
 pub struct State {
     entries: Vec<(Chars, StateValue)>,
@@ -65,7 +65,7 @@ impl State {
         }
     }
 
-    /// The value under the name.
+    /// The value under the name, which is compared byte for byte; `None` where it is not held.
     pub fn get(&self, name: &str) -> Option<&StateValue>
         ensures { option_copied result ≡ value_of self.now name.now }
     {
@@ -74,7 +74,9 @@ impl State {
         Some(&entry.1)
     }
 
-    /// Puts the value under the name, in place of the one that is held there.
+    /// Puts the value under the name, in place of the one that is held there. A name that is not
+    /// held comes last; for it `StateFull` comes where 64 names are held, and `NoMemory` where
+    /// memory is refused. On an error nothing changes.
     pub fn set(&mut self, name: &str, value: StateValue) -> Result<(), StateError>
         ensures ok { OnOk result (self.new ≡ with_value self.old name.now value) }
         ensures found { OnOk result (value_of self.new name.now ≡ Some value) }
@@ -99,7 +101,8 @@ impl State {
         Ok(())
     }
 
-    /// The same state once more, in memory of its own. To copy no names takes no memory.
+    /// The same state once more, in memory of its own; `AllocError` where that is refused. To copy
+    /// no names takes no memory.
     pub fn copy(&self, alloc: Global) -> Result<Self, AllocError>
         ensures same { IfOk result (λ copied. copied ≡ self.now) }
         ensures empty { self.now ≡ [] → IsOk result }
@@ -113,7 +116,7 @@ impl State {
 }
 
 impl StateValue {
-    /// The same value once more, in memory of its own.
+    /// The same value once more, in memory of its own; `AllocError` where that is refused.
     pub fn copy(&self, alloc: Global) -> Result<Self, AllocError>
         ensures { IfOk result (λ copied. copied ≡ self.now) }
     {

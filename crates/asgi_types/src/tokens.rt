@@ -6,8 +6,9 @@ ghost use Rattle.asgi_types.specs.Tokens as spec;
 use crate::Headers;
 
 impl Headers {
-    /// Whether a field of the name lists the token, in any case (RFC 9110, sections 5.1 and 5.6.1). The name is in lower
-    /// case, as fields keep theirs. No field lists an empty token. It takes no memory.
+    /// Whether a field of the name lists the token, in any case (RFC 9110, sections 5.1 and 5.6.1).
+    /// The name is in lower case, as fields keep theirs. No field lists an empty token. It takes no
+    /// memory.
     pub fn has_token(&self, name: &[u8], token: &[u8]) -> bool
         ensures { result ≡ spec.has_token self.now name.now token.now }
     {
@@ -40,7 +41,8 @@ fn is_token(part: &[u8], token: &[u8]) -> bool
     !trimmed.is_empty() && trimmed.eq_ignore_ascii_case(token)
 }
 
-/// The part without the spaces and tabs at its ends. It is for the crates of this repository only.
+/// The part without the spaces and tabs at its ends (RFC 9110, section 5.6.3). It is for the crates
+/// of this repository only.
 #[doc(hidden)]
 pub fn trimmed(part: &[u8]) -> &[u8]
     ensures { result.now ≡ trim_ows part.now }

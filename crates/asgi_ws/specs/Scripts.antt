@@ -1,5 +1,5 @@
 -- What a script stands for.
-use Rattle.std.specs.Prelude.{◌≡◌, ℕ, List, [], ◌∷◌, ◌++◌}
+use Rattle.std.specs.Prelude.{◌≡◌, ℕ, ◌-◌, Bool, true, nat_lt, Option, Some, None, List, [], ◌∷◌, ◌++◌}
 use Rattle.asgi_ws.specs.declared.messages.Msg.{Msg}
 use Rattle.asgi_ws.specs.declared.pieces.Piece.{Piece}
 use Rattle.asgi_ws.specs.declared.pieces.Piece.TheVariants as piece
@@ -33,3 +33,13 @@ IsHeldUp [] = ⊥
 IsHeldUp (piece.Bytes v ∷ rest) = v.items ≡ []
 IsHeldUp (piece.WouldBlock ∷ rest) = Unit {0}
 IsHeldUp (piece.Fault ∷ rest) = Unit {0}
+
+-- one more call succeeds; `None` for any number
+abbrev pub is_left : Option ℕ → Bool
+is_left None = true
+is_left (Some n) = nat_lt 0 n
+
+-- how many calls succeed behind one more
+abbrev pub one_less : Option ℕ → Option ℕ
+one_less None = None
+one_less (Some n) = Some (n - 1)

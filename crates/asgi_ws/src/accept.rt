@@ -8,7 +8,8 @@ use sha1::Sha1;
 /// RFC 6455, section 1.3.
 const GUID: &[u8] = b"258EAFA5-E914-47DA-95CA-C5AB0DC85B11";
 
-/// The value of `sec-websocket-accept` that answers the key (RFC 6455, section 4.2.2). It takes no memory.
+/// The value of `sec-websocket-accept`, 28 symbols of base64, that answers the value of
+/// `sec-websocket-key` as it came, 24 bytes (RFC 6455, section 4.2.2). It takes no memory.
 pub fn accept_value(key: &[u8; 24]) -> [u8; 28]
     ensures { result ≡ accept_value_of key.now }
 {

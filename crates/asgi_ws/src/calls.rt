@@ -10,7 +10,7 @@ use crate::messages::{Call, Got, Handed, Put};
 use asgi_io::History;
 use asgi_types::Payload;
 
-/// Keeps how a read was answered.
+/// Keeps how a read of a message was answered, and gives the answer back.
 pub fn note_read(calls: &mut History<Call>, answer: Got) -> Got
     ensures answer { result ≡ answer }
     ensures told { calls.new.items ≡ calls.old.items ++ call.Read answer ∷ [] }
@@ -20,7 +20,7 @@ pub fn note_read(calls: &mut History<Call>, answer: Got) -> Got
     answer_of(read)
 }
 
-/// Keeps what was handed over, and how that was answered.
+/// Keeps what was handed over and how that was answered, and gives back what was handed over.
 pub fn note_send(calls: &mut History<Call>, item: Handed, answer: Put) -> Handed
     ensures item { result ≡ item }
     ensures told { calls.new.items ≡ calls.old.items ++ call.Send item answer ∷ [] }
@@ -33,13 +33,16 @@ pub fn note_send(calls: &mut History<Call>, item: Handed, answer: Put) -> Handed
 /// The calls as they stand behind a send, for each answer that it may get. It takes no bytes.
 #[derive(Drop)]
 pub struct Sending {
+    /// With the answer `Done`.
     pub done: History<Call>,
+    /// With the answer `Failed`.
     pub failed: History<Call>,
+    /// With the answer `NoMemory`.
     pub no_memory: History<Call>,
 }
 
 impl Sending {
-    /// Keeps what is about to be sent, and gives it back.
+    /// Keeps what is about to be sent behind the calls so far, and gives it back.
     pub fn of(calls: &History<Call>, payload: Payload) -> (Sending, Payload)
         ensures told { (answer : Put) → calls_by result.0 answer ≡ calls.now.items ++ call.Send (item.Payload payload) answer ∷ [] }
         ensures payload { result.1 ≡ payload }

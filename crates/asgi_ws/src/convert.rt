@@ -11,7 +11,8 @@ use asgi_types::{Chars, Octets, Payload, Reason};
 use std::alloc::{AllocError, Global};
 use tungstenite::{Bytes, CloseFrame, Error, Message, Utf8Bytes};
 
-/// The message that was read, in memory of its own.
+/// The message that was read, in memory of its own: `NoMemory` where that is refused. What a ping
+/// or a pong carries is left out.
 pub fn got_of(alloc: Global, message: &Message) -> Got
     ensures { IsGotOf message.now result }
 {
@@ -41,7 +42,8 @@ fn close_of(frame: &CloseFrame) -> Got
     }
 }
 
-/// The answer of a read, by what the message layer gave and by how the input has stopped.
+/// The answer of a read, by what the message layer gave and by how the input has stopped: where the
+/// layer waits for more, `Idle`, or `Ended` or `Failed` once the input has.
 pub fn answer_to(alloc: Global, given: Result<Message, Error>, stop: Option<Stop>) -> Got
     ensures { IsAnswerTo given stop result }
 {
@@ -70,7 +72,8 @@ fn wait(stop: Option<Stop>) -> Got
     }
 }
 
-/// The payload as the message layer takes it, in the memory that it has.
+/// The payload as the message layer takes it, in the memory that it has. `AllocError` where the
+/// memory beside it is refused.
 pub fn message_with(payload: Payload) -> Result<Message, AllocError>
     ensures { IfOk result (λ m. content_of m ≡ content_of_payload payload) }
 {

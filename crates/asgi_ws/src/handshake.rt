@@ -16,7 +16,9 @@ const SEC_WEBSOCKET_PROTOCOL: &[u8] = b"sec-websocket-protocol";
 
 const CRLF: &[u8] = b"\r\n";
 
-/// The text that accepts the handshake of the facts, for an "Accept" that a judge passed. Any other event has no text.
+/// The text that accepts the handshake of the facts, for an "Accept" that a judge passed: the whole
+/// 101 response, to its empty line (RFC 6455, section 4.2.2; ASGI HTTP and WebSocket message format
+/// 2.4, "Accept"). Any other event has no text. `AllocError` where memory is refused.
 pub fn accept_text(alloc: Global, facts: &Facts, event: &Outgoing) -> Result<Vec<u8>, AllocError>
     ensures text { IfOk result (λ text. text.items ≡ spec.accept_text facts.now event.now) }
     ensures memory { OnErr result (¬ (spec.accept_text facts.now event.now ≡ [])) }
@@ -30,7 +32,8 @@ pub fn accept_text(alloc: Global, facts: &Facts, event: &Outgoing) -> Result<Vec
     }
 }
 
-/// The text that refuses a handshake: 403 (ASGI WebSocket message format 2.4, "Close").
+/// The text that refuses a handshake: a whole 403 response without content, behind which the
+/// connection closes (ASGI HTTP and WebSocket message format 2.4, "Close").
 pub fn denied_text() -> &'static [u8]
     ensures { result.now ≡ text_of_refusal 403 }
 {

@@ -1,10 +1,10 @@
 //! The lists that a line in memory keeps: the messages that were read, and what went out.
-ghost use Rattle.std.specs.Prelude.{◌≡◌, ◌≢◌, IsTrue, IsSome, ◌<◌, ◌++◌, ◌∷◌, [], Some, None, false, OnOk, OnErr};
+ghost use Rattle.std.specs.Prelude.{◌≡◌, ◌<◌, ◌++◌, ◌∷◌, [], Some, None, false, OnOk, OnErr};
 ghost use Rattle.std.specs.Vec.{vec_len, vec_capacity};
 ghost use Rattle.asgi_ws.specs.declared.messages.Got.TheVariants as got;
 ghost use Rattle.asgi_ws.specs.declared.messages.Put.TheVariants as put;
 ghost use Rattle.asgi_ws.specs.declared.messages.Call.TheVariants as call;
-ghost use Rattle.asgi_ws.specs.Scripts.{messages_of, first_message};
+ghost use Rattle.asgi_ws.specs.Scripts.{messages_of, first_message, is_left, one_less};
 ghost use Rattle.asgi_ws.specs.Sessions.{given_by, messages_in, handed_in, EndsAt};
 
 use crate::calls::{note_read, note_send};
@@ -16,6 +16,7 @@ use std::collections::VecDeque;
 /// What one read of a message gives.
 #[derive(Debug, Drop)]
 pub enum Turn {
+    /// This message.
     Message(Msg),
     /// Nothing yet.
     Idle,
@@ -26,8 +27,11 @@ pub enum Turn {
 /// What went by in a session: each call, the messages that were read, and what went out.
 #[derive(Drop)]
 pub struct Lists {
+    /// Each call, the oldest first.
     pub calls: History<Call>,
+    /// The messages that were read, the oldest first.
     pub received: Vec<Msg>,
+    /// What went out, the oldest first.
     pub handed: Vec<Handed>,
     // How many sends succeed; None: all.
     pub left: Option<u64>,
@@ -36,7 +40,7 @@ pub struct Lists {
 }
 
 impl Lists {
-    /// Nothing went by yet.
+    /// Nothing went by yet, and each send succeeds. It takes no memory.
     pub fn new(alloc: Global) -> Self
         ensures { (result.calls.items ≡ []) × (result.left ≡ None) }
     {
@@ -48,7 +52,8 @@ impl Lists {
         }
     }
 
-    /// Reads the next turn.
+    /// Reads the next turn, and keeps its message beside: `Ended` where no turn is left, and
+    /// `NoMemory` where memory for what is kept is refused, when the turn stays.
     pub fn next(&mut self, alloc: Global, turns: &mut VecDeque<Turn>) -> Got
         ensures told { self.new.calls.items ≡ self.old.calls.items ++ call.Read result ∷ [] }
         ensures gives { messages_of turns.old.items ≡ given_by result ++ messages_of turns.new.items }
@@ -58,7 +63,7 @@ impl Lists {
         note_read(&mut self.calls, answer)
     }
 
-    /// A read that fails.
+    /// A read that fails, whatever is there.
     pub fn fail(&mut self) -> Got
         ensures answer { result ≡ got.Failed }
         ensures told { self.new.calls.items ≡ self.old.calls.items ++ call.Read got.Failed ∷ [] }
@@ -66,7 +71,8 @@ impl Lists {
         note_read(&mut self.calls, Got::Failed)
     }
 
-    /// Takes what is handed over, where the line is open and not every send that succeeds was made.
+    /// Takes what is handed over: `Failed` where the line is not open or every send that succeeds
+    /// was made, `NoMemory` where memory to keep it is refused. Only with `Done` it goes out.
     pub fn hand_over(&mut self, is_open: bool, item: Handed) -> Put
         ensures told { self.new.calls.items ≡ self.old.calls.items ++ call.Send item result ∷ [] }
         ensures shut { is_open ≡ false → result ≡ put.Failed }
@@ -127,6 +133,7 @@ fn keep_next(
 fn answer_to(is_open: bool, left: &mut Option<u64>, items: &mut Vec<Handed>) -> Put
     ensures room { result ≡ put.Done → vec_len items.new < vec_capacity items.new }
     ensures shut { is_open ≡ false → result ≡ put.Failed }
+    ensures spent { is_left left.old ≡ false → result ≡ put.Failed }
     ensures items { items.new.items ≡ items.old.items }
 {
     if !is_open || !is_allowed(left) {
@@ -146,9 +153,10 @@ fn make_room(items: &mut Vec<Handed>) -> Result<(), AllocError>
     items.reserve(1)
 }
 
-/// Whether one more call succeeds, which is then counted.
+/// Whether one more call succeeds, which is then counted. `left` is how many do; None: all.
 pub fn is_allowed(left: &mut Option<u64>) -> bool
-    ensures { (left.old ≡ None → IsTrue result) × (IsSome left.old → left.old ≢ Some 0 → IsTrue result) }
+    ensures answer { result ≡ is_left left.old }
+    ensures counted { left.new ≡ one_less left.old }
 {
     match left {
         None => true,

@@ -15,16 +15,20 @@ use std::alloc::{AllocError, Global};
 /// A message of the client (RFC 6455, sections 5.5 and 5.6).
 #[derive(Debug, Drop)]
 pub enum Msg {
+    /// The payload of one text message, whole and unmasked.
     Text(Chars),
+    /// The payload of one binary message, whole and unmasked.
     Bytes(Octets),
+    /// A ping, without what it carries.
     Ping,
+    /// A pong, without what it carries.
     Pong,
-    /// The code and the reason, where the close has a body.
+    /// The code and the reason, where the close has a body (section 5.5.1).
     Close(Option<(u16, Reason)>),
 }
 
 impl Msg {
-    /// The same message once more, in memory of its own.
+    /// The same message once more, in memory of its own. `AllocError` where that is refused.
     pub fn copy(&self, alloc: Global) -> Result<Self, AllocError>
         ensures { IfOk result (λ copied. copied ≡ self.now) }
     {
@@ -47,7 +51,7 @@ pub enum Got {
     Idle,
     /// No message follows.
     Ended,
-    /// The line failed.
+    /// The line failed, or carries no messages yet.
     Failed,
     /// Memory was refused.
     NoMemory,
@@ -58,23 +62,27 @@ pub enum Got {
 pub enum Put {
     /// All of it went out.
     Done,
-    /// The line or its protocol refused it.
+    /// The line or its protocol refused it, or the line carries no messages yet.
     Failed,
     /// Memory was refused.
     NoMemory,
 }
 
-/// What is handed to a line.
+/// What is handed to a line, to be sent to the client.
 #[derive(Debug, Drop)]
 pub enum Handed {
+    /// One message of text or of bytes (RFC 6455, section 5.6).
     Payload(Payload),
+    /// A close with this code and reason (RFC 6455, section 5.5.1).
     Close(u16, Reason),
 }
 
 /// A call of a session, with its answer.
 #[derive(Debug, Drop)]
 pub enum Call {
+    /// A read of a message.
     Read(Got),
+    /// A send of a message or of a close.
     Send(Handed, Put),
 }
 
@@ -89,7 +97,8 @@ pub trait Messages: Reads + Counts {
     /// The bytes that `upgrade` kept; None before it.
     ghost leftover: { Self → Option (List ℕ) };
 
-    /// The next message.
+    /// The next message, whole and unmasked. Where it answers `Failed`, one more failure is
+    /// counted.
     fn read_message(&mut self) -> Got
         ensures told { calls self.new ≡ calls self.old ++ call.Read result ∷ [] }
         ensures coming { Loses (coming self.old) (coming self.new) (given_by result) × EndsAt result (coming self.new) }
@@ -99,7 +108,8 @@ pub trait Messages: Reads + Counts {
         ensures text { (Self.remaining self.new ≡ Self.remaining self.old) × (Self.written self.new ≡ Self.written self.old)
             × (Self.Reads.answers self.new ≡ Self.Reads.answers self.old) × (Self.Counts.answers self.new ≡ Self.Counts.answers self.old) };
 
-    /// Sends a payload.
+    /// Sends one message of text or of bytes (RFC 6455, section 5.6). Where it answers `Failed`,
+    /// one more failure is counted.
     fn send_message(&mut self, payload: Payload) -> Put
         ensures told { calls self.new ≡ calls self.old ++ call.Send (item.Payload payload) result ∷ [] }
         ensures counts { Self.failed self.new ≡ count_after (Self.failed self.old) (has_failed result) }
@@ -108,7 +118,8 @@ pub trait Messages: Reads + Counts {
         ensures text { (Self.remaining self.new ≡ Self.remaining self.old) × (Self.written self.new ≡ Self.written self.old)
             × (Self.Reads.answers self.new ≡ Self.Reads.answers self.old) × (Self.Counts.answers self.new ≡ Self.Counts.answers self.old) };
 
-    /// Sends a close.
+    /// Sends a close with this code and reason (RFC 6455, section 5.5.1). Where it answers
+    /// `Failed`, one more failure is counted.
     fn send_close(&mut self, code: u16, reason: Reason) -> Put
         ensures told { calls self.new ≡ calls self.old ++ call.Send (item.Close code reason) result ∷ [] }
         ensures counts { Self.failed self.new ≡ count_after (Self.failed self.old) (has_failed result) }
@@ -118,11 +129,12 @@ pub trait Messages: Reads + Counts {
             × (Self.Reads.answers self.new ≡ Self.Reads.answers self.old) × (Self.Counts.answers self.new ≡ Self.Counts.answers self.old) };
 }
 
-/// A connection: text both ways, and messages both ways after `upgrade`. Its reads and its writes are told, and those that
-/// failed are counted.
+/// A connection: text both ways, and messages both ways after `upgrade`. Its reads and its writes
+/// are told, and those that failed are counted.
 pub trait Line: Messages {
     /// From here on the line carries messages, of the leftover and then of what is read behind it.
-    /// A second call changes nothing, and reads and writes of text fail from here on.
+    /// The leftover are the bytes that were read behind the head of the opening handshake. A second
+    /// call changes nothing, and reads and writes of text fail from here on.
     fn upgrade(&mut self, leftover: Vec<u8>)
         ensures keeps { Self.leftover self.new ≡ kept_by (Self.leftover self.old) leftover.items }
         ensures again { IsSome (Self.leftover self.old) → self.new ≡ self.old }

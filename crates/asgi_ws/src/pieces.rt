@@ -11,7 +11,7 @@ use std::io::{self, ErrorKind};
 /// What one read of text gives.
 #[derive(Debug, Drop)]
 pub enum Piece {
-    /// These bytes, in as many reads as they need.
+    /// These bytes, in as many reads as they need. Where there are none, the read would block.
     Bytes(Vec<u8>),
     /// Nothing yet.
     WouldBlock,
@@ -22,14 +22,17 @@ pub enum Piece {
 /// The piece that is being read, from `at` on, and those behind it.
 #[derive(Drop)]
 pub struct Pieces {
+    /// The piece in hand.
     pub current: Vec<u8>,
+    /// How many of its bytes were read.
     pub at: usize,
+    /// The pieces behind it.
     pub pieces: VecDeque<Piece>,
     ghost inside: { at ≤ length current.items },
 }
 
 impl Pieces {
-    /// These pieces, of which none was read.
+    /// These pieces, of which none was read. It takes no memory.
     pub fn new(alloc: Global, pieces: VecDeque<Piece>) -> Self
         ensures { (result.current.items ≡ []) × (result.pieces ≡ pieces) }
     {
@@ -40,7 +43,9 @@ impl Pieces {
         }
     }
 
-    /// Reads some bytes of one piece.
+    /// Reads some bytes of one piece to the front of `buf`, and answers how many: none behind the
+    /// last piece, or where `buf` has no room. The error is `WouldBlock` or `Other`, as the piece
+    /// says.
     pub fn read(&mut self, buf: &mut [u8]) -> io::Result<usize>
         ensures bound { ReadsAtMost result buf.new }
         ensures bytes { ReadConsumes (Some (drop self.old.at self.old.current.items ++ bytes_of self.old.pieces.items))

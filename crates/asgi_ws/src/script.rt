@@ -17,7 +17,7 @@ use std::alloc::Global;
 use std::collections::VecDeque;
 use std::io::{self, ErrorKind};
 
-/// A line in memory.
+/// A line in memory, which keeps what went by.
 #[derive(Drop)]
 pub struct Script {
     alloc: Global,
@@ -33,7 +33,8 @@ pub struct Script {
 }
 
 impl Script {
-    /// A line that reads these pieces, and after `upgrade` these messages, and takes all that it is given.
+    /// A line that reads these pieces, and after `upgrade` the messages of these turns, and takes
+    /// all that it is given. It takes no memory.
     pub fn new(alloc: Global, pieces: VecDeque<Piece>, turns: VecDeque<Turn>) -> Self
         ensures pieces { (result.pieces.current.items ≡ []) × (result.pieces.pieces ≡ pieces) }
         ensures turns { result.turns ≡ turns }
@@ -54,7 +55,8 @@ impl Script {
         }
     }
 
-    /// So many writes succeed, of at most so many bytes each; from then on each fails.
+    /// At most `after` writes of text succeed, of at most `at_most` bytes each; from then on each
+    /// fails.
     pub fn failing_write(mut self, after: u64, at_most: usize) -> Self
         ensures { result ≡ record self { writes_left = Some after; at_most = at_most } }
     {
@@ -63,7 +65,7 @@ impl Script {
         self
     }
 
-    /// So many sends succeed; from then on each fails.
+    /// At most `after` sends succeed; from then on each answers `Failed`.
     pub fn failing_send(mut self, after: u64) -> Self
         ensures sends { result.lists.left ≡ Some after }
         ensures same { (result.lists.calls ≡ self.lists.calls) × (result ≡ record self { lists = result.lists }) }
@@ -72,14 +74,14 @@ impl Script {
         self
     }
 
-    /// The text that was written.
+    /// The bytes of text that were written, the oldest first.
     pub fn text(&self) -> &[u8]
         ensures { result.now ≡ self.now.text.items }
     {
         self.text.as_slice()
     }
 
-    /// The bytes that `upgrade` kept.
+    /// The bytes that `upgrade` kept; None before it.
     pub fn leftover(&self) -> Option<&[u8]>
         ensures { option_map (λ bytes. bytes.now) result ≡ option_map (λ v. v.items) self.now.leftover }
     {
@@ -96,7 +98,7 @@ impl Script {
         self.lists.received.as_slice()
     }
 
-    /// What went out, the oldest first.
+    /// The messages and closes that went out, the oldest first.
     pub fn handed(&self) -> &[Handed]
         ensures { result.now ≡ handed_in self.now.lists.calls.items }
     {

@@ -5,7 +5,8 @@ ghost use Rattle.std.specs.Io.KnownBytes.{ReadConsumes, WriteAppends, Keeps};
 
 use std::io::{self, Read, Write};
 
-/// What carries bytes both ways. A read leaves what was written as it is, and a write what is to be read.
+/// What carries bytes both ways. A read leaves what was written as it is, and a write what is to be
+/// read.
 pub trait Stream {
     /// The bytes that are still to come, where they are known.
     ghost remaining: { Self → Option (List ℕ) };
@@ -13,13 +14,13 @@ pub trait Stream {
     /// The bytes that were written, where they are known.
     ghost contents: { Self → Option (List ℕ) };
 
-    /// Reads some bytes, and answers how many: none at the end.
+    /// Reads some bytes to the front of `buf`, and answers how many: none at the end.
     fn read_part(&mut self, buf: &mut [u8]) -> io::Result<usize>
         ensures bound { ReadsAtMost result buf.new }
         ensures bytes { ReadConsumes (remaining self.old) (remaining self.new) result buf.new }
         ensures stays { contents self.new ≡ contents self.old };
 
-    /// Writes some of the bytes, and answers how many.
+    /// Writes some of the bytes, from the first on, and answers how many.
     fn write_part(&mut self, bytes: &[u8]) -> io::Result<usize>
         ensures bound { WritesAtMost result bytes.now }
         ensures bytes { WriteAppends (contents self.old) (contents self.new) result bytes.now }
@@ -34,7 +35,9 @@ pub trait Stream {
 /// A stream of a reader and a writer, each of which tells its own bytes.
 #[derive(Debug, Drop)]
 pub struct Pair<R, W> {
+    /// What the bytes are read from.
     pub reader: R,
+    /// What the bytes are written to.
     pub writer: W,
 }
 

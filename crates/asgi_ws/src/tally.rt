@@ -10,9 +10,13 @@ use std::io;
 /// The answers, and the counts of faults and of failures.
 #[derive(Drop)]
 pub struct Tally {
+    /// Reads of text that failed with an error that does not pass.
     pub faults: u64,
+    /// How each read of text was answered, the oldest first.
     pub reads: History<Answer>,
+    /// Writes of text, and reads and sends of messages, that failed.
     pub failures: u64,
+    /// How each write of text was answered, the oldest first.
     pub writes: History<Answer>,
     ghost counts: { faults ≡ counted (failed_in reads.items) },
 }
@@ -30,7 +34,7 @@ impl Tally {
         }
     }
 
-    /// Keeps how a read of text was answered.
+    /// Keeps how a read of text with `room` bytes of room was answered, and counts a fault.
     pub fn note_read(&mut self, read: &io::Result<usize>, room: usize)
         ensures told { self.new.reads.items ≡ self.old.reads.items ++ answer_of room read.now ∷ [] }
         ensures same { (self.new.failures ≡ self.old.failures) × (self.new.writes ≡ self.old.writes) }
@@ -42,7 +46,8 @@ impl Tally {
         }
     }
 
-    /// Keeps how a write of text was answered.
+    /// Keeps how a write of these bytes was answered. A failure is counted, also one that passes,
+    /// or that none of some bytes were taken.
     pub fn note_write(&mut self, wrote: &io::Result<usize>, bytes: &[u8])
         ensures told { self.new.writes.items ≡ self.old.writes.items ++ answer_of (length bytes.now) wrote.now ∷ [] }
         ensures counts { CountsFailures self.old.failures self.new.failures bytes.now wrote.now }

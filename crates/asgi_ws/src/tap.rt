@@ -14,13 +14,16 @@ const RETRIES: u32 = 1_000;
 /// How the input of a stream stopped.
 #[derive(Clone, Copy, Debug, PartialEq, Eq)]
 pub enum Stop {
+    /// A read found its end.
     Ended,
+    /// A read failed with an error that does not pass.
     Failed,
 }
 
 /// A stream that would block where its input has ended or failed.
 #[derive(Drop)]
 pub struct Tap<S> {
+    /// The stream below.
     pub stream: S,
     /// How the input stopped, once a read told it.
     pub stop: Option<Stop>,

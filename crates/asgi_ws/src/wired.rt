@@ -32,7 +32,7 @@ pub struct Wired<S> {
 }
 
 impl<S> Wired<S> {
-    /// A line of text over the stream.
+    /// A line of text over the stream. It takes no memory.
     pub fn new(alloc: Global, stream: S) -> Self
         ensures stream { result.stream ≡ Some stream }
         ensures nothing { (result.calls.items ≡ []) × (result.tally.failures ≡ 0) × (result.tally.reads.items ≡ []) × (result.tally.writes.items ≡ []) }

@@ -19,6 +19,10 @@ const ECHO: &[u8] =
 
 const NOT_FOUND: &[u8] = b"HTTP/1.1 404 Not Found\r\ncontent-length: 0\r\n\r\n";
 
+/// What `life` answers where the state has no number.
+const NO_NUMBER: &[u8] =
+    b"HTTP/1.1 200 OK\r\ncontent-type: text/plain\r\ntransfer-encoding: chunked\r\n\r\n4\r\nn=?\n\r\n0\r\n\r\n";
+
 const USAGE_TEXT: &[u8] = b"usage: asgi_demo once APP | asgi_demo serve PORT COUNT APP\n";
 
 fn words(alloc: Global, texts: &[&str]) -> Result<Vec<String>, Fail> {
@@ -101,11 +105,15 @@ fn run<H: RandomSource + AllocGlobal + Clock, L: Line, E: Counts>(
 
 #[test]
 fn once_answers_by_the_application_that_is_named(rt: HostRuntime) -> Result<(), Fail> {
-    let rows: [(&str, &[u8]); 4] = [
+    let rows: [(&str, &[u8]); 8] = [
         ("hello", GREETING),
         ("echo", ECHO),
         ("notfound", NOT_FOUND),
         ("wsecho", NOT_FOUND),
+        ("mounts", NOT_FOUND),
+        ("life", NO_NUMBER),
+        ("nostart", NO_NUMBER),
+        ("nostop", NO_NUMBER),
     ];
     for (name, wanted) in rows {
         let words = words(rt.alloc(), &["once", name])?;
@@ -276,7 +284,12 @@ fn a_text_that_cannot_be_told_changes_no_status(rt: HostRuntime) -> Result<(), F
 
 #[test]
 fn a_server_of_no_connections_starts_and_stops(rt: HostRuntime) -> Result<(), Fail> {
-    let rows: [(&str, u8, &[u8]); 2] = [("hello", 0, b""), ("wsecho", 0, b"")];
+    let rows: [(&str, u8, &[u8]); 4] = [
+        ("hello", 0, b""),
+        ("life", 0, b""),
+        ("nostart", 3, b"startup failed: no table\n"),
+        ("nostop", 4, b"shutdown failed: still busy\n"),
+    ];
     for (name, status, text) in rows {
         let words = words(rt.alloc(), &["serve", "08000", "0001", name])?;
         let mut line = line_of(rt.alloc(), REQUEST);

@@ -1,0 +1,176 @@
+//! One application under its prefix, and the longest prefix that a path is under.
+ghost use Rattle.std.specs.Prelude.{◌≡◌, ◌++◌, ◌↔◌, ℕ, List, ◌∷◌, [], Option, length, IsTrue, IfOk};
+ghost use Rattle.std.specs.Result.{IsErrOf};
+ghost use Rattle.asgi_types.specs.declared.incoming.Incoming.{Incoming};
+ghost use Rattle.asgi_types.specs.declared.outgoing.Outgoing.{Outgoing};
+ghost use Rattle.asgi_types.specs.declared.end_kind.EndKind.{EndKind};
+ghost use Rattle.asgi_apps.specs.Mounting.{IsLongest, root_path_of, with_root_path};
+ghost use Rattle.asgi_apps.specs.Mounts.{IsBadPrefix, IsMounted, IsUnder, local_path, mounted_scope, prefixes_of};
+ghost use Rattle.asgi_apps.specs.Scopes.{kind_of};
+
+use crate::task::{AppFault, Application};
+use asgi_types::{Chars, HttpScope, Scope, WsScope};
+use std::alloc::{AllocError, Global};
+
+const SLASH: &[u8] = b"/";
+
+/// An application under its prefix.
+#[derive(Debug, Drop)]
+pub struct Mount<A> {
+    /// The front of the paths that go to it, without a `/` at its end.
+    pub prefix: Chars,
+    /// The application.
+    pub app: A,
+}
+
+/// A prefix that was found.
+#[derive(Clone, Copy, Debug)]
+pub struct Found {
+    /// Its number, in the order of mounting.
+    pub at: usize,
+    /// Its length, in bytes.
+    pub length: usize,
+}
+
+/// Whether it is refused as a prefix: it is not empty, and has no `/` at its front, or one at its
+/// end.
+pub fn is_bad_prefix(prefix: &[u8]) -> bool
+    ensures { IsTrue result ↔ IsBadPrefix prefix.now }
+{
+    if prefix.is_empty() {
+        return false;
+    }
+    !prefix.starts_with(SLASH) || prefix.ends_with(SLASH)
+}
+
+/// Whether an application is mounted under just this prefix.
+pub fn is_mounted<A>(mounts: &[Mount<A>], prefix: &[u8]) -> bool
+    ensures { IsTrue result ↔ IsMounted (prefixes_of mounts.now) prefix.now }
+{
+    for mount in mounts {
+        if mount.prefix.as_str().as_bytes() == prefix {
+            return true;
+        }
+    }
+    false
+}
+
+/// The path without the root path in front, or the whole path where that is not in front (ASGI HTTP
+/// and WebSocket connection scope, `root_path`).
+pub fn local_of<'a>(path: &'a [u8], root_path: &[u8]) -> &'a [u8]
+    ensures { result.now ≡ local_path path.now root_path.now }
+{
+    match path.strip_prefix(root_path) {
+        Some(local) => local,
+        None => path,
+    }
+}
+
+/// Whether the path is the prefix, or goes on behind it with a `/`.
+fn is_under(prefix: &[u8], path: &[u8]) -> bool
+    ensures { IsTrue result ↔ IsUnder prefix.now path.now }
+{
+    let Some(rest) = path.strip_prefix(prefix) else {
+        return false;
+    };
+    if rest.is_empty() {
+        return true;
+    }
+    rest.starts_with(SLASH)
+}
+
+/// The longest prefix that the path is under: the path is the prefix, or goes on behind it with a
+/// `/`. None where it is under none.
+pub fn longest<A>(mounts: &[Mount<A>], path: &[u8]) -> Option<Found>
+    ensures { IsLongest (prefixes_of mounts.now) path.now result }
+{
+    let mut found = None;
+    for (at, mount) in mounts.iter().enumerate() {
+        found = longer(found, at, mount.prefix.as_str().as_bytes(), path);
+    }
+    found
+}
+
+/// The longest prefix, with one more behind those before it.
+fn longer(found: Option<Found>, at: usize, prefix: &[u8], path: &[u8]) -> Option<Found>
+    ensures { (prefixes : List (List ℕ)) → length prefixes ≡ at → IsLongest prefixes path.now found → IsLongest (prefixes ++ prefix.now ∷ []) path.now result }
+{
+    if !is_under(prefix, path) {
+        return found;
+    }
+    if let Some(before) = found {
+        if prefix.len() <= before.length {
+            return found;
+        }
+    }
+    Some(Found {
+        at,
+        length: prefix.len(),
+    })
+}
+
+impl<A: Application> Mount<A> {
+    /// Calls the application in the scope with the prefix added to `root_path` (ASGI HTTP and
+    /// WebSocket connection scope, `root_path`). A lifespan scope goes to it as it is. The fault is
+    /// the application's, or `NoMemory` where memory for the scope is refused.
+    pub fn call(&self, alloc: Global, scope: &Scope) -> Result<A::Task, AppFault>
+        ensures stands { IfOk result (λ task. A.Task.AppTask.stands task (kind_of scope.now) [] []) }
+        ensures answers { IfOk result (λ task. (heard : List Incoming) (said : List Outgoing) (ended : Option EndKind) → A.Task.AppTask.answers task heard said ended → A.answers self.now.app (mounted_scope self.now.prefix scope.now) heard said ended) }
+        ensures failed { IsErrOf result AppFault.Failed → A.refuses self.now.app (mounted_scope self.now.prefix scope.now) }
+    {
+        match scope {
+            Scope::Http(_) => self.call_under(alloc, scope),
+            Scope::WebSocket(_) => self.call_under(alloc, scope),
+            Scope::Lifespan(_) => self.app.call(alloc, scope),
+        }
+    }
+
+    fn call_under(&self, alloc: Global, scope: &Scope) -> Result<A::Task, AppFault>
+        ensures stands { IfOk result (λ task. A.Task.AppTask.stands task (kind_of scope.now) [] []) }
+        ensures answers { IfOk result (λ task. (heard : List Incoming) (said : List Outgoing) (ended : Option EndKind) → A.Task.AppTask.answers task heard said ended → A.answers self.now.app (mounted_scope self.now.prefix scope.now) heard said ended) }
+        ensures failed { IsErrOf result AppFault.Failed → A.refuses self.now.app (mounted_scope self.now.prefix scope.now) }
+    {
+        match mounted(alloc, self.prefix.as_str(), scope) {
+            Ok(scope) => self.app.call(alloc, &scope),
+            Err(e) => Err(AppFault::NoMemory(e)),
+        }
+    }
+}
+
+/// The scope with the prefix added to `root_path`, in memory of its own.
+fn mounted(alloc: Global, prefix: &str, scope: &Scope) -> Result<Scope, AllocError>
+    ensures { IfOk result (λ made. made ≡ mounted_scope prefix.now scope.now) }
+{
+    let root_path = joined(alloc, root_path(scope), prefix)?;
+    let copied = scope.copy(alloc)?;
+    Ok(under(copied, root_path))
+}
+
+fn root_path(scope: &Scope) -> &str
+    ensures { result.now ≡ root_path_of scope.now }
+{
+    match scope {
+        Scope::Http(scope) => scope.root_path.as_str(),
+        Scope::WebSocket(scope) => scope.root_path.as_str(),
+        Scope::Lifespan(_) => "",
+    }
+}
+
+fn joined(alloc: Global, front: &str, behind: &str) -> Result<Chars, AllocError>
+    ensures { IfOk result (λ text. text ≡ front.now ++ behind.now) }
+{
+    let mut text = String::from_str(alloc, front)?;
+    text.push_str(behind)?;
+    Ok(Chars::new(text))
+}
+
+/// The scope with this `root_path`.
+fn under(scope: Scope, root_path: Chars) -> Scope
+    ensures { result ≡ with_root_path scope root_path }
+{
+    match scope {
+        Scope::Http(scope) => Scope::Http(HttpScope { root_path, ..scope }),
+        Scope::WebSocket(scope) => Scope::WebSocket(WsScope { root_path, ..scope }),
+        Scope::Lifespan(scope) => Scope::Lifespan(scope),
+    }
+}

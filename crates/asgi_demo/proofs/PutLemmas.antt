@@ -1,0 +1,147 @@
+-- Texts that are written one behind another are one text.
+use Rattle.std.proofs.Common.{◌≡◌, ◌∙◌, ℕ, suc, ◌+◌, ◌<◌, ◌≤◌, Bool, true, false, List, [], ◌∷◌, ◌++◌, length, take, drop, All, sum_by, Option, refl, sym, ap, ap₂, subst, arith, codes, replicate, length-append, append_assoc, append-nil, zero-add, get_or, decimal}
+use Rattle.std.proofs.KnownBytes.{Appends-nil, Appends-trans}
+use Rattle.std.proofs.lemmas.List.Elements.{All-append}
+use Rattle.std.proofs.lemmas.List.Sums.{sum_by-append}
+use Rattle.std.proofs.lemmas.List.{take-append-le, take_more, take-append-drop}
+use Rattle.std.proofs.lemmas.List.Concat.{flat_map-append}
+use Rattle.std.specs.Io.KnownBytes.{Appends}
+use Rattle.asgi_io.specs.declared.answer.Answer.{Answer}
+use Rattle.asgi_io.specs.declared.answer.Answer.TheVariants.{Paused, Moved}
+use Rattle.asgi_io.specs.declared.write.Wrote.{Wrote}
+use Rattle.asgi_io.specs.declared.write.Wrote.TheVariants.{Done, Failed}
+use Rattle.asgi_io.specs.Counting.{RoseBy}
+use Rattle.asgi_io.specs.Writing.{WritesOut, TriesWrites, Part, IsPart, IsEnd, part_answers, out_of}
+use Rattle.asgi_io.proofs.CountLemmas.{never_fell, rose_after}
+use Rattle.asgi_conversation.specs.declared.report.Report.{Report}
+use Rattle.asgi_demo.specs.Telling.{Writer, Tells, Puts, is_whole, report_line, report_lines}
+
+-- how much went out of a text, so many bytes behind the beginning of a longer one
+abbrev behind : ℕ → Wrote → Wrote
+behind n Done = Done
+behind n (Failed k) = Failed (n + k)
+
+longer : (x : ℕ) (s : List ℕ) (k : ℕ) → length (x ∷ s) + k ≡ suc (length s + k)
+longer x s k = omega arith
+
+take_behind : (s t : List ℕ) (k : ℕ) → take (length s + k) (s ++ t) ≡ s ++ take k t
+take_behind [] t k = ap (λ n. take n t) (zero-add k)
+take_behind (x ∷ s) t k = ap (λ n. take n (x ∷ (s ++ t))) (longer x s k) ∙ ap (λ (l : List ℕ). x ∷ l) (take_behind s t k)
+
+writes_next : (a b c : Option (List ℕ)) (e f g : ℕ) (s t : List ℕ) (w : Wrote) → WritesOut a b e f s Done → WritesOut b c f g t w → WritesOut a c e g (s ++ t) (behind (length s) w)
+writes_next a b c e f g s t Done (x, y) (z, u) = (Appends-trans a b c s t x z, rose_after 0 e f g y u)
+writes_next a b c e f g s t (Failed k) (x, y) (z, less, u) =
+    (subst (λ l. Appends a c l) (sym (take_behind s t k)) (Appends-trans a b c s (take k t) x z), omega (arith, less, length-append s t), rose_after 1 e f g y u)
+
+out_behind : (s t : List ℕ) (w : Wrote) → out_of (s ++ t) (behind (length s) w) ≡ length s + out_of t w
+out_behind s t Done = length-append s t
+out_behind s t (Failed k) = refl
+
+ends_behind : (n : ℕ) (w : Wrote) (end : List Answer) → IsEnd w end → IsEnd (behind n w) end
+ends_behind n Done end is = is
+ends_behind n (Failed k) end is = is
+
+answers-append : (one other : List Part) → part_answers (one ++ other) ≡ part_answers one ++ part_answers other
+answers-append [] other = refl
+answers-append (p ∷ parts) other =
+    ap (λ (l : List Answer). replicate p.pauses Paused ++ Moved p.bytes ∷ l) (answers-append parts other)
+    ∙ sym (append_assoc (replicate p.pauses Paused) (Moved p.bytes ∷ part_answers parts) (part_answers other))
+
+-- nothing stands behind the parts of a text that went out whole
+whole_told : (a b : List Answer) (parts : List Part) (end : List Answer) → end ≡ [] → b ≡ a ++ part_answers parts ++ end → b ≡ a ++ part_answers parts
+whole_told a b parts end none told = told ∙ ap (λ (l : List Answer). a ++ part_answers parts ++ l) none ∙ append-nil (a ++ part_answers parts)
+
+tries_next : (a b c : List Answer) (s t : List ℕ) (w : Wrote) → TriesWrites a b (length s) Done → TriesWrites b c (out_of t w) w
+    → TriesWrites a c (out_of (s ++ t) (behind (length s) w)) (behind (length s) w)
+tries_next a b c s t w x y = record {
+  parts = x.parts ++ y.parts;
+  end = y.end;
+  each = All-append IsPart x.parts y.parts x.each y.each;
+  sum = sum_by-append (λ (part : Part). part.bytes) x.parts y.parts ∙ ap₂ (λ n k. n + k) x.sum y.sum ∙ sym (out_behind s t w);
+  ends = ends_behind (length s) w y.end y.ends;
+  told = y.told ∙ ap (λ (l : List Answer). l ++ part_answers y.parts ++ y.end) (whole_told a b x.parts x.end x.ends x.told)
+      ∙ ap (λ (l : List Answer). l ++ y.end) (append_assoc a (part_answers x.parts) (part_answers y.parts) ∙ ap (λ (l : List Answer). a ++ l) (sym (answers-append x.parts y.parts)));
+}
+
+whole_behind : (n : ℕ) (w : Wrote) → is_whole (behind n w) ≡ is_whole w
+whole_behind n Done = refl
+whole_behind n (Failed k) = refl
+
+pub puts_nothing : (a : Writer) → Puts [] a a true
+puts_nothing a = record {
+  wrote = Done;
+  writes = (Appends-nil a.written, never_fell a.failed);
+  tries = record { parts = []; end = []; each = λ k d less. absurd (omega (arith, less)); sum = refl; ends = refl; told = sym (append-nil (a.writes ++ []) ∙ append-nil a.writes) };
+  whole_is = refl;
+}
+
+done_next : (s t : List ℕ) (a b c : Writer) (whole : Bool) (one : Wrote) → true ≡ is_whole one
+    → WritesOut a.written b.written a.failed b.failed s one → TriesWrites a.writes b.writes (out_of s one) one → Puts t b c whole → Puts (s ++ t) a c whole
+done_next s t a b c whole (Failed k) is writes tries y = cc
+done_next s t a b c whole Done is writes tries y = record {
+  wrote = behind (length s) y.wrote;
+  writes = writes_next a.written b.written c.written a.failed b.failed c.failed s t y.wrote writes y.writes;
+  tries = tries_next a.writes b.writes c.writes s t y.wrote tries y.tries;
+  whole_is = y.whole_is ∙ sym (whole_behind (length s) y.wrote);
+}
+
+-- a text behind one of which all was written
+pub puts_next : (s t : List ℕ) (a b c : Writer) (whole : Bool) → Puts s a b true → Puts t b c whole → Puts (s ++ t) a c whole
+puts_next s t a b c whole x y = done_next s t a b c whole x.wrote x.whole_is x.writes x.tries y
+
+stopped_by : (s t : List ℕ) (a b : Writer) (one : Wrote) → false ≡ is_whole one
+    → WritesOut a.written b.written a.failed b.failed s one → TriesWrites a.writes b.writes (out_of s one) one → Puts (s ++ t) a b false
+stopped_by s t a b Done is writes tries = cc
+stopped_by s t a b (Failed k) is (x, less, y) tries = record {
+  wrote = Failed k;
+  writes = (subst (λ l. Appends a.written b.written l) (sym (take-append-le k s t (omega (arith, less)))) x, omega (arith, less, length-append s t), y);
+  tries = tries;
+  whole_is = refl;
+}
+
+-- where a front was not written whole, nothing is written behind it
+pub puts_stopped : (s t : List ℕ) (a b : Writer) → Puts s a b false → Puts (s ++ t) a b false
+puts_stopped s t a b x = stopped_by s t a b x.wrote x.whole_is x.writes x.tries
+
+pub puts_told : (s : List ℕ) (a b : Writer) (whole : Bool) → Puts s a b whole → Tells s a b
+puts_told s a b whole x = record { wrote = x.wrote; writes = x.writes; tries = x.tries }
+
+-- a line of a failure, of which the first part went out, and the second did not, or did
+pub failure_stops : (what why : List ℕ) (a b c : Writer) (one other : Bool) → one ≡ true → other ≡ false → Puts what a b one → Puts why b c other
+    → Tells (what ++ why ++ codes "\n") a c
+failure_stops what why a b c one other is fails x y =
+    let X : Puts what a b true = subst (λ w. Puts what a b w) is x in
+    let Y : Puts why b c false = subst (λ w. Puts why b c w) fails y in
+    puts_told (what ++ why ++ codes "\n") a c false (puts_stopped (what ++ why) (codes "\n") a c (puts_next what why a b c false X Y))
+
+pub failure_goes_out : (what why : List ℕ) (a b c d : Writer) (one other last : Bool) → one ≡ true → other ≡ true → Puts what a b one → Puts why b c other
+    → Puts (codes "\n") c d last → Tells (what ++ why ++ codes "\n") a d
+failure_goes_out what why a b c d one other last is goes x y z =
+    let X : Puts what a b true = subst (λ w. Puts what a b w) is x in
+    let Y : Puts why b c true = subst (λ w. Puts why b c w) goes y in
+    puts_told (what ++ why ++ codes "\n") a d last (puts_next (what ++ why) (codes "\n") a c d last (puts_next what why a b c true X Y) z)
+
+-- the lines of some reports, and the line of the next one
+lines_more : (reports : List (ℕ × Report)) (i : ℕ) (r : ℕ × Report) (line : List ℕ) → i < length reports → line ≡ report_line ((get_or reports i r).0, (get_or reports i r).1)
+    → report_lines (take (i + 1) reports) ≡ report_lines (take i reports) ++ line
+lines_more reports i r line less is =
+    ap report_lines (take_more reports i r less) ∙ flat_map-append report_line (take i reports) (get_or reports i r ∷ [])
+    ∙ ap (λ (l : List ℕ). report_lines (take i reports) ++ l) (append-nil (report_line (get_or reports i r)) ∙ sym is)
+
+pub line_is_told : (reports : List (ℕ × Report)) (i : ℕ) (r : ℕ × Report) (line : List ℕ) (a b c : Writer) (whole : Bool) → i < length reports
+    → line ≡ report_line ((get_or reports i r).0, (get_or reports i r).1) → whole ≡ true
+    → Puts (report_lines (take i reports)) a b true → Puts line b c whole → Puts (report_lines (take (i + 1) reports)) a c true
+line_is_told reports i r line a b c whole less is goes x y =
+    subst (λ l. Puts l a c true) (sym (lines_more reports i r line less is)) (puts_next (report_lines (take i reports)) line a b c true x (subst (λ w. Puts line b c w) goes y))
+
+-- the lines up to the next one, and those behind it
+lines_split : (reports : List (ℕ × Report)) (i : ℕ) → report_lines (take i reports) ++ report_lines (drop i reports) ≡ report_lines reports
+lines_split reports i = sym (flat_map-append report_line (take i reports) (drop i reports)) ∙ ap report_lines (take-append-drop i reports)
+
+pub line_is_not_told : (reports : List (ℕ × Report)) (i : ℕ) (r : ℕ × Report) (line : List ℕ) (a b c : Writer) (whole : Bool) → i < length reports
+    → line ≡ report_line ((get_or reports i r).0, (get_or reports i r).1) → whole ≡ false
+    → Puts (report_lines (take i reports)) a b true → Puts line b c whole → Puts (report_lines reports) a c false
+line_is_not_told reports i r line a b c whole less is stops x y =
+    let front = puts_next (report_lines (take i reports)) line a b c false x (subst (λ w. Puts line b c w) stops y) in
+    let told : Puts (report_lines (take (i + 1) reports)) a c false = subst (λ l. Puts l a c false) (sym (lines_more reports i r line less is)) front in
+    subst (λ l. Puts l a c false) (lines_split reports (i + 1)) (puts_stopped (report_lines (take (i + 1) reports)) (report_lines (drop (i + 1) reports)) a c told)

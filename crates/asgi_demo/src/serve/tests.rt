@@ -1,0 +1,198 @@
+//! A server of one connection at most, by how its application, its listener and its output do.
+ghost use Rattle.std.specs.Prelude.{◌≡◌, Bool};
+
+use super::*;
+use asgi_apps::{AppFault, AppTask, Life};
+use asgi_io::{Counted, History};
+use asgi_pipes::AppEnd;
+use asgi_server::Listener;
+use asgi_types::{Peer, Scope};
+use asgi_ws::{Pair, Wired};
+use futures::task::Poll;
+use std::alloc::Global;
+use std::io::{self, ErrorKind, Write};
+use std::test::Fail;
+
+const OLD_GET: &[u8] = b"GET / HTTP/1.0\r\n\r\n";
+
+/// An application whose task hears and says nothing, and asks to be polled again.
+#[derive(Clone, Copy, Debug)]
+struct Silent;
+
+#[derive(Drop)]
+struct SilentTask;
+
+impl Application for Silent {
+    type Task = SilentTask;
+
+    fn call(&self, _alloc: Global, _scope: &Scope) -> Result<SilentTask, AppFault> {
+        Ok(SilentTask)
+    }
+}
+
+impl AppTask for SilentTask {
+    fn poll<E: AppEnd>(
+        &mut self,
+        cx: &mut Context<'_>,
+        _end: &mut E,
+    ) -> Poll<Result<(), AppFault>> {
+        cx.yield_now()
+    }
+
+    ghost keeps = { λ _ _ _ _ _. tt };
+}
+
+type Memory = Wired<Pair<&'static [u8], Vec<u8>>>;
+
+/// Gives one connection, and then none; it may fail there.
+#[derive(Drop)]
+struct One {
+    line: Option<Memory>,
+    fails: bool,
+    asked: u64,
+    told: History<Option<(Memory, Option<Peer>, Option<Peer>)>>,
+}
+
+impl One {
+    fn new(alloc: Global, fails: bool) -> Self {
+        let pair = Pair {
+            reader: OLD_GET,
+            writer: Vec::new(alloc),
+        };
+        One {
+            line: Some(Wired::new(alloc, pair)),
+            fails,
+            asked: 0,
+            told: History::new(),
+        }
+    }
+}
+
+impl Listener for One {
+    type L = Memory;
+
+    ghost answers = { λ n. n.told.items };
+
+    fn next(&mut self) -> Option<(Memory, Option<Peer>, Option<Peer>)> {
+        self.asked = self.asked.saturating_add(1);
+        let given = match self.line.take() {
+            Some(line) => Some((line, None, None)),
+            None => None,
+        };
+        self.told = History::with(&self.told, &given);
+        given
+    }
+}
+
+impl Accepts for One {
+    ghost has_failed = { λ n. n.fails };
+
+    fn failed(&self) -> bool {
+        self.fails
+    }
+}
+
+/// A writer that takes so many bytes.
+#[derive(Drop)]
+struct Room {
+    written: Vec<u8>,
+    left: usize,
+}
+
+impl Write for Room {
+    fn write(&mut self, buf: &[u8]) -> io::Result<usize> {
+        if buf.len() > self.left {
+            return Err(io::Error::from(ErrorKind::WriteZero));
+        }
+        self.left -= buf.len();
+        self.written.extend_from_slice(buf)?;
+        Ok(buf.len())
+    }
+
+    fn flush(&mut self) -> io::Result<()> {
+        Ok(())
+    }
+}
+
+/// What a server did: its status, how often it asked for a connection, and what it wrote.
+#[derive(Drop)]
+struct Deeds {
+    status: u8,
+    asked: u64,
+    output: Vec<u8>,
+    errors: Vec<u8>,
+}
+
+/// Serves the one connection by this application.
+fn serves<H: RandomSource + AllocGlobal + Clock, A: Application>(
+    rt: &H,
+    limits: &Limits,
+    app: &A,
+    fails: bool,
+    room: usize,
+) -> Deeds {
+    let mut listener = One::new(rt.alloc(), fails);
+    let mut output = Counted::new(Room {
+        written: Vec::new(rt.alloc()),
+        left: room,
+    });
+    let mut errors = Counted::new(Vec::new(rt.alloc()));
+    let status = serve_on(rt, limits, app, &mut listener, &mut output, &mut errors);
+    let asked = listener.asked;
+    drop(listener);
+    Deeds {
+        status,
+        asked,
+        output: output.writer.written,
+        errors: errors.writer,
+    }
+}
+
+/// Whether these are what it did.
+fn are(it: &Deeds, status: u8, asked: u64, output: &[u8], errors: &[u8]) -> bool {
+    it.status == status
+        && it.asked == asked
+        && it.output.as_slice() == output
+        && it.errors.as_slice() == errors
+}
+
+const LINE: &[u8] = b"1 1 finished\n";
+
+/// The application, whether the listener fails, the room of the output; the status, what is written, and what is told.
+type Row = (Life, bool, usize, u8, &'static [u8], &'static [u8]);
+
+const ROWS: &[Row] = &[
+    (Life::Works, false, 100, 0, LINE, b""),
+    (
+        Life::NoStop,
+        false,
+        100,
+        4,
+        LINE,
+        b"shutdown failed: still busy\n",
+    ),
+    // a listener that failed, or a report that is not written, is told whatever the stop answered
+    (Life::Works, true, 100, 5, LINE, b"device fault\n"),
+    (Life::NoStop, true, 100, 5, LINE, b"device fault\n"),
+    (Life::Works, false, 12, 5, b"", b"device fault\n"),
+    (Life::NoStop, false, 12, 5, b"", b"device fault\n"),
+];
+
+#[test]
+fn the_end_is_that_of_the_stop_where_all_went_well(rt: HostRuntime) {
+    let limits = Limits::usual();
+    for (row, (life, fails, room, status, output, errors)) in ROWS.iter().enumerate() {
+        let it = serves(&rt, &limits, life, *fails, *room);
+        assert!(rt; are(&it, *status, 2, output, errors), "row {row}");
+    }
+}
+
+#[test]
+fn an_application_that_does_not_start_gets_no_connection(rt: HostRuntime) -> Result<(), Fail> {
+    let few = Limits::new(16_384, 64, 1_048_576, 16_384, 16, 3, 1_000)?;
+    let silent = serves(&rt, &few, &Silent, false, 100);
+    let failed = serves(&rt, &few, &Life::NoStart, false, 100);
+    assert!(rt; are(&silent, 3, 0, b"", b"startup failed: no answer\n"));
+    assert!(rt; are(&failed, 3, 0, b"", b"startup failed: no table\n"));
+    Ok(())
+}

@@ -1,0 +1,11 @@
+//! Tests of a server of one connection after another, as tables on its public calls.
+#![tactic(auto)]
+
+#[cfg(test)]
+mod lives;
+#[cfg(test)]
+mod loopback;
+#[cfg(test)]
+mod queue;
+#[cfg(test)]
+mod serves;

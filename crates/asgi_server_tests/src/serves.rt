@@ -1,0 +1,58 @@
+//! Two connections, one after another.
+use crate::queue::{End, empty, is_reported, is_served, serve};
+use asgi_apps::{Echo, Hello};
+use asgi_conn::Outcome;
+use asgi_fakes::texts::{BAD_REQUEST, GET, HELLO, TWO_REQUESTS};
+use asgi_types::State;
+use std::test::Fail;
+
+/// What two connections read, what is written to them, and how they end.
+type Row = ([&'static [u8]; 2], [&'static [u8]; 2], [End; 2]);
+
+const ROWS: &[Row] = &[
+    (
+        [GET, GET],
+        [HELLO, HELLO],
+        [(Outcome::Finished, 1), (Outcome::Finished, 1)],
+    ),
+    (
+        [b"GET / HTTP/1.1\r\n\r\n", GET],
+        [BAD_REQUEST, HELLO],
+        [(Outcome::Refused(400), 0), (Outcome::Finished, 1)],
+    ),
+    (
+        [b"GE", b""],
+        [b"", b""],
+        [(Outcome::InputBroke, 0), (Outcome::Finished, 0)],
+    ),
+];
+
+#[test]
+fn each_connection_has_its_answer_and_its_report(rt: HostRuntime) -> Result<(), Fail> {
+    let state = State::new(rt.alloc());
+    for (row, (inputs, outputs, ends)) in ROWS.iter().enumerate() {
+        let held = is_served(&rt, &Hello, &state, *inputs, *outputs, ends)?;
+        assert!(rt; held, "row {row}");
+    }
+    Ok(())
+}
+
+#[test]
+fn a_listener_with_no_connections_gives_no_reports(rt: HostRuntime) -> Result<(), Fail> {
+    let state = State::new(rt.alloc());
+    let reports = serve(&rt, &Echo, &state, &mut empty())?;
+    assert!(rt; is_reported(&reports, &[]));
+    Ok(())
+}
+
+#[test]
+fn memory_of_two_connections(rt: HostRuntime) -> Result<(), Fail> {
+    let state = State::new(rt.alloc());
+    let ends = [(Outcome::Finished, 1), (Outcome::Finished, 2)];
+    let pipelined = [GET, TWO_REQUESTS];
+    let mut both = Vec::from_slice(rt.alloc(), HELLO)?;
+    both.extend_from_slice(HELLO)?;
+    let held = is_served(&rt, &Hello, &state, pipelined, [HELLO, &both], &ends)?;
+    assert!(rt; held);
+    Ok(())
+}
