@@ -1,5 +1,5 @@
 -- What followed the answer to the start is what the program promises.
-use Rattle.std.proofs.Common.{◌≡◌, ◌⊎◌, inl, inr, ℕ, Bool, List, [], Option, Some, None, subst, sym, refl}
+use Rattle.std.proofs.Common.{◌≡◌, ◌⊎◌, inl, inr, ℕ, Bool, List, [], Option, Some, None, subst, sym}
 use Rattle.asgi_io.specs.declared.counts.Counts as counts
 use Rattle.asgi_io.specs.declared.reads.Reads as reads
 use Rattle.asgi_types.specs.declared.end_kind.EndKind.{EndKind}
@@ -18,10 +18,10 @@ use Rattle.asgi_lifespan.specs.Facts.{lifespan_scope}
 use Rattle.asgi_lifespan.specs.Lifespan.{StartAnswer, started, failed, unsupported, start_answer}
 use Rattle.asgi_lifespan.specs.Starting.{Starts, StandsFor, PromiseOf, IsNoMemory, turns_in}
 use Rattle.asgi_lifespan.specs.Stopping.{Stops}
-use Rattle.asgi_server.specs.Connections.{Promise, Given}
+use Rattle.asgi_server.specs.Connections.{Promise}
 use Rattle.asgi_demo.specs.declared.ending.Ending.{Ending}
 use Rattle.asgi_demo.specs.declared.ending.Ending.TheVariants.{StartupFailed, NoStartup}
-use Rattle.asgi_demo.specs.Serving.{Around, Lives, LivesOrNot, Follows, ServesOrNot, ending_of}
+use Rattle.asgi_demo.specs.Serving.{Around, LivesOrNot, Follows, ServesOrNot, ending_of}
 
 -- what holds beside the one case is left aside
 pub aside : {A B C : Type 0} → (A × B) ⊎ C → A ⊎ C
@@ -68,22 +68,22 @@ module _ {L T : Type 0} (R : reads.Ghosts L) (W : counts.Ghosts L) (M : messages
   follows_by answer told x is follows =
       lives_by answer x (subst (λ a. Follows R W M answers limits has_failed a x.heard x.said old new between after ending) (sym is) follows)
 
-  as_started : (life : Lifespan T g) (state : List (List ℕ × StateValue)) (well : Bool) (at : ℕ) (stopped : Stop) → Starts (answers lifespan_scope) limits before between (start.Started life state)
+  as_started : (life : Lifespan T g) (state : List (List ℕ × StateValue)) (well : Bool) (at : ℕ) (reply : Stop) → Starts (answers lifespan_scope) limits before between (start.Started life state)
       → ServesOrNot R W M answers limits has_failed state old new between at well
-      → ((heard : List Incoming) (said : List Outgoing) (ended : Option EndKind) → StandsFor limits life heard said ended → Stops (PromiseOf life) limits heard said at after stopped)
-      → ending ≡ ending_of well stopped → LivesOrNot R W M answers limits has_failed old new before after ending
-  as_started life state well at stopped x served stops ends =
+      → ((heard : List Incoming) (said : List Outgoing) (ended : Option EndKind) → StandsFor limits life heard said ended → Stops (PromiseOf life) limits heard said at after reply)
+      → ending ≡ ending_of well reply → LivesOrNot R W M answers limits has_failed old new before after ending
+  as_started life state well at reply x served stops ends =
       follows_by (start.Started life state) (Some (started state)) x x.answered
-      (well, at, stopped, served, kept_within (PromiseOf life) (answers lifespan_scope) limits x.heard x.said at after stopped x.stands.1 (stops x.heard x.said x.ended x.stands.0), ends)
+      (well, at, reply, served, kept_within (PromiseOf life) (answers lifespan_scope) limits x.heard x.said at after reply x.stands.1 (stops x.heard x.said x.ended x.stands.0), ends)
 
-  pub lives_started : (answer : Start T g) (life : Lifespan T g) (state : List (List ℕ × StateValue)) (well : Bool) (at : ℕ) (stopped : Stop) → answer ≡ start.Started life state
+  pub lives_started : (answer : Start T g) (life : Lifespan T g) (state : List (List ℕ × StateValue)) (well : Bool) (at : ℕ) (reply : Stop) → answer ≡ start.Started life state
       → IsNoMemory answer ⊎ Starts (answers lifespan_scope) limits before between answer
       → ServesOrNot R W M answers limits has_failed state old new between at well
-      → ((heard : List Incoming) (said : List Outgoing) (ended : Option EndKind) → StandsFor limits life heard said ended → Stops (PromiseOf life) limits heard said at after stopped)
-      → ending ≡ ending_of well stopped → LivesOrNot R W M answers limits has_failed old new before after ending
-  lives_started answer life state well at stopped same (inl none) served stops ends = absurd (subst (λ a. IsNoMemory a) same none)
-  lives_started answer life state well at stopped same (inr x) served stops ends =
-      as_started life state well at stopped (subst (λ a. Starts (answers lifespan_scope) limits before between a) same x) served stops ends
+      → ((heard : List Incoming) (said : List Outgoing) (ended : Option EndKind) → StandsFor limits life heard said ended → Stops (PromiseOf life) limits heard said at after reply)
+      → ending ≡ ending_of well reply → LivesOrNot R W M answers limits has_failed old new before after ending
+  lives_started answer life state well at reply same (inl none) served stops ends = absurd (subst (λ a. IsNoMemory a) same none)
+  lives_started answer life state well at reply same (inr x) served stops ends =
+      as_started life state well at reply (subst (λ a. Starts (answers lifespan_scope) limits before between a) same x) served stops ends
 
   pub lives_unsupported : (answer : Start T g) (state : List (List ℕ × StateValue)) (well : Bool) → answer ≡ start.Unsupported → state ≡ []
       → IsNoMemory answer ⊎ Starts (answers lifespan_scope) limits before between answer

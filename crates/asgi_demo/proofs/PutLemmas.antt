@@ -1,5 +1,5 @@
 -- Texts that are written one behind another are one text.
-use Rattle.std.proofs.Common.{◌≡◌, ◌∙◌, ℕ, suc, ◌+◌, ◌<◌, ◌≤◌, Bool, true, false, List, [], ◌∷◌, ◌++◌, length, take, drop, All, sum_by, Option, refl, sym, ap, ap₂, subst, arith, codes, replicate, length-append, append_assoc, append-nil, zero-add, get_or, decimal}
+use Rattle.std.proofs.Common.{◌≡◌, ◌∙◌, ℕ, suc, ◌+◌, ◌<◌, Bool, true, false, List, [], ◌∷◌, ◌++◌, length, take, drop, Option, refl, sym, ap, ap₂, subst, arith, codes, replicate, length-append, append_assoc, append-nil, zero-add, get_or}
 use Rattle.std.proofs.KnownBytes.{Appends-nil, Appends-trans}
 use Rattle.std.proofs.lemmas.List.Elements.{All-append}
 use Rattle.std.proofs.lemmas.List.Sums.{sum_by-append}
@@ -10,7 +10,6 @@ use Rattle.asgi_io.specs.declared.answer.Answer.{Answer}
 use Rattle.asgi_io.specs.declared.answer.Answer.TheVariants.{Paused, Moved}
 use Rattle.asgi_io.specs.declared.write.Wrote.{Wrote}
 use Rattle.asgi_io.specs.declared.write.Wrote.TheVariants.{Done, Failed}
-use Rattle.asgi_io.specs.Counting.{RoseBy}
 use Rattle.asgi_io.specs.Writing.{WritesOut, TriesWrites, Part, IsPart, IsEnd, part_answers, out_of}
 use Rattle.asgi_io.proofs.CountLemmas.{never_fell, rose_after}
 use Rattle.asgi_conversation.specs.declared.report.Report.{Report}

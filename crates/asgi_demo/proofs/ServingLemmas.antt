@@ -1,5 +1,5 @@
 -- One connection was served, with a pause that begins at none and a state that is empty.
-use Rattle.std.proofs.Common.{◌≡◌, ◌⊎◌, ℕ, Bool, List, [], None, subst, sym}
+use Rattle.std.proofs.Common.{◌≡◌, ◌⊎◌, ◌∙◌, ◌++◌, ◌∷◌, ap, ap₂, codes, inr, Option, ℕ, Bool, List, [], None, subst, sym}
 use Rattle.asgi_io.specs.declared.counts.Counts as counts
 use Rattle.asgi_io.specs.declared.reads.Reads as reads
 use Rattle.asgi_types.specs.declared.limits.Limits.{Limits}
@@ -9,11 +9,20 @@ use Rattle.asgi_ws.specs.declared.messages.Messages as messages
 use Rattle.asgi_conversation.specs.declared.report.Report.{Report}
 use Rattle.asgi_conn.specs.Lines.{LineState}
 use Rattle.asgi_conn.specs.Serving.{Serves}
-use Rattle.asgi_server.specs.Connections.{Promise}
+use Rattle.asgi_apps.specs.declared.mounting.Mount.{Mount}
+use Rattle.asgi_apps.specs.declared.root_path.RootPath.{RootPath}
+use Rattle.asgi_apps.specs.Answers.{Answers, root_path_answer}
+use Rattle.asgi_apps.specs.Mounts.{MountsAnswer}
+use Rattle.asgi_server.specs.Connections.{Given, Promise}
+use Rattle.asgi_demo.proofs.WordLemmas.{one_serving}
 use Rattle.asgi_demo.specs.declared.words.App.{App}
-use Rattle.asgi_demo.specs.Serving.{Around, ServesOn}
-use Rattle.asgi_demo.specs.Telling.{Writer}
-use Rattle.asgi_demo.specs.Command.{Streams, ServesWhole, ServesOnce, ServesPort, BeginsNone, promise}
+use Rattle.asgi_demo.specs.declared.words.App.TheVariants as app
+use Rattle.asgi_demo.specs.declared.words.Command.{Command}
+use Rattle.asgi_demo.specs.declared.words.Command.TheVariants.{Serve}
+use Rattle.asgi_demo.specs.Words.{Asks, IsServing}
+use Rattle.asgi_demo.specs.Serving.{Around, around, ServesOn}
+use Rattle.asgi_demo.specs.Telling.{Writer, Tells, device_fault}
+use Rattle.asgi_demo.specs.Command.{Streams, ServesWhole, ServesOnce, ServesPort, BeginsNone, promise, two_mounts}
 
 pub served_whole : (answers : Promise) (limits : Limits) (state : List (List ℕ × StateValue)) (old new : LineState) (paused pauses : ℕ) (report : Report)
     → AreLimits limits 16384 64 1048576 16384 16 30000 1099511627776 → state ≡ [] → paused ≡ 0
@@ -35,3 +44,46 @@ pub port_as_named : {L : Type 0} (R : reads.Ghosts L) (W : counts.Ghosts L) (M :
 port_as_named R W M a b limits has_failed old new errors_old errors_new status usual same serves =
     let P : App → Type 0 = λ x. ServesOn R W M (promise x) limits has_failed old new errors_old errors_new status in
     record { limits = limits; usual = usual; serves = subst P (sym same) serves }
+
+-- the promise of applications under these prefixes
+abbrev mounted : List (Mount RootPath) → Promise
+mounted mounts = MountsAnswer (λ _ taken. Answers (root_path_answer taken)) mounts
+
+abbrev mount_at : List ℕ → Mount RootPath
+mount_at prefix = record { prefix = prefix; app = record {} }
+
+-- two applications were mounted, one behind the other
+pub two_by : (none one two : List (Mount RootPath)) (p q : List ℕ) → none ≡ [] → one ≡ none ++ record { prefix = p; app = record {} } ∷ []
+    → two ≡ one ++ record { prefix = q; app = record {} } ∷ [] → p ≡ codes "/a" → q ≡ codes "/a/b" → two ≡ two_mounts
+two_by none one two p q empty first second is other =
+    second ∙ ap (λ l. l ++ mount_at q ∷ []) (first ∙ ap (λ l. l ++ mount_at p ∷ []) empty) ∙ ap₂ (λ x y. mount_at x ∷ mount_at y ∷ []) is other
+
+pub once_mounted : (a : App) (mounts : List (Mount RootPath)) (before after : Streams) (status : ℕ) → a ≡ app.Mounts → mounts ≡ two_mounts
+    → ServesOnce (mounted mounts) before after status ⊎ BeginsNone before after status → ServesOnce (promise a) before after status ⊎ BeginsNone before after status
+once_mounted a mounts before after status same is served =
+    as_named a app.Mounts before after status same (subst (λ m. ServesOnce (mounted m) before after status ⊎ BeginsNone before after status) is served)
+
+module _ {L : Type 0} (R : reads.Ghosts L) (W : counts.Ghosts L) (M : messages.Ghosts L) (limits : Limits) (has_failed : Bool) (old new : Around L)
+    (errors_old errors_new : Writer) (status : ℕ) where
+  pub port_mounted : (a : App) (mounts : List (Mount RootPath)) → AreLimits limits 16384 64 1048576 16384 16 30000 1099511627776 → a ≡ app.Mounts → mounts ≡ two_mounts
+      → ServesOn R W M (mounted mounts) limits has_failed old new errors_old errors_new status
+      → ServesPort R W M (promise a) has_failed old new errors_old errors_new status
+  port_mounted a mounts usual same is serves =
+      port_as_named R W M a app.Mounts limits has_failed old new errors_old errors_new status usual same
+      (subst (λ m. ServesOn R W M (mounted m) limits has_failed old new errors_old errors_new status) is serves)
+
+  -- what is to be served can't be had, and the listener was not asked
+  pub port_unserved : (answers : Promise) → AreLimits limits 16384 64 1048576 16384 16 30000 1099511627776 → new ≡ old → Tells device_fault errors_old errors_new → status ≡ 5
+      → ServesPort R W M answers has_failed old new errors_old errors_new status
+  port_unserved answers usual kept told is = record { limits = limits; usual = usual; serves = inr (kept, told, is) }
+
+-- what was served by the application that the words name, from where the listener was told its port
+pub port_asked : {L : Type 0} (R : reads.Ghosts L) (W : counts.Ghosts L) (M : messages.Ghosts L) (words : List (List ℕ)) (a b : App) (port count : ℕ) (has_failed : Bool)
+    (asked told : List (Option (Given L))) (output : Writer) (new : Around L) (errors_old errors_new : Writer) (status : ℕ)
+    (found : Command) → IsServing words a → Asks words found → found ≡ Serve port count b → told ≡ asked
+    → ServesPort R W M (promise b) has_failed (around told output) new errors_old errors_new status
+    → ServesPort R W M (promise a) has_failed (around asked output) new errors_old errors_new status
+port_asked R W M words a b port count has_failed asked told output new errors_old errors_new status found is asks found_is same serves =
+    let P : App → Type 0 = λ x. ServesPort R W M (promise x) has_failed (around told output) new errors_old errors_new status in
+    subst (λ l. ServesPort R W M (promise a) has_failed (around l output) new errors_old errors_new status) same
+    (subst P (sym (one_serving words a b is.0 is.1 port count is.2 (subst (λ c. Asks words c) found_is asks))) serves)

@@ -1,8 +1,11 @@
 -- What is told of an outcome, by its status.
-use Rattle.std.proofs.Common.{◌≡◌, ℕ, List, subst, refl}
+use Rattle.std.proofs.Common.{◌≡◌, ℕ, List, ◌++◌, codes, subst, sym, refl}
 use Rattle.asgi_conversation.specs.declared.report.Outcome.{Outcome}
 use Rattle.asgi_conversation.specs.declared.report.Outcome.TheVariants.{Finished, Refused, InputBroke, WriteFailed, Idle, NoMemory}
+use Rattle.asgi_demo.specs.declared.ending.Ending.{Ending}
+use Rattle.asgi_demo.specs.declared.ending.Ending.TheVariants.{ShutdownFailed}
 use Rattle.asgi_demo.specs.Command.{exit_status}
+use Rattle.asgi_demo.specs.Serving.{of_ending}
 use Rattle.asgi_demo.specs.Telling.{Writer, Tells, TellsOf, of_outcome, stopped}
 
 -- another status than 0: the connection stopped, and so it was told
@@ -23,3 +26,9 @@ nothing_is_told InputBroke old well = refl
 nothing_is_told (WriteFailed n) old well = cc
 nothing_is_told Idle old well = cc
 nothing_is_told NoMemory old well = cc
+
+-- the text of a stop that failed
+pub failed_stop_is_told : (e : Ending) (message text : List ℕ) (old new : Writer) → e ≡ ShutdownFailed message → text ≡ message
+    → Tells (codes "shutdown failed: " ++ text ++ codes "\n") old new → TellsOf (of_ending e) old new
+failed_stop_is_told e message text old new same is told =
+    subst (λ (x : Ending). TellsOf (of_ending x) old new) (sym same) (subst (λ t. Tells (codes "shutdown failed: " ++ t ++ codes "\n") old new) is told)

@@ -90,3 +90,10 @@ pub no_command : (words : List (List ℕ)) (found : Option Command) → ((a : Ap
     → IfNone found ((it : Command) → ¬ (Asks words it))
 no_command words (Some it) once serve = serve
 no_command words None once serve = asks_nothing words once serve
+
+-- words that ask to serve name one application
+pub one_serving : (words : List (List ℕ)) (a b : App) (p c q d : ℕ) → IsServe words (Serve p c a) → IsServe words (Serve q d b) → a ≡ b
+one_serving words a b p c q d (port, count, name, is, with_these) (port', count', name', is', with_others) =
+    let same : codes "serve" ∷ port ∷ count ∷ name ∷ [] ≡ codes "serve" ∷ port' ∷ count' ∷ name' ∷ [] = sym is ∙ is' in
+    let last : name ≡ name' = cc in
+    one_name a b (sym with_these.2 ∙ last ∙ with_others.2)

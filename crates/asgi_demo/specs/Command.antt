@@ -27,7 +27,7 @@ use Rattle.asgi_demo.specs.Telling.{Writer, Tells, TellsOf, device_fault, of_out
 
 -- `RootPath` under two prefixes
 abbrev pub two_mounts : List (Mount RootPath)
-two_mounts = record { prefix = codes "/a"; app = root_path } ∷ record { prefix = codes "/a/b"; app = root_path } ∷ []
+two_mounts = record { prefix = codes "/a"; app = record {} } ∷ record { prefix = codes "/a/b"; app = record {} } ∷ []
 
 -- the promise of the application that is named
 abbrev pub promise : App → Promise

@@ -24,7 +24,9 @@ pub struct Queue<'a> {
 }
 
 impl<'a> Queue<'a> {
-    fn pop(&mut self) -> Option<InMemory<'a>> {
+    fn pop(&mut self) -> Option<InMemory<'a>>
+        ensures { self.new.told ≡ self.old.told }
+    {
         match self.first.take() {
             Some(line) => Some(line),
             None => self.second.take(),
@@ -81,6 +83,19 @@ pub fn serve<H: RandomSource + AllocGlobal, A: Application, N: Listener>(
     Ok(reports?)
 }
 
+/// Serves what the queue gives, and drops it.
+pub fn serve_queue<H: RandomSource + AllocGlobal, A: Application>(
+    rt: &H,
+    app: &A,
+    state: &State,
+    queue: Queue<'_>,
+) -> io::Result<Vec<(u64, Report)>> {
+    let mut queue = queue;
+    let reports = serve(rt, app, state, &mut queue);
+    drop(queue);
+    reports
+}
+
 /// Whether two connections with these inputs end so, and have these outputs.
 pub fn is_served<H: RandomSource + AllocGlobal, A: Application>(
     rt: &H,
@@ -92,13 +107,12 @@ pub fn is_served<H: RandomSource + AllocGlobal, A: Application>(
 ) -> io::Result<bool> {
     let mut one = Vec::new(rt.alloc());
     let mut other = Vec::new(rt.alloc());
-    let mut queue = Queue {
+    let queue = Queue {
         first: Some(line(rt, inputs[0], &mut one)),
         second: Some(line(rt, inputs[1], &mut other)),
         told: History::new(),
     };
-    let reports = serve(rt, app, state, &mut queue)?;
-    drop(queue);
+    let reports = serve_queue(rt, app, state, queue)?;
     Ok(
         is_reported(&reports, ends)
             && one.as_slice() == outputs[0]

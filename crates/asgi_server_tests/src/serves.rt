@@ -1,5 +1,5 @@
 //! Two connections, one after another.
-use crate::queue::{End, empty, is_reported, is_served, serve};
+use crate::queue::{End, empty, is_reported, is_served, serve_queue};
 use asgi_apps::{Echo, Hello};
 use asgi_conn::Outcome;
 use asgi_fakes::texts::{BAD_REQUEST, GET, HELLO, TWO_REQUESTS};
@@ -40,7 +40,7 @@ fn each_connection_has_its_answer_and_its_report(rt: HostRuntime) -> Result<(), 
 #[test]
 fn a_listener_with_no_connections_gives_no_reports(rt: HostRuntime) -> Result<(), Fail> {
     let state = State::new(rt.alloc());
-    let reports = serve(&rt, &Echo, &state, &mut empty())?;
+    let reports = serve_queue(&rt, &Echo, &state, empty())?;
     assert!(rt; is_reported(&reports, &[]));
     Ok(())
 }
