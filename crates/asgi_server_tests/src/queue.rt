@@ -120,6 +120,40 @@ pub fn is_served<H: RandomSource + AllocGlobal, A: Application>(
     )
 }
 
+/// Whether two connections with this input are served, or end for want of memory, and get the output
+/// or a beginning of it.
+pub fn is_begun<H: RandomSource + AllocGlobal, A: Application>(
+    rt: &H,
+    app: &A,
+    state: &State,
+    input: &[u8],
+    output: &[u8],
+) -> bool {
+    let mut one = Vec::new(rt.alloc());
+    let mut other = Vec::new(rt.alloc());
+    let queue = Queue {
+        first: Some(line(rt, input, &mut one)),
+        second: Some(line(rt, input, &mut other)),
+        told: History::new(),
+    };
+    let well = match serve_queue(rt, app, state, queue) {
+        Ok(reports) => reports.len() == 2 && are_whole_or_lack_memory(&reports),
+        Err(_lacks_memory) => true,
+    };
+    well && output.starts_with(&one) && output.starts_with(&other)
+}
+
+/// Whether each connection was served to its end, or lacked memory for what was read or written.
+fn are_whole_or_lack_memory(reports: &[(u64, Report)]) -> bool {
+    for (_number, report) in reports {
+        match report.outcome {
+            Outcome::Finished | Outcome::NoMemory | Outcome::WriteFailed(_) => {}
+            Outcome::Refused(_) | Outcome::InputBroke | Outcome::Idle => return false,
+        }
+    }
+    true
+}
+
 fn line<'a, H: AllocGlobal>(rt: &H, reader: &'a [u8], writer: &'a mut Vec<u8>) -> InMemory<'a> {
     Wired::new(rt.alloc(), Pair { reader, writer })
 }

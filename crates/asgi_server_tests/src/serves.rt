@@ -1,5 +1,5 @@
 //! Two connections, one after another.
-use crate::queue::{End, empty, is_reported, is_served, serve_queue};
+use crate::queue::{End, empty, is_begun, is_reported, is_served, serve_queue};
 use asgi_apps::{Echo, Hello};
 use asgi_conn::Outcome;
 use asgi_fakes::texts::{BAD_REQUEST, GET, HELLO, TWO_REQUESTS};
@@ -46,7 +46,7 @@ fn a_listener_with_no_connections_gives_no_reports(rt: HostRuntime) -> Result<()
 }
 
 #[test]
-fn memory_of_two_connections(rt: HostRuntime) -> Result<(), Fail> {
+fn requests_that_are_sent_ahead_are_answered_in_order(rt: HostRuntime) -> Result<(), Fail> {
     let state = State::new(rt.alloc());
     let ends = [(Outcome::Finished, 1), (Outcome::Finished, 2)];
     let pipelined = [GET, TWO_REQUESTS];
@@ -55,4 +55,10 @@ fn memory_of_two_connections(rt: HostRuntime) -> Result<(), Fail> {
     let held = is_served(&rt, &Hello, &state, pipelined, [HELLO, &both], &ends)?;
     assert!(rt; held);
     Ok(())
+}
+
+#[test]
+fn memory_of_two_connections(rt: HostRuntime) {
+    let state = State::new(rt.alloc());
+    assert!(rt; is_begun(&rt, &Hello, &state, GET, HELLO));
 }
