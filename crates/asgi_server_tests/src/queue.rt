@@ -3,6 +3,7 @@ ghost use Rattle.std.specs.Prelude.{◌≡◌};
 
 use asgi_apps::Application;
 use asgi_conn::{CountingPause, Inline, Outcome, Report};
+use asgi_fakes::texts::SERVER_ERROR;
 use asgi_io::History;
 use asgi_server::{Listener, serve_all};
 use asgi_types::{Limits, Peer, State};
@@ -121,7 +122,7 @@ pub fn is_served<H: RandomSource + AllocGlobal, A: Application>(
 }
 
 /// Whether two connections with this input are served, or end for want of memory, and get the output
-/// or a beginning of it.
+/// or a beginning of it, or are told that the application failed.
 pub fn is_begun<H: RandomSource + AllocGlobal, A: Application>(
     rt: &H,
     app: &A,
@@ -140,7 +141,12 @@ pub fn is_begun<H: RandomSource + AllocGlobal, A: Application>(
         Ok(reports) => reports.len() == 2 && are_whole_or_lack_memory(&reports),
         Err(_lacks_memory) => true,
     };
-    well && output.starts_with(&one) && output.starts_with(&other)
+    well && is_lawful(&one, output) && is_lawful(&other, output)
+}
+
+/// Whether this may be written where memory is refused somewhere.
+fn is_lawful(written: &[u8], output: &[u8]) -> bool {
+    output.starts_with(written) || written == SERVER_ERROR
 }
 
 /// Whether each connection was served to its end, or lacked memory for what was read or written.
@@ -148,6 +154,7 @@ fn are_whole_or_lack_memory(reports: &[(u64, Report)]) -> bool {
     for (_number, report) in reports {
         match report.outcome {
             Outcome::Finished | Outcome::NoMemory | Outcome::WriteFailed(_) => {}
+            Outcome::Refused(500) => {}
             Outcome::Refused(_) | Outcome::InputBroke | Outcome::Idle => return false,
         }
     }
