@@ -58,10 +58,12 @@ impl<'a, R: Net> Sockets<'a, R> {
         }
     }
 
-    /// Gives so many connections of this port from here on, and none of the one before.
+    /// Gives so many connections of this port from here on, and none of the one before. One that has
+    /// failed gives none any more.
     pub fn listen_on(&mut self, port: u16, count: u64)
         ensures told { self.new.told ≡ self.old.told }
         ensures count { (self.new.left ≡ count) × (self.new.port ≡ port) }
+        ensures failed { self.new.has_failed ≡ self.old.has_failed }
     {
         self.port = port;
         self.left = count;
