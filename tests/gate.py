@@ -1,8 +1,9 @@
 #!/usr/bin/env python3
 """gate.py: the whole gate, part by part. `make test` runs it.
 
-Each part's output is shown as it comes. At the end stand the minutes of each part and what each number of the sum is;
-the last line is 'N passed, M failed', and the status is 0 only with none failed.
+Each part's output is shown as it comes. At the end stand the checks that each long part waited for (tests/chain.py), the
+minutes of each part, what each number of the sum is, and how many edits stand by the record; the last line is 'N passed,
+M failed', and the status is 0 only with none failed.
 """
 
 import os
@@ -10,6 +11,8 @@ import re
 import subprocess
 import sys
 import time
+
+import chain
 
 TOP = os.path.dirname(os.path.dirname(os.path.realpath(__file__)))
 PROGRAM = "crates/asgi_demo/out/asgi_demo"
@@ -19,7 +22,8 @@ PARTS = [
     ("crates in the layout", ["python3", "tests/layout.py"]),
     ("sources read", ["python3", "tests/sources.py"]),
     ("self-tests of the gate's scripts", ["python3", "tests/sources.py", "--self-test"]),
-    ("self-tests of the gate's scripts", ["python3", "tests/must_fail.py", "--self-test"]),
+    ("self-tests of the gate's scripts", ["python3", "tests/chain.py", "--self-test"]),
+    ("self-tests of the gate's scripts", ["python3", "tests/edits_self_test.py"]),
     ("edits that can be applied", ["python3", "tests/must_fail.py", "--read"]),
     ("rt ci", ["rt", "ci"]),
     ("runs with an allocation refused", ["python3", "tests/memory.py"]),
@@ -91,21 +95,27 @@ def counts_of(what, status, lines):
 
 def main():
     os.environ.setdefault("RT_JOBS", str(side_by_side()))
-    counts, times, began = {}, [], time.time()
-    for what, words in PARTS:
-        started = time.time()
-        print(f"== {' '.join(words)}", flush=True)
-        status, lines = run(words)
-        times.append((" ".join(words), time.time() - started))
-        for name, (passed, failed) in counts_of(what, status, lines).items():
-            before = counts.get(name, (0, 0))
-            counts[name] = (before[0] + passed, before[1] + failed)
+    counts, times, notes, began = {}, [], [], time.time()
+    with chain.Watch(chain.LOG) as watch:
+        for what, words in PARTS:
+            started, idle = time.time(), chain.idle_ticks()
+            print(f"== {' '.join(words)}", flush=True)
+            status, lines = run(words)
+            watch.part(" ".join(words), started, idle)
+            times.append((" ".join(words), time.time() - started))
+            notes += [it for it in lines if it.startswith("edits: ")]
+            for name, (passed, failed) in counts_of(what, status, lines).items():
+                before = counts.get(name, (0, 0))
+                counts[name] = (before[0] + passed, before[1] + failed)
+    print("== the checks that the long parts waited for")
+    chain.main([])
     print("== sum")
     for name, seconds in times:
         print(f"{seconds / 60:6.1f} minutes: {name}")
     print(f"{(time.time() - began) / 60:6.1f} minutes in all, {len(os.sched_getaffinity(0))} processors")
     for name, (passed, failed) in counts.items():
         print(f"{passed:6} {name}{f', {failed} FAILED' if failed else ''}")
+    print(*notes, sep="\n")
     passed, failed = (sum(it[at] for it in counts.values()) for at in (0, 1))
     print(f"{passed} passed, {failed} failed")
     return 1 if failed or not passed else 0

@@ -1,30 +1,32 @@
 #!/usr/bin/env python3
-"""must_fail.py [--all] [--read] [--warm] [--self-test] [--jobs N] [--part I/N] [NAME..]
+"""must_fail.py [--all] [--read] [--warm] [--jobs N] [--part I/N] [NAME..]
 
 Tries the edits tests/edits/NAME/*.edit, of all crates or of those named, side by side. The prover must refuse each. The
 form of an edit, the verdict and its words are the toolchain's, by the code of `rt must-fail`. Beyond that, each edit
 begins with a line 'refused by: FUNCTION' or 'refused by: FUNCTION, clause NAME', and the prover must refuse that function
 itself, and that clause. The last line is 'N passed, M failed'.
 
-Each crate with edits is proved once from nothing first, on a copy of crates/ in a new folder. The libraries that it stands
-on are those that `rt ci` proved and built on this machine of the very same files, over the very same libraries: it keeps
-them by the checksums of all that they were made from. Where one is lacking, all are proved once from nothing too. An edit
-is checked over a clone of that work, so it pays for what it changes and never for what another edit changed. What is not refused so is tried once more from nothing, and so is each edit of a crate that
-is not proved over its kept work afterwards.
+An edit is tried where it is due: where nothing that its last refusal stood on is told by the record tests/edits/NAME/tried,
+or something of that has changed (tests/record.py says what counts). Of the others one in twelve is drawn by the hash of the
+commit and tried too, so that a line of the record that says what is not so is found: it fails. A record that can't be read,
+or that names an edit which is not there, has all edits of its crate tried; where no commit's hash can be had, all edits of
+all crates are. What was refused is written into the record, with nothing else: commit it.
 
-The prover takes each function by itself, by the contracts of what it calls. So edits within the bodies of different
-functions are tried in one check, where each function must be refused for its own edit and no other function at all. Where
-such a check says anything else, each of its edits is tried alone.
+The prover takes each function by itself, by the contracts of what it calls. So it is asked for the functions that edits
+name alone, from nothing, over the crates below as `rt ci` proved and built them on this machine of the very same files; where
+`rt ci` has not proved a crate, it is proved here first. Edits within the bodies of different functions are tried in one
+check, where each function must be refused for its own edit and no other function at all. Where such a check says anything
+else, each of its edits is tried alone, and where that says anything else, by a check of the whole crate.
 
---all: the edits crates/NAME/must-fail/*.edit too, which `rt ci` tries.
+--all: every edit, whatever the record says, and the edits crates/NAME/must-fail/*.edit too, which `rt ci` tries.
 --read: only sees that each edit can be applied and says what refuses it, those of crates/NAME/must-fail too.
---warm: begins with what the crates' own checks left in out/. For use while you write, not for the gate.
---self-test: tries edits of each sort on a small crate of its own, good and bad, and sees that each is told from the others.
+--warm: begins with what the crates' own checks left in out/, and leaves the record as it is. For use while you write.
 --jobs N: at most N checks at a time; else as many as there are processors and memory, as under `rt ci`.
 --part I/N: each Nth edit, from the Ith on, for N machines that share the work.
 """
 
 import argparse
+import copy
 import os
 import re
 import shutil
@@ -33,10 +35,11 @@ import tempfile
 import threading
 import time
 
+import record
 from toolchain import ONE_JOB, clone, copied, crates_in, load_rt, refused_by_function, refused_in
 
 TOP = os.path.dirname(os.path.dirname(os.path.realpath(__file__)))
-# What the check of an edit takes over kept work: bytes of memory, and seconds.
+# What the check of edits takes: bytes of memory, and seconds for a proof of the whole crate over kept work.
 MEMORY, SECONDS = 2_000_000_000, 12
 # The most edits that are tried in one check. Of 24 edits of asgi_types each took 6.1 processor seconds, of 12 each 7.5, and one alone 23.
 AT_ONCE = 24
@@ -51,12 +54,16 @@ def part_of(text):
 
 def read_words(words):
     parser = argparse.ArgumentParser(usage=__doc__)
-    for flag in ("--all", "--read", "--warm", "--self-test"):
+    for flag in ("--all", "--read", "--warm"):
         parser.add_argument(flag, action="store_true")
     parser.add_argument("--jobs", default="")
     parser.add_argument("--part", type=part_of, default=(0, 1))
     parser.add_argument("names", nargs="*")
     return parser.parse_args(words)
+
+
+def label_of(crate, edit):
+    return f"must-fail {crate.name}/{os.path.basename(edit)}"
 
 
 def promised(edit):
@@ -98,37 +105,50 @@ def body_at(text, at):
     return found
 
 
-def change_of(edit, folder):
-    """Returns the file, the place, the old and the new text of an edit within the body of the function that it says is refused, or None."""
+def changes_of(edit, folder):
+    """Returns the changes of an edit, each with its file, its place, the old and the new text, where all stand within the body of the function that the edit
+    says is refused; else None."""
     with open(edit, encoding="utf-8", errors="replace") as it:
-        found = re.fullmatch(r"refused by: ([\w:+]+)(?:, clause \w+)?\nfile: (src/\S+)\nold: (.*)\nnew: ?(.*)\n*", it.read())
+        found = re.fullmatch(r"refused by: ([\w:+]+)(?:, clause \w+)?\nfile: (src/\S+)\n((?:old: .*\nnew:.*\n+)+)", it.read())
     if not found:
         return None
-    function, file, old, new = found.groups()
+    function, file, pairs = found.groups()
     with open(f"{folder}/{file}", encoding="utf-8") as it:
         text = it.read()
-    at = text.find(old)
-    return (file, at, old, new) if body_at(text, at) == function.split("::")[-1] else None
+    changes = [(file, text.find(old), old, new) for old, new in re.findall(r"old: (.*)\nnew: ?(.*)\n", pairs)]
+    spans = sorted((at, at + len(old)) for _, at, old, _ in changes)
+    are_apart = all(one[1] <= other[0] for one, other in zip(spans, spans[1:]))
+    are_inside = all(text.count(old) == 1 and body_at(text, at) == function.split("::")[-1] for _, at, old, _ in changes)
+    return changes if are_apart and are_inside else None
+
+
+def asked_for(edit, folder):
+    """Returns the name by which the prover is asked for the function of an edit: with its module, where the edit's file tells it."""
+    function, changes = promised(edit)[0], changes_of(edit, folder)
+    module = changes[0][0].removeprefix("src/").removesuffix(".rt").split("/") if changes else []
+    module = [] if module in (["lib"], ["main"]) else [it for it in module if it != "mod"]
+    first = function.split("::")[0]
+    return "::".join([*(module[: module.index(first)] if first in module else module), function])
 
 
 def groups_of(edits, folder):
     """Returns the edits in groups: those of a group change bodies of different functions, and one that can't be told so stands alone."""
     alone, groups = [], []
     for edit in edits:
-        if not change_of(edit, folder):
+        if not changes_of(edit, folder):
             alone.append([edit])
             continue
-        function = promised(edit)[0]
-        group = next((it for it in groups if len(it) < AT_ONCE and function not in {promised(other)[0] for other in it}), None)
+        function = asked_for(edit, folder)
+        group = next((it for it in groups if len(it) < AT_ONCE and function not in it), None)
         if group is None:
-            groups.append(group := [])
-        group.append(edit)
-    return groups + alone
+            groups.append(group := {})
+        group[function] = edit
+    return [[*it.values()] for it in groups] + alone
 
 
 def texts_of(edits, folder):
     """Returns the texts of the files that these edits change, by their path in the crate."""
-    texts, changes = {}, [change_of(it, folder) for it in edits]
+    texts, changes = {}, [change for it in edits for change in changes_of(it, folder)]
     for file, at, old, new in sorted(changes, key=lambda it: (it[0], -it[1])):
         if file not in texts:
             with open(f"{folder}/{file}", encoding="utf-8") as it:
@@ -138,10 +158,10 @@ def texts_of(edits, folder):
 
 
 class Edits:
-    """The edits of a repository, by crate."""
+    """The edits of a repository that are asked for, by crate."""
 
     def __init__(self, rt, root, asked, crates):
-        self.rt, self.wanted, self.failed, at = rt, {}, [], 0
+        self.rt, self.wanted, self.failed = rt, {}, []
         known = {it.name for it in crates}
         self.failed += [f"crates.txt names no crate {it}" for it in asked.names if it not in known]
         folder = f"{root}/tests/edits"
@@ -155,8 +175,7 @@ class Edits:
             self.failed += [f"{crate.name}/{os.path.basename(it)}: BAD EDIT: its name is no edit's" for it in bad]
             twice = {os.path.basename(it) for it in good if good.count(it) > 1}
             self.failed += [f"{crate.name}/{it}: BAD EDIT: it stands twice" for it in twice]
-            self.wanted[crate] = [it for number, it in enumerate(good, at) if number % asked.part[1] == asked.part[0]]
-            at += len(good)
+            self.wanted[crate] = good
 
     def read(self):
         """Sees that each edit can be applied and says what refuses it. Returns how many do."""
@@ -172,11 +191,67 @@ class Edits:
         return passed
 
 
-class Trial:
-    """Tries edits over what it has proved once."""
+class Choice:
+    """Which edits are tried, by the record and the commit, and what is written into the record."""
 
-    def __init__(self, rt, room, crates, is_warm):
-        self.rt, self.room, self.crates, self.is_warm = rt, room, crates, is_warm
+    def __init__(self, root, wanted, sums, asked, commit):
+        self.root, self.asked, self.alone = root, asked, threading.Lock()
+        self.sums = {crate: sums.of_edits(crate, edits) for crate, edits in wanted.items()}
+        self.records = {crate: record.Record(f"{root}/tests/edits/{crate.name}/tried") for crate in wanted}
+        if not commit and not asked.all:
+            print("no hash of a commit can be had here, so all edits are tried", flush=True)
+        standing = {f"{crate.name}/{it}": crate for crate in wanted if commit and not asked.all for it in self.standing_of(crate)}
+        self.drawn, self.standing = record.drawn(standing, commit), set(standing)
+        self.tried, at = {}, 0
+        for crate, edits in wanted.items():
+            names = {it: f"{crate.name}/{os.path.basename(it)}" for it in edits}
+            chosen = [it for it in edits if names[it] not in self.standing or names[it] in self.drawn]
+            self.tried[crate] = [it for number, it in enumerate(chosen, at) if number % asked.part[1] == asked.part[0]]
+            at += len(chosen)
+
+    def standing_of(self, crate):
+        """Returns the edits of a crate that stand by its record, all of which is told of edits that are there."""
+        kept, sums = self.records[crate], self.sums[crate]
+        gone = sorted(it for it in kept.sums if not os.path.isfile(f"{self.root}/tests/edits/{crate.name}/{it}"))
+        fault = kept.fault or (f"it names {gone[0]}, which is not there" if gone else None)
+        for it in gone:
+            del kept.sums[it]
+        if fault:
+            print(f"tests/edits/{crate.name}/tried: {fault}, so all edits of {crate.name} are tried", flush=True)
+            return []
+        return [it for it in sums if kept.sums.get(it) == sums[it]]
+
+    def note(self, crate, edits, refused):
+        """Writes into the record what the tries of these edits came to. Returns which of them contradict it."""
+        kept, names = self.records[crate], [os.path.basename(it) for it in edits]
+        with self.alone:
+            for name, is_refused in zip(names, refused):
+                if is_refused and os.path.isfile(f"{self.root}/tests/edits/{crate.name}/{name}"):
+                    kept.sums[name] = self.sums[crate][name]
+                elif not is_refused:
+                    kept.sums.pop(name, None)
+            if not self.asked.warm:
+                kept.write()
+        return [not is_refused and f"{crate.name}/{name}" in self.drawn for name, is_refused in zip(names, refused)]
+
+    def told(self):
+        """Returns how many edits are tried, and how many stand by the record of which commit."""
+        tried, drawn = sum(map(len, self.tried.values())), len(self.drawn)
+        if self.asked.part[1] > 1:
+            return f"edits: {tried} tried, as part {self.asked.part[0] + 1} of {self.asked.part[1]}"
+        rest = f"{len(self.standing) - drawn} stand by the record" if self.standing else "none stands by the record"
+        at = record.last_tried(self.root) if self.standing else None
+        return f"edits: {tried} tried ({tried - drawn} due, {drawn} drawn), {rest}{f', whose last change is in {at}' if at else ''}"
+
+
+class Trial:
+    """Tries edits of crates that are proved."""
+
+    def __init__(self, rt, room, crates, choice):
+        self.rt, self.room, self.crates, self.choice, self.is_warm = rt, room, crates, choice, choice.asked.warm
+        # As under `rt ci`, crates stand over the statements of those below them.
+        rt.Crate.cuts_libraries = not self.is_warm
+        self.kept = rt.Kept(crates)
         # What the prover said last in this thread: rt's verdict has only its first line.
         self.said = threading.local()
         checked = rt.checked
@@ -188,138 +263,103 @@ class Trial:
 
         rt.checked = listened
 
-    def take_libraries(self, below):
-        """Gives these crates, lowest first, the libraries that `rt ci` keeps of the same files, and returns whether it could for all. Some alone would not do: they
-        hold statements and no proofs, and serve beside those that they were built over."""
-        kept = self.rt.Kept(below)
-        for crate in below:
-            os.makedirs(f"{crate.folder}/out", exist_ok=True)
-            if not kept.give(crate, False, kept.key(crate)):
-                for it in below:
-                    shutil.rmtree(f"{it.folder}/out/rlib", ignore_errors=True)
-                return False
-            kept.is_built(crate)
-        return True
-
-    def prove_library(self, crate, given, jobs):
-        """Proves a library for the crates above it, and keeps that work in its out/."""
+    def prove(self, crate, given, jobs):
+        """Takes a crate as `rt ci` proved it of the same files, or proves it here. Returns whether it is proved."""
         if not all(given[it.name, "proof"] for it in crate.below()):
             return False
         os.makedirs(f"{crate.folder}/out", exist_ok=True)
-        with open(f"{self.room}/{crate.name}.library", "w+", errors="replace") as crate.out:
-            status = crate.build_rlib(["--jobs", str(jobs)], anew=False)
+        crate, flags = copy.copy(crate), ["--jobs", str(jobs)]
+        with open(f"{self.room}/{crate.name}.log", "w+", errors="replace") as crate.out:
+            if self.is_warm:
+                status = 0 if crate.is_program else crate.build_rlib(flags, anew=False)
+            elif self.kept.give(crate, False, self.kept.key(crate)):
+                self.kept.is_built(crate)
+                return True
+            elif crate.is_program:
+                ran = self.rt.checked(crate, {}, flags, None)
+                status = ran.returncode
+                crate.out.write(ran.stdout)
+            else:
+                status = crate.build_rlib(flags, anew=True)
+                self.kept.is_built(crate)
             crate.out.seek(0)
             said = crate.out.read()
-        print(f"{crate.name}: NOT PROVED\n{said}" if status else f"{crate.name}: its library is proved", flush=True)
+        print(f"{crate.name}: NOT PROVED, so none of its edits is tried\n{said}" if status else f"{crate.name}: proved as it stands", flush=True)
         return not status
 
-    def keep(self, crate, given, jobs):
-        """Checks a crate as it is, over what its build as a library kept, if it was built here. Returns the folder of that work."""
-        if not all(given[it.name, "proof"] for it in [*crate.below(), crate] if (it.name, "proof") in given):
-            return None
-        kept = f"{self.room}/{crate.name}.kept"
-        if os.path.isdir(f"{crate.folder}/out/incremental"):
-            clone(f"{crate.folder}/out/incremental", kept)
-        ran = self.rt.checked(crate, {}, ["--jobs", str(jobs)], kept)
-        if ran.returncode:
-            print(f"{crate.name}: NOT PROVED, so none of its edits is tried\n{ran.stdout}", flush=True)
-            return None
-        return kept
+    def is_refused(self, crate, edits, texts):
+        """Returns whether a check of these edits' functions alone, with these texts, refuses each of them for its own edit."""
+        over, flags = None, [*ONE_JOB]
+        for edit in edits:
+            flags += ["--only", asked_for(edit, crate.folder)]
+        if self.is_warm and os.path.isdir(f"{crate.folder}/out/incremental"):
+            over = tempfile.mkdtemp(dir=self.room)
+            clone(f"{crate.folder}/out/incremental", f"{over}/kept")
+        ran = self.rt.checked(crate, texts, flags, over and f"{over}/kept")
+        shutil.rmtree(over or "", ignore_errors=True)
+        lines = ran.stdout.rstrip("\n").split("\n")
+        if ran.returncode != 1 or any(self.rt.unread(it, texts) for it in lines) or self.rt.rtlib.STALE.search(ran.stdout):
+            return False
+        last = re.match(r"only=(\d+) proved=(\d+)\b", lines[-1])
+        if not last or int(last[1]) != len(edits):
+            return False
+        return is_refusal_of(edits, ran.stdout) if len(edits) > 1 else not kept_promise(edits[0], ran.stdout)
 
-    def verdict(self, crate, edit, over=None):
-        """Returns what a try of an edit comes to, one of rt's words, and what to say. One that is refused for another reason than it says is none of them."""
-        kind, text = self.rt.must_fail(crate, edit, ONE_JOB, over)
-        label = f"must-fail {crate.name}/{os.path.basename(edit)}"
-        wrong = kept_promise(edit, self.said.log) if kind == self.rt.REFUSED else None
-        if wrong:
-            return "", f"{label}: REFUSED FOR ANOTHER REASON: {wrong}"
-        if kind == self.rt.AT_LIMIT:
-            return kind, f"{label}: REFUSED ONLY BY A LIMIT of the prover, which gave no verdict: choose a change that it refuses sooner"
-        return kind, text
-
-    def attempt(self, crate, edit, given):
-        """Tries an edit. Returns whether it is refused as it says, and what to say."""
-        kept = given[crate.name, "tests"]
-        if not kept:
-            return False, f"must-fail {crate.name}/{os.path.basename(edit)}: not tried"
-        began, over = time.time(), f"{kept}.{os.path.basename(edit)}"
-        clone(kept, over)
-        kind, text = self.verdict(crate, edit, over)
-        shutil.rmtree(over)
-        if kind not in (self.rt.REFUSED, self.rt.BAD):
-            kind, text = self.verdict(crate, edit)
+    def attempt(self, crate, edit):
+        """Tries an edit alone. Returns whether it is refused as it says, and what to say."""
+        label, began = label_of(crate, edit), time.time()
+        texts, why = self.rt.read_edit(edit, crate.folder)
+        if not why and self.is_refused(crate, [edit], texts):
+            kind, text = self.rt.REFUSED, f"{label}: refused, as it must be"
+        else:
+            kind, text = self.rt.must_fail(crate, edit, ONE_JOB)
+            wrong = kept_promise(edit, self.said.log) if kind == self.rt.REFUSED else None
+            if wrong:
+                kind, text = "", f"{label}: REFUSED FOR ANOTHER REASON: {wrong}"
+            elif kind == self.rt.AT_LIMIT:
+                text = f"{label}: REFUSED ONLY BY A LIMIT of the prover, which gave no verdict: choose a change that it refuses sooner"
         print(f"{text} ({time.time() - began:.0f} s)", flush=True)
         return kind == self.rt.REFUSED, text
 
     def attempt_all(self, crate, edits, given):
         """Tries a group of edits. Returns, edit by edit, whether it is refused as it says, and what to say."""
-        kept = given[crate.name, "tests"]
-        if kept and len(edits) > 1:
-            began, over = time.time(), f"{kept}.{os.path.basename(edits[0])}"
-            clone(kept, over)
-            texts = texts_of(edits, crate.folder)
-            ran = self.rt.checked(crate, texts, ONE_JOB, over)
-            shutil.rmtree(over)
-            lines = ran.stdout.rstrip("\n").split("\n")
-            is_read = not any(self.rt.unread(it, texts) for it in lines) and not self.rt.rtlib.STALE.search(ran.stdout)
-            if ran.returncode == 1 and is_read and lines[-1].startswith("logic=not-proved") and is_refusal_of(edits, ran.stdout):
-                each = (time.time() - began) / len(edits)
-                for edit in edits:
-                    print(f"must-fail {crate.name}/{os.path.basename(edit)}: refused, as it must be, with {len(edits) - 1} others ({each:.0f} s)", flush=True)
-                return [(True, "")] * len(edits)
-        return [self.attempt(crate, it, given) for it in edits]
+        if not given[crate.name, "proof"]:
+            return [(False, f"{label_of(crate, it)}: not tried") for it in edits]
+        began = time.time()
+        if len(edits) > 1 and self.is_refused(crate, edits, texts_of(edits, crate.folder)):
+            each = (time.time() - began) / len(edits)
+            for edit in edits:
+                print(f"{label_of(crate, edit)}: refused, as it must be, with {len(edits) - 1} others ({each:.0f} s)", flush=True)
+            found = [(True, "")] * len(edits)
+        else:
+            found = [self.attempt(crate, it) for it in edits]
+        false = self.choice.note(crate, edits, [it[0] for it in found])
+        why = f"\nand yet tests/edits/{crate.name}/tried says that it was refused, with nothing changed since: that line is forged or stale"
+        return [(refused, text + why * is_false) for (refused, text), is_false in zip(found, false)]
 
-    def is_sound(self, crate, given):
-        """Returns whether the crate as it is is proved over the kept work, now that its edits are tried."""
-        kept = given[crate.name, "tests"]
-        return bool(kept) and not self.rt.checked(crate, {}, ONE_JOB, kept).returncode
-
-    def tasks(self, wanted):
-        """Returns what rt's own lanes are to run: libraries that `rt ci` did not leave, kept checks, edits, and a last check of each crate."""
-        below = {it for crate, edits in wanted.items() if edits for it in crate.below()}
-        if below and not self.is_warm and self.take_libraries([it for it in self.crates if it in below]):
-            print(f"{len(below)} libraries are those that rt ci proved and built of the same files", flush=True)
-            below = set()
+    def tasks(self):
+        """Returns what rt's own lanes are to run: crates that are proved, and edits."""
+        needed = {it for crate, edits in self.choice.tried.items() if edits for it in [crate, *crate.below()]}
         tasks = {}
         for crate in self.crates:
-            # rt gives its words proof and tests the processors that are idle, and one to each task named edits.
-            waits, needs = [(it.name, "proof") for it in crate.below() if it in below], self.rt.need(crate)
-            # About 20 lines of code are proved in a second.
-            seconds = crate.count(rb"\n") // 20
-            if crate in below:
-                call = lambda given, jobs, it=crate: self.prove_library(it, given, jobs)
-                tasks[crate.name, "proof"] = (waits, seconds, needs, call)
-            if not wanted.get(crate):
+            if crate not in needed:
                 continue
-            if crate in below:
-                waits, seconds = [(crate.name, "proof")], SECONDS
-            call = lambda given, jobs, it=crate: self.keep(it, given, jobs)
-            tasks[crate.name, "tests"] = (waits, seconds, needs, call)
+            # rt gives its word proof the processors that are idle, and one to each task named edits. About 20 lines of code are proved in a second.
+            waits, seconds = [(it.name, "proof") for it in crate.below()], crate.count(rb"\n") // 20
+            call = lambda given, jobs, it=crate: self.prove(it, given, jobs)
+            tasks[crate.name, "proof"] = (waits, seconds, self.rt.need(crate), call)
             # An edit of a high crate takes longest, 27 seconds in asgi_conn and 5 in asgi_types, and is best begun first.
             each = 4 + 2 * len(crate.below())
-            tried = [(crate.name, "edits", *it) for it in groups_of(wanted[crate], crate.folder)]
-            for key in tried:
-                call = lambda given, jobs, it=crate, edits=key[2:]: self.attempt_all(it, edits, given)
-                tasks[key] = ([(crate.name, "tests")], each * len(key[2:]), MEMORY, call)
-            call = lambda given, jobs, it=crate: self.is_sound(it, given)
-            tasks[crate.name, "edits"] = (tried, SECONDS, MEMORY, call)
+            for edits in groups_of(self.choice.tried.get(crate, []), crate.folder):
+                call = lambda given, jobs, it=crate, edits=edits: self.attempt_all(it, edits, given)
+                tasks[crate.name, "edits", *edits] = ([(crate.name, "proof")], SECONDS + each * len(edits), MEMORY, call)
         return tasks
 
-    def run(self, wanted):
+    def run(self):
         """Tries all edits. Returns how many were refused, and what is said of the others."""
-        # rt reads the word edits in the second place of a key, and gives such a task one processor.
-        given = self.rt.in_lanes(self.tasks(wanted))
-        passed, failed = 0, []
-        for crate, edits in wanted.items():
-            of_edit = {edit: it for key, its in given.items() if key[:2] == (crate.name, "edits") and key[2:] for edit, it in zip(key[2:], its)}
-            for edit in edits:
-                refused, text = of_edit[edit]
-                if refused and not given[crate.name, "edits"]:
-                    kind, text = self.verdict(crate, edit)
-                    refused = kind == self.rt.REFUSED
-                passed += refused
-                failed += [text] * (not refused)
-        return passed, failed
+        given = self.rt.in_lanes(self.tasks())
+        found = [it for key, its in given.items() if key[1] == "edits" for it in its]
+        return sum(refused for refused, _ in found), [text for refused, text in found if not refused]
 
 
 def copy_repository(root, room, asked):
@@ -332,10 +372,11 @@ def copy_repository(root, room, asked):
     folder = f"{root}/tests/edits"
     for name in sorted(os.listdir(folder)) if os.path.isdir(folder) else []:
         if os.path.isdir(f"{room}/crates/{name}"):
-            shutil.copytree(f"{folder}/{name}", f"{room}/crates/{name}/must-fail", dirs_exist_ok=True)
+            ignored = shutil.ignore_patterns("tried", "tried.new")
+            shutil.copytree(f"{folder}/{name}", f"{room}/crates/{name}/must-fail", ignore=ignored, dirs_exist_ok=True)
 
 
-def try_edits(rt, root, asked):
+def try_edits(rt, root, asked, commit):
     """Tries or reads the edits of a repository. Returns how many passed, and what is said of the others."""
     with tempfile.TemporaryDirectory(prefix="edits-") as room:
         copy_repository(root, room, asked)
@@ -344,81 +385,17 @@ def try_edits(rt, root, asked):
         passed = edits.read()
         if asked.read or edits.failed:
             return passed * asked.read, edits.failed
-        return Trial(rt, room, crates, asked.warm).run(edits.wanted)
-
-
-SMALL = """//! A crate to try edits on.
-#![tactic(auto)]
-ghost use Rattle.std.specs.Prelude.{◌≡◌, ◌+◌, ◌<◌, IsSome, IfSome};
-
-/// The number after this one, `None` at the greatest.
-pub fn next(number: u8) -> Option<u8>
-    ensures found { number < 255 → IsSome result }
-    ensures value { IfSome result (λ found. found ≡ number + 1) }
-{
-    let step = 1;
-    number.checked_add(step)
-}
-
-/// The number before this one, `None` at 0.
-pub fn previous(number: u8) -> Option<u8>
-    ensures value { IfSome result (λ found. found + 1 ≡ number) }
-{
-    let back = 1;
-    number.checked_sub(back)
-}
-"""
-# The edits of the small crate: what refuses it, the old text and the new one, and what must be said of it. Those of UNREAD
-# can't even be read; of TRIED the prover is asked. There `adds_two` and `back_by_three` stand in one check, and
-# `back_by_two` in one with `changes_nothing`, which has to be found out beside it.
-UNREAD = {
-    "has_no_such_text": ("refused by: next", "let step = 3;", "let step = 2;", "BAD EDIT"),
-    "says_nothing_of_why": ("", "let step = 1;", "let step = 2;", "BAD EDIT"),
-}
-TRIED = {
-    "adds_two": ("refused by: next, clause value", "let step = 1;", "let step = 2;", ""),
-    "back_by_two": ("refused by: previous", "let back = 1;", "let back = 2;", ""),
-    "back_by_three": ("refused by: previous", "let back = 1;", "let back = 3;", ""),
-    "changes_nothing": ("refused by: next", "let step = 1;", "let step = 2 - 1;", "NOT REFUSED"),
-    "does_not_compile": ("refused by: next", "let step = 1;", "let step = one;", "BAD EDIT"),
-    "names_another_function": ("refused by: other", "let step = 1;", "let step = 2;", "ANOTHER REASON"),
-    "names_another_clause": ("refused by: next, clause start", "let step = 1;", "let step = 2;", "ANOTHER REASON"),
-}
-
-
-def write_small(root, edits):
-    """Writes the small crate's repository with these edits."""
-    files = {"HANDLES": "Handles allowed: none.\n", "crates.txt": "small:\n", "crates/small/src/lib.rt": SMALL}
-    for name, (why, old, new, _) in edits.items():
-        files[f"tests/edits/small/{name}.edit"] = f"{why}\nfile: src/lib.rt\nold: {old}\nnew: {new}\n"
-    for path, text in files.items():
-        os.makedirs(os.path.dirname(f"{root}/{path}"), exist_ok=True)
-        with open(f"{root}/{path}", "w", encoding="utf-8") as it:
-            it.write(text)
-
-
-def self_test(rt, asked):
-    """Sees that the good edit passes, and that each bad one fails for its own reason. Returns passed and failed."""
-    passed, failed = 0, []
-    for edits in (UNREAD, TRIED):
-        with tempfile.TemporaryDirectory(prefix="small-") as root:
-            write_small(root, edits)
-            _, said = try_edits(rt, root, asked)
-        for name, (_, _, _, word) in edits.items():
-            of_it = [it for it in said if f"small/{name}.edit:" in it]
-            if len(of_it) == bool(word) and all(word in it for it in of_it):
-                passed += 1
-            else:
-                failed.append(f"self-test {name}: wanted is '{word}', and was said: {of_it}")
-    return passed, failed
+        sums = record.Sums(crates, record.read(f"{rt.KIT}/KIT-ID"), record.read(f"{room}/HANDLES"))
+        choice = Choice(root, edits.wanted, sums, asked, commit)
+        print(choice.told(), flush=True)
+        return Trial(rt, room, crates, choice).run()
 
 
 def main(words):
     asked = read_words(words)
     if asked.jobs:
         os.environ["RT_JOBS"] = asked.jobs
-    rt = load_rt()
-    passed, failed = self_test(rt, asked) if asked.self_test else try_edits(rt, TOP, asked)
+    passed, failed = try_edits(load_rt(), TOP, asked, record.commit_of(TOP))
     for it in failed:
         print(f"FAILED: {it}")
     print(f"{passed} passed, {len(failed)} failed")

@@ -28,12 +28,3 @@ pub use running::{Ended, Lent, Running, drive};
 pub use says::Says;
 pub use task::{AppFault, AppTask, Application};
 pub use ws_echo::{WsEcho, WsEchoTask};
-
-#[cfg(test)]
-mod tests;
-#[cfg(test)]
-mod tests_life;
-#[cfg(test)]
-mod tests_mounts;
-#[cfg(test)]
-mod tests_own;

@@ -10,8 +10,3 @@ pub mod laws;
 mod meeting;
 
 pub use meeting::join;
-
-#[cfg(test)]
-mod tests;
-#[cfg(test)]
-mod tests_calls;

@@ -7,8 +7,6 @@ mod counts;
 mod history;
 mod pause;
 mod reads;
-#[cfg(test)]
-mod tests;
 mod turns;
 mod write;
 

@@ -8,6 +8,3 @@ mod stop;
 
 pub use lifespan::{Lifespan, Start};
 pub use stop::Stop;
-
-#[cfg(test)]
-mod tests;

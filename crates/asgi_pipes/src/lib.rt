@@ -20,8 +20,3 @@ pub use pipes::{Met, Pipes};
 pub use plain::Plain;
 pub use plain_app::PlainApp;
 pub use plain_conn::PlainConn;
-
-#[cfg(test)]
-mod tests;
-#[cfg(test)]
-mod tests_memory;

@@ -14,6 +14,3 @@ pub use content_length::ContentLength;
 pub use judge::Judge;
 pub use rules::has_no_content;
 pub use verdict::{Verdict, Violation};
-
-#[cfg(test)]
-mod tests;

@@ -9,8 +9,6 @@ mod head;
 mod laws;
 mod progress;
 mod refusal;
-#[cfg(test)]
-mod tests;
 mod text;
 
 pub use append::append_all;

@@ -31,14 +31,3 @@ pub use reason::Reason;
 pub use scope::{Asgi, Extensions, HttpScope, Kind, LifespanScope, Peer, Scope, WsScope};
 pub use state::{State, StateError, StateValue};
 pub use tokens::trimmed;
-
-#[cfg(test)]
-mod tests;
-#[cfg(test)]
-mod tests_edges;
-#[cfg(test)]
-mod tests_memory;
-#[cfg(test)]
-mod tests_scopes;
-#[cfg(test)]
-mod tests_values;

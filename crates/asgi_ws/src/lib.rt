@@ -26,6 +26,3 @@ pub use pieces::Piece;
 pub use script::Script;
 pub use stream::{Pair, Stream};
 pub use wired::Wired;
-
-#[cfg(test)]
-mod tests;

@@ -1,0 +1,273 @@
+//! The calls of a plain pair, each with its answer.
+ghost use Rattle.std.specs.Prelude.{◌≡◌, ℕ, false, None};
+ghost use Rattle.futures.specs.Task.{Keeps};
+ghost use Rattle.asgi_pipes.specs.PlainPairs.{IsPlainPair};
+ghost use Rattle.asgi_exchange.specs.Calls.{IsViewOf};
+ghost use Rattle.asgi_exchange.specs.Exchange.{Exchange};
+ghost use Rattle.asgi_exchange.specs.Items.{end_of};
+ghost use Rattle.asgi_exchange.specs.Schedules.{ConnGoesOn};
+ghost use Rattle.asgi_exchange.specs.Views.{ConnView};
+
+use asgi_exchange::calls;
+use asgi_pipes::{AppEnd, ConnEnd, EndKind, OutItem, Plain, PlainApp, PlainConn, Sent};
+use asgi_types::{Facts, Framing, Headers, HttpVersion, Incoming, Kind, Names, Octets, Outgoing};
+use futures::task::{Context, Poll};
+use futures::{Future, FutureExt};
+use std::alloc::{AllocError, Global};
+use std::test::Fail;
+
+/// A call of one end. A number is the one byte of a body, or a status.
+#[derive(Clone, Copy, Debug)]
+enum Call {
+    Offer(u8),
+    Break,
+    Take,
+    TakeEvents,
+    Receive,
+    Start(u16),
+    LastBody(u8),
+    Finish,
+    Carry,
+}
+
+/// What a call answers.
+#[derive(Clone, Copy, Debug, PartialEq, Eq)]
+enum Answer {
+    Yes,
+    No,
+    Nothing,
+    Body(usize),
+    Disconnect,
+    Start(u16),
+    Events(u8),
+    Ended,
+    Ignored,
+    Refused(u8),
+}
+
+/// Two places each way, and what is put is carried only where a row says so.
+const CALLS: &[(Call, Answer)] = &[
+    (Call::Receive, Answer::Nothing),
+    (Call::Take, Answer::Nothing),
+    (Call::Offer(1), Answer::Yes),
+    (Call::Offer(2), Answer::Yes),
+    (Call::Offer(3), Answer::No),
+    (Call::Carry, Answer::Nothing),
+    (Call::Receive, Answer::Body(1)),
+    (Call::LastBody(7), Answer::Refused(4)),
+    (Call::Start(200), Answer::Yes),
+    (Call::LastBody(7), Answer::Yes),
+    (Call::LastBody(7), Answer::Ignored),
+    (Call::Receive, Answer::Disconnect),
+    (Call::Break, Answer::Yes),
+    (Call::Break, Answer::No),
+    (Call::Offer(3), Answer::No),
+    (Call::Finish, Answer::Yes),
+    (Call::Finish, Answer::No),
+    (Call::Carry, Answer::Nothing),
+    (Call::Take, Answer::Start(200)),
+    (Call::TakeEvents, Answer::Events(1)),
+    (Call::Take, Answer::Nothing),
+];
+
+#[derive(Drop)]
+struct Pair {
+    conn: PlainConn,
+    app: PlainApp,
+    finished: bool,
+    ghost pair: { IsPlainPair conn app },
+    ghost open: { finished ≡ false → ⟦<PlainApp as AppEnd>⟧.ended app ≡ None },
+}
+
+impl Pair {
+    fn offer(&mut self, event: Incoming) -> Answer {
+        yes_or_no(calls::offer::<u8, u8, PlainConn>(&mut self.conn, event).is_ok())
+    }
+
+    fn break_off(&mut self) -> Answer {
+        yes_or_no(calls::offer_disconnect::<u8, u8, PlainConn>(
+            &mut self.conn,
+            Incoming::HttpDisconnect,
+        ))
+    }
+
+    fn take(&mut self) -> Answer {
+        match calls::take::<u8, u8, PlainConn>(&mut self.conn) {
+            Some(OutItem::Event(event)) => shown(&event),
+            Some(OutItem::Ended(_)) => Answer::Ended,
+            None => Answer::Nothing,
+        }
+    }
+
+    fn receive(&mut self, cx: &mut Context<'_>) -> Answer
+        ensures { Keeps cx.old cx.new }
+    {
+        match calls::poll_receive::<u8, u8, PlainApp>(&mut self.app, cx) {
+            Poll::Ready(Incoming::HttpRequest { body, more_body: _ }) => Answer::Body(first(&body)),
+            Poll::Ready(_) => Answer::Disconnect,
+            Poll::Pending => Answer::Nothing,
+        }
+    }
+
+    fn say(&mut self, cx: &mut Context<'_>, event: Outgoing) -> Answer
+        ensures { Keeps cx.old cx.new }
+    {
+        if self.finished {
+            return Answer::Nothing;
+        }
+        match calls::poll_send::<u8, u8, PlainApp>(&mut self.app, cx, event) {
+            Sent::Done => Answer::Yes,
+            Sent::Full(_) => Answer::No,
+            Sent::Ignored => Answer::Ignored,
+            Sent::Refused(number, _) => Answer::Refused(number),
+        }
+    }
+
+    fn finish(&mut self) -> Answer {
+        self.finished = true;
+        yes_or_no(calls::finish::<PlainApp>(&mut self.app, EndKind::Returned))
+    }
+
+    fn carry(&mut self) -> Answer {
+        Plain::carry(&mut self.conn, &mut self.app);
+        Answer::Nothing
+    }
+}
+
+fn yes_or_no(is: bool) -> Answer {
+    if is { Answer::Yes } else { Answer::No }
+}
+
+/// The one byte of a body.
+fn first(body: &Octets) -> usize {
+    match body.bytes().first() {
+        Some(byte) => *byte as usize,
+        None => 0,
+    }
+}
+
+fn shown(event: &Outgoing) -> Answer {
+    match event {
+        Outgoing::ResponseStart { status, headers: _ } => Answer::Start(*status),
+        Outgoing::ResponseBody { body, more_body: _ } => Answer::Body(first(body)),
+        _ => Answer::Nothing,
+    }
+}
+
+fn octets(alloc: Global, byte: u8) -> Result<Octets, AllocError> {
+    Ok(Octets::new([byte].as_slice().to_vec(alloc)?))
+}
+
+fn answer_at(
+    alloc: Global,
+    cx: &mut Context<'_>,
+    pair: &mut Pair,
+    call: Call,
+) -> Result<Answer, AllocError>
+    ensures { Keeps cx.old cx.new }
+{
+    Ok(match call {
+        Call::Offer(byte) => pair.offer(Incoming::HttpRequest {
+            body: octets(alloc, byte)?,
+            more_body: true,
+        }),
+        Call::Break => pair.break_off(),
+        Call::Take => pair.take(),
+        Call::TakeEvents => Answer::Events(take_events(&mut pair.conn, 9)),
+        Call::Receive => pair.receive(cx),
+        Call::Start(status) => pair.say(
+            cx,
+            Outgoing::ResponseStart {
+                status,
+                headers: Headers::new(alloc),
+            },
+        ),
+        Call::LastBody(byte) => pair.say(
+            cx,
+            Outgoing::ResponseBody {
+                body: octets(alloc, byte)?,
+                more_body: false,
+            },
+        ),
+        Call::Finish => pair.finish(),
+        Call::Carry => pair.carry(),
+    })
+}
+
+/// The calls are made within one poll, which is where a context comes from.
+#[derive(Drop)]
+struct Table {
+    alloc: Global,
+    pair: Pair,
+}
+
+impl Future for Table {
+    type Output = Result<Option<(usize, Answer)>, AllocError>;
+
+    /// The first row that answered otherwise, with its answer.
+    fn poll(&mut self, cx: &mut Context<'_>) -> Poll<Result<Option<(usize, Answer)>, AllocError>> {
+        Poll::Ready(run(self.alloc, cx, &mut self.pair))
+    }
+}
+
+fn run(
+    alloc: Global,
+    cx: &mut Context<'_>,
+    pair: &mut Pair,
+) -> Result<Option<(usize, Answer)>, AllocError>
+    ensures { Keeps cx.old cx.new }
+{
+    for (index, row) in CALLS.iter().enumerate() {
+        let answer = answer_at(alloc, cx, pair, row.0)?;
+        if answer != row.1 {
+            return Ok(Some((index, answer)));
+        }
+    }
+    Ok(None)
+}
+
+fn facts(alloc: Global) -> Facts {
+    Facts {
+        version: HttpVersion::V11,
+        head_only: false,
+        close: false,
+        expect: false,
+        framing: Framing::Length(0),
+        key: [0; 24],
+        subprotocols: Names::new(alloc),
+    }
+}
+
+/// Takes the events that are there, up to the end. Such a loop leads its view on from call to call.
+fn take_events<C: ConnEnd>(conn: &mut C, most: u8) -> u8
+    ensures tag { C.tag conn.new ≡ C.tag conn.old }
+    ensures goes_on { (x : Exchange ℕ ℕ) (view : ConnView ℕ ℕ) → IsViewOf C.ConnEnd conn.old view → end_of view.got ≡ None
+        → (new : ConnView ℕ ℕ) × ConnGoesOn x view new × IsViewOf C.ConnEnd conn.new new }
+{
+    for taken in 0..most {
+        match calls::take::<u8, u8, C>(conn) {
+            Some(OutItem::Event(_)) => {}
+            _ => return taken,
+        }
+    }
+    most
+}
+
+#[test]
+fn calls_of_a_plain_pair(rt: HostRuntime) -> Result<(), Fail> {
+    let alloc = rt.alloc();
+    let (conn, app) = calls::make::<u8, u8, Plain>(&Plain, alloc, Kind::Http, facts(alloc), 2)?;
+    let table = Table {
+        alloc,
+        pair: Pair {
+            conn,
+            app,
+            finished: false,
+        },
+    };
+    match table.now_or_never(&rt) {
+        Ok(Some(Ok(other))) => assert_eq!(rt; other, None),
+        _ => panic!(rt; "no memory"),
+    }
+    Ok(())
+}

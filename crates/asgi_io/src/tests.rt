@@ -1,6 +1,0 @@
-//! Tests on public calls.
-
-mod counting;
-mod reading;
-mod turning;
-mod writing;

@@ -1,0 +1,5 @@
+//! Tests of `asgi_lifespan` on its public calls: starts and stops of applications.
+#![tactic(auto)]
+
+#[cfg(test)]
+mod lives;

@@ -1,0 +1,7 @@
+//! Tests of `asgi_pipes` on its public calls: pairs of plain ends, on tables of calls, each with its answer.
+#![tactic(auto)]
+
+#[cfg(test)]
+mod memory;
+#[cfg(test)]
+mod pairs;

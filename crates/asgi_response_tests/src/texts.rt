@@ -1,0 +1,207 @@
+//! Tests on public calls.
+
+mod denials;
+mod ends;
+mod memory;
+mod progress;
+mod responses;
+mod statuses;
+
+use asgi_response::{Input, ResponseText};
+use asgi_types::{
+    Chars, Facts, Framing, HeaderError, Headers, HttpVersion, Names, Octets, Outgoing, Payload,
+};
+use std::alloc::{AllocError, Global};
+use std::test::Fail;
+
+/// What a request says of itself.
+#[derive(Clone, Copy)]
+struct Ask {
+    version: HttpVersion,
+    head_only: bool,
+    close: bool,
+    expect: bool,
+    framing: Framing,
+}
+
+/// A plain request over HTTP/1.1.
+const GET: Ask = Ask {
+    version: HttpVersion::V11,
+    head_only: false,
+    close: false,
+    expect: false,
+    framing: Framing::Length(0),
+};
+
+/// The same over HTTP/1.0, after which the connection closes.
+const OLD: Ask = Ask {
+    version: HttpVersion::V10,
+    head_only: false,
+    close: true,
+    expect: false,
+    framing: Framing::Length(0),
+};
+
+const HEAD: Ask = Ask {
+    version: HttpVersion::V11,
+    head_only: true,
+    close: false,
+    expect: false,
+    framing: Framing::Length(0),
+};
+
+const EXPECTING: Ask = Ask {
+    version: HttpVersion::V11,
+    head_only: false,
+    close: false,
+    expect: true,
+    framing: Framing::Length(0),
+};
+
+const CLOSING: Ask = Ask {
+    version: HttpVersion::V11,
+    head_only: false,
+    close: true,
+    expect: false,
+    framing: Framing::Length(0),
+};
+
+/// An opening handshake of a client that also waits to be told to go on.
+const HANDSHAKE: Ask = Ask {
+    version: HttpVersion::V11,
+    head_only: false,
+    close: false,
+    expect: true,
+    framing: Framing::Upgrade,
+};
+
+type Fields = &'static [(&'static str, &'static str)];
+
+/// An event in a table.
+#[derive(Clone, Copy)]
+enum Say {
+    Start(u16, Fields),
+    Part(&'static str),
+    Last(&'static str),
+    DenialStart(u16, Fields),
+    DenialPart(&'static str),
+    DenialLast(&'static str),
+    Accept,
+    Send(&'static str),
+    Close,
+    StopComplete,
+}
+
+impl Ask {
+    fn facts(self, alloc: Global) -> Facts {
+        Facts {
+            version: self.version,
+            head_only: self.head_only,
+            close: self.close,
+            expect: self.expect,
+            framing: self.framing,
+            key: [0; 24],
+            subprotocols: Names::new(alloc),
+        }
+    }
+}
+
+impl Say {
+    fn event(self, alloc: Global) -> Result<Outgoing, HeaderError> {
+        match self {
+            Say::Start(status, fields) => {
+                let headers = headers_of(alloc, fields)?;
+                Ok(Outgoing::ResponseStart { status, headers })
+            }
+            Say::Part(text) => Ok(Outgoing::ResponseBody {
+                body: body_of(alloc, text)?,
+                more_body: true,
+            }),
+            Say::Last(text) => Ok(Outgoing::ResponseBody {
+                body: body_of(alloc, text)?,
+                more_body: false,
+            }),
+            Say::DenialStart(status, fields) => {
+                let headers = headers_of(alloc, fields)?;
+                Ok(Outgoing::DenialStart { status, headers })
+            }
+            Say::DenialPart(text) => Ok(Outgoing::DenialBody {
+                body: body_of(alloc, text)?,
+                more_body: true,
+            }),
+            Say::DenialLast(text) => Ok(Outgoing::DenialBody {
+                body: body_of(alloc, text)?,
+                more_body: false,
+            }),
+            Say::Accept => Ok(Outgoing::WsAccept {
+                subprotocol: None,
+                headers: Headers::new(alloc),
+            }),
+            Say::Send(text) => Ok(Outgoing::WsSend {
+                payload: Payload::Text(Chars::new(String::from_str(alloc, text)?)),
+            }),
+            Say::Close => Ok(Outgoing::WsClose {
+                code: 1000,
+                reason: Chars::new(String::new(alloc)),
+            }),
+            Say::StopComplete => Ok(Outgoing::ShutdownComplete),
+        }
+    }
+}
+
+fn headers_of(alloc: Global, fields: Fields) -> Result<Headers, HeaderError> {
+    let mut headers = Headers::new(alloc);
+    for (name, value) in fields {
+        headers.push(name.as_bytes(), value.as_bytes())?;
+    }
+    Ok(headers)
+}
+
+fn body_of(alloc: Global, text: &str) -> Result<Octets, AllocError> {
+    Ok(Octets::new(Vec::from_slice(alloc, text.as_bytes())?))
+}
+
+/// The text of such a request, with no event taken.
+fn fresh(alloc: Global, ask: Ask) -> ResponseText {
+    ResponseText::new(alloc, &ask.facts(alloc))
+}
+
+/// Takes an event, which is gone then.
+fn take(text: &mut ResponseText, event: Outgoing, out: &mut Vec<u8>) -> Result<(), AllocError> {
+    text.take(&event, out)
+}
+
+fn take_all(
+    text: &mut ResponseText,
+    alloc: Global,
+    said: &[Say],
+    out: &mut Vec<u8>,
+) -> Result<(), Fail> {
+    for say in said {
+        take(text, say.event(alloc)?, out)?;
+    }
+    Ok(())
+}
+
+fn write_all(
+    text: &mut ResponseText,
+    alloc: Global,
+    said: &[Say],
+    end: Option<Input>,
+    out: &mut Vec<u8>,
+) -> Result<(), Fail> {
+    text.begin(out)?;
+    take_all(text, alloc, said, out)?;
+    if let Some(input) = end {
+        text.end(input, out)?;
+    }
+    Ok(())
+}
+
+/// All that is written for the events: what comes in front, each event's text, and what the end adds.
+fn written(alloc: Global, ask: Ask, said: &[Say], end: Option<Input>) -> Result<Vec<u8>, Fail> {
+    let mut out = Vec::new(alloc);
+    let done = write_all(&mut fresh(alloc, ask), alloc, said, end, &mut out);
+    done?;
+    Ok(out)
+}

@@ -1,0 +1,156 @@
+//! What the end of a task adds.
+
+use super::{Ask, EXPECTING, GET, HANDSHAKE, Say, written};
+use asgi_response::Input;
+use std::process::Abort;
+use std::test::Fail;
+
+const REFUSED_500: &str =
+    "HTTP/1.1 500 Internal Server Error\r\ncontent-length: 0\r\nconnection: close\r\n\r\n";
+
+const REFUSED_413: &str =
+    "HTTP/1.1 413 Content Too Large\r\ncontent-length: 0\r\nconnection: close\r\n\r\n";
+
+const REFUSED_400: &str =
+    "HTTP/1.1 400 Bad Request\r\ncontent-length: 0\r\nconnection: close\r\n\r\n";
+
+const BEGUN: &str = "HTTP/1.1 200 OK\r\ntransfer-encoding: chunked\r\n\r\n1\r\nx\r\n";
+
+const COMPLETE: &str = "HTTP/1.1 200 OK\r\ntransfer-encoding: chunked\r\n\r\n1\r\nx\r\n0\r\n\r\n";
+
+const CLOSED: &str =
+    "HTTP/1.1 200 OK\r\ntransfer-encoding: chunked\r\nconnection: close\r\n\r\n1\r\nx\r\n0\r\n\r\n";
+
+const START: Say = Say::Start(200, &[]);
+
+const CLOSE: Say = Say::Start(200, &[("connection", "close")]);
+
+/// What was asked and said, and the text with what each end of the task adds.
+type Row = (
+    &'static str,
+    Ask,
+    &'static [Say],
+    &'static [(Input, &'static str)],
+);
+
+const ROWS: [Row; 11] = [
+    (
+        "nothing said",
+        GET,
+        &[],
+        &[
+            (Input::Whole, REFUSED_500),
+            (Input::Faulty(400), REFUSED_400),
+            (Input::Broken, ""),
+        ],
+    ),
+    (
+        "a start",
+        GET,
+        &[START],
+        &[
+            (Input::Whole, REFUSED_500),
+            (Input::Faulty(413), REFUSED_413),
+            (Input::Broken, ""),
+        ],
+    ),
+    (
+        "begun",
+        GET,
+        &[START, Say::Part("x")],
+        &[
+            (Input::Whole, BEGUN),
+            (Input::Faulty(413), BEGUN),
+            (Input::Broken, BEGUN),
+        ],
+    ),
+    (
+        "complete",
+        GET,
+        &[START, Say::Last("x")],
+        &[
+            (Input::Whole, COMPLETE),
+            (Input::Faulty(400), COMPLETE),
+            (Input::Broken, COMPLETE),
+        ],
+    ),
+    (
+        "complete and it closes",
+        GET,
+        &[CLOSE, Say::Last("x")],
+        &[
+            (Input::Whole, CLOSED),
+            (Input::Faulty(413), CLOSED),
+            (Input::Broken, CLOSED),
+        ],
+    ),
+    (
+        "another status",
+        GET,
+        &[],
+        &[(
+            Input::Faulty(777),
+            "HTTP/1.1 777 \r\ncontent-length: 0\r\nconnection: close\r\n\r\n",
+        )],
+    ),
+    (
+        "nothing said to a handshake",
+        HANDSHAKE,
+        &[],
+        &[(Input::Whole, REFUSED_500)],
+    ),
+    (
+        "a denial's start",
+        HANDSHAKE,
+        &[Say::DenialStart(401, &[])],
+        &[(Input::Whole, REFUSED_500), (Input::Broken, "")],
+    ),
+    (
+        "inside a denial",
+        HANDSHAKE,
+        &[Say::DenialStart(401, &[]), Say::DenialPart("no")],
+        &[(
+            Input::Whole,
+            "HTTP/1.1 401 Unauthorized\r\ntransfer-encoding: chunked\r\nconnection: close\r\n\r\n2\r\nno\r\n",
+        )],
+    ),
+    (
+        "an accept",
+        HANDSHAKE,
+        &[Say::Accept],
+        &[(Input::Whole, ""), (Input::Broken, "")],
+    ),
+    ("a close", HANDSHAKE, &[Say::Close], &[(Input::Whole, "")]),
+];
+
+fn are_ended(
+    rt: &(impl Abort + AllocGlobal),
+    name: &str,
+    ask: Ask,
+    said: &[Say],
+    ends: &[(Input, &str)],
+) -> Result<(), Fail> {
+    for (input, text) in ends {
+        let out = written(rt.alloc(), ask, said, Some(*input))?;
+        assert_eq!(rt; out.as_slice(), text.as_bytes(), "{name}, {input:?}");
+    }
+    Ok(())
+}
+
+#[test]
+fn the_end_answers_where_no_body_was_taken(rt: HostRuntime) -> Result<(), Fail> {
+    for (name, ask, said, ends) in &ROWS {
+        are_ended(&rt, name, *ask, *said, *ends)?;
+    }
+    Ok(())
+}
+
+#[test]
+fn a_client_that_waits_is_told_to_go_on_before_a_refusal(rt: HostRuntime) -> Result<(), Fail> {
+    let ask: Ask = EXPECTING;
+    let out = written(rt.alloc(), ask, &[], Some(Input::Faulty(413)))?;
+    let text =
+        "HTTP/1.1 100 Continue\r\n\r\nHTTP/1.1 413 Content Too Large\r\ncontent-length: 0\r\nconnection: close\r\n\r\n";
+    assert_eq!(rt; out.as_slice(), text.as_bytes());
+    Ok(())
+}

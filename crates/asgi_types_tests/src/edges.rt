@@ -1,0 +1,392 @@
+//! The values at the edges that no clause reaches: many fields, many bytes, and nothing at all. With ample memory each
+//! call succeeds, and what was given comes back.
+
+use crate::values::{chars, is_name, is_number, of, of_given};
+use asgi_types::{
+    Asgi, Chars, Extensions, Facts, Framing, HeaderError, Headers, HttpScope, HttpVersion, Kind,
+    LifespanScope, Names, Octets, Peer, Scope, State, StateError, StateValue, WsScope,
+};
+use std::alloc::{AllocError, Global};
+use std::process::Abort;
+use std::test::Fail;
+
+fn digit(number: usize) -> u8 {
+    b'0' + (number % 10) as u8
+}
+
+/// The last three digits of the number.
+fn digits(number: usize) -> [u8; 3] {
+    [digit(number / 100), digit(number / 10), digit(number)]
+}
+
+/// Adds the field `X-NNN: NNN` of this number.
+fn push(headers: &mut Headers, number: usize) -> Result<(), HeaderError> {
+    let [a, b, c] = digits(number);
+    headers.push(&[b'X', b'-', a, b, c], &[a, b, c])
+}
+
+/// The field is `x-nnn: nnn` of this number.
+fn is_field(name: &[u8], value: &[u8], number: usize) -> bool {
+    let [a, b, c] = digits(number);
+    name == [b'x', b'-', a, b, c].as_slice() && value == [a, b, c].as_slice()
+}
+
+fn is_field_at(held: &Headers, number: usize) -> bool {
+    match held.at(number) {
+        Some((name, value)) => is_field(name, value, number),
+        None => false,
+    }
+}
+
+/// The fields of the numbers 0 to 199, by their index and as they are gone over.
+fn has_200_fields(rt: &impl Abort, held: &Headers) {
+    let mut count = 0usize;
+    for (name, value) in held.iter() {
+        assert!(rt; is_field(name, value, count), "field {count}");
+        count = count.saturating_add(1);
+    }
+    for number in 0..200usize {
+        assert!(rt; is_field_at(held, number), "field {number}");
+    }
+    assert!(rt; count == 200 && held.len() == 200 && held.at(200).is_none());
+}
+
+fn has_200_fields_copied(rt: &(impl Abort + AllocGlobal), held: &Headers) -> Result<(), Fail> {
+    has_200_fields(rt, &held.copy(rt.alloc())?);
+    Ok(())
+}
+
+#[test]
+fn two_hundred_fields_are_kept(rt: HostRuntime) -> Result<(), Fail> {
+    let mut headers = Headers::new(rt.alloc());
+    for number in 0..200usize {
+        push(&mut headers, number)?;
+    }
+    has_200_fields(&rt, &headers);
+    has_200_fields_copied(&rt, &headers)
+}
+
+/// So many bytes, in rows of 251.
+fn bytes_of(alloc: Global, count: usize) -> Result<Vec<u8>, AllocError> {
+    let mut bytes = Vec::with_capacity(alloc, count)?;
+    for at in 0..count {
+        bytes.push(byte_at(at))?;
+    }
+    Ok(bytes)
+}
+
+fn byte_at(at: usize) -> u8 {
+    (at % 251) as u8
+}
+
+fn are_bytes(bytes: &[u8], count: usize) -> bool {
+    for (at, byte) in bytes.iter().enumerate() {
+        if *byte != byte_at(at) {
+            return false;
+        }
+    }
+    bytes.len() == count
+}
+
+fn are_kept(alloc: Global, count: usize) -> Result<bool, AllocError> {
+    let held = Octets::new(bytes_of(alloc, count)?);
+    let copied = held.copy(alloc)?;
+    let are_equal = are_bytes(held.bytes(), count) && are_bytes(copied.bytes(), count);
+    let are_taken = are_bytes(held.into_vec().as_slice(), count);
+    Ok(are_equal && are_taken && are_bytes(copied.into_vec().as_slice(), count))
+}
+
+#[test]
+fn octets_may_be_many(rt: HostRuntime) -> Result<(), Fail> {
+    for count in [0, 1, 65_535, 65_536, 70_000, 1_048_576] {
+        assert!(rt; are_kept(rt.alloc(), count)?, "{count} bytes");
+    }
+    Ok(())
+}
+
+/// The texts stand around an empty one.
+const NAMES: [&str; 3] = ["", "a", ""];
+
+fn are_names(held: &Names) -> bool {
+    for (index, name) in NAMES.iter().enumerate() {
+        if !is_name(held, index, name) {
+            return false;
+        }
+    }
+    held.len() == 3 && held.at(3).is_none()
+}
+
+fn are_names_copied(alloc: Global, held: &Names) -> Result<bool, AllocError> {
+    Ok(are_names(&held.copy(alloc)?))
+}
+
+fn push_name(alloc: Global, names: &mut Names, name: &str) -> Result<(), AllocError> {
+    names.push(chars(alloc, name)?)
+}
+
+#[test]
+fn a_list_has_empty_names(rt: HostRuntime) -> Result<(), Fail> {
+    let mut names = Names::new(rt.alloc());
+    for name in NAMES {
+        push_name(rt.alloc(), &mut names, name)?;
+    }
+    let is_so = are_names(&names) && are_names_copied(rt.alloc(), &names)?;
+    assert!(rt; is_so);
+    Ok(())
+}
+
+/// The numbers under the empty name and under `a`, and nothing under another.
+fn has_numbers(held: &State, empty: u64) -> bool {
+    is_number(held.get(""), empty) && is_number(held.get("a"), 2) && held.get("b").is_none()
+}
+
+fn has_numbers_copied(alloc: Global, held: &State, empty: u64) -> Result<bool, AllocError> {
+    Ok(has_numbers(held, empty) && has_numbers(&held.copy(alloc)?, empty))
+}
+
+fn set(state: &mut State, name: &str, number: u64) -> Result<(), StateError> {
+    state.set(name, StateValue::Number(number))
+}
+
+fn is_first(alloc: Global, state: &mut State) -> Result<bool, StateError> {
+    set(state, "", 1)?;
+    set(state, "a", 2)?;
+    Ok(has_numbers_copied(alloc, state, 1)?)
+}
+
+fn is_replaced(alloc: Global, state: &mut State) -> Result<bool, StateError> {
+    set(state, "", 3)?;
+    Ok(has_numbers_copied(alloc, state, 3)?)
+}
+
+fn has_empty_name(rt: &(impl Abort + AllocGlobal), state: &mut State) -> Result<(), Fail> {
+    assert!(rt; is_first(rt.alloc(), state)?);
+    assert!(rt; is_replaced(rt.alloc(), state)?);
+    Ok(())
+}
+
+#[test]
+fn a_state_has_a_value_under_the_empty_name(rt: HostRuntime) -> Result<(), Fail> {
+    has_empty_name(&rt, &mut State::new(rt.alloc()))
+}
+
+fn gives_no_field(held: &Headers) -> bool {
+    let mut count = 0usize;
+    for _field in held.iter() {
+        count = count.saturating_add(1);
+    }
+    count == 0
+}
+
+fn holds_no_field(held: &Headers) -> bool {
+    held.is_empty() && held.len() == 0 && held.at(0).is_none() && gives_no_field(held)
+}
+
+fn has_no_names(held: &Names) -> bool {
+    held.len() == 0 && held.at(0).is_none()
+}
+
+fn has_no_values(held: &State) -> bool {
+    held.get("").is_none() && held.get("held").is_none()
+}
+
+fn is_empty_headers_copied(alloc: Global) -> Result<bool, AllocError> {
+    let held = Headers::new(alloc);
+    let copied = held.copy(alloc)?;
+    Ok(holds_no_field(&held) && holds_no_field(&copied))
+}
+
+fn is_empty_names_copied(alloc: Global) -> Result<bool, AllocError> {
+    let held = Names::new(alloc);
+    let copied = held.copy(alloc)?;
+    Ok(has_no_names(&held) && has_no_names(&copied))
+}
+
+fn is_empty_state_copied(alloc: Global) -> Result<bool, AllocError> {
+    let held = State::new(alloc);
+    let copied = held.copy(alloc)?;
+    Ok(has_no_values(&held) && has_no_values(&copied))
+}
+
+#[test]
+fn a_copy_of_nothing_is_nothing(rt: HostRuntime) -> Result<(), Fail> {
+    assert!(rt; is_empty_headers_copied(rt.alloc())?);
+    assert!(rt; is_empty_names_copied(rt.alloc())?);
+    assert!(rt; is_empty_state_copied(rt.alloc())?);
+    Ok(())
+}
+
+/// Facts with no subprotocols and a zero key.
+fn bare_facts(alloc: Global) -> Facts {
+    Facts {
+        version: HttpVersion::V11,
+        head_only: false,
+        close: false,
+        expect: true,
+        framing: Framing::Length(0),
+        key: [0; 24],
+        subprotocols: Names::new(alloc),
+    }
+}
+
+fn are_bare_flags(held: &Facts) -> bool {
+    held.version == HttpVersion::V11 && !held.head_only && !held.close && held.expect
+}
+
+fn are_bare(held: &Facts) -> bool {
+    are_bare_flags(held)
+        && held.framing == Framing::Length(0)
+        && held.key.as_slice() == [0; 24].as_slice()
+        && has_no_names(&held.subprotocols)
+}
+
+fn are_bare_copied(alloc: Global, held: &Facts) -> Result<bool, AllocError> {
+    Ok(are_bare(held) && are_bare(&held.copy(alloc)?))
+}
+
+#[test]
+fn facts_with_no_subprotocols_are_copied(rt: HostRuntime) -> Result<(), Fail> {
+    assert!(rt; are_bare_copied(rt.alloc(), &bare_facts(rt.alloc()))?);
+    Ok(())
+}
+
+fn blank_text(alloc: Global) -> Chars {
+    Chars::new(String::new(alloc))
+}
+
+fn empty_bytes(alloc: Global) -> Octets {
+    Octets::new(Vec::new(alloc))
+}
+
+fn no_extensions() -> Extensions {
+    Extensions {
+        websocket_http_response: false,
+        http_response_trailers: false,
+    }
+}
+
+/// A scope whose every text and list is empty, with no peers, no fields and no state.
+fn bare_http(alloc: Global) -> HttpScope {
+    HttpScope {
+        asgi: Asgi::of(Kind::Http),
+        http_version: HttpVersion::V10,
+        method: blank_text(alloc),
+        scheme: blank_text(alloc),
+        path: blank_text(alloc),
+        raw_path: empty_bytes(alloc),
+        query_string: empty_bytes(alloc),
+        root_path: blank_text(alloc),
+        headers: Headers::new(alloc),
+        client: None,
+        server: None,
+        state: State::new(alloc),
+        extensions: no_extensions(),
+    }
+}
+
+fn bare_ws(alloc: Global) -> WsScope {
+    WsScope {
+        asgi: Asgi::of(Kind::WebSocket),
+        http_version: HttpVersion::V10,
+        scheme: blank_text(alloc),
+        path: blank_text(alloc),
+        raw_path: empty_bytes(alloc),
+        query_string: empty_bytes(alloc),
+        root_path: blank_text(alloc),
+        headers: Headers::new(alloc),
+        client: None,
+        server: None,
+        subprotocols: Names::new(alloc),
+        state: State::new(alloc),
+        extensions: no_extensions(),
+    }
+}
+
+fn bare_lifespan(alloc: Global) -> LifespanScope {
+    LifespanScope {
+        asgi: Asgi::of(Kind::Lifespan),
+        state: State::new(alloc),
+    }
+}
+
+fn bare_scope(alloc: Global, kind: Kind) -> Scope {
+    match kind {
+        Kind::Http => Scope::Http(bare_http(alloc)),
+        Kind::WebSocket => Scope::WebSocket(bare_ws(alloc)),
+        Kind::Lifespan => Scope::Lifespan(bare_lifespan(alloc)),
+    }
+}
+
+fn is_text_empty(text: &Chars) -> bool {
+    text.as_str().is_empty()
+}
+
+fn are_texts_empty(scheme: &Chars, path: &Chars, root_path: &Chars) -> bool {
+    is_text_empty(scheme) && is_text_empty(path) && is_text_empty(root_path)
+}
+
+fn are_bytes_empty(raw_path: &Octets, query_string: &Octets) -> bool {
+    raw_path.bytes().is_empty() && query_string.bytes().is_empty()
+}
+
+fn are_unknown(client: &Option<Peer>, server: &Option<Peer>) -> bool {
+    client.is_none() && server.is_none()
+}
+
+fn is_of(asgi: Asgi, version: HttpVersion, kind: Kind) -> bool {
+    asgi == Asgi::of(kind) && version == HttpVersion::V10
+}
+
+fn is_bare_http(held: &HttpScope) -> bool {
+    is_of(held.asgi, held.http_version, Kind::Http)
+        && is_text_empty(&held.method)
+        && are_texts_empty(&held.scheme, &held.path, &held.root_path)
+        && are_bytes_empty(&held.raw_path, &held.query_string)
+        && holds_no_field(&held.headers)
+        && are_unknown(&held.client, &held.server)
+        && has_no_values(&held.state)
+        && held.extensions == no_extensions()
+}
+
+fn is_bare_ws(held: &WsScope) -> bool {
+    is_of(held.asgi, held.http_version, Kind::WebSocket)
+        && are_texts_empty(&held.scheme, &held.path, &held.root_path)
+        && are_bytes_empty(&held.raw_path, &held.query_string)
+        && holds_no_field(&held.headers)
+        && are_unknown(&held.client, &held.server)
+        && has_no_names(&held.subprotocols)
+        && has_no_values(&held.state)
+        && held.extensions == no_extensions()
+}
+
+fn is_bare_lifespan(held: &LifespanScope) -> bool {
+    held.asgi == Asgi::of(Kind::Lifespan) && has_no_values(&held.state)
+}
+
+fn is_bare(scope: &Scope, kind: Kind) -> bool {
+    match scope {
+        Scope::Http(held) => kind == Kind::Http && is_bare_http(held),
+        Scope::WebSocket(held) => kind == Kind::WebSocket && is_bare_ws(held),
+        Scope::Lifespan(held) => kind == Kind::Lifespan && is_bare_lifespan(held),
+    }
+}
+
+fn has_bare_copy(alloc: Global, scope: &Scope, kind: Kind) -> Result<bool, AllocError> {
+    let is_so = of_given(scope.copy(alloc), |copied| is_bare(copied, kind))?;
+    Ok(is_so && is_bare(scope, kind))
+}
+
+fn is_bare_copied(alloc: Global, kind: Kind) -> Result<bool, AllocError> {
+    of(
+        bare_scope(alloc, kind),
+        |scope| has_bare_copy(alloc, scope, kind),
+    )
+}
+
+#[test]
+fn a_scope_with_nothing_known_is_copied(rt: HostRuntime) -> Result<(), Fail> {
+    for kind in [Kind::Http, Kind::WebSocket, Kind::Lifespan] {
+        assert!(rt; is_bare_copied(rt.alloc(), kind)?, "{kind:?}");
+    }
+    Ok(())
+}

@@ -1,0 +1,11 @@
+//! Tests of `asgi_ws` on its public calls: answers to opening handshakes, and lines that carry messages.
+#![tactic(auto)]
+
+#[cfg(test)]
+mod handshakes;
+#[cfg(test)]
+mod scripted;
+#[cfg(test)]
+mod wire;
+#[cfg(test)]
+mod wired;

@@ -1,0 +1,227 @@
+#!/usr/bin/env python3
+"""edits_self_test.py: whether tests/must_fail.py tells good edits from bad ones, and tries again just those that are due.
+
+It tries edits of each sort on a small crate of its own, good and bad, and sees that each is told from the others, and that a
+forged line of the record is found. Then it changes, one after another, what a refusal stands on and what it does not, and
+sees which edits are due. The last line is 'N passed, M failed'.
+"""
+
+import os
+import sys
+import tempfile
+
+import must_fail
+import record
+from toolchain import crates_in, load_rt
+
+COMMIT = "0" * 40
+SMALL = """//! A crate to try edits on.
+#![tactic(auto)]
+ghost use Rattle.std.specs.Prelude.{◌≡◌, ◌+◌, ◌<◌, IsSome, IfSome};
+
+/// The number after this one, `None` at the greatest.
+pub fn next(number: u8) -> Option<u8>
+    ensures found { number < 255 → IsSome result }
+    ensures value { IfSome result (λ found. found ≡ number + 1) }
+{
+    let step = 1;
+    number.checked_add(step)
+}
+
+/// The number before this one, `None` at 0.
+pub fn previous(number: u8) -> Option<u8>
+    ensures value { IfSome result (λ found. found + 1 ≡ number) }
+{
+    let back = 1;
+    number.checked_sub(back)
+}
+"""
+# The edits of the small crate: what refuses it, the old text and the new one, and what must be said of it. Those of UNREAD
+# can't even be read; of TRIED the prover is asked. There `adds_two` and `back_by_three` stand in one check, and
+# `back_by_two` in one with `changes_nothing`, which has to be found out beside it. The record says that this one was refused.
+UNREAD = {
+    "has_no_such_text": ("refused by: next", "let step = 3;", "let step = 2;", "BAD EDIT"),
+    "says_nothing_of_why": ("", "let step = 1;", "let step = 2;", "BAD EDIT"),
+}
+FORGED = "changes_nothing"
+TRIED = {
+    "adds_two": ("refused by: next, clause value", "let step = 1;", "let step = 2;", ""),
+    "back_by_two": ("refused by: previous", "let back = 1;", "let back = 2;", ""),
+    "back_by_three": ("refused by: previous", "let back = 1;", "let back = 3;", ""),
+    FORGED: ("refused by: next", "let step = 1;", "let step = 2 - 1;", "forged or stale"),
+    "does_not_compile": ("refused by: next", "let step = 1;", "let step = one;", "BAD EDIT"),
+    "names_another_function": ("refused by: other", "let step = 1;", "let step = 2;", "ANOTHER REASON"),
+    "names_another_clause": ("refused by: next, clause start", "let step = 1;", "let step = 2;", "ANOTHER REASON"),
+}
+# A repository of two crates, which no prover sees: `high` stands on `low`, and cites one of its two lemma files.
+TWO = {
+    "HANDLES": "Handles allowed: none.\n",
+    "crates.txt": "low:\nhigh: low\n",
+    "crates/low/README.md": "A crate.\n",
+    "crates/low/src/lib.rt": "/// One.\npub fn one() -> u8\n    ensures { result ≡ 1 }\n{\n    1\n}\n#[cfg(test)]\nmod tests;\n",
+    "crates/low/src/tests.rt": "#[test]\nfn is_one() {}\n",
+    "crates/low/specs/Lib.antt": "pub mod Ones\n",
+    "crates/low/specs/Ones.antt": "-- one\n",
+    "crates/low/proofs/one/Answers.antt": "-- an answer\n",
+    "crates/low/proofs/Cited.antt": "-- a lemma\n",
+    "crates/low/proofs/Other.antt": "-- a lemma\n",
+    "crates/high/src/lib.rt": "pub fn two() -> u8 {\n    let two = 2;\n    two\n}\n",
+    "crates/high/proofs/two/Answers.antt": "use Rattle.low.proofs.Cited.{lemma}\n",
+    "tests/edits/low/is_two.edit": "refused by: one\nfile: src/lib.rt\nold:     1\nnew:     2\n",
+    "tests/edits/high/is_three.edit": "refused by: two\nfile: src/lib.rt\nold: let two = 2;\nnew: let two = 3;\n",
+    "tests/edits/high/is_four.edit": "refused by: two\nfile: src/lib.rt\nold: let two = 2;\nnew: let two = 4;\n",
+}
+BOTH = ["high/is_four.edit", "high/is_three.edit"]
+EVERY = [*BOTH, "low/is_two.edit"]
+# What is changed: the file, the old and the new text, and which edits are due then.
+CHANGES = [
+    ("crates/low/README.md", "A crate", "No crate", []),
+    ("crates/low/specs/Ones.antt", "one", "two", EVERY),
+    ("crates/low/src/lib.rt", "result ≡ 1", "result ≡ 2", EVERY),
+    ("crates/low/src/lib.rt", "    1\n", "    0 + 1\n", ["low/is_two.edit"]),
+    ("crates/low/src/lib.rt", "/// One", "/// Two", ["low/is_two.edit"]),
+    ("crates/low/src/tests.rt", "is_one", "is_two", []),
+    ("crates/low/proofs/one/Answers.antt", "an answer", "another", ["low/is_two.edit"]),
+    ("crates/low/proofs/Cited.antt", "a lemma", "another", EVERY),
+    ("crates/low/proofs/Other.antt", "a lemma", "another", ["low/is_two.edit"]),
+    ("crates/high/proofs/two/Answers.antt", "lemma", "another", BOTH),
+    ("crates/high/src/lib.rt", "u8 {", "u8  {", BOTH),
+    ("crates.txt", "high: low", "high: low httparse", BOTH),
+    ("HANDLES", "none", "Wait", EVERY),
+    ("tests/edits/high/is_four.edit", "two = 4", "two = 5", ["high/is_four.edit"]),
+]
+# What a record may be, and what is then said of it.
+RECORDS = [
+    (b"\xff\xfe\n", "it can't be read"),
+    (b"is_three.edit\n", "line 1 can't be read"),
+    (b"<<<<<<< HEAD\n", "line 1 can't be read"),
+    (b"is_three.edit %s\nis_four.edit %s\n" % (b"0" * 32, b"0" * 32), "line 2 is out of order"),
+    (b"is_five.edit %s\n" % (b"0" * 32), "it names is_five.edit, which is not there"),
+]
+
+
+def write(root, files):
+    for path, text in files.items():
+        os.makedirs(os.path.dirname(f"{root}/{path}"), exist_ok=True)
+        with open(f"{root}/{path}", "wb") as it:
+            it.write(text if isinstance(text, bytes) else text.encode())
+
+
+def words_of(**given):
+    """Returns what must_fail.py was asked for, when nothing but this was said."""
+    asked = must_fail.read_words([])
+    for name, value in given.items():
+        setattr(asked, name, value)
+    return asked
+
+
+def chosen(rt, root, toolchain="a toolchain", commit=COMMIT, **given):
+    """Returns the choice of the edits of a repository."""
+    with tempfile.TemporaryDirectory() as room:
+        asked = words_of(**given)
+        must_fail.copy_repository(root, room, asked)
+        crates = crates_in(rt, room)
+        wanted = must_fail.Edits(rt, root, asked, crates).wanted
+        sums = record.Sums(crates, toolchain, record.read(f"{room}/HANDLES"))
+        return must_fail.Choice(root, wanted, sums, asked, commit)
+
+
+def due_of(choice):
+    """Returns the edits that are tried since they are due."""
+    tried = {f"{crate.name}/{os.path.basename(it)}" for crate, edits in choice.tried.items() for it in edits}
+    return sorted(tried - choice.drawn)
+
+
+def keep(choice):
+    """Notes each edit as refused."""
+    for crate, sums in choice.sums.items():
+        choice.note(crate, [*sums], [True] * len(sums))
+
+
+def try_small(rt):
+    """Tries the edits of the small crate. Yields what is wrong, or None, for each."""
+    for edits in (UNREAD, TRIED):
+        with tempfile.TemporaryDirectory(prefix="small-") as root:
+            write(root, {"HANDLES": "Handles allowed: none.\n", "crates.txt": "small:\n", "crates/small/src/lib.rt": SMALL})
+            for name, (why, old, new, _) in edits.items():
+                write(root, {f"tests/edits/small/{name}.edit": f"{why}\nfile: src/lib.rt\nold: {old}\nnew: {new}\n"})
+            tried = f"{root}/tests/edits/small/tried"
+            if FORGED in edits:
+                [sums] = chosen(rt, root, record.read(f"{rt.KIT}/KIT-ID")).sums.values()
+                write(root, {"tests/edits/small/tried": f"{FORGED}.edit {sums[f'{FORGED}.edit']}\n"})
+            _, said = must_fail.try_edits(rt, root, words_of(), COMMIT)
+            kept = {it[: -len(".edit")] for it in record.Record(tried).sums}
+        for name, (_, _, _, word) in edits.items():
+            of_it = [it for it in said if f"small/{name}.edit:" in it]
+            is_told = len(of_it) == bool(word) and all(word in it for it in of_it)
+            yield None if is_told else f"{name}: wanted is '{word}', and was said: {of_it}"
+        if FORGED in edits:
+            refused = {it for it, (_, _, _, word) in edits.items() if not word}
+            yield None if kept == refused else f"the record names {sorted(kept)}"
+
+
+def changed(rt):
+    """Changes what refusals may stand on. Yields what is wrong, or None, for each."""
+    with tempfile.TemporaryDirectory(prefix="two-") as root:
+        write(root, TWO)
+        first = chosen(rt, root)
+        yield None if due_of(first) == EVERY else f"with no record are due: {due_of(first)}"
+        keep(first)
+        again = due_of(chosen(rt, root))
+        yield None if not again else f"with nothing changed are due: {again}"
+        other = due_of(chosen(rt, root, toolchain="another"))
+        yield None if other == EVERY else f"with another toolchain are due: {other}"
+        every = due_of(chosen(rt, root, all=True))
+        yield None if every == EVERY else f"of all are tried: {every}"
+        without = due_of(chosen(rt, root, commit=None))
+        yield None if without == EVERY else f"with no commit are due: {without}"
+        for path, old, new, wanted in CHANGES:
+            was = record.read(f"{root}/{path}")
+            write(root, {path: was.replace(old, new)})
+            found = due_of(chosen(rt, root))
+            write(root, {path: was})
+            yield None if found == wanted and old in was else f"with '{new}' for '{old}' in {path} are due: {found}"
+
+
+def faulty(rt):
+    """Puts faulty records in place of a good one. Yields what is wrong, or None, for each."""
+    with tempfile.TemporaryDirectory(prefix="two-") as root:
+        write(root, TWO)
+        keep(chosen(rt, root))
+        for text, word in RECORDS:
+            write(root, {"tests/edits/high/tried": text})
+            read, found = record.Record(f"{root}/tests/edits/high/tried"), due_of(chosen(rt, root))
+            is_told = read.fault is None and word.startswith("it names") or read.fault and read.fault.startswith(word)
+            yield None if found == BOTH and is_told else f"of the record {text} is said: {read.fault}; due are {found}"
+
+
+def draws(rt):
+    """Yields what is wrong, or None, of what is drawn: one in twelve, each at some time, and the same of one commit."""
+    names = [f"crate/{number}" for number in range(36)]
+    of = {str(commit): record.drawn(names, str(commit)) for commit in range(400)}
+    yield None if all(len(it) == 3 for it in of.values()) else "it draws not one in twelve"
+    yield None if set().union(*of.values()) == set(names) else "it never draws some"
+    yield None if record.drawn(names, "7") == of["7"] != of["8"] else "it is not the commit that draws"
+    yield None if record.drawn(names[:1], "7") == {names[0]} else "of one edit it draws none"
+    with tempfile.TemporaryDirectory(prefix="two-") as root:
+        write(root, {**TWO, **{f"tests/edits/high/{number}.edit": TWO["tests/edits/high/is_four.edit"] for number in range(40)}})
+        keep(chosen(rt, root))
+        parts = [chosen(rt, root, all=True, part=(at, 3)).tried for at in range(3)]
+        tried = [it for part in parts for edits in part.values() for it in edits]
+        names = {os.path.basename(it) for it in tried}
+        yield None if len(tried) == len(names) == 43 else f"three parts try {len(tried)} edits, {len(names)} of them once"
+        yield None if len(chosen(rt, root).drawn) == 4 else "of 43 edits it does not draw 4"
+
+
+def main():
+    rt = load_rt()
+    found = [*changed(rt), *faulty(rt), *draws(rt), *try_small(rt)]
+    failed = [it for it in found if it]
+    for it in failed:
+        print(f"FAILED: self-test: {it}")
+    print(f"{len(found) - len(failed)} passed, {len(failed)} failed")
+    return 1 if failed else 0
+
+
+if __name__ == "__main__":
+    sys.exit(main())

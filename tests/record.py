@@ -1,0 +1,215 @@
+"""The record of the edits that were refused, and what a refusal stands on.
+
+`tests/edits/NAME/tried` has a line for each edit of the crate NAME that the prover refused, in the order of their names:
+the name, and the sum of all that the refusal stood on. An edit whose sum is the same now need not be tried again. The sum
+covers the toolchain's line, HANDLES, the edit, its crate's line of crates.txt with `src`, `specs` and `proofs`, and of the
+crates below it what a check of this crate can see:
+
+- `specs`, whole;
+- `src` without the bodies of functions and without comments. The prover takes each function by the contracts of what it
+  calls, and the toolchain gives it the interface of a library, which has no bodies. The bodies of a trait's own functions,
+  of a `const fn` and of macros are kept all the same, since what is above may take these in;
+- of `proofs` the lemma files that the crate cites, as it cites them: their proofs, too, since a text can't be told from
+  its statement here. Proofs of functions are left out, since from above a function is known by its contract alone.
+
+Modules of tests are left out: the check of an edit reads none.
+"""
+
+import hashlib
+import os
+import re
+import subprocess
+
+# Raise it where the verdict on an edit comes about in another way than before: then each edit is tried again.
+RULES = 1
+# One in so many of the edits that stand by the record is tried all the same.
+ONE_IN = 12
+LINE = re.compile(r"([A-Za-z0-9_-][A-Za-z0-9_.-]*\.edit) ([0-9a-f]{32})")
+# A comment, a text, a character, a word, or one other character.
+TOKEN = re.compile(
+    r"(?P<space>//[^\n]*|/\*.*?\*/|\s+)|b?r(?P<hashes>#*)\".*?\"(?P=hashes)|b?\"(?:[^\"\\]|\\.)*\"|b?'(?:[^'\\\n]|\\(?:x..|u\{[^}]*\}|.))'|\w+|.", re.S
+)
+CITED = re.compile(r"Rattle\.(\w+)\.proofs((?:\.\w+)*)")
+
+
+def sum_of(*parts):
+    """Returns the sum of some texts."""
+    return hashlib.sha256(repr(parts).encode()).hexdigest()[:32]
+
+
+def read(path):
+    with open(path, encoding="utf-8", errors="surrogateescape") as it:
+        return it.read()
+
+
+def files_in(folder, part):
+    """Returns the paths below a part of a crate, as that crate has them."""
+    found = [f"{at}/{name}" for at, _, names in os.walk(f"{folder}/{part}") for name in names]
+    return sorted(os.path.relpath(it, folder) for it in found)
+
+
+def test_modules(folder):
+    """Returns the files of a crate that only its tests read."""
+    found, sources = set(), files_in(folder, "src")
+    for path in sources:
+        at = os.path.dirname(path) if os.path.basename(path) in ("lib.rt", "main.rt", "mod.rt") else path.removesuffix(".rt")
+        for name in re.findall(r"^#\[cfg\(test\)\]\nmod (\w+);", read(f"{folder}/{path}"), re.M):
+            found |= {it for it in sources if it == f"{at}/{name}.rt" or it.startswith(f"{at}/{name}/")}
+    return found
+
+
+def behind_group(tokens, at):
+    """Returns the place behind the bracket that closes the one at this place."""
+    depth = 0
+    for place in range(at, len(tokens)):
+        depth += (tokens[place] in "([{") - (tokens[place] in ")]}") if len(tokens[place]) == 1 else 0
+        if not depth:
+            return place + 1
+    return len(tokens)
+
+
+def behind_head(tokens, at):
+    """Returns the place behind the head of the function whose name stands here: where its body begins, or behind its `;`."""
+    has_clause = False
+    while at < len(tokens):
+        token = tokens[at]
+        has_clause = has_clause or token in ("ensures", "requires", "ghost", "measure")
+        if token == ";":
+            return at + 1
+        if token == "{" and not has_clause:
+            return at
+        if token in ("(", "[", "{"):
+            has_clause, at = has_clause and token != "{", behind_group(tokens, at)
+        else:
+            at += 1
+    return at
+
+
+def interface(text):
+    """Returns the text of a source without comments and without the bodies of functions, but for those of traits, `const fn`s and macros."""
+    tokens = [it[0] for it in TOKEN.finditer(text) if not it["space"]]
+    kept, at = [], 0
+    while at < len(tokens):
+        token, begin = tokens[at], at
+        at += 1
+        if token in ("trait", "macro_rules"):
+            while at < len(tokens) and tokens[at] not in ("{", ";"):
+                at += 1
+            at = behind_group(tokens, at)
+        elif token == "fn" and at < len(tokens) and re.match(r"\w", tokens[at]):
+            at = behind_head(tokens, at)
+            has_body = at < len(tokens) and tokens[at] == "{"
+            if has_body and tokens[max(0, begin - 1)] != "const":
+                kept += [*tokens[begin:at], "{}"]
+                at = behind_group(tokens, at)
+                continue
+            at = behind_group(tokens, at) if has_body else at
+        kept += tokens[begin:at]
+    return " ".join(kept)
+
+
+class Sums:
+    """What refusals stand on, in a repository with this line of the toolchain."""
+
+    def __init__(self, crates, toolchain, handles):
+        self.start, self.crates = (RULES, toolchain, handles), {it.name: it for it in crates}
+        self.own, self.seen = {}, {}
+
+    def texts_of(self, crate):
+        """Returns what a check of a crate's edits reads of that crate itself: each path and its text."""
+        if crate.name not in self.own:
+            left = test_modules(crate.folder)
+            paths = [it for part in ("src", "specs", "proofs") for it in files_in(crate.folder, part) if it not in left]
+            self.own[crate.name] = [(it, read(f"{crate.folder}/{it}")) for it in paths]
+        return self.own[crate.name]
+
+    def seen_of(self, crate):
+        """Returns the sum of what any crate above this one can see of it."""
+        if crate.name not in self.seen:
+            texts = [(path, interface(text) if path.startswith("src/") else text) for path, text in self.texts_of(crate) if not path.startswith("proofs/")]
+            self.seen[crate.name] = sum_of(crate.name, sorted(crate.of_kit), sorted(it.name for it in crate.deps), texts)
+        return self.seen[crate.name]
+
+    def cited_by(self, crate):
+        """Returns the lemma files of lower crates that a crate cites, and what those pass on of others: each name and its text."""
+        below, found, left = {it.name for it in crate.below()}, {}, [text for _, text in self.texts_of(crate)]
+        while left:
+            for name, path in CITED.findall(left.pop()):
+                if name not in below:
+                    continue
+                texts = dict(self.texts_of(self.crates[name]))
+                words = path.split(".")[1:]
+                files = [it for it in ("/".join(["proofs", *words[:end]]) + ".antt" for end in range(1, len(words) + 1)) if it in texts]
+                # A list in braces, say, names files that are not told here: then any may be meant.
+                if not words:
+                    files = [it for it in texts if it.startswith("proofs/")]
+                for it in files:
+                    if (name, it) not in found:
+                        found[name, it] = texts[it]
+                        left += re.findall(r"^pub use .*", texts[it], re.M)
+        return sorted(found.items())
+
+    def of_crate(self, crate):
+        """Returns the sum of what each edit of a crate stands on beside its own text."""
+        seen = [self.seen_of(it) for it in sorted(crate.below(), key=lambda it: it.name)]
+        return sum_of(self.start, crate.name, sorted(crate.of_kit), self.texts_of(crate), seen, self.cited_by(crate))
+
+    def of_edits(self, crate, edits):
+        """Returns the sum of each of these edits of a crate, by its name."""
+        base = self.of_crate(crate)
+        return {os.path.basename(it): sum_of(base, os.path.basename(it), read(it)) for it in edits}
+
+
+class Record:
+    """The record of one crate's edits."""
+
+    def __init__(self, path):
+        self.path, self.sums, self.fault = path, {}, None
+        if not os.path.lexists(path):
+            return
+        try:
+            with open(path, encoding="utf-8") as it:
+                lines = it.read().splitlines()
+        except (OSError, ValueError) as error:
+            self.fault = f"it can't be read ({getattr(error, 'strerror', None) or 'it is no text'})"
+            return
+        for number, line in enumerate(lines, 1):
+            found = LINE.fullmatch(line)
+            if not found or self.sums and found[1] <= max(self.sums):
+                self.fault = f"line {number} can't be read" if not found else f"line {number} is out of order"
+                self.sums = {}
+                return
+            self.sums[found[1]] = found[2]
+
+    def write(self):
+        """Writes the record, where it is another than the one that stands there."""
+        text = "".join(f"{name} {self.sums[name]}\n" for name in sorted(self.sums))
+        try:
+            if read(self.path) == text:
+                return
+        except OSError:
+            pass
+        with open(f"{self.path}.new", "w", encoding="utf-8") as it:
+            it.write(text)
+        os.replace(f"{self.path}.new", self.path)
+
+
+def commit_of(root):
+    """Returns the hash of the commit that stands in a repository, or None where there is none."""
+    try:
+        ran = subprocess.run(["git", "rev-parse", "--verify", "HEAD"], cwd=root, capture_output=True, text=True, check=False)
+    except OSError:
+        return None
+    return ran.stdout.strip() if ran.returncode == 0 and os.path.lexists(f"{root}/.git") else None
+
+
+def last_tried(root):
+    """Returns the last commit that changed a record, with its day, or None."""
+    words = ["git", "log", "-1", "--format=%h of %cs", "--", "tests/edits/*/tried"]
+    ran = subprocess.run(words, cwd=root, capture_output=True, text=True, check=False)
+    return ran.stdout.strip() or None
+
+
+def drawn(names, commit):
+    """Returns one in twelve of these names, rounded up, as the hash of a commit draws them."""
+    return set(sorted(names, key=lambda it: sum_of(commit, it))[: -(-len(names) // ONE_IN)])
