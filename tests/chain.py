@@ -154,6 +154,11 @@ def told(log, crates):
     return lines
 
 
+def told_of(log):
+    """Returns the lines that are told of the log in this file."""
+    return told(text_of(log), text_of(f"{TOP}/crates.txt"))
+
+
 # A log of two processors: `high` waits for `low` and then for a processor, its tests end last but one, and its edits last.
 CRATES = "# lowest first\nlow:\nbeside:\nhigh: low httparse\n"
 SAMPLE = """part sources_read 0.0 4.0 3,3
@@ -192,8 +197,7 @@ def self_test():
 def main(words):
     if words == ["--self-test"]:
         return self_test()
-    log = words[0] if words else LOG
-    print(*told(text_of(log), text_of(f"{TOP}/crates.txt")), sep="\n")
+    print(*told_of(words[0] if words else LOG), sep="\n")
     return 0
 
 

@@ -81,6 +81,7 @@ CHANGES = [
     ("crates/low/src/lib.rt", "    1\n", "    0 + 1\n", ["low/is_two.edit"]),
     ("crates/low/src/lib.rt", "/// One", "/// Two", ["low/is_two.edit"]),
     ("crates/low/src/tests.rt", "is_one", "is_two", []),
+    ("crates/low/src/lib.rt", "mod tests;\n", "mod tests;\n#[cfg(test)]\nmod more;\n", ["low/is_two.edit"]),
     ("crates/low/proofs/one/Answers.antt", "an answer", "another", ["low/is_two.edit"]),
     ("crates/low/proofs/Cited.antt", "a lemma", "another", EVERY),
     ("crates/low/proofs/Other.antt", "a lemma", "another", ["low/is_two.edit"]),

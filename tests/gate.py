@@ -10,9 +10,11 @@ import os
 import re
 import subprocess
 import sys
+import tempfile
 import time
 
 import chain
+import record
 
 TOP = os.path.dirname(os.path.dirname(os.path.realpath(__file__)))
 PROGRAM = "crates/asgi_demo/out/asgi_demo"
@@ -93,6 +95,16 @@ def counts_of(what, status, lines):
     return counts_of_ci(lines, failed) if what == "rt ci" else {what: (passed, failed)}
 
 
+def tell(lines):
+    """Shows the lines at the end of a run. They stay among the temporary files, too, since a fresh clone is often gone before they are read."""
+    print(*lines, sep="\n", flush=True)
+    try:
+        with open(f"{tempfile.gettempdir()}/nomtsage-gate.txt", "w", encoding="utf-8") as it:
+            print(f"gate of {record.commit_of(TOP) or 'a tree without git'}, {time.strftime('%Y-%m-%d %H:%M')}", *lines, sep="\n", file=it)
+    except OSError as error:
+        print(f"(not kept among the temporary files: {error.strerror})", flush=True)
+
+
 def main():
     os.environ.setdefault("RT_JOBS", str(side_by_side()))
     counts, times, notes, began = {}, [], [], time.time()
@@ -103,21 +115,16 @@ def main():
             status, lines = run(words)
             watch.part(" ".join(words), started, idle)
             times.append((" ".join(words), time.time() - started))
-            notes += [it for it in lines if it.startswith("edits: ")]
+            notes += [it for it in lines if what == PARTS[-1][0] and it.startswith("edits: ")]
             for name, (passed, failed) in counts_of(what, status, lines).items():
                 before = counts.get(name, (0, 0))
                 counts[name] = (before[0] + passed, before[1] + failed)
-    print("== the checks that the long parts waited for")
-    chain.main([])
-    print("== sum")
-    for name, seconds in times:
-        print(f"{seconds / 60:6.1f} minutes: {name}")
-    print(f"{(time.time() - began) / 60:6.1f} minutes in all, {len(os.sched_getaffinity(0))} processors")
-    for name, (passed, failed) in counts.items():
-        print(f"{passed:6} {name}{f', {failed} FAILED' if failed else ''}")
-    print(*notes, sep="\n")
+    minutes = [*times, (f"in all, {len(os.sched_getaffinity(0))} processors, {os.environ['RT_JOBS']} checks side by side", time.time() - began)]
+    said = ["== the checks that the long parts waited for", *chain.told_of(chain.LOG), "== sum"]
+    said += [f"{seconds / 60:6.1f} minutes: {name}" for name, seconds in minutes]
+    said += [f"{passed:6} {name}{f', {failed} FAILED' if failed else ''}" for name, (passed, failed) in counts.items()]
     passed, failed = (sum(it[at] for it in counts.values()) for at in (0, 1))
-    print(f"{passed} passed, {failed} failed")
+    tell([*said, *notes, f"{passed} passed, {failed} failed"])
     return 1 if failed or not passed else 0
 
 

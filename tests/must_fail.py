@@ -15,8 +15,8 @@ all crates are. What was refused is written into the record, with nothing else: 
 The prover takes each function by itself, by the contracts of what it calls. So it is asked for the functions that edits
 name alone, from nothing, over the crates below as `rt ci` proved and built them on this machine of the very same files; where
 `rt ci` has not proved a crate, it is proved here first. Edits within the bodies of different functions are tried in one
-check, where each function must be refused for its own edit and no other function at all. Where such a check says anything
-else, each of its edits is tried alone, and where that says anything else, by a check of the whole crate.
+check, where each function must be refused for its own edit and no other function at all. An edit that such a check leaves in
+doubt is tried alone, and one that is in doubt then, by a check of the whole crate.
 
 --all: every edit, whatever the record says, and the edits crates/NAME/must-fail/*.edit too, which `rt ci` tries.
 --read: only sees that each edit can be applied and says what refuses it, those of crates/NAME/must-fail too.
@@ -84,16 +84,17 @@ def kept_promise(edit, log):
     return None
 
 
-def is_refusal_of(edits, log):
-    """Returns whether the prover refused the functions of these edits, each with the clause that its edit names, and no other one."""
-    refused = refused_by_function(log)
+def refused_of(edits, log):
+    """Returns those of some edits whose functions the prover refused, each with the clause that its edit names; none where it refused any other function, too."""
+    refused, found = refused_by_function(log), []
     for edit in edits:
         function, clause = promised(edit)
         own = [it for it in refused if f"::{it}".endswith(f"::{function}")]
-        if len(own) != 1 or clause and clause not in refused[own[0]]:
-            return False
-        del refused[own[0]]
-    return not refused
+        if len(own) == 1 and (not clause or clause in refused[own[0]]):
+            found.append(edit)
+        for it in own:
+            del refused[it]
+    return [] if refused else found
 
 
 def body_at(text, at):
@@ -123,9 +124,12 @@ def changes_of(edit, folder):
 
 
 def asked_for(edit, folder):
-    """Returns the name by which the prover is asked for the function of an edit: with its module, where the edit's file tells it."""
+    """Returns the name by which the prover is asked for the function of an edit: that of a method as it is, and any other one behind its module, where the
+    edit's file tells that. (A method stands in the module of its type, wherever its `impl` stands.)"""
     function, changes = promised(edit)[0], changes_of(edit, folder)
-    module = changes[0][0].removeprefix("src/").removesuffix(".rt").split("/") if changes else []
+    if not changes or re.search(r"[A-Z]", function):
+        return function
+    module = changes[0][0].removeprefix("src/").removesuffix(".rt").split("/")
     module = [] if module in (["lib"], ["main"]) else [it for it in module if it != "mod"]
     first = function.split("::")[0]
     return "::".join([*(module[: module.index(first)] if first in module else module), function])
@@ -138,7 +142,8 @@ def groups_of(edits, folder):
         if not changes_of(edit, folder):
             alone.append([edit])
             continue
-        function = asked_for(edit, folder)
+        # One method may be named with its module, and without.
+        function = re.sub(r"^.*?(?=[A-Z])", "", asked_for(edit, folder))
         group = next((it for it in groups if len(it) < AT_ONCE and function not in it), None)
         if group is None:
             groups.append(group := {})
@@ -287,8 +292,8 @@ class Trial:
         print(f"{crate.name}: NOT PROVED, so none of its edits is tried\n{said}" if status else f"{crate.name}: proved as it stands", flush=True)
         return not status
 
-    def is_refused(self, crate, edits, texts):
-        """Returns whether a check of these edits' functions alone, with these texts, refuses each of them for its own edit."""
+    def refused(self, crate, edits, texts):
+        """Returns those of some edits that a check of their functions alone, with these texts, refuses for their own sake."""
         over, flags = None, [*ONE_JOB]
         for edit in edits:
             flags += ["--only", asked_for(edit, crate.folder)]
@@ -298,18 +303,17 @@ class Trial:
         ran = self.rt.checked(crate, texts, flags, over and f"{over}/kept")
         shutil.rmtree(over or "", ignore_errors=True)
         lines = ran.stdout.rstrip("\n").split("\n")
-        if ran.returncode != 1 or any(self.rt.unread(it, texts) for it in lines) or self.rt.rtlib.STALE.search(ran.stdout):
-            return False
-        last = re.match(r"only=(\d+) proved=(\d+)\b", lines[-1])
-        if not last or int(last[1]) != len(edits):
-            return False
-        return is_refusal_of(edits, ran.stdout) if len(edits) > 1 else not kept_promise(edits[0], ran.stdout)
+        # The last line counts the functions that these call, too.
+        is_judged = ran.returncode == 1 and re.match(r"only=\d+ proved=\d+\b", lines[-1])
+        if not is_judged or any(self.rt.unread(it, texts) for it in lines) or self.rt.rtlib.STALE.search(ran.stdout):
+            return []
+        return refused_of(edits, ran.stdout) if len(edits) > 1 else [it for it in edits if not kept_promise(it, ran.stdout)]
 
     def attempt(self, crate, edit):
         """Tries an edit alone. Returns whether it is refused as it says, and what to say."""
         label, began = label_of(crate, edit), time.time()
         texts, why = self.rt.read_edit(edit, crate.folder)
-        if not why and self.is_refused(crate, [edit], texts):
+        if not why and self.refused(crate, [edit], texts):
             kind, text = self.rt.REFUSED, f"{label}: refused, as it must be"
         else:
             kind, text = self.rt.must_fail(crate, edit, ONE_JOB)
@@ -326,13 +330,11 @@ class Trial:
         if not given[crate.name, "proof"]:
             return [(False, f"{label_of(crate, it)}: not tried") for it in edits]
         began = time.time()
-        if len(edits) > 1 and self.is_refused(crate, edits, texts_of(edits, crate.folder)):
-            each = (time.time() - began) / len(edits)
-            for edit in edits:
-                print(f"{label_of(crate, edit)}: refused, as it must be, with {len(edits) - 1} others ({each:.0f} s)", flush=True)
-            found = [(True, "")] * len(edits)
-        else:
-            found = [self.attempt(crate, it) for it in edits]
+        clear = self.refused(crate, edits, texts_of(edits, crate.folder)) if len(edits) > 1 else []
+        each = (time.time() - began) / len(edits)
+        for edit in clear:
+            print(f"{label_of(crate, edit)}: refused, as it must be, with {len(edits) - 1} others ({each:.0f} s)", flush=True)
+        found = [(True, "") if it in clear else self.attempt(crate, it) for it in edits]
         false = self.choice.note(crate, edits, [it[0] for it in found])
         why = f"\nand yet tests/edits/{crate.name}/tried says that it was refused, with nothing changed since: that line is forged or stale"
         return [(refused, text + why * is_false) for (refused, text), is_false in zip(found, false)]

@@ -29,6 +29,7 @@ LINE = re.compile(r"([A-Za-z0-9_-][A-Za-z0-9_.-]*\.edit) ([0-9a-f]{32})")
 TOKEN = re.compile(
     r"(?P<space>//[^\n]*|/\*.*?\*/|\s+)|b?r(?P<hashes>#*)\".*?\"(?P=hashes)|b?\"(?:[^\"\\]|\\.)*\"|b?'(?:[^'\\\n]|\\(?:x..|u\{[^}]*\}|.))'|\w+|.", re.S
 )
+TEST_MODULE = r"^#\[cfg\(test\)\]\nmod (\w+);\n"
 CITED = re.compile(r"Rattle\.(\w+)\.proofs((?:\.\w+)*)")
 
 
@@ -53,7 +54,7 @@ def test_modules(folder):
     found, sources = set(), files_in(folder, "src")
     for path in sources:
         at = os.path.dirname(path) if os.path.basename(path) in ("lib.rt", "main.rt", "mod.rt") else path.removesuffix(".rt")
-        for name in re.findall(r"^#\[cfg\(test\)\]\nmod (\w+);", read(f"{folder}/{path}"), re.M):
+        for name in re.findall(TEST_MODULE, read(f"{folder}/{path}"), re.M):
             found |= {it for it in sources if it == f"{at}/{name}.rt" or it.startswith(f"{at}/{name}/")}
     return found
 
@@ -86,7 +87,8 @@ def behind_head(tokens, at):
 
 
 def interface(text):
-    """Returns the text of a source without comments and without the bodies of functions, but for those of traits, `const fn`s and macros."""
+    """Returns the text of a source without comments, modules of tests and the bodies of functions, but for the bodies in traits, `const fn`s and macros."""
+    text = re.sub(TEST_MODULE, "", text, flags=re.M)
     tokens = [it[0] for it in TOKEN.finditer(text) if not it["space"]]
     kept, at = [], 0
     while at < len(tokens):
