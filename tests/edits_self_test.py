@@ -6,6 +6,8 @@ forged line of the record is found. Then it changes, one after another, what a r
 sees which edits are due. The last line is 'N passed, M failed'.
 """
 
+import contextlib
+import io
 import os
 import sys
 import tempfile
@@ -91,13 +93,13 @@ CHANGES = [
     ("HANDLES", "none", "Wait", EVERY),
     ("tests/edits/high/is_four.edit", "two = 4", "two = 5", ["high/is_four.edit"]),
 ]
-# What a record may be, and what is then said of it.
+# What a record may be (GOOD stands for its lines as they were), and what is then said of it.
 RECORDS = [
     (b"\xff\xfe\n", "it can't be read"),
     (b"is_three.edit\n", "line 1 can't be read"),
     (b"<<<<<<< HEAD\n", "line 1 can't be read"),
     (b"is_three.edit %s\nis_four.edit %s\n" % (b"0" * 32, b"0" * 32), "line 2 is out of order"),
-    (b"is_five.edit %s\n" % (b"0" * 32), "it names is_five.edit, which is not there"),
+    (b"a_gone.edit %s\nGOOD" % (b"0" * 32), "it names a_gone.edit, which is not there"),
 ]
 
 
@@ -185,15 +187,22 @@ def changed(rt):
 
 
 def faulty(rt):
-    """Puts faulty records in place of a good one. Yields what is wrong, or None, for each."""
+    """Puts faulty records in place of a good one, and takes the commit away. Yields what is wrong, or None, for each."""
     with tempfile.TemporaryDirectory(prefix="two-") as root:
         write(root, TWO)
         keep(chosen(rt, root))
+        good = record.read(f"{root}/tests/edits/high/tried")
         for text, word in RECORDS:
-            write(root, {"tests/edits/high/tried": text})
-            read, found = record.Record(f"{root}/tests/edits/high/tried"), due_of(chosen(rt, root))
-            is_told = read.fault is None and word.startswith("it names") or read.fault and read.fault.startswith(word)
-            yield None if found == BOTH and is_told else f"of the record {text} is said: {read.fault}; due are {found}"
+            write(root, {"tests/edits/high/tried": text.replace(b"GOOD", good.encode())})
+            said = io.StringIO()
+            with contextlib.redirect_stdout(said):
+                found = due_of(chosen(rt, root))
+            is_told = said.getvalue().startswith(f"tests/edits/high/tried: {word}") and said.getvalue().count("\n") == 1
+            yield None if found == BOTH and is_told else f"of the record {text} is said: {said.getvalue()}; due are {found}"
+        said = io.StringIO()
+        with contextlib.redirect_stdout(said):
+            chosen(rt, root, commit=None)
+        yield None if "no hash of a commit" in said.getvalue() else f"with no commit is said: {said.getvalue()}"
 
 
 def draws(rt):
@@ -211,7 +220,9 @@ def draws(rt):
         tried = [it for part in parts for edits in part.values() for it in edits]
         names = {os.path.basename(it) for it in tried}
         yield None if len(tried) == len(names) == 43 else f"three parts try {len(tried)} edits, {len(names)} of them once"
-        yield None if len(chosen(rt, root).drawn) == 4 else "of 43 edits it does not draw 4"
+        choice = chosen(rt, root)
+        tried = {f"{crate.name}/{os.path.basename(it)}" for crate, edits in choice.tried.items() for it in edits}
+        yield None if len(choice.drawn) == 4 and tried == choice.drawn else f"of 43 edits it draws {len(choice.drawn)} and tries {len(tried)}"
 
 
 def main():
