@@ -51,6 +51,10 @@ fn text_of<'a>(line: &'a Memory) -> &'a [u8] {
     }
 }
 
+fn has_written(line: &Memory, text: &[u8]) -> bool {
+    text_of(line) == text
+}
+
 /// How many bytes of the line were not read yet.
 fn left_in(line: &Memory) -> usize {
     match line.stream() {
@@ -103,82 +107,96 @@ fn run<H: RandomSource + AllocGlobal + Clock, L: Line, E: Counts>(
     command(rt, words, line, &mut nowhere, &mut output, errors)
 }
 
+/// The words behind the program's name, the input, the status, what is written, and what is told.
+type Row = (
+    &'static [&'static str],
+    &'static [u8],
+    u8,
+    &'static [u8],
+    &'static [u8],
+);
+
+/// Whether the program does so on the words and the input of the row, and whether it left so many bytes of the input, where
+/// that is asked.
+fn is_row<H: RandomSource + AllocGlobal + Clock>(
+    rt: &H,
+    row: &Row,
+    left: Option<usize>,
+) -> Result<bool, Fail> {
+    let (texts, input, status, text, told) = *row;
+    let words = words(rt.alloc(), texts)?;
+    let mut line = line_of(rt.alloc(), input);
+    let mut errors = Counted::new(Vec::new(rt.alloc()));
+    let gave = run(rt, &words, &mut line, &mut errors);
+    Ok(
+        gave == status
+            && has_written(&line, text)
+            && errors.writer.as_slice() == told
+            && (left.is_none() || left == Some(left_in(&line))),
+    )
+}
+
+const ONCE: &[Row] = &[
+    (&["once", "hello"], REQUEST, 0, GREETING, b""),
+    (&["once", "echo"], REQUEST, 0, ECHO, b""),
+    (&["once", "notfound"], REQUEST, 0, NOT_FOUND, b""),
+    (&["once", "wsecho"], REQUEST, 0, NOT_FOUND, b""),
+    (&["once", "mounts"], REQUEST, 0, NOT_FOUND, b""),
+    (&["once", "life"], REQUEST, 0, NO_NUMBER, b""),
+    (&["once", "nostart"], REQUEST, 0, NO_NUMBER, b""),
+    (&["once", "nostop"], REQUEST, 0, NO_NUMBER, b""),
+];
+
 #[test]
 fn once_answers_by_the_application_that_is_named(rt: HostRuntime) -> Result<(), Fail> {
-    let rows: [(&str, &[u8]); 8] = [
-        ("hello", GREETING),
-        ("echo", ECHO),
-        ("notfound", NOT_FOUND),
-        ("wsecho", NOT_FOUND),
-        ("mounts", NOT_FOUND),
-        ("life", NO_NUMBER),
-        ("nostart", NO_NUMBER),
-        ("nostop", NO_NUMBER),
-    ];
-    for (name, wanted) in rows {
-        let words = words(rt.alloc(), &["once", name])?;
-        let mut line = line_of(rt.alloc(), REQUEST);
-        let mut errors = Counted::new(Vec::new(rt.alloc()));
-        let status = run(&rt, &words, &mut line, &mut errors);
-        assert_eq!(rt;
-            (status, text_of(&line), errors.writer.len()),
-            (0, wanted, 0),
-            "{name}"
-        );
+    for row in ONCE {
+        assert!(rt; is_row(&rt, row, None)?, "{row:?}");
     }
     Ok(())
 }
+
+/// Behind the example of RFC 6455, section 1.3, a masked text of "Hello" (section 5.7) and a close without a code.
+const SESSION: &[u8] =
+    b"GET /chat HTTP/1.1\r\nHost: server.example.com\r\nUpgrade: websocket\r\nConnection: Upgrade\r\n\
+    Sec-WebSocket-Key: dGhlIHNhbXBsZSBub25jZQ==\r\nSec-WebSocket-Version: 13\r\n\r\n\
+    \x81\x85\x37\xfa\x21\x3d\x7f\x9f\x4d\x51\x58\x88\x80\x37\xfa\x21\x3d";
+
+const ACCEPTED: &[u8] =
+    b"HTTP/1.1 101 Switching Protocols\r\nupgrade: websocket\r\nconnection: Upgrade\r\n\
+    sec-websocket-accept: s3pPLMBiTxaQ9kYGzzhZRbK+xOo=\r\n\r\n\x81\x05Hello\x88\x00";
+
+const DENIED: &[u8] = b"HTTP/1.1 403 Forbidden\r\ncontent-length: 0\r\nconnection: close\r\n\r\n";
+
+const SESSIONS: &[Row] = &[
+    (&["once", "wsecho"], SESSION, 0, ACCEPTED, b""),
+    (&["once", "hello"], SESSION, 0, DENIED, b""),
+];
 
 #[test]
 fn a_session_is_served_by_the_application_that_is_named(rt: HostRuntime) -> Result<(), Fail> {
-    // Behind the example of RFC 6455, section 1.3, a masked text of "Hello" (section 5.7) and a close without a code.
-    let input =
-        b"GET /chat HTTP/1.1\r\nHost: server.example.com\r\nUpgrade: websocket\r\nConnection: Upgrade\r\n\
-        Sec-WebSocket-Key: dGhlIHNhbXBsZSBub25jZQ==\r\nSec-WebSocket-Version: 13\r\n\r\n\
-        \x81\x85\x37\xfa\x21\x3d\x7f\x9f\x4d\x51\x58\x88\x80\x37\xfa\x21\x3d";
-    let accepted =
-        b"HTTP/1.1 101 Switching Protocols\r\nupgrade: websocket\r\nconnection: Upgrade\r\n\
-        sec-websocket-accept: s3pPLMBiTxaQ9kYGzzhZRbK+xOo=\r\n\r\n\x81\x05Hello\x88\x00";
-    let denied = b"HTTP/1.1 403 Forbidden\r\ncontent-length: 0\r\nconnection: close\r\n\r\n";
-    let rows: [(&str, &[u8]); 2] = [("wsecho", accepted), ("hello", denied)];
-    for (name, wanted) in rows {
-        let words = words(rt.alloc(), &["once", name])?;
-        let mut line = line_of(rt.alloc(), input);
-        let mut errors = Counted::new(Vec::new(rt.alloc()));
-        let status = run(&rt, &words, &mut line, &mut errors);
-        assert_eq!(rt;
-            (status, text_of(&line), errors.writer.len()),
-            (0, wanted, 0),
-            "{name}"
-        );
+    for row in SESSIONS {
+        assert!(rt; is_row(&rt, row, None)?, "{row:?}");
     }
     Ok(())
 }
 
+const WRONG: &[&[&str]] = &[
+    &[],
+    &["once"],
+    &["hello", "once"],
+    &["once", "nothing"],
+    &["once", "WsEcho"],
+    &["Once", "hello"],
+    &["once", "hello", "hello"],
+    &["once", "notfound", ""],
+    &["serve", "0", "1", "hello"],
+];
+
 #[test]
 fn any_other_words_give_the_usage(rt: HostRuntime) -> Result<(), Fail> {
-    let wrong: [&[&str]; 9] = [
-        &[],
-        &["once"],
-        &["hello", "once"],
-        &["once", "nothing"],
-        &["once", "WsEcho"],
-        &["Once", "hello"],
-        &["once", "hello", "hello"],
-        &["once", "notfound", ""],
-        &["serve", "0", "1", "hello"],
-    ];
-    for (row, texts) in wrong.iter().enumerate() {
-        let words = words(rt.alloc(), texts)?;
-        let mut line = line_of(rt.alloc(), REQUEST);
-        let mut errors = Counted::new(Vec::new(rt.alloc()));
-        let status = run(&rt, &words, &mut line, &mut errors);
-        let kept = (left_in(&line), text_of(&line).len());
-        assert_eq!(rt;
-            (status, kept, errors.writer.as_slice()),
-            (2, (REQUEST.len(), 0), USAGE_TEXT),
-            "row {row}"
-        );
+    for texts in WRONG {
+        let row: Row = (*texts, REQUEST, 2, b"", USAGE_TEXT);
+        assert!(rt; is_row(&rt, &row, Some(REQUEST.len()))?, "{texts:?}");
     }
     Ok(())
 }
@@ -205,101 +223,121 @@ impl Write for Stuck {
     }
 }
 
-#[test]
-fn an_answer_that_is_not_written_is_said_so(rt: HostRuntime) -> Result<(), Fail> {
+/// The status of `once hello` over this line, where it tells this; None where it tells something else.
+fn status_of<H: RandomSource + AllocGlobal + Clock, L: Line>(
+    rt: &H,
+    line: &mut L,
+    told: &[u8],
+) -> Result<Option<u8>, Fail> {
     let words = words(rt.alloc(), &["once", "hello"])?;
     let mut errors = Counted::new(Vec::new(rt.alloc()));
+    let status = run(rt, &words, line, &mut errors);
+    Ok((errors.writer.as_slice() == told).then_some(status))
+}
+
+#[test]
+fn an_answer_that_is_not_written_is_said_so(rt: HostRuntime) -> Result<(), Fail> {
     let stuck = Stuck {
         kind: ErrorKind::BrokenPipe,
     };
     let mut line = line_between(rt.alloc(), REQUEST, stuck);
-    let status = run(&rt, &words, &mut line, &mut errors);
-    assert_eq!(rt;
-        (status, errors.writer.as_slice()),
-        (5, b"stopped: write-failed 0\n".as_slice())
-    );
+    let status = status_of(&rt, &mut line, b"stopped: write-failed 0\n");
+    drop(line);
+    assert_eq!(rt; status?, Some(5));
     Ok(())
 }
 
+/// What `once hello` is to tell of an input that fails so, and its status. One that would block reaches a limit; one that
+/// fails is no fault of the program.
+const STUCK_INPUTS: &[(ErrorKind, u8, &[u8])] = &[
+    (ErrorKind::WouldBlock, 5, b"stopped: idle\n"),
+    (ErrorKind::ConnectionReset, 0, b""),
+];
+
 #[test]
 fn an_input_that_gives_nothing_is_said_so(rt: HostRuntime) -> Result<(), Fail> {
-    // One that would block reaches a limit; one that fails is no fault of the program.
-    let rows: [(ErrorKind, u8, &[u8]); 2] = [
-        (ErrorKind::WouldBlock, 5, b"stopped: idle\n"),
-        (ErrorKind::ConnectionReset, 0, b""),
-    ];
-    let words = words(rt.alloc(), &["once", "hello"])?;
-    for (row, (kind, status, text)) in rows.iter().enumerate() {
-        let mut errors = Counted::new(Vec::new(rt.alloc()));
+    for (row, (kind, wanted, told)) in STUCK_INPUTS.iter().enumerate() {
         let stuck = Stuck { kind: *kind };
         let mut line = line_between(rt.alloc(), stuck, Vec::new(rt.alloc()));
-        let gave = run(&rt, &words, &mut line, &mut errors);
-        assert_eq!(rt;
-            (gave, errors.writer.as_slice()),
-            (*status, *text),
-            "row {row}"
-        );
+        let status = status_of(&rt, &mut line, told);
+        drop(line);
+        assert_eq!(rt; status?, Some(*wanted), "row {row}");
     }
     Ok(())
+}
+
+const FAULTS_OF_WORDS: &[(ErrorKind, u8, &[u8])] = &[
+    (ErrorKind::OutOfMemory, 5, b"device fault\n"),
+    (ErrorKind::InvalidData, 2, USAGE_TEXT),
+    (ErrorKind::InvalidInput, 2, USAGE_TEXT),
+    (ErrorKind::Other, 2, USAGE_TEXT),
+];
+
+/// The status where the words can't be had for this reason, and this is told.
+fn status_without_words(alloc: Global, kind: ErrorKind, told: &[u8]) -> Option<u8> {
+    let mut errors = Counted::new(Vec::new(alloc));
+    let status = without_words(&io::Error::from(kind), &mut errors);
+    (errors.writer.as_slice() == told).then_some(status)
 }
 
 #[test]
 fn words_that_cannot_be_had_are_told(rt: HostRuntime) {
-    let rows: [(ErrorKind, u8, &[u8]); 4] = [
-        (ErrorKind::OutOfMemory, 5, b"device fault\n"),
-        (ErrorKind::InvalidData, 2, USAGE_TEXT),
-        (ErrorKind::InvalidInput, 2, USAGE_TEXT),
-        (ErrorKind::Other, 2, USAGE_TEXT),
-    ];
-    for (row, (kind, status, text)) in rows.iter().enumerate() {
-        let mut errors = Counted::new(Vec::new(rt.alloc()));
-        let gave = without_words(&io::Error::from(*kind), &mut errors);
-        assert_eq!(rt;
-            (gave, errors.writer.as_slice()),
-            (*status, *text),
-            "row {row}"
-        );
+    for (row, (kind, wanted, told)) in FAULTS_OF_WORDS.iter().enumerate() {
+        let status = status_without_words(rt.alloc(), *kind, told);
+        assert_eq!(rt; status, Some(*wanted), "row {row}");
     }
+}
+
+/// The statuses of wrong words, of a connection that stops, and of words that can't be had, and how often what they tell
+/// failed.
+fn statuses_untold<H: RandomSource + AllocGlobal + Clock>(
+    rt: &H,
+    none: &[String],
+    once: &[String],
+) -> ([u8; 3], u64) {
+    let kind = ErrorKind::BrokenPipe;
+    let mut errors = Counted::new(Stuck { kind });
+    let mut line = line_between(rt.alloc(), REQUEST, Stuck { kind });
+    let statuses = [
+        run(rt, none, &mut line, &mut errors),
+        run(rt, once, &mut line, &mut errors),
+        without_words(&io::Error::from(ErrorKind::OutOfMemory), &mut errors),
+    ];
+    (statuses, errors.failures())
 }
 
 #[test]
 fn a_text_that_cannot_be_told_changes_no_status(rt: HostRuntime) -> Result<(), Fail> {
-    let mut errors = Counted::new(Stuck {
-        kind: ErrorKind::BrokenPipe,
-    });
-    let stuck = Stuck {
-        kind: ErrorKind::BrokenPipe,
-    };
-    let mut line = line_between(rt.alloc(), REQUEST, stuck);
     let none = words(rt.alloc(), &[])?;
     let once = words(rt.alloc(), &["once", "hello"])?;
-    let statuses = [
-        run(&rt, &none, &mut line, &mut errors),
-        run(&rt, &once, &mut line, &mut errors),
-        without_words(&io::Error::from(ErrorKind::OutOfMemory), &mut errors),
-    ];
-    assert_eq!(rt; (statuses, errors.failures()), ([2, 5, 5], 3));
+    let found = statuses_untold(&rt, &none, &once);
+    assert_eq!(rt; found, ([2, 5, 5], 3));
     Ok(())
 }
 
+const SERVERS: &[Row] = &[
+    (&["serve", "08000", "0001", "hello"], REQUEST, 0, b"", b""),
+    (&["serve", "08000", "0001", "life"], REQUEST, 0, b"", b""),
+    (
+        &["serve", "08000", "0001", "nostart"],
+        REQUEST,
+        3,
+        b"",
+        b"startup failed: no table\n",
+    ),
+    (
+        &["serve", "08000", "0001", "nostop"],
+        REQUEST,
+        4,
+        b"",
+        b"shutdown failed: still busy\n",
+    ),
+];
+
 #[test]
 fn a_server_of_no_connections_starts_and_stops(rt: HostRuntime) -> Result<(), Fail> {
-    let rows: [(&str, u8, &[u8]); 4] = [
-        ("hello", 0, b""),
-        ("life", 0, b""),
-        ("nostart", 3, b"startup failed: no table\n"),
-        ("nostop", 4, b"shutdown failed: still busy\n"),
-    ];
-    for (name, status, text) in rows {
-        let words = words(rt.alloc(), &["serve", "08000", "0001", name])?;
-        let mut line = line_of(rt.alloc(), REQUEST);
-        let mut errors = Counted::new(Vec::new(rt.alloc()));
-        let gave = run(&rt, &words, &mut line, &mut errors);
-        assert_eq!(rt;
-            (gave, errors.writer.as_slice(), left_in(&line)),
-            (status, text, REQUEST.len()),
-            "{name}"
-        );
+    for row in SERVERS {
+        assert!(rt; is_row(&rt, row, Some(REQUEST.len()))?, "{row:?}");
     }
     Ok(())
 }

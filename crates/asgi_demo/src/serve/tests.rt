@@ -114,85 +114,74 @@ impl Write for Room {
     }
 }
 
-/// What a server did: its status, how often it asked for a connection, and what it wrote.
-#[derive(Drop)]
-struct Deeds {
-    status: u8,
-    asked: u64,
-    output: Vec<u8>,
-    errors: Vec<u8>,
-}
+/// The status, how often a connection is asked for, what is written, and what is told.
+type End = (u8, u64, &'static [u8], &'static [u8]);
 
-/// Serves the one connection by this application.
-fn serves<H: RandomSource + AllocGlobal + Clock, A: Application>(
+/// Whether a server of the one connection, whose listener may fail and whose output has so much room, ends so.
+fn ends<H: RandomSource + AllocGlobal + Clock, A: Application>(
     rt: &H,
     limits: &Limits,
     app: &A,
     fails: bool,
-    room: usize,
-) -> Deeds {
+    left: usize,
+    wanted: End,
+) -> bool {
     let mut listener = One::new(rt.alloc(), fails);
-    let mut output = Counted::new(Room {
-        written: Vec::new(rt.alloc()),
-        left: room,
-    });
+    let written = Vec::new(rt.alloc());
+    let mut output = Counted::new(Room { written, left });
     let mut errors = Counted::new(Vec::new(rt.alloc()));
     let status = serve_on(rt, limits, app, &mut listener, &mut output, &mut errors);
-    let asked = listener.asked;
-    drop(listener);
-    Deeds {
-        status,
-        asked,
-        output: output.writer.written,
-        errors: errors.writer,
-    }
-}
-
-/// Whether these are what it did.
-fn are(it: &Deeds, status: u8, asked: u64, output: &[u8], errors: &[u8]) -> bool {
-    it.status == status
-        && it.asked == asked
-        && it.output.as_slice() == output
-        && it.errors.as_slice() == errors
+    let (wanted_status, asked, text, told) = wanted;
+    status == wanted_status
+        && listener.asked == asked
+        && output.writer.written.as_slice() == text
+        && errors.writer.as_slice() == told
 }
 
 const LINE: &[u8] = b"1 1 finished\n";
 
-/// The application, whether the listener fails, the room of the output; the status, what is written, and what is told.
-type Row = (Life, bool, usize, u8, &'static [u8], &'static [u8]);
+/// The application, whether the listener fails, the room of the output, and the end.
+type Row = (Life, bool, usize, End);
 
 const ROWS: &[Row] = &[
-    (Life::Works, false, 100, 0, LINE, b""),
+    (Life::Works, false, 100, (0, 2, LINE, b"")),
     (
         Life::NoStop,
         false,
         100,
-        4,
-        LINE,
-        b"shutdown failed: still busy\n",
+        (4, 2, LINE, b"shutdown failed: still busy\n"),
     ),
     // a listener that failed, or a report that is not written, is told whatever the stop answered
-    (Life::Works, true, 100, 5, LINE, b"device fault\n"),
-    (Life::NoStop, true, 100, 5, LINE, b"device fault\n"),
-    (Life::Works, false, 12, 5, b"", b"device fault\n"),
-    (Life::NoStop, false, 12, 5, b"", b"device fault\n"),
+    (Life::Works, true, 100, (5, 2, LINE, b"device fault\n")),
+    (Life::NoStop, true, 100, (5, 2, LINE, b"device fault\n")),
+    (Life::Works, false, 12, (5, 2, b"", b"device fault\n")),
+    (Life::NoStop, false, 12, (5, 2, b"", b"device fault\n")),
 ];
 
 #[test]
 fn the_end_is_that_of_the_stop_where_all_went_well(rt: HostRuntime) {
     let limits = Limits::usual();
-    for (row, (life, fails, room, status, output, errors)) in ROWS.iter().enumerate() {
-        let it = serves(&rt, &limits, life, *fails, *room);
-        assert!(rt; are(&it, *status, 2, output, errors), "row {row}");
+    for (row, (life, fails, room, end)) in ROWS.iter().enumerate() {
+        assert!(rt; ends(&rt, &limits, life, *fails, *room, *end), "row {row}");
     }
 }
 
 #[test]
 fn an_application_that_does_not_start_gets_no_connection(rt: HostRuntime) -> Result<(), Fail> {
     let few = Limits::new(16_384, 64, 1_048_576, 16_384, 16, 3, 1_000)?;
-    let silent = serves(&rt, &few, &Silent, false, 100);
-    let failed = serves(&rt, &few, &Life::NoStart, false, 100);
-    assert!(rt; are(&silent, 3, 0, b"", b"startup failed: no answer\n"));
-    assert!(rt; are(&failed, 3, 0, b"", b"startup failed: no table\n"));
+    let unanswered = (
+        3,
+        0,
+        b"".as_slice(),
+        b"startup failed: no answer\n".as_slice(),
+    );
+    let refused = (
+        3,
+        0,
+        b"".as_slice(),
+        b"startup failed: no table\n".as_slice(),
+    );
+    assert!(rt; ends(&rt, &few, &Silent, false, 100, unanswered));
+    assert!(rt; ends(&rt, &few, &Life::NoStart, false, 100, refused));
     Ok(())
 }
