@@ -1,6 +1,8 @@
 //! The calls of a line of any kind, and what is said of their answers. What a test proves needs none of their clauses.
-use asgi_types::{Payload, Reason};
+use asgi_types::{Octets, Payload, Reason};
 use asgi_ws::{Got, Line, Msg, Put};
+use std::alloc::{AllocError, Global};
+use std::test::Fail;
 
 /// What a read gave, without what it carries.
 #[derive(Clone, Copy, Debug, PartialEq, Eq)]
@@ -45,6 +47,15 @@ pub fn of<T: Drop, S, F: FnOnce(&T) -> S>(value: T, says: F) -> S
     requires { F.IsAlwaysCallable says }
 {
     says(&value)
+}
+
+/// A message of these bytes.
+pub fn bytes(alloc: Global, content: &[u8]) -> Result<Payload, AllocError> {
+    Ok(Payload::Bytes(Octets::new(content.to_vec(alloc)?)))
+}
+
+pub fn bye() -> Result<Reason, Fail> {
+    Ok(Reason::new("bye").ok_or("a short reason")?)
 }
 
 pub fn read<L: Line>(line: &mut L) -> Got {

@@ -9,7 +9,12 @@ use std::alloc::{AllocError, Global};
 use std::process::Abort;
 use std::test::Fail;
 
-/// The facts of a handshake with the key of RFC 6455, section 1.3.
+/// The key of RFC 6455, section 1.3, and its answer.
+const KEY: &[u8; 24] = b"dGhlIHNhbXBsZSBub25jZQ==";
+
+const ANSWER: &[u8] = b"s3pPLMBiTxaQ9kYGzzhZRbK+xOo=";
+
+/// The facts of a handshake with this key.
 fn facts(alloc: Global) -> Facts {
     Facts {
         version: HttpVersion::V11,
@@ -17,7 +22,7 @@ fn facts(alloc: Global) -> Facts {
         close: false,
         expect: false,
         framing: Framing::Upgrade,
-        key: *b"dGhlIHNhbXBsZSBub25jZQ==",
+        key: *KEY,
         subprotocols: Names::new(alloc),
     }
 }
@@ -113,20 +118,18 @@ fn another_event_has_no_text(rt: HostRuntime) -> Result<(), Fail> {
     Ok(())
 }
 
+const REFUSAL: &[u8] = b"HTTP/1.1 403 Forbidden\r\ncontent-length: 0\r\nconnection: close\r\n\r\n";
+
 #[test]
 fn a_handshake_is_refused(rt: HostRuntime) -> Result<(), Fail> {
-    let text = b"HTTP/1.1 403 Forbidden\r\ncontent-length: 0\r\nconnection: close\r\n\r\n";
-    assert_eq!(rt; denied_text(), text.as_slice());
+    assert_eq!(rt; denied_text(), REFUSAL);
     Ok(())
 }
 
 #[test]
 fn a_key_is_answered(rt: HostRuntime) -> Result<(), Fail> {
-    let value = accept_value(b"dGhlIHNhbXBsZSBub25jZQ==");
-    assert_eq!(rt;
-        value.as_slice(),
-        b"s3pPLMBiTxaQ9kYGzzhZRbK+xOo=".as_slice()
-    );
+    let value = accept_value(KEY);
+    assert_eq!(rt; value.as_slice(), ANSWER);
     Ok(())
 }
 
@@ -135,10 +138,11 @@ fn chosen(alloc: Global) -> Result<Outgoing, HeaderError> {
     accept(alloc, named(alloc, "chat")?, &[("x-a", "q")])
 }
 
+const CHOSEN: &str = "sec-websocket-protocol: chat\r\nx-a: q\r\n\r\n";
+
 /// Whether the answer to `chosen` has both. Where memory was refused, it is made once more.
 fn has_chosen(alloc: Global, event: &Outgoing) -> Result<bool, AllocError> {
-    let lines = "sec-websocket-protocol: chat\r\nx-a: q\r\n\r\n";
-    ends_with(alloc, event, lines).or_else(|_| ends_with(alloc, event, lines))
+    ends_with(alloc, event, CHOSEN).or_else(|_| ends_with(alloc, event, CHOSEN))
 }
 
 #[test]

@@ -1,6 +1,8 @@
 //! Lines in memory do as they say, and keep what went by.
-use super::calls::{Kind, close, counts, failures, next, read_text, reads_held, send, write_text};
-use asgi_types::{Chars, Octets, Payload, Reason};
+use super::calls::{
+    Kind, bye, bytes, close, counts, failures, next, read_text, reads_held, send, write_text,
+};
+use asgi_types::{Chars, Payload, Reason};
 use asgi_ws::{Handed, Line, Msg, Piece, Put, Script, Turn};
 use std::alloc::{AllocError, Global};
 use std::collections::VecDeque;
@@ -98,21 +100,30 @@ const MESSAGES: &[Kind] = &[
     Kind::Ended,
 ];
 
-/// What a read gives before `upgrade`, how many hold behind it, and whether the messages are kept and the failures counted.
-fn messages_held(mut line: Script, leftover: Vec<u8>) -> (Kind, usize, [bool; 2]) {
-    let before = next(&mut line);
+/// What a read gives before `upgrade`, how many hold behind it, and how many calls failed.
+fn messages_held<L: Line>(line: &mut L, leftover: Vec<u8>) -> (Kind, usize, u64) {
+    let before = next(line);
     line.upgrade(leftover);
-    let held = reads_held(&mut line, MESSAGES);
-    let kept = matches!(line.received(), [Msg::Text(_), Msg::Ping, Msg::Close(None)]);
-    (before, held, [kept, failures(&line) == 2])
+    let held = reads_held(line, MESSAGES);
+    (before, held, failures(line))
+}
+
+fn are_received(messages: &[Msg]) -> bool {
+    matches!(messages, [Msg::Text(_), Msg::Ping, Msg::Close(None)])
+}
+
+/// The same, and whether the messages are kept.
+fn held_and_kept(mut line: Script, leftover: Vec<u8>) -> ((Kind, usize, u64), bool) {
+    let held = messages_held(&mut line, leftover);
+    (held, are_received(line.received()))
 }
 
 #[test]
 fn messages_are_read_and_kept(rt: HostRuntime) -> Result<(), Fail> {
     let alloc = rt.alloc();
     let line = Script::new(alloc, VecDeque::new(alloc), turns(alloc)?);
-    let held = messages_held(line, Vec::new(alloc));
-    assert_eq!(rt; held, (Kind::Failed, MESSAGES.len(), [true; 2]));
+    let held = held_and_kept(line, Vec::new(alloc));
+    assert_eq!(rt; held, ((Kind::Failed, MESSAGES.len(), 2), true));
     Ok(())
 }
 
@@ -125,15 +136,14 @@ fn sends<L: Line>(line: &mut L, payload: Payload, leftover: Vec<u8>, reason: Rea
     [before, sent, closed, close(line, 1001, reason)]
 }
 
-/// Whether what went out is kept, and both failures are counted.
-fn keeps_sent(line: &Script) -> bool {
-    let kept = matches!(
-        line.handed(),
+fn are_sent(handed: &[Handed]) -> bool {
+    matches!(
+        handed,
         [Handed::Payload(Payload::Bytes(_)), Handed::Close(1000, _)]
-    );
-    kept && failures(line) == 2
+    )
 }
 
+/// The answers, and whether what went out is kept, and both failures are counted.
 fn sent_and_kept(
     mut line: Script,
     payload: Payload,
@@ -141,14 +151,14 @@ fn sent_and_kept(
     reason: Reason,
 ) -> ([Put; 4], bool) {
     let answers = sends(&mut line, payload, leftover, reason);
-    (answers, keeps_sent(&line))
+    (answers, are_sent(line.handed()) && failures(&line) == 2)
 }
 
 #[test]
 fn what_goes_out_is_kept(rt: HostRuntime) -> Result<(), Fail> {
     let alloc = rt.alloc();
-    let reason = Reason::new("bye").ok_or("a short reason")?;
-    let payload = Payload::Bytes(Octets::new(b"a".to_vec(alloc)?));
+    let reason = bye()?;
+    let payload = bytes(alloc, b"a")?;
     let line = Script::new(alloc, VecDeque::new(alloc), VecDeque::new(alloc)).failing_send(2);
     let (answers, kept) = sent_and_kept(line, payload, Vec::new(alloc), reason);
     assert_eq!(rt; answers, [Put::Failed, Put::Done, Put::Done, Put::Failed]);
@@ -172,24 +182,32 @@ fn closed<L: Line>(line: &mut L, reason: Reason) -> Put {
     }
 }
 
+/// The first three messages behind `upgrade`.
+fn first_three<L: Line>(line: &mut L, leftover: Vec<u8>) -> [Kind; 3] {
+    line.upgrade(leftover);
+    [first_kind(line), first_kind(line), first_kind(line)]
+}
+
+fn are_text_and_ping(messages: &[Msg]) -> bool {
+    matches!(messages, [Msg::Text(_), Msg::Ping])
+}
+
+fn is_one_close(handed: &[Handed]) -> bool {
+    matches!(handed, [Handed::Close(1000, _)])
+}
+
 /// The first three messages, how a close is answered, and whether the messages and the close are kept.
 fn first_held(mut line: Script, leftover: Vec<u8>, reason: Reason) -> ([Kind; 3], Put, [bool; 2]) {
-    line.upgrade(leftover);
-    let kinds = [
-        first_kind(&mut line),
-        first_kind(&mut line),
-        first_kind(&mut line),
-    ];
-    let received = matches!(line.received(), [Msg::Text(_), Msg::Ping]);
+    let kinds = first_three(&mut line, leftover);
+    let received = are_text_and_ping(line.received());
     let answer = closed(&mut line, reason);
-    let handed = matches!(line.handed(), [Handed::Close(1000, _)]);
-    (kinds, answer, [received, handed])
+    (kinds, answer, [received, is_one_close(line.handed())])
 }
 
 #[test]
 fn memory_for_a_message(rt: HostRuntime) -> Result<(), Fail> {
     let alloc = rt.alloc();
-    let reason = Reason::new("bye").ok_or("a short reason")?;
+    let reason = bye()?;
     let turns = turns(alloc).or_else(|_| turns(alloc))?;
     let line = Script::new(alloc, VecDeque::new(alloc), turns);
     let held = first_held(line, Vec::new(alloc), reason);

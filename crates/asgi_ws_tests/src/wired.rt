@@ -1,9 +1,10 @@
 //! Lines over streams, by the examples of RFC 6455.
 use super::calls::{
-    Kind, close, counts, failures, next, of, read, read_text, reads_held, send, write_text,
+    Kind, bye, bytes, close, counts, failures, kind_of, next, of, read, read_text, reads_held,
+    send, write_text,
 };
 use super::wire::Wire;
-use asgi_types::{Chars, Octets, Payload, Reason};
+use asgi_types::{Chars, Payload, Reason};
 use asgi_ws::{Got, Line, Msg, Pair, Put, Wired};
 use std::alloc::{AllocError, Global};
 use std::test::Fail;
@@ -22,10 +23,6 @@ fn output_of(line: &Wired<Wire>) -> &[u8] {
     }
 }
 
-fn bytes(alloc: Global, text: &[u8]) -> Result<Payload, AllocError> {
-    Ok(Payload::Bytes(Octets::new(text.to_vec(alloc)?)))
-}
-
 /// A line over this stream that was upgraded, with these bytes behind the handshake.
 fn upgraded_with(alloc: Global, wire: Wire, held: Vec<u8>) -> Wired<Wire> {
     let mut line = Wired::new(alloc, wire);
@@ -39,28 +36,42 @@ fn upgraded(alloc: Global, input: &[u8], blocks: bool) -> Result<Wired<Wire>, Al
     Ok(upgraded_with(alloc, wire, Vec::new(alloc)))
 }
 
+/// The text that a read gave, to be sent back, or what else it gave.
+fn text_in(got: Got) -> Result<Payload, Kind> {
+    match got {
+        Got::Message(Msg::Text(text)) => Ok(Payload::Text(text)),
+        other => Err(kind_of(&other)),
+    }
+}
+
 /// Sends each text back, until the line has ended, and says how many there were and how many reads found nothing.
 fn echo<L: Line>(line: &mut L) -> (u8, u8) {
     let mut texts = 0u8;
     let mut idle = 0u8;
     for _ in 0..100 {
-        match read(line) {
-            Got::Message(Msg::Text(text)) => {
-                if send(line, Payload::Text(text)) == Put::Done {
+        match text_in(read(line)) {
+            Ok(text) => {
+                if send(line, text) == Put::Done {
                     texts = texts.wrapping_add(1);
                 }
             }
-            Got::Idle => idle = idle.wrapping_add(1),
-            _ => return (texts, idle),
+            Err(Kind::Idle) => idle = idle.wrapping_add(1),
+            Err(_) => return (texts, idle),
         }
     }
     (texts, idle)
 }
 
 /// Whether one text is read and sent back without a failure, and some reads find nothing where the stream blocks.
+fn echoes_one<L: Line>(line: &mut L, blocks: bool) -> bool {
+    let (texts, idle) = echo(line);
+    texts == 1 && (idle > 0) == blocks && failures(line) == 0
+}
+
+/// Whether it is so, and the text stands in the output.
 fn is_echoed(mut line: Wired<Wire>, blocks: bool) -> bool {
-    let (texts, idle) = echo(&mut line);
-    texts == 1 && (idle > 0) == blocks && output_of(&line) == HELLO_BACK && failures(&line) == 0
+    let echoed = echoes_one(&mut line, blocks);
+    echoed && output_of(&line) == HELLO_BACK
 }
 
 /// Whether the text is echoed where so many bytes of it stand behind the handshake.
@@ -94,22 +105,34 @@ fn a_message_is_read_however_it_is_cut(rt: HostRuntime) -> Result<(), Fail> {
     Ok(())
 }
 
-/// Whether the line still takes a message and a close behind the end of its stream.
-fn takes_behind_the_end(mut line: Wired<Wire>, payload: Payload, reason: Reason) -> [bool; 5] {
-    let echoed = echo(&mut line) == (1, 0);
-    let ended = next(&mut line) == Kind::Ended;
-    let sent = send(&mut line, payload) == Put::Done;
-    let closed = close(&mut line, 1000, reason) == Put::Done;
-    let output = output_of(&line) == b"\x81\x05Hello\x82\x01!\x88\x05\x03\xe8bye".as_slice();
-    [echoed, ended, sent, closed, output]
+/// Whether the line echoes a text, has ended, and still takes a message and a close.
+fn takes_behind_the_end<L: Line>(line: &mut L, payload: Payload, reason: Reason) -> [bool; 4] {
+    let echoed = echo(line) == (1, 0);
+    let ended = next(line) == Kind::Ended;
+    let sent = send(line, payload) == Put::Done;
+    [echoed, ended, sent, close(line, 1000, reason) == Put::Done]
+}
+
+/// The text sent back, a message of one byte, and the close.
+const BEHIND_THE_END: &[u8] = b"\x81\x05Hello\x82\x01!\x88\x05\x03\xe8bye";
+
+/// Whether it is so, and whether all that was sent stands in the output.
+fn taken_behind_the_end(
+    mut line: Wired<Wire>,
+    payload: Payload,
+    reason: Reason,
+) -> ([bool; 4], bool) {
+    let taken = takes_behind_the_end(&mut line, payload, reason);
+    (taken, output_of(&line) == BEHIND_THE_END)
 }
 
 #[test]
 fn an_ended_stream_still_takes_messages(rt: HostRuntime) -> Result<(), Fail> {
-    let reason = Reason::new("bye").ok_or("a short reason")?;
+    let reason = bye()?;
     let payload = bytes(rt.alloc(), b"!")?;
     let line = upgraded(rt.alloc(), HELLO, false)?;
-    assert_eq!(rt; takes_behind_the_end(line, payload, reason), [true; 5]);
+    let taken = taken_behind_the_end(line, payload, reason);
+    assert_eq!(rt; taken, ([true; 4], true));
     Ok(())
 }
 
@@ -131,19 +154,29 @@ fn has_no_text<L: Line>(line: &mut L) -> bool {
     read_text(line, &mut buf) == None && write_text(line, b"x") == None && counts(line) == (1, 3)
 }
 
-/// Whether the line has text alone, then no text, and whether the text that it wrote stays.
-fn keeps_apart(
+/// Whether the line has text alone, and then, upgraded twice, no text.
+fn keeps_apart<L: Line>(
+    line: &mut L,
+    payload: Payload,
+    first: Vec<u8>,
+    second: Vec<u8>,
+) -> [bool; 2] {
+    let before = has_text_alone(line, payload);
+    line.upgrade(first);
+    // A second call changes nothing.
+    line.upgrade(second);
+    [before, has_no_text(line)]
+}
+
+/// Whether it is so, and whether the output is the text.
+fn kept_apart(
     mut line: Wired<Wire>,
     payload: Payload,
     first: Vec<u8>,
     second: Vec<u8>,
-) -> [bool; 3] {
-    let before = has_text_alone(&mut line, payload);
-    line.upgrade(first);
-    // A second call changes nothing.
-    line.upgrade(second);
-    let behind = has_no_text(&mut line);
-    [before, behind, output_of(&line) == b"HTTP".as_slice()]
+) -> ([bool; 2], bool) {
+    let kept = keeps_apart(&mut line, payload, first, second);
+    (kept, output_of(&line) == b"HTTP".as_slice())
 }
 
 #[test]
@@ -152,10 +185,8 @@ fn text_and_messages_keep_apart(rt: HostRuntime) -> Result<(), Fail> {
     let payload = bytes(alloc, b"!")?;
     let second = HELLO.to_vec(alloc)?;
     let line = Wired::new(alloc, Wire::new(alloc, b"GET", 2, false)?);
-    assert_eq!(rt;
-        keeps_apart(line, payload, Vec::new(alloc), second),
-        [true; 3]
-    );
+    let kept = kept_apart(line, payload, Vec::new(alloc), second);
+    assert_eq!(rt; kept, ([true; 2], true));
     Ok(())
 }
 
@@ -204,17 +235,20 @@ fn closes_are_read(rt: HostRuntime) -> Result<(), Fail> {
     Ok(())
 }
 
-const PINGS: &[Kind] = &[Kind::Ping, Kind::Pong, Kind::Ended];
+/// A ping and a pong, and what reads of them give.
+const PINGS: &[u8] = b"\x89\x80\0\0\0\0\x8a\x80\0\0\0\0";
 
-/// How many reads of the line hold, from the first on.
-fn held_of(mut line: Wired<Wire>, kinds: &[Kind]) -> usize {
-    reads_held(&mut line, kinds)
+const PINGS_READ: &[Kind] = &[Kind::Ping, Kind::Pong, Kind::Ended];
+
+fn pings_held(alloc: Global) -> Result<usize, AllocError> {
+    let mut line = upgraded(alloc, PINGS, false)?;
+    Ok(reads_held(&mut line, PINGS_READ))
 }
 
 #[test]
 fn pings_and_pongs_are_messages(rt: HostRuntime) -> Result<(), Fail> {
-    let line = upgraded(rt.alloc(), b"\x89\x80\0\0\0\0\x8a\x80\0\0\0\0", false)?;
-    assert_eq!(rt; held_of(line, PINGS), PINGS.len());
+    let held = pings_held(rt.alloc())?;
+    assert_eq!(rt; held, PINGS_READ.len());
     Ok(())
 }
 
@@ -222,8 +256,14 @@ fn pings_and_pongs_are_messages(rt: HostRuntime) -> Result<(), Fail> {
 const FAULTS: &[&[u8]] = &[b"\x81\x01a", b"\x81\x81\0\0\0\0\xff"];
 
 /// Whether the line fails, and counts it.
-fn is_failed(mut line: Wired<Wire>) -> bool {
-    next(&mut line) == Kind::Failed && failures(&line) == 1
+fn fails<L: Line>(line: &mut L) -> bool {
+    next(line) == Kind::Failed && failures(line) == 1
+}
+
+/// The same over a stream that reads these bytes.
+fn is_failure(alloc: Global, input: &[u8]) -> Result<bool, AllocError> {
+    let mut line = upgraded(alloc, input, false)?;
+    Ok(fails(&mut line))
 }
 
 /// A stream that fails.
@@ -234,21 +274,26 @@ fn failing(alloc: Global) -> Result<Wire, AllocError> {
 }
 
 /// What a read of the line gives, and how it then answers a send.
-fn read_and_sent(mut line: Wired<Wire>, payload: Payload) -> (Kind, Put) {
-    (next(&mut line), send(&mut line, payload))
+fn read_and_sent<L: Line>(line: &mut L, payload: Payload) -> (Kind, Put) {
+    (next(line), send(line, payload))
+}
+
+/// Both over a stream that fails.
+fn sent_over_fault(alloc: Global) -> Result<(Kind, Put), AllocError> {
+    let payload = bytes(alloc, b"a")?;
+    let mut line = upgraded_with(alloc, failing(alloc)?, Vec::new(alloc));
+    Ok(read_and_sent(&mut line, payload))
 }
 
 #[test]
 fn faults_are_failures(rt: HostRuntime) -> Result<(), Fail> {
-    let alloc = rt.alloc();
     for input in FAULTS {
-        let failed = is_failed(upgraded(alloc, input, false)?);
+        let failed = is_failure(rt.alloc(), input)?;
         assert!(rt; failed, "{input:?}");
     }
     // A stream that fails is one too, and still takes what is sent.
-    let payload = bytes(alloc, b"a")?;
-    let line = upgraded_with(alloc, failing(alloc)?, Vec::new(alloc));
-    assert_eq!(rt; read_and_sent(line, payload), (Kind::Failed, Put::Done));
+    let answers = sent_over_fault(rt.alloc())?;
+    assert_eq!(rt; answers, (Kind::Failed, Put::Done));
     Ok(())
 }
 
@@ -291,12 +336,17 @@ fn written_of(line: &Wired<Ends>) -> &[u8] {
     }
 }
 
-/// Whether "Hello" is read, nothing behind it, and whether it is sent and written.
-fn passes_hello(mut line: Wired<Ends>, text: Chars) -> [bool; 4] {
-    let is_read = of(read(&mut line), is_hello);
-    let ended = next(&mut line) == Kind::Ended;
-    let sent = send(&mut line, Payload::Text(text)) == Put::Done;
-    [is_read, ended, sent, written_of(&line) == HELLO_BACK]
+/// Whether "Hello" is read, nothing behind it, and whether the text is sent.
+fn passes_hello<L: Line>(line: &mut L, text: Chars) -> [bool; 3] {
+    let is_read = of(read(line), is_hello);
+    let ended = next(line) == Kind::Ended;
+    [is_read, ended, send(line, Payload::Text(text)) == Put::Done]
+}
+
+/// Whether it is so, and whether the text was written.
+fn passed_hello(mut line: Wired<Ends>, text: Chars) -> ([bool; 3], bool) {
+    let passed = passes_hello(&mut line, text);
+    (passed, written_of(&line) == HELLO_BACK)
 }
 
 #[test]
@@ -309,16 +359,17 @@ fn a_reader_and_a_writer_make_a_stream(rt: HostRuntime) -> Result<(), Fail> {
     };
     let mut line = Wired::new(alloc, pair);
     line.upgrade(Vec::new(alloc));
-    assert_eq!(rt; passes_hello(line, text), [true; 4]);
+    let passed = passed_hello(line, text);
+    assert_eq!(rt; passed, ([true; 3], true));
     Ok(())
 }
 
 /// How the line answers where the next message is a text that is sent back.
 fn sent_back<L: Line>(line: &mut L) -> Put {
-    match read(line) {
-        Got::Message(Msg::Text(text)) => send(line, Payload::Text(text)),
-        Got::NoMemory => Put::NoMemory,
-        _ => Put::Failed,
+    match text_in(read(line)) {
+        Ok(text) => send(line, text),
+        Err(Kind::NoMemory) => Put::NoMemory,
+        Err(_) => Put::Failed,
     }
 }
 
