@@ -1,5 +1,6 @@
 //! The answers of a server, from RFC 6455 and the standard's fields.
 
+use super::calls::of;
 use asgi_types::{
     Chars, Facts, Framing, HeaderError, Headers, HttpVersion, Names, Octets, Outgoing,
 };
@@ -8,7 +9,12 @@ use std::alloc::{AllocError, Global};
 use std::process::Abort;
 use std::test::Fail;
 
-/// The facts of a handshake with the key of RFC 6455, section 1.3.
+/// The key of RFC 6455, section 1.3, and its answer.
+const KEY: &[u8; 24] = b"dGhlIHNhbXBsZSBub25jZQ==";
+
+const ANSWER: &[u8] = b"s3pPLMBiTxaQ9kYGzzhZRbK+xOo=";
+
+/// The facts of a handshake with this key.
 fn facts(alloc: Global) -> Facts {
     Facts {
         version: HttpVersion::V11,
@@ -16,7 +22,7 @@ fn facts(alloc: Global) -> Facts {
         close: false,
         expect: false,
         framing: Framing::Upgrade,
-        key: *b"dGhlIHNhbXBsZSBub25jZQ==",
+        key: *KEY,
         subprotocols: Names::new(alloc),
     }
 }
@@ -43,66 +49,87 @@ fn named(alloc: Global, name: &str) -> Result<Option<Chars>, AllocError> {
     Ok(Some(Chars::new(String::from_str(alloc, name)?)))
 }
 
+// What a test proves needs none of the clauses of this call.
+fn text_for(alloc: Global, event: &Outgoing) -> Result<Vec<u8>, AllocError> {
+    accept_text(alloc, &facts(alloc), event)
+}
+
+/// The status line and the server's own fields.
+const HEAD: &str =
+    "HTTP/1.1 101 Switching Protocols\r\nupgrade: websocket\r\nconnection: Upgrade\r\nsec-websocket-accept: s3pPLMBiTxaQ9kYGzzhZRbK+xOo=\r\n";
+
 /// Whether the answer is 101 with the server's fields, and then these lines.
 fn ends_with(alloc: Global, event: &Outgoing, lines: &str) -> Result<bool, AllocError> {
-    let head =
-        "HTTP/1.1 101 Switching Protocols\r\nupgrade: websocket\r\nconnection: Upgrade\r\nsec-websocket-accept: s3pPLMBiTxaQ9kYGzzhZRbK+xOo=\r\n";
-    let text = accept_text(alloc, &facts(alloc), event)?;
-    let behind = text.as_slice().strip_prefix(head.as_bytes());
+    let text = text_for(alloc, event)?;
+    let behind = text.as_slice().strip_prefix(HEAD.as_bytes());
     Ok(behind == Some(lines.as_bytes()))
+}
+
+/// The subprotocol, the fields of the application, and the lines that they make.
+const ACCEPTED: &[(&str, &[(&str, &str)], &str)] = &[
+    ("", &[], "\r\n"),
+    (
+        "chat",
+        &[("x-a", "q")],
+        "sec-websocket-protocol: chat\r\nx-a: q\r\n\r\n",
+    ),
+    ("v1.Bar", &[], "sec-websocket-protocol: v1.Bar\r\n\r\n"),
+    (
+        "",
+        &[("Set-Cookie", "a=b"), ("X", ""), ("set-cookie", "c=d")],
+        "set-cookie: a=b\r\nx: \r\nset-cookie: c=d\r\n\r\n",
+    ),
+];
+
+/// Whether an "Accept" with these is answered by these lines.
+fn is_accepted(
+    alloc: Global,
+    name: &str,
+    fields: &[(&str, &str)],
+    lines: &str,
+) -> Result<bool, HeaderError> {
+    let event = accept(alloc, named(alloc, name)?, fields)?;
+    let found = of(event, |event| ends_with(alloc, event, lines));
+    Ok(found?)
 }
 
 #[test]
 fn a_handshake_is_accepted(rt: HostRuntime) -> Result<(), Fail> {
-    let rows: [(&str, &[(&str, &str)], &str); 4] = [
-        ("", &[], "\r\n"),
-        (
-            "chat",
-            &[("x-a", "q")],
-            "sec-websocket-protocol: chat\r\nx-a: q\r\n\r\n",
-        ),
-        ("v1.Bar", &[], "sec-websocket-protocol: v1.Bar\r\n\r\n"),
-        (
-            "",
-            &[("Set-Cookie", "a=b"), ("X", ""), ("set-cookie", "c=d")],
-            "set-cookie: a=b\r\nx: \r\nset-cookie: c=d\r\n\r\n",
-        ),
-    ];
-    for (name, fields, lines) in rows {
-        let event = accept(rt.alloc(), named(rt.alloc(), name)?, fields)?;
-        assert!(rt; ends_with(rt.alloc(), &event, lines)?, "{lines}");
+    for (name, fields, lines) in ACCEPTED {
+        let accepted = is_accepted(rt.alloc(), name, fields, lines)?;
+        assert!(rt; accepted, "{lines}");
     }
     Ok(())
 }
 
-#[test]
-fn another_event_has_no_text(rt: HostRuntime) -> Result<(), Fail> {
-    let body = Octets::new(Vec::new(rt.alloc()));
-    let event = Outgoing::DenialBody {
-        body,
-        more_body: false,
-    };
-    assert_eq!(rt;
-        accept_text(rt.alloc(), &facts(rt.alloc()), &event)?.len(),
-        0
-    );
-    Ok(())
+/// How long the text for the event is.
+fn text_len(alloc: Global, event: &Outgoing) -> Result<usize, AllocError> {
+    Ok(text_for(alloc, event)?.len())
 }
 
 #[test]
+fn another_event_has_no_text(rt: HostRuntime) -> Result<(), Fail> {
+    let event = Outgoing::DenialBody {
+        body: Octets::new(Vec::new(rt.alloc())),
+        more_body: false,
+    };
+    let len = of(event, |event| text_len(rt.alloc(), event))?;
+    assert_eq!(rt; len, 0);
+    Ok(())
+}
+
+const REFUSAL: &[u8] = b"HTTP/1.1 403 Forbidden\r\ncontent-length: 0\r\nconnection: close\r\n\r\n";
+
+#[test]
 fn a_handshake_is_refused(rt: HostRuntime) -> Result<(), Fail> {
-    let text = b"HTTP/1.1 403 Forbidden\r\ncontent-length: 0\r\nconnection: close\r\n\r\n";
-    assert_eq!(rt; denied_text(), text.as_slice());
+    assert_eq!(rt; denied_text(), REFUSAL);
     Ok(())
 }
 
 #[test]
 fn a_key_is_answered(rt: HostRuntime) -> Result<(), Fail> {
-    let value = accept_value(b"dGhlIHNhbXBsZSBub25jZQ==");
-    assert_eq!(rt;
-        value.as_slice(),
-        b"s3pPLMBiTxaQ9kYGzzhZRbK+xOo=".as_slice()
-    );
+    let value = accept_value(KEY);
+    assert_eq!(rt; value.as_slice(), ANSWER);
     Ok(())
 }
 
@@ -111,15 +138,18 @@ fn chosen(alloc: Global) -> Result<Outgoing, HeaderError> {
     accept(alloc, named(alloc, "chat")?, &[("x-a", "q")])
 }
 
+const CHOSEN: &str = "sec-websocket-protocol: chat\r\nx-a: q\r\n\r\n";
+
+/// Whether the answer to `chosen` has both. Where memory was refused, it is made once more.
+fn has_chosen(alloc: Global, event: &Outgoing) -> Result<bool, AllocError> {
+    ends_with(alloc, event, CHOSEN).or_else(|_| ends_with(alloc, event, CHOSEN))
+}
+
 #[test]
 fn memory_for_an_answer(rt: HostRuntime) -> Result<(), Fail> {
-    let lines = "sec-websocket-protocol: chat\r\nx-a: q\r\n\r\n";
-    let event = chosen(rt.alloc()).or_else(|_| chosen(rt.alloc()))?;
-    let given = ends_with(rt.alloc(), &event, lines).or_else(|_| ends_with(
-        rt.alloc(),
-        &event,
-        lines,
-    ))?;
+    let alloc = rt.alloc();
+    let event = chosen(alloc).or_else(|_| chosen(alloc))?;
+    let given = of(event, |event| has_chosen(alloc, event))?;
     assert!(rt; given);
     Ok(())
 }

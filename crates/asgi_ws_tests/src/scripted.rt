@@ -1,7 +1,9 @@
 //! Lines in memory do as they say, and keep what went by.
-use asgi_io::{Counts, Reads};
-use asgi_types::{Chars, Octets, Payload, Reason};
-use asgi_ws::{Got, Handed, Line, Messages, Msg, Piece, Put, Script, Turn};
+use super::calls::{
+    Kind, bye, bytes, close, counts, failures, next, read_text, reads_held, send, write_text,
+};
+use asgi_types::{Chars, Payload, Reason};
+use asgi_ws::{Handed, Line, Msg, Piece, Put, Script, Turn};
 use std::alloc::{AllocError, Global};
 use std::collections::VecDeque;
 use std::test::Fail;
@@ -26,88 +28,192 @@ fn turns(alloc: Global) -> Result<VecDeque<Turn>, AllocError> {
     Ok(turns)
 }
 
+/// What reads of two bytes give, from the first on; None: they fail.
+const READS: &[Option<usize>] = &[Some(2), Some(1), None, Some(1), None, Some(0)];
+
+/// Texts to write, and how many bytes are taken.
+const WRITES: &[(&[u8], Option<usize>)] = &[(b"wxyz", Some(3)), (b"z", Some(1)), (b"z", None)];
+
+/// How many reads, from the first on, give what they are to give.
+fn texts_read<L: Line>(line: &mut L) -> usize {
+    let mut buf = [0; 2];
+    for i in 0..READS.len() {
+        if read_text(line, &mut buf) != READS[i] {
+            return i;
+        }
+    }
+    READS.len()
+}
+
+/// How many writes, from the first on, take what they are to take.
+fn texts_written<L: Line>(line: &mut L) -> usize {
+    for i in 0..WRITES.len() {
+        let (bytes, expected) = WRITES[i];
+        if write_text(line, bytes) != expected {
+            return i;
+        }
+    }
+    WRITES.len()
+}
+
+/// Whether the text is kept that was written, and both failures are counted.
+fn keeps_text(line: &Script) -> bool {
+    line.text() == b"wxyz".as_slice() && counts(line) == (1, 1)
+}
+
+/// Whether the line has kept what was left over, and neither reads nor writes text.
+fn has_no_text(line: &mut Script) -> bool {
+    let mut buf = [0; 2];
+    line.leftover() == Some(b"left".as_slice())
+        && read_text(line, &mut buf) == None
+        && write_text(line, b"z") == None
+        && counts(line) == (2, 2)
+}
+
+/// How many reads and writes hold, and whether the line keeps the text, and has none behind the first `upgrade`.
+fn text_held(mut line: Script, first: Vec<u8>, second: Vec<u8>) -> (usize, usize, [bool; 2]) {
+    let reads = texts_read(&mut line);
+    let writes = texts_written(&mut line);
+    let keeps = keeps_text(&line);
+    line.upgrade(first);
+    line.upgrade(second);
+    (reads, writes, [keeps, has_no_text(&mut line)])
+}
+
 #[test]
 fn text_is_read_and_written_as_the_script_says(rt: HostRuntime) -> Result<(), Fail> {
     let alloc = rt.alloc();
-    let mut line = Script::new(alloc, pieces(alloc)?, VecDeque::new(alloc)).failing_write(2, 3);
-    let mut buf = [0; 2];
-    for expected in [Some(2), Some(1), None, Some(1), None, Some(0)] {
-        assert_eq!(rt; line.read_some(&mut buf).ok(), expected);
-    }
-    for (bytes, expected) in [("wxyz", Some(3)), ("z", Some(1)), ("z", None)] {
-        assert_eq!(rt; line.write_some(bytes.as_bytes()).ok(), expected);
-    }
-    assert_eq!(rt; line.text(), b"wxyz".as_slice());
-    assert_eq!(rt; (line.faults(), line.failures()), (1, 1));
-    line.upgrade(b"left".to_vec(alloc)?);
-    line.upgrade(Vec::new(alloc));
-    assert_eq!(rt; line.leftover(), Some(b"left".as_slice()));
-    assert!(rt; line.read_some(&mut buf).is_err());
-    assert!(rt; line.write_some(b"z").is_err());
-    assert_eq!(rt; (line.faults(), line.failures()), (2, 2));
+    let left = b"left".to_vec(alloc)?;
+    let line = Script::new(alloc, pieces(alloc)?, VecDeque::new(alloc)).failing_write(2, 3);
+    let held = text_held(line, left, Vec::new(alloc));
+    assert_eq!(rt; held, (READS.len(), WRITES.len(), [true; 2]));
     Ok(())
+}
+
+/// What reads of messages give behind `upgrade`.
+const MESSAGES: &[Kind] = &[
+    Kind::Idle,
+    Kind::Text,
+    Kind::Ping,
+    Kind::Failed,
+    Kind::EmptyClose,
+    Kind::Ended,
+];
+
+/// What a read gives before `upgrade`, how many hold behind it, and how many calls failed.
+fn messages_held<L: Line>(line: &mut L, leftover: Vec<u8>) -> (Kind, usize, u64) {
+    let before = next(line);
+    line.upgrade(leftover);
+    let held = reads_held(line, MESSAGES);
+    (before, held, failures(line))
+}
+
+fn are_received(messages: &[Msg]) -> bool {
+    matches!(messages, [Msg::Text(_), Msg::Ping, Msg::Close(None)])
+}
+
+/// The same, and whether the messages are kept.
+fn held_and_kept(mut line: Script, leftover: Vec<u8>) -> ((Kind, usize, u64), bool) {
+    let held = messages_held(&mut line, leftover);
+    (held, are_received(line.received()))
 }
 
 #[test]
 fn messages_are_read_and_kept(rt: HostRuntime) -> Result<(), Fail> {
     let alloc = rt.alloc();
-    let mut line = Script::new(alloc, VecDeque::new(alloc), turns(alloc)?);
-    assert!(rt; matches!(line.read_message(), Got::Failed));
-    line.upgrade(Vec::new(alloc));
-    assert!(rt; matches!(line.read_message(), Got::Idle));
-    assert!(rt; matches!(line.read_message(), Got::Message(Msg::Text(_))));
-    assert!(rt; matches!(line.read_message(), Got::Message(Msg::Ping)));
-    assert!(rt; matches!(line.read_message(), Got::Failed));
-    assert!(rt; matches!(line.read_message(), Got::Message(Msg::Close(None))));
-    assert!(rt; matches!(line.read_message(), Got::Ended));
-    assert!(rt; matches!(line.received(), [Msg::Text(_), Msg::Ping, Msg::Close(None)]));
-    assert_eq!(rt; line.failures(), 2);
+    let line = Script::new(alloc, VecDeque::new(alloc), turns(alloc)?);
+    let held = held_and_kept(line, Vec::new(alloc));
+    assert_eq!(rt; held, ((Kind::Failed, MESSAGES.len(), 2), true));
     Ok(())
+}
+
+/// How a close is answered before `upgrade`, then a payload, and then two closes.
+fn sends<L: Line>(line: &mut L, payload: Payload, leftover: Vec<u8>, reason: Reason) -> [Put; 4] {
+    let before = close(line, 1000, reason);
+    line.upgrade(leftover);
+    let sent = send(line, payload);
+    let closed = close(line, 1000, reason);
+    [before, sent, closed, close(line, 1001, reason)]
+}
+
+fn are_sent(handed: &[Handed]) -> bool {
+    matches!(
+        handed,
+        [Handed::Payload(Payload::Bytes(_)), Handed::Close(1000, _)]
+    )
+}
+
+/// The answers, and whether what went out is kept, and both failures are counted.
+fn sent_and_kept(
+    mut line: Script,
+    payload: Payload,
+    leftover: Vec<u8>,
+    reason: Reason,
+) -> ([Put; 4], bool) {
+    let answers = sends(&mut line, payload, leftover, reason);
+    (answers, are_sent(line.handed()) && failures(&line) == 2)
 }
 
 #[test]
 fn what_goes_out_is_kept(rt: HostRuntime) -> Result<(), Fail> {
     let alloc = rt.alloc();
-    let mut line = Script::new(alloc, VecDeque::new(alloc), VecDeque::new(alloc)).failing_send(2);
-    let reason = Reason::new("bye").ok_or("a short reason")?;
-    assert_eq!(rt; line.send_close(1000, reason), Put::Failed);
-    line.upgrade(Vec::new(alloc));
-    let payload = Payload::Bytes(Octets::new(b"a".to_vec(alloc)?));
-    assert_eq!(rt; line.send_message(payload), Put::Done);
-    assert_eq!(rt; line.send_close(1000, reason), Put::Done);
-    assert_eq!(rt; line.send_close(1001, reason), Put::Failed);
-    assert!(rt;
-        matches!(
-            line.handed(),
-            [Handed::Payload(Payload::Bytes(_)), Handed::Close(1000, _)]
-        )
-    );
-    assert_eq!(rt; line.failures(), 2);
+    let reason = bye()?;
+    let payload = bytes(alloc, b"a")?;
+    let line = Script::new(alloc, VecDeque::new(alloc), VecDeque::new(alloc)).failing_send(2);
+    let (answers, kept) = sent_and_kept(line, payload, Vec::new(alloc), reason);
+    assert_eq!(rt; answers, [Put::Failed, Put::Done, Put::Done, Put::Failed]);
+    assert!(rt; kept);
     Ok(())
 }
 
-/// The first message of a script. Where memory is refused, the message stays, and the next read gives it.
-fn first_message(line: &mut Script) -> Got {
-    match line.read_message() {
-        Got::NoMemory => line.read_message(),
-        got => got,
+/// The kind of the first message of a script. Where memory is refused, the message stays, and the next read gives it.
+fn first_kind<L: Line>(line: &mut L) -> Kind {
+    match next(line) {
+        Kind::NoMemory => next(line),
+        kind => kind,
     }
+}
+
+/// How a close is answered; where memory is refused, it is sent again.
+fn closed<L: Line>(line: &mut L, reason: Reason) -> Put {
+    match close(line, 1000, reason) {
+        Put::NoMemory => close(line, 1000, reason),
+        answer => answer,
+    }
+}
+
+/// The first three messages behind `upgrade`.
+fn first_three<L: Line>(line: &mut L, leftover: Vec<u8>) -> [Kind; 3] {
+    line.upgrade(leftover);
+    [first_kind(line), first_kind(line), first_kind(line)]
+}
+
+fn are_text_and_ping(messages: &[Msg]) -> bool {
+    matches!(messages, [Msg::Text(_), Msg::Ping])
+}
+
+fn is_one_close(handed: &[Handed]) -> bool {
+    matches!(handed, [Handed::Close(1000, _)])
+}
+
+/// The first three messages, how a close is answered, and whether the messages and the close are kept.
+fn first_held(mut line: Script, leftover: Vec<u8>, reason: Reason) -> ([Kind; 3], Put, [bool; 2]) {
+    let kinds = first_three(&mut line, leftover);
+    let received = are_text_and_ping(line.received());
+    let answer = closed(&mut line, reason);
+    (kinds, answer, [received, is_one_close(line.handed())])
 }
 
 #[test]
 fn memory_for_a_message(rt: HostRuntime) -> Result<(), Fail> {
     let alloc = rt.alloc();
+    let reason = bye()?;
     let turns = turns(alloc).or_else(|_| turns(alloc))?;
-    let mut line = Script::new(alloc, VecDeque::new(alloc), turns);
-    line.upgrade(Vec::new(alloc));
-    assert!(rt; matches!(first_message(&mut line), Got::Idle));
-    assert!(rt; matches!(first_message(&mut line), Got::Message(Msg::Text(_))));
-    assert!(rt; matches!(first_message(&mut line), Got::Message(Msg::Ping)));
-    assert!(rt; matches!(line.received(), [Msg::Text(_), Msg::Ping]));
-    let reason = Reason::new("bye").ok_or("a short reason")?;
-    if line.send_close(1000, reason) == Put::NoMemory {
-        assert_eq!(rt; line.send_close(1000, reason), Put::Done);
-    }
-    assert!(rt; matches!(line.handed(), [Handed::Close(1000, _)]));
+    let line = Script::new(alloc, VecDeque::new(alloc), turns);
+    let held = first_held(line, Vec::new(alloc), reason);
+    assert_eq!(rt;
+        held,
+        ([Kind::Idle, Kind::Text, Kind::Ping], Put::Done, [true; 2])
+    );
     Ok(())
 }

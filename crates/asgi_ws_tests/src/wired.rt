@@ -1,13 +1,19 @@
 //! Lines over streams, by the examples of RFC 6455.
+use super::calls::{
+    Kind, bye, bytes, close, counts, failures, kind_of, next, of, read, read_text, reads_held,
+    send, write_text,
+};
 use super::wire::Wire;
-use asgi_io::{Counts, Reads};
-use asgi_types::{Chars, Octets, Payload, Reason};
-use asgi_ws::{Got, Line, Messages, Msg, Pair, Put, Wired};
+use asgi_types::{Chars, Payload, Reason};
+use asgi_ws::{Got, Line, Msg, Pair, Put, Wired};
 use std::alloc::{AllocError, Global};
 use std::test::Fail;
 
 // "A single-frame masked text message", RFC 6455, section 5.7.
 const HELLO: &[u8] = b"\x81\x85\x37\xfa\x21\x3d\x7f\x9f\x4d\x51\x58";
+
+/// "A single-frame unmasked text message", of the same section: how it is sent back.
+const HELLO_BACK: &[u8] = b"\x81\x05Hello";
 
 /// The bytes that went to the stream of a line.
 fn output_of(line: &Wired<Wire>) -> &[u8] {
@@ -17,199 +23,367 @@ fn output_of(line: &Wired<Wire>) -> &[u8] {
     }
 }
 
-fn bytes(alloc: Global, text: &[u8]) -> Result<Payload, AllocError> {
-    Ok(Payload::Bytes(Octets::new(text.to_vec(alloc)?)))
+/// A line over this stream that was upgraded, with these bytes behind the handshake.
+fn upgraded_with(alloc: Global, wire: Wire, held: Vec<u8>) -> Wired<Wire> {
+    let mut line = Wired::new(alloc, wire);
+    line.upgrade(held);
+    line
 }
 
 /// A line that was upgraded, whose stream reads these bytes.
 fn upgraded(alloc: Global, input: &[u8], blocks: bool) -> Result<Wired<Wire>, AllocError> {
-    let mut line = Wired::new(alloc, Wire::new(alloc, input, 100, blocks)?);
-    line.upgrade(Vec::new(alloc));
-    Ok(line)
+    let wire = Wire::new(alloc, input, 100, blocks)?;
+    Ok(upgraded_with(alloc, wire, Vec::new(alloc)))
+}
+
+/// The text that a read gave, to be sent back, or what else it gave.
+fn text_in(got: Got) -> Result<Payload, Kind> {
+    match got {
+        Got::Message(Msg::Text(text)) => Ok(Payload::Text(text)),
+        other => Err(kind_of(&other)),
+    }
 }
 
 /// Sends each text back, until the line has ended, and says how many there were and how many reads found nothing.
-fn echo(line: &mut Wired<Wire>) -> (u8, u8) {
+fn echo<L: Line>(line: &mut L) -> (u8, u8) {
     let mut texts = 0u8;
     let mut idle = 0u8;
     for _ in 0..100 {
-        match line.read_message() {
-            Got::Message(Msg::Text(text)) => {
-                if line.send_message(Payload::Text(text)) == Put::Done {
+        match text_in(read(line)) {
+            Ok(text) => {
+                if send(line, text) == Put::Done {
                     texts = texts.wrapping_add(1);
                 }
             }
-            Got::Idle => idle = idle.wrapping_add(1),
-            _ => return (texts, idle),
+            Err(Kind::Idle) => idle = idle.wrapping_add(1),
+            Err(_) => return (texts, idle),
         }
     }
     (texts, idle)
 }
 
+/// Whether one text is read and sent back without a failure, and some reads find nothing where the stream blocks.
+fn echoes_one<L: Line>(line: &mut L, blocks: bool) -> bool {
+    let (texts, idle) = echo(line);
+    texts == 1 && (idle > 0) == blocks && failures(line) == 0
+}
+
+/// Whether it is so, and the text stands in the output.
+fn is_echoed(mut line: Wired<Wire>, blocks: bool) -> bool {
+    let echoed = echoes_one(&mut line, blocks);
+    echoed && output_of(&line) == HELLO_BACK
+}
+
+/// Whether the text is echoed where so many bytes of it stand behind the handshake.
+fn cut_is_echoed(
+    alloc: Global,
+    held: usize,
+    part: usize,
+    blocks: bool,
+) -> Result<bool, AllocError> {
+    if held > HELLO.len() {
+        return Ok(false);
+    }
+    let behind = HELLO[..held].to_vec(alloc)?;
+    let wire = Wire::new(alloc, &HELLO[held..], part, blocks)?;
+    Ok(is_echoed(upgraded_with(alloc, wire, behind), blocks))
+}
+
 #[test]
 fn a_message_is_read_however_it_is_cut(rt: HostRuntime) -> Result<(), Fail> {
-    let alloc = rt.alloc();
     for held in [0, 1, 5, 11] {
         for part in [1, 2, 100] {
             for blocks in [false, true] {
-                let wire = Wire::new(alloc, &HELLO[held..], part, blocks)?;
-                let mut line = Wired::new(alloc, wire);
-                line.upgrade(HELLO[..held].to_vec(alloc)?);
-                let (texts, idle) = echo(&mut line);
-                assert_eq!(rt; texts, 1, "{held} bytes held, parts of {part}");
-                assert_eq!(rt; idle > 0, blocks);
-                assert_eq!(rt; output_of(&line), b"\x81\x05Hello".as_slice());
-                assert_eq!(rt; line.failures(), 0);
+                let echoed = cut_is_echoed(rt.alloc(), held, part, blocks)?;
+                assert!(rt;
+                    echoed,
+                    "{held} bytes held, parts of {part}, blocks: {blocks}"
+                );
             }
         }
     }
     Ok(())
 }
 
+/// Whether the line echoes a text, has ended, and still takes a message and a close.
+fn takes_behind_the_end<L: Line>(line: &mut L, payload: Payload, reason: Reason) -> [bool; 4] {
+    let echoed = echo(line) == (1, 0);
+    let ended = next(line) == Kind::Ended;
+    let sent = send(line, payload) == Put::Done;
+    [echoed, ended, sent, close(line, 1000, reason) == Put::Done]
+}
+
+/// The text sent back, a message of one byte, and the close.
+const BEHIND_THE_END: &[u8] = b"\x81\x05Hello\x82\x01!\x88\x05\x03\xe8bye";
+
+/// Whether it is so, and whether all that was sent stands in the output.
+fn taken_behind_the_end(
+    mut line: Wired<Wire>,
+    payload: Payload,
+    reason: Reason,
+) -> ([bool; 4], bool) {
+    let taken = takes_behind_the_end(&mut line, payload, reason);
+    (taken, output_of(&line) == BEHIND_THE_END)
+}
+
 #[test]
 fn an_ended_stream_still_takes_messages(rt: HostRuntime) -> Result<(), Fail> {
-    let alloc = rt.alloc();
-    let mut line = upgraded(alloc, HELLO, false)?;
-    assert_eq!(rt; echo(&mut line), (1, 0));
-    assert!(rt; matches!(line.read_message(), Got::Ended));
-    assert_eq!(rt; line.send_message(bytes(alloc, b"!")?), Put::Done);
-    let reason = Reason::new("bye").ok_or("a short reason")?;
-    assert_eq!(rt; line.send_close(1000, reason), Put::Done);
-    assert_eq!(rt;
-        output_of(&line),
-        b"\x81\x05Hello\x82\x01!\x88\x05\x03\xe8bye".as_slice()
-    );
+    let reason = bye()?;
+    let payload = bytes(rt.alloc(), b"!")?;
+    let line = upgraded(rt.alloc(), HELLO, false)?;
+    let taken = taken_behind_the_end(line, payload, reason);
+    assert_eq!(rt; taken, ([true; 4], true));
     Ok(())
+}
+
+/// Before `upgrade` there are no messages, and text goes both ways.
+fn has_text_alone<L: Line>(line: &mut L, payload: Payload) -> bool {
+    let mut buf = [0; 4];
+    let got = next(line);
+    let put = send(line, payload);
+    got == Kind::Failed
+        && put == Put::Failed
+        && read_text(line, &mut buf) == Some(2)
+        && write_text(line, b"HTTP") == Some(4)
+        && counts(line) == (0, 2)
+}
+
+/// Behind `upgrade` there is no text.
+fn has_no_text<L: Line>(line: &mut L) -> bool {
+    let mut buf = [0; 4];
+    read_text(line, &mut buf) == None && write_text(line, b"x") == None && counts(line) == (1, 3)
+}
+
+/// Whether the line has text alone, and then, upgraded twice, no text.
+fn keeps_apart<L: Line>(
+    line: &mut L,
+    payload: Payload,
+    first: Vec<u8>,
+    second: Vec<u8>,
+) -> [bool; 2] {
+    let before = has_text_alone(line, payload);
+    line.upgrade(first);
+    // A second call changes nothing.
+    line.upgrade(second);
+    [before, has_no_text(line)]
+}
+
+/// Whether it is so, and whether the output is the text.
+fn kept_apart(
+    mut line: Wired<Wire>,
+    payload: Payload,
+    first: Vec<u8>,
+    second: Vec<u8>,
+) -> ([bool; 2], bool) {
+    let kept = keeps_apart(&mut line, payload, first, second);
+    (kept, output_of(&line) == b"HTTP".as_slice())
 }
 
 #[test]
 fn text_and_messages_keep_apart(rt: HostRuntime) -> Result<(), Fail> {
     let alloc = rt.alloc();
-    let mut line = Wired::new(alloc, Wire::new(alloc, b"GET", 2, false)?);
-    let mut buf = [0; 4];
-    // Before `upgrade` there are no messages.
-    assert!(rt; matches!(line.read_message(), Got::Failed));
-    assert_eq!(rt; line.send_message(bytes(alloc, b"!")?), Put::Failed);
-    assert_eq!(rt; line.read_some(&mut buf).ok(), Some(2));
-    assert_eq!(rt; line.write_some(b"HTTP").ok(), Some(4));
-    assert_eq!(rt; (line.faults(), line.failures()), (0, 2));
-    line.upgrade(Vec::new(alloc));
-    // A second call changes nothing, and behind it there is no text.
-    line.upgrade(HELLO.to_vec(alloc)?);
-    assert!(rt; line.read_some(&mut buf).is_err());
-    assert!(rt; line.write_some(b"x").is_err());
-    assert_eq!(rt; (line.faults(), line.failures()), (1, 3));
-    assert_eq!(rt; output_of(&line), b"HTTP".as_slice());
+    let payload = bytes(alloc, b"!")?;
+    let second = HELLO.to_vec(alloc)?;
+    let line = Wired::new(alloc, Wire::new(alloc, b"GET", 2, false)?);
+    let kept = kept_apart(line, payload, Vec::new(alloc), second);
+    assert_eq!(rt; kept, ([true; 2], true));
     Ok(())
+}
+
+/// The frame of a close, its code, and its reason (RFC 6455, section 5.5.1).
+const CLOSES: &[(&[u8], u16, &str)] = &[
+    (b"\x88\x82\0\0\0\0\x03\xe8", 1000, ""),
+    (b"\x88\x84\0\0\0\0\x03\xe9by", 1001, "by"),
+    (b"\x88\x80\0\0\0\0", 1005, ""),
+];
+
+/// Whether it is a close with this code and reason; one without a body stands for 1005.
+fn is_close(got: &Got, code: u16, expected: &str) -> bool {
+    match got {
+        Got::Message(Msg::Close(Some((given, reason)))) => {
+            *given == code && reason.as_str() == expected
+        }
+        Got::Message(Msg::Close(None)) => code == 1005,
+        _ => false,
+    }
+}
+
+/// Whether this close is read, and behind it the layer takes no payload and gives no message.
+fn is_closed<L: Line>(line: &mut L, payload: Payload, code: u16, expected: &str) -> bool {
+    let read = of(read(line), |got| is_close(got, code, expected));
+    let put = send(line, payload);
+    read && put == Put::Failed && next(line) == Kind::Ended && failures(line) == 1
+}
+
+fn close_is_read(
+    alloc: Global,
+    input: &[u8],
+    code: u16,
+    expected: &str,
+) -> Result<bool, AllocError> {
+    let payload = bytes(alloc, b"")?;
+    let mut line = upgraded(alloc, input, false)?;
+    Ok(is_closed(&mut line, payload, code, expected))
 }
 
 #[test]
 fn closes_are_read(rt: HostRuntime) -> Result<(), Fail> {
-    let alloc = rt.alloc();
-    let rows: [(&[u8], u16, &str); 3] = [
-        (b"\x88\x82\0\0\0\0\x03\xe8", 1000, ""),
-        (b"\x88\x84\0\0\0\0\x03\xe9by", 1001, "by"),
-        (b"\x88\x80\0\0\0\0", 1005, ""),
-    ];
-    for (input, code, expected) in rows {
-        let mut line = upgraded(alloc, input, false)?;
-        match line.read_message() {
-            Got::Message(Msg::Close(Some((given, reason)))) => {
-                assert_eq!(rt; (given, reason.as_str()), (code, expected));
-            }
-            Got::Message(Msg::Close(None)) => assert_eq!(rt; code, 1005),
-            other => assert!(rt; false, "{other:?}"),
-        }
-        // After the client's close the layer takes no payload.
-        assert_eq!(rt; line.send_message(bytes(alloc, b"")?), Put::Failed);
-        assert!(rt; matches!(line.read_message(), Got::Ended));
-        assert_eq!(rt; line.failures(), 1);
+    for (input, code, expected) in CLOSES {
+        let read = close_is_read(rt.alloc(), input, *code, expected)?;
+        assert!(rt; read, "{code}");
     }
     Ok(())
+}
+
+/// A ping and a pong, and what reads of them give.
+const PINGS: &[u8] = b"\x89\x80\0\0\0\0\x8a\x80\0\0\0\0";
+
+const PINGS_READ: &[Kind] = &[Kind::Ping, Kind::Pong, Kind::Ended];
+
+fn pings_held(alloc: Global) -> Result<usize, AllocError> {
+    let mut line = upgraded(alloc, PINGS, false)?;
+    Ok(reads_held(&mut line, PINGS_READ))
 }
 
 #[test]
 fn pings_and_pongs_are_messages(rt: HostRuntime) -> Result<(), Fail> {
-    let alloc = rt.alloc();
-    let mut line = upgraded(alloc, b"\x89\x80\0\0\0\0\x8a\x80\0\0\0\0", false)?;
-    assert!(rt; matches!(line.read_message(), Got::Message(Msg::Ping)));
-    assert!(rt; matches!(line.read_message(), Got::Message(Msg::Pong)));
-    assert!(rt; matches!(line.read_message(), Got::Ended));
+    let held = pings_held(rt.alloc())?;
+    assert_eq!(rt; held, PINGS_READ.len());
     Ok(())
+}
+
+// A frame that isn't masked is a fault of the session (RFC 6455, section 5.1), and so is text that isn't UTF-8.
+const FAULTS: &[&[u8]] = &[b"\x81\x01a", b"\x81\x81\0\0\0\0\xff"];
+
+/// Whether the line fails, and counts it.
+fn fails<L: Line>(line: &mut L) -> bool {
+    next(line) == Kind::Failed && failures(line) == 1
+}
+
+/// The same over a stream that reads these bytes.
+fn is_failure(alloc: Global, input: &[u8]) -> Result<bool, AllocError> {
+    let mut line = upgraded(alloc, input, false)?;
+    Ok(fails(&mut line))
+}
+
+/// A stream that fails.
+fn failing(alloc: Global) -> Result<Wire, AllocError> {
+    let mut wire = Wire::new(alloc, b"", 100, false)?;
+    wire.fails = true;
+    Ok(wire)
+}
+
+/// What a read of the line gives, and how it then answers a send.
+fn read_and_sent<L: Line>(line: &mut L, payload: Payload) -> (Kind, Put) {
+    (next(line), send(line, payload))
+}
+
+/// Both over a stream that fails.
+fn sent_over_fault(alloc: Global) -> Result<(Kind, Put), AllocError> {
+    let payload = bytes(alloc, b"a")?;
+    let mut line = upgraded_with(alloc, failing(alloc)?, Vec::new(alloc));
+    Ok(read_and_sent(&mut line, payload))
 }
 
 #[test]
 fn faults_are_failures(rt: HostRuntime) -> Result<(), Fail> {
-    let alloc = rt.alloc();
-    // A frame that isn't masked is a fault of the session (RFC 6455, section 5.1), and so is text that isn't UTF-8.
-    let rows: [&[u8]; 2] = [b"\x81\x01a", b"\x81\x81\0\0\0\0\xff"];
-    for input in rows {
-        let mut line = upgraded(alloc, input, false)?;
-        assert!(rt; matches!(line.read_message(), Got::Failed), "{input:?}");
-        assert_eq!(rt; line.failures(), 1);
+    for input in FAULTS {
+        let failed = is_failure(rt.alloc(), input)?;
+        assert!(rt; failed, "{input:?}");
     }
     // A stream that fails is one too, and still takes what is sent.
-    let mut wire = Wire::new(alloc, b"", 100, false)?;
-    wire.fails = true;
-    let mut line = Wired::new(alloc, wire);
-    line.upgrade(Vec::new(alloc));
-    assert!(rt; matches!(line.read_message(), Got::Failed));
-    assert_eq!(rt; line.send_message(bytes(alloc, b"a")?), Put::Done);
+    let answers = sent_over_fault(rt.alloc())?;
+    assert_eq!(rt; answers, (Kind::Failed, Put::Done));
     Ok(())
+}
+
+/// How often in a row a write would block, and how the send is answered.
+const WAITS: &[(u32, Put)] = &[(0, Put::Done), (1_000, Put::Done), (1_001, Put::Failed)];
+
+/// How a send is answered where the stream would block so often.
+fn sent_behind(alloc: Global, waits: u32) -> Result<Put, AllocError> {
+    let payload = bytes(alloc, b"a")?;
+    let mut wire = Wire::new(alloc, b"", 100, false)?;
+    wire.waits = waits;
+    let mut line = upgraded_with(alloc, wire, Vec::new(alloc));
+    Ok(send(&mut line, payload))
 }
 
 #[test]
 fn a_send_that_would_block_is_tried_again(rt: HostRuntime) -> Result<(), Fail> {
-    let alloc = rt.alloc();
-    for (waits, answer) in [(0, Put::Done), (1_000, Put::Done), (1_001, Put::Failed)] {
-        let mut wire = Wire::new(alloc, b"", 100, false)?;
-        wire.waits = waits;
-        let mut line = Wired::new(alloc, wire);
-        line.upgrade(Vec::new(alloc));
-        assert_eq!(rt;
-            line.send_message(bytes(alloc, b"a")?),
-            answer,
-            "{waits} waits"
-        );
+    for (waits, answer) in WAITS {
+        let given = sent_behind(rt.alloc(), *waits)?;
+        assert_eq!(rt; given, *answer, "{waits} waits");
     }
     Ok(())
+}
+
+/// A stream of a reader and a writer.
+type Ends = Pair<&'static [u8], Vec<u8>>;
+
+fn is_hello(got: &Got) -> bool {
+    match got {
+        Got::Message(Msg::Text(text)) => text.as_str() == "Hello",
+        _ => false,
+    }
+}
+
+/// The bytes that went to the writer.
+fn written_of(line: &Wired<Ends>) -> &[u8] {
+    match line.stream() {
+        Some(pair) => pair.writer.as_slice(),
+        None => &[],
+    }
+}
+
+/// Whether "Hello" is read, nothing behind it, and whether the text is sent.
+fn passes_hello<L: Line>(line: &mut L, text: Chars) -> [bool; 3] {
+    let is_read = of(read(line), is_hello);
+    let ended = next(line) == Kind::Ended;
+    [is_read, ended, send(line, Payload::Text(text)) == Put::Done]
+}
+
+/// Whether it is so, and whether the text was written.
+fn passed_hello(mut line: Wired<Ends>, text: Chars) -> ([bool; 3], bool) {
+    let passed = passes_hello(&mut line, text);
+    (passed, written_of(&line) == HELLO_BACK)
 }
 
 #[test]
 fn a_reader_and_a_writer_make_a_stream(rt: HostRuntime) -> Result<(), Fail> {
     let alloc = rt.alloc();
+    let text = Chars::new(String::from_str(alloc, "Hello")?);
     let pair = Pair {
         reader: HELLO,
         writer: Vec::new(alloc),
     };
     let mut line = Wired::new(alloc, pair);
     line.upgrade(Vec::new(alloc));
-    match line.read_message() {
-        Got::Message(Msg::Text(text)) => assert_eq!(rt; text.as_str(), "Hello"),
-        other => assert!(rt; false, "{other:?}"),
-    }
-    assert!(rt; matches!(line.read_message(), Got::Ended));
-    let text = Chars::new(String::from_str(alloc, "Hello")?);
-    assert_eq!(rt; line.send_message(Payload::Text(text)), Put::Done);
-    let written = match line.stream() {
-        Some(pair) => pair.writer.as_slice(),
-        None => &[],
-    };
-    assert_eq!(rt; written, b"\x81\x05Hello".as_slice());
+    let passed = passed_hello(line, text);
+    assert_eq!(rt; passed, ([true; 3], true));
     Ok(())
+}
+
+/// How the line answers where the next message is a text that is sent back.
+fn sent_back<L: Line>(line: &mut L) -> Put {
+    match text_in(read(line)) {
+        Ok(text) => send(line, text),
+        Err(Kind::NoMemory) => Put::NoMemory,
+        Err(_) => Put::Failed,
+    }
+}
+
+/// How the line answers, and whether the text stands in its output.
+fn echoed_on(mut line: Wired<Wire>) -> (Put, bool) {
+    let answer = sent_back(&mut line);
+    (answer, output_of(&line) == HELLO_BACK)
 }
 
 /// One message read and sent back. Where memory was refused, the whole is done once more.
 fn echoed(alloc: Global) -> Result<bool, AllocError> {
-    let mut line = upgraded(alloc, HELLO, false)?;
-    match line.read_message() {
-        Got::Message(Msg::Text(text)) => match line.send_message(Payload::Text(text)) {
-            Put::Done => Ok(output_of(&line) == b"\x81\x05Hello".as_slice()),
-            Put::Failed => Ok(false),
-            Put::NoMemory => Err(AllocError),
-        },
-        Got::NoMemory => Err(AllocError),
-        _ => Ok(false),
+    match echoed_on(upgraded(alloc, HELLO, false)?) {
+        (Put::NoMemory, _) => Err(AllocError),
+        (answer, output) => Ok(answer == Put::Done && output),
     }
 }
 
