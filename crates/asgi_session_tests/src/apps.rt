@@ -295,14 +295,11 @@ fn is_refused<E: AppEnd>(
     let Ok(event) = said.event(alloc) else {
         return Poll::Ready(false);
     };
-    let sent = end.poll_send(cx, event);
-    Poll::Ready(is_refusal(&sent, number))
-}
-
-fn is_refusal(sent: &Sent, number: u8) -> bool {
-    match sent {
-        Sent::Refused(given, _) => *given == number,
-        _ => false,
+    match end.poll_send(cx, event) {
+        Sent::Refused(given, _) => Poll::Ready(given == number),
+        Sent::Done => Poll::Ready(false),
+        Sent::Full(_) => Poll::Ready(false),
+        Sent::Ignored => Poll::Ready(false),
     }
 }
 
