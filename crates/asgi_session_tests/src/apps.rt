@@ -1,4 +1,9 @@
 //! Applications that a row needs: they promise nothing.
+ghost use Rattle.std.specs.Prelude.{◌≡◌, None};
+ghost use Rattle.futures.specs.Poll.{OnPending};
+ghost use Rattle.futures.specs.Task.{IsArmed, Keeps};
+ghost use Rattle.asgi_apps.specs.Ends.{GoesOn};
+
 use asgi_apps::{AppFault, AppTask, Application};
 use asgi_pipes::{AppEnd, Sent};
 use asgi_types::{Chars, HeaderError, Headers, Incoming, Octets, Outgoing, Payload, Reason, Scope};
@@ -95,10 +100,15 @@ fn octets(alloc: Global, text: &str) -> Result<Octets, AllocError> {
 
 fn headers(alloc: Global, fields: Fields) -> Result<Headers, HeaderError> {
     let mut headers = Headers::new(alloc);
+    add_fields(&mut headers, fields)?;
+    Ok(headers)
+}
+
+fn add_fields(headers: &mut Headers, fields: Fields) -> Result<(), HeaderError> {
     for (name, value) in fields {
         headers.push(name.as_bytes(), value.as_bytes())?;
     }
-    Ok(headers)
+    Ok(())
 }
 
 fn subprotocol(alloc: Global, name: &str) -> Result<Option<Chars>, AllocError> {
@@ -202,57 +212,95 @@ impl AppTask for ScriptedTask {
     fn poll<E: AppEnd>(&mut self, cx: &mut Context<'_>, end: &mut E) -> Poll<Result<(), AppFault>> {
         match self.next() {
             None => Poll::Ready(Ok(())),
-            Some(Step::Faults) => Poll::Ready(Err(AppFault::Failed)),
             Some(Step::Waits) => cx.yield_now(),
             Some(Step::Rests(polls)) => {
                 self.rest(polls);
                 cx.yield_now()
             }
-            Some(Step::Hears(wanted)) => {
-                let Poll::Ready(event) = end.poll_receive(cx) else {
+            Some(step) => {
+                let Poll::Ready(is_so) = goes(self.alloc, cx, end, step) else {
                     return Poll::Pending;
                 };
-                if !wanted.is(&event) {
+                if !is_so {
                     return Poll::Ready(Err(AppFault::Failed));
                 }
                 self.pass();
                 cx.yield_now()
             }
-            Some(Step::Says(said)) => {
-                let Ok(event) = said.event(self.alloc) else {
-                    return Poll::Ready(Err(AppFault::Failed));
-                };
-                match end.poll_send(cx, event) {
-                    Sent::Done => {
-                        self.pass();
-                        cx.yield_now()
-                    }
-                    Sent::Full(_) => Poll::Pending,
-                    Sent::Ignored => Poll::Ready(Err(AppFault::Failed)),
-                    Sent::Refused(_, _) => Poll::Ready(Err(AppFault::Failed)),
-                }
-            }
-            Some(Step::IsRefused(said, number)) => {
-                let Ok(event) = said.event(self.alloc) else {
-                    return Poll::Ready(Err(AppFault::Failed));
-                };
-                match end.poll_send(cx, event) {
-                    Sent::Refused(given, _) => {
-                        if given != number {
-                            return Poll::Ready(Err(AppFault::Failed));
-                        }
-                        self.pass();
-                        cx.yield_now()
-                    }
-                    Sent::Done => Poll::Ready(Err(AppFault::Failed)),
-                    Sent::Full(_) => Poll::Ready(Err(AppFault::Failed)),
-                    Sent::Ignored => Poll::Ready(Err(AppFault::Failed)),
-                }
-            }
         }
     }
 
     ghost keeps = { λ _ _ _ _ _. tt };
+}
+
+/// Whether the step goes as it says; pending where it has to wait.
+fn goes<E: AppEnd>(alloc: Global, cx: &mut Context<'_>, end: &mut E, step: Step) -> Poll<bool>
+    requires { E.ended end.old ≡ None }
+    ensures end { GoesOn E.AppEnd None end.old end.new }
+    ensures armed { OnPending result (IsArmed cx.new) }
+    ensures kept { Keeps cx.old cx.new }
+{
+    match step {
+        Step::Hears(wanted) => hears(cx, end, wanted),
+        Step::Says(said) => says(alloc, cx, end, said),
+        Step::IsRefused(said, number) => is_refused(alloc, cx, end, said, number),
+        _ => Poll::Ready(false),
+    }
+}
+
+/// Whether the next event is this one; pending until one is there.
+fn hears<E: AppEnd>(cx: &mut Context<'_>, end: &mut E, wanted: Heard) -> Poll<bool>
+    requires { E.ended end.old ≡ None }
+    ensures end { GoesOn E.AppEnd None end.old end.new }
+    ensures armed { OnPending result (IsArmed cx.new) }
+    ensures kept { Keeps cx.old cx.new }
+{
+    match end.poll_receive(cx) {
+        Poll::Ready(event) => Poll::Ready(wanted.is(&event)),
+        Poll::Pending => Poll::Pending,
+    }
+}
+
+/// Whether this goes into the queue; pending until a place is free.
+fn says<E: AppEnd>(alloc: Global, cx: &mut Context<'_>, end: &mut E, said: Said) -> Poll<bool>
+    requires { E.ended end.old ≡ None }
+    ensures end { GoesOn E.AppEnd None end.old end.new }
+    ensures armed { OnPending result (IsArmed cx.new) }
+    ensures kept { Keeps cx.old cx.new }
+{
+    let Ok(event) = said.event(alloc) else {
+        return Poll::Ready(false);
+    };
+    match end.poll_send(cx, event) {
+        Sent::Done => Poll::Ready(true),
+        Sent::Full(_) => Poll::Pending,
+        Sent::Ignored => Poll::Ready(false),
+        Sent::Refused(_, _) => Poll::Ready(false),
+    }
+}
+
+/// Whether this is refused by this number; never pending.
+fn is_refused<E: AppEnd>(
+    alloc: Global,
+    cx: &mut Context<'_>,
+    end: &mut E,
+    said: Said,
+    number: u8,
+) -> Poll<bool>
+    requires { E.ended end.old ≡ None }
+    ensures end { GoesOn E.AppEnd None end.old end.new }
+    ensures armed { OnPending result (IsArmed cx.new) }
+    ensures kept { Keeps cx.old cx.new }
+{
+    let Ok(event) = said.event(alloc) else {
+        return Poll::Ready(false);
+    };
+    match end.poll_send(cx, event) {
+        Sent::Refused(given, _) => Poll::Ready(given == number),
+        Sent::Done => Poll::Ready(false),
+        Sent::Full(_) => Poll::Ready(false),
+        Sent::Ignored => Poll::Ready(false),
+    }
 }
 
 /// Its call faults.
@@ -301,47 +349,81 @@ impl ListeningTask {
         Some(*self.events.get(self.at)?)
     }
 
-    /// Makes the event's answer the next to be said.
-    fn hear(&mut self, event: Incoming) {
-        self.at = self.at.saturating_add(1);
-        match event {
-            Incoming::WsConnect => {
-                self.waiting = Some(Outgoing::WsAccept {
-                    subprotocol: None,
-                    headers: Headers::new(self.alloc),
-                });
-            }
-            Incoming::WsReceive { payload } => self.waiting = Some(Outgoing::WsSend { payload }),
-            _ => {}
+    /// Makes the event's answer the next to be said, where it is the one that is wanted.
+    fn hear(&mut self, wanted: Heard, event: Incoming) -> bool {
+        if !wanted.is(&event) {
+            return false;
         }
+        self.at = self.at.saturating_add(1);
+        self.waiting = answer(self.alloc, event);
+        true
+    }
+
+    /// Says the answer that is waiting. It comes back where no place is free.
+    fn say<E: AppEnd>(
+        &mut self,
+        cx: &mut Context<'_>,
+        end: &mut E,
+        event: Outgoing,
+    ) -> Poll<Result<(), AppFault>>
+        requires { E.ended end.old ≡ None }
+        ensures end { GoesOn E.AppEnd None end.old end.new }
+        ensures armed { OnPending result (IsArmed cx.new) }
+        ensures kept { Keeps cx.old cx.new }
+    {
+        match end.poll_send(cx, event) {
+            Sent::Done => cx.yield_now(),
+            Sent::Full(event) => {
+                self.waiting = Some(event);
+                Poll::Pending
+            }
+            Sent::Ignored => Poll::Ready(Err(AppFault::Failed)),
+            Sent::Refused(_, _) => Poll::Ready(Err(AppFault::Failed)),
+        }
+    }
+
+    /// Hears the next event.
+    fn listen<E: AppEnd>(
+        &mut self,
+        cx: &mut Context<'_>,
+        end: &mut E,
+        wanted: Heard,
+    ) -> Poll<Result<(), AppFault>>
+        requires { E.ended end.old ≡ None }
+        ensures end { GoesOn E.AppEnd None end.old end.new }
+        ensures armed { OnPending result (IsArmed cx.new) }
+        ensures kept { Keeps cx.old cx.new }
+    {
+        let Poll::Ready(event) = end.poll_receive(cx) else {
+            return Poll::Pending;
+        };
+        if !self.hear(wanted, event) {
+            return Poll::Ready(Err(AppFault::Failed));
+        }
+        cx.yield_now()
+    }
+}
+
+/// What `WsEcho` answers to the event.
+fn answer(alloc: Global, event: Incoming) -> Option<Outgoing> {
+    match event {
+        Incoming::WsConnect => Some(Outgoing::WsAccept {
+            subprotocol: None,
+            headers: Headers::new(alloc),
+        }),
+        Incoming::WsReceive { payload } => Some(Outgoing::WsSend { payload }),
+        _ => None,
     }
 }
 
 impl AppTask for ListeningTask {
     fn poll<E: AppEnd>(&mut self, cx: &mut Context<'_>, end: &mut E) -> Poll<Result<(), AppFault>> {
-        match self.waiting.take() {
-            Some(event) => match end.poll_send(cx, event) {
-                Sent::Done => cx.yield_now(),
-                Sent::Full(event) => {
-                    self.waiting = Some(event);
-                    Poll::Pending
-                }
-                Sent::Ignored => Poll::Ready(Err(AppFault::Failed)),
-                Sent::Refused(_, _) => Poll::Ready(Err(AppFault::Failed)),
-            },
-            None => {
-                let Some(wanted) = self.next() else {
-                    return Poll::Ready(Ok(()));
-                };
-                let Poll::Ready(event) = end.poll_receive(cx) else {
-                    return Poll::Pending;
-                };
-                if !wanted.is(&event) {
-                    return Poll::Ready(Err(AppFault::Failed));
-                }
-                self.hear(event);
-                cx.yield_now()
-            }
+        if let Some(event) = self.waiting.take() {
+            return self.say(cx, end, event);
+        }
+        match self.next() {
+            Some(wanted) => self.listen(cx, end, wanted),
+            None => Poll::Ready(Ok(())),
         }
     }
 

@@ -1,13 +1,14 @@
 //! How a session ends, over lines in memory: what is handed over, and the outcome.
 use crate::apps::{Heard, Said, Step};
-use crate::rows::{Parts, joined};
-use crate::scripts::{Given, Out, is_handed, script_of};
+use crate::rows::Parts;
+use crate::scripts::{Given, Out, is_handed, is_text, script_of};
 use crate::serving::{App, serve_by};
 use crate::texts::{ACCEPTED, DENIED, FORBIDDEN, HANDSHAKE, HELLO, LAST_CHUNK, SERVER_ERROR};
 use asgi_conn::Outcome;
 use asgi_types::{BadLimit, Limits};
 use asgi_ws::Script;
 use std::alloc::AllocGlobal;
+use std::io;
 use std::process::Abort;
 use std::random::RandomSource;
 use std::test::Fail;
@@ -15,23 +16,36 @@ use std::test::Fail;
 /// The application, the messages, what is handed over, and the outcome and the faults.
 type Row = (App, &'static [Given], &'static [Out], (Outcome, u64));
 
-/// Serves a handshake that is accepted, with one exchange, and compares.
-fn is_served<H: Abort + RandomSource + AllocGlobal>(
+/// Serves a handshake that is accepted, with one exchange, and says how many messages were read where all is as the row
+/// has it.
+fn read_over<H: RandomSource + AllocGlobal>(
     rt: &H,
     limits: &Limits,
     row: &Row,
     line: &mut Script,
-) -> Result<bool, Fail> {
+) -> io::Result<Option<usize>> {
     let (report, _) = serve_by(rt, limits, row.0, line)?;
     let ended = (report.outcome, report.faults) == row.3 && report.exchanges == 1;
-    Ok(ended && is_handed(line, row.2) && line.text() == ACCEPTED)
+    if ended && is_handed(line, row.2) && line.text() == ACCEPTED {
+        return Ok(Some(line.received().len()));
+    }
+    Ok(None)
+}
+
+/// The same over a line of the row's messages.
+fn reads<H: RandomSource + AllocGlobal>(
+    rt: &H,
+    limits: &Limits,
+    row: &Row,
+) -> io::Result<Option<usize>> {
+    let mut line = script_of(rt.alloc(), &[HANDSHAKE], row.1)?;
+    read_over(rt, limits, row, &mut line)
 }
 
 fn check<H: Abort + RandomSource + AllocGlobal>(rt: &H, rows: &[Row]) -> Result<(), Fail> {
     for (place, row) in rows.iter().enumerate() {
-        let mut line = script_of(rt.alloc(), HANDSHAKE, row.1)?;
-        let served = is_served(rt, &Limits::usual(), row, &mut line)?;
-        assert!(rt; served, "row {place}");
+        let read = reads(rt, &Limits::usual(), row)?;
+        assert!(rt; read.is_some(), "row {place}");
     }
     Ok(())
 }
@@ -110,13 +124,22 @@ fn messages_are_heard_and_handed_over(rt: HostRuntime) -> Result<(), Fail> {
     check(&rt, ECHOED)
 }
 
+/// Whether the message is echoed, and the line was given the bytes behind the handshake.
+fn is_handed_on<H: RandomSource + AllocGlobal>(rt: &H, line: &mut Script) -> io::Result<bool> {
+    let (report, _) = serve_by(rt, &Limits::usual(), App::WsEcho, line)?;
+    let is_so = is_handed(line, &[Out::Text("a")]) && report.outcome == Outcome::InputBroke;
+    Ok(is_so && line.leftover() == Some(HELLO))
+}
+
+fn hands_on<H: RandomSource + AllocGlobal>(rt: &H) -> io::Result<bool> {
+    let mut line = script_of(rt.alloc(), &[HANDSHAKE, HELLO], &[Given::Text("a")])?;
+    is_handed_on(rt, &mut line)
+}
+
 #[test]
 fn the_bytes_behind_a_handshake_are_handed_on(rt: HostRuntime) -> Result<(), Fail> {
-    let text = joined(rt.alloc(), HANDSHAKE, &[HELLO])?;
-    let mut line = script_of(rt.alloc(), &text, &[Given::Text("a")])?;
-    let (report, _) = serve_by(&rt, &Limits::usual(), App::WsEcho, &mut line)?;
-    let is_so = is_handed(&line, &[Out::Text("a")]) && report.outcome == Outcome::InputBroke;
-    assert_eq!(rt; (is_so, line.leftover()), (true, Some(HELLO)));
+    let is_so = hands_on(&rt)?;
+    assert!(rt; is_so);
     Ok(())
 }
 
@@ -151,19 +174,28 @@ const ANSWERS: &[Answer] = &[
     ),
 ];
 
+/// Whether the text of the answer is written, and nothing else is done.
+fn is_answered<H: RandomSource + AllocGlobal>(
+    rt: &H,
+    row: &Answer,
+    line: &mut Script,
+) -> io::Result<bool> {
+    let (report, _) = serve_by(rt, &Limits::usual(), row.0, line)?;
+    let ended = (report.outcome, report.faults) == row.2 && report.exchanges == 1;
+    let is_silent = line.leftover().is_none() && line.received().is_empty();
+    Ok(ended && is_silent && is_handed(line, &[]) && is_text(line, row.1))
+}
+
+fn answers<H: RandomSource + AllocGlobal>(rt: &H, row: &Answer) -> io::Result<bool> {
+    let mut line = script_of(rt.alloc(), &[HANDSHAKE], &[Given::Text("x")])?;
+    is_answered(rt, row, &mut line)
+}
+
 #[test]
 fn an_answer_in_place_of_a_session_is_text_alone(rt: HostRuntime) -> Result<(), Fail> {
-    for (place, (app, parts, end)) in ANSWERS.iter().enumerate() {
-        let mut line = script_of(rt.alloc(), HANDSHAKE, &[Given::Text("x")])?;
-        let (report, _) = serve_by(&rt, &Limits::usual(), *app, &mut line)?;
-        let text = joined(rt.alloc(), b"", parts)?;
-        let is_silent = line.leftover().is_none() && line.received().is_empty();
-        let is_so = is_silent && is_handed(&line, &[]) && line.text() == text.as_slice();
-        assert_eq!(rt;
-            (is_so, report.exchanges, (report.outcome, report.faults)),
-            (true, 1, *end),
-            "row {place}"
-        );
+    for (place, row) in ANSWERS.iter().enumerate() {
+        let is_so = answers(&rt, row)?;
+        assert!(rt; is_so, "row {place}");
     }
     Ok(())
 }
@@ -347,9 +379,8 @@ const CLOSING: &[Row] = &[
 #[test]
 fn of_100_pings_behind_a_close_64_are_read(rt: HostRuntime) -> Result<(), Fail> {
     for (place, row) in CLOSING.iter().enumerate() {
-        let mut line = script_of(rt.alloc(), HANDSHAKE, row.1)?;
-        let served = is_served(&rt, &Limits::usual(), row, &mut line)?;
-        assert_eq!(rt; (served, line.received().len()), (true, 64), "row {place}");
+        let read = reads(&rt, &Limits::usual(), row)?;
+        assert_eq!(rt; read, Some(64), "row {place}");
     }
     Ok(())
 }
@@ -399,14 +430,9 @@ const CROWDED: &[(Row, usize)] = &[
 #[test]
 fn a_message_waits_for_a_place(rt: HostRuntime) -> Result<(), Fail> {
     let limits = Limits::new(16_384, 64, 0, 1, 2, 30_000, 1_000_000)?;
-    for (place, (row, read)) in CROWDED.iter().enumerate() {
-        let mut line = script_of(rt.alloc(), HANDSHAKE, row.1)?;
-        let served = is_served(&rt, &limits, row, &mut line)?;
-        assert_eq!(rt;
-            (served, line.received().len()),
-            (true, *read),
-            "row {place}"
-        );
+    for (place, (row, wanted)) in CROWDED.iter().enumerate() {
+        let read = reads(&rt, &limits, row)?;
+        assert_eq!(rt; read, Some(*wanted), "row {place}");
     }
     Ok(())
 }
@@ -415,11 +441,14 @@ fn limits_with(idle_turns: u32, turns: u64) -> Result<Limits, BadLimit> {
     Limits::new(16_384, 64, 0, 1, 2, idle_turns, turns)
 }
 
+/// A row, and the text that is written.
+type Waiting = (Row, Parts);
+
 /// Tasks that go no further: none is answered in its place, and an open session is not closed.
-const WAITING: &[(Row, &[u8])] = &[
+const WAITING: &[Waiting] = &[
     (
         (App::Scripted(&[Step::Waits]), &[], &[], (Outcome::Idle, 0)),
-        b"",
+        &[],
     ),
     (
         (
@@ -428,7 +457,7 @@ const WAITING: &[(Row, &[u8])] = &[
             &[],
             (Outcome::Idle, 0),
         ),
-        b"",
+        &[],
     ),
     (
         (
@@ -437,7 +466,7 @@ const WAITING: &[(Row, &[u8])] = &[
             &[],
             (Outcome::Idle, 0),
         ),
-        ACCEPTED,
+        &[ACCEPTED],
     ),
     (
         (
@@ -446,7 +475,7 @@ const WAITING: &[(Row, &[u8])] = &[
             &[BYE],
             (Outcome::Idle, 0),
         ),
-        ACCEPTED,
+        &[ACCEPTED],
     ),
     (
         (
@@ -455,23 +484,38 @@ const WAITING: &[(Row, &[u8])] = &[
             &[],
             (Outcome::Idle, 0),
         ),
-        ACCEPTED,
+        &[ACCEPTED],
     ),
 ];
+
+/// Whether the connection is given up behind three turns that were idle.
+fn is_given_up<H: RandomSource + AllocGlobal>(
+    rt: &H,
+    limits: &Limits,
+    row: &Waiting,
+    line: &mut Script,
+) -> io::Result<bool> {
+    let (report, _) = serve_by(rt, limits, row.0.0, line)?;
+    let counts = (report.exchanges, report.faults, report.idle);
+    let ended = report.outcome == Outcome::Idle && counts == (1, 0, 3);
+    Ok(ended && is_handed(line, row.0.2) && is_text(line, row.1))
+}
+
+fn gives_up<H: RandomSource + AllocGlobal>(
+    rt: &H,
+    limits: &Limits,
+    row: &Waiting,
+) -> io::Result<bool> {
+    let mut line = script_of(rt.alloc(), &[HANDSHAKE], row.0.1)?;
+    is_given_up(rt, limits, row, &mut line)
+}
 
 #[test]
 fn a_session_at_a_limit_is_given_up(rt: HostRuntime) -> Result<(), Fail> {
     let three_idle = limits_with(3, 1_000)?;
-    for (place, (row, text)) in WAITING.iter().enumerate() {
-        let mut line = script_of(rt.alloc(), HANDSHAKE, row.1)?;
-        let (report, _) = serve_by(&rt, &three_idle, row.0, &mut line)?;
-        let is_so = is_handed(&line, row.2) && line.text() == *text;
-        let counts = (report.exchanges, report.faults, report.idle);
-        assert_eq!(rt;
-            (is_so, report.outcome, counts),
-            (true, Outcome::Idle, (1, 0, 3)),
-            "row {place}"
-        );
+    for (place, row) in WAITING.iter().enumerate() {
+        let is_so = gives_up(&rt, &three_idle, row)?;
+        assert!(rt; is_so, "row {place}");
     }
     Ok(())
 }

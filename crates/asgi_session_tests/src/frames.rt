@@ -1,12 +1,13 @@
 //! Frames of a client, over a stream: those of RFC 6455, section 5.7, and those that its rules refuse.
 use crate::apps::Heard;
-use crate::rows::{Session, Written, check_sessions};
-use crate::serving::{App, serve_by};
+use crate::rows::{Session, Written, check_sessions, is_served, joined};
+use crate::serving::App;
 use crate::texts::{ACCEPTED, HANDSHAKE, HELLO, HELLO_BACK};
 use asgi_conn::Outcome;
-use asgi_fakes::{Pieces, line_of, text_of};
-use asgi_types::Limits;
+use asgi_fakes::Pieces;
 use std::alloc::{AllocError, AllocGlobal, Global};
+use std::io;
+use std::random::RandomSource;
 use std::test::Fail;
 
 const LOST: Heard = Heard::Disconnect(1006, "");
@@ -299,24 +300,40 @@ const LONG: &[Head] = &[
 ];
 
 fn frame(alloc: Global, front: &[u8], head: &[u8], count: usize) -> Result<Vec<u8>, AllocError> {
-    let mut text = Vec::from_slice(alloc, front)?;
-    text.extend_from_slice(head)?;
+    let mut text = joined(alloc, front, &[head])?;
     add_bytes(&mut text, count)?;
     Ok(text)
 }
 
+const PIECES: &[usize] = &[100_000, 4_096, 1_000];
+
+/// The piece in which the message is not echoed first, if any.
+fn wrong_piece<H: RandomSource + AllocGlobal>(
+    rt: &H,
+    input: &[u8],
+    wanted: &[u8],
+) -> io::Result<Option<usize>> {
+    for piece in PIECES {
+        let pieces = Pieces::new(input, *piece, *piece);
+        let end = (Outcome::InputBroke, 1, 0);
+        if !is_served(rt, App::WsEcho, pieces, Written::Just(&[wanted]), end)? {
+            return Ok(Some(*piece));
+        }
+    }
+    Ok(None)
+}
+
+fn fails_at<H: RandomSource + AllocGlobal>(rt: &H, row: &Head) -> io::Result<Option<usize>> {
+    let input = frame(rt.alloc(), HANDSHAKE, row.1, row.0)?;
+    let wanted = frame(rt.alloc(), ACCEPTED, row.2, row.0)?;
+    wrong_piece(rt, &input, &wanted)
+}
+
 #[test]
 fn a_message_of_each_length_is_echoed(rt: HostRuntime) -> Result<(), Fail> {
-    for (count, head, back) in LONG {
-        let input = frame(rt.alloc(), HANDSHAKE, head, *count)?;
-        let wanted = frame(rt.alloc(), ACCEPTED, back, *count)?;
-        for piece in [100_000, 4_096, 1_000] {
-            let mut line = line_of(&rt, Pieces::new(&input, piece, piece))?;
-            let (report, _) = serve_by(&rt, &Limits::usual(), App::WsEcho, &mut line)?;
-            let is_so = report.outcome == Outcome::InputBroke
-                && text_of(&line) == wanted.as_slice();
-            assert!(rt; is_so, "{count} bytes in pieces of {piece}");
-        }
+    for row in LONG {
+        let piece = fails_at(&rt, row)?;
+        assert_eq!(rt; piece, None, "{} bytes", row.0);
     }
     Ok(())
 }

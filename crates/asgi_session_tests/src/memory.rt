@@ -1,26 +1,71 @@
 //! Memory refused to a session. `tests/memory.py` runs this with each allocation refused in turn; with ample memory none is
 //! refused.
-use crate::rows::{Parts, joined};
+use crate::rows::{Parts, behind, joined};
 use crate::scripts::{Given, Out, is_front, is_handed, script_of};
 use crate::serving::{App, serve_by};
 use crate::texts::{ACCEPTED, FORBIDDEN, HANDSHAKE, HELLO, HELLO_BACK, OFFERING, SERVER_ERROR};
-use asgi_conn::Outcome;
-use asgi_fakes::{Pieces, line_of, text_of};
+use asgi_conn::{Outcome, Report};
+use asgi_fakes::{Memory, Pieces, line_of, text_of};
 use asgi_types::Limits;
+use asgi_ws::Script;
 use std::alloc::AllocGlobal;
-use std::process::Abort;
+use std::io;
 use std::random::RandomSource;
 use std::test::Fail;
 
+/// What came of a session.
+#[derive(Clone, Copy, Debug, PartialEq, Eq)]
+enum Came {
+    /// It was served as the row has it.
+    Whole,
+    /// Memory was refused, and nothing was done that is not due.
+    CutOff,
+    Otherwise,
+}
+
+impl Came {
+    fn whole_if(is_so: bool) -> Came {
+        if is_so { Came::Whole } else { Came::Otherwise }
+    }
+
+    fn cut_off_if(is_so: bool) -> Came {
+        if is_so { Came::CutOff } else { Came::Otherwise }
+    }
+}
+
+/// What came of a session that may not even have begun.
+fn what_came(session: io::Result<Came>) -> Came {
+    match session {
+        Ok(came) => came,
+        Err(_) => Came::CutOff,
+    }
+}
+
+/// Whether the bytes are a beginning of these parts.
+fn is_beginning(bytes: &[u8], parts: Parts) -> bool {
+    let mut rest = bytes;
+    for part in parts {
+        match rest.strip_prefix(*part) {
+            Some(behind) => rest = behind,
+            None => return part.starts_with(rest),
+        }
+    }
+    rest.is_empty()
+}
+
 /// Behind a beginning of what is due nothing more; or the refusal of a request whose application had no memory; or nothing,
 /// where a line in memory had none for the text.
-fn is_cut_off(written: &[u8], wanted: &[u8], outcome: Outcome) -> bool {
+fn is_cut_off(written: &[u8], wanted: Parts, outcome: Outcome) -> bool {
     match outcome {
-        Outcome::NoMemory => wanted.starts_with(written),
+        Outcome::NoMemory => is_beginning(written, wanted),
         Outcome::Refused(500) => written == SERVER_ERROR,
         Outcome::WriteFailed(0) => written.is_empty(),
         _ => false,
     }
+}
+
+fn is_one_exchange(report: &Report) -> bool {
+    (report.exchanges, report.faults) == (1, 0)
 }
 
 /// The application, the input, what is written, and the outcome.
@@ -36,63 +81,70 @@ const ROWS: &[Row] = &[
     (App::Hello, &[OFFERING], &[FORBIDDEN], Outcome::Finished),
 ];
 
-/// Serves a session over a stream, whose input comes in two pieces. False where memory was refused.
-fn is_wired<H: Abort + RandomSource + AllocGlobal>(rt: &H, row: &Row) -> bool {
-    let Ok(input) = joined(rt.alloc(), b"", row.1) else {
-        return false;
-    };
-    let Ok(wanted) = joined(rt.alloc(), b"", row.2) else {
-        return false;
-    };
-    let Ok(mut line) = line_of(rt, Pieces::new(&input, 9, 4_096)) else {
-        return false;
-    };
-    let Ok((report, _)) = serve_by(rt, &Limits::usual(), row.0, &mut line) else {
-        return false;
-    };
-    let written = text_of(&line);
+fn wired_came(row: &Row, written: &[u8], report: &Report) -> Came {
     if report.outcome != row.3 {
-        assert!(rt; is_cut_off(written, &wanted, report.outcome));
-        return false;
+        return Came::cut_off_if(is_cut_off(written, row.2, report.outcome));
     }
-    let is_so = written == wanted.as_slice();
-    assert_eq!(rt; (is_so, report.exchanges, report.faults), (true, 1, 0));
-    true
+    Came::whole_if(is_one_exchange(report) && behind(written, row.2) == Some(b""))
+}
+
+fn serve_over<H: RandomSource + AllocGlobal>(
+    rt: &H,
+    row: &Row,
+    line: &mut Memory<Pieces>,
+) -> io::Result<Came> {
+    let (report, _) = serve_by(rt, &Limits::usual(), row.0, line)?;
+    Ok(wired_came(row, text_of(line), &report))
+}
+
+/// Serves a session over a stream, whose input comes in two pieces.
+fn serve_wired<H: RandomSource + AllocGlobal>(rt: &H, row: &Row) -> io::Result<Came> {
+    let input = joined(rt.alloc(), b"", row.1)?;
+    let mut line = line_of(rt, Pieces::new(&input, 9, 4_096))?;
+    serve_over(rt, row, &mut line)
 }
 
 /// Only one allocation is refused, so of two sessions one is served.
 #[test]
 fn memory_for_a_session_over_a_stream(rt: HostRuntime) -> Result<(), Fail> {
     for (place, row) in ROWS.iter().enumerate() {
-        let served = is_wired(&rt, row) || is_wired(&rt, row);
-        assert!(rt; served, "row {place}");
+        let mut last = what_came(serve_wired(&rt, row));
+        if last == Came::CutOff {
+            last = what_came(serve_wired(&rt, row));
+        }
+        assert_eq!(rt; last, Came::Whole, "row {place}");
     }
     Ok(())
 }
 
 const ECHO: &[Out] = &[Out::Text("Hello")];
 
-/// The same over a line in memory.
-fn is_scripted<H: Abort + RandomSource + AllocGlobal>(rt: &H) -> bool {
-    let Ok(mut line) = script_of(rt.alloc(), HANDSHAKE, &[Given::Text("Hello")]) else {
-        return false;
-    };
-    let Ok((report, _)) = serve_by(rt, &Limits::usual(), App::WsEcho, &mut line) else {
-        return false;
-    };
+fn scripted_came(line: &Script, report: &Report) -> Came {
     if report.outcome != Outcome::InputBroke {
-        let is_so = is_cut_off(line.text(), ACCEPTED, report.outcome) && is_front(&line, ECHO);
-        assert!(rt; is_so);
-        return false;
+        let is_text = is_cut_off(line.text(), &[ACCEPTED], report.outcome);
+        return Came::cut_off_if(is_text && is_front(line, ECHO));
     }
-    let is_so = line.text() == ACCEPTED && is_handed(&line, ECHO);
-    assert_eq!(rt; (is_so, report.exchanges, report.faults), (true, 1, 0));
-    true
+    let is_so = line.text() == ACCEPTED && is_handed(line, ECHO);
+    Came::whole_if(is_so && is_one_exchange(report))
+}
+
+fn serve_over_script<H: RandomSource + AllocGlobal>(rt: &H, line: &mut Script) -> io::Result<Came> {
+    let (report, _) = serve_by(rt, &Limits::usual(), App::WsEcho, line)?;
+    Ok(scripted_came(line, &report))
+}
+
+/// The same over a line in memory.
+fn serve_script<H: RandomSource + AllocGlobal>(rt: &H) -> io::Result<Came> {
+    let mut line = script_of(rt.alloc(), &[HANDSHAKE], &[Given::Text("Hello")])?;
+    serve_over_script(rt, &mut line)
 }
 
 #[test]
 fn memory_for_a_session_in_memory(rt: HostRuntime) -> Result<(), Fail> {
-    let served = is_scripted(&rt) || is_scripted(&rt);
-    assert!(rt; served);
+    let mut last = what_came(serve_script(&rt));
+    if last == Came::CutOff {
+        last = what_came(serve_script(&rt));
+    }
+    assert_eq!(rt; last, Came::Whole);
     Ok(())
 }

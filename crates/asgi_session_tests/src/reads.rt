@@ -1,11 +1,13 @@
 //! Reads that fail, before a session and in one.
 use crate::apps::Heard;
-use crate::rows::joined;
-use crate::serving::{App, serve_by};
+use crate::rows::{Written, is_served, joined};
+use crate::serving::App;
 use crate::texts::{ACCEPTED, HANDSHAKE, HELLO, HELLO_BACK};
 use asgi_conn::Outcome;
-use asgi_fakes::{Pieces, line_of, text_of};
-use asgi_types::Limits;
+use asgi_fakes::Pieces;
+use std::alloc::AllocGlobal;
+use std::io;
+use std::random::RandomSource;
 use std::test::Fail;
 
 const LOST: Heard = Heard::Disconnect(1006, "");
@@ -25,23 +27,28 @@ fn wanted_behind(read: usize) -> (App, &'static [u8], &'static [u8], u64) {
     (HEARS_HELLO, ACCEPTED, HELLO_BACK, 1)
 }
 
-#[test]
-fn a_read_that_fails_is_a_lost_client(rt: HostRuntime) -> Result<(), Fail> {
-    let input = joined(rt.alloc(), HANDSHAKE, &[HELLO])?;
+/// How many bytes are read before the first failure that ends in another way.
+fn wrong_behind<H: RandomSource + AllocGlobal>(rt: &H, input: &[u8]) -> io::Result<Option<usize>> {
     for read in 0..=input.len() {
         let (app, accepted, echo, exchanges) = wanted_behind(read);
-        let mut pieces = Pieces::new(&input, 1, 1);
+        let mut pieces = Pieces::new(input, 1, 1);
         pieces.fails_at = (read as u64).saturating_add(1);
-        let mut line = line_of(&rt, pieces)?;
-        let (report, _) = serve_by(&rt, &Limits::usual(), app, &mut line)?;
-        let wanted = joined(rt.alloc(), accepted, &[echo])?;
-        let is_so = text_of(&line) == wanted.as_slice();
-        let counts = (report.exchanges, report.faults);
-        assert_eq!(rt;
-            (is_so, report.outcome, counts),
-            (true, Outcome::InputBroke, (exchanges, 0)),
-            "{read} bytes"
-        );
+        let end = (Outcome::InputBroke, exchanges, 0);
+        if !is_served(rt, app, pieces, Written::Just(&[accepted, echo]), end)? {
+            return Ok(Some(read));
+        }
     }
+    Ok(None)
+}
+
+fn wrong_read<H: RandomSource + AllocGlobal>(rt: &H) -> io::Result<Option<usize>> {
+    let input = joined(rt.alloc(), HANDSHAKE, &[HELLO])?;
+    wrong_behind(rt, &input)
+}
+
+#[test]
+fn a_read_that_fails_is_a_lost_client(rt: HostRuntime) -> Result<(), Fail> {
+    let read = wrong_read(&rt)?;
+    assert_eq!(rt; read, None);
     Ok(())
 }

@@ -3,10 +3,10 @@ use crate::apps::Heard;
 use crate::serving::{App, serve_by};
 use crate::texts::HANDSHAKE;
 use asgi_conn::Outcome;
-use asgi_fakes::{Pieces, line_of, text_of};
+use asgi_fakes::{End, Memory, Pieces, line_of, text_of};
 use asgi_types::Limits;
 use std::alloc::{AllocError, AllocGlobal, Global};
-use std::io::ErrorKind;
+use std::io::{self, ErrorKind};
 use std::process::Abort;
 use std::random::RandomSource;
 use std::test::Fail;
@@ -15,18 +15,18 @@ pub type Parts = &'static [&'static [u8]];
 
 /// What is written.
 #[derive(Clone, Copy)]
-pub enum Written {
+pub enum Written<'a> {
     /// Just these parts.
-    Just(Parts),
+    Just(&'a [&'a [u8]]),
     /// The first parts, then what the message layer says by itself, and then the last part.
-    Around(Parts, &'static [u8]),
+    Around(&'a [&'a [u8]], &'a [u8]),
 }
 
 /// The application, the input, what is written, and the outcome, the exchanges and the faults.
-pub type Row = (App, Parts, Written, (Outcome, u64, u64));
+pub type Row = (App, Parts, Written<'static>, End);
 
 /// What is read behind the handshake, what is heard, what is written, and the outcome.
-pub type Session = (Parts, &'static [Heard], Written, Outcome);
+pub type Session = (Parts, &'static [Heard], Written<'static>, Outcome);
 
 pub fn joined(alloc: Global, front: &[u8], parts: &[&[u8]]) -> Result<Vec<u8>, AllocError> {
     let mut bytes = Vec::from_slice(alloc, front)?;
@@ -37,7 +37,7 @@ pub fn joined(alloc: Global, front: &[u8], parts: &[&[u8]]) -> Result<Vec<u8>, A
 }
 
 /// What is behind the parts, where the bytes begin with them.
-fn behind<'a>(bytes: &'a [u8], parts: &[&[u8]]) -> Option<&'a [u8]> {
+pub fn behind<'a>(bytes: &'a [u8], parts: &[&[u8]]) -> Option<&'a [u8]> {
     let mut rest = bytes;
     for part in parts {
         rest = rest.strip_prefix(*part)?;
@@ -45,7 +45,7 @@ fn behind<'a>(bytes: &'a [u8], parts: &[&[u8]]) -> Option<&'a [u8]> {
     Some(rest)
 }
 
-fn is_written(bytes: &[u8], written: Written) -> bool {
+pub fn is_written(bytes: &[u8], written: Written<'_>) -> bool {
     match written {
         Written::Just(parts) => behind(bytes, parts) == Some(b""),
         Written::Around(parts, last) => match behind(bytes, parts) {
@@ -56,48 +56,89 @@ fn is_written(bytes: &[u8], written: Written) -> bool {
 }
 
 /// Serves the input in such pieces, and compares.
-fn is_served<H: Abort + RandomSource + AllocGlobal>(
+pub fn is_served<H: RandomSource + AllocGlobal>(
     rt: &H,
     app: App,
     pieces: Pieces,
-    written: Written,
-    end: (Outcome, u64, u64),
-) -> Result<bool, Fail> {
+    written: Written<'_>,
+    end: End,
+) -> io::Result<bool> {
     let mut line = line_of(rt, pieces)?;
-    let (report, _) = serve_by(rt, &Limits::usual(), app, &mut line)?;
-    let ended = (report.outcome, report.exchanges, report.faults);
-    Ok(ended == end && is_written(text_of(&line), written))
+    is_line_served(rt, app, &mut line, written, end)
 }
+
+fn is_line_served<H: RandomSource + AllocGlobal>(
+    rt: &H,
+    app: App,
+    line: &mut Memory<Pieces>,
+    written: Written<'_>,
+    end: End,
+) -> io::Result<bool> {
+    let (report, _) = serve_by(rt, &Limits::usual(), app, line)?;
+    let ended = (report.outcome, report.exchanges, report.faults);
+    Ok(ended == end && is_written(text_of(line), written))
+}
+
+/// How many bytes come in a read, and the fault that comes before each, if any.
+const SIZES: &[(usize, Option<ErrorKind>)] = &[
+    (4_096, None),
+    (1, None),
+    (7, None),
+    (4_096, Some(ErrorKind::WouldBlock)),
+    (1, Some(ErrorKind::WouldBlock)),
+    (7, Some(ErrorKind::WouldBlock)),
+];
 
 /// The piece in which the row fails first: whole, byte by byte and in pieces of seven, with and without a read that would
 /// block before each.
-fn fails_at<H: Abort + RandomSource + AllocGlobal>(
+fn fails_at<H: RandomSource + AllocGlobal>(
     rt: &H,
     app: App,
     input: &[u8],
-    written: Written,
-    end: (Outcome, u64, u64),
-) -> Result<Option<usize>, Fail> {
-    for before in [None, Some(ErrorKind::WouldBlock)] {
-        for size in [4_096, 1, 7] {
-            let mut pieces = Pieces::new(input, size, size);
-            pieces.before = before;
-            if !is_served(rt, app, pieces, written, end)? {
-                return Ok(Some(size));
-            }
+    written: Written<'_>,
+    end: End,
+) -> io::Result<Option<usize>> {
+    for (size, before) in SIZES {
+        let pieces = pieces_of(input, *size, *size, *before);
+        if !is_served(rt, app, pieces, written, end)? {
+            return Ok(Some(*size));
         }
     }
     Ok(None)
 }
 
+fn pieces_of<'a>(
+    input: &'a [u8],
+    first: usize,
+    later: usize,
+    before: Option<ErrorKind>,
+) -> Pieces<'a> {
+    let mut pieces = Pieces::new(input, first, later);
+    pieces.before = before;
+    pieces
+}
+
+fn row_fails_at<H: RandomSource + AllocGlobal>(rt: &H, row: &Row) -> io::Result<Option<usize>> {
+    let input = joined(rt.alloc(), b"", row.1)?;
+    fails_at(rt, row.0, &input, row.2, row.3)
+}
+
 /// Each row, in pieces.
 pub fn check<H: Abort + RandomSource + AllocGlobal>(rt: &H, rows: &[Row]) -> Result<(), Fail> {
     for (place, row) in rows.iter().enumerate() {
-        let input = joined(rt.alloc(), b"", row.1)?;
-        let failed = fails_at(rt, row.0, &input, row.2, row.3)?;
+        let failed = row_fails_at(rt, row)?;
         assert_eq!(rt; failed, None, "row {place}");
     }
     Ok(())
+}
+
+fn session_fails_at<H: RandomSource + AllocGlobal>(
+    rt: &H,
+    app: App,
+    row: &Session,
+) -> io::Result<Option<usize>> {
+    let input = joined(rt.alloc(), HANDSHAKE, row.0)?;
+    fails_at(rt, app, &input, row.2, (row.3, 1, 0))
 }
 
 /// Each session, in pieces, by an application that hears just these events, and by `WsEcho`.
@@ -106,13 +147,37 @@ pub fn check_sessions<H: Abort + RandomSource + AllocGlobal>(
     rows: &[Session],
 ) -> Result<(), Fail> {
     for (place, row) in rows.iter().enumerate() {
-        let input = joined(rt.alloc(), HANDSHAKE, row.0)?;
-        for app in [App::Listens(row.1), App::WsEcho] {
-            let failed = fails_at(rt, app, &input, row.2, (row.3, 1, 0))?;
-            assert_eq!(rt; failed, None, "row {place}");
-        }
+        let failed = session_fails_at(rt, App::Listens(row.1), row)?;
+        assert_eq!(rt; failed, None, "row {place}");
+        let failed = session_fails_at(rt, App::WsEcho, row)?;
+        assert_eq!(rt; failed, None, "row {place}, by WsEcho");
     }
     Ok(())
+}
+
+/// The first place at which the input, cut in two there, is served in another way.
+fn wrong_cut<H: RandomSource + AllocGlobal>(
+    rt: &H,
+    row: &Row,
+    input: &[u8],
+    before: Option<ErrorKind>,
+) -> io::Result<Option<usize>> {
+    for cut in 1..input.len() {
+        let two = pieces_of(input, cut, 4_096, before);
+        if !is_served(rt, row.0, two, row.2, row.3)? {
+            return Ok(Some(cut));
+        }
+    }
+    Ok(None)
+}
+
+fn wrong_cut_of<H: RandomSource + AllocGlobal>(
+    rt: &H,
+    row: &Row,
+    before: Option<ErrorKind>,
+) -> io::Result<Option<usize>> {
+    let input = joined(rt.alloc(), b"", row.1)?;
+    wrong_cut(rt, row, &input, before)
 }
 
 /// Each row, cut in two at each place, with this fault before each read, if any.
@@ -122,15 +187,8 @@ pub fn check_halves<H: Abort + RandomSource + AllocGlobal>(
     before: Option<ErrorKind>,
 ) -> Result<(), Fail> {
     for (place, row) in rows.iter().enumerate() {
-        let input = joined(rt.alloc(), b"", row.1)?;
-        for cut in 1..input.len() {
-            let mut two = Pieces::new(&input, cut, 4_096);
-            two.before = before;
-            assert!(rt;
-                is_served(rt, row.0, two, row.2, row.3)?,
-                "row {place}, cut at {cut}"
-            );
-        }
+        let cut = wrong_cut_of(rt, row, before)?;
+        assert_eq!(rt; cut, None, "row {place}");
     }
     Ok(())
 }

@@ -1,4 +1,5 @@
 //! Lines in memory, by tables: what they read, and what was handed over.
+use crate::rows::{Parts, behind, joined};
 use asgi_types::{Chars, Payload, Reason};
 use asgi_ws::{Handed, Msg, Piece, Script, Turn};
 use std::alloc::{AllocError, Global};
@@ -22,10 +23,7 @@ pub enum Given {
 impl Given {
     fn turn(self, alloc: Global) -> Result<Turn, AllocError> {
         match self {
-            Given::Text(text) => {
-                let text = Chars::new(String::from_str(alloc, text)?);
-                Ok(Turn::Message(Msg::Text(text)))
-            }
+            Given::Text(text) => text_turn(alloc, text),
             Given::Ping => Ok(Turn::Message(Msg::Ping)),
             Given::Pong => Ok(Turn::Message(Msg::Pong)),
             Given::Close(code, reason) => Ok(close(code, reason)),
@@ -36,6 +34,11 @@ impl Given {
     }
 }
 
+fn text_turn(alloc: Global, text: &str) -> Result<Turn, AllocError> {
+    let text = Chars::new(String::from_str(alloc, text)?);
+    Ok(Turn::Message(Msg::Text(text)))
+}
+
 fn close(code: u16, reason: &str) -> Turn {
     match Reason::new(reason) {
         Some(reason) => Turn::Message(Msg::Close(Some((code, reason)))),
@@ -44,20 +47,31 @@ fn close(code: u16, reason: &str) -> Turn {
 }
 
 /// A line that reads this text in one piece, and then these messages.
-pub fn script_of(alloc: Global, text: &[u8], given: &[Given]) -> Result<Script, AllocError> {
-    let mut pieces = VecDeque::new(alloc);
-    pieces.push_back(Piece::Bytes(text.to_vec(alloc)?))?;
+pub fn script_of(alloc: Global, text: Parts, given: &[Given]) -> Result<Script, AllocError> {
+    let pieces = one_piece(alloc, text)?;
     let turns = turns_of(alloc, given)?;
     Ok(Script::new(alloc, pieces, turns))
 }
 
+fn one_piece(alloc: Global, text: Parts) -> Result<VecDeque<Piece>, AllocError> {
+    let bytes = joined(alloc, b"", text)?;
+    let mut pieces = VecDeque::new(alloc);
+    pieces.push_back(Piece::Bytes(bytes))?;
+    Ok(pieces)
+}
+
 fn turns_of(alloc: Global, given: &[Given]) -> Result<VecDeque<Turn>, AllocError> {
     let mut turns = VecDeque::new(alloc);
+    add_turns(&mut turns, alloc, given)?;
+    Ok(turns)
+}
+
+fn add_turns(turns: &mut VecDeque<Turn>, alloc: Global, given: &[Given]) -> Result<(), AllocError> {
     for message in given {
         let turn = message.turn(alloc)?;
         turns.push_back(turn)?;
     }
-    Ok(turns)
+    Ok(())
 }
 
 /// What is handed over.
@@ -77,6 +91,11 @@ impl Out {
             _ => false,
         }
     }
+}
+
+/// Whether just these parts were written to the line as text.
+pub fn is_text(line: &Script, parts: Parts) -> bool {
+    behind(line.text(), parts) == Some(b"")
 }
 
 /// Whether just this was handed over to the line.

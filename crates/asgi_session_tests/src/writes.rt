@@ -1,6 +1,6 @@
 //! Answers and messages that go out in part, or not at all.
 use crate::apps::{Heard, Said, Step};
-use crate::rows::joined;
+use crate::rows::{Written, is_written, joined};
 use crate::scripts::{Given, Out, is_handed, script_of};
 use crate::serving::{App, serve_by};
 use crate::texts::{ACCEPTED, CLOSE, DENIED, FORBIDDEN, HANDSHAKE, HELLO, SERVER_ERROR};
@@ -8,9 +8,10 @@ use asgi_conn::Outcome;
 use asgi_fakes::{Pieces, Sink};
 use asgi_io::Counts;
 use asgi_types::Limits;
-use asgi_ws::{Pair, Wired};
-use std::alloc::AllocGlobal;
-use std::io::ErrorKind;
+use asgi_ws::{Pair, Script, Wired};
+use std::alloc::{AllocError, AllocGlobal};
+use std::io::{self, ErrorKind};
+use std::random::RandomSource;
 use std::test::Fail;
 
 const CONNECTS: Step = Step::Hears(Heard::Connect);
@@ -19,8 +20,11 @@ const ACCEPTS: Step = Step::Says(Said::Accept("", &[]));
 
 const LOSES: Step = Step::Hears(Heard::Disconnect(1006, ""));
 
-/// Answers, of which three bytes go out at a time: the application, and its text.
-const ANSWERS: &[(App, &[u8])] = &[
+/// The application, and its text.
+type Answer = (App, &'static [u8]);
+
+/// Answers, of which three bytes go out at a time.
+const ANSWERS: &[Answer] = &[
     (App::Scripted(&[CONNECTS, ACCEPTS, LOSES, LOSES]), ACCEPTED),
     (App::Hello, FORBIDDEN),
     (App::Scripted(&[CONNECTS]), SERVER_ERROR),
@@ -35,24 +39,42 @@ const ANSWERS: &[(App, &[u8])] = &[
     ),
 ];
 
+/// Whether just so many bytes of the answer are written, and nothing else is done.
+fn is_cut_off<H: RandomSource + AllocGlobal>(
+    rt: &H,
+    row: &Answer,
+    out: usize,
+    line: &mut Script,
+) -> io::Result<bool> {
+    let (report, _) = serve_by(rt, &Limits::usual(), row.0, line)?;
+    let counts = (report.exchanges, report.faults, line.failures());
+    let ended = report.outcome == Outcome::WriteFailed(out) && counts == (1, 0, 1);
+    let is_silent = line.leftover().is_none() && line.received().is_empty();
+    Ok(ended && is_silent && Some(line.text()) == row.1.get(..out))
+}
+
+/// The same over a line that takes so many bytes, three at a time.
+fn stops_at<H: RandomSource + AllocGlobal>(rt: &H, row: &Answer, out: usize) -> io::Result<bool> {
+    let line = script_of(rt.alloc(), &[HANDSHAKE], &[Given::Text("x")])?;
+    let mut line = line.failing_write((out / 3) as u64, 3);
+    is_cut_off(rt, row, out, &mut line)
+}
+
+/// How many bytes go out of the answer where it is cut off in another way first.
+fn wrong_out<H: RandomSource + AllocGlobal>(rt: &H, row: &Answer) -> io::Result<Option<usize>> {
+    for out in 0..row.1.len() {
+        if out % 3 == 0 && !stops_at(rt, row, out)? {
+            return Ok(Some(out));
+        }
+    }
+    Ok(None)
+}
+
 #[test]
 fn an_answer_may_go_out_in_part(rt: HostRuntime) -> Result<(), Fail> {
-    for (place, (app, text)) in ANSWERS.iter().enumerate() {
-        for out in 0..text.len() {
-            if out % 3 != 0 {
-                continue;
-            }
-            let line = script_of(rt.alloc(), HANDSHAKE, &[Given::Text("x")])?;
-            let mut line = line.failing_write((out / 3) as u64, 3);
-            let (report, _) = serve_by(&rt, &Limits::usual(), *app, &mut line)?;
-            let is_silent = line.leftover().is_none() && line.received().is_empty();
-            let counts = (report.exchanges, report.faults, line.failures());
-            assert_eq!(rt;
-                (Some(line.text()), report.outcome, counts, is_silent),
-                (text.get(..out), Outcome::WriteFailed(out), (1, 0, 1), true),
-                "row {place}, {out} bytes"
-            );
-        }
+    for (place, row) in ANSWERS.iter().enumerate() {
+        let out = wrong_out(&rt, row)?;
+        assert_eq!(rt; out, None, "row {place}");
     }
     Ok(())
 }
@@ -109,22 +131,34 @@ const REFUSED: &[Row] = &[
     ),
 ];
 
+fn is_lost<H: RandomSource + AllocGlobal>(
+    rt: &H,
+    row: &Row,
+    line: &mut Script,
+) -> io::Result<bool> {
+    let (report, _) = serve_by(rt, &Limits::usual(), row.0, line)?;
+    let counts = (report.exchanges, report.faults);
+    let ended = report.outcome == Outcome::WriteFailed(0) && counts == (1, row.4);
+    Ok(ended && is_handed(line, row.3) && line.text() == ACCEPTED)
+}
+
+fn loses<H: RandomSource + AllocGlobal>(rt: &H, row: &Row) -> io::Result<bool> {
+    let line = script_of(rt.alloc(), &[HANDSHAKE], row.2)?;
+    let mut line = line.failing_send(row.1);
+    is_lost(rt, row, &mut line)
+}
+
 #[test]
 fn a_message_that_is_refused_is_a_failed_write(rt: HostRuntime) -> Result<(), Fail> {
-    for (place, (app, sends, given, handed, faults)) in REFUSED.iter().enumerate() {
-        let line = script_of(rt.alloc(), HANDSHAKE, given)?;
-        let mut line = line.failing_send(*sends);
-        let (report, _) = serve_by(&rt, &Limits::usual(), *app, &mut line)?;
-        let is_so = is_handed(&line, handed) && line.text() == ACCEPTED;
-        let counts = (report.exchanges, report.faults);
-        assert_eq!(rt;
-            (is_so, report.outcome, counts),
-            (true, Outcome::WriteFailed(0), (1, *faults)),
-            "row {place}"
-        );
+    for (place, row) in REFUSED.iter().enumerate() {
+        let is_so = loses(&rt, row)?;
+        assert!(rt; is_so, "row {place}");
     }
     Ok(())
 }
+
+/// What a writer takes at a time, the call that fails, and what it takes of the echo.
+type Frame = (usize, u64, &'static [u8]);
 
 type SinkLine<'a> = Wired<Pair<Pieces<'a>, Sink>>;
 
@@ -134,7 +168,7 @@ fn line_to<'a, H: AllocGlobal>(
     input: &'a [u8],
     most: usize,
     fails_at: u64,
-) -> Result<SinkLine<'a>, Fail> {
+) -> Result<SinkLine<'a>, AllocError> {
     let taken = Vec::with_capacity(rt.alloc(), 256)?;
     let reader = Pieces::new(input, 4_096, 4_096);
     let writer = Sink {
@@ -156,34 +190,56 @@ fn taken_by<'a>(line: &'a SinkLine<'_>) -> &'a [u8] {
     }
 }
 
-/// What a writer takes at a time, the call that fails, and what it takes of the echo: the accept has 129 bytes, and its
-/// frame 7.
-const FRAMES: &[(usize, u64, &[u8])] = &[
+/// Whether the connection ends by a failed write, with this taken.
+fn is_failed_write<H: RandomSource + AllocGlobal>(
+    rt: &H,
+    app: App,
+    line: &mut SinkLine<'_>,
+    taken: Written<'_>,
+) -> io::Result<bool> {
+    let (report, _) = serve_by(rt, &Limits::usual(), app, line)?;
+    let counts = (report.exchanges, report.faults);
+    let ended = report.outcome == Outcome::WriteFailed(0) && counts == (1, 0);
+    Ok(ended && is_written(taken_by(line), taken))
+}
+
+/// The same over a line of this input, to such a writer.
+fn fails_to<H: RandomSource + AllocGlobal>(
+    rt: &H,
+    app: App,
+    input: &[u8],
+    frame: &Frame,
+    taken: Written<'_>,
+) -> io::Result<bool> {
+    let mut line = line_to(rt, input, frame.0, frame.1)?;
+    is_failed_write(rt, app, &mut line, taken)
+}
+
+/// The accept has 129 bytes, and the frame of the echo 7.
+const FRAMES: &[Frame] = &[
     (200, 2, b""),
     (3, 44, b""),
     (3, 45, b"\x81\x05H"),
     (3, 46, b"\x81\x05Hell"),
 ];
 
+const HEARS_HELLO: App = App::Listens(&[
+    Heard::Connect,
+    Heard::Text("Hello"),
+    Heard::Disconnect(1006, ""),
+]);
+
+fn echo_fails<H: RandomSource + AllocGlobal>(rt: &H, frame: &Frame) -> io::Result<bool> {
+    let input = joined(rt.alloc(), HANDSHAKE, &[HELLO])?;
+    let taken = Written::Just(&[ACCEPTED, frame.2]);
+    fails_to(rt, HEARS_HELLO, &input, frame, taken)
+}
+
 #[test]
 fn a_frame_that_goes_out_in_part_is_a_failed_write(rt: HostRuntime) -> Result<(), Fail> {
-    let hears = App::Listens(&[
-        Heard::Connect,
-        Heard::Text("Hello"),
-        Heard::Disconnect(1006, ""),
-    ]);
-    let input = joined(rt.alloc(), HANDSHAKE, &[HELLO])?;
-    for (place, (most, fails_at, echo)) in FRAMES.iter().enumerate() {
-        let mut line = line_to(&rt, &input, *most, *fails_at)?;
-        let (report, _) = serve_by(&rt, &Limits::usual(), hears, &mut line)?;
-        let wanted = joined(rt.alloc(), ACCEPTED, &[*echo])?;
-        let is_so = taken_by(&line) == wanted.as_slice();
-        let counts = (report.exchanges, report.faults);
-        assert_eq!(rt;
-            (is_so, report.outcome, counts),
-            (true, Outcome::WriteFailed(0), (1, 0)),
-            "row {place}"
-        );
+    for (place, frame) in FRAMES.iter().enumerate() {
+        let is_so = echo_fails(&rt, frame)?;
+        assert!(rt; is_so, "row {place}");
     }
     Ok(())
 }
@@ -197,16 +253,15 @@ const LATE: App = App::Scripted(&[
     Step::Hears(Heard::Disconnect(1000, "")),
 ]);
 
+fn late_fails<H: RandomSource + AllocGlobal>(rt: &H) -> io::Result<bool> {
+    let input = joined(rt.alloc(), HANDSHAKE, &[CLOSE])?;
+    let taken = Written::Around(&[ACCEPTED], b"");
+    fails_to(rt, LATE, &input, &(200, 0, b""), taken)
+}
+
 #[test]
 fn a_message_behind_the_clients_close_is_a_failed_write(rt: HostRuntime) -> Result<(), Fail> {
-    let input = joined(rt.alloc(), HANDSHAKE, &[CLOSE])?;
-    let mut line = line_to(&rt, &input, 200, 0)?;
-    let (report, _) = serve_by(&rt, &Limits::usual(), LATE, &mut line)?;
-    let is_so = taken_by(&line).starts_with(ACCEPTED);
-    let counts = (report.exchanges, report.faults);
-    assert_eq!(rt;
-        (is_so, report.outcome, counts),
-        (true, Outcome::WriteFailed(0), (1, 0))
-    );
+    let is_so = late_fails(&rt)?;
+    assert!(rt; is_so);
     Ok(())
 }
