@@ -13,19 +13,17 @@ use std::alloc::{AllocError, Global};
 use std::process::Abort;
 use std::test::Fail;
 
-/// The names and the values of fields.
-type Fields = &'static [(&'static str, &'static str)];
-
-/// What happens in a row of a table. A number of letters stands for a text of so many.
+/// What happens in a row of a table. A text of fields is `name: value` or empty, and more than
+/// one with `, ` between them; a number of letters stands for a text of so many.
 #[derive(Clone, Copy)]
 enum Step {
-    Start(u16, Fields),
+    Start(u16, &'static str),
     Body(usize),
     LastBody(usize),
-    Accept(&'static str, Fields),
+    Accept(&'static str, &'static str),
     Send,
     Close(u16, usize),
-    DenialStart(u16, Fields),
+    DenialStart(u16, &'static str),
     Denial(usize),
     LastDenial(usize),
     Started,
@@ -66,17 +64,25 @@ fn body(alloc: Global, count: usize) -> Result<Octets, AllocError> {
     Ok(Octets::new(letters(alloc, count)?.into_bytes()))
 }
 
-fn headers_of(alloc: Global, fields: Fields) -> Result<Headers, HeaderError> {
+/// The fields of a text such as `a: b, c: d`.
+fn fields(alloc: Global, text: &str) -> Result<Headers, HeaderError> {
     let mut headers = Headers::new(alloc);
-    add_fields(&mut headers, fields)?;
+    add_fields(&mut headers, text)?;
     Ok(headers)
 }
 
-fn add_fields(headers: &mut Headers, fields: Fields) -> Result<(), HeaderError> {
-    for (name, value) in fields {
-        headers.push(name.as_bytes(), value.as_bytes())?;
+fn add_fields(headers: &mut Headers, text: &str) -> Result<(), HeaderError> {
+    for field in text.split(", ") {
+        add_field(headers, field)?;
     }
     Ok(())
+}
+
+fn add_field(headers: &mut Headers, field: &str) -> Result<(), HeaderError> {
+    match field.split_once(": ") {
+        Some((name, value)) => headers.push(name.as_bytes(), value.as_bytes()),
+        None => Ok(()),
+    }
 }
 
 fn subprotocol(alloc: Global, name: &str) -> Result<Option<Chars>, AllocError> {
@@ -88,14 +94,14 @@ fn subprotocol(alloc: Global, name: &str) -> Result<Option<Chars>, AllocError> {
 
 fn event(alloc: Global, step: Step) -> Result<Outgoing, Fail> {
     match step {
-        Step::Start(status, fields) => {
-            let headers = headers_of(alloc, fields)?;
+        Step::Start(status, text) => {
+            let headers = fields(alloc, text)?;
             Ok(Outgoing::ResponseStart { status, headers })
         }
         Step::Body(count) => part(alloc, count, true),
         Step::LastBody(count) => part(alloc, count, false),
-        Step::DenialStart(status, fields) => {
-            let headers = headers_of(alloc, fields)?;
+        Step::DenialStart(status, text) => {
+            let headers = fields(alloc, text)?;
             Ok(Outgoing::DenialStart { status, headers })
         }
         Step::Denial(count) => denial_part(alloc, count, true),
@@ -116,7 +122,7 @@ fn denial_part(alloc: Global, count: usize, more_body: bool) -> Result<Outgoing,
 
 fn small_event(alloc: Global, step: Step) -> Result<Outgoing, Fail> {
     match step {
-        Step::Accept(name, fields) => accept(alloc, name, fields),
+        Step::Accept(name, text) => accept(alloc, name, text),
         Step::Send => send(alloc),
         Step::Close(code, count) => close(alloc, code, count),
         other => Ok(lifespan_event(alloc, other)),
@@ -152,8 +158,8 @@ fn no_text(alloc: Global) -> Chars {
     Chars::new(String::new(alloc))
 }
 
-fn accept(alloc: Global, name: &str, fields: Fields) -> Result<Outgoing, Fail> {
-    let headers = headers_of(alloc, fields)?;
+fn accept(alloc: Global, name: &str, text: &str) -> Result<Outgoing, Fail> {
+    let headers = fields(alloc, text)?;
     let subprotocol = subprotocol(alloc, name)?;
     Ok(Outgoing::WsAccept {
         subprotocol,
@@ -219,7 +225,7 @@ fn chat(alloc: Global) -> Result<Names, AllocError> {
 /// A step, and the verdict on it.
 type Said = (Step, Verdict);
 
-/// What a part is about, what is heard, and what is said behind it. Where nothing is heard, a judge of its own begins.
+/// What a part is about, what is heard, and what is said behind it.
 type Part = (&'static str, &'static [Heard], &'static [Said]);
 
 /// The scope that a judge is for.
@@ -240,25 +246,21 @@ fn judge_of(scope: Of) -> Judge {
     }
 }
 
-/// Judges hear and are told the parts in order.
+/// A fresh judge hears and is told the parts in order.
 fn judges(rt: &(impl Abort + AllocGlobal), scope: Of, parts: &[Part]) -> Result<(), Fail> {
     let facts = facts(rt.alloc(), scope)?;
-    hears(rt, scope, &facts, parts)
+    hears(rt, &mut judge_of(scope), &facts, parts)
 }
 
 fn hears(
     rt: &(impl Abort + AllocGlobal),
-    scope: Of,
+    judge: &mut Judge,
     facts: &Facts,
     parts: &[Part],
 ) -> Result<(), Fail> {
-    let mut judge = judge_of(scope);
     for (row, heard, steps) in parts {
-        if heard.is_empty() {
-            judge = judge_of(scope);
-        }
-        hear(rt.alloc(), &mut judge, heard);
-        says(rt, &mut judge, facts, row, steps)?;
+        hear(rt.alloc(), judge, heard);
+        says(rt, judge, facts, row, steps)?;
     }
     Ok(())
 }
@@ -267,6 +269,32 @@ fn hear(alloc: Global, judge: &mut Judge, heard: &[Heard]) {
     for event in heard {
         judge.heard(&incoming(alloc, *event));
     }
+}
+
+/// Each step is said to a judge of its own, to which the steps before all were said.
+fn judges_apart(
+    rt: &(impl Abort + AllocGlobal),
+    scope: Of,
+    before: &[Said],
+    steps: &[Said],
+) -> Result<(), Fail> {
+    let facts = facts(rt.alloc(), scope)?;
+    says_apart(rt, &mut judge_of(scope), &facts, before, steps)
+}
+
+fn says_apart(
+    rt: &(impl Abort + AllocGlobal),
+    judge: &mut Judge,
+    facts: &Facts,
+    before: &[Said],
+    steps: &[Said],
+) -> Result<(), Fail> {
+    says(rt, judge, facts, "before", before)?;
+    for (index, said) in steps.iter().enumerate() {
+        let mut own = *judge;
+        says_step(rt, &mut own, facts, ("row", index), *said)?;
+    }
+    Ok(())
 }
 
 /// Says the steps in order.

@@ -1,6 +1,6 @@
 //! HTTP: responses.
 
-use super::{Heard, IGNORED, Of, PASS, Part, Step, judges};
+use super::{Heard, IGNORED, Of, PASS, Part, Said, Step, judges, judges_apart};
 use asgi_protocol::Verdict;
 use std::test::Fail;
 
@@ -10,14 +10,14 @@ const IN_ORDER: &[Part] = &[(
     &[
         (Step::LastBody(1), Verdict::Refused(4)),
         (Step::Body(0), Verdict::Refused(4)),
-        (Step::Start(200, &[]), PASS),
-        (Step::Start(200, &[]), Verdict::Refused(4)),
+        (Step::Start(200, ""), PASS),
+        (Step::Start(200, ""), Verdict::Refused(4)),
         (Step::Body(1), PASS),
         (Step::Body(0), PASS),
-        (Step::Start(200, &[]), Verdict::Refused(4)),
+        (Step::Start(200, ""), Verdict::Refused(4)),
         (Step::LastBody(1), PASS),
         (Step::LastBody(1), IGNORED),
-        (Step::Start(600, &[]), IGNORED),
+        (Step::Start(600, ""), IGNORED),
         (Step::Send, IGNORED),
     ],
 )];
@@ -31,7 +31,7 @@ const LENGTH_5: &[Part] = &[(
     "length 5",
     &[],
     &[
-        (Step::Start(200, &[("content-length", "5")]), PASS),
+        (Step::Start(200, "content-length: 5"), PASS),
         (Step::LastBody(6), Verdict::Refused(10)),
         (Step::Body(6), Verdict::Refused(10)),
         (Step::LastBody(4), Verdict::Refused(11)),
@@ -49,66 +49,65 @@ fn bodies_have_as_many_bytes_as_content_length_says(rt: HostRuntime) -> Result<(
     judges(&rt, Of::Http, LENGTH_5)
 }
 
-const LENGTHS: &[Part] = &[
-    (
-        "length 0",
-        &[],
-        &[
-            (Step::Start(200, &[("content-length", "0")]), PASS),
-            (Step::Body(1), Verdict::Refused(10)),
-            (Step::Body(0), PASS),
-            (Step::LastBody(0), PASS),
-        ],
-    ),
-    (
-        "a length of 19 digits",
-        &[],
-        &[
-            (
-                Step::Start(200, &[("Content-Length", "9999999999999999999")]),
-                PASS,
-            ),
-            (Step::Body(100), PASS),
-            (Step::LastBody(100), Verdict::Refused(11)),
-        ],
-    ),
-];
+const LENGTH_0: &[Part] = &[(
+    "length 0",
+    &[],
+    &[
+        (Step::Start(200, "content-length: 0"), PASS),
+        (Step::Body(1), Verdict::Refused(10)),
+        (Step::Body(0), PASS),
+        (Step::LastBody(0), PASS),
+    ],
+)];
+
+const A_LENGTH_OF_19_DIGITS: &[Part] = &[(
+    "a length of 19 digits",
+    &[],
+    &[
+        (
+            Step::Start(200, "Content-Length: 9999999999999999999"),
+            PASS,
+        ),
+        (Step::Body(100), PASS),
+        (Step::LastBody(100), Verdict::Refused(11)),
+    ],
+)];
 
 #[test]
 fn content_length_is_0_or_has_19_digits(rt: HostRuntime) -> Result<(), Fail> {
-    judges(&rt, Of::Http, LENGTHS)
+    judges(&rt, Of::Http, LENGTH_0)?;
+    judges(&rt, Of::Http, A_LENGTH_OF_19_DIGITS)
 }
 
-const NO_CONTENT: &[Part] = &[
-    (
-        "204",
-        &[],
-        &[
-            (Step::Start(204, &[("content-length", "3")]), PASS),
-            (Step::Body(4), PASS),
-            (Step::LastBody(0), PASS),
-        ],
-    ),
-    (
-        "304",
-        &[],
-        &[
-            (Step::Start(304, &[("content-length", "3")]), PASS),
-            (Step::Body(4), PASS),
-            (Step::LastBody(0), PASS),
-        ],
-    ),
-];
+const WITH_204: &[Part] = &[(
+    "204",
+    &[],
+    &[
+        (Step::Start(204, "content-length: 3"), PASS),
+        (Step::Body(4), PASS),
+        (Step::LastBody(0), PASS),
+    ],
+)];
+
+const WITH_304: &[Part] = &[(
+    "304",
+    &[],
+    &[
+        (Step::Start(304, "content-length: 3"), PASS),
+        (Step::Body(4), PASS),
+        (Step::LastBody(0), PASS),
+    ],
+)];
 
 const HEAD: &[Part] = &[(
     "HEAD",
     &[],
     &[
         (
-            Step::Start(200, &[("content-length", "5"), ("content-length", "5")]),
+            Step::Start(200, "content-length: 5, content-length: 5"),
             Verdict::Refused(6),
         ),
-        (Step::Start(200, &[("content-length", "5")]), PASS),
+        (Step::Start(200, "content-length: 5"), PASS),
         (Step::Body(6), PASS),
         (Step::LastBody(0), PASS),
         (Step::LastBody(0), IGNORED),
@@ -117,266 +116,123 @@ const HEAD: &[Part] = &[(
 
 #[test]
 fn a_response_without_content_has_any_bodies(rt: HostRuntime) -> Result<(), Fail> {
-    judges(&rt, Of::Http, NO_CONTENT)?;
+    judges(&rt, Of::Http, WITH_204)?;
+    judges(&rt, Of::Http, WITH_304)?;
     judges(&rt, Of::Head, HEAD)
 }
 
-const STATUSES: &[Part] = &[
-    ("0", &[], &[(Step::Start(0, &[]), Verdict::Refused(5))]),
-    ("100", &[], &[(Step::Start(100, &[]), Verdict::Refused(5))]),
-    ("199", &[], &[(Step::Start(199, &[]), Verdict::Refused(5))]),
-    ("200", &[], &[(Step::Start(200, &[]), PASS)]),
-    ("299", &[], &[(Step::Start(299, &[]), PASS)]),
-    ("599", &[], &[(Step::Start(599, &[]), PASS)]),
-    ("600", &[], &[(Step::Start(600, &[]), Verdict::Refused(5))]),
-    (
-        "65535",
-        &[],
-        &[(Step::Start(65_535, &[]), Verdict::Refused(5))],
-    ),
+const STATUSES: &[Said] = &[
+    (Step::Start(0, ""), Verdict::Refused(5)),
+    (Step::Start(100, ""), Verdict::Refused(5)),
+    (Step::Start(199, ""), Verdict::Refused(5)),
+    (Step::Start(200, ""), PASS),
+    (Step::Start(299, ""), PASS),
+    (Step::Start(599, ""), PASS),
+    (Step::Start(600, ""), Verdict::Refused(5)),
+    (Step::Start(65_535, ""), Verdict::Refused(5)),
 ];
 
-const DENIAL_STATUSES: &[Part] = &[
-    (
-        "0",
-        &[],
-        &[(Step::DenialStart(0, &[]), Verdict::Refused(5))],
-    ),
-    (
-        "100",
-        &[],
-        &[(Step::DenialStart(100, &[]), Verdict::Refused(5))],
-    ),
-    (
-        "199",
-        &[],
-        &[(Step::DenialStart(199, &[]), Verdict::Refused(5))],
-    ),
-    ("200", &[], &[(Step::DenialStart(200, &[]), PASS)]),
-    ("299", &[], &[(Step::DenialStart(299, &[]), PASS)]),
-    ("599", &[], &[(Step::DenialStart(599, &[]), PASS)]),
-    (
-        "600",
-        &[],
-        &[(Step::DenialStart(600, &[]), Verdict::Refused(5))],
-    ),
-    (
-        "65535",
-        &[],
-        &[(Step::DenialStart(65_535, &[]), Verdict::Refused(5))],
-    ),
+const DENIAL_STATUSES: &[Said] = &[
+    (Step::DenialStart(0, ""), Verdict::Refused(5)),
+    (Step::DenialStart(100, ""), Verdict::Refused(5)),
+    (Step::DenialStart(199, ""), Verdict::Refused(5)),
+    (Step::DenialStart(200, ""), PASS),
+    (Step::DenialStart(299, ""), PASS),
+    (Step::DenialStart(599, ""), PASS),
+    (Step::DenialStart(600, ""), Verdict::Refused(5)),
+    (Step::DenialStart(65_535, ""), Verdict::Refused(5)),
 ];
 
 #[test]
 fn a_status_is_200_to_599(rt: HostRuntime) -> Result<(), Fail> {
-    judges(&rt, Of::Http, STATUSES)?;
-    judges(&rt, Of::WebSocket, DENIAL_STATUSES)
+    judges_apart(&rt, Of::Http, &[], STATUSES)?;
+    judges_apart(&rt, Of::WebSocket, &[], DENIAL_STATUSES)
 }
 
-const FIELDS: &[Part] = &[
-    ("no field", &[], &[(Step::Start(200, &[]), PASS)]),
+const FIELDS: &[Said] = &[
+    (Step::Start(200, ""), PASS),
+    (Step::Start(200, "content-length: 0"), PASS),
     (
-        "content-length: 0",
-        &[],
-        &[(Step::Start(200, &[("content-length", "0")]), PASS)],
+        Step::Start(200, "content-length: 0000000000000000005"),
+        PASS,
     ),
     (
-        "content-length: 0000000000000000005",
-        &[],
-        &[(
-            Step::Start(200, &[("content-length", "0000000000000000005")]),
-            PASS,
-        )],
+        Step::Start(200, "content-length: 9999999999999999999"),
+        PASS,
     ),
     (
-        "content-length: 9999999999999999999",
-        &[],
-        &[(
-            Step::Start(200, &[("content-length", "9999999999999999999")]),
-            PASS,
-        )],
+        Step::Start(200, "content-length: 10000000000000000000"),
+        Verdict::Refused(6),
+    ),
+    (Step::Start(200, "content-length: "), Verdict::Refused(6)),
+    (Step::Start(200, "content-length: +5"), Verdict::Refused(6)),
+    (Step::Start(200, "content-length: -5"), Verdict::Refused(6)),
+    (Step::Start(200, "content-length:  5"), Verdict::Refused(6)),
+    (Step::Start(200, "content-length: 5a"), Verdict::Refused(6)),
+    (
+        Step::Start(200, "content-length: 5, content-length: 5"),
+        Verdict::Refused(6),
     ),
     (
-        "content-length: 10000000000000000000",
-        &[],
-        &[(
-            Step::Start(200, &[("content-length", "10000000000000000000")]),
-            Verdict::Refused(6),
-        )],
+        Step::Start(200, "content-length: 5, x: y, Content-Length: 6"),
+        Verdict::Refused(6),
     ),
-    (
-        "content-length: ",
-        &[],
-        &[(
-            Step::Start(200, &[("content-length", "")]),
-            Verdict::Refused(6),
-        )],
-    ),
-    (
-        "content-length: +5",
-        &[],
-        &[(
-            Step::Start(200, &[("content-length", "+5")]),
-            Verdict::Refused(6),
-        )],
-    ),
-    (
-        "content-length: -5",
-        &[],
-        &[(
-            Step::Start(200, &[("content-length", "-5")]),
-            Verdict::Refused(6),
-        )],
-    ),
-    (
-        "content-length:  5",
-        &[],
-        &[(
-            Step::Start(200, &[("content-length", " 5")]),
-            Verdict::Refused(6),
-        )],
-    ),
-    (
-        "content-length: 5a",
-        &[],
-        &[(
-            Step::Start(200, &[("content-length", "5a")]),
-            Verdict::Refused(6),
-        )],
-    ),
-    (
-        "content-length: 5, content-length: 5",
-        &[],
-        &[(
-            Step::Start(200, &[("content-length", "5"), ("content-length", "5")]),
-            Verdict::Refused(6),
-        )],
-    ),
-    (
-        "content-length: 5, x: y, Content-Length: 6",
-        &[],
-        &[(
-            Step::Start(
-                200,
-                &[("content-length", "5"), ("x", "y"), ("Content-Length", "6")],
-            ),
-            Verdict::Refused(6),
-        )],
-    ),
-    (
-        "content-lengths: a, upgrade: b",
-        &[],
-        &[(
-            Step::Start(200, &[("content-lengths", "a"), ("upgrade", "b")]),
-            PASS,
-        )],
-    ),
+    (Step::Start(200, "content-lengths: a, upgrade: b"), PASS),
 ];
 
-const DENIAL_FIELDS: &[Part] = &[
-    ("no field", &[], &[(Step::DenialStart(401, &[]), PASS)]),
+const DENIAL_FIELDS: &[Said] = &[
+    (Step::DenialStart(401, ""), PASS),
+    (Step::DenialStart(401, "content-length: 0"), PASS),
     (
-        "content-length: 0",
-        &[],
-        &[(Step::DenialStart(401, &[("content-length", "0")]), PASS)],
+        Step::DenialStart(401, "content-length: 0000000000000000005"),
+        PASS,
     ),
     (
-        "content-length: 0000000000000000005",
-        &[],
-        &[(
-            Step::DenialStart(401, &[("content-length", "0000000000000000005")]),
-            PASS,
-        )],
+        Step::DenialStart(401, "content-length: 9999999999999999999"),
+        PASS,
     ),
     (
-        "content-length: 9999999999999999999",
-        &[],
-        &[(
-            Step::DenialStart(401, &[("content-length", "9999999999999999999")]),
-            PASS,
-        )],
+        Step::DenialStart(401, "content-length: 10000000000000000000"),
+        Verdict::Refused(6),
     ),
     (
-        "content-length: 10000000000000000000",
-        &[],
-        &[(
-            Step::DenialStart(401, &[("content-length", "10000000000000000000")]),
-            Verdict::Refused(6),
-        )],
+        Step::DenialStart(401, "content-length: "),
+        Verdict::Refused(6),
     ),
     (
-        "content-length: ",
-        &[],
-        &[(
-            Step::DenialStart(401, &[("content-length", "")]),
-            Verdict::Refused(6),
-        )],
+        Step::DenialStart(401, "content-length: +5"),
+        Verdict::Refused(6),
     ),
     (
-        "content-length: +5",
-        &[],
-        &[(
-            Step::DenialStart(401, &[("content-length", "+5")]),
-            Verdict::Refused(6),
-        )],
+        Step::DenialStart(401, "content-length: -5"),
+        Verdict::Refused(6),
     ),
     (
-        "content-length: -5",
-        &[],
-        &[(
-            Step::DenialStart(401, &[("content-length", "-5")]),
-            Verdict::Refused(6),
-        )],
+        Step::DenialStart(401, "content-length:  5"),
+        Verdict::Refused(6),
     ),
     (
-        "content-length:  5",
-        &[],
-        &[(
-            Step::DenialStart(401, &[("content-length", " 5")]),
-            Verdict::Refused(6),
-        )],
+        Step::DenialStart(401, "content-length: 5a"),
+        Verdict::Refused(6),
     ),
     (
-        "content-length: 5a",
-        &[],
-        &[(
-            Step::DenialStart(401, &[("content-length", "5a")]),
-            Verdict::Refused(6),
-        )],
+        Step::DenialStart(401, "content-length: 5, content-length: 5"),
+        Verdict::Refused(6),
     ),
     (
-        "content-length: 5, content-length: 5",
-        &[],
-        &[(
-            Step::DenialStart(401, &[("content-length", "5"), ("content-length", "5")]),
-            Verdict::Refused(6),
-        )],
+        Step::DenialStart(401, "content-length: 5, x: y, Content-Length: 6"),
+        Verdict::Refused(6),
     ),
     (
-        "content-length: 5, x: y, Content-Length: 6",
-        &[],
-        &[(
-            Step::DenialStart(
-                401,
-                &[("content-length", "5"), ("x", "y"), ("Content-Length", "6")],
-            ),
-            Verdict::Refused(6),
-        )],
-    ),
-    (
-        "content-lengths: a, upgrade: b",
-        &[],
-        &[(
-            Step::DenialStart(401, &[("content-lengths", "a"), ("upgrade", "b")]),
-            PASS,
-        )],
+        Step::DenialStart(401, "content-lengths: a, upgrade: b"),
+        PASS,
     ),
 ];
 
 #[test]
 fn content_length_is_one_field_of_1_to_19_digits(rt: HostRuntime) -> Result<(), Fail> {
-    judges(&rt, Of::Http, FIELDS)?;
-    judges(&rt, Of::WebSocket, DENIAL_FIELDS)
+    judges_apart(&rt, Of::Http, &[], FIELDS)?;
+    judges_apart(&rt, Of::WebSocket, &[], DENIAL_FIELDS)
 }
 
 const TWO_REASONS: &[Part] = &[(
@@ -386,17 +242,11 @@ const TWO_REASONS: &[Part] = &[(
         (Step::Close(1_005, 124), Verdict::Refused(3)),
         (Step::Started, Verdict::Refused(3)),
         (Step::LastBody(9), Verdict::Refused(4)),
-        (
-            Step::Start(600, &[("content-length", "x")]),
-            Verdict::Refused(5),
-        ),
-        (
-            Step::Start(200, &[("content-length", "x")]),
-            Verdict::Refused(6),
-        ),
-        (Step::Start(200, &[("content-length", "3")]), PASS),
-        (Step::Start(600, &[]), Verdict::Refused(4)),
-        (Step::DenialStart(600, &[]), Verdict::Refused(3)),
+        (Step::Start(600, "content-length: x"), Verdict::Refused(5)),
+        (Step::Start(200, "content-length: x"), Verdict::Refused(6)),
+        (Step::Start(200, "content-length: 3"), PASS),
+        (Step::Start(600, ""), Verdict::Refused(4)),
+        (Step::DenialStart(600, ""), Verdict::Refused(3)),
         (Step::LastBody(4), Verdict::Refused(10)),
         (Step::LastBody(2), Verdict::Refused(11)),
         (Step::LastBody(3), PASS),
@@ -409,21 +259,14 @@ fn the_first_reason_counts(rt: HostRuntime) -> Result<(), Fail> {
 }
 
 const BEGUN: &[Part] = &[
-    (
-        "before",
-        &[Heard::Request],
-        &[(Step::Start(200, &[]), PASS)],
-    ),
+    ("before", &[Heard::Request], &[(Step::Start(200, ""), PASS)]),
     (
         "behind",
         &[Heard::HttpDisconnect, Heard::Request],
         &[
             (Step::LastBody(1), Verdict::Refused(2)),
             (Step::Send, Verdict::Refused(2)),
-            (
-                Step::Start(600, &[("content-length", "x")]),
-                Verdict::Refused(2),
-            ),
+            (Step::Start(600, "content-length: x"), Verdict::Refused(2)),
         ],
     ),
 ];
@@ -432,7 +275,7 @@ const WHOLE: &[Part] = &[
     (
         "whole",
         &[],
-        &[(Step::Start(200, &[]), PASS), (Step::LastBody(1), PASS)],
+        &[(Step::Start(200, ""), PASS), (Step::LastBody(1), PASS)],
     ),
     (
         "whole and disconnected",

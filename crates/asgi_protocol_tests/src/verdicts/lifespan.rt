@@ -1,47 +1,49 @@
 //! Lifespan: start and stop.
 
-use super::{Heard, Of, PASS, Part, Step, judges};
+use super::{Heard, Of, PASS, Part, Said, Step, judges};
 use asgi_protocol::{Verdict, Violation};
 use std::test::Fail;
 
-const STARTS: &[Part] = &[
-    (
-        "complete",
-        &[],
-        &[
-            (Step::Stopped, Verdict::Refused(4)),
-            (Step::NotStopped, Verdict::Refused(4)),
-            (Step::Start(200, &[]), Verdict::Refused(3)),
-            (Step::Started, PASS),
-            (Step::Started, Verdict::Refused(4)),
-            (Step::NotStarted, Verdict::Refused(4)),
-            (Step::Stopped, PASS),
-            (Step::NotStopped, Verdict::Refused(1)),
-        ],
-    ),
-    (
-        "failed",
-        &[],
-        &[
-            (Step::NotStarted, PASS),
-            (Step::Started, Verdict::Refused(1)),
-            (Step::Send, Verdict::Refused(1)),
-        ],
-    ),
-    (
-        "not stopped",
-        &[],
-        &[
-            (Step::Started, PASS),
-            (Step::NotStopped, PASS),
-            (Step::Stopped, Verdict::Refused(1)),
-        ],
-    ),
-];
+const COMPLETE: &[Part] = &[(
+    "complete",
+    &[],
+    &[
+        (Step::Stopped, Verdict::Refused(4)),
+        (Step::NotStopped, Verdict::Refused(4)),
+        (Step::Start(200, ""), Verdict::Refused(3)),
+        (Step::Started, PASS),
+        (Step::Started, Verdict::Refused(4)),
+        (Step::NotStarted, Verdict::Refused(4)),
+        (Step::Stopped, PASS),
+        (Step::NotStopped, Verdict::Refused(1)),
+    ],
+)];
+
+const FAILED_START: &[Part] = &[(
+    "failed",
+    &[],
+    &[
+        (Step::NotStarted, PASS),
+        (Step::Started, Verdict::Refused(1)),
+        (Step::Send, Verdict::Refused(1)),
+    ],
+)];
+
+const NOT_STOPPED: &[Part] = &[(
+    "not stopped",
+    &[],
+    &[
+        (Step::Started, PASS),
+        (Step::NotStopped, PASS),
+        (Step::Stopped, Verdict::Refused(1)),
+    ],
+)];
 
 #[test]
 fn a_start_is_answered_and_then_a_stop(rt: HostRuntime) -> Result<(), Fail> {
-    judges(&rt, Of::Lifespan, STARTS)
+    judges(&rt, Of::Lifespan, COMPLETE)?;
+    judges(&rt, Of::Lifespan, FAILED_START)?;
+    judges(&rt, Of::Lifespan, NOT_STOPPED)
 }
 
 const STARTED: &[Part] = &[
