@@ -1,5 +1,5 @@
 //! Bodies of an announced length: blocks, and what follows them.
-use crate::calls::{blocks_of_4, usual};
+use crate::calls::Setting;
 use crate::feeding::{Row, gives};
 use std::test::Fail;
 
@@ -16,7 +16,7 @@ const EMPTY: &[Row] = &[
 
 #[test]
 fn an_empty_body_has_one_event(rt: HostRuntime) -> Result<(), Fail> {
-    gives(&rt, rt.alloc(), blocks_of_4(), EMPTY)
+    gives(&rt, rt.alloc(), Setting::Blocks, EMPTY)
 }
 
 const CUT: &[Row] = &[
@@ -32,7 +32,7 @@ const CUT: &[Row] = &[
 
 #[test]
 fn a_body_is_cut_into_blocks(rt: HostRuntime) -> Result<(), Fail> {
-    gives(&rt, rt.alloc(), blocks_of_4(), CUT)
+    gives(&rt, rt.alloc(), Setting::Blocks, CUT)
 }
 
 const OPEN: &[Row] = &[
@@ -48,7 +48,7 @@ const OPEN: &[Row] = &[
 
 #[test]
 fn a_block_is_given_once_it_is_whole(rt: HostRuntime) -> Result<(), Fail> {
-    gives(&rt, rt.alloc(), blocks_of_4(), OPEN)
+    gives(&rt, rt.alloc(), Setting::Blocks, OPEN)
 }
 
 const FOLLOWED: &[Row] = &[
@@ -68,7 +68,7 @@ const FOLLOWED: &[Row] = &[
 
 #[test]
 fn the_next_request_follows_a_body(rt: HostRuntime) -> Result<(), Fail> {
-    gives(&rt, rt.alloc(), blocks_of_4(), FOLLOWED)
+    gives(&rt, rt.alloc(), Setting::Blocks, FOLLOWED)
 }
 
 const UNEXPECTED: &[Row] = &[(
@@ -78,7 +78,7 @@ const UNEXPECTED: &[Row] = &[(
 
 #[test]
 fn nothing_is_expected_in_http_10(rt: HostRuntime) -> Result<(), Fail> {
-    gives(&rt, rt.alloc(), blocks_of_4(), UNEXPECTED)
+    gives(&rt, rt.alloc(), Setting::Blocks, UNEXPECTED)
 }
 
 /// The whole length is one block, and nothing is given of a part of it.
@@ -101,5 +101,5 @@ const USUAL: &[Row] = &[
 
 #[test]
 fn the_usual_block_is_larger(rt: HostRuntime) -> Result<(), Fail> {
-    gives(&rt, rt.alloc(), usual(), USUAL)
+    gives(&rt, rt.alloc(), Setting::Usual, USUAL)
 }

@@ -14,9 +14,51 @@ pub fn of_given<T: Drop, E: Drop, S, F: FnOnce(&T) -> S>(
     Ok(says(&result))
 }
 
+/// The same, where it is said beside something else.
+pub fn of_given_beside<T: Drop, E: Drop, B, S, F: FnOnce(&T, &B) -> S>(
+    given: Result<T, E>,
+    beside: &B,
+    says: F,
+) -> Result<S, E>
+    requires { F.IsAlwaysCallable says }
+{
+    let result = given?;
+    Ok(says(&result, beside))
+}
+
+/// The limits of a reader, by what they are for.
+#[derive(Clone, Copy)]
+pub enum Setting {
+    Usual,
+    /// Blocks of 4.
+    Blocks,
+    /// Heads of 64 bytes, with two fields, and blocks and bodies of 4.
+    Small,
+    /// No body, and two fields.
+    NoBody,
+    /// The greatest limits on a head, with bodies of 1 MiB in blocks of so many bytes.
+    Greatest(usize),
+}
+
+fn limits_of(setting: Setting) -> Limits {
+    match setting {
+        Setting::Usual => Limits::usual(),
+        Setting::Blocks => limits(16_384, 64, 1_048_576, 4),
+        Setting::Small => limits(64, 2, 4, 4),
+        Setting::NoBody => limits(16_384, 2, 0, 4),
+        Setting::Greatest(block) => limits(65_535, 128, 1_048_576, block),
+    }
+}
+
+/// The usual limits but for these.
+fn limits(max_head: usize, max_headers: usize, max_body: u64, block: usize) -> Limits {
+    let made = Limits::new(max_head, max_headers, max_body, block, 16, 30_000, 1 << 40);
+    made.unwrap_or(Limits::usual())
+}
+
 // What a test proves needs none of the clauses of these calls.
-pub fn new_reader(alloc: Global, limits: Limits) -> RequestReader {
-    RequestReader::new(alloc, limits)
+pub fn new_reader(alloc: Global, setting: Setting) -> RequestReader {
+    RequestReader::new(alloc, limits_of(setting))
 }
 
 pub fn put(reader: &mut RequestReader, piece: &[u8]) -> Result<(), AllocError> {
@@ -31,22 +73,6 @@ pub fn held(reader: &RequestReader) -> &[u8] {
     reader.held()
 }
 
-/// The usual limits but for these.
-pub fn limits(max_head: usize, max_headers: usize, max_body: u64, block: usize) -> Limits {
-    Limits::new(max_head, max_headers, max_body, block, 16, 30_000, 1 << 40).unwrap_or(
-        Limits::usual(),
-    )
-}
-
-pub fn usual() -> Limits {
-    Limits::usual()
-}
-
-/// The usual limits but for blocks of 4.
-pub fn blocks_of_4() -> Limits {
-    limits(16_384, 64, 1_048_576, 4)
-}
-
 pub fn is_head(next: &Next) -> bool {
     matches!(next, Next::Head(_, _))
 }
@@ -59,12 +85,20 @@ pub fn is_need(next: &Next) -> bool {
     matches!(next, Next::Need)
 }
 
+/// A block of a body, and whether more follows.
+pub type Block<'a> = (&'a [u8], bool);
+
 /// Whether it is this block of a body.
-pub fn is_event(next: &Next, block: &[u8], more: bool) -> bool {
+pub fn is_event(next: &Next, block: &Block) -> bool {
     let Next::Event(Incoming::HttpRequest { body, more_body }) = next else {
         return false;
     };
-    body.bytes() == block && *more_body == more
+    body.bytes() == block.0 && *more_body == block.1
+}
+
+/// Whether the bytes are what the reader holds.
+pub fn holds(reader: &RequestReader, bytes: &[u8]) -> bool {
+    held(reader) == bytes
 }
 
 /// Whether the reader needs more bytes; it gives its next result away.

@@ -1,5 +1,5 @@
 //! Chunked bodies: chunks, blocks, trailer sections, and what is none of them.
-use crate::calls::blocks_of_4;
+use crate::calls::Setting;
 use crate::feeding::{Row, gives_in_all_ways};
 use crate::inputs::joined;
 use std::alloc::Global;
@@ -20,7 +20,7 @@ fn bodies_give(rt: &impl Abort, alloc: Global, rows: &[Row]) -> Result<(), Fail>
 
 fn body_gives(rt: &impl Abort, alloc: Global, body: &[u8], wanted: &str) -> Result<(), Fail> {
     let bytes = joined(alloc, &[HEAD, body])?;
-    gives_in_all_ways(rt, alloc, blocks_of_4(), &bytes, wanted)
+    gives_in_all_ways(rt, alloc, Setting::Blocks, &bytes, wanted)
 }
 
 const CHUNKS: &[Row] = &[

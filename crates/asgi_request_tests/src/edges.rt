@@ -1,16 +1,10 @@
 //! Inputs at the edge of each limit, and one past it.
-use crate::calls::limits;
+use crate::calls::Setting;
 use crate::feeding::{Row, gives, gives_in_all_ways};
 use crate::inputs::filled;
-use asgi_types::Limits;
 use std::alloc::Global;
 use std::process::Abort;
 use std::test::Fail;
-
-/// Heads of 64 bytes, with two fields, and blocks and bodies of 4.
-fn small() -> Limits {
-    limits(64, 2, 4, 4)
-}
 
 /// A front, how many letters stand behind it, the end, and the words of what the reader gives of it.
 type Filled = (&'static [u8], usize, &'static [u8], &'static str);
@@ -18,7 +12,7 @@ type Filled = (&'static [u8], usize, &'static [u8], &'static str);
 fn filled_give(rt: &impl Abort, alloc: Global, rows: &[Filled]) -> Result<(), Fail> {
     for (front, letters, end, wanted) in rows {
         let bytes = filled(alloc, front, *letters, end)?;
-        gives_in_all_ways(rt, alloc, small(), &bytes, wanted)?;
+        gives_in_all_ways(rt, alloc, Setting::Small, &bytes, wanted)?;
     }
     Ok(())
 }
@@ -47,7 +41,7 @@ const EMPTY_LINES: &[Row] = &[(&[&[b'\n'; 64]], " bad 431"), (&[&[b'\n'; 63]], "
 
 #[test]
 fn empty_lines_count_in_a_head(rt: HostRuntime) -> Result<(), Fail> {
-    gives(&rt, rt.alloc(), small(), EMPTY_LINES)
+    gives(&rt, rt.alloc(), Setting::Small, EMPTY_LINES)
 }
 
 const FIELDS: &[Row] = &[(
@@ -57,7 +51,7 @@ const FIELDS: &[Row] = &[(
 
 #[test]
 fn a_head_keeps_to_its_count_of_fields(rt: HostRuntime) -> Result<(), Fail> {
-    gives(&rt, rt.alloc(), small(), FIELDS)
+    gives(&rt, rt.alloc(), Setting::Small, FIELDS)
 }
 
 const SECTIONS: &[Filled] = &[
@@ -113,7 +107,7 @@ const LENGTHS: &[Row] = &[
 
 #[test]
 fn a_body_keeps_to_its_length(rt: HostRuntime) -> Result<(), Fail> {
-    gives(&rt, rt.alloc(), small(), LENGTHS)
+    gives(&rt, rt.alloc(), Setting::Small, LENGTHS)
 }
 
 /// The sum of the chunks counts.
@@ -140,7 +134,7 @@ const SUMS: &[Row] = &[
 
 #[test]
 fn a_chunked_body_keeps_to_its_length(rt: HostRuntime) -> Result<(), Fail> {
-    gives(&rt, rt.alloc(), small(), SUMS)
+    gives(&rt, rt.alloc(), Setting::Small, SUMS)
 }
 
 const TRAILERS: &[Row] = &[
@@ -160,7 +154,7 @@ const TRAILERS: &[Row] = &[
 
 #[test]
 fn a_trailer_section_keeps_to_its_count_of_fields(rt: HostRuntime) -> Result<(), Fail> {
-    gives(&rt, rt.alloc(), small(), TRAILERS)
+    gives(&rt, rt.alloc(), Setting::Small, TRAILERS)
 }
 
 const NO_BODY: &[Row] = &[
@@ -184,5 +178,5 @@ const NO_BODY: &[Row] = &[
 
 #[test]
 fn no_body_may_be_served(rt: HostRuntime) -> Result<(), Fail> {
-    gives(&rt, rt.alloc(), limits(16_384, 2, 0, 4), NO_BODY)
+    gives(&rt, rt.alloc(), Setting::NoBody, NO_BODY)
 }

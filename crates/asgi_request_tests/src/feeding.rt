@@ -1,7 +1,7 @@
 //! Requests that are fed in many ways, and what the reader gives of them, in words.
-use crate::calls::{new_reader, of_given, put, take};
+use crate::calls::{Setting, new_reader, of_given, put, take};
 use asgi_request::{Next, RequestReader};
-use asgi_types::{Facts, Framing, Incoming, Limits, Scope};
+use asgi_types::{Facts, Framing, HttpScope, Incoming, Scope};
 use std::alloc::{AllocError, Global};
 use std::process::Abort;
 use std::test::Fail;
@@ -10,10 +10,10 @@ use std::test::Fail;
 pub type Row = (&'static [&'static [u8]], &'static str);
 
 /// The reader gives these words of each input, fed in all ways.
-pub fn gives(rt: &impl Abort, alloc: Global, limits: Limits, rows: &[Row]) -> Result<(), Fail> {
+pub fn gives(rt: &impl Abort, alloc: Global, setting: Setting, rows: &[Row]) -> Result<(), Fail> {
     for (inputs, wanted) in rows {
         for bytes in *inputs {
-            gives_in_all_ways(rt, alloc, limits, bytes, wanted)?;
+            gives_in_all_ways(rt, alloc, setting, bytes, wanted)?;
         }
     }
     Ok(())
@@ -24,24 +24,24 @@ pub fn gives(rt: &impl Abort, alloc: Global, limits: Limits, rows: &[Row]) -> Re
 pub fn gives_in_all_ways(
     rt: &impl Abort,
     alloc: Global,
-    limits: Limits,
+    setting: Setting,
     bytes: &[u8],
     wanted: &str,
 ) -> Result<(), Fail> {
-    gives_in_pieces(rt, alloc, limits, bytes, &[1, 2, 7, 1_000], wanted)?;
-    gives_in_two(rt, alloc, limits, bytes, wanted)
+    gives_in_pieces(rt, alloc, setting, bytes, &[1, 2, 7, 1_000], wanted)?;
+    gives_in_two(rt, alloc, setting, bytes, wanted)
 }
 
 pub fn gives_in_pieces(
     rt: &impl Abort,
     alloc: Global,
-    limits: Limits,
+    setting: Setting,
     bytes: &[u8],
     sizes: &[usize],
     wanted: &str,
 ) -> Result<(), Fail> {
     for size in sizes {
-        let words = in_pieces(alloc, limits, bytes, *size)?;
+        let words = in_pieces(alloc, setting, bytes, *size)?;
         are(rt, words.as_str(), wanted, "in pieces of", *size);
     }
     Ok(())
@@ -50,29 +50,29 @@ pub fn gives_in_pieces(
 fn gives_in_two(
     rt: &impl Abort,
     alloc: Global,
-    limits: Limits,
+    setting: Setting,
     bytes: &[u8],
     wanted: &str,
 ) -> Result<(), Fail> {
     for cut in 0..bytes.len() {
-        let words = in_two(alloc, limits, bytes, cut)?;
+        let words = in_two(alloc, setting, bytes, cut)?;
         are(rt, words.as_str(), wanted, "cut at", cut);
     }
     Ok(())
 }
 
-fn are(rt: &impl Abort, words: &str, wanted: &str, how: &str, count: usize) {
+pub fn are(rt: &impl Abort, words: &str, wanted: &str, how: &str, count: usize) {
     assert_eq!(rt; words, wanted, "{how} {count}");
 }
 
 /// What the reader gives of the bytes, fed in pieces of so many.
 fn in_pieces(
     alloc: Global,
-    limits: Limits,
+    setting: Setting,
     bytes: &[u8],
     size: usize,
 ) -> Result<String, AllocError> {
-    let mut reader = new_reader(alloc, limits);
+    let mut reader = new_reader(alloc, setting);
     feed_pieces(&mut reader, bytes, size, String::new(alloc))
 }
 
@@ -96,8 +96,8 @@ fn feed_pieces(
 }
 
 /// What the reader gives of the bytes, fed up to the cut and then from it on.
-fn in_two(alloc: Global, limits: Limits, bytes: &[u8], cut: usize) -> Result<String, AllocError> {
-    let mut reader = new_reader(alloc, limits);
+fn in_two(alloc: Global, setting: Setting, bytes: &[u8], cut: usize) -> Result<String, AllocError> {
+    let mut reader = new_reader(alloc, setting);
     let (front, behind) = bytes.split_at(cut.min(bytes.len()));
     feed_parts(&mut reader, &[front, behind], String::new(alloc))
 }
@@ -156,13 +156,35 @@ fn add_words(next: &Next, words: &mut String) -> Result<(), AllocError> {
 fn add_head(scope: &Scope, facts: &Facts, words: &mut String) -> Result<(), AllocError> {
     words.push_str("head ")?;
     if let Scope::Http(http) = scope {
-        words.push_str(http.method.as_str())?;
+        add_scope(http, words)?;
     }
-    add_framing(facts.framing, words)?;
+    words.push_str(framing_word(facts.framing))?;
     add_flag(facts.head_only, " head_only", words)?;
     add_flag(facts.close, " close", words)?;
     add_flag(facts.expect, " expect", words)?;
     words.push_str(";")
+}
+
+/// The method, and behind `OPTIONS` the path, the raw path and the query string.
+fn add_scope(http: &HttpScope, words: &mut String) -> Result<(), AllocError> {
+    words.push_str(http.method.as_str())?;
+    if http.method.as_str() != "OPTIONS" {
+        return Ok(());
+    }
+    words.push_str(" [")?;
+    words.push_str(http.path.as_str())?;
+    words.push_str("] [")?;
+    add_bytes(http.raw_path.bytes(), words)?;
+    words.push_str("] [")?;
+    add_bytes(http.query_string.bytes(), words)?;
+    words.push_str("]")
+}
+
+pub fn add_bytes(bytes: &[u8], words: &mut String) -> Result<(), AllocError> {
+    for b in bytes {
+        words.push(*b as char)?;
+    }
+    Ok(())
 }
 
 fn add_flag(holds: bool, word: &str, words: &mut String) -> Result<(), AllocError> {
@@ -172,11 +194,25 @@ fn add_flag(holds: bool, word: &str, words: &mut String) -> Result<(), AllocErro
     Ok(())
 }
 
-fn add_framing(framing: Framing, words: &mut String) -> Result<(), AllocError> {
+fn framing_word(framing: Framing) -> &'static str {
     match framing {
-        Framing::Length(n) => write!(words, " {n}"),
-        Framing::Chunked => words.push_str(" chunked"),
-        Framing::Upgrade => words.push_str(" upgrade"),
+        Framing::Length(n) => length_word(n),
+        Framing::Chunked => " chunked",
+        Framing::Upgrade => " upgrade",
+    }
+}
+
+/// A length that stands in a row.
+fn length_word(length: u64) -> &'static str {
+    match length {
+        0 => " 0",
+        3 => " 3",
+        4 => " 4",
+        5 => " 5",
+        8 => " 8",
+        9 => " 9",
+        10 => " 10",
+        _ => " another length",
     }
 }
 
@@ -185,9 +221,7 @@ fn add_event(event: &Incoming, words: &mut String) -> Result<(), AllocError> {
         return words.push_str(" another event");
     };
     words.push_str(if *more_body { " more(" } else { " last(" })?;
-    for b in body.bytes() {
-        words.push(*b as char)?;
-    }
+    add_bytes(body.bytes(), words)?;
     words.push_str(")")
 }
 

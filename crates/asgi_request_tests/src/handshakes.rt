@@ -1,7 +1,7 @@
 //! What a reader gives of an opening handshake, and which bytes stand behind it (RFC 6455, section 4.2.1).
-use crate::calls::{held, new_reader, of_given, put, take};
+use crate::calls::{Setting, holds, is_need, is_whole, new_reader, of_given, put, take};
 use asgi_request::{Next, RequestReader};
-use asgi_types::{Facts, Framing, Limits, Scope};
+use asgi_types::{Facts, Framing, Scope};
 use std::alloc::{AllocError, Global};
 use std::test::Fail;
 
@@ -33,40 +33,51 @@ fn are_facts(facts: &Facts) -> bool {
         && !facts.expect
 }
 
-fn is_whole(next: &Next) -> bool {
-    matches!(next, Next::Whole)
-}
-
-fn is_need(next: &Next) -> bool {
-    matches!(next, Next::Need)
-}
-
 /// What stands behind the handshake, where it was given.
 fn keeps(reader: RequestReader) -> bool {
-    held(&reader) == FRAME && reader.rest().as_slice() == FRAME
+    let is_held = holds(&reader, FRAME);
+    let rest = rest_of(reader);
+    is_held && rest.as_slice() == FRAME
 }
 
-/// Fed in two pieces, it is given with nothing behind it, and the frame stays.
-fn is_given(alloc: Global, cut: usize) -> Result<bool, AllocError> {
-    if cut > HANDSHAKE.len() {
-        return Ok(false);
-    }
-    let mut reader = new_reader(alloc, Limits::usual());
-    put(&mut reader, &HANDSHAKE[..cut])?;
-    let waits = of_given(take(&mut reader), is_need)?;
-    put(&mut reader, &HANDSHAKE[cut..])?;
-    let head = of_given(take(&mut reader), is_head)?;
-    let whole = of_given(take(&mut reader), is_whole)?;
-    put(&mut reader, FRAME)?;
-    let need = of_given(take(&mut reader), is_need)?;
-    Ok(waits && head && whole && need && keeps(reader))
+// What a test proves needs none of the clauses of this call.
+fn rest_of(reader: RequestReader) -> Vec<u8> {
+    reader.rest()
 }
+
+/// Fed in two pieces, it is given with nothing behind it.
+fn gives_handshake(
+    reader: &mut RequestReader,
+    front: &[u8],
+    behind: &[u8],
+) -> Result<bool, AllocError> {
+    put(reader, front)?;
+    let waits = of_given(take(reader), is_need)?;
+    put(reader, behind)?;
+    let head = of_given(take(reader), is_head)?;
+    let whole = of_given(take(reader), is_whole)?;
+    put(reader, FRAME)?;
+    let need = of_given(take(reader), is_need)?;
+    Ok(waits && head && whole && need)
+}
+
+/// It is given, and the frame behind it stays.
+fn is_given(alloc: Global, cut: usize) -> Result<bool, AllocError> {
+    let (front, behind) = HANDSHAKE.split_at(cut.min(HANDSHAKE.len()));
+    let mut reader = new_reader(alloc, Setting::Usual);
+    let is_given = gives_handshake(&mut reader, front, behind);
+    let is_kept = keeps(reader);
+    Ok(is_given? && is_kept)
+}
+
+/// Where the handshake is cut.
+const CUTS: &[usize] = &[0, 1, 60, 150];
 
 #[test]
 fn the_bytes_behind_a_handshake_are_kept(rt: HostRuntime) -> Result<(), Fail> {
-    for cut in [0, 1, 60, 150] {
-        let given = is_given(rt.alloc(), cut);
-        assert!(rt; given == Ok(true), "{cut}");
+    for cut in CUTS {
+        let given = is_given(rt.alloc(), *cut)?;
+        assert!(rt; given, "{cut}");
     }
     Ok(())
 }

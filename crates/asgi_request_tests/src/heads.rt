@@ -1,5 +1,5 @@
 //! Heads that are refused, by the first case that holds, and those beside them that are served.
-use crate::calls::usual;
+use crate::calls::Setting;
 use crate::feeding::{Row, gives};
 use std::test::Fail;
 
@@ -14,7 +14,7 @@ const TUNNELS: &[Row] = &[(
 
 #[test]
 fn there_are_no_tunnels(rt: HostRuntime) -> Result<(), Fail> {
-    gives(&rt, rt.alloc(), usual(), TUNNELS)
+    gives(&rt, rt.alloc(), Setting::Usual, TUNNELS)
 }
 
 const TARGETS: &[Row] = &[(
@@ -31,7 +31,7 @@ const TARGETS: &[Row] = &[(
 
 #[test]
 fn any_other_target_is_bad(rt: HostRuntime) -> Result<(), Fail> {
-    gives(&rt, rt.alloc(), usual(), TARGETS)
+    gives(&rt, rt.alloc(), Setting::Usual, TARGETS)
 }
 
 const HOSTS: &[Row] = &[(
@@ -44,7 +44,7 @@ const HOSTS: &[Row] = &[(
 
 #[test]
 fn one_host_is_asked_for(rt: HostRuntime) -> Result<(), Fail> {
-    gives(&rt, rt.alloc(), usual(), HOSTS)
+    gives(&rt, rt.alloc(), Setting::Usual, HOSTS)
 }
 
 const HOSTS_OF_10: &[Row] = &[(
@@ -57,7 +57,7 @@ const HOSTS_OF_10: &[Row] = &[(
 
 #[test]
 fn no_host_is_asked_for_in_http_10(rt: HostRuntime) -> Result<(), Fail> {
-    gives(&rt, rt.alloc(), usual(), HOSTS_OF_10)
+    gives(&rt, rt.alloc(), Setting::Usual, HOSTS_OF_10)
 }
 
 const BOTH: &[Row] = &[(
@@ -70,7 +70,7 @@ const BOTH: &[Row] = &[(
 
 #[test]
 fn a_length_beside_a_coding_is_bad(rt: HostRuntime) -> Result<(), Fail> {
-    gives(&rt, rt.alloc(), usual(), BOTH)
+    gives(&rt, rt.alloc(), Setting::Usual, BOTH)
 }
 
 const NO_NUMBERS: &[Row] = &[(
@@ -90,7 +90,7 @@ const NO_NUMBERS: &[Row] = &[(
 
 #[test]
 fn a_length_that_is_no_number_is_bad(rt: HostRuntime) -> Result<(), Fail> {
-    gives(&rt, rt.alloc(), usual(), NO_NUMBERS)
+    gives(&rt, rt.alloc(), Setting::Usual, NO_NUMBERS)
 }
 
 const DIGITS: &[Row] = &[
@@ -106,7 +106,7 @@ const DIGITS: &[Row] = &[
 
 #[test]
 fn a_length_has_up_to_19_digits(rt: HostRuntime) -> Result<(), Fail> {
-    gives(&rt, rt.alloc(), usual(), DIGITS)
+    gives(&rt, rt.alloc(), Setting::Usual, DIGITS)
 }
 
 const CODINGS: &[Row] = &[
@@ -128,7 +128,7 @@ const CODINGS: &[Row] = &[
 
 #[test]
 fn one_coding_is_known(rt: HostRuntime) -> Result<(), Fail> {
-    gives(&rt, rt.alloc(), usual(), CODINGS)
+    gives(&rt, rt.alloc(), Setting::Usual, CODINGS)
 }
 
 const CODING_OF_10: &[Row] = &[(
@@ -138,7 +138,7 @@ const CODING_OF_10: &[Row] = &[(
 
 #[test]
 fn a_coding_in_http_10_is_bad(rt: HostRuntime) -> Result<(), Fail> {
-    gives(&rt, rt.alloc(), usual(), CODING_OF_10)
+    gives(&rt, rt.alloc(), Setting::Usual, CODING_OF_10)
 }
 
 /// A folded line, a space before the colon, both where they would hide a coding, a bare CR, a NUL, another version.
@@ -157,7 +157,7 @@ const NO_HEADS: &[Row] = &[(
 
 #[test]
 fn what_is_no_head_is_bad(rt: HostRuntime) -> Result<(), Fail> {
-    gives(&rt, rt.alloc(), usual(), NO_HEADS)
+    gives(&rt, rt.alloc(), Setting::Usual, NO_HEADS)
 }
 
 const FACTS: &[Row] = &[
@@ -179,5 +179,5 @@ const FACTS: &[Row] = &[
 
 #[test]
 fn facts_are_those_of_the_head(rt: HostRuntime) -> Result<(), Fail> {
-    gives(&rt, rt.alloc(), usual(), FACTS)
+    gives(&rt, rt.alloc(), Setting::Usual, FACTS)
 }

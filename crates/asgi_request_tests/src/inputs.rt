@@ -8,7 +8,7 @@ pub fn joined(alloc: Global, parts: &[&[u8]]) -> Result<Vec<u8>, AllocError> {
     Ok(bytes)
 }
 
-fn add_parts(bytes: &mut Vec<u8>, parts: &[&[u8]]) -> Result<(), AllocError> {
+pub fn add_parts(bytes: &mut Vec<u8>, parts: &[&[u8]]) -> Result<(), AllocError> {
     for part in parts {
         bytes.extend_from_slice(part)?;
     }
@@ -34,8 +34,13 @@ fn add_filled(
     end: &[u8],
 ) -> Result<(), AllocError> {
     bytes.extend_from_slice(front)?;
+    add_letters(bytes, letters)?;
+    bytes.extend_from_slice(end)
+}
+
+fn add_letters(bytes: &mut Vec<u8>, letters: usize) -> Result<(), AllocError> {
     for _ in 0..letters {
         bytes.push(b'a')?;
     }
-    bytes.extend_from_slice(end)
+    Ok(())
 }

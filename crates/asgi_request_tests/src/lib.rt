@@ -27,4 +27,6 @@ mod records;
 #[cfg(test)]
 mod scopes;
 #[cfg(test)]
+mod script;
+#[cfg(test)]
 mod upgrade;

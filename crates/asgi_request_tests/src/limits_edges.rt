@@ -1,19 +1,15 @@
 //! Inputs at the greatest limits that a connection may have: what was fed comes back whole.
 use crate::calls::{
-    held, is_event, is_head, is_whole, limits, new_reader, of_given, put, take, usual, waits,
+    Setting, holds, is_event, is_head, is_whole, new_reader, of_given, of_given_beside, put, take,
+    waits,
 };
 use crate::feeding::gives_in_pieces;
-use crate::inputs::{filled, joined};
+use crate::inputs::{add_parts, filled, joined};
 use asgi_request::{Next, RequestReader};
-use asgi_types::{Headers, Limits, Scope};
-use std::alloc::{AllocError, AllocGlobal, Global};
+use asgi_types::{Headers, Scope};
+use std::alloc::{AllocError, Global};
 use std::process::Abort;
 use std::test::Fail;
-
-/// The greatest limits on a head, with bodies of 1 MiB in blocks of so many bytes.
-fn greatest(block: usize) -> Limits {
-    limits(65_535, 128, 1_048_576, block)
-}
 
 /// 28 bytes, to be filled up with letters.
 const FRONT: &[u8] = b"GET / HTTP/1.1\r\nHost: a\r\nX: ";
@@ -34,7 +30,7 @@ fn filled_give(
 ) -> Result<(), Fail> {
     for (letters, end, wanted) in rows {
         let bytes = filled(alloc, FRONT, *letters, end)?;
-        gives_in_pieces(rt, alloc, greatest(16_384), &bytes, sizes, wanted)?;
+        gives_in_pieces(rt, alloc, Setting::Greatest(16_384), &bytes, sizes, wanted)?;
     }
     Ok(())
 }
@@ -96,12 +92,16 @@ fn gives_filled_head(reader: &mut RequestReader, bytes: &[u8]) -> Result<bool, A
     of_given(take(reader), is_filled_head)
 }
 
+/// Whether the head of 65,535 bytes keeps its fields.
+fn keeps_filled_field(alloc: Global) -> Result<bool, AllocError> {
+    let bytes = filled(alloc, FRONT, 65_503, END)?;
+    gives_filled_head(&mut new_reader(alloc, Setting::Greatest(16_384)), &bytes)
+}
+
 #[test]
 fn a_head_of_65535_bytes_keeps_its_fields(rt: HostRuntime) -> Result<(), Fail> {
-    let bytes = filled(rt.alloc(), FRONT, 65_503, END)?;
-    let mut reader = new_reader(rt.alloc(), greatest(16_384));
-    let is_so = gives_filled_head(&mut reader, &bytes);
-    assert!(rt; is_so == Ok(true));
+    let is_so = keeps_filled_field(rt.alloc())?;
+    assert!(rt; is_so);
     Ok(())
 }
 
@@ -130,11 +130,7 @@ fn add_head(bytes: &mut Vec<u8>, others: usize) -> Result<(), AllocError> {
 }
 
 fn add_other(bytes: &mut Vec<u8>, digits: [u8; 3]) -> Result<(), AllocError> {
-    bytes.extend_from_slice(b"X-")?;
-    bytes.extend_from_slice(&digits)?;
-    bytes.extend_from_slice(b": ")?;
-    bytes.extend_from_slice(&digits)?;
-    bytes.extend_from_slice(b"\r\n")
+    add_parts(bytes, &[b"X-", &digits, b": ", &digits, b"\r\n"])
 }
 
 const FIELDS: &[(usize, &'static str)] = &[(126, SERVED), (127, SERVED), (128, " bad 400")];
@@ -143,7 +139,14 @@ const FIELDS: &[(usize, &'static str)] = &[(126, SERVED), (127, SERVED), (128, "
 fn a_head_has_128_fields_at_most(rt: HostRuntime) -> Result<(), Fail> {
     for (others, wanted) in FIELDS {
         let bytes = head_with(rt.alloc(), *others)?;
-        gives_in_pieces(&rt, rt.alloc(), greatest(16_384), &bytes, SIZES, wanted)?;
+        gives_in_pieces(
+            &rt,
+            rt.alloc(),
+            Setting::Greatest(16_384),
+            &bytes,
+            SIZES,
+            wanted,
+        )?;
     }
     Ok(())
 }
@@ -183,12 +186,16 @@ fn gives_numbered_head(reader: &mut RequestReader, bytes: &[u8]) -> Result<bool,
     of_given(take(reader), is_numbered_head)
 }
 
+/// Whether the head of 128 fields keeps them.
+fn keeps_numbered_fields(alloc: Global) -> Result<bool, AllocError> {
+    let bytes = head_with(alloc, 127)?;
+    gives_numbered_head(&mut new_reader(alloc, Setting::Greatest(16_384)), &bytes)
+}
+
 #[test]
 fn a_head_of_128_fields_keeps_them(rt: HostRuntime) -> Result<(), Fail> {
-    let bytes = head_with(rt.alloc(), 127)?;
-    let mut reader = new_reader(rt.alloc(), greatest(16_384));
-    let is_so = gives_numbered_head(&mut reader, &bytes);
-    assert!(rt; is_so == Ok(true));
+    let is_so = keeps_numbered_fields(rt.alloc())?;
+    assert!(rt; is_so);
     Ok(())
 }
 
@@ -207,7 +214,7 @@ fn add_body(bytes: &mut Vec<u8>, count: usize) -> Result<(), AllocError> {
 }
 
 fn gives_event(reader: &mut RequestReader, block: &[u8], more: bool) -> Result<bool, AllocError> {
-    of_given(take(reader), |next| is_event(next, block, more))
+    of_given_beside(take(reader), &(block, more), is_event)
 }
 
 /// Whether the next results are the body in blocks of so many bytes, the last of them with no more to follow, if
@@ -233,16 +240,10 @@ fn gives_blocks(
     Ok(false)
 }
 
-fn gives_head(reader: &mut RequestReader) -> Result<bool, AllocError> {
-    of_given(take(reader), is_head)
-}
-
 /// Whether the request ends here, and nothing is held behind it.
 fn gives_end(reader: &mut RequestReader) -> Result<bool, AllocError> {
-    if !of_given(take(reader), is_whole)? || !held(reader).is_empty() {
-        return Ok(false);
-    }
-    waits(reader)
+    let is_end = of_given(take(reader), is_whole)?;
+    Ok(is_end && holds(reader, b"") && waits(reader)?)
 }
 
 /// Whether a head, the body in blocks and the end are given of what was fed. A chunked body has an empty last event.
@@ -252,35 +253,43 @@ fn gives_request(
     block: usize,
     is_chunked: bool,
 ) -> Result<bool, AllocError> {
-    if !gives_head(reader)? || !gives_blocks(reader, body, block, !is_chunked)? {
-        return Ok(false);
-    }
-    if is_chunked && !gives_event(reader, b"", false)? {
-        return Ok(false);
-    }
-    gives_end(reader)
+    let is_begun = of_given(take(reader), is_head)?
+        && gives_blocks(reader, body, block, !is_chunked)?;
+    let is_ended = !is_chunked || gives_event(reader, b"", false)?;
+    Ok(is_begun && is_ended && gives_end(reader)?)
 }
 
 /// What stands in front of a body, how many bytes it has, what stands behind it, and the block.
 type Row = (&'static [u8], usize, &'static [u8], usize);
 
 /// The body of a row, fed at once with all that stands around it, comes back in blocks.
-fn is_given(
-    alloc: Global,
-    reader: &mut RequestReader,
-    row: &Row,
-    is_chunked: bool,
-) -> Result<bool, AllocError> {
+fn is_given(alloc: Global, row: &Row, is_chunked: bool) -> Result<bool, AllocError> {
     let body = body_of(alloc, row.1)?;
-    put(reader, &joined(alloc, &[row.0, &body, row.2])?)?;
-    gives_request(reader, &body, row.3, is_chunked)
+    let bytes = joined(alloc, &[row.0, &body, row.2])?;
+    gives_fed(
+        &mut new_reader(alloc, Setting::Greatest(row.3)),
+        &bytes,
+        &body,
+        row.3,
+        is_chunked,
+    )
 }
 
-fn are_given(rt: &(impl Abort + AllocGlobal), rows: &[Row], is_chunked: bool) -> Result<(), Fail> {
+fn gives_fed(
+    reader: &mut RequestReader,
+    bytes: &[u8],
+    body: &[u8],
+    block: usize,
+    is_chunked: bool,
+) -> Result<bool, AllocError> {
+    put(reader, bytes)?;
+    gives_request(reader, body, block, is_chunked)
+}
+
+fn are_given(rt: &impl Abort, alloc: Global, rows: &[Row], is_chunked: bool) -> Result<(), Fail> {
     for (index, row) in rows.iter().enumerate() {
-        let mut reader = new_reader(rt.alloc(), greatest(row.3));
-        let is_so = is_given(rt.alloc(), &mut reader, row, is_chunked);
-        assert!(rt; is_so == Ok(true), "row {index}");
+        let is_so = is_given(alloc, row, is_chunked)?;
+        assert!(rt; is_so, "row {index}");
     }
     Ok(())
 }
@@ -321,7 +330,7 @@ const LENGTHS: &[Row] = &[
 
 #[test]
 fn a_body_of_1_mib_is_given_in_blocks(rt: HostRuntime) -> Result<(), Fail> {
-    are_given(&rt, LENGTHS, false)
+    are_given(&rt, rt.alloc(), LENGTHS, false)
 }
 
 /// One chunk each, of 65,536 bytes, of one more, and of 1 MiB.
@@ -348,36 +357,29 @@ const CHUNKS: &[Row] = &[
 
 #[test]
 fn a_chunk_of_1_mib_is_given_in_blocks(rt: HostRuntime) -> Result<(), Fail> {
-    are_given(&rt, CHUNKS, true)
-}
-
-/// Whether more bytes are needed behind a head.
-fn begins(reader: &mut RequestReader, head: &[u8]) -> Result<bool, AllocError> {
-    put(reader, head)?;
-    if !gives_head(reader)? {
-        return Ok(false);
-    }
-    waits(reader)
-}
-
-/// Whether a body that is fed at once behind its head comes back in blocks, and ends the request.
-fn ends(reader: &mut RequestReader, body: &[u8]) -> Result<bool, AllocError> {
-    put(reader, body)?;
-    if !gives_blocks(reader, body, 16_384, true)? {
-        return Ok(false);
-    }
-    gives_end(reader)
+    are_given(&rt, rt.alloc(), CHUNKS, true)
 }
 
 const HEAD: &[u8] = b"POST / HTTP/1.1\r\nHost: a\r\nContent-Length: 1048576\r\n\r\n";
 
+/// Whether more bytes are needed behind the head, and a body that is fed at once then comes back in blocks, and ends
+/// the request.
+fn takes_piece(reader: &mut RequestReader, body: &[u8]) -> Result<bool, AllocError> {
+    put(reader, HEAD)?;
+    let is_begun = of_given(take(reader), is_head)? && waits(reader)?;
+    put(reader, body)?;
+    let is_given = gives_blocks(reader, body, 16_384, true)?;
+    Ok(is_begun && is_given && gives_end(reader)?)
+}
+
+fn takes_1_mib(alloc: Global) -> Result<bool, AllocError> {
+    let body = body_of(alloc, 1_048_576)?;
+    takes_piece(&mut new_reader(alloc, Setting::Usual), &body)
+}
+
 #[test]
 fn a_piece_of_1_mib_is_taken_at_once(rt: HostRuntime) -> Result<(), Fail> {
-    let body = body_of(rt.alloc(), 1_048_576)?;
-    let mut reader = new_reader(rt.alloc(), usual());
-    let is_begun = begins(&mut reader, HEAD);
-    assert!(rt; is_begun == Ok(true));
-    let is_ended = ends(&mut reader, &body);
-    assert!(rt; is_ended == Ok(true));
+    let is_so = takes_1_mib(rt.alloc())?;
+    assert!(rt; is_so);
     Ok(())
 }

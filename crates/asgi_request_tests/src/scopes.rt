@@ -1,196 +1,128 @@
 //! The fields of a scope, what is held behind a request, and the framing of a record.
-use crate::calls::{held, new_reader, of_given, put, take, usual, waits};
-use crate::inputs::joined;
+use crate::calls::{Setting, new_reader, of_given, of_given_beside, put, take};
+use crate::feeding::{Row, gives};
 use crate::records::{Field, record};
-use asgi_request::{HeadFraming, Next, RequestReader, framing_of, has_body};
-use asgi_types::{Extensions, Facts, Framing, HeaderError, Headers, HttpScope, HttpVersion, Scope};
+use crate::script::Call::{self, Feed, Held, Need, NoNeed};
+use crate::script::answer;
+use asgi_request::{HeadFraming, HeadRecord, Next, RequestReader, framing_of, has_body};
+use asgi_types::{
+    Extensions, Facts, Framing, HeaderError, Headers, HttpScope, HttpVersion, Limits, Scope,
+};
 use std::alloc::{AllocError, Global};
-use std::process::Abort;
 use std::test::Fail;
 
-/// What is given first of the bytes.
-fn first_of(alloc: Global, bytes: &[u8]) -> Result<Next, AllocError> {
-    next_behind(&mut new_reader(alloc, usual()), bytes)
-}
-
-/// What is given behind this piece.
-fn next_behind(reader: &mut RequestReader, piece: &[u8]) -> Result<Next, AllocError> {
-    put(reader, piece)?;
-    take(reader)
-}
-
-/// The scope of a request's head.
-fn scope_of(next: &Next) -> Option<&HttpScope> {
-    match next {
-        Next::Head(Scope::Http(http), _) => Some(http),
-        _ => None,
-    }
-}
-
-/// The facts of a request's head.
-fn facts_of(next: &Next) -> Option<&Facts> {
-    match next {
-        Next::Head(_, facts) => Some(facts),
-        _ => None,
-    }
-}
-
-/// A target, and the path, the raw path and the query that it has.
-type Row = (&'static str, &'static str, &'static str, &'static str);
-
-/// Each target has these parts, in pieces of 1, 2, 7 and 1,000 bytes, of which the last is the whole, and cut in two at
-/// each place.
-fn show(rt: &impl Abort, alloc: Global, rows: &[Row]) -> Result<(), Fail> {
-    for row in rows {
-        let bytes = joined(
-            alloc,
-            &[
-                b"OPTIONS ",
-                row.0.as_bytes(),
-                b" HTTP/1.1\r\nHost: a\r\n\r\n",
-            ],
-        )?;
-        shows_in_pieces(rt, alloc, &bytes, row)?;
-        shows_in_two(rt, alloc, &bytes, row)?;
-    }
-    Ok(())
-}
-
-fn shows_in_pieces(rt: &impl Abort, alloc: Global, bytes: &[u8], row: &Row) -> Result<(), Fail> {
-    for size in [1, 2, 7, 1_000] {
-        let shown = in_pieces(alloc, bytes, size, row)?;
-        assert!(rt; shown, "{} in pieces of {size}", row.0);
-    }
-    Ok(())
-}
-
-fn shows_in_two(rt: &impl Abort, alloc: Global, bytes: &[u8], row: &Row) -> Result<(), Fail> {
-    for cut in 0..bytes.len() {
-        let shown = in_two(alloc, bytes, cut, row)?;
-        assert!(rt; shown, "{} cut at {cut}", row.0);
-    }
-    Ok(())
-}
-
-/// Whether a reader gives these parts behind the last of the pieces of so many bytes, where one result is taken behind
-/// each of them.
-fn in_pieces(alloc: Global, bytes: &[u8], size: usize, row: &Row) -> Result<bool, AllocError> {
-    behind_pieces(&mut new_reader(alloc, usual()), bytes, size, row)
-}
-
-fn behind_pieces(
-    reader: &mut RequestReader,
-    bytes: &[u8],
-    size: usize,
-    row: &Row,
-) -> Result<bool, AllocError> {
-    let mut rest = bytes;
-    let mut shown = false;
-    for _ in 0..bytes.len() {
-        if rest.is_empty() {
-            return Ok(shown);
-        }
-        let (piece, behind) = rest.split_at(size.min(rest.len()));
-        shown = is_behind(reader, piece, row)?;
-        rest = behind;
-    }
-    Ok(shown)
-}
-
-/// Whether a reader gives these parts behind the second part of the bytes, where one result is taken behind each.
-fn in_two(alloc: Global, bytes: &[u8], cut: usize, row: &Row) -> Result<bool, AllocError> {
-    let (front, behind) = bytes.split_at(cut.min(bytes.len()));
-    behind_parts(&mut new_reader(alloc, usual()), &[front, behind], row)
-}
-
-fn behind_parts(
-    reader: &mut RequestReader,
-    parts: &[&[u8]],
-    row: &Row,
-) -> Result<bool, AllocError> {
-    let mut shown = false;
-    for part in parts {
-        shown = is_behind(reader, part, row)?;
-    }
-    Ok(shown)
-}
-
-/// Whether the next result behind this piece has these parts.
-fn is_behind(reader: &mut RequestReader, piece: &[u8], row: &Row) -> Result<bool, AllocError> {
-    of_given(next_behind(reader, piece), |next| has_parts(next, row))
-}
-
-fn has_parts(next: &Next, row: &Row) -> bool {
-    let Some(scope) = scope_of(next) else {
-        return false;
-    };
-    scope.path.as_str() == row.1
-        && scope.raw_path.bytes() == row.2.as_bytes()
-        && scope.query_string.bytes() == row.3.as_bytes()
-}
-
 const TARGETS: &[Row] = &[
-    ("/", "/", "/", ""),
-    ("/?", "/", "/", ""),
-    ("/a#b", "/a#b", "/a#b", ""),
-    ("//a/b", "//a/b", "//a/b", ""),
-    ("*", "*", "*", ""),
+    (
+        &[
+            b"OPTIONS / HTTP/1.1\r\nHost: a\r\n\r\n",
+            b"OPTIONS /? HTTP/1.1\r\nHost: a\r\n\r\n",
+        ],
+        "head OPTIONS [/] [/] [] 0; last() whole;",
+    ),
+    (
+        &[b"OPTIONS /a#b HTTP/1.1\r\nHost: a\r\n\r\n"],
+        "head OPTIONS [/a#b] [/a#b] [] 0; last() whole;",
+    ),
+    (
+        &[b"OPTIONS //a/b HTTP/1.1\r\nHost: a\r\n\r\n"],
+        "head OPTIONS [//a/b] [//a/b] [] 0; last() whole;",
+    ),
+    (
+        &[b"OPTIONS * HTTP/1.1\r\nHost: a\r\n\r\n"],
+        "head OPTIONS [*] [*] [] 0; last() whole;",
+    ),
 ];
 
 #[test]
 fn a_target_has_a_path_and_a_query(rt: HostRuntime) -> Result<(), Fail> {
-    show(&rt, rt.alloc(), TARGETS)
+    gives(&rt, rt.alloc(), Setting::Usual, TARGETS)
 }
 
 const AUTHORITIES: &[Row] = &[
-    ("http://a/x?y", "/x", "/x", "y"),
-    ("http://a", "/", "/", ""),
-    ("HTTPS://a:1?y?z", "/", "/", "y?z"),
-    ("http://a?", "/", "/", ""),
+    (
+        &[b"OPTIONS http://a/x?y HTTP/1.1\r\nHost: a\r\n\r\n"],
+        "head OPTIONS [/x] [/x] [y] 0; last() whole;",
+    ),
+    (
+        &[
+            b"OPTIONS http://a HTTP/1.1\r\nHost: a\r\n\r\n",
+            b"OPTIONS http://a? HTTP/1.1\r\nHost: a\r\n\r\n",
+        ],
+        "head OPTIONS [/] [/] [] 0; last() whole;",
+    ),
+    (
+        &[b"OPTIONS HTTPS://a:1?y?z HTTP/1.1\r\nHost: a\r\n\r\n"],
+        "head OPTIONS [/] [/] [y?z] 0; last() whole;",
+    ),
 ];
 
 #[test]
 fn a_target_may_name_an_authority(rt: HostRuntime) -> Result<(), Fail> {
-    show(&rt, rt.alloc(), AUTHORITIES)
+    gives(&rt, rt.alloc(), Setting::Usual, AUTHORITIES)
 }
 
 const ENCODED: &[Row] = &[
-    ("/a/%ff?q=%20", "/a/\u{fffd}", "/a/%ff", "q=%20"),
-    ("/a%2Fb%2fc", "/a/b/c", "/a%2Fb%2fc", ""),
-    ("/%c3%a9%c3", "/\u{e9}\u{fffd}", "/%c3%a9%c3", ""),
+    (
+        &[b"OPTIONS /a/%ff?q=%20 HTTP/1.1\r\nHost: a\r\n\r\n"],
+        "head OPTIONS [/a/\u{fffd}] [/a/%ff] [q=%20] 0; last() whole;",
+    ),
+    (
+        &[b"OPTIONS /a%2Fb%2fc HTTP/1.1\r\nHost: a\r\n\r\n"],
+        "head OPTIONS [/a/b/c] [/a%2Fb%2fc] [] 0; last() whole;",
+    ),
+    (
+        &[b"OPTIONS /%c3%a9%c3 HTTP/1.1\r\nHost: a\r\n\r\n"],
+        "head OPTIONS [/\u{e9}\u{fffd}] [/%c3%a9%c3] [] 0; last() whole;",
+    ),
 ];
 
 #[test]
 fn a_path_is_percent_decoded(rt: HostRuntime) -> Result<(), Fail> {
-    show(&rt, rt.alloc(), ENCODED)
+    gives(&rt, rt.alloc(), Setting::Usual, ENCODED)
 }
 
 const STRAY: &[Row] = &[
-    ("/%", "/%", "/%", ""),
-    ("/%4", "/%4", "/%4", ""),
-    ("/%zz%41", "/%zzA", "/%zz%41", ""),
+    (
+        &[b"OPTIONS /% HTTP/1.1\r\nHost: a\r\n\r\n"],
+        "head OPTIONS [/%] [/%] [] 0; last() whole;",
+    ),
+    (
+        &[b"OPTIONS /%4 HTTP/1.1\r\nHost: a\r\n\r\n"],
+        "head OPTIONS [/%4] [/%4] [] 0; last() whole;",
+    ),
+    (
+        &[b"OPTIONS /%zz%41 HTTP/1.1\r\nHost: a\r\n\r\n"],
+        "head OPTIONS [/%zzA] [/%zz%41] [] 0; last() whole;",
+    ),
 ];
 
 #[test]
 fn a_percent_sign_without_two_digits_stays(rt: HostRuntime) -> Result<(), Fail> {
-    show(&rt, rt.alloc(), STRAY)
+    gives(&rt, rt.alloc(), Setting::Usual, STRAY)
 }
 
 const FIELDS: &[u8] = b"get /x HTTP/1.0\r\nX-A: \t q  q \r\nhost:a\r\nX-A:\r\n\r\n";
 
+/// Whether the head of these fields is given with a scope and facts that are theirs.
+fn gives_scope_and_facts(reader: &mut RequestReader) -> Result<bool, AllocError> {
+    put(reader, FIELDS)?;
+    of_given(take(reader), has_scope_and_facts)
+}
+
+fn has_scope_and_facts(next: &Next) -> bool {
+    match next {
+        Next::Head(Scope::Http(http), facts) => {
+            is_scope_of_fields(http) && are_facts_of_fields(facts)
+        }
+        _ => false,
+    }
+}
+
 #[test]
 fn a_scope_has_the_fields_of_its_head(rt: HostRuntime) -> Result<(), Fail> {
-    assert!(rt; of_given(first_of(rt.alloc(), FIELDS), has_scope_of_fields)?);
-    assert!(rt; of_given(first_of(rt.alloc(), FIELDS), has_facts_of_fields)?);
+    let is_so = gives_scope_and_facts(&mut new_reader(rt.alloc(), Setting::Usual))?;
+    assert!(rt; is_so);
     Ok(())
-}
-
-fn has_scope_of_fields(next: &Next) -> bool {
-    scope_of(next).is_some_and(is_scope_of_fields)
-}
-
-fn has_facts_of_fields(next: &Next) -> bool {
-    facts_of(next).is_some_and(are_facts_of_fields)
 }
 
 fn is_scope_of_fields(scope: &HttpScope) -> bool {
@@ -227,14 +159,23 @@ fn are_facts_of_fields(facts: &Facts) -> bool {
         && facts.subprotocols.len() == 0
 }
 
-#[test]
-fn header_names_are_in_lower_case(rt: HostRuntime) -> Result<(), Fail> {
-    assert!(rt; of_given(first_of(rt.alloc(), FIELDS), has_fields)?);
-    Ok(())
+fn gives_fields(reader: &mut RequestReader) -> Result<bool, AllocError> {
+    put(reader, FIELDS)?;
+    of_given(take(reader), has_fields)
 }
 
 fn has_fields(next: &Next) -> bool {
-    scope_of(next).is_some_and(are_fields)
+    match next {
+        Next::Head(Scope::Http(http), _) => are_fields(http),
+        _ => false,
+    }
+}
+
+#[test]
+fn header_names_are_in_lower_case(rt: HostRuntime) -> Result<(), Fail> {
+    let is_so = gives_fields(&mut new_reader(rt.alloc(), Setting::Usual))?;
+    assert!(rt; is_so);
+    Ok(())
 }
 
 fn are_fields(scope: &HttpScope) -> bool {
@@ -251,79 +192,83 @@ fn has_field(headers: &Headers, index: usize, name: &[u8], value: &[u8]) -> bool
     kept_name == name && kept_value == value
 }
 
-/// A piece, whether each result that is taken behind it is want of more bytes, and what is held then.
-type Step = (&'static [u8], &'static [bool], &'static [u8]);
-
-const STEPS: &[Step] = &[
-    (b"\r\n", &[], b"\r\n"),
-    (
-        b"GET / HTTP/1.1\r\nHost: a\r\n\r\n\r\nGE",
-        &[false, false, false],
-        b"\r\nGE",
-    ),
-    (b"T", &[true], b"\r\nGET"),
+const BEHIND: &[Call] = &[
+    Feed(b"\r\n"),
+    Held(b"\r\n"),
+    Feed(b"GET / HTTP/1.1\r\nHost: a\r\n\r\n\r\nGE"),
+    NoNeed,
+    NoNeed,
+    NoNeed,
+    Held(b"\r\nGE"),
+    Feed(b"T"),
+    Need,
+    Held(b"\r\nGET"),
 ];
 
 #[test]
 fn what_stands_behind_a_whole_request_is_held(rt: HostRuntime) -> Result<(), Fail> {
-    take_steps(&rt, &mut new_reader(rt.alloc(), usual()), STEPS)
+    answer(&rt, rt.alloc(), Setting::Usual, BEHIND)
 }
 
-fn take_steps(rt: &impl Abort, reader: &mut RequestReader, steps: &[Step]) -> Result<(), Fail> {
-    for (i, step) in steps.iter().enumerate() {
-        let taken = takes_step(reader, step)?;
-        assert!(rt; taken, "step {i}");
-    }
-    Ok(())
-}
+const HOST: Field = ("host", "a");
 
-fn takes_step(reader: &mut RequestReader, step: &Step) -> Result<bool, AllocError> {
-    put(reader, step.0)?;
-    for wanted in step.1 {
-        if waits(reader)? != *wanted {
-            return Ok(false);
-        }
-    }
-    Ok(holds(reader, step.2))
-}
-
-fn holds(reader: &RequestReader, behind: &[u8]) -> bool {
-    held(reader) == behind
-}
-
-/// A method, a field beside Host, and the framing of a record of these.
-type Framed = (&'static str, Field, HeadFraming);
+/// A method, the fields, and the framing of a record of these.
+type Framed = (&'static str, &'static [Field], HeadFraming);
 
 const FRAMED: &[Framed] = &[
-    ("GET", ("x", "a"), HeadFraming::Length(0)),
-    ("POST", ("content-length", "3"), HeadFraming::Length(3)),
+    ("GET", &[HOST, ("x", "a")], HeadFraming::Length(0)),
     (
         "POST",
-        ("transfer-encoding", "chunked"),
+        &[HOST, ("content-length", "3")],
+        HeadFraming::Length(3),
+    ),
+    (
+        "POST",
+        &[HOST, ("transfer-encoding", "chunked")],
         HeadFraming::Chunked,
     ),
     (
         "POST",
-        ("content-length", "1048576"),
+        &[HOST, ("content-length", "1048576")],
         HeadFraming::Length(1_048_576),
     ),
-    ("POST", ("content-length", "1048577"), HeadFraming::Bad(413)),
-    ("GET", ("host", "b"), HeadFraming::Bad(400)),
-    ("POST", ("transfer-encoding", "gzip"), HeadFraming::Bad(501)),
-    ("CONNECT", ("x", "a"), HeadFraming::Bad(501)),
+    (
+        "POST",
+        &[HOST, ("content-length", "1048577")],
+        HeadFraming::Bad(413),
+    ),
+    ("GET", &[HOST, ("host", "b")], HeadFraming::Bad(400)),
+    (
+        "POST",
+        &[HOST, ("transfer-encoding", "gzip")],
+        HeadFraming::Bad(501),
+    ),
+    ("CONNECT", &[HOST, ("x", "a")], HeadFraming::Bad(501)),
 ];
 
+fn has_framing(head: &HeadRecord, framing: &HeadFraming) -> bool {
+    framing_of(head, &Limits::usual()) == *framing
+}
+
 fn is_framed(alloc: Global, row: &Framed) -> Result<bool, HeaderError> {
-    let head = record(alloc, HttpVersion::V11, row.0, &[("host", "a"), row.1]);
-    of_given(head, |head| framing_of(head, &usual()) == row.2)
+    let head = record(alloc, HttpVersion::V11, row.0, row.1);
+    of_given_beside(head, &row.2, has_framing)
+}
+
+/// How many rows hold, up to the first that does not.
+fn framed(alloc: Global, rows: &[Framed]) -> Result<usize, HeaderError> {
+    for (index, row) in rows.iter().enumerate() {
+        if !is_framed(alloc, row)? {
+            return Ok(index);
+        }
+    }
+    Ok(rows.len())
 }
 
 #[test]
 fn a_record_has_a_framing(rt: HostRuntime) -> Result<(), Fail> {
-    for row in FRAMED {
-        let is_so = is_framed(rt.alloc(), row)?;
-        assert!(rt; is_so, "{} {}: {}", row.0, row.1.0, row.1.1);
-    }
+    let count = framed(rt.alloc(), FRAMED)?;
+    assert_eq!(rt; count, FRAMED.len());
     Ok(())
 }
 

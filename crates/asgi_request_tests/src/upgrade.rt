@@ -1,5 +1,6 @@
 //! Which requests are opening handshakes, and what their clients offer (RFC 6455, section 4.2.1).
-use crate::calls::of_given;
+use crate::calls::{of_given, of_given_beside};
+use crate::feeding::{add_bytes, are};
 use crate::records::{Field, record};
 use asgi_request::{HeadFraming, HeadRecord, UpgradeAsk, check_upgrade, is_key};
 use asgi_types::{HeaderError, HttpVersion, Names};
@@ -29,8 +30,8 @@ type Row = (
 );
 
 /// The words of what is asked.
-fn words(alloc: Global, ask: &UpgradeAsk) -> Result<String, AllocError> {
-    let mut words = String::new(alloc);
+fn words_of(ask: &UpgradeAsk, alloc: &Global) -> Result<String, AllocError> {
+    let mut words = String::new(*alloc);
     add_words(ask, &mut words)?;
     Ok(words)
 }
@@ -38,15 +39,23 @@ fn words(alloc: Global, ask: &UpgradeAsk) -> Result<String, AllocError> {
 fn add_words(ask: &UpgradeAsk, words: &mut String) -> Result<(), AllocError> {
     match ask {
         UpgradeAsk::Plain => words.push_str("plain"),
-        UpgradeAsk::Bad(status) => write!(words, "{status}"),
+        UpgradeAsk::Bad(status) => words.push_str(status_word(*status)),
         UpgradeAsk::Upgrade { key, subprotocols } => add_offer(key, subprotocols, words),
     }
 }
 
-fn add_offer(key: &[u8], names: &Names, words: &mut String) -> Result<(), AllocError> {
-    for b in key {
-        words.push(*b as char)?;
+/// A status that stands in a row.
+fn status_word(status: u16) -> &'static str {
+    match status {
+        400 => "400",
+        413 => "413",
+        426 => "426",
+        _ => "another status",
     }
+}
+
+fn add_offer(key: &[u8], names: &Names, words: &mut String) -> Result<(), AllocError> {
+    add_bytes(key, words)?;
     for i in 0..names.len() {
         add_name(names, i, words)?;
     }
@@ -61,39 +70,23 @@ fn add_name(names: &Names, index: usize, words: &mut String) -> Result<(), Alloc
     }
 }
 
-fn asked(
-    alloc: Global,
-    version: HttpVersion,
-    method: &str,
-    framing: HeadFraming,
-    fields: &[Field],
-) -> Result<String, HeaderError> {
-    let head = record(alloc, version, method, fields);
-    Ok(of_given(head, |head| asked_of(alloc, head, framing))??)
+fn words_asked(head: &HeadRecord, how: &(Global, HeadFraming)) -> Result<String, AllocError> {
+    let asked = check_upgrade(how.0, head, &how.1);
+    of_given_beside(asked, &how.0, words_of)?
 }
 
-fn asked_of(alloc: Global, head: &HeadRecord, framing: HeadFraming) -> Result<String, AllocError> {
-    of_given(
-        check_upgrade(alloc, head, &framing),
-        |ask| words(alloc, ask),
-    )?
+fn asked(alloc: Global, version: HttpVersion, row: &Row) -> Result<String, HeaderError> {
+    let head = record(alloc, version, row.1, row.3);
+    Ok(of_given_beside(head, &(alloc, row.2), words_asked)??)
 }
 
-fn are(rt: &impl Abort, words: &str, wanted: &str, what: &str) {
-    assert_eq!(rt; words, wanted, "{what}");
-}
-
+/// What is asked are the words of each row.
 fn ask(rt: &impl Abort, alloc: Global, version: HttpVersion, rows: &[Row]) -> Result<(), Fail> {
-    for (what, method, framing, fields, wanted) in rows {
-        let words = asked(alloc, version, method, *framing, fields);
-        are(rt, words?.as_str(), wanted, what);
+    for (index, row) in rows.iter().enumerate() {
+        let words = asked(alloc, version, row)?;
+        are(rt, words.as_str(), row.4, row.0, index);
     }
     Ok(())
-}
-
-/// What is asked of a GET with no body.
-fn get(alloc: Global, fields: &[Field]) -> Result<String, HeaderError> {
-    asked(alloc, HttpVersion::V11, "GET", NONE, fields)
 }
 
 /// Each rule, and which comes first.
@@ -165,10 +158,11 @@ fn an_upgrade_is_judged_by_the_first_rule_that_holds(rt: HostRuntime) -> Result<
     ask(&rt, rt.alloc(), HttpVersion::V11, RULES)
 }
 
+const OF_10: &[Row] = &[("HTTP/1.0", "GET", NONE, &[WS, UP, KEY, V13], "plain")];
+
 #[test]
 fn an_upgrade_of_http_10_is_ignored(rt: HostRuntime) -> Result<(), Fail> {
-    let rows: &[Row] = &[("HTTP/1.0", "GET", NONE, &[WS, UP, KEY, V13], "plain")];
-    ask(&rt, rt.alloc(), HttpVersion::V10, rows)
+    ask(&rt, rt.alloc(), HttpVersion::V10, OF_10)
 }
 
 const VERSIONS: &[Row] = &[
@@ -229,38 +223,104 @@ fn only_version_13_is_served(rt: HostRuntime) -> Result<(), Fail> {
     ask(&rt, rt.alloc(), HttpVersion::V11, VERSIONS)
 }
 
-/// What upgrade and connection list, and what is asked.
-const TOKENS: &[(&'static str, &'static str, &'static str)] = &[
+/// What upgrade and connection list.
+const TOKENS: &[Row] = &[
     (
         "WebSocket",
-        "keep-alive, upgrade",
+        "GET",
+        NONE,
+        &[
+            ("upgrade", "WebSocket"),
+            ("connection", "keep-alive, upgrade"),
+            KEY,
+            V13,
+        ],
         "dGhlIHNhbXBsZSBub25jZQ==",
     ),
-    ("h2c, \twebsocket", "UPGRADE", "dGhlIHNhbXBsZSBub25jZQ=="),
-    (",, websocket ,", " ,upgrade", "dGhlIHNhbXBsZSBub25jZQ=="),
-    ("web socket", "upgrade", "plain"),
-    ("websocket/13", "upgrade", "plain"),
-    ("websocket", "upgraded", "plain"),
-    ("websocket", "keep-alive upgrade", "plain"),
-    ("websocket", "", "plain"),
+    (
+        "h2c, \twebsocket",
+        "GET",
+        NONE,
+        &[
+            ("upgrade", "h2c, \twebsocket"),
+            ("connection", "UPGRADE"),
+            KEY,
+            V13,
+        ],
+        "dGhlIHNhbXBsZSBub25jZQ==",
+    ),
+    (
+        ",, websocket ,",
+        "GET",
+        NONE,
+        &[
+            ("upgrade", ",, websocket ,"),
+            ("connection", " ,upgrade"),
+            KEY,
+            V13,
+        ],
+        "dGhlIHNhbXBsZSBub25jZQ==",
+    ),
+    (
+        "web socket",
+        "GET",
+        NONE,
+        &[
+            ("upgrade", "web socket"),
+            ("connection", "upgrade"),
+            KEY,
+            V13,
+        ],
+        "plain",
+    ),
+    (
+        "websocket/13",
+        "GET",
+        NONE,
+        &[
+            ("upgrade", "websocket/13"),
+            ("connection", "upgrade"),
+            KEY,
+            V13,
+        ],
+        "plain",
+    ),
+    (
+        "websocket",
+        "GET",
+        NONE,
+        &[
+            ("upgrade", "websocket"),
+            ("connection", "upgraded"),
+            KEY,
+            V13,
+        ],
+        "plain",
+    ),
+    (
+        "websocket",
+        "GET",
+        NONE,
+        &[
+            ("upgrade", "websocket"),
+            ("connection", "keep-alive upgrade"),
+            KEY,
+            V13,
+        ],
+        "plain",
+    ),
+    (
+        "websocket",
+        "GET",
+        NONE,
+        &[("upgrade", "websocket"), ("connection", ""), KEY, V13],
+        "plain",
+    ),
 ];
-
-fn get_with(
-    alloc: Global,
-    upgrade: &'static str,
-    connection: &'static str,
-) -> Result<String, HeaderError> {
-    let fields = [("upgrade", upgrade), ("connection", connection), KEY, V13];
-    get(alloc, &fields)
-}
 
 #[test]
 fn tokens_of_upgrade_and_connection_are_in_any_case(rt: HostRuntime) -> Result<(), Fail> {
-    for (upgrade, connection, wanted) in TOKENS {
-        let words = get_with(rt.alloc(), upgrade, connection);
-        are(&rt, words?.as_str(), wanted, upgrade);
-    }
-    Ok(())
+    ask(&rt, rt.alloc(), HttpVersion::V11, TOKENS)
 }
 
 /// A text, and whether it is a key.
@@ -295,48 +355,125 @@ fn a_key_is_the_base64_of_16_bytes(rt: HostRuntime) -> Result<(), Fail> {
     Ok(())
 }
 
-/// What is asked of a handshake with these two fields around the others.
-fn get_offering(
-    alloc: Global,
-    first: &'static str,
-    second: &'static str,
-) -> Result<String, HeaderError> {
-    let before = ("sec-websocket-protocol", first);
-    let behind = ("Sec-WebSocket-Protocol", second);
-    get(alloc, &[before, WS, UP, KEY, V13, behind])
-}
-
-/// What two fields offer, and what is asked: the key and the names.
-const OFFERS: &[(&'static str, &'static str, &'static str)] = &[
+/// What two fields offer around the others: the key and the names are asked.
+const OFFERS: &[Row] = &[
     (
         "chat",
-        "superchat",
+        "GET",
+        NONE,
+        &[
+            ("sec-websocket-protocol", "chat"),
+            WS,
+            UP,
+            KEY,
+            V13,
+            ("Sec-WebSocket-Protocol", "superchat"),
+        ],
         "dGhlIHNhbXBsZSBub25jZQ== chat superchat",
     ),
     (
         "chat, superchat",
-        "v1.Bar",
+        "GET",
+        NONE,
+        &[
+            ("sec-websocket-protocol", "chat, superchat"),
+            WS,
+            UP,
+            KEY,
+            V13,
+            ("Sec-WebSocket-Protocol", "v1.Bar"),
+        ],
         "dGhlIHNhbXBsZSBub25jZQ== chat superchat v1.Bar",
     ),
-    (" \tB ,,\t, a,", "", "dGhlIHNhbXBsZSBub25jZQ== B a"),
-    ("chat chat, a/b, \"c\", d", "", "dGhlIHNhbXBsZSBub25jZQ== d"),
-    ("a, a", "a", "dGhlIHNhbXBsZSBub25jZQ== a a a"),
-    ("mqtt;v=5", "caf\u{e9}", "dGhlIHNhbXBsZSBub25jZQ=="),
+    (
+        " \tB ,,\t, a,",
+        "GET",
+        NONE,
+        &[
+            ("sec-websocket-protocol", " \tB ,,\t, a,"),
+            WS,
+            UP,
+            KEY,
+            V13,
+            ("Sec-WebSocket-Protocol", ""),
+        ],
+        "dGhlIHNhbXBsZSBub25jZQ== B a",
+    ),
+    (
+        "chat chat, a/b, \"c\", d",
+        "GET",
+        NONE,
+        &[
+            ("sec-websocket-protocol", "chat chat, a/b, \"c\", d"),
+            WS,
+            UP,
+            KEY,
+            V13,
+            ("Sec-WebSocket-Protocol", ""),
+        ],
+        "dGhlIHNhbXBsZSBub25jZQ== d",
+    ),
+    (
+        "a, a",
+        "GET",
+        NONE,
+        &[
+            ("sec-websocket-protocol", "a, a"),
+            WS,
+            UP,
+            KEY,
+            V13,
+            ("Sec-WebSocket-Protocol", "a"),
+        ],
+        "dGhlIHNhbXBsZSBub25jZQ== a a a",
+    ),
+    (
+        "mqtt;v=5",
+        "GET",
+        NONE,
+        &[
+            ("sec-websocket-protocol", "mqtt;v=5"),
+            WS,
+            UP,
+            KEY,
+            V13,
+            ("Sec-WebSocket-Protocol", "caf\u{e9}"),
+        ],
+        "dGhlIHNhbXBsZSBub25jZQ==",
+    ),
     (
         "!#$%&'*+-.^_`|~",
-        "0",
+        "GET",
+        NONE,
+        &[
+            ("sec-websocket-protocol", "!#$%&'*+-.^_`|~"),
+            WS,
+            UP,
+            KEY,
+            V13,
+            ("Sec-WebSocket-Protocol", "0"),
+        ],
         "dGhlIHNhbXBsZSBub25jZQ== !#$%&'*+-.^_`|~ 0",
     ),
-    ("", ",", "dGhlIHNhbXBsZSBub25jZQ=="),
+    (
+        "",
+        "GET",
+        NONE,
+        &[
+            ("sec-websocket-protocol", ""),
+            WS,
+            UP,
+            KEY,
+            V13,
+            ("Sec-WebSocket-Protocol", ","),
+        ],
+        "dGhlIHNhbXBsZSBub25jZQ==",
+    ),
 ];
 
 #[test]
 fn subprotocols_are_the_tokens_in_their_order(rt: HostRuntime) -> Result<(), Fail> {
-    for (first, second, wanted) in OFFERS {
-        let words = get_offering(rt.alloc(), first, second);
-        are(&rt, words?.as_str(), wanted, first);
-    }
-    Ok(())
+    ask(&rt, rt.alloc(), HttpVersion::V11, OFFERS)
 }
 
 /// A handshake that offers two subprotocols.
@@ -355,16 +492,16 @@ fn gives_two(alloc: Global, head: &HeadRecord) -> Result<bool, AllocError> {
 }
 
 /// The same, asked again where memory was refused.
-fn gives_two_again(alloc: Global, head: &HeadRecord) -> Result<bool, AllocError> {
-    match gives_two(alloc, head) {
+fn gives_two_again(head: &HeadRecord, alloc: &Global) -> Result<bool, AllocError> {
+    match gives_two(*alloc, head) {
         Ok(given) => Ok(given),
-        Err(_) => gives_two(alloc, head),
+        Err(_) => gives_two(*alloc, head),
     }
 }
 
 fn offers(alloc: Global) -> Result<bool, HeaderError> {
     let head = record(alloc, HttpVersion::V11, "GET", OFFERING);
-    Ok(of_given(head, |head| gives_two_again(alloc, head))??)
+    Ok(of_given_beside(head, &alloc, gives_two_again)??)
 }
 
 /// Where memory was refused for the record, it is made again.
