@@ -1,54 +1,84 @@
 //! Plain ends that meet, with what is left between them.
+use crate::steps::{Pair, facts};
 use asgi_exchange::join;
 use asgi_pipes::{AppEnd, ConnEnd, EndKind, Pipes, Plain};
-use asgi_types::{Facts, Framing, HttpVersion, Incoming, Kind, Names};
+use asgi_types::{Incoming, Kind};
 use std::alloc::{AllocError, Global};
 use std::test::Fail;
 
-/// What is left in the two queues where the connection offers a disconnect, the task ends, and the end is taken.
-fn left(
-    alloc: Global,
-    breaks: bool,
-    ends: bool,
-    takes: bool,
-) -> Result<Option<(usize, usize)>, AllocError> {
-    let facts = Facts {
-        version: HttpVersion::V11,
-        head_only: false,
-        close: false,
-        expect: false,
-        framing: Framing::Length(0),
-        key: [0; 24],
-        subprotocols: Names::new(alloc),
-    };
-    let (mut conn, mut app) = Plain.make(alloc, Kind::Http, facts, 1)?;
+/// Whether the connection offers a disconnect, whether the task ends, whether an item is taken, and what is left then in the
+/// two queues.
+type Row = ((bool, bool, bool), (usize, usize));
+
+const ROWS: &[Row] = &[
+    ((false, false, true), (0, 0)),
+    ((true, false, false), (1, 0)),
+    ((false, true, false), (0, 1)),
+    ((true, true, true), (1, 0)),
+];
+
+fn pair_of(alloc: Global) -> Result<Pair, AllocError> {
+    let (conn, app) = Plain.make(alloc, Kind::Http, facts(alloc), 1)?;
+    Ok(Pair {
+        conn,
+        app,
+        finished: false,
+    })
+}
+
+fn break_off(pair: &mut Pair) {
+    pair.conn.offer_disconnect(Incoming::HttpDisconnect);
+}
+
+fn finish(pair: &mut Pair) {
+    pair.finished = true;
+    pair.app.finish(EndKind::Returned);
+}
+
+fn take(pair: &mut Pair) {
+    pair.conn.take();
+}
+
+fn left_in(pair: &Pair) -> Option<(usize, usize)> {
+    match join::<Plain>(&pair.conn, &pair.app) {
+        Some(met) => Some((met.left_in, met.left_out)),
+        None => None,
+    }
+}
+
+fn left_by(pair: &mut Pair, (breaks, ends, takes): (bool, bool, bool)) -> Option<(usize, usize)> {
     if breaks {
-        conn.offer_disconnect(Incoming::HttpDisconnect);
+        break_off(pair);
     }
     if ends {
-        app.finish(EndKind::Returned);
+        finish(pair);
     }
-    Plain::carry(&mut conn, &mut app);
+    pair.carry();
     if takes {
-        conn.take();
+        take(pair);
     }
-    match join::<Plain>(&conn, &app) {
-        Some(met) => Ok(Some((met.left_in, met.left_out))),
-        None => Ok(None),
+    left_in(pair)
+}
+
+/// Whether the row holds for a fresh pair.
+fn holds(alloc: Global, row: &Row) -> Result<bool, AllocError> {
+    let mut pair = pair_of(alloc)?;
+    Ok(left_by(&mut pair, row.0) == Some(row.1))
+}
+
+/// The first row that does not hold, or how many there are.
+fn holding(alloc: Global, rows: &[Row]) -> Result<usize, AllocError> {
+    for (index, row) in rows.iter().enumerate() {
+        if !holds(alloc, row)? {
+            return Ok(index);
+        }
     }
+    Ok(rows.len())
 }
 
 #[test]
 fn ends_meet_with_what_is_left(rt: HostRuntime) -> Result<(), Fail> {
-    let rows = [
-        (false, false, true, (0, 0)),
-        (true, false, false, (1, 0)),
-        (false, true, false, (0, 1)),
-        (true, true, true, (1, 0)),
-    ];
-    for (breaks, ends, takes, expected) in rows {
-        let found = left(rt.alloc(), breaks, ends, takes)?;
-        assert_eq!(rt; found, Some(expected), "{breaks} {ends} {takes}");
-    }
+    let held = holding(rt.alloc(), ROWS)?;
+    assert_eq!(rt; held, ROWS.len());
     Ok(())
 }

@@ -1,6 +1,5 @@
 //! The calls of a plain pair, each with its answer.
 ghost use Rattle.std.specs.Prelude.{◌≡◌, ℕ, false, None};
-ghost use Rattle.futures.specs.Task.{Keeps};
 ghost use Rattle.asgi_pipes.specs.PlainPairs.{IsPlainPair};
 ghost use Rattle.asgi_exchange.specs.Calls.{IsViewOf};
 ghost use Rattle.asgi_exchange.specs.Exchange.{Exchange};
@@ -11,13 +10,12 @@ ghost use Rattle.asgi_exchange.specs.Views.{ConnView};
 use asgi_exchange::calls;
 use asgi_pipes::{AppEnd, ConnEnd, EndKind, OutItem, Plain, PlainApp, PlainConn, Sent};
 use asgi_types::{Facts, Framing, Headers, HttpVersion, Incoming, Kind, Names, Octets, Outgoing};
-use futures::task::{Context, Poll};
-use futures::{Future, FutureExt};
+use futures::task::{Context, Doorbell, Poll, Solo};
 use std::alloc::{AllocError, Global};
 use std::test::Fail;
 
 /// A call of one end. A number is the one byte of a body, or a status.
-#[derive(Clone, Copy, Debug)]
+#[derive(Clone, Copy)]
 enum Call {
     Offer(u8),
     Break,
@@ -32,7 +30,7 @@ enum Call {
 
 /// What a call answers.
 #[derive(Clone, Copy, Debug, PartialEq, Eq)]
-enum Answer {
+pub(crate) enum Answer {
     Yes,
     No,
     Nothing,
@@ -70,11 +68,12 @@ const CALLS: &[(Call, Answer)] = &[
     (Call::Take, Answer::Nothing),
 ];
 
+/// The two ends of one pair.
 #[derive(Drop)]
-struct Pair {
-    conn: PlainConn,
-    app: PlainApp,
-    finished: bool,
+pub(crate) struct Pair {
+    pub(crate) conn: PlainConn,
+    pub(crate) app: PlainApp,
+    pub(crate) finished: bool,
     ghost pair: { IsPlainPair conn app },
     ghost open: { finished ≡ false → ⟦<PlainApp as AppEnd>⟧.ended app ≡ None },
 }
@@ -99,28 +98,19 @@ impl Pair {
         }
     }
 
-    fn receive(&mut self, cx: &mut Context<'_>) -> Answer
-        ensures { Keeps cx.old cx.new }
-    {
+    fn receive(&mut self, cx: &mut Context<'_>) -> Answer {
         match calls::poll_receive::<u8, u8, PlainApp>(&mut self.app, cx) {
-            Poll::Ready(Incoming::HttpRequest { body, more_body: _ }) => Answer::Body(first(&body)),
-            Poll::Ready(_) => Answer::Disconnect,
+            Poll::Ready(event) => shown_heard(&event),
             Poll::Pending => Answer::Nothing,
         }
     }
 
-    fn say(&mut self, cx: &mut Context<'_>, event: Outgoing) -> Answer
-        ensures { Keeps cx.old cx.new }
-    {
+    fn say(&mut self, cx: &mut Context<'_>, event: Outgoing) -> Answer {
         if self.finished {
             return Answer::Nothing;
         }
-        match calls::poll_send::<u8, u8, PlainApp>(&mut self.app, cx, event) {
-            Sent::Done => Answer::Yes,
-            Sent::Full(_) => Answer::No,
-            Sent::Ignored => Answer::Ignored,
-            Sent::Refused(number, _) => Answer::Refused(number),
-        }
+        let sent = calls::poll_send::<u8, u8, PlainApp>(&mut self.app, cx, event);
+        shown_sent(&sent)
     }
 
     fn finish(&mut self) -> Answer {
@@ -128,7 +118,7 @@ impl Pair {
         yes_or_no(calls::finish::<PlainApp>(&mut self.app, EndKind::Returned))
     }
 
-    fn carry(&mut self) -> Answer {
+    pub(crate) fn carry(&mut self) -> Answer {
         Plain::carry(&mut self.conn, &mut self.app);
         Answer::Nothing
     }
@@ -146,6 +136,22 @@ fn first(body: &Octets) -> usize {
     }
 }
 
+fn shown_heard(event: &Incoming) -> Answer {
+    match event {
+        Incoming::HttpRequest { body, more_body: _ } => Answer::Body(first(body)),
+        _ => Answer::Disconnect,
+    }
+}
+
+fn shown_sent(sent: &Sent) -> Answer {
+    match sent {
+        Sent::Done => Answer::Yes,
+        Sent::Full(_) => Answer::No,
+        Sent::Ignored => Answer::Ignored,
+        Sent::Refused(number, _) => Answer::Refused(*number),
+    }
+}
+
 fn shown(event: &Outgoing) -> Answer {
     match event {
         Outgoing::ResponseStart { status, headers: _ } => Answer::Start(*status),
@@ -158,65 +164,50 @@ fn octets(alloc: Global, byte: u8) -> Result<Octets, AllocError> {
     Ok(Octets::new([byte].as_slice().to_vec(alloc)?))
 }
 
+fn body_heard(alloc: Global, byte: u8) -> Result<Incoming, AllocError> {
+    Ok(Incoming::HttpRequest {
+        body: octets(alloc, byte)?,
+        more_body: true,
+    })
+}
+
+fn last_body(alloc: Global, byte: u8) -> Result<Outgoing, AllocError> {
+    Ok(Outgoing::ResponseBody {
+        body: octets(alloc, byte)?,
+        more_body: false,
+    })
+}
+
+fn start(alloc: Global, status: u16) -> Outgoing {
+    Outgoing::ResponseStart {
+        status,
+        headers: Headers::new(alloc),
+    }
+}
+
 fn answer_at(
     alloc: Global,
     cx: &mut Context<'_>,
     pair: &mut Pair,
     call: Call,
-) -> Result<Answer, AllocError>
-    ensures { Keeps cx.old cx.new }
-{
-    Ok(match call {
-        Call::Offer(byte) => pair.offer(Incoming::HttpRequest {
-            body: octets(alloc, byte)?,
-            more_body: true,
-        }),
-        Call::Break => pair.break_off(),
-        Call::Take => pair.take(),
-        Call::TakeEvents => Answer::Events(take_events(&mut pair.conn, 9)),
-        Call::Receive => pair.receive(cx),
-        Call::Start(status) => pair.say(
-            cx,
-            Outgoing::ResponseStart {
-                status,
-                headers: Headers::new(alloc),
-            },
-        ),
-        Call::LastBody(byte) => pair.say(
-            cx,
-            Outgoing::ResponseBody {
-                body: octets(alloc, byte)?,
-                more_body: false,
-            },
-        ),
-        Call::Finish => pair.finish(),
-        Call::Carry => pair.carry(),
-    })
-}
-
-/// The calls are made within one poll, which is where a context comes from.
-#[derive(Drop)]
-struct Table {
-    alloc: Global,
-    pair: Pair,
-}
-
-impl Future for Table {
-    type Output = Result<Option<(usize, Answer)>, AllocError>;
-
-    /// The first row that answered otherwise, with its answer.
-    fn poll(&mut self, cx: &mut Context<'_>) -> Poll<Result<Option<(usize, Answer)>, AllocError>> {
-        Poll::Ready(run(self.alloc, cx, &mut self.pair))
+) -> Result<Answer, AllocError> {
+    match call {
+        Call::Offer(byte) => Ok(pair.offer(body_heard(alloc, byte)?)),
+        Call::Break => Ok(pair.break_off()),
+        Call::Take => Ok(pair.take()),
+        Call::TakeEvents => Ok(Answer::Events(take_events(&mut pair.conn, 9))),
+        Call::Receive => Ok(pair.receive(cx)),
+        Call::Start(status) => Ok(pair.say(cx, start(alloc, status))),
+        Call::LastBody(byte) => Ok(pair.say(cx, last_body(alloc, byte)?)),
+        Call::Finish => Ok(pair.finish()),
+        Call::Carry => Ok(pair.carry()),
     }
 }
 
-fn run(
-    alloc: Global,
-    cx: &mut Context<'_>,
-    pair: &mut Pair,
-) -> Result<Option<(usize, Answer)>, AllocError>
-    ensures { Keeps cx.old cx.new }
-{
+/// The first row that answered otherwise, with its answer.
+type Other = Option<(usize, Answer)>;
+
+fn run(alloc: Global, cx: &mut Context<'_>, pair: &mut Pair) -> Result<Other, AllocError> {
     for (index, row) in CALLS.iter().enumerate() {
         let answer = answer_at(alloc, cx, pair, row.0)?;
         if answer != row.1 {
@@ -226,7 +217,25 @@ fn run(
     Ok(None)
 }
 
-fn facts(alloc: Global) -> Facts {
+/// Makes the calls on a fresh pair, within one poll.
+fn run_fresh(alloc: Global, solo: &Solo) -> Result<Other, AllocError> {
+    let mut pair = pair_of(alloc)?;
+    let mut cx = solo.begin();
+    let other = run(alloc, &mut cx, &mut pair);
+    cx.cancel();
+    other
+}
+
+fn pair_of(alloc: Global) -> Result<Pair, AllocError> {
+    let (conn, app) = calls::make::<u8, u8, Plain>(&Plain, alloc, Kind::Http, facts(alloc), 2)?;
+    Ok(Pair {
+        conn,
+        app,
+        finished: false,
+    })
+}
+
+pub(crate) fn facts(alloc: Global) -> Facts {
     Facts {
         version: HttpVersion::V11,
         head_only: false,
@@ -255,19 +264,8 @@ fn take_events<C: ConnEnd>(conn: &mut C, most: u8) -> u8
 
 #[test]
 fn calls_of_a_plain_pair(rt: HostRuntime) -> Result<(), Fail> {
-    let alloc = rt.alloc();
-    let (conn, app) = calls::make::<u8, u8, Plain>(&Plain, alloc, Kind::Http, facts(alloc), 2)?;
-    let table = Table {
-        alloc,
-        pair: Pair {
-            conn,
-            app,
-            finished: false,
-        },
-    };
-    match table.now_or_never(&rt) {
-        Ok(Some(Ok(other))) => assert_eq!(rt; other, None),
-        _ => panic!(rt; "no memory"),
-    }
+    let solo = Solo::new(&rt, Doorbell::spinning())?;
+    let other = run_fresh(rt.alloc(), &solo)?;
+    assert_eq!(rt; other, None);
     Ok(())
 }

@@ -1,71 +1,99 @@
 //! `make`, where one allocation is refused: it answers so, and can be called again. No call of an end takes memory, and
 //! `renew` takes none where the places are as many.
 //! `tests/memory.py` runs these with each allocation refused in turn; with ample memory none is refused.
-use crate::pairs::{Answer, Step, facts, run_table};
+use crate::pairs::{Answer, Row, Step, facts, run_table};
 use asgi_pipes::{AppEnd, ConnEnd, EndKind, Pipes, Plain, PlainApp, PlainConn};
 use asgi_types::{Incoming, Kind};
 use std::alloc::{AllocError, Global};
 use std::test::Fail;
 
+/// The ends of a pair of two places. They are asked for again where memory was refused.
 fn made(alloc: Global) -> Result<(PlainConn, PlainApp), AllocError> {
-    Plain.make(alloc, Kind::WebSocket, facts(alloc), 2)
+    match Plain.make(alloc, Kind::WebSocket, facts(alloc), 2) {
+        Ok(ends) => Ok(ends),
+        Err(_) => Plain.make(alloc, Kind::WebSocket, facts(alloc), 2),
+    }
+}
+
+fn is_offered(conn: &mut PlainConn) -> bool {
+    conn.offer(Incoming::WsConnect).is_ok()
+}
+
+fn has_nothing(conn: &mut PlainConn) -> bool {
+    conn.take().is_none()
 }
 
 /// Offers to a pair of two places until one comes back, and ends both ends.
 fn fill(conn: &mut PlainConn, app: &mut PlainApp) -> [bool; 7] {
     [
-        conn.offer(Incoming::WsConnect).is_ok(),
-        conn.offer(Incoming::WsConnect).is_ok(),
-        conn.offer(Incoming::WsConnect).is_err(),
+        is_offered(conn),
+        is_offered(conn),
+        !is_offered(conn),
         conn.offer_disconnect(Incoming::HttpDisconnect),
         app.finish(EndKind::Returned),
         app.moved(),
-        conn.take().is_none(),
+        has_nothing(conn),
     ]
+}
+
+fn fill_made(alloc: Global) -> Result<[bool; 7], AllocError> {
+    let (mut conn, mut app) = made(alloc)?;
+    Ok(fill(&mut conn, &mut app))
 }
 
 #[test]
 fn memory_for_a_pair(rt: HostRuntime) -> Result<(), Fail> {
-    let alloc = rt.alloc();
-    let (mut conn, mut app) = match made(alloc) {
-        Ok(pair) => pair,
-        Err(_) => made(alloc)?,
-    };
-    assert_eq!(rt; fill(&mut conn, &mut app), [true; 7]);
+    let filled = fill_made(rt.alloc())?;
+    assert_eq!(rt; filled, [true; 7]);
     Ok(())
+}
+
+/// What a pair answers, then the one that was made of its ends, and then the one that was made of these with other places.
+/// None of the second or of the third where memory was refused for the second.
+type Renewed = ([bool; 7], Option<([bool; 7], [bool; 2])>);
+
+fn fill_and_renew(alloc: Global) -> Result<Renewed, AllocError> {
+    let (mut conn, mut app) = made(alloc)?;
+    let filled = fill(&mut conn, &mut app);
+    // Whatever allocation is refused, none is made here.
+    match Plain.renew(alloc, conn, app, Kind::WebSocket, facts(alloc), 2) {
+        Ok((conn, app)) => Ok((filled, Some(fill_and_widen(alloc, conn, app)?))),
+        Err(_) => Ok((filled, None)),
+    }
+}
+
+fn fill_and_widen(
+    alloc: Global,
+    conn: PlainConn,
+    app: PlainApp,
+) -> Result<([bool; 7], [bool; 2]), AllocError> {
+    let (mut conn, mut app) = (conn, app);
+    let filled = fill(&mut conn, &mut app);
+    // For other places there is.
+    match Plain.renew(alloc, conn, app, Kind::WebSocket, facts(alloc), 3) {
+        Ok((conn, app)) => Ok((filled, used(conn, app))),
+        Err(_) => Ok((filled, used_anew(alloc)?)),
+    }
+}
+
+fn used_anew(alloc: Global) -> Result<[bool; 2], AllocError> {
+    let (conn, app) = made(alloc)?;
+    Ok(used(conn, app))
+}
+
+fn used(conn: PlainConn, app: PlainApp) -> [bool; 2] {
+    let (mut conn, mut app) = (conn, app);
+    [is_offered(&mut conn), app.finish(EndKind::Returned)]
 }
 
 #[test]
 fn no_memory_for_a_renewed_pair(rt: HostRuntime) -> Result<(), Fail> {
-    let alloc = rt.alloc();
-    let (mut conn, mut app) = match made(alloc) {
-        Ok(pair) => pair,
-        Err(_) => made(alloc)?,
-    };
-    assert_eq!(rt; fill(&mut conn, &mut app), [true; 7]);
-    // Whatever allocation is refused, none is made here.
-    let renewed = Plain.renew(alloc, conn, app, Kind::WebSocket, facts(alloc), 2);
-    assert!(rt; renewed.is_ok());
-    let (mut conn, mut app) = renewed?;
-    assert_eq!(rt; fill(&mut conn, &mut app), [true; 7]);
-    // For other places there is.
-    let (mut conn, mut app) = match Plain.renew(
-        alloc,
-        conn,
-        app,
-        Kind::WebSocket,
-        facts(alloc),
-        3,
-    ) {
-        Ok(pair) => pair,
-        Err(_) => made(alloc)?,
-    };
-    assert!(rt; conn.offer(Incoming::WsConnect).is_ok());
-    assert!(rt; app.finish(EndKind::Returned));
+    let renewed = fill_and_renew(rt.alloc())?;
+    assert_eq!(rt; renewed, ([true; 7], Some(([true; 7], [true; 2]))));
     Ok(())
 }
 
-const ROWS: &[(Step, Answer)] = &[
+const ROWS: &[Row] = &[
     (Step::OfferConnect, Answer::Taken),
     (Step::Receive, Answer::Event("connect", 0)),
     (Step::Receive, Answer::Pending),
@@ -81,7 +109,6 @@ fn memory_for_a_table(rt: HostRuntime) -> Result<(), Fail> {
         Ok(ran) => ran,
         Err(_) => run_table(&rt, Kind::WebSocket, 1, true, ROWS)?,
     };
-    assert_eq!(rt; ran.other, None);
-    assert_eq!(rt; (ran.met.left_in, ran.met.left_out), (0, 1));
+    assert_eq!(rt; ran, (None, (0, 1)));
     Ok(())
 }

@@ -1,6 +1,5 @@
 //! Pairs of plain ends on tables of calls, each with its answer.
 ghost use Rattle.std.specs.Prelude.{◌≡◌, false, None};
-ghost use Rattle.futures.specs.Task.{Keeps};
 ghost use Rattle.asgi_pipes.specs.PlainPairs.{IsPlainPair};
 
 mod full_rings;
@@ -9,20 +8,19 @@ mod lifespan;
 mod renewed;
 mod websocket;
 
-use asgi_pipes::{AppEnd, ConnEnd, EndKind, Met, OutItem, Pipes, Plain, PlainApp, PlainConn, Sent};
+use asgi_pipes::{AppEnd, ConnEnd, EndKind, OutItem, Pipes, Plain, PlainApp, PlainConn, Sent};
 use asgi_types::{
     Chars, Facts, Framing, Headers, HttpVersion, Incoming, Kind, Names, Octets, Outgoing, Payload,
     Reason, State,
 };
-use futures::task::{Context, Poll};
-use futures::{Future, FutureExt};
+use futures::task::{Context, Doorbell, Poll, Solo};
 use std::alloc::{AllocError, AllocGlobal, Global};
 use std::process::Abort;
 use std::random::RandomSource;
 use std::test::Fail;
 
 /// A call of one end. A number is the one byte of a body or of a message, or a code.
-#[derive(Clone, Copy, Debug)]
+#[derive(Clone, Copy)]
 pub enum Step {
     Offer(u8),
     OfferConnect,
@@ -75,67 +73,57 @@ struct Pair {
     ghost open: { finished ≡ false → app.ended ≡ None },
 }
 
-/// What a table gave: the first row that answered otherwise, with its answer, and what was left
-/// in the queues at the end.
-#[derive(Clone, Copy, Debug)]
-pub struct Ran {
-    pub other: Option<(usize, Answer)>,
-    pub met: Met,
-}
+/// A call, and what it is to answer.
+pub type Row = (Step, Answer);
 
-/// A table that is run within one poll, which is where a context comes from.
-#[derive(Drop)]
-struct Table {
-    alloc: Global,
-    pair: Option<Pair>,
-    rows: &'static [(Step, Answer)],
-    /// What was put is carried after each call.
-    carries: bool,
-}
+/// The first row that answered otherwise, with its answer.
+type Other = Option<(usize, Answer)>;
 
-impl Future for Table {
-    type Output = Result<Ran, AllocError>;
+/// The items that were left in the two queues: inward, and outward.
+type Left = (usize, usize);
 
-    fn poll(&mut self, cx: &mut Context<'_>) -> Poll<Result<Ran, AllocError>> {
-        let Some(mut pair) = self.pair.take() else {
-            return Poll::Ready(Err(AllocError));
-        };
-        match run(self.alloc, cx, &mut pair, self.rows, self.carries) {
-            Ok(other) => Poll::Ready(Ok(Ran {
-                other,
-                met: meet(&pair),
-            })),
-            Err(refused) => Poll::Ready(Err(refused)),
-        }
-    }
-}
+/// What a table gave, and what was left behind it.
+pub type Ran = (Other, Left);
 
-fn meet(pair: &Pair) -> Met {
+fn left_in(pair: &Pair) -> Left {
     match Plain::meet(&pair.conn, &pair.app) {
-        Some(met) => met,
+        Some(met) => (met.left_in, met.left_out),
         None => unreachable!(),
     }
 }
 
+/// Runs a table on the pair. Where `carries`, what was put is carried behind each call.
 fn run(
     alloc: Global,
     cx: &mut Context<'_>,
     pair: &mut Pair,
-    rows: &[(Step, Answer)],
     carries: bool,
-) -> Result<Option<(usize, Answer)>, AllocError>
-    ensures { Keeps cx.old cx.new }
-{
+    rows: &[Row],
+) -> Result<Other, AllocError> {
     for (index, row) in rows.iter().enumerate() {
-        let answer = answer_at(alloc, cx, pair, row.0)?;
-        if carries {
-            pair.carry();
-        }
-        if answer != row.1 {
+        if let Some(answer) = other_at(alloc, cx, pair, carries, *row)? {
             return Ok(Some((index, answer)));
         }
     }
     Ok(None)
+}
+
+/// What the call answers, where that is not what it is to answer.
+fn other_at(
+    alloc: Global,
+    cx: &mut Context<'_>,
+    pair: &mut Pair,
+    carries: bool,
+    row: Row,
+) -> Result<Option<Answer>, AllocError> {
+    let answer = answer_at(alloc, cx, pair, row.0)?;
+    if carries {
+        pair.carry();
+    }
+    if answer == row.1 {
+        return Ok(None);
+    }
+    Ok(Some(answer))
 }
 
 fn answer_at(
@@ -143,27 +131,30 @@ fn answer_at(
     cx: &mut Context<'_>,
     pair: &mut Pair,
     step: Step,
-) -> Result<Answer, AllocError>
-    ensures { Keeps cx.old cx.new }
-{
-    if let Some(event) = offered(alloc, step)? {
-        return Ok(pair.offer(event));
+) -> Result<Answer, AllocError> {
+    match step {
+        Step::Offer(_)
+        | Step::OfferConnect
+        | Step::OfferMessage(_)
+        | Step::OfferStartup
+        | Step::OfferShutdown => Ok(pair.offer(offered(alloc, step)?)),
+        Step::Break => Ok(pair.break_off(Incoming::HttpDisconnect)),
+        Step::BreakSession(code) => Ok(break_session(pair, code)),
+        Step::Take => Ok(pair.take()),
+        Step::Receive => Ok(pair.receive(cx)),
+        Step::Finish(end) => Ok(pair.finish(end)),
+        Step::Moved => Ok(pair.moved()),
+        Step::Carry => Ok(pair.carry()),
+        _ => Ok(pair.say(cx, said(alloc, step)?)),
     }
-    if let Some(event) = said(alloc, step)? {
-        return Ok(pair.say(cx, event));
+}
+
+/// The session breaks off with the code, and with no reason.
+fn break_session(pair: &mut Pair, code: u16) -> Answer {
+    match Reason::new("") {
+        Some(reason) => pair.break_off(Incoming::WsDisconnect { code, reason }),
+        None => Answer::Nothing,
     }
-    Ok(match step {
-        Step::Break => pair.break_off(Incoming::HttpDisconnect),
-        Step::BreakSession(code) => match Reason::new("") {
-            Some(reason) => pair.break_off(Incoming::WsDisconnect { code, reason }),
-            None => Answer::Nothing,
-        },
-        Step::Take => pair.take(),
-        Step::Receive => pair.receive(cx),
-        Step::Finish(end) => pair.finish(end),
-        Step::Moved => pair.moved(),
-        _ => pair.carry(),
-    })
 }
 
 fn octets(alloc: Global, byte: u8) -> Result<Octets, AllocError> {
@@ -175,8 +166,8 @@ fn chars(alloc: Global, text: &str) -> Result<Chars, AllocError> {
 }
 
 /// The event that the step offers.
-fn offered(alloc: Global, step: Step) -> Result<Option<Incoming>, AllocError> {
-    Ok(Some(match step {
+fn offered(alloc: Global, step: Step) -> Result<Incoming, AllocError> {
+    Ok(match step {
         Step::Offer(byte) => Incoming::HttpRequest {
             body: octets(alloc, byte)?,
             more_body: true,
@@ -186,16 +177,17 @@ fn offered(alloc: Global, step: Step) -> Result<Option<Incoming>, AllocError> {
             payload: Payload::Bytes(octets(alloc, byte)?),
         },
         Step::OfferStartup => Incoming::LifespanStartup,
-        Step::OfferShutdown => Incoming::LifespanShutdown,
-        _ => return Ok(None),
-    }))
+        _ => Incoming::LifespanShutdown,
+    })
 }
 
 /// The event that the step says.
-fn said(alloc: Global, step: Step) -> Result<Option<Outgoing>, AllocError> {
-    let headers = Headers::new(alloc);
-    Ok(Some(match step {
-        Step::Start(status) => Outgoing::ResponseStart { status, headers },
+fn said(alloc: Global, step: Step) -> Result<Outgoing, AllocError> {
+    Ok(match step {
+        Step::Start(status) => Outgoing::ResponseStart {
+            status,
+            headers: Headers::new(alloc),
+        },
         Step::Body(byte) => Outgoing::ResponseBody {
             body: octets(alloc, byte)?,
             more_body: true,
@@ -206,7 +198,7 @@ fn said(alloc: Global, step: Step) -> Result<Option<Outgoing>, AllocError> {
         },
         Step::Accept => Outgoing::WsAccept {
             subprotocol: None,
-            headers,
+            headers: Headers::new(alloc),
         },
         Step::Send(byte) => Outgoing::WsSend {
             payload: Payload::Bytes(octets(alloc, byte)?),
@@ -215,7 +207,10 @@ fn said(alloc: Global, step: Step) -> Result<Option<Outgoing>, AllocError> {
             code,
             reason: chars(alloc, "bye")?,
         },
-        Step::DenialStart(status) => Outgoing::DenialStart { status, headers },
+        Step::DenialStart(status) => Outgoing::DenialStart {
+            status,
+            headers: Headers::new(alloc),
+        },
         Step::LastDenial(byte) => Outgoing::DenialBody {
             body: octets(alloc, byte)?,
             more_body: false,
@@ -223,9 +218,8 @@ fn said(alloc: Global, step: Step) -> Result<Option<Outgoing>, AllocError> {
         Step::Started => Outgoing::StartupComplete {
             state: State::new(alloc),
         },
-        Step::Stopped => Outgoing::ShutdownComplete,
-        _ => return Ok(None),
-    }))
+        _ => Outgoing::ShutdownComplete,
+    })
 }
 
 impl Pair {
@@ -248,27 +242,19 @@ impl Pair {
         }
     }
 
-    fn receive(&mut self, cx: &mut Context<'_>) -> Answer
-        ensures { Keeps cx.old cx.new }
-    {
+    fn receive(&mut self, cx: &mut Context<'_>) -> Answer {
         match self.app.poll_receive(cx) {
             Poll::Ready(event) => shown_heard(&event),
             Poll::Pending => Answer::Pending,
         }
     }
 
-    fn say(&mut self, cx: &mut Context<'_>, event: Outgoing) -> Answer
-        ensures { Keeps cx.old cx.new }
-    {
+    fn say(&mut self, cx: &mut Context<'_>, event: Outgoing) -> Answer {
         if self.finished {
             return Answer::Nothing;
         }
-        match self.app.poll_send(cx, event) {
-            Sent::Done => Answer::Done,
-            Sent::Ignored => Answer::Ignored,
-            Sent::Full(_) => Answer::Full,
-            Sent::Refused(number, _) => Answer::Refused(number),
-        }
+        let sent = self.app.poll_send(cx, event);
+        shown_sent(&sent)
     }
 
     fn finish(&mut self, end: EndKind) -> Answer {
@@ -288,6 +274,15 @@ impl Pair {
 
 fn yes_or_no(is: bool) -> Answer {
     if is { Answer::Yes } else { Answer::No }
+}
+
+fn shown_sent(sent: &Sent) -> Answer {
+    match sent {
+        Sent::Done => Answer::Done,
+        Sent::Ignored => Answer::Ignored,
+        Sent::Full(_) => Answer::Full,
+        Sent::Refused(number, _) => Answer::Refused(*number),
+    }
 }
 
 fn first(bytes: &[u8]) -> u16 {
@@ -366,25 +361,49 @@ fn pair_of(alloc: Global, kind: Kind, ring: usize) -> Result<Pair, AllocError> {
     })
 }
 
+/// A context comes from here, which the calls of the application's end ask for another poll.
+pub fn solo_of<R: RandomSource + AllocGlobal>(rt: &R) -> Result<Solo, AllocError> {
+    match Solo::new(rt, Doorbell::spinning()) {
+        Ok(solo) => Ok(solo),
+        Err(_) => Err(AllocError),
+    }
+}
+
+/// Runs the table on the pair, within one poll.
+fn run_on(
+    alloc: Global,
+    solo: &Solo,
+    pair: &mut Pair,
+    carries: bool,
+    rows: &[Row],
+) -> Result<Ran, AllocError> {
+    let mut cx = solo.begin();
+    let other = run(alloc, &mut cx, pair, carries, rows);
+    cx.cancel();
+    Ok((other?, left_in(pair)))
+}
+
+fn run_fresh(
+    alloc: Global,
+    solo: &Solo,
+    (kind, ring): (Kind, usize),
+    carries: bool,
+    rows: &[Row],
+) -> Result<Ran, AllocError> {
+    let mut pair = pair_of(alloc, kind, ring)?;
+    run_on(alloc, solo, &mut pair, carries, rows)
+}
+
 /// Runs the table on a fresh pair. `Err` where memory was refused.
 pub fn run_table<R: RandomSource + AllocGlobal>(
     rt: &R,
     kind: Kind,
     ring: usize,
     carries: bool,
-    rows: &'static [(Step, Answer)],
+    rows: &[Row],
 ) -> Result<Ran, AllocError> {
-    let table = Table {
-        alloc: rt.alloc(),
-        pair: Some(pair_of(rt.alloc(), kind, ring)?),
-        rows,
-        carries,
-    };
-    match table.now_or_never(rt) {
-        Ok(Some(ran)) => ran,
-        Ok(None) => Err(AllocError),
-        Err(_) => Err(AllocError),
-    }
+    let solo = solo_of(rt)?;
+    run_fresh(rt.alloc(), &solo, (kind, ring), carries, rows)
 }
 
 /// Compares each answer of the table and what is left in the queues.
@@ -393,11 +412,10 @@ pub fn check<R: Abort + RandomSource + AllocGlobal>(
     kind: Kind,
     ring: usize,
     carries: bool,
-    rows: &'static [(Step, Answer)],
-    left: (usize, usize),
+    rows: &[Row],
+    left: Left,
 ) -> Result<(), Fail> {
     let ran = run_table(rt, kind, ring, carries, rows)?;
-    assert_eq!(rt; ran.other, None);
-    assert_eq!(rt; (ran.met.left_in, ran.met.left_out), left);
+    assert_eq!(rt; ran, (None, left));
     Ok(())
 }

@@ -1,9 +1,8 @@
 //! Pairs of ends with 1,024 places each way, the most that the limits of a connection have.
-use super::{Answer, Pair, Ran, Step, meet, pair_of, run};
+use super::{Answer, Left, Pair, Row, Step, left_in, other_at, pair_of, run, solo_of};
 use asgi_pipes::EndKind;
 use asgi_types::Kind;
-use futures::task::{Context, Poll};
-use futures::{Future, FutureExt};
+use futures::task::{Context, Solo};
 use std::alloc::{AllocError, AllocGlobal, Global};
 use std::process::Abort;
 use std::random::RandomSource;
@@ -12,35 +11,9 @@ use std::test::Fail;
 /// The event places of each direction.
 const PLACES: usize = 1_024;
 
-/// A table that was made by loops, run within one poll.
-#[derive(Drop)]
-struct Long<'a> {
-    alloc: Global,
-    pair: Option<Pair>,
-    rows: &'a [(Step, Answer)],
-    carries: bool,
-}
-
-impl Future for Long<'_> {
-    type Output = Result<Ran, AllocError>;
-
-    fn poll(&mut self, cx: &mut Context<'_>) -> Poll<Result<Ran, AllocError>> {
-        let Some(mut pair) = self.pair.take() else {
-            return Poll::Ready(Err(AllocError));
-        };
-        match run(self.alloc, cx, &mut pair, self.rows, self.carries) {
-            Ok(other) => Poll::Ready(Ok(Ran {
-                other,
-                met: meet(&pair),
-            })),
-            Err(refused) => Poll::Ready(Err(refused)),
-        }
-    }
-}
-
 /// The byte of the event of this number. No two rows of 256 begin alike, so an event that is lost or moved shows.
 fn byte_of(number: usize) -> u8 {
-    ((number % 256 + number / 256 % 256) % 256) as u8
+    (number as u8).wrapping_add((number / 256) as u8)
 }
 
 /// What is done with 1,024 events in a row.
@@ -53,7 +26,7 @@ enum Many {
 }
 
 /// The call for the event of this number, with its answer.
-fn row_of(many: Many, number: usize) -> (Step, Answer) {
+fn row_of(many: Many, number: usize) -> Row {
     let byte = byte_of(number);
     match many {
         Many::Offer => (Step::Offer(byte), Answer::Taken),
@@ -63,127 +36,177 @@ fn row_of(many: Many, number: usize) -> (Step, Answer) {
     }
 }
 
-fn add(rows: &mut Vec<(Step, Answer)>, many: Many, from: usize) -> Result<(), AllocError> {
-    for number in from..PLACES {
-        rows.push(row_of(many, number))?;
-    }
-    Ok(())
+/// A part of a table: these rows, or those of the events from this number on, up to the last place.
+#[derive(Clone, Copy)]
+enum Part {
+    Rows(&'static [Row]),
+    Events(Many, usize),
 }
 
 /// All places are taken inward, and the reserved one by the disconnect.
-const INWARD_FULL: [(Step, Answer); 5] = [
+const INWARD_FULL: Part = Part::Rows(&[
     (Step::Offer(7), Answer::Back),
     (Step::Break, Answer::Yes),
     (Step::Offer(7), Answer::Back),
     (Step::Break, Answer::No),
     (Step::Carry, Answer::Nothing),
-];
+]);
 
-const INWARD_HEARD: [(Step, Answer); 2] = [
+const INWARD_HEARD: Part = Part::Rows(&[
     (Step::Receive, Answer::Event("disconnect", 0)),
     (Step::Receive, Answer::Event("disconnect", 0)),
+]);
+
+/// 1,024 events are offered, and then the disconnect. They are heard, the disconnect last and again.
+const INWARD: &[Part] = &[
+    Part::Events(Many::Offer, 0),
+    INWARD_FULL,
+    Part::Events(Many::Receive, 0),
+    INWARD_HEARD,
 ];
 
-/// 1,024 events are offered, and then the disconnect.
-fn fill_inward(rows: &mut Vec<(Step, Answer)>) -> Result<(), AllocError> {
-    add(rows, Many::Offer, 0)?;
-    rows.extend_from_slice(&INWARD_FULL)
-}
-
-/// They are heard, the disconnect last and again.
-fn empty_inward(rows: &mut Vec<(Step, Answer)>) -> Result<(), AllocError> {
-    add(rows, Many::Receive, 0)?;
-    rows.extend_from_slice(&INWARD_HEARD)
-}
+const STARTED: Part = Part::Rows(&[(Step::Start(200), Answer::Done)]);
 
 /// All places are taken outward, and the reserved one by the end.
-const OUTWARD_FULL: [(Step, Answer); 4] = [
+const OUTWARD_FULL: Part = Part::Rows(&[
     (Step::Body(7), Answer::Full),
     (Step::LastBody(7), Answer::Full),
     (Step::Finish(EndKind::Returned), Answer::Yes),
     (Step::Carry, Answer::Nothing),
-];
+]);
 
-const OUTWARD_TAKEN: [(Step, Answer); 2] = [
+const START_TAKEN: Part = Part::Rows(&[(Step::Take, Answer::Event("start", 200))]);
+
+const OUTWARD_TAKEN: Part = Part::Rows(&[
     (Step::Take, Answer::Ended(EndKind::Returned)),
     (Step::Take, Answer::Nothing),
+]);
+
+/// 1,024 events are said, a start and 1,023 bodies, and then the end. They are taken, the end last.
+const OUTWARD: &[Part] = &[
+    STARTED,
+    Part::Events(Many::Say, 1),
+    OUTWARD_FULL,
+    START_TAKEN,
+    Part::Events(Many::Take, 1),
+    OUTWARD_TAKEN,
 ];
 
-/// 1,024 events are said, a start and 1,023 bodies, and then the end.
-fn fill_outward(rows: &mut Vec<(Step, Answer)>) -> Result<(), AllocError> {
-    rows.push((Step::Start(200), Answer::Done))?;
-    add(rows, Many::Say, 1)?;
-    rows.extend_from_slice(&OUTWARD_FULL)
-}
+/// Each way is filled, and nothing is heard or taken.
+const BOTH_FULL: &[Part] = &[
+    STARTED,
+    Part::Events(Many::Say, 1),
+    OUTWARD_FULL,
+    Part::Events(Many::Offer, 0),
+    INWARD_FULL,
+];
 
-/// They are taken, the end last.
-fn empty_outward(rows: &mut Vec<(Step, Answer)>) -> Result<(), AllocError> {
-    rows.push((Step::Take, Answer::Event("start", 200)))?;
-    add(rows, Many::Take, 1)?;
-    rows.extend_from_slice(&OUTWARD_TAKEN)
-}
+/// The part and its first row, or the number of its first event, that answered otherwise, with the answer.
+type Other = Option<(usize, (usize, Answer))>;
 
-/// Runs the rows on a fresh pair. `Err` where memory was refused.
-fn run_long<R: RandomSource + AllocGlobal>(
-    rt: &R,
-    rows: &[(Step, Answer)],
+/// What the parts gave, and what was left behind them.
+type Ran = (Other, Left);
+
+fn run_events(
+    alloc: Global,
+    cx: &mut Context<'_>,
+    pair: &mut Pair,
     carries: bool,
-) -> Result<Ran, AllocError> {
-    let table = Long {
-        alloc: rt.alloc(),
-        pair: Some(pair_of(rt.alloc(), Kind::Http, PLACES)?),
-        rows,
-        carries,
-    };
-    match table.now_or_never(rt) {
-        Ok(Some(ran)) => ran,
-        Ok(None) => Err(AllocError),
-        Err(_) => Err(AllocError),
+    (many, from): (Many, usize),
+) -> Result<Option<(usize, Answer)>, AllocError> {
+    for number in from..PLACES {
+        if let Some(answer) = other_at(alloc, cx, pair, carries, row_of(many, number))? {
+            return Ok(Some((number, answer)));
+        }
+    }
+    Ok(None)
+}
+
+fn run_part(
+    alloc: Global,
+    cx: &mut Context<'_>,
+    pair: &mut Pair,
+    carries: bool,
+    part: Part,
+) -> Result<Option<(usize, Answer)>, AllocError> {
+    match part {
+        Part::Rows(rows) => run(alloc, cx, pair, carries, rows),
+        Part::Events(many, from) => run_events(alloc, cx, pair, carries, (many, from)),
     }
 }
 
-/// Compares each answer of the rows and what is left in the queues.
+fn run_parts(
+    alloc: Global,
+    cx: &mut Context<'_>,
+    pair: &mut Pair,
+    carries: bool,
+    parts: &[Part],
+) -> Result<Other, AllocError> {
+    for (place, part) in parts.iter().enumerate() {
+        if let Some(other) = run_part(alloc, cx, pair, carries, *part)? {
+            return Ok(Some((place, other)));
+        }
+    }
+    Ok(None)
+}
+
+/// Runs the parts on the pair, within one poll.
+fn run_on(
+    alloc: Global,
+    solo: &Solo,
+    pair: &mut Pair,
+    carries: bool,
+    parts: &[Part],
+) -> Result<Ran, AllocError> {
+    let mut cx = solo.begin();
+    let other = run_parts(alloc, &mut cx, pair, carries, parts);
+    cx.cancel();
+    Ok((other?, left_in(pair)))
+}
+
+fn run_fresh(
+    alloc: Global,
+    solo: &Solo,
+    carries: bool,
+    parts: &[Part],
+) -> Result<Ran, AllocError> {
+    let mut pair = pair_of(alloc, Kind::Http, PLACES)?;
+    run_on(alloc, solo, &mut pair, carries, parts)
+}
+
+/// What the parts give where nothing is carried, and where all is behind each call.
+fn run_both<R: RandomSource + AllocGlobal>(
+    rt: &R,
+    parts: &[Part],
+) -> Result<(Ran, Ran), AllocError> {
+    let solo = solo_of(rt)?;
+    let late = run_fresh(rt.alloc(), &solo, false, parts)?;
+    let carried = run_fresh(rt.alloc(), &solo, true, parts)?;
+    Ok((late, carried))
+}
+
+/// Compares each answer of the parts and what is left in the queues.
 fn check<R: Abort + RandomSource + AllocGlobal>(
     rt: &R,
-    rows: &[(Step, Answer)],
-    carries: bool,
-    left: (usize, usize),
+    parts: &[Part],
+    left: Left,
 ) -> Result<(), Fail> {
-    let ran = run_long(rt, rows, carries)?;
-    assert_eq!(rt; ran.other, None);
-    assert_eq!(rt; (ran.met.left_in, ran.met.left_out), left);
+    let ran = run_both(rt, parts)?;
+    assert_eq!(rt; ran, ((None, left), (None, left)));
     Ok(())
 }
 
 #[test]
 fn events_go_through_1024_places(rt: HostRuntime) -> Result<(), Fail> {
-    for carries in [false, true] {
-        let mut rows = Vec::new(rt.alloc());
-        fill_inward(&mut rows)?;
-        empty_inward(&mut rows)?;
-        check(&rt, &rows, carries, (0, 0))?;
-    }
-    Ok(())
+    check(&rt, INWARD, (0, 0))
 }
 
 #[test]
 fn what_is_said_goes_through_1024_places(rt: HostRuntime) -> Result<(), Fail> {
-    for carries in [false, true] {
-        let mut rows = Vec::new(rt.alloc());
-        fill_outward(&mut rows)?;
-        empty_outward(&mut rows)?;
-        check(&rt, &rows, carries, (0, 0))?;
-    }
-    Ok(())
+    check(&rt, OUTWARD, (0, 0))
 }
 
 #[test]
 fn what_stays_in_full_queues_is_counted(rt: HostRuntime) -> Result<(), Fail> {
-    for carries in [false, true] {
-        let mut rows = Vec::new(rt.alloc());
-        fill_outward(&mut rows)?;
-        fill_inward(&mut rows)?;
-        check(&rt, &rows, carries, (1_025, 1_025))?;
-    }
-    Ok(())
+    check(&rt, BOTH_FULL, (1_025, 1_025))
 }

@@ -1,5 +1,5 @@
 //! Pairs of ends in HTTP scopes.
-use super::{Answer, Step, check};
+use super::{Answer, Row, Step, check};
 use asgi_pipes::EndKind;
 use asgi_types::Kind;
 use std::test::Fail;
@@ -7,7 +7,7 @@ use std::test::Fail;
 const DISCONNECT: Answer = Answer::Event("disconnect", 0);
 
 /// Two places: each call's answers, with what was put carried after each call.
-pub const PAIR_OF_TWO_PLACES: &[(Step, Answer)] = &[
+pub const PAIR_OF_TWO_PLACES: &[Row] = &[
     (Step::Offer(1), Answer::Taken),
     (Step::Offer(2), Answer::Taken),
     (Step::Offer(3), Answer::Back),
@@ -27,7 +27,7 @@ fn pair_of_two_places(rt: HostRuntime) -> Result<(), Fail> {
     check(&rt, Kind::Http, 2, true, PAIR_OF_TWO_PLACES, (0, 0))
 }
 
-pub const EVERY_ANSWER: &[(Step, Answer)] = &[
+pub const EVERY_ANSWER: &[Row] = &[
     (Step::Moved, Answer::No),
     (Step::Receive, Answer::Pending),
     (Step::Moved, Answer::No),
@@ -63,7 +63,7 @@ fn every_answer_of_a_send(rt: HostRuntime) -> Result<(), Fail> {
 }
 
 /// What was offered is not heard behind the complete response, and is left.
-const COMPLETE_RESPONSE: &[(Step, Answer)] = &[
+const COMPLETE_RESPONSE: &[Row] = &[
     (Step::Offer(1), Answer::Taken),
     (Step::Receive, Answer::Event("body", 1)),
     (Step::Moved, Answer::Yes),
@@ -84,7 +84,7 @@ fn nothing_is_heard_behind_a_complete_response(rt: HostRuntime) -> Result<(), Fa
 }
 
 /// A heard disconnect lets nothing through.
-const AFTER_A_DISCONNECT: &[(Step, Answer)] = &[
+const AFTER_A_DISCONNECT: &[Row] = &[
     (Step::Start(204), Answer::Done),
     (Step::Break, Answer::Yes),
     (Step::Body(1), Answer::Done),
@@ -102,7 +102,7 @@ fn nothing_is_said_behind_a_heard_disconnect(rt: HostRuntime) -> Result<(), Fail
 }
 
 /// What was put stays at its end until it is carried, and its places with it.
-const CARRIED_LATE: &[(Step, Answer)] = &[
+const CARRIED_LATE: &[Row] = &[
     (Step::Offer(1), Answer::Taken),
     (Step::Offer(2), Answer::Taken),
     (Step::Offer(3), Answer::Back),
@@ -124,7 +124,7 @@ fn what_was_put_waits_to_be_carried(rt: HostRuntime) -> Result<(), Fail> {
 }
 
 /// With no place but the reserved ones, a disconnect and an end go through.
-const NO_PLACES: &[(Step, Answer)] = &[
+const NO_PLACES: &[Row] = &[
     (Step::Offer(1), Answer::Back),
     (Step::Start(200), Answer::Full),
     (Step::Break, Answer::Yes),

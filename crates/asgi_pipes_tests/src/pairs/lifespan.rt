@@ -1,10 +1,10 @@
 //! Pairs of ends in lifespan scopes, which hear no disconnect.
-use super::{Answer, Step, check};
+use super::{Answer, Row, Step, check};
 use asgi_pipes::EndKind;
 use asgi_types::Kind;
 use std::test::Fail;
 
-const SERVICE: &[(Step, Answer)] = &[
+const SERVICE: &[Row] = &[
     (Step::Receive, Answer::Pending),
     (Step::OfferStartup, Answer::Taken),
     (Step::Receive, Answer::Event("startup", 0)),

@@ -1,18 +1,17 @@
 //! Pairs made out of the ends of another one answer as fresh ones.
-ghost use Rattle.futures.specs.Task.{Keeps};
-
 use super::http::{EVERY_ANSWER, PAIR_OF_TWO_PLACES};
-use super::{Answer, Pair, Step, facts, meet, pair_of, run};
-use asgi_pipes::{EndKind, Met, Pipes, Plain};
+use super::{Answer, Pair, Ran, Row, Step, facts, pair_of, run_on, solo_of};
+use asgi_pipes::{EndKind, Pipes, Plain};
 use asgi_types::Kind;
-use futures::task::{Context, Poll};
-use futures::{Future, FutureExt};
+use futures::task::Solo;
 use std::alloc::{AllocError, AllocGlobal, Global};
+use std::process::Abort;
+use std::random::RandomSource;
 use std::test::Fail;
 
 /// Leaves an item in each queue of both ends: an event that was carried and the disconnect in the one
 /// direction, the close that was carried and the end in the other.
-const LEAVES_ITEMS: &[(Step, Answer)] = &[
+const LEAVES_ITEMS: &[Row] = &[
     (Step::OfferConnect, Answer::Taken),
     (Step::Carry, Answer::Nothing),
     (Step::Receive, Answer::Event("connect", 0)),
@@ -29,65 +28,47 @@ const LEAVES_ITEMS: &[(Step, Answer)] = &[
 ];
 
 /// Nothing came through, and nothing moved.
-const NOTHING_CAME: &[(Step, Answer)] = &[
+const NOTHING_CAME: &[Row] = &[
     (Step::Take, Answer::Nothing),
     (Step::Receive, Answer::Pending),
     (Step::Moved, Answer::No),
 ];
 
-/// The first row that answered otherwise on the pair before, what was left there, and the first row
-/// that answered otherwise on the new one.
-#[derive(Clone, Copy, Debug)]
-struct Ran {
-    before: Option<(usize, Answer)>,
-    met: Met,
-    other: Option<(usize, Answer)>,
-}
+/// What the table gave on the pair before, and what the one on the new pair gave.
+type Twice = (Ran, Ran);
 
-/// Two tables, within one poll: one on a WebSocket pair, and one on an HTTP pair out of its ends.
-#[derive(Drop)]
-struct Again {
+/// Runs a table on a WebSocket pair of so many places, and the rows on an HTTP pair out of its ends.
+fn run_twice(
     alloc: Global,
-    pair: Option<Pair>,
+    solo: &Solo,
     ring: usize,
-    rows: &'static [(Step, Answer)],
-}
-
-impl Future for Again {
-    type Output = Result<Ran, AllocError>;
-
-    fn poll(&mut self, cx: &mut Context<'_>) -> Poll<Result<Ran, AllocError>> {
-        let Some(pair) = self.pair.take() else {
-            return Poll::Ready(Err(AllocError));
-        };
-        Poll::Ready(run_again(self.alloc, cx, pair, self.ring, self.rows))
+    rows: &[Row],
+) -> Result<Twice, AllocError> {
+    let mut pair = pair_of(alloc, Kind::WebSocket, ring)?;
+    match run_on(alloc, solo, &mut pair, false, LEAVES_ITEMS) {
+        Ok(before) => Ok((before, run_renewed(alloc, solo, pair, rows)?)),
+        Err(refused) => Err(refused),
     }
 }
 
-fn run_again(
+fn run_renewed(
     alloc: Global,
-    cx: &mut Context<'_>,
+    solo: &Solo,
     pair: Pair,
-    ring: usize,
-    rows: &[(Step, Answer)],
-) -> Result<Ran, AllocError>
-    ensures { Keeps cx.old cx.new }
-{
-    let mut pair = pair;
-    let before = run(alloc, cx, &mut pair, LEAVES_ITEMS, false)?;
-    let met = meet(&pair);
-    let mut pair = renewed(alloc, pair, ring)?;
-    let other = run(alloc, cx, &mut pair, rows, true)?;
-    Ok(Ran { before, met, other })
+    rows: &[Row],
+) -> Result<Ran, AllocError> {
+    let mut pair = renewed(alloc, pair)?;
+    run_on(alloc, solo, &mut pair, true, rows)
 }
 
-fn renewed(alloc: Global, pair: Pair, ring: usize) -> Result<Pair, AllocError> {
+/// An HTTP pair of two places.
+fn renewed(alloc: Global, pair: Pair) -> Result<Pair, AllocError> {
     let Pair {
         conn,
         app,
         finished: _,
     } = pair;
-    let (conn, app) = Plain.renew(alloc, conn, app, Kind::Http, facts(alloc), ring)?;
+    let (conn, app) = Plain.renew(alloc, conn, app, Kind::Http, facts(alloc), 2)?;
     Ok(Pair {
         conn,
         app,
@@ -95,26 +76,23 @@ fn renewed(alloc: Global, pair: Pair, ring: usize) -> Result<Pair, AllocError> {
     })
 }
 
+/// Each leaves nothing on the new pair.
+const TABLES: &[&[Row]] = &[NOTHING_CAME, PAIR_OF_TWO_PLACES, EVERY_ANSWER];
+
+fn check_renewed<R: Abort + AllocGlobal>(rt: &R, solo: &Solo, ring: usize) -> Result<(), Fail> {
+    for (place, rows) in TABLES.iter().enumerate() {
+        let ran = run_twice(rt.alloc(), solo, ring, rows)?;
+        assert_eq!(rt; ran, ((None, (2, 2)), (None, (0, 0))), "{ring}, table {place}");
+    }
+    Ok(())
+}
+
 #[test]
 fn renewed_pair_answers_as_a_fresh_one(rt: HostRuntime) -> Result<(), Fail> {
-    let alloc = rt.alloc();
+    let solo = solo_of(&rt)?;
     // The pair before has as many places, fewer, or more.
     for ring in [2, 1, 3] {
-        for rows in [NOTHING_CAME, PAIR_OF_TWO_PLACES, EVERY_ANSWER] {
-            let again = Again {
-                alloc,
-                pair: Some(pair_of(alloc, Kind::WebSocket, ring)?),
-                ring: 2,
-                rows,
-            };
-            let ran = match again.now_or_never(&rt) {
-                Ok(Some(ran)) => ran?,
-                _ => panic!(rt; "not ready"),
-            };
-            assert_eq!(rt; ran.before, None, "{ring}");
-            assert_eq!(rt; (ran.met.left_in, ran.met.left_out), (2, 2), "{ring}");
-            assert_eq!(rt; ran.other, None, "{ring}");
-        }
+        check_renewed(&rt, &solo, ring)?;
     }
     Ok(())
 }

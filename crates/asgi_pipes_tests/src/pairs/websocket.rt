@@ -1,11 +1,11 @@
 //! Pairs of ends in WebSocket scopes.
-use super::{Answer, Step, check};
+use super::{Answer, Row, Step, check};
 use asgi_pipes::EndKind;
 use asgi_types::Kind;
 use std::test::Fail;
 
 /// A client's close is heard again and again, with its code.
-const CLIENT_CLOSES: &[(Step, Answer)] = &[
+const CLIENT_CLOSES: &[Row] = &[
     (Step::OfferConnect, Answer::Taken),
     (Step::Receive, Answer::Event("connect", 0)),
     (Step::Accept, Answer::Done),
@@ -28,7 +28,7 @@ fn client_closes(rt: HostRuntime) -> Result<(), Fail> {
 }
 
 /// Behind the application's own close no message is heard, but a disconnect with its code.
-const APPLICATION_CLOSES: &[(Step, Answer)] = &[
+const APPLICATION_CLOSES: &[Row] = &[
     (Step::OfferConnect, Answer::Taken),
     (Step::Receive, Answer::Event("connect", 0)),
     (Step::Accept, Answer::Done),
@@ -49,13 +49,13 @@ fn application_closes(rt: HostRuntime) -> Result<(), Fail> {
 }
 
 /// A handshake that is refused has no open session, so its code is 1006.
-const REJECTED: &[(Step, Answer)] = &[
+const REJECTED: &[Row] = &[
     (Step::Close(3000), Answer::Done),
     (Step::Receive, Answer::Event("disconnect", 1006)),
     (Step::Accept, Answer::Refused(1)),
 ];
 
-const DENIED: &[(Step, Answer)] = &[
+const DENIED: &[Row] = &[
     (Step::DenialStart(401), Answer::Done),
     (Step::Receive, Answer::Pending),
     (Step::LastDenial(7), Answer::Done),

@@ -1,5 +1,0 @@
-use Rattle.futures.specs.Task.{Keeps}
-use Rattle.asgi_pipes_tests.proofs.pairs.run.Given as goal
-
-abbrev pub invariant-loop-index : goal.invariant-loop-index
-invariant-loop-index l = record { kept : Keeps l.initial.cx l.cx }
