@@ -1,6 +1,6 @@
 //! Fields, bytes and limits, on examples: what is taken, what is refused, and what is kept.
 
-use crate::values::{octets, of_given};
+use crate::values::{octets, wrong_given};
 use asgi_types::{BadLimit, HeaderError, Headers, Limits};
 use std::alloc::{AllocError, Global};
 use std::process::Abort;
@@ -146,20 +146,15 @@ fn wrong_push(headers: &mut Headers) -> Option<usize> {
     None
 }
 
-fn wrong_copied(alloc: Global, held: &Headers) -> Result<Option<usize>, AllocError> {
-    of_given(held.copy(alloc), wrong_field)
-}
-
-fn keeps_order(rt: &(impl Abort + AllocGlobal), headers: &mut Headers) -> Result<(), Fail> {
+fn keeps_order(rt: &(impl Abort + AllocGlobal), headers: &mut Headers) {
     assert_eq!(rt; wrong_push(headers), None);
     assert_eq!(rt; wrong_field(headers), None);
-    assert_eq!(rt; wrong_copied(rt.alloc(), headers)?, None);
-    Ok(())
+    assert_eq!(rt; wrong_given(headers.copy(rt.alloc()), wrong_field), None);
 }
 
 #[test]
-fn fields_keep_their_order(rt: HostRuntime) -> Result<(), Fail> {
-    keeps_order(&rt, &mut Headers::new(rt.alloc()))
+fn fields_keep_their_order(rt: HostRuntime) {
+    keeps_order(&rt, &mut Headers::new(rt.alloc()));
 }
 
 fn are_bytes(alloc: Global, bytes: &[u8]) -> Result<bool, AllocError> {

@@ -4,7 +4,7 @@
 use crate::scopes::{is_copied, is_peer};
 use crate::values::{
     Sort, Sorts, are_facts, facts, is_of_sort, new_octets, new_text, of_given, value_of_sort,
-    wrong_name, wrong_sort,
+    wrong_given, wrong_name, wrong_sort,
 };
 use asgi_types::{Chars, Facts, Framing, Headers, Kind, Names, Octets, Peer, State, StateValue};
 use std::alloc::{AllocError, Global};
@@ -124,17 +124,18 @@ fn wrong_push(headers: &mut Headers) -> Option<usize> {
 }
 
 /// The first field that is not added, or is not held or copied then.
-fn wrong_of_fields(alloc: Global, headers: &mut Headers) -> Result<Option<usize>, AllocError> {
+fn wrong_of_fields(alloc: Global, headers: &mut Headers) -> Option<usize> {
     let pushed = wrong_push(headers);
-    let copied = of_given(copy_of_headers(alloc, headers), wrong_field)?;
-    Ok(pushed.or(wrong_field(headers)).or(copied))
+    let copied = wrong_given(copy_of_headers(alloc, headers), wrong_field);
+    pushed.or(wrong_field(headers)).or(copied)
 }
 
 #[test]
-fn memory_for_headers(rt: HostRuntime) -> Result<(), Fail> {
-    let wrong = wrong_of_fields(rt.alloc(), &mut Headers::new(rt.alloc()))?;
-    assert_eq!(rt; wrong, None);
-    Ok(())
+fn memory_for_headers(rt: HostRuntime) {
+    assert_eq!(rt;
+        wrong_of_fields(rt.alloc(), &mut Headers::new(rt.alloc())),
+        None
+    );
 }
 
 fn are_octets(alloc: Global) -> Result<bool, AllocError> {
@@ -154,64 +155,61 @@ fn memory_for_texts(rt: HostRuntime) -> Result<(), Fail> {
     Ok(())
 }
 
-/// The name is added, at the second attempt where the first was refused and left the list as it was.
-fn is_name_added(alloc: Global, names: &mut Names) -> Result<bool, AllocError> {
-    let before = names.len();
-    if names.push(new_text(alloc, "chat")?).is_ok() {
-        return Ok(true);
+fn is_pushed(alloc: Global, names: &mut Names) -> bool {
+    match new_text(alloc, "chat") {
+        Ok(name) => names.push(name).is_ok(),
+        Err(_) => false,
     }
-    let is_as_before = names.len() == before;
-    names.push(new_text(alloc, "chat")?)?;
-    Ok(is_as_before)
+}
+
+/// The name is added, at the second attempt where the first was refused and left the list as it was.
+fn is_name_added(alloc: Global, names: &mut Names) -> bool {
+    let before = names.len();
+    is_pushed(alloc, names) || (names.len() == before && is_pushed(alloc, names))
 }
 
 const NAMES: &[&str] = &["chat", "chat", "chat", "chat", "chat"];
 
 /// The first name that is not added.
-fn wrong_added(alloc: Global, names: &mut Names) -> Result<Option<usize>, AllocError> {
+fn wrong_added(alloc: Global, names: &mut Names) -> Option<usize> {
     for index in 0..5usize {
-        if !is_name_added(alloc, names)? {
-            return Ok(Some(index));
+        if !is_name_added(alloc, names) {
+            return Some(index);
         }
     }
-    Ok(None)
+    None
 }
 
 /// The first name that is not added, or is not held or copied then.
-fn wrong_of_names(alloc: Global, names: &mut Names) -> Result<Option<usize>, AllocError> {
-    let added = wrong_added(alloc, names)?;
-    let copied = of_given(
+fn wrong_of_names(alloc: Global, names: &mut Names) -> Option<usize> {
+    let added = wrong_added(alloc, names);
+    let copied = wrong_given(
         copy_of_names(alloc, names),
         |copied| wrong_name(copied, NAMES),
-    )?;
-    Ok(added.or(wrong_name(names, NAMES)).or(copied))
+    );
+    added.or(wrong_name(names, NAMES)).or(copied)
 }
 
 #[test]
-fn memory_for_names(rt: HostRuntime) -> Result<(), Fail> {
-    let wrong = wrong_of_names(rt.alloc(), &mut Names::new(rt.alloc()))?;
-    assert_eq!(rt; wrong, None);
-    Ok(())
+fn memory_for_names(rt: HostRuntime) {
+    assert_eq!(rt;
+        wrong_of_names(rt.alloc(), &mut Names::new(rt.alloc())),
+        None
+    );
 }
 
-fn is_set(alloc: Global, state: &mut State, name: &str, sort: Sort) -> Result<bool, AllocError> {
-    match new_value(alloc, sort) {
-        Ok(value) => Ok(state.set(name, value).is_ok()),
-        Err(refused) => Err(refused),
+type Row = (&'static str, Sort);
+
+fn is_set(alloc: Global, state: &mut State, row: &Row) -> bool {
+    match new_value(alloc, row.1) {
+        Ok(value) => state.set(row.0, value).is_ok(),
+        Err(_) => false,
     }
 }
 
 /// The value is set, at the second attempt where the first was refused and left no value under the name.
-fn is_set_again(
-    alloc: Global,
-    state: &mut State,
-    name: &str,
-    sort: Sort,
-) -> Result<bool, AllocError> {
-    if is_set(alloc, state, name, sort)? {
-        return Ok(true);
-    }
-    Ok(state.get(name).is_none() && is_set(alloc, state, name, sort)?)
+fn is_set_again(alloc: Global, state: &mut State, row: &Row) -> bool {
+    is_set(alloc, state, row) || (state.get(row.0).is_none() && is_set(alloc, state, row))
 }
 
 const SORTS: Sorts = &[
@@ -223,30 +221,31 @@ const SORTS: Sorts = &[
 ];
 
 /// The first row whose value is not set.
-fn wrong_set(alloc: Global, state: &mut State) -> Result<Option<usize>, AllocError> {
+fn wrong_set(alloc: Global, state: &mut State) -> Option<usize> {
     for (index, row) in SORTS.iter().enumerate() {
-        if !is_set_again(alloc, state, row.0, row.1)? {
-            return Ok(Some(index));
+        if !is_set_again(alloc, state, row) {
+            return Some(index);
         }
     }
-    Ok(None)
+    None
 }
 
 /// The first row whose value is not set, or is not held or copied then.
-fn wrong_of_state(alloc: Global, state: &mut State) -> Result<Option<usize>, AllocError> {
-    let set = wrong_set(alloc, state)?;
-    let copied = of_given(
+fn wrong_of_state(alloc: Global, state: &mut State) -> Option<usize> {
+    let set = wrong_set(alloc, state);
+    let copied = wrong_given(
         copy_of_state(alloc, state),
         |copied| wrong_sort(copied, SORTS),
-    )?;
-    Ok(set.or(wrong_sort(state, SORTS)).or(copied))
+    );
+    set.or(wrong_sort(state, SORTS)).or(copied)
 }
 
 #[test]
-fn memory_for_a_state(rt: HostRuntime) -> Result<(), Fail> {
-    let wrong = wrong_of_state(rt.alloc(), &mut State::new(rt.alloc()))?;
-    assert_eq!(rt; wrong, None);
-    Ok(())
+fn memory_for_a_state(rt: HostRuntime) {
+    assert_eq!(rt;
+        wrong_of_state(rt.alloc(), &mut State::new(rt.alloc())),
+        None
+    );
 }
 
 #[test]

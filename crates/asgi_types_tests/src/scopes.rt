@@ -3,7 +3,7 @@
 use crate::values::{Sort, is_name, is_of_sort, new_octets, new_text, of, of_given, value_of_sort};
 use asgi_types::{
     Asgi, Chars, Extensions, Headers, HttpScope, HttpVersion, Kind, LifespanScope, Names, Octets,
-    Peer, Scope, State, StateValue, WsScope,
+    Peer, Scope, State, WsScope,
 };
 use std::alloc::{AllocError, Global};
 use std::test::Fail;

@@ -51,6 +51,19 @@ pub fn of_given<T: Drop, S, F: FnOnce(&T) -> S>(
     }
 }
 
+/// The first that is wrong in what a call gave, and 0 where the call was refused memory.
+pub fn wrong_given<T: Drop, F: FnOnce(&T) -> Option<usize>>(
+    given: Result<T, AllocError>,
+    says: F,
+) -> Option<usize>
+    requires { F.IsAlwaysCallable says }
+{
+    match given {
+        Ok(value) => of(value, says),
+        Err(_) => Some(0),
+    }
+}
+
 const TEXTS: &[&str] = &["", "chat", "/a/\u{fffd}"];
 
 fn is_a_text(alloc: Global, text: &str) -> Result<bool, AllocError> {
@@ -92,33 +105,24 @@ pub fn push(alloc: Global, names: &mut Names, name: &str) -> Result<(), AllocErr
     names.push(chars(alloc, name)?)
 }
 
-fn push_all(alloc: Global, names: &mut Names, wanted: &[&str]) -> Result<(), AllocError> {
-    for name in wanted {
-        push(alloc, names, *name)?;
+/// The first name that is not pushed.
+fn wrong_push(alloc: Global, names: &mut Names, wanted: &[&str]) -> Option<usize> {
+    for (index, name) in wanted.iter().enumerate() {
+        if push(alloc, names, *name).is_err() {
+            return Some(index);
+        }
     }
-    Ok(())
+    None
 }
 
-fn wrong_name_copied(
-    alloc: Global,
-    held: &Names,
-    wanted: &[&str],
-) -> Result<Option<usize>, AllocError> {
-    of_given(held.copy(alloc), |copied| wrong_name(copied, wanted))
-}
-
-fn wrong_name_of(
-    alloc: Global,
-    names: &mut Names,
-    wanted: &[&str],
-) -> Result<Option<usize>, AllocError> {
-    push_all(alloc, names, wanted)?;
-    let copied = wrong_name_copied(alloc, names, wanted)?;
-    Ok(wrong_name(names, wanted).or(copied))
+fn wrong_name_of(alloc: Global, names: &mut Names, wanted: &[&str]) -> Option<usize> {
+    let pushed = wrong_push(alloc, names, wanted);
+    let copied = wrong_given(names.copy(alloc), |copied| wrong_name(copied, wanted));
+    pushed.or(wrong_name(names, wanted)).or(copied)
 }
 
 /// The index of the first name that a new list of these names, or its copy, has not as it was pushed.
-pub fn wrong_name_in(alloc: Global, wanted: &[&str]) -> Result<Option<usize>, AllocError> {
+pub fn wrong_name_in(alloc: Global, wanted: &[&str]) -> Option<usize> {
     wrong_name_of(alloc, &mut Names::new(alloc), wanted)
 }
 
@@ -127,10 +131,9 @@ fn is_empty(names: &Names) -> bool {
 }
 
 #[test]
-fn names_keep_their_order(rt: HostRuntime) -> Result<(), Fail> {
+fn names_keep_their_order(rt: HostRuntime) {
     assert!(rt; of(Names::new(rt.alloc()), is_empty));
-    assert_eq!(rt; wrong_name_in(rt.alloc(), &["chat", "soap", "chat"])?, None);
-    Ok(())
+    assert_eq!(rt; wrong_name_in(rt.alloc(), &["chat", "soap", "chat"]), None);
 }
 
 const VERSIONS: &[(Kind, &str)] = &[
@@ -237,16 +240,15 @@ fn wrong_number(held: &State) -> Option<usize> {
     None
 }
 
-/// Sets the numbers 0 to 63. It answers the letters of the first name that had one before.
-fn fill(state: &mut State) -> Result<Option<usize>, StateError> {
+/// Sets the numbers 0 to 63. It answers the letters of the first name that had one before, or is not set.
+fn wrong_before(state: &mut State) -> Option<usize> {
     for letters in 0..64 {
         let name = name_of(letters);
-        if number_in(state, name).is_some() {
-            return Ok(Some(letters));
+        if number_in(state, name).is_some() || set(state, name, letters as u64).is_err() {
+            return Some(letters);
         }
-        set(state, name, letters as u64)?;
     }
-    Ok(None)
+    None
 }
 
 /// A name more is refused, and a held one is replaced.
@@ -257,20 +259,21 @@ fn is_full(state: &mut State) -> bool {
 
 /// The letters of the first name that is wrong: before it is set, once all are, or in a copy. It is 64 where a name more
 /// is not refused.
-fn wrong_name_of_64(alloc: Global, state: &mut State) -> Result<Option<usize>, StateError> {
-    let before = fill(state)?;
+fn wrong_name_of_64(alloc: Global, state: &mut State) -> Option<usize> {
+    let before = wrong_before(state);
     if !is_full(state) {
-        return Ok(Some(64));
+        return before.or(Some(64));
     }
-    let copied = of_given(state.copy(alloc), wrong_number)?;
-    Ok(before.or(wrong_number(state)).or(copied))
+    let copied = wrong_given(state.copy(alloc), wrong_number);
+    before.or(wrong_number(state)).or(copied)
 }
 
 #[test]
-fn a_state_has_at_most_64_names(rt: HostRuntime) -> Result<(), Fail> {
-    let wrong = wrong_name_of_64(rt.alloc(), &mut State::new(rt.alloc()))?;
-    assert_eq!(rt; wrong, None);
-    Ok(())
+fn a_state_has_at_most_64_names(rt: HostRuntime) {
+    assert_eq!(rt;
+        wrong_name_of_64(rt.alloc(), &mut State::new(rt.alloc())),
+        None
+    );
 }
 
 pub fn is_text(value: Option<&StateValue>, text: &str) -> bool {
@@ -343,15 +346,21 @@ pub fn wrong_sort(held: &State, sorts: Sorts) -> Option<usize> {
     None
 }
 
-fn set_sort(alloc: Global, state: &mut State, name: &str, sort: Sort) -> Result<(), StateError> {
-    state.set(name, value_of_sort(alloc, sort)?)
+fn is_set(alloc: Global, state: &mut State, row: &(&str, Sort)) -> bool {
+    match value_of_sort(alloc, row.1) {
+        Ok(value) => state.set(row.0, value).is_ok(),
+        Err(_) => false,
+    }
 }
 
-fn set_all(alloc: Global, state: &mut State) -> Result<(), StateError> {
-    for (name, sort) in SORTS {
-        set_sort(alloc, state, *name, *sort)?;
+/// The first row whose value is not set.
+fn wrong_set(alloc: Global, state: &mut State) -> Option<usize> {
+    for (index, row) in SORTS.iter().enumerate() {
+        if !is_set(alloc, state, row) {
+            return Some(index);
+        }
     }
-    Ok(())
+    None
 }
 
 // Names differ in case.
@@ -359,21 +368,22 @@ fn has_others(held: &State) -> bool {
     held.get("Text").is_some() || held.get("").is_some()
 }
 
-/// The first row whose name has not a value of its sort in the state or in its copy; one more where another name has one.
-fn wrong_sort_of(alloc: Global, state: &mut State) -> Result<Option<usize>, StateError> {
-    set_all(alloc, state)?;
+/// The first row whose value is not set, or not held or copied then; one more where another name has a value.
+fn wrong_sort_of(alloc: Global, state: &mut State) -> Option<usize> {
+    let set = wrong_set(alloc, state);
     if has_others(state) {
-        return Ok(Some(SORTS.len()));
+        return set.or(Some(SORTS.len()));
     }
-    let copied = of_given(state.copy(alloc), |copied| wrong_sort(copied, SORTS))?;
-    Ok(wrong_sort(state, SORTS).or(copied))
+    let copied = wrong_given(state.copy(alloc), |copied| wrong_sort(copied, SORTS));
+    set.or(wrong_sort(state, SORTS)).or(copied)
 }
 
 #[test]
-fn a_state_holds_each_sort_of_value(rt: HostRuntime) -> Result<(), Fail> {
-    let wrong = wrong_sort_of(rt.alloc(), &mut State::new(rt.alloc()))?;
-    assert_eq!(rt; wrong, None);
-    Ok(())
+fn a_state_holds_each_sort_of_value(rt: HostRuntime) {
+    assert_eq!(rt;
+        wrong_sort_of(rt.alloc(), &mut State::new(rt.alloc())),
+        None
+    );
 }
 
 /// A text, and the length that it is read as.
