@@ -12,6 +12,7 @@ use asgi_types::{
     Chars, Facts, Framing, HeaderError, Headers, HttpVersion, Names, Octets, Outgoing, Payload,
 };
 use std::alloc::{AllocError, Global};
+use std::process::Abort;
 use std::test::Fail;
 
 /// What a request says of itself.
@@ -75,6 +76,18 @@ const HANDSHAKE: Ask = Ask {
     framing: Framing::Upgrade,
 };
 
+const REFUSED_400: &str =
+    "HTTP/1.1 400 Bad Request\r\ncontent-length: 0\r\nconnection: close\r\n\r\n";
+
+const REFUSED_413: &str =
+    "HTTP/1.1 413 Content Too Large\r\ncontent-length: 0\r\nconnection: close\r\n\r\n";
+
+const REFUSED_426: &str =
+    "HTTP/1.1 426 Upgrade Required\r\nupgrade: websocket\r\nsec-websocket-version: 13\r\ncontent-length: 0\r\nconnection: upgrade, close\r\n\r\n";
+
+const REFUSED_500: &str =
+    "HTTP/1.1 500 Internal Server Error\r\ncontent-length: 0\r\nconnection: close\r\n\r\n";
+
 type Fields = &'static [(&'static str, &'static str)];
 
 /// An event in a table.
@@ -83,6 +96,8 @@ enum Say {
     Start(u16, Fields),
     Part(&'static str),
     Last(&'static str),
+    /// A last body of so many letters `z`.
+    LastLetters(usize),
     DenialStart(u16, Fields),
     DenialPart(&'static str),
     DenialLast(&'static str),
@@ -121,6 +136,10 @@ impl Say {
                 body: body_of(alloc, text)?,
                 more_body: false,
             }),
+            Say::LastLetters(size) => Ok(Outgoing::ResponseBody {
+                body: letters(alloc, size)?,
+                more_body: false,
+            }),
             Say::DenialStart(status, fields) => {
                 let headers = headers_of(alloc, fields)?;
                 Ok(Outgoing::DenialStart { status, headers })
@@ -151,14 +170,25 @@ impl Say {
 
 fn headers_of(alloc: Global, fields: Fields) -> Result<Headers, HeaderError> {
     let mut headers = Headers::new(alloc);
+    match push_all(&mut headers, fields) {
+        Ok(()) => Ok(headers),
+        Err(e) => Err(e),
+    }
+}
+
+fn push_all(headers: &mut Headers, fields: Fields) -> Result<(), HeaderError> {
     for (name, value) in fields {
         headers.push(name.as_bytes(), value.as_bytes())?;
     }
-    Ok(headers)
+    Ok(())
 }
 
 fn body_of(alloc: Global, text: &str) -> Result<Octets, AllocError> {
     Ok(Octets::new(Vec::from_slice(alloc, text.as_bytes())?))
+}
+
+fn letters(alloc: Global, size: usize) -> Result<Octets, AllocError> {
+    Ok(Octets::new(vec![in alloc; b'z'; size]?))
 }
 
 /// The text of such a request, with no event taken.
@@ -176,7 +206,7 @@ fn take_all(
     alloc: Global,
     said: &[Say],
     out: &mut Vec<u8>,
-) -> Result<(), Fail> {
+) -> Result<(), HeaderError> {
     for say in said {
         take(text, say.event(alloc)?, out)?;
     }
@@ -189,7 +219,7 @@ fn write_all(
     said: &[Say],
     end: Option<Input>,
     out: &mut Vec<u8>,
-) -> Result<(), Fail> {
+) -> Result<(), HeaderError> {
     text.begin(out)?;
     take_all(text, alloc, said, out)?;
     if let Some(input) = end {
@@ -198,10 +228,41 @@ fn write_all(
     Ok(())
 }
 
-/// All that is written for the events: what comes in front, each event's text, and what the end adds.
-fn written(alloc: Global, ask: Ask, said: &[Say], end: Option<Input>) -> Result<Vec<u8>, Fail> {
+/// What is said of all that is written for the events: what comes in front, each event's text, and what the end adds.
+fn of_written<F: FnOnce(&[u8]) -> bool>(
+    alloc: Global,
+    ask: Ask,
+    said: &[Say],
+    end: Option<Input>,
+    says: F,
+) -> Result<bool, HeaderError>
+    requires { F.IsAlwaysCallable says }
+{
     let mut out = Vec::new(alloc);
     let done = write_all(&mut fresh(alloc, ask), alloc, said, end, &mut out);
     done?;
-    Ok(out)
+    Ok(says(out.as_slice()))
+}
+
+/// Whether the text is all that is written.
+fn is_written(
+    alloc: Global,
+    ask: Ask,
+    said: &[Say],
+    end: Option<Input>,
+    text: &str,
+) -> Result<bool, HeaderError> {
+    of_written(alloc, ask, said, end, |out| out == text.as_bytes())
+}
+
+/// What was asked and said, and the text of it.
+type Row = (&'static str, Ask, &'static [Say], &'static str);
+
+/// Each row has its text.
+fn are_written(rt: &(impl Abort + AllocGlobal), rows: &[Row]) -> Result<(), Fail> {
+    for (name, ask, said, text) in rows {
+        let is_so = is_written(rt.alloc(), *ask, *said, None, *text)?;
+        assert!(rt; is_so, "{name}");
+    }
+    Ok(())
 }

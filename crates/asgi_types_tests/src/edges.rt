@@ -1,13 +1,13 @@
 //! The values at the edges that no clause reaches: many fields, many bytes, and nothing at all. With ample memory each
 //! call succeeds, and what was given comes back.
 
-use crate::values::{chars, is_name, is_number, of, of_given};
+use crate::scopes::KINDS;
+use crate::values::{is_number, of, of_given, set, wrong_given, wrong_name_in};
 use asgi_types::{
     Asgi, Chars, Extensions, Facts, Framing, HeaderError, Headers, HttpScope, HttpVersion, Kind,
-    LifespanScope, Names, Octets, Peer, Scope, State, StateError, StateValue, WsScope,
+    LifespanScope, Names, Octets, Peer, Scope, State, WsScope,
 };
 use std::alloc::{AllocError, Global};
-use std::process::Abort;
 use std::test::Fail;
 
 fn digit(number: usize) -> u8 {
@@ -38,41 +38,72 @@ fn is_field_at(held: &Headers, number: usize) -> bool {
     }
 }
 
-/// The fields of the numbers 0 to 199, by their index and as they are gone over.
-fn has_200_fields(rt: &impl Abort, held: &Headers) {
+/// The first field that is not that of its number, as they are gone over, or how many there are where it is not 200.
+fn wrong_in_order(held: &Headers) -> Option<usize> {
     let mut count = 0usize;
     for (name, value) in held.iter() {
-        assert!(rt; is_field(name, value, count), "field {count}");
+        if !is_field(name, value, count) {
+            return Some(count);
+        }
         count = count.saturating_add(1);
     }
-    for number in 0..200usize {
-        assert!(rt; is_field_at(held, number), "field {number}");
-    }
-    assert!(rt; count == 200 && held.len() == 200 && held.at(200).is_none());
+    if count == 200 { None } else { Some(count) }
 }
 
-fn has_200_fields_copied(rt: &(impl Abort + AllocGlobal), held: &Headers) -> Result<(), Fail> {
-    has_200_fields(rt, &held.copy(rt.alloc())?);
-    Ok(())
+/// The same by their index.
+fn wrong_by_index(held: &Headers) -> Option<usize> {
+    for number in 0..200usize {
+        if !is_field_at(held, number) {
+            return Some(number);
+        }
+    }
+    if held.len() == 200 && held.at(200).is_none() {
+        None
+    } else {
+        Some(200)
+    }
+}
+
+/// The first of the numbers 0 to 199 whose field is not there.
+fn wrong_field(held: &Headers) -> Option<usize> {
+    wrong_in_order(held).or(wrong_by_index(held))
+}
+
+/// The first of the numbers whose field is not pushed.
+fn wrong_push(headers: &mut Headers) -> Option<usize> {
+    for number in 0..200usize {
+        if push(headers, number).is_err() {
+            return Some(number);
+        }
+    }
+    None
+}
+
+fn wrong_of_200(alloc: Global, headers: &mut Headers) -> Option<usize> {
+    let pushed = wrong_push(headers);
+    let copied = wrong_given(headers.copy(alloc), wrong_field);
+    pushed.or(wrong_field(headers)).or(copied)
 }
 
 #[test]
-fn two_hundred_fields_are_kept(rt: HostRuntime) -> Result<(), Fail> {
-    let mut headers = Headers::new(rt.alloc());
-    for number in 0..200usize {
-        push(&mut headers, number)?;
-    }
-    has_200_fields(&rt, &headers);
-    has_200_fields_copied(&rt, &headers)
+fn two_hundred_fields_are_kept(rt: HostRuntime) {
+    assert_eq!(rt;
+        wrong_of_200(rt.alloc(), &mut Headers::new(rt.alloc())),
+        None
+    );
 }
 
 /// So many bytes, in rows of 251.
 fn bytes_of(alloc: Global, count: usize) -> Result<Vec<u8>, AllocError> {
-    let mut bytes = Vec::with_capacity(alloc, count)?;
-    for at in 0..count {
-        bytes.push(byte_at(at))?;
-    }
+    let mut bytes = vec![in alloc; 0; count]?;
+    fill(&mut bytes);
     Ok(bytes)
+}
+
+fn fill(bytes: &mut [u8]) {
+    for (at, byte) in bytes.iter_mut().enumerate() {
+        *byte = byte_at(at);
+    }
 }
 
 fn byte_at(at: usize) -> u8 {
@@ -96,43 +127,19 @@ fn are_kept(alloc: Global, count: usize) -> Result<bool, AllocError> {
     Ok(are_equal && are_taken && are_bytes(copied.into_vec().as_slice(), count))
 }
 
+const COUNTS: &[usize] = &[0, 1, 65_535, 65_536, 70_000, 1_048_576];
+
 #[test]
 fn octets_may_be_many(rt: HostRuntime) -> Result<(), Fail> {
-    for count in [0, 1, 65_535, 65_536, 70_000, 1_048_576] {
-        assert!(rt; are_kept(rt.alloc(), count)?, "{count} bytes");
+    for count in COUNTS {
+        assert!(rt; are_kept(rt.alloc(), *count)?, "{count} bytes");
     }
     Ok(())
-}
-
-/// The texts stand around an empty one.
-const NAMES: [&str; 3] = ["", "a", ""];
-
-fn are_names(held: &Names) -> bool {
-    for (index, name) in NAMES.iter().enumerate() {
-        if !is_name(held, index, name) {
-            return false;
-        }
-    }
-    held.len() == 3 && held.at(3).is_none()
-}
-
-fn are_names_copied(alloc: Global, held: &Names) -> Result<bool, AllocError> {
-    Ok(are_names(&held.copy(alloc)?))
-}
-
-fn push_name(alloc: Global, names: &mut Names, name: &str) -> Result<(), AllocError> {
-    names.push(chars(alloc, name)?)
 }
 
 #[test]
-fn a_list_has_empty_names(rt: HostRuntime) -> Result<(), Fail> {
-    let mut names = Names::new(rt.alloc());
-    for name in NAMES {
-        push_name(rt.alloc(), &mut names, name)?;
-    }
-    let is_so = are_names(&names) && are_names_copied(rt.alloc(), &names)?;
-    assert!(rt; is_so);
-    Ok(())
+fn a_list_has_empty_names(rt: HostRuntime) {
+    assert_eq!(rt; wrong_name_in(rt.alloc(), &["", "a", ""]), None);
 }
 
 /// The numbers under the empty name and under `a`, and nothing under another.
@@ -141,41 +148,34 @@ fn has_numbers(held: &State, empty: u64) -> bool {
 }
 
 fn has_numbers_copied(alloc: Global, held: &State, empty: u64) -> Result<bool, AllocError> {
-    Ok(has_numbers(held, empty) && has_numbers(&held.copy(alloc)?, empty))
+    let is_copied = of_given(held.copy(alloc), |copied| has_numbers(copied, empty))?;
+    Ok(is_copied && has_numbers(held, empty))
 }
 
-fn set(state: &mut State, name: &str, number: u64) -> Result<(), StateError> {
-    state.set(name, StateValue::Number(number))
+fn is_set(state: &mut State, name: &str, number: u64) -> bool {
+    set(state, name, number).is_ok()
 }
 
-fn is_first(alloc: Global, state: &mut State) -> Result<bool, StateError> {
-    set(state, "", 1)?;
-    set(state, "a", 2)?;
-    Ok(has_numbers_copied(alloc, state, 1)?)
+fn is_first(alloc: Global, state: &mut State) -> Result<bool, AllocError> {
+    Ok(is_set(state, "", 1) && is_set(state, "a", 2) && has_numbers_copied(alloc, state, 1)?)
 }
 
-fn is_replaced(alloc: Global, state: &mut State) -> Result<bool, StateError> {
-    set(state, "", 3)?;
-    Ok(has_numbers_copied(alloc, state, 3)?)
+fn is_replaced(alloc: Global, state: &mut State) -> Result<bool, AllocError> {
+    Ok(is_set(state, "", 3) && has_numbers_copied(alloc, state, 3)?)
 }
 
-fn has_empty_name(rt: &(impl Abort + AllocGlobal), state: &mut State) -> Result<(), Fail> {
-    assert!(rt; is_first(rt.alloc(), state)?);
-    assert!(rt; is_replaced(rt.alloc(), state)?);
-    Ok(())
+fn has_empty_name(alloc: Global, state: &mut State) -> Result<bool, AllocError> {
+    Ok(is_first(alloc, state)? && is_replaced(alloc, state)?)
 }
 
 #[test]
 fn a_state_has_a_value_under_the_empty_name(rt: HostRuntime) -> Result<(), Fail> {
-    has_empty_name(&rt, &mut State::new(rt.alloc()))
+    assert!(rt; has_empty_name(rt.alloc(), &mut State::new(rt.alloc()))?);
+    Ok(())
 }
 
 fn gives_no_field(held: &Headers) -> bool {
-    let mut count = 0usize;
-    for _field in held.iter() {
-        count = count.saturating_add(1);
-    }
-    count == 0
+    held.iter().next().is_none()
 }
 
 fn holds_no_field(held: &Headers) -> bool {
@@ -241,12 +241,14 @@ fn are_bare(held: &Facts) -> bool {
 }
 
 fn are_bare_copied(alloc: Global, held: &Facts) -> Result<bool, AllocError> {
-    Ok(are_bare(held) && are_bare(&held.copy(alloc)?))
+    let are_copied = of_given(held.copy(alloc), are_bare)?;
+    Ok(are_copied && are_bare(held))
 }
 
 #[test]
 fn facts_with_no_subprotocols_are_copied(rt: HostRuntime) -> Result<(), Fail> {
-    assert!(rt; are_bare_copied(rt.alloc(), &bare_facts(rt.alloc()))?);
+    let alloc = rt.alloc();
+    assert!(rt; of(bare_facts(alloc), |held| are_bare_copied(alloc, held))?);
     Ok(())
 }
 
@@ -385,8 +387,8 @@ fn is_bare_copied(alloc: Global, kind: Kind) -> Result<bool, AllocError> {
 
 #[test]
 fn a_scope_with_nothing_known_is_copied(rt: HostRuntime) -> Result<(), Fail> {
-    for kind in [Kind::Http, Kind::WebSocket, Kind::Lifespan] {
-        assert!(rt; is_bare_copied(rt.alloc(), kind)?, "{kind:?}");
+    for kind in KINDS {
+        assert!(rt; is_bare_copied(rt.alloc(), *kind)?, "{kind:?}");
     }
     Ok(())
 }

@@ -1,6 +1,6 @@
 //! Fields, bytes and limits, on examples: what is taken, what is refused, and what is kept.
 
-use crate::values::octets;
+use crate::values::{octets, wrong_given};
 use asgi_types::{BadLimit, HeaderError, Headers, Limits};
 use std::alloc::{AllocError, Global};
 use std::process::Abort;
@@ -78,7 +78,7 @@ fn a_name_has_at_most_65535_bytes(rt: HostRuntime) -> Result<(), Fail> {
 }
 
 /// What is kept of three fields, in their order.
-const KEPT: [(&[u8], &[u8]); 3] = [(b"x-a", b"q"), (b"host", b""), (b"x-a", b"Q")];
+const KEPT: &[(&[u8], &[u8])] = &[(b"x-a", b"q"), (b"host", b""), (b"x-a", b"Q")];
 
 fn is_kept(index: usize, name: &[u8], value: &[u8]) -> bool {
     match KEPT.get(index) {
@@ -94,41 +94,34 @@ fn is_kept_at(held: &Headers, index: usize) -> bool {
     }
 }
 
-/// How many fields are those, by their index.
-fn kept_by_index(held: &Headers) -> usize {
-    for index in 0..3usize {
-        if !is_kept_at(held, index) {
-            return index;
-        }
-    }
-    held.len()
-}
-
-/// How many fields are those, as they are gone over.
-fn kept_in_order(held: &Headers) -> usize {
+/// The first of the three fields that is not there as they are gone over, or how many there are where it is not three.
+fn wrong_in_order(held: &Headers) -> Option<usize> {
     let mut count = 0usize;
     for (name, value) in held.iter() {
         if !is_kept(count, name, value) {
-            return count;
+            return Some(count);
         }
         count = count.saturating_add(1);
     }
-    count
+    if count == 3 { None } else { Some(count) }
 }
 
 fn ends_at_three(held: &Headers) -> bool {
-    held.at(3).is_none() && held.at(usize::MAX).is_none()
+    held.len() == 3 && held.at(3).is_none() && held.at(usize::MAX).is_none()
 }
 
-/// The fields are those, by their index and as they are gone over.
-fn are_kept(rt: &impl Abort, held: &Headers) {
-    assert_eq!(rt; [kept_by_index(held), kept_in_order(held)], [3, 3]);
-    assert!(rt; ends_at_three(held));
+/// The same by their index.
+fn wrong_by_index(held: &Headers) -> Option<usize> {
+    for index in 0..3usize {
+        if !is_kept_at(held, index) {
+            return Some(index);
+        }
+    }
+    if ends_at_three(held) { None } else { Some(3) }
 }
 
-fn is_copied(rt: &(impl Abort + AllocGlobal), held: &Headers) -> Result<(), Fail> {
-    are_kept(rt, &held.copy(rt.alloc())?);
-    Ok(())
+fn wrong_field(held: &Headers) -> Option<usize> {
+    wrong_in_order(held).or(wrong_by_index(held))
 }
 
 /// Three fields that are kept, and one that is refused.
@@ -143,18 +136,25 @@ fn is_pushed(headers: &mut Headers, push: &Push) -> bool {
     answer(headers, push.0, push.1) == push.2
 }
 
-fn are_pushed(rt: &impl Abort, headers: &mut Headers) {
+/// The first push that does not answer as in its row.
+fn wrong_push(headers: &mut Headers) -> Option<usize> {
     for (row, push) in PUSHES_OF_THREE.iter().enumerate() {
-        assert!(rt; is_pushed(headers, push), "row {row}");
+        if !is_pushed(headers, push) {
+            return Some(row);
+        }
     }
+    None
+}
+
+fn keeps_order(rt: &(impl Abort + AllocGlobal), headers: &mut Headers) {
+    assert_eq!(rt; wrong_push(headers), None);
+    assert_eq!(rt; wrong_field(headers), None);
+    assert_eq!(rt; wrong_given(headers.copy(rt.alloc()), wrong_field), None);
 }
 
 #[test]
-fn fields_keep_their_order(rt: HostRuntime) -> Result<(), Fail> {
-    let mut headers = Headers::new(rt.alloc());
-    are_pushed(&rt, &mut headers);
-    are_kept(&rt, &headers);
-    is_copied(&rt, &headers)
+fn fields_keep_their_order(rt: HostRuntime) {
+    keeps_order(&rt, &mut Headers::new(rt.alloc()));
 }
 
 fn are_bytes(alloc: Global, bytes: &[u8]) -> Result<bool, AllocError> {
@@ -164,11 +164,12 @@ fn are_bytes(alloc: Global, bytes: &[u8]) -> Result<bool, AllocError> {
     Ok(are_equal && held.into_vec().as_slice() == bytes)
 }
 
+const SAMPLES: &[&[u8]] = &[b"", b"\0\xff", b"hello\n", b"chat", b"/a/\xef\xbf\xbd"];
+
 #[test]
 fn octets_are_the_bytes_given(rt: HostRuntime) -> Result<(), Fail> {
-    let samples: [&[u8]; 5] = [b"", b"\0\xff", b"hello\n", b"chat", b"/a/\xef\xbf\xbd"];
-    for (row, sample) in samples.iter().enumerate() {
-        assert!(rt; are_bytes(rt.alloc(), sample)?, "row {row}");
+    for (row, sample) in SAMPLES.iter().enumerate() {
+        assert!(rt; are_bytes(rt.alloc(), *sample)?, "row {row}");
     }
     Ok(())
 }
@@ -177,7 +178,7 @@ fn octets_are_the_bytes_given(rt: HostRuntime) -> Result<(), Fail> {
 type Row = (usize, usize, u64, usize, usize, u32, u64, bool);
 
 /// Each limit at the ends of its range, and one past each end.
-const ROWS: [Row; 22] = [
+const ROWS: &[Row] = &[
     (64, 1, 0, 1, 2, 1, 1, true),
     (63, 1, 0, 1, 2, 1, 1, false),
     (65_535, 1, 0, 1, 2, 1, 1, true),

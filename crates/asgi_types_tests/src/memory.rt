@@ -3,34 +3,19 @@
 
 use crate::scopes::{is_copied, is_peer};
 use crate::values::{
-    are_facts, chars, facts, has_each_sort, is_bytes, is_name, is_number, is_text, octets,
-    value_of_sort,
+    Sort, Sorts, are_facts, facts, is_of_sort, new_octets, new_text, of_given, value_of_sort,
+    wrong_given, wrong_name, wrong_sort,
 };
 use asgi_types::{Chars, Facts, Framing, Headers, Kind, Names, Octets, Peer, State, StateValue};
 use std::alloc::{AllocError, Global};
-use std::process::Abort;
 use std::test::Fail;
 
 // Each of these makes the call once more where it was refused memory.
-
-fn new_text(alloc: Global, text: &str) -> Result<Chars, AllocError> {
-    match chars(alloc, text) {
-        Ok(made) => Ok(made),
-        Err(_) => chars(alloc, text),
-    }
-}
 
 fn copy_of_text(alloc: Global, held: &Chars) -> Result<Chars, AllocError> {
     match held.copy(alloc) {
         Ok(copied) => Ok(copied),
         Err(_) => held.copy(alloc),
-    }
-}
-
-fn new_octets(alloc: Global, bytes: &[u8]) -> Result<Octets, AllocError> {
-    match octets(alloc, bytes) {
-        Ok(made) => Ok(made),
-        Err(_) => octets(alloc, bytes),
     }
 }
 
@@ -55,7 +40,7 @@ fn copy_of_names(alloc: Global, held: &Names) -> Result<Names, AllocError> {
     }
 }
 
-fn new_value(alloc: Global, sort: &str) -> Result<StateValue, AllocError> {
+fn new_value(alloc: Global, sort: Sort) -> Result<StateValue, AllocError> {
     match value_of_sort(alloc, sort) {
         Ok(made) => Ok(made),
         Err(_) => value_of_sort(alloc, sort),
@@ -97,9 +82,10 @@ fn copy_of_facts(alloc: Global, held: &Facts) -> Result<Facts, AllocError> {
     }
 }
 
-const NAMES: [&[u8]; 5] = [b"x-a", b"x-b", b"x-c", b"x-d", b"x-e"];
+const FIELDS: &[&[u8]] = &[b"x-a", b"x-b", b"x-c", b"x-d", b"x-e"];
 
-const VALUE: &[u8] = &[b'v'; 100];
+const VALUE: &[u8] =
+    b"vvvvvvvvvvvvvvvvvvvvvvvvvvvvvvvvvvvvvvvvvvvvvvvvvvvvvvvvvvvvvvvvvvvvvvvvvvvvvvvvvvvvvvvvvvvvvvvvvvvv";
 
 /// The field is added, at the second attempt where the first was refused and left the list as it was.
 fn is_field_added(headers: &mut Headers, name: &[u8]) -> bool {
@@ -117,26 +103,39 @@ fn is_field(held: &Headers, index: usize, name: &[u8]) -> bool {
     }
 }
 
-fn has_fields(rt: &impl Abort, held: &Headers) {
-    for (index, name) in NAMES.iter().enumerate() {
-        assert!(rt; is_field(held, index, name), "field {index}");
+/// The first field that is not there, or the end where there are more or fewer.
+fn wrong_field(held: &Headers) -> Option<usize> {
+    for (index, name) in FIELDS.iter().enumerate() {
+        if !is_field(held, index, *name) {
+            return Some(index);
+        }
     }
-    assert!(rt; held.len() == 5);
+    if held.len() == 5 { None } else { Some(5) }
 }
 
-fn has_fields_copied(rt: &(impl Abort + AllocGlobal), held: &Headers) -> Result<(), Fail> {
-    has_fields(rt, held);
-    has_fields(rt, &copy_of_headers(rt.alloc(), held)?);
-    Ok(())
+/// The first field that is not added.
+fn wrong_push(headers: &mut Headers) -> Option<usize> {
+    for (index, name) in FIELDS.iter().enumerate() {
+        if !is_field_added(headers, *name) {
+            return Some(index);
+        }
+    }
+    None
+}
+
+/// The first field that is not added, or is not held or copied then.
+fn wrong_of_fields(alloc: Global, headers: &mut Headers) -> Option<usize> {
+    let pushed = wrong_push(headers);
+    let copied = wrong_given(copy_of_headers(alloc, headers), wrong_field);
+    pushed.or(wrong_field(headers)).or(copied)
 }
 
 #[test]
-fn memory_for_headers(rt: HostRuntime) -> Result<(), Fail> {
-    let mut headers = Headers::new(rt.alloc());
-    for (index, name) in NAMES.iter().enumerate() {
-        assert!(rt; is_field_added(&mut headers, name), "field {index}");
-    }
-    has_fields_copied(&rt, &headers)
+fn memory_for_headers(rt: HostRuntime) {
+    assert_eq!(rt;
+        wrong_of_fields(rt.alloc(), &mut Headers::new(rt.alloc())),
+        None
+    );
 }
 
 fn are_octets(alloc: Global) -> Result<bool, AllocError> {
@@ -156,71 +155,97 @@ fn memory_for_texts(rt: HostRuntime) -> Result<(), Fail> {
     Ok(())
 }
 
+fn is_pushed(alloc: Global, names: &mut Names) -> bool {
+    match new_text(alloc, "chat") {
+        Ok(name) => names.push(name).is_ok(),
+        Err(_) => false,
+    }
+}
+
 /// The name is added, at the second attempt where the first was refused and left the list as it was.
-fn is_name_added(alloc: Global, names: &mut Names) -> Result<bool, AllocError> {
+fn is_name_added(alloc: Global, names: &mut Names) -> bool {
     let before = names.len();
-    if names.push(new_text(alloc, "chat")?).is_ok() {
-        return Ok(true);
-    }
-    let is_as_before = names.len() == before;
-    names.push(new_text(alloc, "chat")?)?;
-    Ok(is_as_before)
+    is_pushed(alloc, names) || (names.len() == before && is_pushed(alloc, names))
 }
 
-fn has_names(rt: &impl Abort, held: &Names) {
+const NAMES: &[&str] = &["chat", "chat", "chat", "chat", "chat"];
+
+/// The first name that is not added.
+fn wrong_added(alloc: Global, names: &mut Names) -> Option<usize> {
     for index in 0..5usize {
-        assert!(rt; is_name(held, index, "chat"), "name {index}");
+        if !is_name_added(alloc, names) {
+            return Some(index);
+        }
     }
-    assert!(rt; held.len() == 5);
+    None
 }
 
-fn has_names_copied(rt: &(impl Abort + AllocGlobal), held: &Names) -> Result<(), Fail> {
-    has_names(rt, held);
-    has_names(rt, &copy_of_names(rt.alloc(), held)?);
-    Ok(())
+/// The first name that is not added, or is not held or copied then.
+fn wrong_of_names(alloc: Global, names: &mut Names) -> Option<usize> {
+    let added = wrong_added(alloc, names);
+    let copied = wrong_given(
+        copy_of_names(alloc, names),
+        |copied| wrong_name(copied, NAMES),
+    );
+    added.or(wrong_name(names, NAMES)).or(copied)
 }
 
 #[test]
-fn memory_for_names(rt: HostRuntime) -> Result<(), Fail> {
-    let mut names = Names::new(rt.alloc());
-    for index in 0..5usize {
-        assert!(rt; is_name_added(rt.alloc(), &mut names)?, "name {index}");
-    }
-    has_names_copied(&rt, &names)
+fn memory_for_names(rt: HostRuntime) {
+    assert_eq!(rt;
+        wrong_of_names(rt.alloc(), &mut Names::new(rt.alloc())),
+        None
+    );
 }
 
-fn is_set(alloc: Global, state: &mut State, sort: &str) -> Result<bool, AllocError> {
-    let value = new_value(alloc, sort)?;
-    Ok(state.set(sort, value).is_ok())
+type Row = (&'static str, Sort);
+
+fn is_set(alloc: Global, state: &mut State, row: &Row) -> bool {
+    match new_value(alloc, row.1) {
+        Ok(value) => state.set(row.0, value).is_ok(),
+        Err(_) => false,
+    }
 }
 
 /// The value is set, at the second attempt where the first was refused and left no value under the name.
-fn is_set_again(alloc: Global, state: &mut State, sort: &str) -> Result<bool, AllocError> {
-    if is_set(alloc, state, sort)? {
-        return Ok(true);
+fn is_set_again(alloc: Global, state: &mut State, row: &Row) -> bool {
+    is_set(alloc, state, row) || (state.get(row.0).is_none() && is_set(alloc, state, row))
+}
+
+const SORTS: Sorts = &[
+    ("text", Sort::Text),
+    ("bytes", Sort::Bytes),
+    ("number", Sort::Number),
+    ("d", Sort::Number),
+    ("e", Sort::Number),
+];
+
+/// The first row whose value is not set.
+fn wrong_set(alloc: Global, state: &mut State) -> Option<usize> {
+    for (index, row) in SORTS.iter().enumerate() {
+        if !is_set_again(alloc, state, row) {
+            return Some(index);
+        }
     }
-    Ok(state.get(sort).is_none() && is_set(alloc, state, sort)?)
+    None
 }
 
-fn has_values(held: &State) -> bool {
-    has_each_sort(held) && is_number(held.get("d"), 7) && is_number(held.get("e"), 7)
-}
-
-fn has_values_copied(alloc: Global, held: &State) -> Result<bool, AllocError> {
-    Ok(has_values(held) && has_values(&copy_of_state(alloc, held)?))
-}
-
-fn are_set(rt: &(impl Abort + AllocGlobal), state: &mut State) -> Result<(), Fail> {
-    for sort in ["text", "bytes", "number", "d", "e"] {
-        assert!(rt; is_set_again(rt.alloc(), state, sort)?, "{sort}");
-    }
-    assert!(rt; has_values_copied(rt.alloc(), state)?);
-    Ok(())
+/// The first row whose value is not set, or is not held or copied then.
+fn wrong_of_state(alloc: Global, state: &mut State) -> Option<usize> {
+    let set = wrong_set(alloc, state);
+    let copied = wrong_given(
+        copy_of_state(alloc, state),
+        |copied| wrong_sort(copied, SORTS),
+    );
+    set.or(wrong_sort(state, SORTS)).or(copied)
 }
 
 #[test]
-fn memory_for_a_state(rt: HostRuntime) -> Result<(), Fail> {
-    are_set(&rt, &mut State::new(rt.alloc()))
+fn memory_for_a_state(rt: HostRuntime) {
+    assert_eq!(rt;
+        wrong_of_state(rt.alloc(), &mut State::new(rt.alloc())),
+        None
+    );
 }
 
 #[test]
@@ -241,15 +266,22 @@ fn memory_for_a_lifespan_scope(rt: HostRuntime) -> Result<(), Fail> {
     Ok(())
 }
 
+fn are_three(held: &Facts) -> bool {
+    are_facts(held, Framing::Length(3))
+}
+
 fn are_facts_copied(alloc: Global, held: &Facts) -> Result<bool, AllocError> {
-    let copied = copy_of_facts(alloc, held)?;
-    Ok(are_facts(held, Framing::Length(3)) && are_facts(&copied, Framing::Length(3)))
+    let are_copied = of_given(copy_of_facts(alloc, held), are_three)?;
+    Ok(are_copied && are_three(held))
+}
+
+fn are_facts_kept(alloc: Global) -> Result<bool, AllocError> {
+    of_given(new_facts(alloc), |held| are_facts_copied(alloc, held))?
 }
 
 #[test]
 fn memory_for_facts(rt: HostRuntime) -> Result<(), Fail> {
-    let held = new_facts(rt.alloc())?;
-    assert!(rt; are_facts_copied(rt.alloc(), &held)?);
+    assert!(rt; are_facts_kept(rt.alloc())?);
     Ok(())
 }
 
@@ -258,24 +290,25 @@ fn is_a_peer(alloc: Global) -> Result<bool, AllocError> {
         host: new_text(alloc, "::1")?,
         port: 8_080,
     };
-    Ok(is_peer(&copy_of_peer(alloc, &peer)?, "::1", 8_080))
+    of_given(
+        copy_of_peer(alloc, &peer),
+        |copied| is_peer(copied, "::1", 8_080),
+    )
 }
 
-fn is_a_value(alloc: Global, sort: &str) -> Result<bool, AllocError> {
+fn is_a_value(alloc: Global, sort: Sort) -> Result<bool, AllocError> {
     let value = new_value(alloc, sort)?;
-    let copied = copy_of_value(alloc, &value)?;
-    Ok(match sort {
-        "text" => is_text(Some(&copied), "t"),
-        "bytes" => is_bytes(Some(&copied), b"b\xff"),
-        _ => is_number(Some(&copied), 7),
-    })
+    of_given(
+        copy_of_value(alloc, &value),
+        |copied| is_of_sort(Some(copied), sort),
+    )
 }
 
 #[test]
 fn memory_for_peers_and_values(rt: HostRuntime) -> Result<(), Fail> {
     assert!(rt; is_a_peer(rt.alloc())?);
-    for sort in ["text", "bytes", "number"] {
-        assert!(rt; is_a_value(rt.alloc(), sort)?, "{sort}");
+    for (name, sort) in SORTS {
+        assert!(rt; is_a_value(rt.alloc(), *sort)?, "{name}");
     }
     Ok(())
 }

@@ -1,32 +1,27 @@
 //! The three kinds of scope, with what a connection adds to them, and copied.
 
-use crate::values::{chars, is_bytes, is_name, is_number, is_text, octets, of, of_given};
+use crate::values::{Sort, is_name, is_of_sort, new_octets, new_text, of, of_given, value_of_sort};
 use asgi_types::{
     Asgi, Chars, Extensions, Headers, HttpScope, HttpVersion, Kind, LifespanScope, Names, Octets,
-    Peer, Scope, State, StateValue, WsScope,
+    Peer, Scope, State, WsScope,
 };
 use std::alloc::{AllocError, Global};
-use std::process::Abort;
 use std::test::Fail;
 
 // Each part of a scope is made, and asked for again where memory was refused.
 
 fn text(alloc: Global, text: &str) -> Chars {
-    for _ in 0..2 {
-        if let Ok(made) = chars(alloc, text) {
-            return made;
-        }
+    match new_text(alloc, text) {
+        Ok(made) => made,
+        Err(_) => Chars::new(String::new(alloc)),
     }
-    Chars::new(String::new(alloc))
 }
 
 fn bytes(alloc: Global, bytes: &[u8]) -> Octets {
-    for _ in 0..2 {
-        if let Ok(made) = octets(alloc, bytes) {
-            return made;
-        }
+    match new_octets(alloc, bytes) {
+        Ok(made) => made,
+        Err(_) => Octets::new(Vec::new(alloc)),
     }
-    Octets::new(Vec::new(alloc))
 }
 
 fn peer(alloc: Global, host: &str, port: u16) -> Option<Peer> {
@@ -113,12 +108,12 @@ fn scope_of(alloc: Global, kind: Kind) -> Scope {
     }
 }
 
-/// A value, of another sort for each kind of scope.
-fn value_of(alloc: Global, kind: Kind) -> StateValue {
+/// Another sort of value for each kind of scope.
+fn sort_of(kind: Kind) -> Sort {
     match kind {
-        Kind::Http => StateValue::Text(text(alloc, "t")),
-        Kind::WebSocket => StateValue::Bytes(bytes(alloc, b"b\xff")),
-        Kind::Lifespan => StateValue::Number(7),
+        Kind::Http => Sort::Text,
+        Kind::WebSocket => Sort::Bytes,
+        Kind::Lifespan => Sort::Number,
     }
 }
 
@@ -130,7 +125,10 @@ fn state_of(alloc: Global, kind: Kind) -> State {
 }
 
 fn set_held(alloc: Global, state: &mut State, kind: Kind) -> bool {
-    state.set("held", value_of(alloc, kind)).is_ok()
+    match value_of_sort(alloc, sort_of(kind)) {
+        Ok(value) => state.set("held", value).is_ok(),
+        Err(_) => false,
+    }
 }
 
 /// A scope of this kind with a client, a server and a state.
@@ -141,12 +139,7 @@ pub fn whole_scope(alloc: Global, kind: Kind) -> Scope {
 }
 
 fn has_value(state: &State, kind: Kind) -> bool {
-    let value = state.get("held");
-    match kind {
-        Kind::Http => is_text(value, "t"),
-        Kind::WebSocket => is_bytes(value, b"b\xff"),
-        Kind::Lifespan => is_number(value, 7),
-    }
+    is_of_sort(state.get("held"), sort_of(kind))
 }
 
 pub fn is_peer(peer: &Peer, host: &str, port: u16) -> bool {
@@ -266,17 +259,19 @@ fn is_made_whole(alloc: Global, kind: Kind) -> bool {
     of(whole_scope(alloc, kind), |scope| is_whole(scope, kind))
 }
 
+pub const KINDS: &[Kind] = &[Kind::Http, Kind::WebSocket, Kind::Lifespan];
+
 #[test]
 fn a_scope_has_what_its_connection_knows(rt: HostRuntime) {
-    for kind in [Kind::Http, Kind::WebSocket, Kind::Lifespan] {
-        assert!(rt; is_made_whole(rt.alloc(), kind), "{kind:?}");
+    for kind in KINDS {
+        assert!(rt; is_made_whole(rt.alloc(), *kind), "{kind:?}");
     }
 }
 
 #[test]
 fn a_scope_is_copied_with_all_its_fields(rt: HostRuntime) -> Result<(), Fail> {
-    for kind in [Kind::Http, Kind::WebSocket, Kind::Lifespan] {
-        assert!(rt; is_copied(rt.alloc(), kind)?, "{kind:?}");
+    for kind in KINDS {
+        assert!(rt; is_copied(rt.alloc(), *kind)?, "{kind:?}");
     }
     Ok(())
 }

@@ -5,7 +5,6 @@ use asgi_types::{
     StateError, StateValue, parse_length,
 };
 use std::alloc::{AllocError, Global};
-use std::process::Abort;
 use std::test::Fail;
 
 pub fn chars(alloc: Global, text: &str) -> Result<Chars, AllocError> {
@@ -13,7 +12,23 @@ pub fn chars(alloc: Global, text: &str) -> Result<Chars, AllocError> {
 }
 
 pub fn octets(alloc: Global, bytes: &[u8]) -> Result<Octets, AllocError> {
-    Ok(Octets::new(bytes.to_vec(alloc)?))
+    Ok(Octets::new(Vec::from_slice(alloc, bytes)?))
+}
+
+// Each of these makes the call once more where it was refused memory.
+
+pub fn new_text(alloc: Global, text: &str) -> Result<Chars, AllocError> {
+    match chars(alloc, text) {
+        Ok(made) => Ok(made),
+        Err(_) => chars(alloc, text),
+    }
+}
+
+pub fn new_octets(alloc: Global, bytes: &[u8]) -> Result<Octets, AllocError> {
+    match octets(alloc, bytes) {
+        Ok(made) => Ok(made),
+        Err(_) => octets(alloc, bytes),
+    }
 }
 
 /// What is said of a value. It stands for a value of any type, so its proof sees no field of one.
@@ -30,8 +45,26 @@ pub fn of_given<T: Drop, S, F: FnOnce(&T) -> S>(
 ) -> Result<S, AllocError>
     requires { F.IsAlwaysCallable says }
 {
-    Ok(of(given?, says))
+    match given {
+        Ok(value) => Ok(of(value, says)),
+        Err(refused) => Err(refused),
+    }
 }
+
+/// The first that is wrong in what a call gave, and 0 where the call was refused memory.
+pub fn wrong_given<T: Drop, F: FnOnce(&T) -> Option<usize>>(
+    given: Result<T, AllocError>,
+    says: F,
+) -> Option<usize>
+    requires { F.IsAlwaysCallable says }
+{
+    match given {
+        Ok(value) => of(value, says),
+        Err(_) => Some(0),
+    }
+}
+
+const TEXTS: &[&str] = &["", "chat", "/a/\u{fffd}"];
 
 fn is_a_text(alloc: Global, text: &str) -> Result<bool, AllocError> {
     let held = chars(alloc, text)?;
@@ -41,8 +74,8 @@ fn is_a_text(alloc: Global, text: &str) -> Result<bool, AllocError> {
 
 #[test]
 fn texts_are_the_bytes_given(rt: HostRuntime) -> Result<(), Fail> {
-    for text in ["", "chat", "/a/\u{fffd}"] {
-        assert!(rt; is_a_text(rt.alloc(), text)?, "{text}");
+    for text in TEXTS {
+        assert!(rt; is_a_text(rt.alloc(), *text)?, "{text}");
     }
     Ok(())
 }
@@ -54,54 +87,86 @@ pub fn is_name(held: &Names, index: usize, name: &str) -> bool {
     }
 }
 
-fn are_names(rt: &impl Abort, held: &Names) {
-    for (index, name) in [(0, "chat"), (1, "soap"), (2, "chat")] {
-        assert!(rt; is_name(held, index, name), "name {index}");
+/// The index of the first name that is not as wanted, or of the end where there are more or fewer.
+pub fn wrong_name(held: &Names, wanted: &[&str]) -> Option<usize> {
+    for (index, name) in wanted.iter().enumerate() {
+        if !is_name(held, index, *name) {
+            return Some(index);
+        }
     }
-    assert!(rt; held.len() == 3 && held.at(3).is_none());
+    if held.len() == wanted.len() && held.at(wanted.len()).is_none() {
+        None
+    } else {
+        Some(wanted.len())
+    }
 }
 
-fn are_copied(rt: &(impl Abort + AllocGlobal), held: &Names) -> Result<(), Fail> {
-    are_names(rt, &held.copy(rt.alloc())?);
-    Ok(())
-}
-
-fn push(alloc: Global, names: &mut Names, name: &str) -> Result<(), AllocError> {
+pub fn push(alloc: Global, names: &mut Names, name: &str) -> Result<(), AllocError> {
     names.push(chars(alloc, name)?)
 }
 
-#[test]
-fn names_keep_their_order(rt: HostRuntime) -> Result<(), Fail> {
-    let mut names = Names::new(rt.alloc());
-    assert!(rt; names.len() == 0);
-    for name in ["chat", "soap", "chat"] {
-        push(rt.alloc(), &mut names, name)?;
+/// The first name that is not pushed.
+fn wrong_push(alloc: Global, names: &mut Names, wanted: &[&str]) -> Option<usize> {
+    for (index, name) in wanted.iter().enumerate() {
+        if push(alloc, names, *name).is_err() {
+            return Some(index);
+        }
     }
-    are_names(&rt, &names);
-    are_copied(&rt, &names)
+    None
+}
+
+fn wrong_name_of(alloc: Global, names: &mut Names, wanted: &[&str]) -> Option<usize> {
+    let pushed = wrong_push(alloc, names, wanted);
+    let copied = wrong_given(names.copy(alloc), |copied| wrong_name(copied, wanted));
+    pushed.or(wrong_name(names, wanted)).or(copied)
+}
+
+/// The index of the first name that a new list of these names, or its copy, has not as it was pushed.
+pub fn wrong_name_in(alloc: Global, wanted: &[&str]) -> Option<usize> {
+    wrong_name_of(alloc, &mut Names::new(alloc), wanted)
+}
+
+fn is_empty(names: &Names) -> bool {
+    names.len() == 0
+}
+
+#[test]
+fn names_keep_their_order(rt: HostRuntime) {
+    assert!(rt; of(Names::new(rt.alloc()), is_empty));
+    assert_eq!(rt; wrong_name_in(rt.alloc(), &["chat", "soap", "chat"]), None);
+}
+
+const VERSIONS: &[(Kind, &str)] = &[
+    (Kind::Http, "2.4"),
+    (Kind::WebSocket, "2.4"),
+    (Kind::Lifespan, "2.0"),
+];
+
+fn has_versions(kind: Kind, spec_version: &str) -> bool {
+    let asgi = Asgi::of(kind);
+    asgi.version() == "3.0" && asgi.spec_version() == spec_version
 }
 
 #[test]
 fn asgi_has_the_versions_of_its_formats(rt: HostRuntime) {
-    let cases = [
-        (Kind::Http, "2.4"),
-        (Kind::WebSocket, "2.4"),
-        (Kind::Lifespan, "2.0"),
-    ];
-    for (kind, spec_version) in cases {
-        let asgi = Asgi::of(kind);
-        let is_so = asgi.version() == "3.0" && asgi.spec_version() == spec_version;
-        assert!(rt; is_so, "{kind:?}");
+    for (kind, spec_version) in VERSIONS {
+        assert!(rt; has_versions(*kind, *spec_version), "{kind:?}");
     }
 }
 
-fn text_of(alloc: Global, letter: char, count: usize) -> Result<String, AllocError> {
-    let mut text = String::new(alloc);
-    for _ in 0..count {
-        text.push(letter)?;
-    }
-    Ok(text)
-}
+/// A letter, how often it stands in a text, and whether the text is a reason.
+type Letters = (char, usize, bool);
+
+// The bytes are counted, not the characters: the euro sign has three.
+const REASONS: &[Letters] = &[
+    ('r', 0, true),
+    ('r', 1, true),
+    ('r', 122, true),
+    ('r', 123, true),
+    ('r', 124, false),
+    ('\u{20ac}', 41, true),
+    ('\u{20ac}', 42, false),
+];
 
 /// The text is a reason exactly if it fits, and the reason has its bytes.
 fn is_judged(text: &str, fits: bool) -> bool {
@@ -114,37 +179,34 @@ fn is_judged(text: &str, fits: bool) -> bool {
     }
 }
 
-fn is_reason_of(alloc: Global, letter: char, count: usize, fits: bool) -> Result<bool, AllocError> {
-    let text = text_of(alloc, letter, count)?;
-    Ok(is_judged(text.as_str(), fits))
+fn is_filled_judged(text: &mut String, row: &Letters) -> Result<bool, AllocError> {
+    for _ in 0..row.1 {
+        text.push(row.0)?;
+    }
+    Ok(is_judged(text.as_str(), row.2))
+}
+
+fn is_reason_of(alloc: Global, row: &Letters) -> Result<bool, AllocError> {
+    is_filled_judged(&mut String::new(alloc), row)
 }
 
 #[test]
 fn reasons_have_at_most_123_bytes(rt: HostRuntime) -> Result<(), Fail> {
-    // The bytes are counted, not the characters: the euro sign has three.
-    let rows = [
-        ('r', 0, true),
-        ('r', 1, true),
-        ('r', 122, true),
-        ('r', 123, true),
-        ('r', 124, false),
-        ('\u{20ac}', 41, true),
-        ('\u{20ac}', 42, false),
-    ];
-    for (letter, count, fits) in rows {
-        let is_so = is_reason_of(rt.alloc(), letter, count, fits)?;
-        assert!(rt; is_so, "{count} times {letter}");
+    for (index, row) in REASONS.iter().enumerate() {
+        assert!(rt; is_reason_of(rt.alloc(), row)?, "row {index}");
     }
     Ok(())
 }
 
+/// `n`, and 64 letters `a`.
+const LONGEST: &str = "naaaaaaaaaaaaaaaaaaaaaaaaaaaaaaaaaaaaaaaaaaaaaaaaaaaaaaaaaaaaaaaa";
+
 /// `n`, and then so many letters `a`.
-fn name_of(alloc: Global, letters: usize) -> Result<String, AllocError> {
-    let mut name = String::from_str(alloc, "n")?;
-    for _ in 0..letters {
-        name.push('a')?;
+fn name_of(letters: usize) -> &'static str {
+    match LONGEST.split_at_checked(letters.saturating_add(1)) {
+        Some((name, _)) => name,
+        None => LONGEST,
     }
-    Ok(name)
 }
 
 /// The number under the name, if there is one.
@@ -155,56 +217,63 @@ fn number_in(state: &State, name: &str) -> Option<u64> {
     }
 }
 
-fn number_at(alloc: Global, state: &State, letters: usize) -> Result<Option<u64>, AllocError> {
-    let name = name_of(alloc, letters)?;
-    Ok(number_in(state, name.as_str()))
+pub fn set(state: &mut State, name: &str, number: u64) -> Result<(), StateError> {
+    state.set(name, StateValue::Number(number))
 }
 
-/// What a `set` of the number under the name of so many letters answers.
-fn set(alloc: Global, state: &mut State, letters: usize, number: u64) -> Result<(), StateError> {
-    let name = name_of(alloc, letters)?;
-    state.set(name.as_str(), StateValue::Number(number))
+/// The number that is due under the name of so many letters: 0 to 63, with 300 in place of 3, and none under a name more.
+fn due(letters: usize) -> Option<u64> {
+    match letters {
+        3 => Some(300),
+        64 => None,
+        _ => Some(letters as u64),
+    }
 }
 
-/// The numbers 0 to 63, with 300 in place of 3, and none under a name more.
-fn has_64_names(rt: &(impl Abort + AllocGlobal), held: &State) -> Result<(), Fail> {
+/// The letters of the first name that has not the number that is due.
+fn wrong_number(held: &State) -> Option<usize> {
     for letters in 0..65 {
-        let number = match letters {
-            3 => Some(300),
-            64 => None,
-            _ => Some(letters as u64),
-        };
-        let found = number_at(rt.alloc(), held, letters)?;
-        assert!(rt; found == number, "name {letters}");
+        if number_in(held, name_of(letters)) != due(letters) {
+            return Some(letters);
+        }
     }
-    Ok(())
+    None
 }
 
-fn fill(rt: &(impl Abort + AllocGlobal), state: &mut State) -> Result<(), Fail> {
+/// Sets the numbers 0 to 63. It answers the letters of the first name that had one before, or is not set.
+fn wrong_before(state: &mut State) -> Option<usize> {
     for letters in 0..64 {
-        let found = number_at(rt.alloc(), state, letters)?;
-        assert!(rt; found.is_none(), "before {letters}");
-        set(rt.alloc(), state, letters, letters as u64)?;
+        let name = name_of(letters);
+        if number_in(state, name).is_some() || set(state, name, letters as u64).is_err() {
+            return Some(letters);
+        }
     }
-    Ok(())
-}
-
-fn has_64_names_copied(rt: &(impl Abort + AllocGlobal), held: &State) -> Result<(), Fail> {
-    has_64_names(rt, held)?;
-    has_64_names(rt, &held.copy(rt.alloc())?)
+    None
 }
 
 /// A name more is refused, and a held one is replaced.
-fn is_full(alloc: Global, state: &mut State) -> bool {
-    set(alloc, state, 64, 64) == Err(StateError::StateFull) && set(alloc, state, 3, 300) == Ok(())
+fn is_full(state: &mut State) -> bool {
+    set(state, name_of(64), 64) == Err(StateError::StateFull)
+        && set(state, name_of(3), 300) == Ok(())
+}
+
+/// The letters of the first name that is wrong: before it is set, once all are, or in a copy. It is 64 where a name more
+/// is not refused.
+fn wrong_name_of_64(alloc: Global, state: &mut State) -> Option<usize> {
+    let before = wrong_before(state);
+    if !is_full(state) {
+        return before.or(Some(64));
+    }
+    let copied = wrong_given(state.copy(alloc), wrong_number);
+    before.or(wrong_number(state)).or(copied)
 }
 
 #[test]
-fn a_state_has_at_most_64_names(rt: HostRuntime) -> Result<(), Fail> {
-    let mut state = State::new(rt.alloc());
-    fill(&rt, &mut state)?;
-    assert!(rt; is_full(rt.alloc(), &mut state));
-    has_64_names_copied(&rt, &state)
+fn a_state_has_at_most_64_names(rt: HostRuntime) {
+    assert_eq!(rt;
+        wrong_name_of_64(rt.alloc(), &mut State::new(rt.alloc())),
+        None
+    );
 }
 
 pub fn is_text(value: Option<&StateValue>, text: &str) -> bool {
@@ -228,42 +297,93 @@ pub fn is_number(value: Option<&StateValue>, number: u64) -> bool {
     }
 }
 
-/// The text `t`, two bytes and the number 7, each under the name of its sort.
-pub fn has_each_sort(held: &State) -> bool {
-    is_text(held.get("text"), "t")
-        && is_bytes(held.get("bytes"), b"b\xff")
-        && is_number(held.get("number"), 7)
+/// A sort of value.
+#[derive(Clone, Copy)]
+pub enum Sort {
+    Text,
+    Bytes,
+    Number,
 }
 
-/// One value of each sort.
-pub fn value_of_sort(alloc: Global, sort: &str) -> Result<StateValue, AllocError> {
+/// The text `t`, two bytes and the number 7.
+pub fn value_of_sort(alloc: Global, sort: Sort) -> Result<StateValue, AllocError> {
     match sort {
-        "text" => Ok(StateValue::Text(chars(alloc, "t")?)),
-        "bytes" => Ok(StateValue::Bytes(octets(alloc, b"b\xff")?)),
-        _ => Ok(StateValue::Number(7)),
+        Sort::Text => Ok(StateValue::Text(chars(alloc, "t")?)),
+        Sort::Bytes => Ok(StateValue::Bytes(octets(alloc, b"b\xff")?)),
+        Sort::Number => Ok(StateValue::Number(7)),
     }
 }
 
-fn set_sort(alloc: Global, state: &mut State, sort: &str) -> Result<(), StateError> {
-    let value = value_of_sort(alloc, sort)?;
-    state.set(sort, value)
+/// The value is the one of its sort.
+pub fn is_of_sort(value: Option<&StateValue>, sort: Sort) -> bool {
+    match sort {
+        Sort::Text => is_text(value, "t"),
+        Sort::Bytes => is_bytes(value, b"b\xff"),
+        Sort::Number => is_number(value, 7),
+    }
 }
 
-fn are_sorts(rt: &(impl Abort + AllocGlobal), held: &State) -> Result<(), Fail> {
-    assert!(rt; has_each_sort(held));
-    // Names differ in case.
-    assert!(rt; held.get("Text").is_none() && held.get("").is_none());
-    assert!(rt; has_each_sort(&held.copy(rt.alloc())?));
-    Ok(())
+/// Names, and the sort of the value under each.
+pub type Sorts = &'static [(&'static str, Sort)];
+
+const SORTS: Sorts = &[
+    ("text", Sort::Text),
+    ("bytes", Sort::Bytes),
+    ("number", Sort::Number),
+];
+
+fn is_sort(held: &State, row: &(&str, Sort)) -> bool {
+    is_of_sort(held.get(row.0), row.1)
+}
+
+/// The first row whose name has not a value of its sort.
+pub fn wrong_sort(held: &State, sorts: Sorts) -> Option<usize> {
+    for (index, row) in sorts.iter().enumerate() {
+        if !is_sort(held, row) {
+            return Some(index);
+        }
+    }
+    None
+}
+
+fn is_set(alloc: Global, state: &mut State, row: &(&str, Sort)) -> bool {
+    match value_of_sort(alloc, row.1) {
+        Ok(value) => state.set(row.0, value).is_ok(),
+        Err(_) => false,
+    }
+}
+
+/// The first row whose value is not set.
+fn wrong_set(alloc: Global, state: &mut State) -> Option<usize> {
+    for (index, row) in SORTS.iter().enumerate() {
+        if !is_set(alloc, state, row) {
+            return Some(index);
+        }
+    }
+    None
+}
+
+// Names differ in case.
+fn has_others(held: &State) -> bool {
+    held.get("Text").is_some() || held.get("").is_some()
+}
+
+/// The first row whose value is not set, or not held or copied then; one more where another name has a value.
+fn wrong_sort_of(alloc: Global, state: &mut State) -> Option<usize> {
+    let set = wrong_set(alloc, state);
+    if has_others(state) {
+        return set.or(Some(SORTS.len()));
+    }
+    let copied = wrong_given(state.copy(alloc), |copied| wrong_sort(copied, SORTS));
+    set.or(wrong_sort(state, SORTS)).or(copied)
 }
 
 #[test]
-fn a_state_holds_each_sort_of_value(rt: HostRuntime) -> Result<(), Fail> {
-    let mut state = State::new(rt.alloc());
-    for sort in ["text", "bytes", "number"] {
-        set_sort(rt.alloc(), &mut state, sort)?;
-    }
-    are_sorts(&rt, &state)
+fn a_state_holds_each_sort_of_value(rt: HostRuntime) {
+    assert_eq!(rt;
+        wrong_sort_of(rt.alloc(), &mut State::new(rt.alloc())),
+        None
+    );
 }
 
 /// A text, and the length that it is read as.
@@ -297,9 +417,16 @@ fn lengths_are_1_to_19_digits(rt: HostRuntime) {
     }
 }
 
+fn chat(alloc: Global) -> Result<Names, AllocError> {
+    let mut names = Names::new(alloc);
+    match push(alloc, &mut names, "chat") {
+        Ok(()) => Ok(names),
+        Err(refused) => Err(refused),
+    }
+}
+
 pub fn facts(alloc: Global, framing: Framing) -> Result<Facts, AllocError> {
-    let mut subprotocols = Names::new(alloc);
-    subprotocols.push(chars(alloc, "chat")?)?;
+    let subprotocols = chat(alloc)?;
     Ok(Facts {
         version: HttpVersion::V10,
         head_only: true,
@@ -323,16 +450,24 @@ pub fn are_facts(held: &Facts, framing: Framing) -> bool {
         && is_name(&held.subprotocols, 0, "chat")
 }
 
-fn is_a_fact(alloc: Global, framing: Framing) -> Result<bool, AllocError> {
-    let held = facts(alloc, framing)?;
-    let copied = held.copy(alloc)?;
-    Ok(are_facts(&held, framing) && are_facts(&copied, framing))
+fn are_facts_copied(alloc: Global, held: &Facts, framing: Framing) -> Result<bool, AllocError> {
+    let are_copied = of_given(held.copy(alloc), |copied| are_facts(copied, framing))?;
+    Ok(are_copied && are_facts(held, framing))
 }
+
+fn is_a_fact(alloc: Global, framing: Framing) -> Result<bool, AllocError> {
+    of_given(
+        facts(alloc, framing),
+        |held| are_facts_copied(alloc, held, framing),
+    )?
+}
+
+const FRAMINGS: &[Framing] = &[Framing::Length(3), Framing::Chunked, Framing::Upgrade];
 
 #[test]
 fn a_copy_of_facts_is_equal(rt: HostRuntime) -> Result<(), Fail> {
-    for framing in [Framing::Length(3), Framing::Chunked, Framing::Upgrade] {
-        assert!(rt; is_a_fact(rt.alloc(), framing)?, "{framing:?}");
+    for framing in FRAMINGS {
+        assert!(rt; is_a_fact(rt.alloc(), *framing)?, "{framing:?}");
     }
     Ok(())
 }
@@ -373,10 +508,11 @@ fn a_field_lists_its_tokens(rt: HostRuntime) {
     }
 }
 
+const NO_TOKENS: &[&[u8]] = &[b"", b" \t", b",", b"close, ,x", b",,close", b"close,"];
+
 #[test]
 fn no_field_lists_an_empty_token(rt: HostRuntime) {
-    let rows: [&[u8]; 6] = [b"", b" \t", b",", b"close, ,x", b",,close", b"close,"];
-    for (row, value) in rows.iter().enumerate() {
-        assert!(rt; !lists(rt.alloc(), value, b""), "row {row}");
+    for (row, value) in NO_TOKENS.iter().enumerate() {
+        assert!(rt; !lists(rt.alloc(), *value, b""), "row {row}");
     }
 }

@@ -1,20 +1,20 @@
 //! The text of a denial, and of what else answers an opening handshake.
 
-use super::{Ask, HANDSHAKE, Say, written};
+use super::{HANDSHAKE, Row, Say, are_written};
 use std::test::Fail;
-
-type Row = (&'static str, &'static [Say], &'static str);
 
 const KEEPS: &[(&str, &str)] = &[("connection", "keep-alive"), ("x-a", "q")];
 
-const ROWS: [Row; 7] = [
+const ROWS: &[Row] = &[
     (
         "a denial",
+        HANDSHAKE,
         &[Say::DenialStart(401, &[]), Say::DenialLast("no")],
         "HTTP/1.1 401 Unauthorized\r\ntransfer-encoding: chunked\r\nconnection: close\r\n\r\n2\r\nno\r\n0\r\n\r\n",
     ),
     (
         "in parts",
+        HANDSHAKE,
         &[
             Say::DenialStart(403, &[]),
             Say::DenialPart("n"),
@@ -25,6 +25,7 @@ const ROWS: [Row; 7] = [
     ),
     (
         "with a length",
+        HANDSHAKE,
         &[
             Say::DenialStart(404, &[("content-length", "2")]),
             Say::DenialLast("no"),
@@ -33,20 +34,26 @@ const ROWS: [Row; 7] = [
     ),
     (
         "the application can't keep the connection",
+        HANDSHAKE,
         &[Say::DenialStart(401, KEEPS), Say::DenialLast("")],
         "HTTP/1.1 401 Unauthorized\r\nx-a: q\r\ntransfer-encoding: chunked\r\nconnection: close\r\n\r\n0\r\n\r\n",
     ),
-    ("a start alone", &[Say::DenialStart(401, &[])], ""),
-    ("a session", &[Say::Accept, Say::Send("hi"), Say::Close], ""),
-    ("a close", &[Say::Close], ""),
+    (
+        "a start alone",
+        HANDSHAKE,
+        &[Say::DenialStart(401, &[])],
+        "",
+    ),
+    (
+        "a session",
+        HANDSHAKE,
+        &[Say::Accept, Say::Send("hi"), Say::Close],
+        "",
+    ),
+    ("a close", HANDSHAKE, &[Say::Close], ""),
 ];
 
 #[test]
 fn a_denial_is_a_response_that_closes(rt: HostRuntime) -> Result<(), Fail> {
-    let ask: Ask = HANDSHAKE;
-    for (name, said, text) in &ROWS {
-        let out = written(rt.alloc(), ask, *said, None)?;
-        assert_eq!(rt; out.as_slice(), text.as_bytes(), "{name}");
-    }
-    Ok(())
+    are_written(&rt, ROWS)
 }

@@ -1,18 +1,13 @@
 //! What the end of a task adds.
 
-use super::{Ask, EXPECTING, GET, HANDSHAKE, Say, written};
+use super::{
+    Ask, EXPECTING, GET, HANDSHAKE, REFUSED_400, REFUSED_413, REFUSED_500, Say, is_written,
+};
 use asgi_response::Input;
+use asgi_types::HeaderError;
+use std::alloc::Global;
 use std::process::Abort;
 use std::test::Fail;
-
-const REFUSED_500: &str =
-    "HTTP/1.1 500 Internal Server Error\r\ncontent-length: 0\r\nconnection: close\r\n\r\n";
-
-const REFUSED_413: &str =
-    "HTTP/1.1 413 Content Too Large\r\ncontent-length: 0\r\nconnection: close\r\n\r\n";
-
-const REFUSED_400: &str =
-    "HTTP/1.1 400 Bad Request\r\ncontent-length: 0\r\nconnection: close\r\n\r\n";
 
 const BEGUN: &str = "HTTP/1.1 200 OK\r\ntransfer-encoding: chunked\r\n\r\n1\r\nx\r\n";
 
@@ -33,7 +28,7 @@ type Row = (
     &'static [(Input, &'static str)],
 );
 
-const ROWS: [Row; 11] = [
+const ROWS: &[Row] = &[
     (
         "nothing said",
         GET,
@@ -123,34 +118,33 @@ const ROWS: [Row; 11] = [
     ("a close", HANDSHAKE, &[Say::Close], &[(Input::Whole, "")]),
 ];
 
-fn are_ended(
-    rt: &(impl Abort + AllocGlobal),
-    name: &str,
-    ask: Ask,
-    said: &[Say],
-    ends: &[(Input, &str)],
-) -> Result<(), Fail> {
-    for (input, text) in ends {
-        let out = written(rt.alloc(), ask, said, Some(*input))?;
-        assert_eq!(rt; out.as_slice(), text.as_bytes(), "{name}, {input:?}");
+fn is_ended(alloc: Global, row: &Row, input: Input, text: &str) -> Result<bool, HeaderError> {
+    is_written(alloc, row.1, row.2, Some(input), text)
+}
+
+fn are_ended(rt: &(impl Abort + AllocGlobal), row: &Row) -> Result<(), Fail> {
+    for (input, text) in row.3 {
+        let is_so = is_ended(rt.alloc(), row, *input, *text)?;
+        assert!(rt; is_so, "{}, {input:?}", row.0);
     }
     Ok(())
 }
 
 #[test]
 fn the_end_answers_where_no_body_was_taken(rt: HostRuntime) -> Result<(), Fail> {
-    for (name, ask, said, ends) in &ROWS {
-        are_ended(&rt, name, *ask, *said, *ends)?;
+    for row in ROWS {
+        are_ended(&rt, row)?;
     }
     Ok(())
 }
 
+const TOLD_AND_REFUSED: &str =
+    "HTTP/1.1 100 Continue\r\n\r\nHTTP/1.1 413 Content Too Large\r\ncontent-length: 0\r\nconnection: close\r\n\r\n";
+
 #[test]
 fn a_client_that_waits_is_told_to_go_on_before_a_refusal(rt: HostRuntime) -> Result<(), Fail> {
-    let ask: Ask = EXPECTING;
-    let out = written(rt.alloc(), ask, &[], Some(Input::Faulty(413)))?;
-    let text =
-        "HTTP/1.1 100 Continue\r\n\r\nHTTP/1.1 413 Content Too Large\r\ncontent-length: 0\r\nconnection: close\r\n\r\n";
-    assert_eq!(rt; out.as_slice(), text.as_bytes());
+    let end = Some(Input::Faulty(413));
+    let is_so = is_written(rt.alloc(), EXPECTING, &[], end, TOLD_AND_REFUSED)?;
+    assert!(rt; is_so);
     Ok(())
 }

@@ -1,15 +1,15 @@
 //! Each call that allocates, where one allocation is refused: it answers so, its objects are as before, and the call
 //! can be made again. `tests/memory.py` runs these with each allocation refused in turn.
 
-use super::{Ask, EXPECTING, GET, HANDSHAKE, OLD, Say, fresh};
-use asgi_response::{Input, ResponseText, refusal_text};
+use super::{
+    EXPECTING, GET, HANDSHAKE, OLD, REFUSED_413, REFUSED_426, REFUSED_500, Row, Say, fresh,
+};
+use asgi_response::{Input, ResponseText};
 use asgi_types::{HeaderError, Outgoing};
 use std::alloc::Global;
 use std::test::Fail;
 
-type Row = (&'static str, Ask, &'static [Say], &'static str);
-
-const ROWS: [Row; 4] = [
+const ROWS: &[Row] = &[
     (
         "chunks",
         EXPECTING,
@@ -51,103 +51,100 @@ fn event(alloc: Global, say: Say) -> Result<Outgoing, HeaderError> {
     }
 }
 
-/// Takes the event, again where memory was refused.
-fn take(text: &mut ResponseText, event: &Outgoing, out: &mut Vec<u8>) -> Result<(), Fail> {
+/// Takes the event, at the second attempt where memory was refused, which changed nothing.
+fn is_taken(text: &mut ResponseText, event: &Outgoing, out: &mut Vec<u8>) -> bool {
     let len = out.len();
     let progress = text.progress();
-    if text.take(event, out).is_err() {
-        if out.len() != len || text.progress() != progress {
-            return Err(Fail::from("a refused event changed something"));
-        }
-        text.take(event, out)?;
+    if text.take(event, out).is_ok() {
+        return true;
     }
-    Ok(())
+    out.len() == len && text.progress() == progress && text.take(event, out).is_ok()
 }
 
 /// The same, and the event is gone then.
-fn take_whole(text: &mut ResponseText, event: Outgoing, out: &mut Vec<u8>) -> Result<(), Fail> {
-    take(text, &event, out)
+fn takes(text: &mut ResponseText, event: Outgoing, out: &mut Vec<u8>) -> bool {
+    is_taken(text, &event, out)
 }
 
-/// Appends what comes in front, again where memory was refused.
-fn begin(text: &ResponseText, out: &mut Vec<u8>) -> Result<(), Fail> {
-    if text.begin(out).is_err() {
-        if !out.is_empty() {
-            return Err(Fail::from("a refused beginning changed something"));
-        }
-        text.begin(out)?;
-    }
-    Ok(())
+/// Appends what comes in front, at the second attempt where memory was refused, which changed nothing.
+fn is_begun(text: &ResponseText, out: &mut Vec<u8>) -> bool {
+    text.begin(out).is_ok() || (out.is_empty() && text.begin(out).is_ok())
 }
 
-/// Appends what the end of the task adds, again where memory was refused.
-fn end(text: &ResponseText, input: Input, out: &mut Vec<u8>) -> Result<(), Fail> {
-    if text.end(input, out).is_err() {
-        if !out.is_empty() {
-            return Err(Fail::from("a refused end changed something"));
-        }
-        text.end(input, out)?;
-    }
-    Ok(())
+/// Appends what the end of the task adds, at the second attempt where memory was refused, which changed nothing.
+fn is_ended(text: &ResponseText, input: Input, out: &mut Vec<u8>) -> bool {
+    text.end(input, out).is_ok() || (out.is_empty() && text.end(input, out).is_ok())
 }
 
-fn respond(
+/// Takes all that is said so.
+fn are_taken(
     text: &mut ResponseText,
     alloc: Global,
     said: &[Say],
     out: &mut Vec<u8>,
-) -> Result<(), Fail> {
-    begin(text, out)?;
+) -> Result<bool, HeaderError> {
     for say in said {
-        take_whole(text, event(alloc, *say)?, out)?;
+        if !takes(text, event(alloc, *say)?, out) {
+            return Ok(false);
+        }
     }
-    Ok(())
+    Ok(true)
 }
 
-fn response(alloc: Global, ask: Ask, said: &[Say]) -> Result<Vec<u8>, Fail> {
-    let mut out = Vec::new(alloc);
-    let done = respond(&mut fresh(alloc, ask), alloc, said, &mut out);
-    done?;
-    Ok(out)
+fn responds(
+    text: &mut ResponseText,
+    alloc: Global,
+    row: &Row,
+    out: &mut Vec<u8>,
+) -> Result<bool, HeaderError> {
+    let is_so = is_begun(text, out) && are_taken(text, alloc, row.2, out)?;
+    Ok(is_so && out.as_slice() == row.3.as_bytes())
+}
+
+fn is_response(alloc: Global, row: &Row) -> Result<bool, HeaderError> {
+    responds(&mut fresh(alloc, row.1), alloc, row, &mut Vec::new(alloc))
 }
 
 #[test]
 fn memory_for_a_response(rt: HostRuntime) -> Result<(), Fail> {
-    for (name, ask, said, expected) in &ROWS {
-        let out = response(rt.alloc(), *ask, *said)?;
-        assert_eq!(rt; out.as_slice(), expected.as_bytes(), "{name}");
+    for row in ROWS {
+        let is_so = is_response(rt.alloc(), row)?;
+        assert!(rt; is_so, "{}", row.0);
     }
     Ok(())
 }
 
-fn end_started(
+/// The body of the request, and what answers it in place of a response that has only started.
+type End = (Input, &'static str);
+
+const ENDS: &[End] = &[
+    (Input::Whole, REFUSED_500),
+    (Input::Faulty(413), REFUSED_413),
+    (Input::Faulty(426), REFUSED_426),
+    (Input::Broken, ""),
+];
+
+const STARTS: &[Say] = &[Say::Start(200, &[])];
+
+fn answers(
     text: &mut ResponseText,
     alloc: Global,
-    input: Input,
+    end: &End,
     out: &mut Vec<u8>,
-) -> Result<(), Fail> {
-    take_whole(text, event(alloc, Say::Start(200, &[]))?, out)?;
-    end(text, input, out)
+) -> Result<bool, HeaderError> {
+    let is_so = are_taken(text, alloc, STARTS, out)? && is_ended(text, end.0, out);
+    Ok(is_so && out.as_slice() == end.1.as_bytes())
 }
 
-fn answer(alloc: Global, input: Input) -> Result<Vec<u8>, Fail> {
-    let mut out = Vec::new(alloc);
-    let done = end_started(&mut fresh(alloc, GET), alloc, input, &mut out);
-    done?;
-    Ok(out)
+fn is_answer(alloc: Global, end: &End) -> Result<bool, HeaderError> {
+    answers(&mut fresh(alloc, GET), alloc, end, &mut Vec::new(alloc))
 }
 
 #[test]
 fn memory_for_an_end(rt: HostRuntime) -> Result<(), Fail> {
-    let cases: [(Input, &'static [u8]); 4] = [
-        (Input::Whole, refusal_text(500)),
-        (Input::Faulty(413), refusal_text(413)),
-        (Input::Faulty(426), refusal_text(426)),
-        (Input::Broken, b""),
-    ];
-    for (input, expected) in cases {
-        let out = answer(rt.alloc(), input)?;
-        assert_eq!(rt; out.as_slice(), expected, "{input:?}");
+    for end in ENDS {
+        let is_so = is_answer(rt.alloc(), end)?;
+        assert!(rt; is_so, "{:?}", end.0);
     }
     Ok(())
 }

@@ -2,6 +2,7 @@
 
 use super::{Ask, CLOSING, GET, HANDSHAKE, HEAD, OLD, Say, fresh, take_all};
 use asgi_response::{Progress, ResponseText};
+use asgi_types::HeaderError;
 use std::alloc::Global;
 use std::test::Fail;
 
@@ -19,7 +20,7 @@ const STAYS: Progress = Progress::Complete { closes: false };
 
 const CLOSES: Progress = Progress::Complete { closes: true };
 
-const ROWS: [Row; 21] = [
+const ROWS: &[Row] = &[
     ("no event", GET, &[], Progress::Nothing),
     ("a start", CLOSING, &[START], Progress::Nothing),
     ("a body first", GET, &[Say::Last("x")], Progress::Nothing),
@@ -94,19 +95,22 @@ const ROWS: [Row; 21] = [
 ];
 
 /// How far the text is once it took these events.
-fn progress_behind(text: &mut ResponseText, alloc: Global, said: &[Say]) -> Result<Progress, Fail> {
-    let mut out = Vec::new(alloc);
-    take_all(text, alloc, said, &mut out)?;
+fn progress_behind(
+    text: &mut ResponseText,
+    alloc: Global,
+    said: &[Say],
+) -> Result<Progress, HeaderError> {
+    take_all(text, alloc, said, &mut Vec::new(alloc))?;
     Ok(text.progress())
 }
 
-fn progress_of(alloc: Global, ask: Ask, said: &[Say]) -> Result<Progress, Fail> {
+fn progress_of(alloc: Global, ask: Ask, said: &[Say]) -> Result<Progress, HeaderError> {
     progress_behind(&mut fresh(alloc, ask), alloc, said)
 }
 
 #[test]
 fn progress_is_that_of_the_events_taken(rt: HostRuntime) -> Result<(), Fail> {
-    for (name, ask, said, progress) in &ROWS {
+    for (name, ask, said, progress) in ROWS {
         let found = progress_of(rt.alloc(), *ask, *said)?;
         assert_eq!(rt; found, *progress, "{name}");
     }

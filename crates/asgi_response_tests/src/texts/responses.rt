@@ -1,17 +1,13 @@
 //! The text of a response, for lawful lists and for others.
 
-use super::{Ask, CLOSING, EXPECTING, GET, HEAD, OLD, Say, fresh, take, take_all, written};
-use asgi_response::ResponseText;
-use asgi_types::{Octets, Outgoing};
-use std::alloc::{AllocError, Global};
-use std::process::Abort;
+use super::{CLOSING, EXPECTING, GET, HEAD, OLD, Row, Say, are_written, of_written};
+use asgi_types::HeaderError;
+use std::alloc::Global;
 use std::test::Fail;
-
-type Row = (&'static str, Ask, &'static [Say], &'static str);
 
 const PLAIN: Say = Say::Start(200, &[("content-type", "text/plain")]);
 
-const LAWFUL: [Row; 20] = [
+const LAWFUL: &[Row] = &[
     (
         "HTTP/1.0 with a length",
         OLD,
@@ -161,24 +157,16 @@ const LAWFUL: [Row; 20] = [
     ),
 ];
 
-fn are_written(rt: &(impl Abort + AllocGlobal), rows: &[Row]) -> Result<(), Fail> {
-    for (name, ask, said, text) in rows {
-        let out = written(rt.alloc(), *ask, *said, None)?;
-        assert_eq!(rt; out.as_slice(), text.as_bytes(), "{name}");
-    }
-    Ok(())
-}
-
 #[test]
 fn lawful_lists_have_the_text_of_the_standard(rt: HostRuntime) -> Result<(), Fail> {
-    are_written(&rt, &LAWFUL)
+    are_written(&rt, LAWFUL)
 }
 
 const ONE_CHUNK: &str = "HTTP/1.1 200 OK\r\ntransfer-encoding: chunked\r\n\r\n1\r\nx\r\n0\r\n\r\n";
 
 const START: Say = Say::Start(200, &[]);
 
-const UNLAWFUL: [Row; 12] = [
+const UNLAWFUL: &[Row] = &[
     (
         "a body first",
         GET,
@@ -278,64 +266,57 @@ const UNLAWFUL: [Row; 12] = [
 
 #[test]
 fn unlawful_events_have_no_text(rt: HostRuntime) -> Result<(), Fail> {
-    are_written(&rt, &UNLAWFUL)
+    are_written(&rt, UNLAWFUL)
 }
 
 const CHUNKED_HEAD: &[u8] = b"HTTP/1.1 200 OK\r\ntransfer-encoding: chunked\r\n\r\n";
 
-fn letters(alloc: Global, size: usize) -> Result<Vec<u8>, AllocError> {
-    let mut body = Vec::new(alloc);
-    body.resize(size, b'z')?;
-    Ok(body)
+/// The content of the only chunk, whose size has these digits.
+fn chunk<'a>(out: &'a [u8], digits: &str) -> Option<&'a [u8]> {
+    let sized = out.strip_prefix(CHUNKED_HEAD)?;
+    let behind = sized.strip_prefix(digits.as_bytes())?;
+    behind.strip_prefix(b"\r\n")?.strip_suffix(b"\r\n0\r\n\r\n")
 }
 
-/// The text of one chunk, whose size has these digits.
-fn chunk_text(alloc: Global, digits: &str, body: &[u8]) -> Result<Vec<u8>, AllocError> {
-    let mut text = Vec::from_slice(alloc, CHUNKED_HEAD)?;
-    for part in [digits.as_bytes(), b"\r\n", body, b"\r\n0\r\n\r\n"] {
-        text.extend_from_slice(part)?;
+fn are_letters(content: &[u8], size: usize) -> bool {
+    content.len() == size && content.iter().all(|byte| *byte == b'z')
+}
+
+/// Whether this is one chunk of so many letters, whose size has these digits.
+fn is_one_chunk(out: &[u8], size: usize, digits: &str) -> bool {
+    match chunk(out, digits) {
+        Some(content) => are_letters(content, size),
+        None => false,
     }
-    Ok(text)
 }
 
-fn take_chunk(
-    text: &mut ResponseText,
-    alloc: Global,
-    size: usize,
-    out: &mut Vec<u8>,
-) -> Result<(), Fail> {
-    take_all(text, alloc, &[START], out)?;
-    let body = Octets::new(letters(alloc, size)?);
-    let last = Outgoing::ResponseBody {
-        body,
-        more_body: false,
-    };
-    Ok(take(text, last, out)?)
-}
+/// The size of a body, and its digits.
+const SIZES: &[(usize, &str)] = &[
+    (1, "1"),
+    (10, "a"),
+    (16, "10"),
+    (255, "ff"),
+    (4096, "1000"),
+    (43_981, "abcd"),
+];
 
 /// Whether a body of this size is written as one chunk, whose size has these digits.
-fn is_chunk(alloc: Global, size: usize, digits: &str) -> Result<bool, Fail> {
-    let body = letters(alloc, size)?;
-    let text = chunk_text(alloc, digits, body.as_slice())?;
-    let mut out = Vec::new(alloc);
-    let done = take_chunk(&mut fresh(alloc, GET), alloc, size, &mut out);
-    done?;
-    Ok(out.as_slice() == text.as_slice())
+fn is_chunk(alloc: Global, size: usize, digits: &str) -> Result<bool, HeaderError> {
+    let said = [START, Say::LastLetters(size)];
+    of_written(
+        alloc,
+        GET,
+        &said,
+        None,
+        move |out| is_one_chunk(out, size, digits),
+    )
 }
 
 /// A size is in lowercase hexadecimal, without leading zeros.
 #[test]
 fn chunk_sizes_are_hexadecimal(rt: HostRuntime) -> Result<(), Fail> {
-    let cases: [(usize, &str); 6] = [
-        (1, "1"),
-        (10, "a"),
-        (16, "10"),
-        (255, "ff"),
-        (4096, "1000"),
-        (43_981, "abcd"),
-    ];
-    for (size, digits) in cases {
-        let is_so = is_chunk(rt.alloc(), size, digits)?;
+    for (size, digits) in SIZES {
+        let is_so = is_chunk(rt.alloc(), *size, *digits)?;
         assert!(rt; is_so, "{size}");
     }
     Ok(())
