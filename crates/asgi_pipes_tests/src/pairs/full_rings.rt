@@ -164,12 +164,7 @@ fn run_on(
     Ok((other?, left_in(pair)))
 }
 
-fn run_fresh(
-    alloc: Global,
-    solo: &Solo,
-    carries: bool,
-    parts: &[Part],
-) -> Result<Ran, AllocError> {
+fn run_fresh(alloc: Global, solo: &Solo, carries: bool, parts: &[Part]) -> Result<Ran, AllocError> {
     let mut pair = pair_of(alloc, Kind::Http, PLACES)?;
     run_on(alloc, solo, &mut pair, carries, parts)
 }

@@ -38,12 +38,7 @@ const NOTHING_CAME: &[Row] = &[
 type Twice = (Ran, Ran);
 
 /// Runs a table on a WebSocket pair of so many places, and the rows on an HTTP pair out of its ends.
-fn run_twice(
-    alloc: Global,
-    solo: &Solo,
-    ring: usize,
-    rows: &[Row],
-) -> Result<Twice, AllocError> {
+fn run_twice(alloc: Global, solo: &Solo, ring: usize, rows: &[Row]) -> Result<Twice, AllocError> {
     let mut pair = pair_of(alloc, Kind::WebSocket, ring)?;
     match run_on(alloc, solo, &mut pair, false, LEAVES_ITEMS) {
         Ok(before) => Ok((before, run_renewed(alloc, solo, pair, rows)?)),
@@ -51,12 +46,7 @@ fn run_twice(
     }
 }
 
-fn run_renewed(
-    alloc: Global,
-    solo: &Solo,
-    pair: Pair,
-    rows: &[Row],
-) -> Result<Ran, AllocError> {
+fn run_renewed(alloc: Global, solo: &Solo, pair: Pair, rows: &[Row]) -> Result<Ran, AllocError> {
     let mut pair = renewed(alloc, pair)?;
     run_on(alloc, solo, &mut pair, true, rows)
 }
@@ -82,7 +72,11 @@ const TABLES: &[&[Row]] = &[NOTHING_CAME, PAIR_OF_TWO_PLACES, EVERY_ANSWER];
 fn check_renewed<R: Abort + AllocGlobal>(rt: &R, solo: &Solo, ring: usize) -> Result<(), Fail> {
     for (place, rows) in TABLES.iter().enumerate() {
         let ran = run_twice(rt.alloc(), solo, ring, rows)?;
-        assert_eq!(rt; ran, ((None, (2, 2)), (None, (0, 0))), "{ring}, table {place}");
+        assert_eq!(rt;
+            ran,
+            ((None, (2, 2)), (None, (0, 0))),
+            "{ring}, table {place}"
+        );
     }
     Ok(())
 }
