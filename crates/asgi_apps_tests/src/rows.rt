@@ -21,7 +21,7 @@ use std::random::RandomSource;
 use std::test::Fail;
 
 /// What the application is offered: at most four events.
-#[derive(Clone, Copy, Debug)]
+#[derive(Clone, Copy)]
 pub enum Offered {
     Nothing,
     Part(&'static str),
@@ -38,7 +38,7 @@ pub enum Offered {
 use Offered::{Bytes, Close, Connect, Disconnect, Last, Part, Text};
 
 /// What stands under the name `n` of a state.
-#[derive(Clone, Copy, Debug)]
+#[derive(Clone, Copy)]
 pub enum Held {
     Nothing,
     Number(u64),
@@ -46,7 +46,7 @@ pub enum Held {
 }
 
 /// What a scope says of its request.
-#[derive(Clone, Copy, Debug)]
+#[derive(Clone, Copy)]
 pub struct Asked {
     pub path: &'static str,
     pub root_path: &'static str,
@@ -59,49 +59,46 @@ pub const USUAL: Asked = Asked {
     held: Held::Nothing,
 };
 
+/// A kind of scope, what is offered, and what is said.
+pub type Row = (Kind, &'static [Offered], &'static str);
+
 /// A task that is driven within one poll, which is where a context comes from.
 #[derive(Drop)]
 struct Served<A> {
     alloc: Global,
     app: A,
-    kind: Kind,
     asked: Asked,
-    offered: &'static [Offered],
+    row: Row,
 }
 
 impl<A: Application + Drop> Future for Served<A> {
-    type Output = Result<Vec<u8>, AppFault>;
+    type Output = Result<bool, AppFault>;
 
-    fn poll(&mut self, cx: &mut Context<'_>) -> Poll<Result<Vec<u8>, AppFault>> {
-        Poll::Ready(serve(
-            self.alloc,
-            cx,
-            &self.app,
-            self.kind,
-            self.asked,
-            self.offered,
-        ))
+    fn poll(&mut self, cx: &mut Context<'_>) -> Poll<Result<bool, AppFault>> {
+        Poll::Ready(serve(self.alloc, cx, &self.app, self.asked, self.row))
     }
 }
 
 // What a task is given is made, and asked for again where memory was refused.
 
-fn chars(alloc: Global, text: &str) -> Chars {
-    for _ in 0..2 {
-        if let Ok(made) = String::from_str(alloc, text) {
-            return Chars::new(made);
-        }
+pub fn chars(alloc: Global, text: &str) -> Chars {
+    if let Ok(made) = String::from_str(alloc, text) {
+        return Chars::new(made);
     }
-    Chars::new(String::new(alloc))
+    match String::from_str(alloc, text) {
+        Ok(made) => Chars::new(made),
+        Err(_) => Chars::new(String::new(alloc)),
+    }
 }
 
-fn octets(alloc: Global, text: &str) -> Octets {
-    for _ in 0..2 {
-        if let Ok(made) = Vec::from_slice(alloc, text.as_bytes()) {
-            return Octets::new(made);
-        }
+pub fn octets(alloc: Global, text: &str) -> Octets {
+    if let Ok(made) = Vec::from_slice(alloc, text.as_bytes()) {
+        return Octets::new(made);
     }
-    Octets::new(Vec::new(alloc))
+    match Vec::from_slice(alloc, text.as_bytes()) {
+        Ok(made) => Octets::new(made),
+        Err(_) => Octets::new(Vec::new(alloc)),
+    }
 }
 
 /// What is said of a value. It stands for a value of any type, so its proof sees no field of one.
@@ -269,28 +266,29 @@ fn task_of<A: Application>(
     app.call(alloc, &scope)
 }
 
-/// Calls the application, drives its task, and tells what the connection takes.
+/// Calls the application, drives its task, and says whether the connection takes what the row holds.
 fn serve<A: Application>(
     alloc: Global,
     cx: &mut Context<'_>,
     app: &A,
-    kind: Kind,
     asked: Asked,
-    offered: &[Offered],
-) -> Result<Vec<u8>, AppFault>
+    row: Row,
+) -> Result<bool, AppFault>
     ensures { Keeps cx.old cx.new }
 {
+    let (kind, offered, expected) = row;
     let task = task_of(alloc, app, kind, asked)?;
     let pair = pair_of(alloc, kind, offered)?;
-    Ok(told(alloc, cx, task, pair)?)
+    Ok(is_told(alloc, cx, task, pair, expected)?)
 }
 
-fn told<T: AppTask>(
+fn is_told<T: AppTask>(
     alloc: Global,
     cx: &mut Context<'_>,
     task: T,
     pair: Pair,
-) -> Result<Vec<u8>, AllocError>
+    expected: &str,
+) -> Result<bool, AllocError>
     requires open { pair.app.ended ≡ None }
     requires stands { T.stands task pair.app.kind pair.app.heard.items pair.app.said.items }
     ensures { Keeps cx.old cx.new }
@@ -300,14 +298,14 @@ fn told<T: AppTask>(
     let ended = drive(cx, Running::new(task, app), &mut pause, 3, 100);
     let Ended { mut app_end, .. } = ended;
     Plain::carry(&mut conn, &mut app_end);
-    taken(alloc, &mut conn)
+    is_taken(alloc, &mut conn, expected)
 }
 
-/// Takes all, and tells it.
-fn taken(alloc: Global, conn: &mut PlainConn) -> Result<Vec<u8>, AllocError> {
+/// Takes all, and says whether it is told so.
+fn is_taken(alloc: Global, conn: &mut PlainConn, expected: &str) -> Result<bool, AllocError> {
     let mut text = Vec::new(alloc);
     tell_all(alloc, &mut text, conn)?;
-    Ok(text)
+    Ok(text.as_slice() == expected.as_bytes())
 }
 
 fn tell_all(alloc: Global, text: &mut Vec<u8>, conn: &mut PlainConn) -> Result<(), AllocError> {
@@ -431,29 +429,18 @@ fn add(text: &mut Vec<u8>, parts: &[&[u8]]) -> Result<(), AllocError> {
     Ok(())
 }
 
-/// The text of what the application says, or its fault.
-fn run<R: RandomSource + AllocGlobal, A: Application + Drop>(
+/// Whether the application says what the row holds, or its fault.
+pub fn run<R: RandomSource + AllocGlobal, A: Application + Drop>(
     rt: &R,
     app: A,
-    kind: Kind,
-    offered: &'static [Offered],
-) -> Result<Vec<u8>, AppFault> {
-    run_asked(rt, app, kind, USUAL, offered)
-}
-
-pub fn run_asked<R: RandomSource + AllocGlobal, A: Application + Drop>(
-    rt: &R,
-    app: A,
-    kind: Kind,
     asked: Asked,
-    offered: &'static [Offered],
-) -> Result<Vec<u8>, AppFault> {
+    row: Row,
+) -> Result<bool, AppFault> {
     let served = Served {
         alloc: rt.alloc(),
         app,
-        kind,
         asked,
-        offered,
+        row,
     };
     match served.now_or_never(rt) {
         Ok(Some(said)) => said,
@@ -462,37 +449,60 @@ pub fn run_asked<R: RandomSource + AllocGlobal, A: Application + Drop>(
     }
 }
 
-/// A kind of scope, what is offered, and what is said.
-pub type Row = (Kind, &'static [Offered], &'static str);
-
 pub const SILENCE: &[Offered] = &[];
+
+/// Whether the application says what the row holds. Of a fault the row says `faulted`.
+fn is_said<R: RandomSource + AllocGlobal, A: Application + Copy + Drop>(
+    rt: &R,
+    app: A,
+    row: Row,
+) -> bool {
+    match run(rt, app, USUAL, row) {
+        Ok(is_same) => is_same,
+        Err(_) => row.2 == "faulted",
+    }
+}
+
+/// What the first row holds that the application does not say.
+fn first_unsaid<R: RandomSource + AllocGlobal, A: Application + Copy + Drop>(
+    rt: &R,
+    app: A,
+    rows: &[Row],
+) -> Option<&'static str> {
+    for row in rows {
+        if !is_said(rt, app, *row) {
+            return Some(row.2);
+        }
+    }
+    None
+}
 
 pub fn check<R: Abort + RandomSource + AllocGlobal, A: Application + Copy + Drop>(
     rt: &R,
     app: A,
     rows: &[Row],
 ) -> Result<(), Fail> {
-    for (kind, offered, expected) in rows {
-        match run(rt, app, *kind, *offered) {
-            Ok(said) => assert_eq!(rt; said.as_slice(), expected.as_bytes(), "{expected}"),
-            Err(_) => assert_eq!(rt; "faulted", *expected),
-        }
-    }
+    assert_eq!(rt; first_unsaid(rt, app, rows), None);
     Ok(())
 }
 
+const GREETED: Row = (
+    Kind::Http,
+    SILENCE,
+    "start 200 content-type=text/plain|last hello\n|returned",
+);
+
+/// A session is refused.
+pub const CLOSED: Row = (Kind::WebSocket, SILENCE, "close 1000 |returned");
+
 const HELLO: &[Row] = &[
-    (
-        Kind::Http,
-        SILENCE,
-        "start 200 content-type=text/plain|last hello\n|returned",
-    ),
+    GREETED,
     (
         Kind::Http,
         &[Last("abc"), Disconnect],
         "start 200 content-type=text/plain|last hello\n|returned",
     ),
-    (Kind::WebSocket, SILENCE, "close 1000 |returned"),
+    CLOSED,
     (Kind::Lifespan, SILENCE, "faulted"),
 ];
 
@@ -501,35 +511,37 @@ fn hello_greets(rt: HostRuntime) -> Result<(), Fail> {
     check(&rt, Hello, HELLO)
 }
 
-const NOT_FOUND: &[Row] = &[
-    (
-        Kind::Http,
-        SILENCE,
-        "start 404 content-length=0|last |returned",
-    ),
-    (Kind::WebSocket, SILENCE, "close 1000 |returned"),
-    (Kind::Lifespan, SILENCE, "faulted"),
-];
+const MISSED: Row = (
+    Kind::Http,
+    SILENCE,
+    "start 404 content-length=0|last |returned",
+);
+
+const NOT_FOUND: &[Row] = &[MISSED, CLOSED, (Kind::Lifespan, SILENCE, "faulted")];
 
 #[test]
 fn not_found_has_no_content(rt: HostRuntime) -> Result<(), Fail> {
     check(&rt, NotFound, NOT_FOUND)
 }
 
-const ROOT_PATH: &[Row] = &[
-    (
-        Kind::Http,
-        SILENCE,
-        "start 200 content-type=text/plain|last /a\n|returned",
-    ),
-    (Kind::WebSocket, SILENCE, "close 1000 |returned"),
-    (Kind::Lifespan, SILENCE, "faulted"),
-];
+const ROOTED: Row = (
+    Kind::Http,
+    SILENCE,
+    "start 200 content-type=text/plain|last /a\n|returned",
+);
+
+const ROOT_PATH: &[Row] = &[ROOTED, CLOSED, (Kind::Lifespan, SILENCE, "faulted")];
 
 #[test]
 fn root_path_is_said_in_a_line(rt: HostRuntime) -> Result<(), Fail> {
     check(&rt, RootPath, ROOT_PATH)
 }
+
+const ECHOED: Row = (
+    Kind::Http,
+    &[Part("abc"), Part(""), Last("d")],
+    "start 200 content-type=application/octet-stream|part abc|part |last d|returned",
+);
 
 const ECHO: &[Row] = &[
     (
@@ -537,11 +549,7 @@ const ECHO: &[Row] = &[
         &[Last("abc")],
         "start 200 content-type=application/octet-stream|last abc|returned",
     ),
-    (
-        Kind::Http,
-        &[Part("abc"), Part(""), Last("d")],
-        "start 200 content-type=application/octet-stream|part abc|part |last d|returned",
-    ),
+    ECHOED,
     (
         Kind::Http,
         &[Part("abc"), Disconnect],
@@ -552,7 +560,7 @@ const ECHO: &[Row] = &[
         &[Part("abc")],
         "start 200 content-type=application/octet-stream|part abc|idle",
     ),
-    (Kind::WebSocket, SILENCE, "close 1000 |returned"),
+    CLOSED,
     (Kind::Lifespan, SILENCE, "faulted"),
 ];
 
@@ -561,13 +569,21 @@ fn echo_says_what_it_hears(rt: HostRuntime) -> Result<(), Fail> {
     check(&rt, Echo, ECHO)
 }
 
+const SENT_BACK: Row = (
+    Kind::WebSocket,
+    &[Connect, Text("Hello"), Bytes("ab"), Close(1005)],
+    "accept|text Hello|bytes ab|returned",
+);
+
+const NO_SESSION: Row = (
+    Kind::Http,
+    &[Last("abc"), Disconnect],
+    "start 404 content-length=0|last |returned",
+);
+
 const WS_ECHO: &[Row] = &[
     (Kind::WebSocket, &[Connect, Close(1000)], "accept|returned"),
-    (
-        Kind::WebSocket,
-        &[Connect, Text("Hello"), Bytes("ab"), Close(1005)],
-        "accept|text Hello|bytes ab|returned",
-    ),
+    SENT_BACK,
     (
         Kind::WebSocket,
         &[Connect, Text(""), Bytes(""), Text("a")],
@@ -581,11 +597,7 @@ const WS_ECHO: &[Row] = &[
     ),
     (Kind::WebSocket, &[Close(1006)], "returned"),
     (Kind::WebSocket, SILENCE, "idle"),
-    (
-        Kind::Http,
-        &[Last("abc"), Disconnect],
-        "start 404 content-length=0|last |returned",
-    ),
+    NO_SESSION,
     (Kind::Lifespan, SILENCE, "faulted"),
 ];
 
@@ -595,28 +607,45 @@ fn ws_echo_sends_each_message_back(rt: HostRuntime) -> Result<(), Fail> {
 }
 
 /// Where an allocation is refused, the fault says so, and the next call answers whole.
+fn is_said_at_last<R: RandomSource + AllocGlobal, A: Application + Copy + Drop>(
+    rt: &R,
+    app: A,
+    row: Row,
+) -> bool {
+    let again = match run(rt, app, USUAL, row) {
+        Err(AppFault::NoMemory(_)) => run(rt, app, USUAL, row),
+        answer => answer,
+    };
+    again.unwrap_or(false)
+}
+
+fn first_unsaid_at_last<R: RandomSource + AllocGlobal, A: Application + Copy + Drop>(
+    rt: &R,
+    app: A,
+    rows: &[Row],
+) -> Option<&'static str> {
+    for row in rows {
+        if !is_said_at_last(rt, app, *row) {
+            return Some(row.2);
+        }
+    }
+    None
+}
+
 pub fn check_memory<R: Abort + RandomSource + AllocGlobal, A: Application + Copy + Drop>(
     rt: &R,
     app: A,
-    row: &Row,
+    rows: &[Row],
 ) -> Result<(), Fail> {
-    let (kind, offered, expected) = *row;
-    let said = match run(rt, app, kind, offered) {
-        Err(AppFault::NoMemory(_)) => run(rt, app, kind, offered)?,
-        answer => answer?,
-    };
-    assert_eq!(rt; said.as_slice(), expected.as_bytes());
+    assert_eq!(rt; first_unsaid_at_last(rt, app, rows), None);
     Ok(())
 }
 
 #[test]
 fn memory_for_each_application(rt: HostRuntime) -> Result<(), Fail> {
-    check_memory(&rt, Hello, &HELLO[0])?;
-    check_memory(&rt, Hello, &HELLO[2])?;
-    check_memory(&rt, NotFound, &NOT_FOUND[0])?;
-    check_memory(&rt, RootPath, &ROOT_PATH[0])?;
-    check_memory(&rt, Echo, &ECHO[1])?;
-    check_memory(&rt, Echo, &ECHO[4])?;
-    check_memory(&rt, WsEcho, &WS_ECHO[1])?;
-    check_memory(&rt, WsEcho, &WS_ECHO[7])
+    check_memory(&rt, Hello, &[GREETED, CLOSED])?;
+    check_memory(&rt, NotFound, &[MISSED])?;
+    check_memory(&rt, RootPath, &[ROOTED])?;
+    check_memory(&rt, Echo, &[ECHOED, CLOSED])?;
+    check_memory(&rt, WsEcho, &[SENT_BACK, NO_SESSION])
 }
