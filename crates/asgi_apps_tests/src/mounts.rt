@@ -1,6 +1,8 @@
 //! Mounts: which prefixes are taken, and which application a path goes to.
-use crate::rows::Offered::{Shutdown, Startup};
-use crate::rows::{Asked, CLOSED, Held, Row, SILENCE, USUAL, chars, run};
+use crate::given::Offered::{Shutdown, Startup};
+use crate::given::{Asked, Held, USUAL};
+use crate::rows::{CLOSED, Row, SILENCE, is_refused, is_same, run};
+use crate::texts::chars;
 use asgi_apps::{AppFault, Life, MountError, Mounts, RootPath};
 use asgi_types::Kind;
 use std::alloc::{AllocError, AllocGlobal, Global};
@@ -14,13 +16,17 @@ fn mounted(alloc: Global, prefixes: &[&str]) -> Result<Mounts<RootPath>, MountEr
     Ok(mounts)
 }
 
+fn mount(alloc: Global, mounts: &mut Mounts<RootPath>, prefix: &str) -> Result<(), MountError> {
+    mounts.mount(chars(alloc, prefix), RootPath)
+}
+
 fn mount_all(
     alloc: Global,
     mounts: &mut Mounts<RootPath>,
     prefixes: &[&str],
 ) -> Result<(), MountError> {
     for prefix in prefixes {
-        mounts.mount(chars(alloc, prefix), RootPath)?;
+        mount(alloc, mounts, prefix)?;
     }
     Ok(())
 }
@@ -106,7 +112,7 @@ fn run_path<R: RandomSource + AllocGlobal>(rt: &R, given: &Path) -> Result<bool,
 /// The number of the first path at which something else is said.
 fn first_unsaid<R: RandomSource + AllocGlobal>(rt: &R) -> Option<usize> {
     for (place, given) in PATHS.iter().enumerate() {
-        if !run_path(rt, given).unwrap_or(false) {
+        if !is_same(run_path(rt, given)) {
             return Some(place);
         }
     }
@@ -175,7 +181,7 @@ const PREFIXES: &[(&str, Result<(), MountError>)] = &[
 /// The number of the first prefix that is answered otherwise.
 fn first_unlike(alloc: Global, mounts: &mut Mounts<RootPath>) -> Option<usize> {
     for (place, (prefix, expected)) in PREFIXES.iter().enumerate() {
-        if mounts.mount(chars(alloc, prefix), RootPath) != *expected {
+        if mount(alloc, mounts, prefix) != *expected {
             return Some(place);
         }
     }
@@ -231,17 +237,24 @@ const STARTED: Row = (Kind::Lifespan, &[Startup], "");
 
 #[test]
 fn with_no_application_there_is_no_lifespan(rt: HostRuntime) -> Result<(), Fail> {
-    assert_eq!(rt; mounted_run(&rt, NONE, USUAL, STARTED), Err(AppFault::Failed));
-    assert_eq!(rt; mounted_run(&rt, TWO, USUAL, STARTED), Err(AppFault::Failed));
+    assert_eq!(rt;
+        mounted_run(&rt, NONE, USUAL, STARTED),
+        Err(AppFault::Failed)
+    );
+    assert_eq!(rt;
+        mounted_run(&rt, TWO, USUAL, STARTED),
+        Err(AppFault::Failed)
+    );
     Ok(())
 }
 
 /// Where an allocation is refused, the fault says so, and the next call answers whole.
 fn run_path_at_last<R: RandomSource + AllocGlobal>(rt: &R, given: &Path) -> Result<bool, AppFault> {
-    match run_path(rt, given) {
-        Err(AppFault::NoMemory(_)) => run_path(rt, given),
-        answer => answer,
+    let answer = run_path(rt, given);
+    if is_refused(answer) {
+        return run_path(rt, given);
     }
+    answer
 }
 
 #[test]
