@@ -2,6 +2,8 @@
 #![tactic(auto)]
 
 #[cfg(test)]
+mod given;
+#[cfg(test)]
 mod life;
 #[cfg(test)]
 mod mounts;
@@ -9,3 +11,7 @@ mod mounts;
 mod own;
 #[cfg(test)]
 mod rows;
+#[cfg(test)]
+mod texts;
+#[cfg(test)]
+mod told;

@@ -1,35 +1,72 @@
 //! Mounts: which prefixes are taken, and which application a path goes to.
-use crate::rows::Offered::{Shutdown, Startup};
-use crate::rows::{Asked, Held, SILENCE, USUAL, run_asked};
+use crate::given::Offered::{Shutdown, Startup};
+use crate::given::{Asked, Held, USUAL};
+use crate::rows::{CLOSED, Row, SILENCE, is_refused, is_same, run};
+use crate::texts::chars;
 use asgi_apps::{AppFault, Life, MountError, Mounts, RootPath};
-use asgi_types::{Chars, Kind};
+use asgi_types::Kind;
 use std::alloc::{AllocError, AllocGlobal, Global};
-use std::process::Abort;
 use std::random::RandomSource;
 use std::test::Fail;
-
-fn chars(alloc: Global, text: &str) -> Result<Chars, AllocError> {
-    let text = String::from_str(alloc, text)?;
-    Ok(Chars::new(text))
-}
 
 /// `RootPath` under each of the prefixes.
 fn mounted(alloc: Global, prefixes: &[&str]) -> Result<Mounts<RootPath>, MountError> {
     let mut mounts = Mounts::new(alloc);
-    for prefix in prefixes {
-        mounts.mount(chars(alloc, prefix)?, RootPath)?;
-    }
+    mount_all(alloc, &mut mounts, prefixes)?;
     Ok(mounts)
 }
 
-/// The prefixes that are mounted, `root_path`, the path, and what is said over HTTP: the root path
-/// that the application gets, or None where there is no application.
-type Row = (
+fn mount(alloc: Global, mounts: &mut Mounts<RootPath>, prefix: &str) -> Result<(), MountError> {
+    mounts.mount(chars(alloc, prefix), RootPath)
+}
+
+fn mount_all(
+    alloc: Global,
+    mounts: &mut Mounts<RootPath>,
+    prefixes: &[&str],
+) -> Result<(), MountError> {
+    for prefix in prefixes {
+        mount(alloc, mounts, prefix)?;
+    }
+    Ok(())
+}
+
+/// Whether these applications say what the row holds, or their fault.
+fn mounted_run<R: RandomSource + AllocGlobal>(
+    rt: &R,
+    prefixes: &[&str],
+    asked: Asked,
+    row: Row,
+) -> Result<bool, AppFault> {
+    match mounted(rt.alloc(), prefixes) {
+        Ok(mounts) => run(rt, mounts, asked, row),
+        Err(_) => Err(AppFault::NoMemory(AllocError)),
+    }
+}
+
+/// The prefixes that are mounted, `root_path`, the path, and what is said over HTTP.
+type Path = (
     &'static [&'static str],
     &'static str,
     &'static str,
-    Option<&'static str>,
+    &'static str,
 );
+
+/// What is said where the application gets this root path.
+const EMPTY: &str = "start 200 content-type=text/plain|last \n|returned";
+
+const A: &str = "start 200 content-type=text/plain|last /a\n|returned";
+
+const A_A_B: &str = "start 200 content-type=text/plain|last /a/a/b\n|returned";
+
+const A_B: &str = "start 200 content-type=text/plain|last /a/b\n|returned";
+
+const R: &str = "start 200 content-type=text/plain|last /r\n|returned";
+
+const R_A: &str = "start 200 content-type=text/plain|last /r/a\n|returned";
+
+/// What is said where there is no application.
+const MISSED: &str = "start 404 content-length=0|last |returned";
 
 const TWO: &[&str] = &["/a", "/a/b"];
 
@@ -37,67 +74,93 @@ const THREE: &[&str] = &["/a/b", "", "/a"];
 
 const NONE: &[&str] = &[];
 
-const ROWS: &[Row] = &[
-    (TWO, "", "/a/bc", Some("/a")),
-    (TWO, "", "/a/b", Some("/a/b")),
-    (TWO, "", "/a/b/", Some("/a/b")),
-    (TWO, "", "/a/b/c", Some("/a/b")),
-    (TWO, "", "/a", Some("/a")),
-    (TWO, "", "/x", None),
-    (TWO, "", "/ab", None),
-    (TWO, "", "/", None),
-    (TWO, "", "", None),
-    (TWO, "/r", "/r/a/q", Some("/r/a")),
-    (TWO, "/r", "/a/q", Some("/r/a")),
-    (TWO, "/r", "/r/x", None),
-    (TWO, "/a", "/a/a/b/c", Some("/a/a/b")),
-    (THREE, "", "/x", Some("")),
-    (THREE, "/r", "/r", Some("/r")),
-    (THREE, "", "/a/b/c", Some("/a/b")),
-    (THREE, "", "/a/c", Some("/a")),
-    (NONE, "", "/a", None),
+const UNDER_ROOT: Path = (TWO, "/r", "/r/a/q", R_A);
+
+const NOWHERE: Path = (TWO, "", "/x", MISSED);
+
+const PATHS: &[Path] = &[
+    (TWO, "", "/a/bc", A),
+    (TWO, "", "/a/b", A_B),
+    (TWO, "", "/a/b/", A_B),
+    (TWO, "", "/a/b/c", A_B),
+    (TWO, "", "/a", A),
+    NOWHERE,
+    (TWO, "", "/ab", MISSED),
+    (TWO, "", "/", MISSED),
+    (TWO, "", "", MISSED),
+    UNDER_ROOT,
+    (TWO, "/r", "/a/q", R_A),
+    (TWO, "/r", "/r/x", MISSED),
+    (TWO, "/a", "/a/a/b/c", A_A_B),
+    (THREE, "", "/x", EMPTY),
+    (THREE, "/r", "/r", R),
+    (THREE, "", "/a/b/c", A_B),
+    (THREE, "", "/a/c", A),
+    (NONE, "", "/a", MISSED),
 ];
 
-fn said_over_http<R: RandomSource + AllocGlobal>(rt: &R, row: &Row) -> Result<Vec<u8>, AppFault> {
-    let (prefixes, root_path, path, _expected) = *row;
+fn run_path<R: RandomSource + AllocGlobal>(rt: &R, given: &Path) -> Result<bool, AppFault> {
+    let (prefixes, root_path, path, expected) = *given;
     let asked = Asked {
         path,
         root_path,
         held: Held::Nothing,
     };
-    match mounted(rt.alloc(), prefixes) {
-        Ok(mounts) => run_asked(rt, mounts, Kind::Http, asked, SILENCE),
-        Err(_) => Err(AppFault::NoMemory(AllocError)),
-    }
+    mounted_run(rt, prefixes, asked, (Kind::Http, SILENCE, expected))
 }
 
-fn expected_of(alloc: Global, root_path: Option<&str>) -> Result<String, AllocError> {
-    match root_path {
-        Some(text) => {
-            format!(in alloc; "start 200 content-type=text/plain|last {text}\n|returned")
+/// The number of the first path at which something else is said.
+fn first_unsaid<R: RandomSource + AllocGlobal>(rt: &R) -> Option<usize> {
+    for (place, given) in PATHS.iter().enumerate() {
+        if !is_same(run_path(rt, given)) {
+            return Some(place);
         }
-        None => String::from_str(alloc, "start 404 content-length=0|last |returned"),
     }
+    None
 }
 
 #[test]
 fn the_longest_prefix_takes_the_path(rt: HostRuntime) -> Result<(), Fail> {
-    for row in ROWS {
-        let said = said_over_http(&rt, row)?;
-        let expected = expected_of(rt.alloc(), row.3)?;
-        assert_eq!(rt; said.as_slice(), expected.as_bytes(), "{}", row.2);
-    }
+    assert_eq!(rt; first_unsaid(&rt), None);
     Ok(())
+}
+
+/// The prefixes, a path, `root_path`, and the number that is found.
+type Numbered = (
+    &'static [&'static str],
+    &'static str,
+    &'static str,
+    Option<usize>,
+);
+
+const NUMBERED: &[Numbered] = &[
+    (THREE, "/a/b", "", Some(0)),
+    (THREE, "/ab", "", Some(1)),
+    (THREE, "/r/a/", "/r", Some(2)),
+    (TWO, "/ab", "", None),
+];
+
+fn is_found(alloc: Global, row: &Numbered) -> bool {
+    let (prefixes, path, root_path, expected) = *row;
+    match mounted(alloc, prefixes) {
+        Ok(mounts) => mounts.find(path, root_path) == expected,
+        Err(_) => false,
+    }
+}
+
+/// The first path at which another number is found.
+fn first_unfound(alloc: Global) -> Option<&'static str> {
+    for row in NUMBERED {
+        if !is_found(alloc, row) {
+            return Some(row.1);
+        }
+    }
+    None
 }
 
 #[test]
 fn paths_are_found_by_number(rt: HostRuntime) -> Result<(), Fail> {
-    let mounts = mounted(rt.alloc(), THREE)?;
-    assert_eq!(rt; mounts.find("/a/b", ""), Some(0));
-    assert_eq!(rt; mounts.find("/ab", ""), Some(1));
-    assert_eq!(rt; mounts.find("/r/a/", "/r"), Some(2));
-    let fewer = mounted(rt.alloc(), TWO)?;
-    assert_eq!(rt; fewer.find("/ab", ""), None);
+    assert_eq!(rt; first_unfound(rt.alloc()), None);
     Ok(())
 }
 
@@ -115,94 +178,114 @@ const PREFIXES: &[(&str, Result<(), MountError>)] = &[
     ("//a", Ok(())),
 ];
 
+/// The number of the first prefix that is answered otherwise.
+fn first_unlike(alloc: Global, mounts: &mut Mounts<RootPath>) -> Option<usize> {
+    for (place, (prefix, expected)) in PREFIXES.iter().enumerate() {
+        if mount(alloc, mounts, prefix) != *expected {
+            return Some(place);
+        }
+    }
+    None
+}
+
+/// That number, and where two paths go then.
+fn mounted_once(alloc: Global) -> (Option<usize>, Option<usize>, Option<usize>) {
+    let mut mounts = Mounts::new(alloc);
+    let unlike = first_unlike(alloc, &mut mounts);
+    (unlike, mounts.find("/a/b", ""), mounts.find("/x", ""))
+}
+
 #[test]
 fn a_prefix_is_mounted_once(rt: HostRuntime) -> Result<(), Fail> {
-    let mut mounts = Mounts::new(rt.alloc());
-    for (prefix, expected) in PREFIXES {
-        let answer = mounts.mount(chars(rt.alloc(), prefix)?, RootPath);
-        assert_eq!(rt; answer, *expected, "{prefix}");
-    }
-    assert_eq!(rt; mounts.find("/a/b", ""), Some(2));
-    assert_eq!(rt; mounts.find("/x", ""), Some(1));
+    assert_eq!(rt; mounted_once(rt.alloc()), (None, Some(2), Some(1)));
     Ok(())
 }
 
 #[test]
 fn a_session_goes_to_the_application_of_its_path(rt: HostRuntime) -> Result<(), Fail> {
-    let closed: &[u8] = b"close 1000 |returned";
-    let taken = mounted(rt.alloc(), TWO)?;
-    let said = run_asked(&rt, taken, Kind::WebSocket, USUAL, SILENCE)?;
-    assert_eq!(rt; said.as_slice(), closed);
-    let missing = mounted(rt.alloc(), NONE)?;
-    let said = run_asked(&rt, missing, Kind::WebSocket, USUAL, SILENCE)?;
-    assert_eq!(rt; said.as_slice(), closed);
+    assert_eq!(rt; mounted_run(&rt, TWO, USUAL, CLOSED), Ok(true));
+    assert_eq!(rt; mounted_run(&rt, NONE, USUAL, CLOSED), Ok(true));
     Ok(())
 }
 
-const FAILED: &[u8] = b"start failed no table|returned";
+const FAILED: Row = (
+    Kind::Lifespan,
+    &[Startup, Shutdown],
+    "start failed no table|returned",
+);
+
+fn mount_two(alloc: Global, mounts: &mut Mounts<Life>) -> Result<(), MountError> {
+    mounts.mount(chars(alloc, "/b"), Life::NoStart)?;
+    mounts.mount(chars(alloc, ""), Life::Works)
+}
+
+fn run_two<R: RandomSource + AllocGlobal>(rt: &R) -> Result<bool, AppFault> {
+    let mut mounts = Mounts::new(rt.alloc());
+    match mount_two(rt.alloc(), &mut mounts) {
+        Ok(()) => run(rt, mounts, USUAL, FAILED),
+        Err(_) => Err(AppFault::NoMemory(AllocError)),
+    }
+}
 
 #[test]
 fn the_first_application_gets_the_lifespan(rt: HostRuntime) -> Result<(), Fail> {
-    let mut mounts = Mounts::new(rt.alloc());
-    mounts.mount(chars(rt.alloc(), "/b")?, Life::NoStart)?;
-    mounts.mount(chars(rt.alloc(), "")?, Life::Works)?;
-    let said = run_asked(&rt, mounts, Kind::Lifespan, USUAL, &[Startup, Shutdown])?;
-    assert_eq!(rt; said.as_slice(), FAILED);
+    assert_eq!(rt; run_two(&rt), Ok(true));
     Ok(())
 }
 
+const STARTED: Row = (Kind::Lifespan, &[Startup], "");
+
 #[test]
 fn with_no_application_there_is_no_lifespan(rt: HostRuntime) -> Result<(), Fail> {
-    let none = mounted(rt.alloc(), NONE)?;
-    let said = run_asked(&rt, none, Kind::Lifespan, USUAL, &[Startup]);
-    assert_eq!(rt; said.err(), Some(AppFault::Failed));
-    let refusing = mounted(rt.alloc(), TWO)?;
-    let said = run_asked(&rt, refusing, Kind::Lifespan, USUAL, &[Startup]);
-    assert_eq!(rt; said.err(), Some(AppFault::Failed));
+    assert_eq!(rt;
+        mounted_run(&rt, NONE, USUAL, STARTED),
+        Err(AppFault::Failed)
+    );
+    assert_eq!(rt;
+        mounted_run(&rt, TWO, USUAL, STARTED),
+        Err(AppFault::Failed)
+    );
     Ok(())
 }
 
 /// Where an allocation is refused, the fault says so, and the next call answers whole.
-fn check_memory<R: Abort + RandomSource + AllocGlobal>(
-    rt: &R,
-    row: &Row,
-    expected: &[u8],
-) -> Result<(), Fail> {
-    let said = match said_over_http(rt, row) {
-        Err(AppFault::NoMemory(_)) => said_over_http(rt, row)?,
-        answer => answer?,
-    };
-    assert_eq!(rt; said.as_slice(), expected);
-    Ok(())
+fn run_path_at_last<R: RandomSource + AllocGlobal>(rt: &R, given: &Path) -> Result<bool, AppFault> {
+    let answer = run_path(rt, given);
+    if is_refused(answer) {
+        return run_path(rt, given);
+    }
+    answer
 }
 
 #[test]
 fn memory_for_mounts(rt: HostRuntime) -> Result<(), Fail> {
-    check_memory(
-        &rt,
-        &ROWS[9],
-        b"start 200 content-type=text/plain|last /r/a\n|returned",
-    )?;
-    check_memory(&rt, &ROWS[5], b"start 404 content-length=0|last |returned")
+    assert_eq!(rt; run_path_at_last(&rt, &UNDER_ROOT), Ok(true));
+    assert_eq!(rt; run_path_at_last(&rt, &NOWHERE), Ok(true));
+    Ok(())
 }
 
-/// Where the table does not grow, the mount is refused, and what was mounted stays.
+/// Where the table does not grow, the mount is refused, and what was mounted stays: whether that is
+/// so, and the prefix is mounted then, or at once.
+fn is_mounted_at_last(alloc: Global, mounts: &mut Mounts<RootPath>) -> bool {
+    match mounts.mount(chars(alloc, "/a"), RootPath) {
+        Ok(()) => true,
+        Err(refused) => {
+            refused == MountError::NoMemory(AllocError)
+                && mounts.find("/a", "").is_none()
+                && mounts.mount(chars(alloc, "/a"), RootPath).is_ok()
+        }
+    }
+}
+
+/// That, and the number that the path goes to.
+fn one_more_mount(alloc: Global) -> (bool, Option<usize>) {
+    let mut mounts = Mounts::new(alloc);
+    let is_mounted = is_mounted_at_last(alloc, &mut mounts);
+    (is_mounted, mounts.find("/a", ""))
+}
+
 #[test]
 fn memory_for_one_more_mount(rt: HostRuntime) -> Result<(), Fail> {
-    let prefix = match chars(rt.alloc(), "/a") {
-        Ok(prefix) => prefix,
-        Err(_) => chars(rt.alloc(), "/a")?,
-    };
-    let again = match chars(rt.alloc(), "/a") {
-        Ok(again) => again,
-        Err(_) => chars(rt.alloc(), "/a")?,
-    };
-    let mut mounts = Mounts::new(rt.alloc());
-    if let Err(refused) = mounts.mount(prefix, RootPath) {
-        assert_eq!(rt; refused, MountError::NoMemory(AllocError));
-        assert_eq!(rt; mounts.find("/a", ""), None);
-        mounts.mount(again, RootPath)?;
-    }
-    assert_eq!(rt; mounts.find("/a", ""), Some(0));
+    assert_eq!(rt; one_more_mount(rt.alloc()), (true, Some(0)));
     Ok(())
 }

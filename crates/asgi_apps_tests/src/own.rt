@@ -1,14 +1,15 @@
 //! Applications of a user's own, which promise nothing, so that nothing is to be proved of them.
 use crate::rows::{Row, SILENCE, check};
+use crate::texts::octets;
 use asgi_apps::{AppFault, AppTask, Application, Says};
 use asgi_pipes::{AppEnd, Sent};
-use asgi_types::{Headers, Kind, Octets, Outgoing, Scope};
+use asgi_types::{Headers, Kind, Outgoing, Scope};
 use futures::task::{Context, Poll};
-use std::alloc::{AllocError, Global};
+use std::alloc::Global;
 use std::test::Fail;
 
 /// Answers each request with its method, and with its path behind it, a body each.
-#[derive(Clone, Copy, Debug)]
+#[derive(Clone, Copy)]
 struct Repeats;
 
 impl Application for Repeats {
@@ -19,9 +20,10 @@ impl Application for Repeats {
             return Err(AppFault::Failed);
         };
         let mut says = Says::with_room(alloc, Kind::Http, 3)?;
-        says.add(start(alloc))?;
-        says.add(body(alloc, scope.method.as_str(), true)?)?;
-        says.add(body(alloc, scope.path.as_str(), false)?)?;
+        let first = says.add(start(alloc));
+        let second = says.add(body(alloc, scope.method.as_str(), true));
+        let third = says.add(body(alloc, scope.path.as_str(), false));
+        first.and(second).and(third)?;
         Ok(says)
     }
 }
@@ -33,13 +35,15 @@ fn start(alloc: Global) -> Outgoing {
     }
 }
 
-fn body(alloc: Global, text: &str, more_body: bool) -> Result<Outgoing, AllocError> {
-    let body = Octets::new(Vec::from_slice(alloc, text.as_bytes())?);
-    Ok(Outgoing::ResponseBody { body, more_body })
+fn body(alloc: Global, text: &str, more_body: bool) -> Outgoing {
+    Outgoing::ResponseBody {
+        body: octets(alloc, text),
+        more_body,
+    }
 }
 
 /// Answers each request with as many letters, one a body.
-#[derive(Clone, Copy, Debug)]
+#[derive(Clone, Copy)]
 struct Counts(u8);
 
 #[derive(Drop)]
@@ -63,23 +67,25 @@ impl Application for Counts {
 
 impl CountsTask {
     /// The event that comes next.
-    fn next(&self) -> Result<Outgoing, AllocError> {
+    fn next(&self) -> Outgoing {
         if !self.is_started {
-            return Ok(start(self.alloc));
+            return start(self.alloc);
         }
         body(self.alloc, "x", 1 < self.left)
+    }
+
+    /// Counts the event that was said.
+    fn count(&mut self) {
+        self.left = self.left.saturating_sub(self.is_started as u8);
+        self.is_started = true;
     }
 }
 
 impl AppTask for CountsTask {
     fn poll<E: AppEnd>(&mut self, cx: &mut Context<'_>, end: &mut E) -> Poll<Result<(), AppFault>> {
-        let Ok(event) = self.next() else {
-            return Poll::Ready(Err(AppFault::Failed));
-        };
-        match end.poll_send(cx, event) {
+        match end.poll_send(cx, self.next()) {
             Sent::Done => {
-                self.left = self.left.saturating_sub(self.is_started as u8);
-                self.is_started = true;
+                self.count();
                 cx.yield_now()
             }
             Sent::Full(_) => Poll::Pending,

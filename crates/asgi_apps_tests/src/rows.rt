@@ -1,18 +1,17 @@
-//! Each ready application over a plain pair, driven to its end: what it says, as a text of one line an event.
+//! Each ready application over a plain pair, driven to its end, and what it says in each kind of scope.
 ghost use Rattle.std.specs.Prelude.{◌≡◌, [], None, IfOk};
 ghost use Rattle.futures.specs.Task.{Keeps};
-ghost use Rattle.asgi_apps.specs.Scopes.{kind_of};
 ghost use Rattle.asgi_pipes.specs.PlainPairs.{IsPlainPair};
 
+use crate::given::Offered::{Bytes, Close, Connect, Disconnect, Last, Part, Text};
+use crate::given::{Asked, Offered, USUAL, at, event_of, facts, scope_of};
+use crate::told::is_taken;
 use asgi_apps::{
     AppFault, AppTask, Application, Echo, Ended, Hello, NotFound, RootPath, Running, WsEcho, drive,
 };
 use asgi_io::CountingPause;
-use asgi_pipes::{ConnEnd, EndKind, OutItem, Pipes, Plain, PlainApp, PlainConn};
-use asgi_types::{
-    Asgi, Chars, Extensions, Facts, Framing, Headers, HttpScope, HttpVersion, Incoming, Kind,
-    LifespanScope, Names, Octets, Outgoing, Payload, Reason, Scope, State, StateValue, WsScope,
-};
+use asgi_pipes::{ConnEnd, Pipes, Plain, PlainApp, PlainConn};
+use asgi_types::{Incoming, Kind};
 use futures::task::{Context, Poll};
 use futures::{Future, FutureExt};
 use std::alloc::{AllocError, AllocGlobal, Global};
@@ -20,212 +19,24 @@ use std::process::Abort;
 use std::random::RandomSource;
 use std::test::Fail;
 
-/// What the application is offered: at most four events.
-#[derive(Clone, Copy, Debug)]
-pub enum Offered {
-    Nothing,
-    Part(&'static str),
-    Last(&'static str),
-    Disconnect,
-    Connect,
-    Text(&'static str),
-    Bytes(&'static str),
-    Close(u16),
-    Startup,
-    Shutdown,
-}
-
-use Offered::{Bytes, Close, Connect, Disconnect, Last, Part, Text};
-
-/// What stands under the name `n` of a state.
-#[derive(Clone, Copy, Debug)]
-pub enum Held {
-    Nothing,
-    Number(u64),
-    Text(&'static str),
-}
-
-/// What a scope says of its request.
-#[derive(Clone, Copy, Debug)]
-pub struct Asked {
-    pub path: &'static str,
-    pub root_path: &'static str,
-    pub held: Held,
-}
-
-pub const USUAL: Asked = Asked {
-    path: "/a/b",
-    root_path: "/a",
-    held: Held::Nothing,
-};
+/// A kind of scope, what is offered, and what is said.
+pub type Row = (Kind, &'static [Offered], &'static str);
 
 /// A task that is driven within one poll, which is where a context comes from.
 #[derive(Drop)]
 struct Served<A> {
     alloc: Global,
     app: A,
-    kind: Kind,
     asked: Asked,
-    offered: &'static [Offered],
+    row: Row,
 }
 
 impl<A: Application + Drop> Future for Served<A> {
-    type Output = Result<Vec<u8>, AppFault>;
+    type Output = Result<bool, AppFault>;
 
-    fn poll(&mut self, cx: &mut Context<'_>) -> Poll<Result<Vec<u8>, AppFault>> {
-        Poll::Ready(serve(
-            self.alloc,
-            cx,
-            &self.app,
-            self.kind,
-            self.asked,
-            self.offered,
-        ))
+    fn poll(&mut self, cx: &mut Context<'_>) -> Poll<Result<bool, AppFault>> {
+        Poll::Ready(serve(self.alloc, cx, &self.app, self.asked, self.row))
     }
-}
-
-// What a task is given is made, and asked for again where memory was refused.
-
-fn chars(alloc: Global, text: &str) -> Chars {
-    for _ in 0..2 {
-        if let Ok(made) = String::from_str(alloc, text) {
-            return Chars::new(made);
-        }
-    }
-    Chars::new(String::new(alloc))
-}
-
-fn octets(alloc: Global, text: &str) -> Octets {
-    for _ in 0..2 {
-        if let Ok(made) = Vec::from_slice(alloc, text.as_bytes()) {
-            return Octets::new(made);
-        }
-    }
-    Octets::new(Vec::new(alloc))
-}
-
-/// What is said of a value. It stands for a value of any type, so its proof sees no field of one.
-fn of<T: Drop, S, F: FnOnce(&T) -> S>(value: T, says: F) -> S
-    requires { F.IsAlwaysCallable says }
-{
-    says(&value)
-}
-
-fn facts(alloc: Global) -> Facts {
-    Facts {
-        version: HttpVersion::V11,
-        head_only: false,
-        close: false,
-        expect: false,
-        framing: Framing::Length(0),
-        key: [0; 24],
-        subprotocols: Names::new(alloc),
-    }
-}
-
-const NO_EXTENSIONS: Extensions = Extensions {
-    websocket_http_response: false,
-    http_response_trailers: false,
-};
-
-fn state_of(alloc: Global, held: Held) -> State {
-    let mut state = State::new(alloc);
-    let value = match held {
-        Held::Nothing => return state,
-        Held::Number(number) => StateValue::Number(number),
-        Held::Text(text) => StateValue::Text(chars(alloc, text)),
-    };
-    // A refused value is not held, and the row fails but where memory was refused.
-    let _set = state.set("n", value);
-    state
-}
-
-fn http_scope(alloc: Global, asked: Asked) -> HttpScope {
-    HttpScope {
-        asgi: Asgi::of(Kind::Http),
-        http_version: HttpVersion::V11,
-        method: chars(alloc, "POST"),
-        scheme: chars(alloc, "http"),
-        path: chars(alloc, asked.path),
-        raw_path: octets(alloc, "/a/b"),
-        query_string: octets(alloc, ""),
-        root_path: chars(alloc, asked.root_path),
-        headers: Headers::new(alloc),
-        client: None,
-        server: None,
-        state: state_of(alloc, asked.held),
-        extensions: NO_EXTENSIONS,
-    }
-}
-
-fn ws_scope(alloc: Global, asked: Asked) -> WsScope {
-    WsScope {
-        asgi: Asgi::of(Kind::WebSocket),
-        http_version: HttpVersion::V11,
-        scheme: chars(alloc, "ws"),
-        path: chars(alloc, asked.path),
-        raw_path: octets(alloc, "/a/b"),
-        query_string: octets(alloc, ""),
-        root_path: chars(alloc, asked.root_path),
-        headers: Headers::new(alloc),
-        client: None,
-        server: None,
-        subprotocols: Names::new(alloc),
-        state: State::new(alloc),
-        extensions: NO_EXTENSIONS,
-    }
-}
-
-fn lifespan_scope(alloc: Global) -> LifespanScope {
-    LifespanScope {
-        asgi: Asgi::of(Kind::Lifespan),
-        state: State::new(alloc),
-    }
-}
-
-fn scope_of(alloc: Global, kind: Kind, asked: Asked) -> Scope
-    ensures { kind_of result ≡ kind }
-{
-    match kind {
-        Kind::Http => Scope::Http(http_scope(alloc, asked)),
-        Kind::WebSocket => Scope::WebSocket(ws_scope(alloc, asked)),
-        Kind::Lifespan => Scope::Lifespan(lifespan_scope(alloc)),
-    }
-}
-
-fn at(offered: &[Offered], index: usize) -> Offered {
-    match offered.get(index) {
-        Some(one) => *one,
-        None => Offered::Nothing,
-    }
-}
-
-fn event_of(alloc: Global, offered: Offered) -> Option<Incoming> {
-    match offered {
-        Offered::Nothing => None,
-        Offered::Part(text) => Some(request(octets(alloc, text), true)),
-        Offered::Last(text) => Some(request(octets(alloc, text), false)),
-        Offered::Disconnect => Some(Incoming::HttpDisconnect),
-        Offered::Connect => Some(Incoming::WsConnect),
-        Offered::Text(text) => Some(message(Payload::Text(chars(alloc, text)))),
-        Offered::Bytes(text) => Some(message(Payload::Bytes(octets(alloc, text)))),
-        Offered::Close(code) => closed(code),
-        Offered::Startup => Some(Incoming::LifespanStartup),
-        Offered::Shutdown => Some(Incoming::LifespanShutdown),
-    }
-}
-
-fn message(payload: Payload) -> Incoming {
-    Incoming::WsReceive { payload }
-}
-
-fn closed(code: u16) -> Option<Incoming> {
-    let reason = Reason::new("")?;
-    Some(Incoming::WsDisconnect { code, reason })
-}
-
-fn request(body: Octets, more_body: bool) -> Incoming {
-    Incoming::HttpRequest { body, more_body }
 }
 
 /// Offers the event. There is a place for it.
@@ -269,28 +80,29 @@ fn task_of<A: Application>(
     app.call(alloc, &scope)
 }
 
-/// Calls the application, drives its task, and tells what the connection takes.
+/// Calls the application, drives its task, and says whether the connection takes what the row holds.
 fn serve<A: Application>(
     alloc: Global,
     cx: &mut Context<'_>,
     app: &A,
-    kind: Kind,
     asked: Asked,
-    offered: &[Offered],
-) -> Result<Vec<u8>, AppFault>
+    row: Row,
+) -> Result<bool, AppFault>
     ensures { Keeps cx.old cx.new }
 {
+    let (kind, offered, expected) = row;
     let task = task_of(alloc, app, kind, asked)?;
     let pair = pair_of(alloc, kind, offered)?;
-    Ok(told(alloc, cx, task, pair)?)
+    Ok(is_told(alloc, cx, task, pair, expected)?)
 }
 
-fn told<T: AppTask>(
+fn is_told<T: AppTask>(
     alloc: Global,
     cx: &mut Context<'_>,
     task: T,
     pair: Pair,
-) -> Result<Vec<u8>, AllocError>
+    expected: &str,
+) -> Result<bool, AllocError>
     requires open { pair.app.ended ≡ None }
     requires stands { T.stands task pair.app.kind pair.app.heard.items pair.app.said.items }
     ensures { Keeps cx.old cx.new }
@@ -300,160 +112,21 @@ fn told<T: AppTask>(
     let ended = drive(cx, Running::new(task, app), &mut pause, 3, 100);
     let Ended { mut app_end, .. } = ended;
     Plain::carry(&mut conn, &mut app_end);
-    taken(alloc, &mut conn)
+    is_taken(alloc, &mut conn, expected)
 }
 
-/// Takes all, and tells it.
-fn taken(alloc: Global, conn: &mut PlainConn) -> Result<Vec<u8>, AllocError> {
-    let mut text = Vec::new(alloc);
-    tell_all(alloc, &mut text, conn)?;
-    Ok(text)
-}
-
-fn tell_all(alloc: Global, text: &mut Vec<u8>, conn: &mut PlainConn) -> Result<(), AllocError> {
-    for _item in 0..20 {
-        if !of(conn.take(), |item| tell_item(alloc, text, item))? {
-            return Ok(());
-        }
-    }
-    Ok(())
-}
-
-/// Tells what was taken, and says whether it was anything.
-fn tell_item(
-    alloc: Global,
-    text: &mut Vec<u8>,
-    item: &Option<OutItem>,
-) -> Result<bool, AllocError> {
-    match item {
-        Some(OutItem::Event(event)) => tell(alloc, text, event)?,
-        Some(OutItem::Ended(end)) => text.extend_from_slice(word_of(*end).as_bytes())?,
-        None => return Ok(false),
-    }
-    Ok(true)
-}
-
-fn word_of(end: EndKind) -> &'static str {
-    match end {
-        EndKind::Returned => "returned",
-        EndKind::Faulted => "faulted",
-        EndKind::Idle => "idle",
-    }
-}
-
-fn tell(alloc: Global, text: &mut Vec<u8>, event: &Outgoing) -> Result<(), AllocError> {
-    match event {
-        Outgoing::ResponseStart { status, headers } => tell_start(alloc, text, *status, headers),
-        Outgoing::ResponseBody { body, more_body } => tell_body(text, body.bytes(), *more_body),
-        Outgoing::WsAccept {
-            subprotocol,
-            headers,
-        } => tell_accept(text, subprotocol, headers),
-        Outgoing::WsSend { payload } => tell_message(text, payload),
-        Outgoing::WsClose { code, reason } => tell_close(alloc, text, *code, reason.as_str()),
-        Outgoing::StartupComplete { state } => tell_started(alloc, text, state),
-        Outgoing::StartupFailed { message } => tell_line(text, b"start failed ", message),
-        Outgoing::ShutdownComplete => text.extend_from_slice(b"stopped|"),
-        Outgoing::ShutdownFailed { message } => tell_line(text, b"stop failed ", message),
-        _ => text.extend_from_slice(b"other|"),
-    }
-}
-
-fn tell_start(
-    alloc: Global,
-    text: &mut Vec<u8>,
-    status: u16,
-    headers: &Headers,
-) -> Result<(), AllocError> {
-    let line = format!(in alloc; "start {status}")?;
-    text.extend_from_slice(line.as_bytes())?;
-    tell_fields(text, headers)
-}
-
-fn tell_fields(text: &mut Vec<u8>, headers: &Headers) -> Result<(), AllocError> {
-    for (name, value) in headers.iter() {
-        add(text, &[b" ", name, b"=", value])?;
-    }
-    text.extend_from_slice(b"|")
-}
-
-fn tell_accept(
-    text: &mut Vec<u8>,
-    subprotocol: &Option<Chars>,
-    headers: &Headers,
-) -> Result<(), AllocError> {
-    text.extend_from_slice(b"accept")?;
-    if let Some(name) = subprotocol {
-        add(text, &[b" ", name.as_str().as_bytes()])?;
-    }
-    tell_fields(text, headers)
-}
-
-fn tell_message(text: &mut Vec<u8>, payload: &Payload) -> Result<(), AllocError> {
-    match payload {
-        Payload::Text(message) => add(text, &[b"text ", message.as_str().as_bytes(), b"|"]),
-        Payload::Bytes(message) => add(text, &[b"bytes ", message.bytes(), b"|"]),
-    }
-}
-
-fn tell_body(text: &mut Vec<u8>, body: &[u8], more_body: bool) -> Result<(), AllocError> {
-    let word: &[u8] = if more_body { b"part " } else { b"last " };
-    add(text, &[word, body, b"|"])
-}
-
-fn tell_close(
-    alloc: Global,
-    text: &mut Vec<u8>,
-    code: u16,
-    reason: &str,
-) -> Result<(), AllocError> {
-    let word = format!(in alloc; "close {code} ")?;
-    add(text, &[word.as_bytes(), reason.as_bytes(), b"|"])
-}
-
-fn tell_started(alloc: Global, text: &mut Vec<u8>, state: &State) -> Result<(), AllocError> {
-    text.extend_from_slice(b"started")?;
-    if let Some(StateValue::Number(number)) = state.get("n") {
-        let held = format!(in alloc; " n={number}")?;
-        text.extend_from_slice(held.as_bytes())?;
-    }
-    text.extend_from_slice(b"|")
-}
-
-fn tell_line(text: &mut Vec<u8>, word: &[u8], message: &Chars) -> Result<(), AllocError> {
-    add(text, &[word, message.as_str().as_bytes(), b"|"])
-}
-
-fn add(text: &mut Vec<u8>, parts: &[&[u8]]) -> Result<(), AllocError> {
-    for part in parts {
-        text.extend_from_slice(part)?;
-    }
-    Ok(())
-}
-
-/// The text of what the application says, or its fault.
-fn run<R: RandomSource + AllocGlobal, A: Application + Drop>(
+/// Whether the application says what the row holds, or its fault.
+pub fn run<R: RandomSource + AllocGlobal, A: Application + Drop>(
     rt: &R,
     app: A,
-    kind: Kind,
-    offered: &'static [Offered],
-) -> Result<Vec<u8>, AppFault> {
-    run_asked(rt, app, kind, USUAL, offered)
-}
-
-pub fn run_asked<R: RandomSource + AllocGlobal, A: Application + Drop>(
-    rt: &R,
-    app: A,
-    kind: Kind,
     asked: Asked,
-    offered: &'static [Offered],
-) -> Result<Vec<u8>, AppFault> {
+    row: Row,
+) -> Result<bool, AppFault> {
     let served = Served {
         alloc: rt.alloc(),
         app,
-        kind,
         asked,
-        offered,
+        row,
     };
     match served.now_or_never(rt) {
         Ok(Some(said)) => said,
@@ -462,37 +135,64 @@ pub fn run_asked<R: RandomSource + AllocGlobal, A: Application + Drop>(
     }
 }
 
-/// A kind of scope, what is offered, and what is said.
-pub type Row = (Kind, &'static [Offered], &'static str);
-
 pub const SILENCE: &[Offered] = &[];
+
+/// Whether the application says what the row holds. Of a fault the row says `faulted`.
+fn is_said<R: RandomSource + AllocGlobal, A: Application + Copy + Drop>(
+    rt: &R,
+    app: A,
+    row: Row,
+) -> bool {
+    is_answer(run(rt, app, USUAL, row), row.2)
+}
+
+fn is_answer(answer: Result<bool, AppFault>, expected: &str) -> bool {
+    match answer {
+        Ok(is_same) => is_same,
+        Err(_) => expected == "faulted",
+    }
+}
+
+/// What the first row holds that the application does not say.
+fn first_unsaid<R: RandomSource + AllocGlobal, A: Application + Copy + Drop>(
+    rt: &R,
+    app: A,
+    rows: &[Row],
+) -> Option<&'static str> {
+    for row in rows {
+        if !is_said(rt, app, *row) {
+            return Some(row.2);
+        }
+    }
+    None
+}
 
 pub fn check<R: Abort + RandomSource + AllocGlobal, A: Application + Copy + Drop>(
     rt: &R,
     app: A,
     rows: &[Row],
 ) -> Result<(), Fail> {
-    for (kind, offered, expected) in rows {
-        match run(rt, app, *kind, *offered) {
-            Ok(said) => assert_eq!(rt; said.as_slice(), expected.as_bytes(), "{expected}"),
-            Err(_) => assert_eq!(rt; "faulted", *expected),
-        }
-    }
+    assert_eq!(rt; first_unsaid(rt, app, rows), None);
     Ok(())
 }
 
+const GREETED: Row = (
+    Kind::Http,
+    SILENCE,
+    "start 200 content-type=text/plain|last hello\n|returned",
+);
+
+/// A session is refused.
+pub const CLOSED: Row = (Kind::WebSocket, SILENCE, "close 1000 |returned");
+
 const HELLO: &[Row] = &[
-    (
-        Kind::Http,
-        SILENCE,
-        "start 200 content-type=text/plain|last hello\n|returned",
-    ),
+    GREETED,
     (
         Kind::Http,
         &[Last("abc"), Disconnect],
         "start 200 content-type=text/plain|last hello\n|returned",
     ),
-    (Kind::WebSocket, SILENCE, "close 1000 |returned"),
+    CLOSED,
     (Kind::Lifespan, SILENCE, "faulted"),
 ];
 
@@ -501,35 +201,37 @@ fn hello_greets(rt: HostRuntime) -> Result<(), Fail> {
     check(&rt, Hello, HELLO)
 }
 
-const NOT_FOUND: &[Row] = &[
-    (
-        Kind::Http,
-        SILENCE,
-        "start 404 content-length=0|last |returned",
-    ),
-    (Kind::WebSocket, SILENCE, "close 1000 |returned"),
-    (Kind::Lifespan, SILENCE, "faulted"),
-];
+const MISSED: Row = (
+    Kind::Http,
+    SILENCE,
+    "start 404 content-length=0|last |returned",
+);
+
+const NOT_FOUND: &[Row] = &[MISSED, CLOSED, (Kind::Lifespan, SILENCE, "faulted")];
 
 #[test]
 fn not_found_has_no_content(rt: HostRuntime) -> Result<(), Fail> {
     check(&rt, NotFound, NOT_FOUND)
 }
 
-const ROOT_PATH: &[Row] = &[
-    (
-        Kind::Http,
-        SILENCE,
-        "start 200 content-type=text/plain|last /a\n|returned",
-    ),
-    (Kind::WebSocket, SILENCE, "close 1000 |returned"),
-    (Kind::Lifespan, SILENCE, "faulted"),
-];
+const ROOTED: Row = (
+    Kind::Http,
+    SILENCE,
+    "start 200 content-type=text/plain|last /a\n|returned",
+);
+
+const ROOT_PATH: &[Row] = &[ROOTED, CLOSED, (Kind::Lifespan, SILENCE, "faulted")];
 
 #[test]
 fn root_path_is_said_in_a_line(rt: HostRuntime) -> Result<(), Fail> {
     check(&rt, RootPath, ROOT_PATH)
 }
+
+const ECHOED: Row = (
+    Kind::Http,
+    &[Part("abc"), Part(""), Last("d")],
+    "start 200 content-type=application/octet-stream|part abc|part |last d|returned",
+);
 
 const ECHO: &[Row] = &[
     (
@@ -537,11 +239,7 @@ const ECHO: &[Row] = &[
         &[Last("abc")],
         "start 200 content-type=application/octet-stream|last abc|returned",
     ),
-    (
-        Kind::Http,
-        &[Part("abc"), Part(""), Last("d")],
-        "start 200 content-type=application/octet-stream|part abc|part |last d|returned",
-    ),
+    ECHOED,
     (
         Kind::Http,
         &[Part("abc"), Disconnect],
@@ -552,7 +250,7 @@ const ECHO: &[Row] = &[
         &[Part("abc")],
         "start 200 content-type=application/octet-stream|part abc|idle",
     ),
-    (Kind::WebSocket, SILENCE, "close 1000 |returned"),
+    CLOSED,
     (Kind::Lifespan, SILENCE, "faulted"),
 ];
 
@@ -561,13 +259,21 @@ fn echo_says_what_it_hears(rt: HostRuntime) -> Result<(), Fail> {
     check(&rt, Echo, ECHO)
 }
 
+const SENT_BACK: Row = (
+    Kind::WebSocket,
+    &[Connect, Text("Hello"), Bytes("ab"), Close(1005)],
+    "accept|text Hello|bytes ab|returned",
+);
+
+const NO_SESSION: Row = (
+    Kind::Http,
+    &[Last("abc"), Disconnect],
+    "start 404 content-length=0|last |returned",
+);
+
 const WS_ECHO: &[Row] = &[
     (Kind::WebSocket, &[Connect, Close(1000)], "accept|returned"),
-    (
-        Kind::WebSocket,
-        &[Connect, Text("Hello"), Bytes("ab"), Close(1005)],
-        "accept|text Hello|bytes ab|returned",
-    ),
+    SENT_BACK,
     (
         Kind::WebSocket,
         &[Connect, Text(""), Bytes(""), Text("a")],
@@ -581,11 +287,7 @@ const WS_ECHO: &[Row] = &[
     ),
     (Kind::WebSocket, &[Close(1006)], "returned"),
     (Kind::WebSocket, SILENCE, "idle"),
-    (
-        Kind::Http,
-        &[Last("abc"), Disconnect],
-        "start 404 content-length=0|last |returned",
-    ),
+    NO_SESSION,
     (Kind::Lifespan, SILENCE, "faulted"),
 ];
 
@@ -595,28 +297,72 @@ fn ws_echo_sends_each_message_back(rt: HostRuntime) -> Result<(), Fail> {
 }
 
 /// Where an allocation is refused, the fault says so, and the next call answers whole.
+fn is_said_at_last<R: RandomSource + AllocGlobal, A: Application + Copy + Drop>(
+    rt: &R,
+    app: A,
+    row: Row,
+) -> bool {
+    let answer = run(rt, app, USUAL, row);
+    if is_refused(answer) {
+        return is_same(run(rt, app, USUAL, row));
+    }
+    is_same(answer)
+}
+
+/// Whether memory was refused to the call.
+pub fn is_refused(answer: Result<bool, AppFault>) -> bool {
+    match answer {
+        Err(AppFault::NoMemory(_)) => true,
+        _ => false,
+    }
+}
+
+/// Whether the call answered, and as the row says.
+pub fn is_same(answer: Result<bool, AppFault>) -> bool {
+    match answer {
+        Ok(is_same) => is_same,
+        Err(_) => false,
+    }
+}
+
+fn first_unsaid_at_last<R: RandomSource + AllocGlobal, A: Application + Copy + Drop>(
+    rt: &R,
+    app: A,
+    rows: &[Row],
+) -> Option<&'static str> {
+    for row in rows {
+        if !is_said_at_last(rt, app, *row) {
+            return Some(row.2);
+        }
+    }
+    None
+}
+
 pub fn check_memory<R: Abort + RandomSource + AllocGlobal, A: Application + Copy + Drop>(
     rt: &R,
     app: A,
-    row: &Row,
+    rows: &[Row],
 ) -> Result<(), Fail> {
-    let (kind, offered, expected) = *row;
-    let said = match run(rt, app, kind, offered) {
-        Err(AppFault::NoMemory(_)) => run(rt, app, kind, offered)?,
-        answer => answer?,
-    };
-    assert_eq!(rt; said.as_slice(), expected.as_bytes());
+    assert_eq!(rt; first_unsaid_at_last(rt, app, rows), None);
     Ok(())
 }
 
+// Of each application the rows that are asked where memory is refused.
+const HELLO_AGAIN: &[Row] = &[GREETED, CLOSED];
+
+const NOT_FOUND_AGAIN: &[Row] = &[MISSED];
+
+const ROOT_PATH_AGAIN: &[Row] = &[ROOTED];
+
+const ECHO_AGAIN: &[Row] = &[ECHOED, CLOSED];
+
+const WS_ECHO_AGAIN: &[Row] = &[SENT_BACK, NO_SESSION];
+
 #[test]
 fn memory_for_each_application(rt: HostRuntime) -> Result<(), Fail> {
-    check_memory(&rt, Hello, &HELLO[0])?;
-    check_memory(&rt, Hello, &HELLO[2])?;
-    check_memory(&rt, NotFound, &NOT_FOUND[0])?;
-    check_memory(&rt, RootPath, &ROOT_PATH[0])?;
-    check_memory(&rt, Echo, &ECHO[1])?;
-    check_memory(&rt, Echo, &ECHO[4])?;
-    check_memory(&rt, WsEcho, &WS_ECHO[1])?;
-    check_memory(&rt, WsEcho, &WS_ECHO[7])
+    check_memory(&rt, Hello, HELLO_AGAIN)?;
+    check_memory(&rt, NotFound, NOT_FOUND_AGAIN)?;
+    check_memory(&rt, RootPath, ROOT_PATH_AGAIN)?;
+    check_memory(&rt, Echo, ECHO_AGAIN)?;
+    check_memory(&rt, WsEcho, WS_ECHO_AGAIN)
 }
