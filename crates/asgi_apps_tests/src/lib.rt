@@ -2,8 +2,6 @@
 #![tactic(auto)]
 
 #[cfg(test)]
-mod given;
-#[cfg(test)]
 mod life;
 #[cfg(test)]
 mod mounts;
@@ -11,7 +9,3 @@ mod mounts;
 mod own;
 #[cfg(test)]
 mod rows;
-#[cfg(test)]
-mod texts;
-#[cfg(test)]
-mod told;

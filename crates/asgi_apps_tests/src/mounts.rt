@@ -1,8 +1,6 @@
 //! Mounts: which prefixes are taken, and which application a path goes to.
-use crate::given::Offered::{Shutdown, Startup};
-use crate::given::{Asked, Held, USUAL};
-use crate::rows::{CLOSED, Row, SILENCE, is_refused, is_same, run};
-use crate::texts::chars;
+use crate::rows::Offered::{Shutdown, Startup};
+use crate::rows::{Asked, CLOSED, Held, Row, SILENCE, USUAL, chars, run};
 use asgi_apps::{AppFault, Life, MountError, Mounts, RootPath};
 use asgi_types::Kind;
 use std::alloc::{AllocError, AllocGlobal, Global};
@@ -16,17 +14,13 @@ fn mounted(alloc: Global, prefixes: &[&str]) -> Result<Mounts<RootPath>, MountEr
     Ok(mounts)
 }
 
-fn mount(alloc: Global, mounts: &mut Mounts<RootPath>, prefix: &str) -> Result<(), MountError> {
-    mounts.mount(chars(alloc, prefix), RootPath)
-}
-
 fn mount_all(
     alloc: Global,
     mounts: &mut Mounts<RootPath>,
     prefixes: &[&str],
 ) -> Result<(), MountError> {
     for prefix in prefixes {
-        mount(alloc, mounts, prefix)?;
+        mounts.mount(chars(alloc, prefix), RootPath)?;
     }
     Ok(())
 }
@@ -112,7 +106,7 @@ fn run_path<R: RandomSource + AllocGlobal>(rt: &R, given: &Path) -> Result<bool,
 /// The number of the first path at which something else is said.
 fn first_unsaid<R: RandomSource + AllocGlobal>(rt: &R) -> Option<usize> {
     for (place, given) in PATHS.iter().enumerate() {
-        if !is_same(run_path(rt, given)) {
+        if !run_path(rt, given).unwrap_or(false) {
             return Some(place);
         }
     }
@@ -181,7 +175,7 @@ const PREFIXES: &[(&str, Result<(), MountError>)] = &[
 /// The number of the first prefix that is answered otherwise.
 fn first_unlike(alloc: Global, mounts: &mut Mounts<RootPath>) -> Option<usize> {
     for (place, (prefix, expected)) in PREFIXES.iter().enumerate() {
-        if mount(alloc, mounts, prefix) != *expected {
+        if mounts.mount(chars(alloc, prefix), RootPath) != *expected {
             return Some(place);
         }
     }
@@ -250,11 +244,10 @@ fn with_no_application_there_is_no_lifespan(rt: HostRuntime) -> Result<(), Fail>
 
 /// Where an allocation is refused, the fault says so, and the next call answers whole.
 fn run_path_at_last<R: RandomSource + AllocGlobal>(rt: &R, given: &Path) -> Result<bool, AppFault> {
-    let answer = run_path(rt, given);
-    if is_refused(answer) {
-        return run_path(rt, given);
+    match run_path(rt, given) {
+        Err(AppFault::NoMemory(_)) => run_path(rt, given),
+        answer => answer,
     }
-    answer
 }
 
 #[test]

@@ -1,6 +1,5 @@
 //! Applications of a user's own, which promise nothing, so that nothing is to be proved of them.
-use crate::rows::{Row, SILENCE, check};
-use crate::texts::octets;
+use crate::rows::{Row, SILENCE, check, octets};
 use asgi_apps::{AppFault, AppTask, Application, Says};
 use asgi_pipes::{AppEnd, Sent};
 use asgi_types::{Headers, Kind, Outgoing, Scope};
@@ -9,7 +8,7 @@ use std::alloc::Global;
 use std::test::Fail;
 
 /// Answers each request with its method, and with its path behind it, a body each.
-#[derive(Clone, Copy)]
+#[derive(Clone, Copy, Debug)]
 struct Repeats;
 
 impl Application for Repeats {
@@ -20,10 +19,9 @@ impl Application for Repeats {
             return Err(AppFault::Failed);
         };
         let mut says = Says::with_room(alloc, Kind::Http, 3)?;
-        let first = says.add(start(alloc));
-        let second = says.add(body(alloc, scope.method.as_str(), true));
-        let third = says.add(body(alloc, scope.path.as_str(), false));
-        first.and(second).and(third)?;
+        says.add(start(alloc))?;
+        says.add(body(alloc, scope.method.as_str(), true))?;
+        says.add(body(alloc, scope.path.as_str(), false))?;
         Ok(says)
     }
 }
@@ -43,7 +41,7 @@ fn body(alloc: Global, text: &str, more_body: bool) -> Outgoing {
 }
 
 /// Answers each request with as many letters, one a body.
-#[derive(Clone, Copy)]
+#[derive(Clone, Copy, Debug)]
 struct Counts(u8);
 
 #[derive(Drop)]
@@ -73,19 +71,14 @@ impl CountsTask {
         }
         body(self.alloc, "x", 1 < self.left)
     }
-
-    /// Counts the event that was said.
-    fn count(&mut self) {
-        self.left = self.left.saturating_sub(self.is_started as u8);
-        self.is_started = true;
-    }
 }
 
 impl AppTask for CountsTask {
     fn poll<E: AppEnd>(&mut self, cx: &mut Context<'_>, end: &mut E) -> Poll<Result<(), AppFault>> {
         match end.poll_send(cx, self.next()) {
             Sent::Done => {
-                self.count();
+                self.left = self.left.saturating_sub(self.is_started as u8);
+                self.is_started = true;
                 cx.yield_now()
             }
             Sent::Full(_) => Poll::Pending,

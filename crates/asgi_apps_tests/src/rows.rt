@@ -1,23 +1,63 @@
-//! Each ready application over a plain pair, driven to its end, and what it says in each kind of scope.
+//! Each ready application over a plain pair, driven to its end: what it says, as a text of one line an event.
 ghost use Rattle.std.specs.Prelude.{◌≡◌, [], None, IfOk};
 ghost use Rattle.futures.specs.Task.{Keeps};
+ghost use Rattle.asgi_apps.specs.Scopes.{kind_of};
 ghost use Rattle.asgi_pipes.specs.PlainPairs.{IsPlainPair};
 
-use crate::given::Offered::{Bytes, Close, Connect, Disconnect, Last, Part, Text};
-use crate::given::{Asked, Offered, USUAL, at, event_of, facts, scope_of};
-use crate::told::is_taken;
 use asgi_apps::{
     AppFault, AppTask, Application, Echo, Ended, Hello, NotFound, RootPath, Running, WsEcho, drive,
 };
 use asgi_io::CountingPause;
-use asgi_pipes::{ConnEnd, Pipes, Plain, PlainApp, PlainConn};
-use asgi_types::{Incoming, Kind};
+use asgi_pipes::{ConnEnd, EndKind, OutItem, Pipes, Plain, PlainApp, PlainConn};
+use asgi_types::{
+    Asgi, Chars, Extensions, Facts, Framing, Headers, HttpScope, HttpVersion, Incoming, Kind,
+    LifespanScope, Names, Octets, Outgoing, Payload, Reason, Scope, State, StateValue, WsScope,
+};
 use futures::task::{Context, Poll};
 use futures::{Future, FutureExt};
 use std::alloc::{AllocError, AllocGlobal, Global};
 use std::process::Abort;
 use std::random::RandomSource;
 use std::test::Fail;
+
+/// What the application is offered: at most four events.
+#[derive(Clone, Copy)]
+pub enum Offered {
+    Nothing,
+    Part(&'static str),
+    Last(&'static str),
+    Disconnect,
+    Connect,
+    Text(&'static str),
+    Bytes(&'static str),
+    Close(u16),
+    Startup,
+    Shutdown,
+}
+
+use Offered::{Bytes, Close, Connect, Disconnect, Last, Part, Text};
+
+/// What stands under the name `n` of a state.
+#[derive(Clone, Copy)]
+pub enum Held {
+    Nothing,
+    Number(u64),
+    Text(&'static str),
+}
+
+/// What a scope says of its request.
+#[derive(Clone, Copy)]
+pub struct Asked {
+    pub path: &'static str,
+    pub root_path: &'static str,
+    pub held: Held,
+}
+
+pub const USUAL: Asked = Asked {
+    path: "/a/b",
+    root_path: "/a",
+    held: Held::Nothing,
+};
 
 /// A kind of scope, what is offered, and what is said.
 pub type Row = (Kind, &'static [Offered], &'static str);
@@ -37,6 +77,152 @@ impl<A: Application + Drop> Future for Served<A> {
     fn poll(&mut self, cx: &mut Context<'_>) -> Poll<Result<bool, AppFault>> {
         Poll::Ready(serve(self.alloc, cx, &self.app, self.asked, self.row))
     }
+}
+
+// What a task is given is made, and asked for again where memory was refused.
+
+pub fn chars(alloc: Global, text: &str) -> Chars {
+    if let Ok(made) = String::from_str(alloc, text) {
+        return Chars::new(made);
+    }
+    match String::from_str(alloc, text) {
+        Ok(made) => Chars::new(made),
+        Err(_) => Chars::new(String::new(alloc)),
+    }
+}
+
+pub fn octets(alloc: Global, text: &str) -> Octets {
+    if let Ok(made) = Vec::from_slice(alloc, text.as_bytes()) {
+        return Octets::new(made);
+    }
+    match Vec::from_slice(alloc, text.as_bytes()) {
+        Ok(made) => Octets::new(made),
+        Err(_) => Octets::new(Vec::new(alloc)),
+    }
+}
+
+/// What is said of a value. It stands for a value of any type, so its proof sees no field of one.
+fn of<T: Drop, S, F: FnOnce(&T) -> S>(value: T, says: F) -> S
+    requires { F.IsAlwaysCallable says }
+{
+    says(&value)
+}
+
+fn facts(alloc: Global) -> Facts {
+    Facts {
+        version: HttpVersion::V11,
+        head_only: false,
+        close: false,
+        expect: false,
+        framing: Framing::Length(0),
+        key: [0; 24],
+        subprotocols: Names::new(alloc),
+    }
+}
+
+const NO_EXTENSIONS: Extensions = Extensions {
+    websocket_http_response: false,
+    http_response_trailers: false,
+};
+
+fn state_of(alloc: Global, held: Held) -> State {
+    let mut state = State::new(alloc);
+    let value = match held {
+        Held::Nothing => return state,
+        Held::Number(number) => StateValue::Number(number),
+        Held::Text(text) => StateValue::Text(chars(alloc, text)),
+    };
+    // A refused value is not held, and the row fails but where memory was refused.
+    let _set = state.set("n", value);
+    state
+}
+
+fn http_scope(alloc: Global, asked: Asked) -> HttpScope {
+    HttpScope {
+        asgi: Asgi::of(Kind::Http),
+        http_version: HttpVersion::V11,
+        method: chars(alloc, "POST"),
+        scheme: chars(alloc, "http"),
+        path: chars(alloc, asked.path),
+        raw_path: octets(alloc, "/a/b"),
+        query_string: octets(alloc, ""),
+        root_path: chars(alloc, asked.root_path),
+        headers: Headers::new(alloc),
+        client: None,
+        server: None,
+        state: state_of(alloc, asked.held),
+        extensions: NO_EXTENSIONS,
+    }
+}
+
+fn ws_scope(alloc: Global, asked: Asked) -> WsScope {
+    WsScope {
+        asgi: Asgi::of(Kind::WebSocket),
+        http_version: HttpVersion::V11,
+        scheme: chars(alloc, "ws"),
+        path: chars(alloc, asked.path),
+        raw_path: octets(alloc, "/a/b"),
+        query_string: octets(alloc, ""),
+        root_path: chars(alloc, asked.root_path),
+        headers: Headers::new(alloc),
+        client: None,
+        server: None,
+        subprotocols: Names::new(alloc),
+        state: State::new(alloc),
+        extensions: NO_EXTENSIONS,
+    }
+}
+
+fn lifespan_scope(alloc: Global) -> LifespanScope {
+    LifespanScope {
+        asgi: Asgi::of(Kind::Lifespan),
+        state: State::new(alloc),
+    }
+}
+
+fn scope_of(alloc: Global, kind: Kind, asked: Asked) -> Scope
+    ensures { kind_of result ≡ kind }
+{
+    match kind {
+        Kind::Http => Scope::Http(http_scope(alloc, asked)),
+        Kind::WebSocket => Scope::WebSocket(ws_scope(alloc, asked)),
+        Kind::Lifespan => Scope::Lifespan(lifespan_scope(alloc)),
+    }
+}
+
+fn at(offered: &[Offered], index: usize) -> Offered {
+    match offered.get(index) {
+        Some(one) => *one,
+        None => Offered::Nothing,
+    }
+}
+
+fn event_of(alloc: Global, offered: Offered) -> Option<Incoming> {
+    match offered {
+        Offered::Nothing => None,
+        Offered::Part(text) => Some(request(octets(alloc, text), true)),
+        Offered::Last(text) => Some(request(octets(alloc, text), false)),
+        Offered::Disconnect => Some(Incoming::HttpDisconnect),
+        Offered::Connect => Some(Incoming::WsConnect),
+        Offered::Text(text) => Some(message(Payload::Text(chars(alloc, text)))),
+        Offered::Bytes(text) => Some(message(Payload::Bytes(octets(alloc, text)))),
+        Offered::Close(code) => closed(code),
+        Offered::Startup => Some(Incoming::LifespanStartup),
+        Offered::Shutdown => Some(Incoming::LifespanShutdown),
+    }
+}
+
+fn message(payload: Payload) -> Incoming {
+    Incoming::WsReceive { payload }
+}
+
+fn closed(code: u16) -> Option<Incoming> {
+    let reason = Reason::new("")?;
+    Some(Incoming::WsDisconnect { code, reason })
+}
+
+fn request(body: Octets, more_body: bool) -> Incoming {
+    Incoming::HttpRequest { body, more_body }
 }
 
 /// Offers the event. There is a place for it.
@@ -115,6 +301,134 @@ fn is_told<T: AppTask>(
     is_taken(alloc, &mut conn, expected)
 }
 
+/// Takes all, and says whether it is told so.
+fn is_taken(alloc: Global, conn: &mut PlainConn, expected: &str) -> Result<bool, AllocError> {
+    let mut text = Vec::new(alloc);
+    tell_all(alloc, &mut text, conn)?;
+    Ok(text.as_slice() == expected.as_bytes())
+}
+
+fn tell_all(alloc: Global, text: &mut Vec<u8>, conn: &mut PlainConn) -> Result<(), AllocError> {
+    for _item in 0..20 {
+        if !of(conn.take(), |item| tell_item(alloc, text, item))? {
+            return Ok(());
+        }
+    }
+    Ok(())
+}
+
+/// Tells what was taken, and says whether it was anything.
+fn tell_item(
+    alloc: Global,
+    text: &mut Vec<u8>,
+    item: &Option<OutItem>,
+) -> Result<bool, AllocError> {
+    match item {
+        Some(OutItem::Event(event)) => tell(alloc, text, event)?,
+        Some(OutItem::Ended(end)) => text.extend_from_slice(word_of(*end).as_bytes())?,
+        None => return Ok(false),
+    }
+    Ok(true)
+}
+
+fn word_of(end: EndKind) -> &'static str {
+    match end {
+        EndKind::Returned => "returned",
+        EndKind::Faulted => "faulted",
+        EndKind::Idle => "idle",
+    }
+}
+
+fn tell(alloc: Global, text: &mut Vec<u8>, event: &Outgoing) -> Result<(), AllocError> {
+    match event {
+        Outgoing::ResponseStart { status, headers } => tell_start(alloc, text, *status, headers),
+        Outgoing::ResponseBody { body, more_body } => tell_body(text, body.bytes(), *more_body),
+        Outgoing::WsAccept {
+            subprotocol,
+            headers,
+        } => tell_accept(text, subprotocol, headers),
+        Outgoing::WsSend { payload } => tell_message(text, payload),
+        Outgoing::WsClose { code, reason } => tell_close(alloc, text, *code, reason.as_str()),
+        Outgoing::StartupComplete { state } => tell_started(alloc, text, state),
+        Outgoing::StartupFailed { message } => tell_line(text, b"start failed ", message),
+        Outgoing::ShutdownComplete => text.extend_from_slice(b"stopped|"),
+        Outgoing::ShutdownFailed { message } => tell_line(text, b"stop failed ", message),
+        _ => text.extend_from_slice(b"other|"),
+    }
+}
+
+fn tell_start(
+    alloc: Global,
+    text: &mut Vec<u8>,
+    status: u16,
+    headers: &Headers,
+) -> Result<(), AllocError> {
+    let line = format!(in alloc; "start {status}")?;
+    text.extend_from_slice(line.as_bytes())?;
+    tell_fields(text, headers)
+}
+
+fn tell_fields(text: &mut Vec<u8>, headers: &Headers) -> Result<(), AllocError> {
+    for (name, value) in headers.iter() {
+        add(text, &[b" ", name, b"=", value])?;
+    }
+    text.extend_from_slice(b"|")
+}
+
+fn tell_accept(
+    text: &mut Vec<u8>,
+    subprotocol: &Option<Chars>,
+    headers: &Headers,
+) -> Result<(), AllocError> {
+    text.extend_from_slice(b"accept")?;
+    if let Some(name) = subprotocol {
+        add(text, &[b" ", name.as_str().as_bytes()])?;
+    }
+    tell_fields(text, headers)
+}
+
+fn tell_message(text: &mut Vec<u8>, payload: &Payload) -> Result<(), AllocError> {
+    match payload {
+        Payload::Text(message) => add(text, &[b"text ", message.as_str().as_bytes(), b"|"]),
+        Payload::Bytes(message) => add(text, &[b"bytes ", message.bytes(), b"|"]),
+    }
+}
+
+fn tell_body(text: &mut Vec<u8>, body: &[u8], more_body: bool) -> Result<(), AllocError> {
+    let word: &[u8] = if more_body { b"part " } else { b"last " };
+    add(text, &[word, body, b"|"])
+}
+
+fn tell_close(
+    alloc: Global,
+    text: &mut Vec<u8>,
+    code: u16,
+    reason: &str,
+) -> Result<(), AllocError> {
+    let word = format!(in alloc; "close {code} ")?;
+    add(text, &[word.as_bytes(), reason.as_bytes(), b"|"])
+}
+
+fn tell_started(alloc: Global, text: &mut Vec<u8>, state: &State) -> Result<(), AllocError> {
+    text.extend_from_slice(b"started")?;
+    if let Some(StateValue::Number(number)) = state.get("n") {
+        let held = format!(in alloc; " n={number}")?;
+        text.extend_from_slice(held.as_bytes())?;
+    }
+    text.extend_from_slice(b"|")
+}
+
+fn tell_line(text: &mut Vec<u8>, word: &[u8], message: &Chars) -> Result<(), AllocError> {
+    add(text, &[word, message.as_str().as_bytes(), b"|"])
+}
+
+fn add(text: &mut Vec<u8>, parts: &[&[u8]]) -> Result<(), AllocError> {
+    for part in parts {
+        text.extend_from_slice(part)?;
+    }
+    Ok(())
+}
+
 /// Whether the application says what the row holds, or its fault.
 pub fn run<R: RandomSource + AllocGlobal, A: Application + Drop>(
     rt: &R,
@@ -143,13 +457,9 @@ fn is_said<R: RandomSource + AllocGlobal, A: Application + Copy + Drop>(
     app: A,
     row: Row,
 ) -> bool {
-    is_answer(run(rt, app, USUAL, row), row.2)
-}
-
-fn is_answer(answer: Result<bool, AppFault>, expected: &str) -> bool {
-    match answer {
+    match run(rt, app, USUAL, row) {
         Ok(is_same) => is_same,
-        Err(_) => expected == "faulted",
+        Err(_) => row.2 == "faulted",
     }
 }
 
@@ -302,27 +612,11 @@ fn is_said_at_last<R: RandomSource + AllocGlobal, A: Application + Copy + Drop>(
     app: A,
     row: Row,
 ) -> bool {
-    let answer = run(rt, app, USUAL, row);
-    if is_refused(answer) {
-        return is_same(run(rt, app, USUAL, row));
-    }
-    is_same(answer)
-}
-
-/// Whether memory was refused to the call.
-pub fn is_refused(answer: Result<bool, AppFault>) -> bool {
-    match answer {
-        Err(AppFault::NoMemory(_)) => true,
-        _ => false,
-    }
-}
-
-/// Whether the call answered, and as the row says.
-pub fn is_same(answer: Result<bool, AppFault>) -> bool {
-    match answer {
-        Ok(is_same) => is_same,
-        Err(_) => false,
-    }
+    let again = match run(rt, app, USUAL, row) {
+        Err(AppFault::NoMemory(_)) => run(rt, app, USUAL, row),
+        answer => answer,
+    };
+    again.unwrap_or(false)
 }
 
 fn first_unsaid_at_last<R: RandomSource + AllocGlobal, A: Application + Copy + Drop>(
@@ -347,22 +641,11 @@ pub fn check_memory<R: Abort + RandomSource + AllocGlobal, A: Application + Copy
     Ok(())
 }
 
-// Of each application the rows that are asked where memory is refused.
-const HELLO_AGAIN: &[Row] = &[GREETED, CLOSED];
-
-const NOT_FOUND_AGAIN: &[Row] = &[MISSED];
-
-const ROOT_PATH_AGAIN: &[Row] = &[ROOTED];
-
-const ECHO_AGAIN: &[Row] = &[ECHOED, CLOSED];
-
-const WS_ECHO_AGAIN: &[Row] = &[SENT_BACK, NO_SESSION];
-
 #[test]
 fn memory_for_each_application(rt: HostRuntime) -> Result<(), Fail> {
-    check_memory(&rt, Hello, HELLO_AGAIN)?;
-    check_memory(&rt, NotFound, NOT_FOUND_AGAIN)?;
-    check_memory(&rt, RootPath, ROOT_PATH_AGAIN)?;
-    check_memory(&rt, Echo, ECHO_AGAIN)?;
-    check_memory(&rt, WsEcho, WS_ECHO_AGAIN)
+    check_memory(&rt, Hello, &[GREETED, CLOSED])?;
+    check_memory(&rt, NotFound, &[MISSED])?;
+    check_memory(&rt, RootPath, &[ROOTED])?;
+    check_memory(&rt, Echo, &[ECHOED, CLOSED])?;
+    check_memory(&rt, WsEcho, &[SENT_BACK, NO_SESSION])
 }

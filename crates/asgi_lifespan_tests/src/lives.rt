@@ -16,7 +16,7 @@ use std::random::RandomSource;
 use std::test::Fail;
 
 /// What a scripted task does in one poll.
-#[derive(Clone, Copy)]
+#[derive(Clone, Copy, Debug)]
 pub enum Step {
     /// It hears an event, which is to be "Startup", or it waits for one.
     HearsStartup,
@@ -41,7 +41,7 @@ use Step::{
 };
 
 /// An application whose task takes these steps, and then waits for good.
-#[derive(Clone, Copy)]
+#[derive(Clone, Copy, Debug)]
 pub struct Scripted(&'static [Step]);
 
 #[derive(Drop)]
@@ -137,32 +137,15 @@ impl ScriptedTask {
         let Ok(event) = self.event(step) else {
             return Poll::Ready(Err(AppFault::Failed));
         };
-        let sent = end.poll_send(cx, event);
-        match place_of(&sent) {
-            Went::Said => {
+        match end.poll_send(cx, event) {
+            Sent::Done => {
                 self.taken = self.taken.saturating_add(1);
                 go_on(cx, step)
             }
-            Went::Back => cx.yield_now(),
-            Went::Nowhere => Poll::Ready(Err(AppFault::Failed)),
+            Sent::Full(_) => Poll::Pending,
+            Sent::Ignored => Poll::Ready(Err(AppFault::Failed)),
+            Sent::Refused(_, _) => Poll::Ready(Err(AppFault::Failed)),
         }
-    }
-}
-
-/// Where an event went that was to be said.
-#[derive(Clone, Copy)]
-enum Went {
-    Said,
-    /// No place was free.
-    Back,
-    Nowhere,
-}
-
-fn place_of(sent: &Sent) -> Went {
-    match sent {
-        Sent::Done => Went::Said,
-        Sent::Full(_) => Went::Back,
-        _ => Went::Nowhere,
     }
 }
 
@@ -205,7 +188,7 @@ impl AppTask for ScriptedTask {
 }
 
 /// An application whose call faults.
-#[derive(Clone, Copy)]
+#[derive(Clone, Copy, Debug)]
 pub struct Refuses;
 
 impl Application for Refuses {
@@ -217,7 +200,7 @@ impl Application for Refuses {
 }
 
 /// An application that says all at once, and hears nothing.
-#[derive(Clone, Copy)]
+#[derive(Clone, Copy, Debug)]
 pub struct Silent;
 
 impl Application for Silent {
@@ -228,17 +211,10 @@ impl Application for Silent {
             return Err(AppFault::Failed);
         };
         let mut says = Says::with_room(alloc, Kind::Lifespan, 2)?;
-        match add_answers(alloc, &mut says) {
-            Ok(()) => Ok(says),
-            Err(_) => Err(AppFault::NoMemory(AllocError)),
-        }
+        says.add(complete(alloc, 5)?)?;
+        says.add(Outgoing::ShutdownComplete)?;
+        Ok(says)
     }
-}
-
-/// Both answers that an application owes.
-fn add_answers(alloc: Global, says: &mut Says) -> Result<(), AllocError> {
-    says.add(complete(alloc, 5)?)?;
-    says.add(Outgoing::ShutdownComplete)
 }
 
 /// How a call was answered.

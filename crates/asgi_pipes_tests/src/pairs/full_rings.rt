@@ -13,7 +13,7 @@ const PLACES: usize = 1_024;
 
 /// The byte of the event of this number. No two rows of 256 begin alike, so an event that is lost or moved shows.
 fn byte_of(number: usize) -> u8 {
-    (number as u8).wrapping_add((number / 256) as u8)
+    ((number % 256 + number / 256 % 256) % 256) as u8
 }
 
 /// What is done with 1,024 events in a row.

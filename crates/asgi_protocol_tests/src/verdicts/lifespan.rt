@@ -1,52 +1,41 @@
 //! Lifespan: start and stop.
 
-use super::{Heard, Of, PASS, Part, Said, Step, judges};
+use super::{Heard, PASS, Part, Step, judges, judges_hearing};
 use asgi_protocol::{Verdict, Violation};
+use asgi_types::Kind;
 use std::test::Fail;
 
-const COMPLETE: &[Part] = &[(
-    "complete",
-    &[],
-    &[
-        (Step::Stopped, Verdict::Refused(4)),
-        (Step::NotStopped, Verdict::Refused(4)),
-        (Step::Start(200, ""), Verdict::Refused(3)),
-        (Step::Started, PASS),
-        (Step::Started, Verdict::Refused(4)),
-        (Step::NotStarted, Verdict::Refused(4)),
-        (Step::Stopped, PASS),
-        (Step::NotStopped, Verdict::Refused(1)),
-    ],
-)];
+const COMPLETE: &[(Step, Verdict)] = &[
+    (Step::Stopped, Verdict::Refused(4)),
+    (Step::NotStopped, Verdict::Refused(4)),
+    (Step::Start(200, ""), Verdict::Refused(3)),
+    (Step::Started, PASS),
+    (Step::Started, Verdict::Refused(4)),
+    (Step::NotStarted, Verdict::Refused(4)),
+    (Step::Stopped, PASS),
+    (Step::NotStopped, Verdict::Refused(1)),
+];
 
-const FAILED_START: &[Part] = &[(
-    "failed",
-    &[],
-    &[
-        (Step::NotStarted, PASS),
-        (Step::Started, Verdict::Refused(1)),
-        (Step::Send, Verdict::Refused(1)),
-    ],
-)];
+const FAILED_START: &[(Step, Verdict)] = &[
+    (Step::NotStarted, PASS),
+    (Step::Started, Verdict::Refused(1)),
+    (Step::Send, Verdict::Refused(1)),
+];
 
-const NOT_STOPPED: &[Part] = &[(
-    "not stopped",
-    &[],
-    &[
-        (Step::Started, PASS),
-        (Step::NotStopped, PASS),
-        (Step::Stopped, Verdict::Refused(1)),
-    ],
-)];
+const NOT_STOPPED: &[(Step, Verdict)] = &[
+    (Step::Started, PASS),
+    (Step::NotStopped, PASS),
+    (Step::Stopped, Verdict::Refused(1)),
+];
 
 #[test]
 fn a_start_is_answered_and_then_a_stop(rt: HostRuntime) -> Result<(), Fail> {
-    judges(&rt, Of::Lifespan, COMPLETE)?;
-    judges(&rt, Of::Lifespan, FAILED_START)?;
-    judges(&rt, Of::Lifespan, NOT_STOPPED)
+    judges(&rt, Kind::Lifespan, "complete", COMPLETE)?;
+    judges(&rt, Kind::Lifespan, "failed", FAILED_START)?;
+    judges(&rt, Kind::Lifespan, "not stopped", NOT_STOPPED)
 }
 
-const STARTED: &[Part] = &[
+const STARTED: [Part; 2] = [
     ("started", &[Heard::Startup], &[(Step::Started, PASS)]),
     (
         "disconnected",
@@ -59,7 +48,7 @@ const STARTED: &[Part] = &[
     ),
 ];
 
-const FAILED: &[Part] = &[
+const FAILED: [Part; 2] = [
     ("failed", &[], &[(Step::NotStarted, PASS)]),
     (
         "failed and disconnected",
@@ -71,8 +60,8 @@ const FAILED: &[Part] = &[
 #[test]
 fn what_is_heard_is_no_disconnect(rt: HostRuntime) -> Result<(), Fail> {
     // No server gives a disconnect to a lifespan, but a judge takes any event.
-    judges(&rt, Of::Lifespan, STARTED)?;
-    judges(&rt, Of::Lifespan, FAILED)
+    judges_hearing(&rt, Kind::Lifespan, &STARTED)?;
+    judges_hearing(&rt, Kind::Lifespan, &FAILED)
 }
 
 const NUMBERS: &[(Violation, u8)] = &[
@@ -89,21 +78,14 @@ const NUMBERS: &[(Violation, u8)] = &[
     (Violation::TooLittleBody, 11),
 ];
 
-/// How many rows hold, up to the first that does not.
-fn numbered(rows: &[(Violation, u8)]) -> usize {
-    for (index, row) in rows.iter().enumerate() {
-        if !is_numbered(row) {
-            return index;
-        }
-    }
-    rows.len()
-}
-
-fn is_numbered(row: &(Violation, u8)) -> bool {
-    row.0.number() == row.1 && Verdict::from(row.0) == Verdict::Refused(row.1)
-}
-
 #[test]
 fn refusals_are_numbered_from_1_to_11(rt: HostRuntime) {
-    assert_eq!(rt; numbered(NUMBERS), NUMBERS.len());
+    for (refusal, number) in NUMBERS {
+        assert_eq!(rt; refusal.number(), *number, "{refusal:?}");
+        assert_eq!(rt;
+            Verdict::from(*refusal),
+            Verdict::Refused(*number),
+            "{refusal:?}"
+        );
+    }
 }

@@ -1,182 +1,168 @@
 //! WebSocket: sessions, rejections and denials.
 
-use super::{Heard, Of, PASS, Part, Said, Step, judges, judges_apart};
+use super::{Heard, PASS, Part, Step, judges, judges_hearing};
 use asgi_protocol::Verdict;
+use asgi_types::Kind;
 use std::test::Fail;
 
-const ACCEPTED: &[Said] = &[(Step::Accept("", ""), PASS)];
-
-const A_SESSION: &[Part] = &[(
-    "a session",
-    &[],
-    &[
-        (Step::Send, Verdict::Refused(4)),
-        (Step::Start(200, ""), Verdict::Refused(3)),
-        (Step::Accept("soap", ""), Verdict::Refused(9)),
-        (Step::Accept("Chat", ""), Verdict::Refused(9)),
-        (Step::Accept("chat", "upgrade: x"), Verdict::Refused(6)),
-        (Step::Accept("chat", ""), PASS),
-        (Step::Accept("chat", ""), Verdict::Refused(4)),
-        (Step::DenialStart(401, ""), Verdict::Refused(4)),
-        (Step::Send, PASS),
-        (Step::Send, PASS),
-        (Step::Close(1_005, 0), Verdict::Refused(7)),
-        (Step::Close(1_000, 124), Verdict::Refused(8)),
-        (Step::Close(1_000, 3), PASS),
-        (Step::Send, Verdict::Refused(1)),
-        (Step::LastBody(1), Verdict::Refused(1)),
-    ],
-)];
+const A_SESSION: &[(Step, Verdict)] = &[
+    (Step::Send, Verdict::Refused(4)),
+    (Step::Start(200, ""), Verdict::Refused(3)),
+    (Step::Accept("soap", ""), Verdict::Refused(9)),
+    (Step::Accept("Chat", ""), Verdict::Refused(9)),
+    (Step::Accept("chat", "upgrade: x"), Verdict::Refused(6)),
+    (Step::Accept("chat", ""), PASS),
+    (Step::Accept("chat", ""), Verdict::Refused(4)),
+    (Step::DenialStart(401, ""), Verdict::Refused(4)),
+    (Step::Send, PASS),
+    (Step::Send, PASS),
+    (Step::Close(1_005, 0), Verdict::Refused(7)),
+    (Step::Close(1_000, 124), Verdict::Refused(8)),
+    (Step::Close(1_000, 3), PASS),
+    (Step::Send, Verdict::Refused(1)),
+    (Step::LastBody(1), Verdict::Refused(1)),
+];
 
 #[test]
 fn a_session_is_accepted_and_closed(rt: HostRuntime) -> Result<(), Fail> {
-    judges(&rt, Of::WebSocket, A_SESSION)
+    judges(&rt, Kind::WebSocket, "a session", A_SESSION)
 }
 
-const ACCEPTED_FIELDS: &[Said] = &[
-    (
-        Step::Accept("", "sec-websocket-protocol: chat"),
-        Verdict::Refused(6),
-    ),
-    (
-        Step::Accept("", "Sec-WebSocket-Accept: x"),
-        Verdict::Refused(6),
-    ),
-    (
-        Step::Accept("", "sec-websocket-extensions: x"),
-        Verdict::Refused(6),
-    ),
-    (Step::Accept("", "upgrade: websocket"), Verdict::Refused(6)),
-    (
-        Step::Accept("", "x: y, connection: upgrade"),
-        Verdict::Refused(6),
-    ),
-    (Step::Accept("", "content-length: 0"), Verdict::Refused(6)),
-    (
-        Step::Accept("", "transfer-encoding: chunked"),
-        Verdict::Refused(6),
-    ),
-    (
-        Step::Accept("", "sec-websocket-key: x, set-cookie: a"),
-        PASS,
-    ),
-    (Step::Accept("", ""), PASS),
+const ACCEPTED_FIELDS: &[(&'static str, Verdict)] = &[
+    ("sec-websocket-protocol: chat", Verdict::Refused(6)),
+    ("Sec-WebSocket-Accept: x", Verdict::Refused(6)),
+    ("sec-websocket-extensions: x", Verdict::Refused(6)),
+    ("upgrade: websocket", Verdict::Refused(6)),
+    ("x: y, connection: upgrade", Verdict::Refused(6)),
+    ("content-length: 0", Verdict::Refused(6)),
+    ("transfer-encoding: chunked", Verdict::Refused(6)),
+    ("sec-websocket-key: x, set-cookie: a", PASS),
+    ("", PASS),
 ];
 
 #[test]
 fn an_accept_has_no_field_of_the_handshake(rt: HostRuntime) -> Result<(), Fail> {
-    judges_apart(&rt, Of::WebSocket, &[], ACCEPTED_FIELDS)
+    for (fields, verdict) in ACCEPTED_FIELDS {
+        judges(
+            &rt,
+            Kind::WebSocket,
+            fields,
+            &[(Step::Accept("", fields), *verdict)],
+        )?;
+    }
+    Ok(())
 }
 
-const CODES: &[Said] = &[
-    (Step::Close(0, 0), Verdict::Refused(7)),
-    (Step::Close(999, 0), Verdict::Refused(7)),
-    (Step::Close(1_000, 0), PASS),
-    (Step::Close(1_003, 0), PASS),
-    (Step::Close(1_004, 0), Verdict::Refused(7)),
-    (Step::Close(1_005, 0), Verdict::Refused(7)),
-    (Step::Close(1_006, 0), Verdict::Refused(7)),
-    (Step::Close(1_007, 0), PASS),
-    (Step::Close(1_011, 0), PASS),
-    (Step::Close(1_012, 0), Verdict::Refused(7)),
-    (Step::Close(2_999, 0), Verdict::Refused(7)),
-    (Step::Close(3_000, 0), PASS),
-    (Step::Close(4_999, 0), PASS),
-    (Step::Close(5_000, 0), Verdict::Refused(7)),
-    (Step::Close(65_535, 0), Verdict::Refused(7)),
+const CODES: &[(u16, Verdict)] = &[
+    (0, Verdict::Refused(7)),
+    (999, Verdict::Refused(7)),
+    (1_000, PASS),
+    (1_003, PASS),
+    (1_004, Verdict::Refused(7)),
+    (1_005, Verdict::Refused(7)),
+    (1_006, Verdict::Refused(7)),
+    (1_007, PASS),
+    (1_011, PASS),
+    (1_012, Verdict::Refused(7)),
+    (2_999, Verdict::Refused(7)),
+    (3_000, PASS),
+    (4_999, PASS),
+    (5_000, Verdict::Refused(7)),
+    (65_535, Verdict::Refused(7)),
 ];
 
-/// As the code of a rejection, and of what ends a session.
 #[test]
 fn close_codes_are_those_that_an_application_may_send(rt: HostRuntime) -> Result<(), Fail> {
-    judges_apart(&rt, Of::WebSocket, &[], CODES)?;
-    judges_apart(&rt, Of::WebSocket, ACCEPTED, CODES)
+    for (code, verdict) in CODES {
+        judges(
+            &rt,
+            Kind::WebSocket,
+            "rejected",
+            &[(Step::Close(*code, 0), *verdict)],
+        )?;
+        let session = [
+            (Step::Accept("", ""), PASS),
+            (Step::Close(*code, 0), *verdict),
+        ];
+        judges(&rt, Kind::WebSocket, "closed", &session)?;
+    }
+    Ok(())
 }
-
-const REASONS: &[Said] = &[
-    (Step::Close(1_000, 0), PASS),
-    (Step::Close(1_000, 122), PASS),
-    (Step::Close(1_000, 123), PASS),
-    (Step::Close(1_000, 124), Verdict::Refused(8)),
-];
 
 #[test]
 fn a_close_reason_has_at_most_123_bytes(rt: HostRuntime) -> Result<(), Fail> {
-    judges_apart(&rt, Of::WebSocket, &[], REASONS)
+    for (size, verdict) in [
+        (0, PASS),
+        (122, PASS),
+        (123, PASS),
+        (124, Verdict::Refused(8)),
+    ] {
+        judges(
+            &rt,
+            Kind::WebSocket,
+            "reason",
+            &[(Step::Close(1_000, size), verdict)],
+        )?;
+    }
+    Ok(())
 }
 
-const REJECTIONS: &[Part] = &[(
-    "rejected",
-    &[],
-    &[
-        (Step::Denial(1), Verdict::Refused(4)),
-        (Step::Close(1_000, 0), PASS),
-        (Step::Close(1_000, 0), Verdict::Refused(1)),
-        (Step::Accept("", ""), Verdict::Refused(1)),
-    ],
-)];
+const REJECTIONS: &[(Step, Verdict)] = &[
+    (Step::Denial(1), Verdict::Refused(4)),
+    (Step::Close(1_000, 0), PASS),
+    (Step::Close(1_000, 0), Verdict::Refused(1)),
+    (Step::Accept("", ""), Verdict::Refused(1)),
+];
 
-const DENIALS: &[Part] = &[(
-    "denied",
-    &[],
-    &[
-        (Step::DenialStart(199, ""), Verdict::Refused(5)),
-        (Step::DenialStart(401, "content-length: 2"), PASS),
-        (Step::Accept("", ""), Verdict::Refused(4)),
-        (Step::Close(1_000, 0), Verdict::Refused(4)),
-        (Step::Close(1_005, 124), Verdict::Refused(4)),
-        (Step::Send, Verdict::Refused(4)),
-        (Step::Body(1), Verdict::Refused(3)),
-        (Step::Denial(3), Verdict::Refused(10)),
-        (Step::Denial(1), PASS),
-        (Step::LastDenial(0), Verdict::Refused(11)),
-        (Step::LastDenial(1), PASS),
-        (Step::LastDenial(1), Verdict::Refused(1)),
-    ],
-)];
+const DENIALS: &[(Step, Verdict)] = &[
+    (Step::DenialStart(199, ""), Verdict::Refused(5)),
+    (Step::DenialStart(401, "content-length: 2"), PASS),
+    (Step::Accept("", ""), Verdict::Refused(4)),
+    (Step::Close(1_000, 0), Verdict::Refused(4)),
+    (Step::Close(1_005, 124), Verdict::Refused(4)),
+    (Step::Send, Verdict::Refused(4)),
+    (Step::Body(1), Verdict::Refused(3)),
+    (Step::Denial(3), Verdict::Refused(10)),
+    (Step::Denial(1), PASS),
+    (Step::LastDenial(0), Verdict::Refused(11)),
+    (Step::LastDenial(1), PASS),
+    (Step::LastDenial(1), Verdict::Refused(1)),
+];
 
-const EMPTY_DENIALS: &[Part] = &[(
-    "denied with 304",
-    &[],
-    &[
-        (Step::DenialStart(304, "content-length: 2"), PASS),
-        (Step::LastDenial(3), PASS),
-        (Step::Close(1_000, 0), Verdict::Refused(1)),
-    ],
-)];
+const EMPTY_DENIALS: &[(Step, Verdict)] = &[
+    (Step::DenialStart(304, "content-length: 2"), PASS),
+    (Step::LastDenial(3), PASS),
+    (Step::Close(1_000, 0), Verdict::Refused(1)),
+];
 
 #[test]
 fn a_handshake_is_rejected_or_denied(rt: HostRuntime) -> Result<(), Fail> {
-    judges(&rt, Of::WebSocket, REJECTIONS)?;
-    judges(&rt, Of::WebSocket, DENIALS)?;
-    judges(&rt, Of::WebSocket, EMPTY_DENIALS)
+    judges(&rt, Kind::WebSocket, "rejected", REJECTIONS)?;
+    judges(&rt, Kind::WebSocket, "denied", DENIALS)?;
+    judges(&rt, Kind::WebSocket, "denied with 304", EMPTY_DENIALS)
 }
 
-const TWO_REASONS: &[Part] = &[(
-    "two reasons",
-    &[],
-    &[
-        (Step::Body(1), Verdict::Refused(3)),
-        (Step::Send, Verdict::Refused(4)),
-        (
-            Step::DenialStart(600, "content-length: x"),
-            Verdict::Refused(5),
-        ),
-        (Step::Accept("soap", "upgrade: x"), Verdict::Refused(6)),
-        (Step::Accept("soap", ""), Verdict::Refused(9)),
-        (Step::Close(1_005, 124), Verdict::Refused(7)),
-        (Step::Accept("chat", ""), PASS),
-        (Step::Accept("soap", "upgrade: x"), Verdict::Refused(4)),
-        (Step::Close(1_005, 124), Verdict::Refused(7)),
-    ],
-)];
+const TWO_REASONS: &[(Step, Verdict)] = &[
+    (Step::Body(1), Verdict::Refused(3)),
+    (Step::Send, Verdict::Refused(4)),
+    (
+        Step::DenialStart(600, "content-length: x"),
+        Verdict::Refused(5),
+    ),
+    (Step::Accept("soap", "upgrade: x"), Verdict::Refused(6)),
+    (Step::Accept("soap", ""), Verdict::Refused(9)),
+    (Step::Close(1_005, 124), Verdict::Refused(7)),
+    (Step::Accept("chat", ""), PASS),
+    (Step::Accept("soap", "upgrade: x"), Verdict::Refused(4)),
+    (Step::Close(1_005, 124), Verdict::Refused(7)),
+];
 
 #[test]
 fn the_first_reason_counts(rt: HostRuntime) -> Result<(), Fail> {
-    judges(&rt, Of::WebSocket, TWO_REASONS)
+    judges(&rt, Kind::WebSocket, "two reasons", TWO_REASONS)
 }
 
-const DISCONNECTED: &[Part] = &[
+const DISCONNECTED: [Part; 3] = [
     (
         "before",
         &[Heard::Connect],
@@ -198,10 +184,10 @@ const DISCONNECTED: &[Part] = &[
 
 #[test]
 fn after_a_disconnect_nothing_passes(rt: HostRuntime) -> Result<(), Fail> {
-    judges(&rt, Of::WebSocket, DISCONNECTED)
+    judges_hearing(&rt, Kind::WebSocket, &DISCONNECTED)
 }
 
-const REJECTED: &[Part] = &[
+const REJECTED: [Part; 2] = [
     ("rejected", &[], &[(Step::Close(1_000, 0), PASS)]),
     (
         "behind",
@@ -212,5 +198,5 @@ const REJECTED: &[Part] = &[
 
 #[test]
 fn a_closed_session_stays_closed_where_a_disconnect_is_heard(rt: HostRuntime) -> Result<(), Fail> {
-    judges(&rt, Of::WebSocket, REJECTED)
+    judges_hearing(&rt, Kind::WebSocket, &REJECTED)
 }
