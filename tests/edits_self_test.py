@@ -213,6 +213,14 @@ def draws(rt):
     yield None if set().union(*of.values()) == set(names) else "it never draws some"
     yield None if record.drawn(names, "7") == of["7"] != of["8"] else "it is not the commit that draws"
     yield None if record.drawn(names[:1], "7") == {names[0]} else "of one edit it draws none"
+    names = [f"{'small' if number < 30 else 'large'}/{number}" for number in range(330)]
+    of = [record.drawn(names, str(commit)) for commit in range(600)]
+    # Each is drawn 51 times where all are drawn alike.
+    often = [sum(name in it for it in of) for name in names]
+    yield None if min(often) > 25 and max(often) < 85 else f"it draws some {min(often)} times of 600, and others {max(often)}"
+    crates = max(len({name.partition("/")[0] for name in it}) for it in of)
+    bundles = max(len(it & set(names[30:])) for it in of), min(len(it) for it in of)
+    yield None if crates == 2 and bundles == (28, 28) else f"it draws {bundles} of one crate"
     with tempfile.TemporaryDirectory(prefix="two-") as root:
         write(root, {**TWO, **{f"tests/edits/high/{number}.edit": TWO["tests/edits/high/is_four.edit"] for number in range(40)}})
         keep(chosen(rt, root))

@@ -24,6 +24,8 @@ import subprocess
 RULES = 1
 # One in so many of the edits that stand by the record is tried all the same.
 ONE_IN = 12
+# So many of a crate are drawn together.
+TOGETHER = 12
 LINE = re.compile(r"([A-Za-z0-9_-][A-Za-z0-9_.-]*\.edit) ([0-9a-f]{32})")
 # A comment, a text, a character, a word, or one other character.
 TOKEN = re.compile(
@@ -213,5 +215,14 @@ def last_tried(root):
 
 
 def drawn(names, commit):
-    """Returns one in twelve of these names, rounded up, as the hash of a commit draws them."""
-    return set(sorted(names, key=lambda it: sum_of(commit, it))[: -(-len(names) // ONE_IN)])
+    """Returns one in twelve of these names, rounded up, as the hash of a commit draws them.
+
+    Those of a crate are drawn some at a time, since a check of one edit costs nearly what a check of twelve does."""
+    bundles = {}
+    for name in sorted(names, key=lambda it: sum_of(commit, it)):
+        of_crate = bundles.setdefault(name.partition("/")[0], [[]])
+        if len(of_crate[-1]) == TOGETHER:
+            of_crate.append([])
+        of_crate[-1].append(name)
+    order = sorted((it for of_crate in bundles.values() for it in of_crate), key=lambda it: sum_of(commit, *it))
+    return set([name for it in order for name in it][: -(-len(names) // ONE_IN)])

@@ -30,6 +30,10 @@ MEBIBYTE = bytes(number * number % 251 for number in range(251)) * (1 << 12)
 MEBIBYTE = (MEBIBYTE * 2)[: 1 << 20]
 GET = b"GET / HTTP/1.1\r\nHost: a\r\n\r\n"
 GREETING = b"6\r\nhello\n\r\n0\r\n\r\n"
+HANDSHAKE = (
+    b"GET / HTTP/1.1\r\nHost: a\r\nUpgrade: websocket\r\nConnection: Upgrade\r\n"
+    b"Sec-WebSocket-Key: dGhlIHNhbXBsZSBub25jZQ==\r\nSec-WebSocket-Version: 13\r\n\r\n"
+)
 
 
 def free_port():
@@ -366,32 +370,33 @@ http {{
   fastcgi_temp_path {folder}/fastcgi;
   uwsgi_temp_path {folder}/uwsgi;
   scgi_temp_path {folder}/scgi;
-  client_max_body_size 2m;
-  map $http_upgrade $upgrade {{ default upgrade; '' ''; }}
-  upstream app {{ server 127.0.0.1:{to}; keepalive 1; }}
-  server {{
-    listen 127.0.0.1:{port};
-    location / {{
-      proxy_pass http://app;
-      proxy_http_version 1.1;
-      proxy_set_header Host $host;
-      proxy_set_header Upgrade $http_upgrade;
-      proxy_set_header Connection $upgrade;
-    }}
-  }}
+{said}
 }}
 """
+README = f"{os.path.dirname(os.path.dirname(os.path.realpath(__file__)))}/README.md"
+
+
+def configuration(port, servers):
+    """What the README says to nginx, but for the port on which it listens and those of the servers."""
+    with open(README, encoding="utf-8") as it:
+        said = re.search(r"```nginx\n(.*?)```", it.read(), re.DOTALL)[1]
+    lines = "".join(f"  server 127.0.0.1:{it};\n" for it in servers)
+    said, found = re.subn(r"(  server 127\.0\.0\.1:\d+;\n)+", lines, said)
+    said, listening = re.subn(r"listen \d+;", f"listen 127.0.0.1:{port};", said)
+    if (found, listening) != (1, 1):
+        raise AssertionError("the README has no servers, or no port, to put others in place of")
+    return said
 
 
 class Proxy:
-    """nginx in front of a server on this port."""
+    """nginx in front of servers on these ports, as the README has it."""
 
-    def __init__(self, to):
+    def __init__(self, *servers):
         self.folder, self.port = tempfile.TemporaryDirectory(), free_port()
         os.chmod(self.folder.name, 0o777)
         path = f"{self.folder.name}/conf"
         with open(path, "w", encoding="utf-8") as it:
-            it.write(NGINX.format(folder=self.folder.name, port=self.port, to=to))
+            it.write(NGINX.format(folder=self.folder.name, said=configuration(self.port, servers)))
         how = {"stdin": subprocess.DEVNULL, "stdout": subprocess.DEVNULL, "stderr": subprocess.DEVNULL}
         self.ran = subprocess.Popen(["nginx", "-c", path], **how)
 
@@ -424,6 +429,22 @@ class BehindNginx(unittest.TestCase):
             with Proxy(server.port) as proxy:
                 self.assertEqual(Python.talk(self, f"ws://127.0.0.1:{proxy.port}/"), 3001)
             self.assertEqual(server.ended(), (["1 1 finished"], "", 0))
+
+    def test_a_request_beside_a_session(self):
+        # The one that has the session is busy, so the request goes to the other one.
+        with Server("wsecho") as one, Server("wsecho") as other:
+            with Proxy(one.port, other.port) as proxy, socket.create_connection(("127.0.0.1", proxy.port), SECONDS) as session:
+                session.sendall(HANDSHAKE)
+                self.assertTrue(session.recv(4_096).startswith(b"HTTP/1.1 101 "))
+                line = http.client.HTTPConnection("127.0.0.1", proxy.port, timeout=SECONDS)
+                line.request("GET", "/")
+                self.assertEqual(line.getresponse().status, 404)
+                line.close()
+                # A close without a code, and its answer (RFC 6455, section 5.5.1).
+                session.sendall(b"\x88\x80\0\0\0\0")
+                self.assertEqual(read_all(session), b"\x88\0")
+            for server in (one, other):
+                self.assertEqual(server.ended(), (["1 1 finished"], "", 0))
 
 
 def has_websockets():
