@@ -21,6 +21,8 @@ LOG = f"{TOP}/tests/out/checks"
 TICKS = os.sysconf("SC_CLK_TCK")
 # Parts that took fewer seconds are not told.
 SHORT = 60
+# What is checked where a check leaves the processors to others.
+BESIDE = "edits_beside"
 
 
 def text_of(path):
@@ -53,6 +55,7 @@ def check_of(process):
     except (OSError, TypeError, IndexError):
         return None
     kind = "edits" if "/rt-edit-" in folder else "tests" if "--test" in words else "build" if "--crate-checked" in words else "proof"
+    kind = BESIDE if kind == "edits" and int(fields[16]) > 0 else kind
     began = time.time() - float(text_of("/proc/uptime").split()[0]) + int(fields[19]) / TICKS
     return words[words.index("--crate-name") + 1], kind, began, sum(map(int, fields[11:15])) / TICKS, memory
 
@@ -137,19 +140,21 @@ def told(log, crates):
             parts.append((words[1].replace("_", " "), float(words[2]), float(words[3]), [int(it) / 60 for it in words[4].split(",")]))
     for name, began, ended, idle in parts:
         own = [it for it in checks if began <= it[3] <= ended + 1]
+        # Nothing waited for edits that were tried beside the part.
+        last = [it for it in own if it[1] != BESIDE] or own
         if ended - began < SHORT or not own:
             continue
         lines.append(f"{name}: {(ended - began) / 60:.1f} minutes; its processors were idle for {', '.join(f'{it:.1f}' for it in idle)}; the checks that ended last:")
-        for (crate, kind, start, end, seconds, memory), waited in chain_of(own, below):
+        for (crate, kind, start, end, seconds, memory), waited in chain_of(last, below):
             behind = f"it waited {waited / 60:.1f}, and " if waited is not None and waited > 5 else ""
-            lines.append(f"{(start - began) / 60:6.1f} {crate}, its {kind}: {behind}took {(end - start) / 60:.1f} ({seconds / 60:.1f} of a processor)")
+            lines.append(f"{(start - began) / 60:6.1f} {crate}, its {kind.replace('_', ' ')}: {behind}took {(end - start) / 60:.1f} ({seconds / 60:.1f} of a processor)")
         lines.append("  what the checks took of a processor, in minutes, and the most memory of one, in MB:")
         sums = {}
         for crate, kind, _, _, seconds, memory in own:
             number, taken, most = sums.get((crate, kind), (0, 0, 0))
             sums[crate, kind] = number + 1, taken + seconds, max(most, memory)
         for (crate, kind), (number, taken, most) in sorted(sums.items(), key=lambda it: -it[1][1]):
-            lines.append(f"{taken / 60:6.1f} {crate}, its {kind}{f' ({number} checks)' if number > 1 else ''}, {most:.0f}")
+            lines.append(f"{taken / 60:6.1f} {crate}, its {kind.replace('_', ' ')}{f' ({number} checks)' if number > 1 else ''}, {most:.0f}")
         lines.append(f"{sum(it[4] for it in own) / 60:6.1f} in all")
     return lines
 
@@ -159,7 +164,8 @@ def told_of(log):
     return told(text_of(log), text_of(f"{TOP}/crates.txt"))
 
 
-# A log of two processors: `high` waits for `low` and then for a processor, its tests end last but one, and its edits last.
+# A log of two processors: `high` waits for `low` and then for a processor, its tests end last but one, and its edits last but for those of `low`, which leave
+# it the processors.
 CRATES = "# lowest first\nlow:\nbeside:\nhigh: low httparse\n"
 SAMPLE = """part sources_read 0.0 4.0 3,3
 check low proof 5.0 65.0 58.0 900
@@ -168,6 +174,7 @@ check high tests 65.5 190.0 120.0 1000
 check high proof 125.0 245.0 118.0 1100
 check high edits 245.5 305.0 30.0 700
 check high edits 245.5 275.0 29.0 600
+check low edits_beside 66.0 305.5 24.0 500
 part rt_ci 4.0 306.0 0,60
 """
 TOLD = """rt ci: 5.0 minutes; its processors were idle for 0.0, 1.0; the checks that ended last:
@@ -180,7 +187,8 @@ TOLD = """rt ci: 5.0 minutes; its processors were idle for 0.0, 1.0; the checks 
    2.0 high, its proof, 1100
    1.0 high, its edits (2 checks), 700
    1.0 low, its proof, 900
-   7.9 in all"""
+   0.4 low, its edits beside, 500
+   8.3 in all"""
 
 
 def self_test():

@@ -11,6 +11,8 @@ import io
 import os
 import sys
 import tempfile
+import time
+import types
 
 import must_fail
 import record
@@ -118,15 +120,20 @@ def words_of(**given):
     return asked
 
 
-def chosen(rt, root, toolchain="a toolchain", commit=COMMIT, **given):
+def choice_in(room, rt, root, toolchain="a toolchain", commit=COMMIT, **given):
+    """Returns the crates of a repository, copied to this folder, and the choice of its edits."""
+    asked = words_of(**given)
+    must_fail.copy_repository(root, room, asked)
+    crates = crates_in(rt, room)
+    wanted = must_fail.Edits(rt, root, asked, crates).wanted
+    sums = record.Sums(crates, toolchain, record.read(f"{room}/HANDLES"))
+    return crates, must_fail.Choice(root, wanted, sums, asked, commit)
+
+
+def chosen(*words, **given):
     """Returns the choice of the edits of a repository."""
     with tempfile.TemporaryDirectory() as room:
-        asked = words_of(**given)
-        must_fail.copy_repository(root, room, asked)
-        crates = crates_in(rt, room)
-        wanted = must_fail.Edits(rt, root, asked, crates).wanted
-        sums = record.Sums(crates, toolchain, record.read(f"{room}/HANDLES"))
-        return must_fail.Choice(root, wanted, sums, asked, commit)
+        return choice_in(room, *words, **given)[1]
 
 
 def due_of(choice):
@@ -233,9 +240,37 @@ def draws(rt):
         yield None if len(choice.drawn) == 4 and tried == choice.drawn else f"of 43 edits it draws {len(choice.drawn)} and tries {len(tried)}"
 
 
+class Ended:
+    """An event that is set after so many looks at it."""
+
+    def __init__(self, looks):
+        self.left = looks
+
+    def wait(self, _):
+        time.sleep(0.05)
+        self.left -= 1
+        return self.left < 0
+
+
+def beside(rt):
+    """Yields what is wrong, or None, of what is tried beside `rt ci`, which has proved these crates, and of what is left then."""
+    for proved, wanted in ((set(), []), ({"low"}, ["low/is_two.edit"]), ({"low", "high"}, EVERY)):
+        with tempfile.TemporaryDirectory(prefix="two-") as root, tempfile.TemporaryDirectory() as room:
+            write(root, TWO)
+            crates, choice = choice_in(room, rt, root)
+            trial, tried = must_fail.Trial(rt, room, crates, choice), []
+            give = lambda crate, tests, key, proved=proved: crate.name in proved
+            trial.kept = types.SimpleNamespace(give=give, key=lambda crate: "", is_built=lambda crate: None)
+            trial.attempt_all = lambda crate, edits, given, tried=tried: tried.extend(f"{crate.name}/{os.path.basename(it)}" for it in edits)
+            trial.try_beside(Ended(8))
+            left = sorted(f"{key[0]}/{os.path.basename(it)}" for key in trial.tasks() if key[1] == "edits" for it in key[2:])
+            is_right = sorted(tried) == wanted and left == sorted({*EVERY} - {*wanted})
+            yield None if is_right else f"beside a run that proved {sorted(proved)} are tried {tried}, and then {left}"
+
+
 def main():
     rt = load_rt()
-    found = [*changed(rt), *faulty(rt), *draws(rt), *try_small(rt)]
+    found = [*changed(rt), *faulty(rt), *draws(rt), *beside(rt), *try_small(rt)]
     failed = [it for it in found if it]
     for it in failed:
         print(f"FAILED: self-test: {it}")

@@ -11,6 +11,7 @@ import re
 import subprocess
 import sys
 import tempfile
+import threading
 import time
 
 import chain
@@ -19,7 +20,8 @@ import record
 TOP = os.path.dirname(os.path.dirname(os.path.realpath(__file__)))
 PROGRAM = "crates/asgi_demo/out/asgi_demo"
 KEYS = "crates/asgi_keys/out/asgi_keys"
-# What each part runs, and what its sum counts.
+CI = ["rt", "ci"]
+# What each part runs, and what its sum counts. The last one runs beside `rt ci`, from whose beginning on.
 PARTS = [
     ("crates in the layout", ["python3", "tests/layout.py"]),
     ("sources read", ["python3", "tests/sources.py"]),
@@ -27,13 +29,13 @@ PARTS = [
     ("self-tests of the gate's scripts", ["python3", "tests/chain.py", "--self-test"]),
     ("self-tests of the gate's scripts", ["python3", "tests/edits_self_test.py"]),
     ("edits that can be applied", ["python3", "tests/must_fail.py", "--read"]),
-    ("rt ci", ["rt", "ci"]),
+    ("rt ci", CI),
     ("runs with an allocation refused", ["python3", "tests/memory.py"]),
     ("tests from outside", ["python3", "tests/program.py", PROGRAM]),
     ("tests from outside", ["python3", "tests/sessions.py", PROGRAM]),
     ("tests from outside", ["python3", "tests/servers.py", PROGRAM]),
     ("tests from outside", ["python3", "tests/keys.py", KEYS]),
-    ("further edits refused", ["python3", "tests/must_fail.py"]),
+    ("further edits refused", ["python3", "tests/must_fail.py", "--beside"]),
 ]
 SUM = re.compile(r"(\d+) passed, (\d+) failed")
 # What a check takes at the most, in bytes, by what was seen: 2 to 4 GB.
@@ -58,6 +60,36 @@ def run(words):
             print(line, end="", flush=True)
             lines.append(line.rstrip("\n"))
     return ran.returncode, lines
+
+
+class Beside:
+    """A part that runs beside another one, which it is told the end of, and is shown when its turn comes."""
+
+    def __init__(self, words):
+        how = {"cwd": TOP, "stdin": subprocess.PIPE, "stdout": subprocess.PIPE, "stderr": subprocess.STDOUT}
+        self.ran = subprocess.Popen(words, errors="replace", **how)
+        self.lines, self.has_turn, self.alone = [], False, threading.Lock()
+        self.reads = threading.Thread(target=self.read)
+        self.reads.start()
+
+    def read(self):
+        for line in self.ran.stdout:
+            with self.alone:
+                self.lines.append(line.rstrip("\n"))
+                if self.has_turn:
+                    print(line, end="", flush=True)
+
+    def end(self):
+        """Tells it that the other part has ended."""
+        self.ran.stdin.close()
+
+    def run(self):
+        """Shows what it prints, until it has ended. Returns its status and its lines."""
+        with self.alone:
+            print(*self.lines, sep="\n", flush=True)
+            self.has_turn = True
+        self.reads.join()
+        return self.ran.wait(), self.lines
 
 
 def counts_of_ci(lines, failed):
@@ -112,7 +144,11 @@ def main():
         for what, words in PARTS:
             started, idle = time.time(), chain.idle_ticks()
             print(f"== {' '.join(words)}", flush=True)
-            status, lines = run(words)
+            if words == CI:
+                beside = Beside(PARTS[-1][1])
+            status, lines = beside.run() if words == PARTS[-1][1] else run(words)
+            if words == CI:
+                beside.end()
             watch.part(" ".join(words), started, idle)
             times.append((" ".join(words), time.time() - started))
             notes += [it for it in lines if what == PARTS[-1][0] and it.startswith("edits: ")]

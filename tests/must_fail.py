@@ -1,5 +1,5 @@
 #!/usr/bin/env python3
-"""must_fail.py [--all] [--read] [--warm] [--jobs N] [--part I/N] [NAME..]
+"""must_fail.py [--all] [--read] [--warm] [--beside] [--jobs N] [--part I/N] [NAME..]
 
 Tries the edits tests/edits/NAME/*.edit, of all crates or of those named, side by side. The prover must refuse each. The
 form of an edit, the verdict and its words are the toolchain's, by the code of `rt must-fail`. Beyond that, each edit
@@ -21,6 +21,8 @@ doubt is tried alone, and one that is in doubt then, by a check of the whole cra
 --all: every edit, whatever the record says, and the edits crates/NAME/must-fail/*.edit too, which `rt ci` tries.
 --read: only sees that each edit can be applied and says what refuses it, those of crates/NAME/must-fail too.
 --warm: begins with what the crates' own checks left in out/, and leaves the record as it is. For use while you write.
+--beside: beside a run of `rt ci`, which ends where the input ends. It takes what that run leaves of the processors, and tries the edits of a crate
+once that run has proved it; what is left when it has ended is tried as without this word.
 --jobs N: at most N checks at a time; else as many as there are processors and memory, as under `rt ci`.
 --part I/N: each Nth edit, from the Ith on, for N machines that share the work.
 """
@@ -34,6 +36,7 @@ import sys
 import tempfile
 import threading
 import time
+from concurrent.futures import ThreadPoolExecutor
 
 import record
 from toolchain import ONE_JOB, clone, copied, crates_in, load_rt, refused_by_function, refused_in
@@ -43,6 +46,8 @@ TOP = os.path.dirname(os.path.dirname(os.path.realpath(__file__)))
 MEMORY, SECONDS = 2_000_000_000, 12
 # The most edits that are tried in one check. Of 24 edits of asgi_types each took 6.1 processor seconds, of 12 each 7.5, and one alone 23.
 AT_ONCE = 24
+# How many checks of edits go beside those of `rt ci`, and the free memory that one is to find, of which it leaves half to a proof.
+BESIDE, FREE = 2, 3 * MEMORY
 
 
 def part_of(text):
@@ -54,7 +59,7 @@ def part_of(text):
 
 def read_words(words):
     parser = argparse.ArgumentParser(usage=__doc__)
-    for flag in ("--all", "--read", "--warm"):
+    for flag in ("--all", "--read", "--warm", "--beside"):
         parser.add_argument(flag, action="store_true")
     parser.add_argument("--jobs", default="")
     parser.add_argument("--part", type=part_of, default=(0, 1))
@@ -259,6 +264,8 @@ class Trial:
         self.kept = rt.Kept(crates)
         # What the prover said last in this thread: rt's verdict has only its first line.
         self.said = threading.local()
+        # What was tried before the lanes begin.
+        self.given = {}
         checked = rt.checked
 
         def listened(*given):
@@ -339,29 +346,73 @@ class Trial:
         why = f"\nand yet tests/edits/{crate.name}/tried says that it was refused, with nothing changed since: that line is forged or stale"
         return [(refused, text + why * is_false) for (refused, text), is_false in zip(found, false)]
 
+    def groups(self):
+        """Returns the groups of edits to try, by crate, lowest first."""
+        return {it: groups_of(self.choice.tried.get(it, []), it.folder) for it in self.crates}
+
+    def needed(self):
+        """Returns the crates with edits to try and those below them, lowest first."""
+        found = {it for crate, edits in self.choice.tried.items() if edits for it in [crate, *crate.below()]}
+        return [it for it in self.crates if it in found]
+
+    def try_beside(self, ended):
+        """Tries edits of the crates that `rt ci` has proved by now, until it has ended."""
+        left, waiting, running, groups = self.needed(), [], {}, self.groups()
+        pool = ThreadPoolExecutor(BESIDE)
+        while not ended.wait(1) and (left or waiting):
+            for crate in [it for it in left if all((below.name, "proof") in self.given for below in it.below())]:
+                os.makedirs(f"{crate.folder}/out", exist_ok=True)
+                if self.kept.give(crate, False, self.kept.key(crate)):
+                    self.kept.is_built(crate)
+                    self.given[crate.name, "proof"] = True
+                    left.remove(crate)
+                    waiting += [(crate, it) for it in groups[crate]]
+            running = {key: it for key, it in running.items() if not it.done()}
+            while waiting and len(running) < BESIDE and self.rt.free() > FREE:
+                crate, edits = waiting.pop(0)
+                key = crate.name, "edits", *edits
+                running[key] = self.given[key] = pool.submit(self.attempt_all, crate, edits, self.given)
+        pool.shutdown(wait=False)
+
     def tasks(self):
         """Returns what rt's own lanes are to run: crates that are proved, and edits."""
-        needed = {it for crate, edits in self.choice.tried.items() if edits for it in [crate, *crate.below()]}
-        tasks = {}
-        for crate in self.crates:
-            if crate not in needed:
-                continue
+        groups, tasks = self.groups(), {}
+        for crate in self.needed():
             # rt gives its word proof the processors that are idle, and one to each task named edits. About 20 lines of code are proved in a second.
             waits, seconds = [(it.name, "proof") for it in crate.below()], crate.count(rb"\n") // 20
-            call = lambda given, jobs, it=crate: self.prove(it, given, jobs)
+            call = lambda given, jobs, it=crate: self.given.get((it.name, "proof")) or self.prove(it, given, jobs)
             tasks[crate.name, "proof"] = (waits, seconds, self.rt.need(crate), call)
             # An edit of a high crate takes longest, 27 seconds in asgi_conn and 5 in asgi_types, and is best begun first.
             each = 4 + 2 * len(crate.below())
-            for edits in groups_of(self.choice.tried.get(crate, []), crate.folder):
+            for edits in groups[crate]:
+                if (crate.name, "edits", *edits) in self.given:
+                    continue
                 call = lambda given, jobs, it=crate, edits=edits: self.attempt_all(it, edits, given)
                 tasks[crate.name, "edits", *edits] = ([(crate.name, "proof")], SECONDS + each * len(edits), MEMORY, call)
         return tasks
 
     def run(self):
         """Tries all edits. Returns how many were refused, and what is said of the others."""
+        if self.choice.asked.beside:
+            os.nice(19)
+            self.try_beside(end_of_input())
         given = self.rt.in_lanes(self.tasks())
+        given |= {key: it.result() for key, it in self.given.items() if key[1] == "edits"}
         found = [it for key, its in given.items() if key[1] == "edits" for it in its]
         return sum(refused for refused, _ in found), [text for refused, text in found if not refused]
+
+
+def end_of_input():
+    """Returns an event that is set once the input has ended."""
+    ended = threading.Event()
+
+    def read():
+        while sys.stdin.buffer.read(1 << 16):
+            pass
+        ended.set()
+
+    threading.Thread(target=read, daemon=True).start()
+    return ended
 
 
 def copy_repository(root, room, asked):
