@@ -1,4 +1,9 @@
 //! Applications that a row needs: they promise nothing.
+ghost use Rattle.std.specs.Prelude.{◌≡◌, None};
+ghost use Rattle.futures.specs.Poll.{OnPending};
+ghost use Rattle.futures.specs.Task.{IsArmed, Keeps};
+ghost use Rattle.asgi_apps.specs.Ends.{GoesOn};
+
 use asgi_apps::{AppFault, AppTask, Application, Says};
 use asgi_pipes::{AppEnd, Sent};
 use asgi_types::{HeaderError, Headers, HttpScope, Incoming, Kind, Octets, Outgoing, Scope};
@@ -122,36 +127,66 @@ impl AppTask for ScriptedTask {
     fn poll<E: AppEnd>(&mut self, cx: &mut Context<'_>, end: &mut E) -> Poll<Result<(), AppFault>> {
         match self.next() {
             None => Poll::Ready(Ok(())),
-            Some(Step::Faults) => Poll::Ready(Err(AppFault::Failed)),
             Some(Step::Waits) => cx.yield_now(),
-            Some(Step::Hears(wanted)) => {
-                let Poll::Ready(event) = end.poll_receive(cx) else {
+            Some(step) => {
+                let Poll::Ready(is_so) = goes(self.alloc, cx, end, step) else {
                     return Poll::Pending;
                 };
-                if !wanted.is(&event) {
+                if !is_so {
                     return Poll::Ready(Err(AppFault::Failed));
                 }
                 self.pass();
                 cx.yield_now()
             }
-            Some(Step::Says(said)) => {
-                let Ok(event) = said.event(self.alloc) else {
-                    return Poll::Ready(Err(AppFault::Failed));
-                };
-                match end.poll_send(cx, event) {
-                    Sent::Done => {
-                        self.pass();
-                        cx.yield_now()
-                    }
-                    Sent::Full(_) => Poll::Pending,
-                    Sent::Ignored => Poll::Ready(Err(AppFault::Failed)),
-                    Sent::Refused(_, _) => Poll::Ready(Err(AppFault::Failed)),
-                }
-            }
         }
     }
 
     ghost keeps = { λ _ _ _ _ _. tt };
+}
+
+/// Whether the step goes as it says; pending where it has to wait.
+fn goes<E: AppEnd>(alloc: Global, cx: &mut Context<'_>, end: &mut E, step: Step) -> Poll<bool>
+    requires { E.ended end.old ≡ None }
+    ensures end { GoesOn E.AppEnd None end.old end.new }
+    ensures armed { OnPending result (IsArmed cx.new) }
+    ensures kept { Keeps cx.old cx.new }
+{
+    match step {
+        Step::Hears(wanted) => hears(cx, end, wanted),
+        Step::Says(said) => says(alloc, cx, end, said),
+        _ => Poll::Ready(false),
+    }
+}
+
+/// Whether the next event is this one; pending until one is there.
+fn hears<E: AppEnd>(cx: &mut Context<'_>, end: &mut E, wanted: Heard) -> Poll<bool>
+    requires { E.ended end.old ≡ None }
+    ensures end { GoesOn E.AppEnd None end.old end.new }
+    ensures armed { OnPending result (IsArmed cx.new) }
+    ensures kept { Keeps cx.old cx.new }
+{
+    match end.poll_receive(cx) {
+        Poll::Ready(event) => Poll::Ready(wanted.is(&event)),
+        Poll::Pending => Poll::Pending,
+    }
+}
+
+/// Whether this goes into the queue; pending until a place is free.
+fn says<E: AppEnd>(alloc: Global, cx: &mut Context<'_>, end: &mut E, said: Said) -> Poll<bool>
+    requires { E.ended end.old ≡ None }
+    ensures end { GoesOn E.AppEnd None end.old end.new }
+    ensures armed { OnPending result (IsArmed cx.new) }
+    ensures kept { Keeps cx.old cx.new }
+{
+    let Ok(event) = said.event(alloc) else {
+        return Poll::Ready(false);
+    };
+    match end.poll_send(cx, event) {
+        Sent::Done => Poll::Ready(true),
+        Sent::Full(_) => Poll::Pending,
+        Sent::Ignored => Poll::Ready(false),
+        Sent::Refused(_, _) => Poll::Ready(false),
+    }
 }
 
 /// Its call faults.

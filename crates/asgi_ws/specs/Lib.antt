@@ -5,4 +5,5 @@ pub mod Scripts
 pub mod Sending
 pub mod Sessions
 pub mod Sides
+pub mod Taps
 pub mod Wires

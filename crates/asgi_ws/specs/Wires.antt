@@ -47,11 +47,12 @@ abbrev pub IsPassing : Error → Type 0
 IsPassing (Io cause) = passes (error_kind cause) ≡ true
 IsPassing e = ⊥
 
--- the answer where the layer waits for the stream: the input is idle, has ended, or has failed
+-- the answer where the layer waits for the stream: the input is idle, has ended, or has failed, as it has where a write timed out
 abbrev pub waited_for : Option Stop → Got
 waited_for None = got.Idle
 waited_for (Some stopped.Ended) = got.Ended
 waited_for (Some stopped.Failed) = got.Failed
+waited_for (Some stopped.Stuck) = got.Failed
 
 -- an answer by what the layer's `read` gave, and by how the stream's input had stopped by then
 abbrev pub IsAnswerTo : Result Message Error → Option Stop → Got → Type 0
@@ -59,7 +60,7 @@ IsAnswerTo (Ok given) stop answer = IsGotOf given answer
 IsAnswerTo (Err e) stop (got.Message m) = ⊥
 IsAnswerTo (Err e) stop got.Idle = IsPassing e × (stop ≡ None)
 IsAnswerTo (Err e) stop got.Ended = (e ≡ ConnectionClosed) ⊎ (IsPassing e × (stop ≡ Some stopped.Ended))
-IsAnswerTo (Err e) stop got.Failed = (e ≢ OutOfMemory) × (e ≢ ConnectionClosed) × (IsPassing e → stop ≡ Some stopped.Failed)
+IsAnswerTo (Err e) stop got.Failed = (e ≢ OutOfMemory) × (e ≢ ConnectionClosed) × (IsPassing e → (stop ≡ Some stopped.Failed) ⊎ (stop ≡ Some stopped.Stuck))
 IsAnswerTo (Err e) stop got.NoMemory = e ≡ OutOfMemory
 
 abbrev pub IfDone : Put → Type 0 → Type 0

@@ -68,7 +68,7 @@ fn wait(stop: Option<Stop>) -> Got
     match stop {
         None => Got::Idle,
         Some(Stop::Ended) => Got::Ended,
-        Some(Stop::Failed) => Got::Failed,
+        Some(Stop::Failed | Stop::Stuck) => Got::Failed,
     }
 }
 

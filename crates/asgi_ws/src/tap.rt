@@ -1,15 +1,19 @@
 //! The stream as the message layer sees it. Where it ended or failed, reads would block, so that what is sent can still go
-//! out; and a write that would block is tried again.
+//! out; and a write that would block is tried again, a counted number of times.
 ghost use Rattle.std.specs.Prelude.{◌≡◌, None};
 ghost use Rattle.std.specs.Io.{WritesAtMost};
 ghost use Rattle.std.specs.Io.KnownBytes.{WriteAppends, Keeps};
+ghost use Rattle.std.specs.IoError.{error_kind};
+ghost use Rattle.std.specs.declared.io.ErrorKind.TheVariants.{TimedOut};
+ghost use Rattle.asgi_ws.specs.Taps.{Lasts, stop_after, IsLeft, is_stuck};
 
 use crate::stream::Stream;
 use asgi_io::is_passing;
 use std::io::{self, ErrorKind, Read, Write};
 
-/// How often in a row a write that was interrupted or would block is tried again.
-const RETRIES: u32 = 1_000;
+/// How often a write that was interrupted or would block is tried. Behind that its client is taken as one that reads nothing
+/// more.
+const TRIES: u32 = 1_001;
 
 /// How the input of a stream stopped.
 #[derive(Clone, Copy, Debug, PartialEq, Eq)]
@@ -18,6 +22,8 @@ pub enum Stop {
     Ended,
     /// A read failed with an error that does not pass.
     Failed,
+    /// A write timed out: it still would block at its last try, or the stream said so.
+    Stuck,
 }
 
 /// A stream that would block where its input has ended or failed.
@@ -36,6 +42,32 @@ impl<S> Tap<S> {
     {
         Tap { stream, stop: None }
     }
+
+    /// Whether a write timed out, so that none is made any more.
+    fn is_stuck(&self) -> bool
+        ensures { result ≡ is_stuck self.now.stop }
+    {
+        matches!(self.stop, Some(Stop::Stuck))
+    }
+
+    /// Notes a write that timed out.
+    fn note<T>(&mut self, answered: &io::Result<T>)
+        ensures stops { self.new.stop ≡ stop_after answered.now self.old.stop }
+        ensures stays { self.new.stream ≡ self.old.stream }
+    {
+        if let Err(e) = answered
+            && e.kind() == ErrorKind::TimedOut
+        {
+            self.stop = Some(Stop::Stuck);
+        }
+    }
+}
+
+/// The answer to what was tried too often.
+fn timed_out() -> io::Error
+    ensures { error_kind result ≡ TimedOut }
+{
+    io::Error::from(ErrorKind::TimedOut)
 }
 
 impl<S: Stream> Read for Tap<S> {
@@ -64,15 +96,38 @@ impl<S: Stream> Read for Tap<S> {
     }
 }
 
+/// A write has an answer that lasts: where it was tried in vain it has timed out (`ErrorKind::TimedOut`), and behind that no
+/// write reaches the stream.
 impl<S: Stream> Write for Tap<S> {
     ghost contents = { λ t. S.contents t.stream };
 
-    fn write(&mut self, buf: &[u8]) -> io::Result<usize> {
-        write_retrying(&mut self.stream, buf)
+    fn write(&mut self, buf: &[u8]) -> io::Result<usize>
+        ensures bound { WritesAtMost result buf.now }
+        ensures bytes { WriteAppends (S.contents self.old.stream) (S.contents self.new.stream) result buf.now }
+        ensures lasting { Lasts result }
+        ensures stops { self.new.stop ≡ stop_after result self.old.stop }
+        ensures stuck { IsLeft self.old.stop self.old.stream self.new.stream result }
+    {
+        if self.is_stuck() {
+            return Err(timed_out());
+        }
+        let wrote = write_retrying(&mut self.stream, buf);
+        self.note(&wrote);
+        wrote
     }
 
-    fn flush(&mut self) -> io::Result<()> {
-        flush_retrying(&mut self.stream)
+    fn flush(&mut self) -> io::Result<()>
+        ensures kept { Keeps (S.contents self.old.stream) (S.contents self.new.stream) }
+        ensures lasting { Lasts result }
+        ensures stops { self.new.stop ≡ stop_after result self.old.stop }
+        ensures stuck { IsLeft self.old.stop self.old.stream self.new.stream result }
+    {
+        if self.is_stuck() {
+            return Err(timed_out());
+        }
+        let flushed = flush_retrying(&mut self.stream);
+        self.note(&flushed);
+        flushed
     }
 }
 
@@ -80,8 +135,9 @@ impl<S: Stream> Write for Tap<S> {
 fn write_retrying<S: Stream>(stream: &mut S, bytes: &[u8]) -> io::Result<usize>
     ensures bound { WritesAtMost result bytes.now }
     ensures bytes { WriteAppends (S.contents stream.old) (S.contents stream.new) result bytes.now }
+    ensures lasting { Lasts result }
 {
-    for _tried in 0..RETRIES {
+    for _tried in 0..TRIES {
         match stream.write_part(bytes) {
             Ok(n) => return Ok(n),
             Err(e) => {
@@ -91,14 +147,15 @@ fn write_retrying<S: Stream>(stream: &mut S, bytes: &[u8]) -> io::Result<usize>
             }
         }
     }
-    stream.write_part(bytes)
+    Err(timed_out())
 }
 
 /// Sends on what a buffer holds.
 fn flush_retrying<S: Stream>(stream: &mut S) -> io::Result<()>
-    ensures { Keeps (S.contents stream.old) (S.contents stream.new) }
+    ensures kept { Keeps (S.contents stream.old) (S.contents stream.new) }
+    ensures lasting { Lasts result }
 {
-    for _tried in 0..RETRIES {
+    for _tried in 0..TRIES {
         match stream.flush_parts() {
             Ok(()) => return Ok(()),
             Err(e) => {
@@ -108,5 +165,5 @@ fn flush_retrying<S: Stream>(stream: &mut S) -> io::Result<()>
             }
         }
     }
-    stream.flush_parts()
+    Err(timed_out())
 }
