@@ -59,11 +59,12 @@ def wait_for(what, why):
 class Server:
     """The program, which serves so many connections, and then ends by itself."""
 
-    def __init__(self, app, count=1, port=None, zeros=0):
+    def __init__(self, app, count=1, port=None, zeros=0, env=None):
         self.port = port or free_port()
         self.url = f"http://127.0.0.1:{self.port}/"
         words = [PROGRAM, "serve", f"{self.port:0{zeros}}", f"{count:0{zeros}}", app]
-        self.ran = subprocess.Popen(words, stdin=subprocess.DEVNULL, stdout=subprocess.PIPE, stderr=subprocess.PIPE)
+        pipes = {"stdin": subprocess.DEVNULL, "stdout": subprocess.PIPE, "stderr": subprocess.PIPE}
+        self.ran = subprocess.Popen(words, env={**os.environ, **(env or {})}, **pipes)
 
     def __enter__(self):
         wait_for(lambda: listens(self.port) or self.ran.poll() is not None, "the server does not listen")

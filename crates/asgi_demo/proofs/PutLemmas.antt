@@ -1,9 +1,9 @@
 -- Texts that are written one behind another are one text.
-use Rattle.std.proofs.Common.{◌≡◌, ◌∙◌, ℕ, suc, ◌+◌, ◌<◌, Bool, true, false, List, [], ◌∷◌, ◌++◌, length, take, drop, Option, refl, sym, ap, ap₂, subst, arith, codes, replicate, length-append, append_assoc, append-nil, zero-add, get_or}
+use Rattle.std.proofs.Common.{◌≡◌, ◌∙◌, ℕ, suc, ◌+◌, Bool, true, false, List, [], ◌∷◌, ◌++◌, length, take, Option, refl, sym, ap, ap₂, subst, arith, codes, replicate, length-append, append_assoc, append-nil, zero-add}
 use Rattle.std.proofs.KnownBytes.{Appends-nil, Appends-trans}
 use Rattle.std.proofs.lemmas.List.Elements.{All-append}
 use Rattle.std.proofs.lemmas.List.Sums.{sum_by-append}
-use Rattle.std.proofs.lemmas.List.{take-append-le, take_more, take-append-drop}
+use Rattle.std.proofs.lemmas.List.{take-append-le}
 use Rattle.std.proofs.lemmas.List.Concat.{flat_map-append}
 use Rattle.std.specs.Io.KnownBytes.{Appends}
 use Rattle.asgi_io.specs.declared.answer.Answer.{Answer}
@@ -13,7 +13,7 @@ use Rattle.asgi_io.specs.declared.write.Wrote.TheVariants.{Done, Failed}
 use Rattle.asgi_io.specs.Writing.{WritesOut, TriesWrites, Part, IsPart, IsEnd, part_answers, out_of}
 use Rattle.asgi_io.proofs.CountLemmas.{never_fell, rose_after}
 use Rattle.asgi_conversation.specs.declared.report.Report.{Report}
-use Rattle.asgi_demo.specs.Telling.{Writer, Tells, Puts, is_whole, report_line, report_lines}
+use Rattle.asgi_demo.specs.Telling.{Writer, Tells, Puts, PutsNext, is_whole, report_line, report_lines}
 
 -- how much went out of a text, so many bytes behind the beginning of a longer one
 abbrev behind : ℕ → Wrote → Wrote
@@ -120,27 +120,18 @@ failure_goes_out what why a b c d one other last is goes x y z =
     let Y : Puts why b c true = subst (λ w. Puts why b c w) goes y in
     puts_told (what ++ why ++ codes "\n") a d last (puts_next (what ++ why) (codes "\n") a c d last (puts_next what why a b c true X Y) z)
 
--- the lines of some reports, and the line of the next one
-lines_more : (reports : List (ℕ × Report)) (i : ℕ) (r : ℕ × Report) (line : List ℕ) → i < length reports → line ≡ report_line ((get_or reports i r).0, (get_or reports i r).1)
-    → report_lines (take (i + 1) reports) ≡ report_lines (take i reports) ++ line
-lines_more reports i r line less is =
-    ap report_lines (take_more reports i r less) ∙ flat_map-append report_line (take i reports) (get_or reports i r ∷ [])
-    ∙ ap (λ (l : List ℕ). report_lines (take i reports) ++ l) (append-nil (report_line (get_or reports i r)) ∙ sym is)
+-- the lines of some reports, and of one more
+lines_more : (reports : List (ℕ × Report)) (report : ℕ × Report) → report_lines (reports ++ report ∷ []) ≡ report_lines reports ++ report_line report
+lines_more reports report =
+    flat_map-append report_line reports (report ∷ []) ∙ ap (λ (l : List ℕ). report_lines reports ++ l) (append-nil (report_line report))
 
-pub line_is_told : (reports : List (ℕ × Report)) (i : ℕ) (r : ℕ × Report) (line : List ℕ) (a b c : Writer) (whole : Bool) → i < length reports
-    → line ≡ report_line ((get_or reports i r).0, (get_or reports i r).1) → whole ≡ true
-    → Puts (report_lines (take i reports)) a b true → Puts line b c whole → Puts (report_lines (take (i + 1) reports)) a c true
-line_is_told reports i r line a b c whole less is goes x y =
-    subst (λ l. Puts l a c true) (sym (lines_more reports i r line less is)) (puts_next (report_lines (take i reports)) line a b c true x (subst (λ w. Puts line b c w) goes y))
+next_by : (text line : List ℕ) (told whole : Bool) (a b c : Writer) → Puts text a b told → PutsNext told line b c whole → Puts (text ++ line) a c whole
+next_by text line true whole a b c x y = puts_next text line a b c whole x y
+next_by text line false whole a b c x (same, fails) =
+    subst (λ w. Puts (text ++ line) a c w) (sym fails) (subst (λ w. Puts (text ++ line) a w false) (sym same) (puts_stopped text line a b x))
 
--- the lines up to the next one, and those behind it
-lines_split : (reports : List (ℕ × Report)) (i : ℕ) → report_lines (take i reports) ++ report_lines (drop i reports) ≡ report_lines reports
-lines_split reports i = sym (flat_map-append report_line (take i reports) (drop i reports)) ∙ ap report_lines (take-append-drop i reports)
-
-pub line_is_not_told : (reports : List (ℕ × Report)) (i : ℕ) (r : ℕ × Report) (line : List ℕ) (a b c : Writer) (whole : Bool) → i < length reports
-    → line ≡ report_line ((get_or reports i r).0, (get_or reports i r).1) → whole ≡ false
-    → Puts (report_lines (take i reports)) a b true → Puts line b c whole → Puts (report_lines reports) a c false
-line_is_not_told reports i r line a b c whole less is stops x y =
-    let front = puts_next (report_lines (take i reports)) line a b c false x (subst (λ w. Puts line b c w) stops y) in
-    let told : Puts (report_lines (take (i + 1) reports)) a c false = subst (λ l. Puts l a c false) (sym (lines_more reports i r line less is)) front in
-    subst (λ l. Puts l a c false) (lines_split reports (i + 1)) (puts_stopped (report_lines (take (i + 1) reports)) (report_lines (drop (i + 1) reports)) a c told)
+-- the lines of the reports so far, and that of the next one
+pub line_is_next : (reports : List (ℕ × Report)) (number : ℕ) (report : Report) (told whole : Bool) (a b c : Writer) → Puts (report_lines reports) a b told
+    → PutsNext told (report_line (number, report)) b c whole → Puts (report_lines (reports ++ (number, report) ∷ [])) a c whole
+line_is_next reports number report told whole a b c x y =
+    subst (λ l. Puts l a c whole) (sym (lines_more reports (number, report))) (next_by (report_lines reports) (report_line (number, report)) told whole a b c x y)

@@ -1,6 +1,6 @@
 -- How the program serves the connections of a listener: the application is started, each connection is served and reported, and the
 -- application is stopped, whatever happened in between (ASGI lifespan protocol 2.0).
-use Rattle.std.specs.Prelude.{◌≡◌, ◌⊎◌, ◌&&◌, ◌++◌, ℕ, Bool, true, false, not, List, [], ◌∷◌, codes, Option, Some, None}
+use Rattle.std.specs.Prelude.{◌≡◌, ◌⊎◌, ◌&&◌, ◌++◌, ℕ, Bool, true, false, not, List, [], ◌∷◌, codes, length, map, Option, Some, None, if◌then◌else◌}
 use mathlib.Core.List.{IsPrefix}
 use Rattle.asgi_io.specs.declared.counts.Counts as counts
 use Rattle.asgi_io.specs.declared.reads.Reads as reads
@@ -20,7 +20,7 @@ use Rattle.asgi_lifespan.specs.Facts.{lifespan_scope, no_request}
 use Rattle.asgi_lifespan.specs.Lifespan.{StartAnswer, started, failed, unsupported, start_answer}
 use Rattle.asgi_lifespan.specs.Stopping.{Stops}
 use Rattle.asgi_lifespan.specs.Turning.{TakesTurns}
-use Rattle.asgi_server.specs.Connections.{Promise, Given, ServesAll}
+use Rattle.asgi_server.specs.Connections.{Promise, Given, arrived, EachConnectionOnce}
 use Rattle.asgi_demo.specs.declared.ending.Ending.{Ending}
 use Rattle.asgi_demo.specs.declared.ending.Ending.TheVariants.{Done, StartupFailed, NoStartup, ShutdownFailed, NoShutdown, DeviceFault}
 use Rattle.asgi_demo.specs.Telling.{Writer, Tells, TellsOf, Puts, report_lines, device_fault}
@@ -67,20 +67,22 @@ pub record Around (L : Type 0) : Type 0 where
 abbrev pub around : {L : Type 0} → List (Option (Given L)) → Writer → Around L
 around asked output = record { asked = asked; output = output }
 
--- The lines of the reports were written, all of them or as much as the writer took; nothing was where memory for them was refused.
-abbrev pub TellsReports : Option (List (ℕ × Report)) → Writer → Writer → Bool → Type 0
-TellsReports None old new told = (new ≡ old) × (told ≡ false)
-TellsReports (Some reports) old new told = Puts (report_lines reports) old new told
-
 module _ {L : Type 0} (R : reads.Ghosts L) (W : counts.Ghosts L) (M : messages.Ghosts L) (answers : Promise) (limits : Limits) (has_failed : Bool) where
-  -- All connections of the listener were served with this state, and their reports told; all went well where each line went out
-  -- and the listener has not failed.
+  -- The connections of the listener were served with this state, one after another, and of each a line was told once it had ended.
+  -- All went well where each line went out, and the listener has not failed.
   pub record ServesEach (state : List (List ℕ × StateValue)) (old new : Around L) (before after : ℕ) (well : Bool) : Type 0 where
-    pub returned : Option (List (ℕ × Report))
-    pub serves : ServesAll R W M answers limits state old.asked new.asked before after returned
+    -- the connections that it gave, and then none, where it was asked to its end
+    pub given : List (Given L)
+    pub to_end : Bool
+    pub asked : new.asked ≡ old.asked ++ map Some given ++ (if to_end then None ∷ [] else [])
+    -- each was served, and reported once, with the numbers 1 upwards; it is asked to its end but where no number is left
+    pub reports : List (ℕ × Report)
+    pub each : EachConnectionOnce answers limits state 1 (map (arrived R W M) given) before after reports
+    pub ends : to_end ≡ false → length reports ≡ 18446744073709551614
+    -- the lines went out, all of them or as much as the writer took
     pub told : Bool
-    pub tells : TellsReports returned old.output new.output told
-    pub well_is : well ≡ (told && not has_failed)
+    pub tells : Puts (report_lines reports) old.output new.output told
+    pub well_is : well ≡ (to_end && told && not has_failed)
 
   -- or nothing can run a task, and the listener was not asked
   abbrev pub ServesOrNot : List (List ℕ × StateValue) → Around L → Around L → ℕ → ℕ → Bool → Type 0

@@ -68,3 +68,8 @@ pub record Puts (text : List ℕ) (old new : Writer) (whole : Bool) : Type 0 whe
   pub writes : WritesOut old.written new.written old.failed new.failed text wrote
   pub tries : TriesWrites old.writes new.writes (out_of text wrote) wrote
   pub whole_is : whole ≡ is_whole wrote
+
+-- a text behind others: it was written where all of those went out, and else the writer is as it was
+abbrev pub PutsNext : Bool → List ℕ → Writer → Writer → Bool → Type 0
+PutsNext true text old new whole = Puts text old new whole
+PutsNext false text old new whole = (new ≡ old) × (whole ≡ false)

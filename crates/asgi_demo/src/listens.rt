@@ -3,6 +3,7 @@ ghost use Rattle.std.specs.Prelude.{◌≡◌};
 
 use asgi_server::{Accepts, Sockets};
 use std::net::Net;
+use std::time::Clock;
 
 /// A listener that is told where to listen.
 pub trait Listens: Accepts {
@@ -11,7 +12,7 @@ pub trait Listens: Accepts {
         ensures { Self.Listener.answers self.new ≡ Self.Listener.answers self.old };
 }
 
-impl<'a, R: Net> Listens for Sockets<'a, R> {
+impl<'a, R: Net + Clock> Listens for Sockets<'a, R> {
     fn listen_on(&mut self, port: u16, count: u64) {
         Sockets::listen_on(self, port, count);
     }

@@ -1,6 +1,6 @@
 //! The lines that tell how connections ended.
 ghost use Rattle.std.specs.Prelude.{◌≡◌};
-ghost use Rattle.asgi_demo.specs.Telling.{Puts, report_line, report_lines, writer};
+ghost use Rattle.asgi_demo.specs.Telling.{PutsNext, report_line, writer};
 
 use crate::telling::put;
 use arrayvec::ArrayString;
@@ -8,19 +8,14 @@ use asgi_conn::Report;
 use asgi_io::Counts;
 use itoa::Buffer;
 
-/// Writes a line for each report: the number of the connection, that of its exchanges, and the words of
-/// its outcome. It says whether all of them were written.
-pub fn print<W: Counts>(reports: &[(u64, Report)], output: &mut W) -> bool
-    ensures { Puts (report_lines reports.now)
+/// Writes the line of a report, where all lines before it were written whole: the number of the connection,
+/// that of its exchanges, and the words of its outcome. It says whether this one was, too.
+pub fn print_next<W: Counts>(told: bool, number: u64, report: &Report, output: &mut W) -> bool
+    ensures { PutsNext told (report_line (number, report.now))
         (writer (W.written output.old) (W.answers output.old) (W.failed output.old))
         (writer (W.written output.new) (W.answers output.new) (W.failed output.new)) result }
 {
-    for (number, report) in reports {
-        if !put(line_of(*number, report).as_bytes(), output) {
-            return false;
-        }
-    }
-    true
+    told && put(line_of(number, report).as_bytes(), output)
 }
 
 /// The line of a report.

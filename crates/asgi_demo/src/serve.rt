@@ -1,18 +1,17 @@
 //! The server: its lifespan, its connections, and how it ended.
-ghost use Rattle.std.specs.Prelude.{◌≡◌};
-ghost use Rattle.asgi_demo.specs.Serving.{LivesOrNot, ServesOn, ServesOrNot, around, ending_of};
+ghost use Rattle.std.specs.Prelude.{◌≡◌, ◌&&◌, not};
+ghost use Rattle.asgi_demo.specs.Serving.{LivesOrNot, ServesEach, ServesOn, ServesOrNot, around, ending_of};
 ghost use Rattle.asgi_demo.specs.Telling.{writer};
 ghost use Rattle.asgi_types.specs.declared.limits.Limits.{Limits};
 
 use crate::ending::Ending;
-use crate::reports::print;
+use crate::reports::print_next;
 use crate::telling::device_fault;
-use crate::waiting::Waiting;
 use asgi_apps::Application;
-use asgi_conn::Inline;
+use asgi_conn::{Inline, Runner};
 use asgi_io::{Counts, Pause};
 use asgi_lifespan::{Lifespan, Start, Stop};
-use asgi_server::{Accepts, serve_all};
+use asgi_server::{Accepts, Waiting, serve_next};
 use asgi_types::{Limits, State};
 use futures::task::{Context, Doorbell, Solo};
 use std::alloc::AllocGlobal;
@@ -76,7 +75,7 @@ fn live<H: RandomSource + AllocGlobal, A: Application, N: Accepts, P: Pause, W: 
     }
 }
 
-/// Serves each connection, and tells the reports. It says whether all went well.
+/// Serves the connections in this thread, and says whether all went well.
 fn serve<H: RandomSource + AllocGlobal, A: Application, N: Accepts, P: Pause, W: Counts>(
     rt: &H,
     limits: &Limits,
@@ -95,12 +94,43 @@ fn serve<H: RandomSource + AllocGlobal, A: Application, N: Accepts, P: Pause, W:
         return false;
     };
     let mut runner = Inline::new(solo.begin());
-    let reports = serve_all(rt, limits, state, app, listener, &mut runner, pause);
+    let well = serve_each(rt, limits, state, app, listener, &mut runner, pause, output);
     runner.end();
-    let Ok(reports) = reports else {
-        return false;
-    };
-    print(&reports, output) && !listener.failed()
+    well
+}
+
+/// Serves one connection after another, and tells a line of each once it has ended. It says whether all went
+/// well: a line that is not written whole is the last one, and the connections are served all the same.
+fn serve_each<H: AllocGlobal, A: Application, N: Accepts, U: Runner, P: Pause, W: Counts>(
+    rt: &H,
+    limits: &Limits,
+    state: &State,
+    app: &A,
+    listener: &mut N,
+    runner: &mut U,
+    pause: &mut P,
+    output: &mut W,
+) -> bool
+    ensures { ServesEach N.L.Reads N.L.Counts N.L.Messages.own (A.answers app.now) limits.now (N.has_failed listener.new) state.now
+        (around (N.Listener.own.answers listener.old) (writer (W.written output.old) (W.answers output.old) (W.failed output.old)))
+        (around (N.Listener.own.answers listener.new) (writer (W.written output.new) (W.answers output.new) (W.failed output.new)))
+        (P.count pause.old) (P.count pause.new) result }
+{
+    let mut told = true;
+    for number in 1..u64::MAX {
+        let Some(report) = serve_next(rt, limits, state, app, listener, runner, pause) else {
+            return is_well(told, listener.failed());
+        };
+        told = print_next(told, number, &report, output);
+    }
+    false
+}
+
+/// Whether all went well, by whether each line went out and whether the listener failed.
+fn is_well(told: bool, failed: bool) -> bool
+    ensures { result ≡ (told && not failed) }
+{
+    told && !failed
 }
 
 /// How the server ended, whose application was stopped with this answer.

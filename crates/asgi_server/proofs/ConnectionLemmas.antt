@@ -1,13 +1,12 @@
 -- One more connection was served behind the others.
-use Rattle.std.proofs.Common.{◌≡◌, ℕ, ◌+◌, List, [], ◌∷◌, ◌++◌, length, map, Option, Some, None, refl, sym, ap, ◌∙◌, subst, arith, append_assoc, append-nil, length-append}
+use Rattle.std.proofs.Common.{◌≡◌, ℕ, ◌+◌, List, [], ◌∷◌, ◌++◌, length, map, Option, Some, None, refl, sym, ap, ◌∙◌, subst, arith, append_assoc, length-append}
 use Rattle.asgi_io.specs.declared.counts.Counts as counts
 use Rattle.asgi_io.specs.declared.reads.Reads as reads
 use Rattle.asgi_types.specs.declared.limits.Limits.{Limits}
-use Rattle.asgi_types.specs.declared.scope.Peer.{Peer}
 use Rattle.asgi_types.specs.declared.state.StateValue.{StateValue}
 use Rattle.asgi_ws.specs.declared.messages.Messages as messages
 use Rattle.asgi_conversation.specs.declared.report.Report.{Report}
-use Rattle.asgi_server.specs.Connections.{Promise, Given, Arrived, arrived, IsServed, EachConnectionOnce}
+use Rattle.asgi_server.specs.Connections.{Promise, Given, Arrived, arrived, IsServed, ServesNext, EachConnectionOnce}
 
 pub one_more : (answers : Promise) (limits : Limits) (state : List (List ℕ × StateValue)) (number : ℕ) (connections : List Arrived) (before between after : ℕ)
     (reports : List (ℕ × Report)) (connection : Arrived) (report : Report) (last : ℕ) → last ≡ number + length reports
@@ -48,19 +47,32 @@ counted_on number reports more report is grown =
     let long : length more ≡ length reports + 1 = ap (λ list. length list) grown ∙ length-append reports ((number, report) ∷ []) in
     omega (arith, is, long)
 
--- What stands of the loop behind one more connection.
-pub goes_on : {L : Type 0} (R : reads.Ghosts L) (W : counts.Ghosts L) (M : messages.Ghosts L) (answers : Promise) (limits : Limits) (state : List (List ℕ × StateValue))
-    (old now new : List (Option (Given L))) (given : List (Given L)) (line : L) (client server : Option Peer) (before between after number : ℕ) (reports more : List (ℕ × Report)) (report : Report)
-    → now ≡ old ++ map Some given → new ≡ now ++ Some (line, client, server) ∷ []
-    → EachConnectionOnce answers limits state 1 (map (arrived R W M) given) before between reports
-    → IsServed answers limits state (arrived R W M (line, client, server)) between after report
-    → number ≡ 1 + length reports → more ≡ reports ++ (number, report) ∷ []
-    → (all : List (Given L)) × (new ≡ old ++ map Some all) × EachConnectionOnce answers limits state 1 (map (arrived R W M) all) before after more
-goes_on R W M answers limits state old now new given line client server before between after number reports more report so_far told each served is grown =
-    let P : List Arrived → Type 0 = λ list. EachConnectionOnce answers limits state 1 list before after (reports ++ (number, report) ∷ []) in
-    let Q : List (ℕ × Report) → Type 0 = λ list. EachConnectionOnce answers limits state 1 (map (arrived R W M) (given ++ (line, client, server) ∷ [])) before after list in (
-      given ++ (line, client, server) ∷ [],
-      answered_on old given now new (line, client, server) so_far told,
-      subst Q (sym grown) (subst P (sym (mapped_on (arrived R W M) given (line, client, server)))
-          (one_more answers limits state 1 (map (arrived R W M) given) before between after reports (arrived R W M (line, client, server)) report number is each served)),
-    )
+module _ {L : Type 0} (R : reads.Ghosts L) (W : counts.Ghosts L) (M : messages.Ghosts L) (answers : Promise) (limits : Limits) (state : List (List ℕ × StateValue)) where
+  -- there was no connection any more
+  pub none_left : (now new : List (Option (Given L))) (between after : ℕ) (answer : Option Report) → answer ≡ None → ServesNext R W M answers limits state now new between after answer
+      → (new ≡ now ++ None ∷ []) × (after ≡ between)
+  none_left now new between after answer is next = subst (λ a. ServesNext R W M answers limits state now new between after a) is next
+
+  served_on : (old now new : List (Option (Given L))) (given : List (Given L)) (before between after number : ℕ) (reports more : List (ℕ × Report)) (report : Report)
+      → now ≡ old ++ map Some given → EachConnectionOnce answers limits state 1 (map (arrived R W M) given) before between reports
+      → ServesNext R W M answers limits state now new between after (Some report)
+      → number ≡ 1 + length reports → more ≡ reports ++ (number, report) ∷ []
+      → (all : List (Given L)) × (new ≡ old ++ map Some all) × EachConnectionOnce answers limits state 1 (map (arrived R W M) all) before after more
+  served_on old now new given before between after number reports more report so_far each (one, told, served) is grown =
+      let P : List Arrived → Type 0 = λ list. EachConnectionOnce answers limits state 1 list before after (reports ++ (number, report) ∷ []) in
+      let Q : List (ℕ × Report) → Type 0 = λ list. EachConnectionOnce answers limits state 1 (map (arrived R W M) (given ++ one ∷ [])) before after list in (
+        given ++ one ∷ [],
+        answered_on old given now new one so_far told,
+        subst Q (sym grown) (subst P (sym (mapped_on (arrived R W M) given one))
+            (one_more answers limits state 1 (map (arrived R W M) given) before between after reports (arrived R W M one) report number is each served)),
+      )
+
+  -- What stands of the loop behind one more connection.
+  pub goes_on : (old now new : List (Option (Given L))) (given : List (Given L)) (before between after number : ℕ) (reports more : List (ℕ × Report)) (answer : Option Report) (report : Report)
+      → now ≡ old ++ map Some given → EachConnectionOnce answers limits state 1 (map (arrived R W M) given) before between reports
+      → answer ≡ Some report → ServesNext R W M answers limits state now new between after answer
+      → number ≡ 1 + length reports → more ≡ reports ++ (number, report) ∷ []
+      → (all : List (Given L)) × (new ≡ old ++ map Some all) × EachConnectionOnce answers limits state 1 (map (arrived R W M) all) before after more
+  goes_on old now new given before between after number reports more answer report so_far each gave next is grown =
+      served_on old now new given before between after number reports more report so_far each
+      (subst (λ a. ServesNext R W M answers limits state now new between after a) gave next) is grown

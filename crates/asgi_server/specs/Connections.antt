@@ -48,6 +48,12 @@ EachConnectionOnce answers limits state number (connection ∷ connections) befo
     × IsServed answers limits state connection before between report
     × EachConnectionOnce answers limits state (number + 1) connections between after others
 
+-- One connection was asked for: there was none, or the one that was given was served, and this is its report.
+abbrev pub ServesNext : {L : Type 0} → reads.Ghosts L → counts.Ghosts L → messages.Ghosts L → Promise → Limits → List (List ℕ × StateValue) → List (Option (Given L)) → List (Option (Given L)) → ℕ → ℕ → Option Report → Type 0
+ServesNext R W M answers limits state asked_old asked_new before after None = (asked_new ≡ asked_old ++ None ∷ []) × (after ≡ before)
+ServesNext R W M answers limits state asked_old asked_new before after (Some report) =
+    (given : Given _) × (asked_new ≡ asked_old ++ Some given ∷ []) × IsServed answers limits state (arrived R W M given) before after report
+
 -- what the listener answered at last: that there is no connection any more, but where memory for one more report was refused
 -- and it was not asked
 abbrev pub last_answer : {L : Type 0} → Option (List (ℕ × Report)) → List (Option (Given L))

@@ -3,7 +3,7 @@ ghost use Rattle.std.specs.Prelude.{◌≡◌, ◌<◌, ◌++◌, ◌∷◌, [],
 ghost use Rattle.std.specs.Result.{result_ok};
 ghost use Rattle.std.specs.Vec.{vec_len, vec_capacity};
 ghost use Rattle.asgi_conn.specs.Lines.{state_of};
-ghost use Rattle.asgi_server.specs.Connections.{ServesAll, IsServed, arrived};
+ghost use Rattle.asgi_server.specs.Connections.{ServesAll, ServesNext, IsServed, arrived};
 
 use crate::listener::Listener;
 use asgi_apps::Application;
@@ -35,15 +35,32 @@ pub fn serve_all<H: AllocGlobal, A: Application, N: Listener, U: Runner, P: Paus
         if let Err(e) = reports.reserve(1) {
             return Err(e);
         }
-        let Some((line, client, server)) = listener.next() else {
+        let Some(report) = serve_next(rt, limits, state, app, listener, runner, pause) else {
             return Ok(reports);
         };
-        let report = serve(
-            rt, limits, state, app, line, &client, &server, runner, pause,
-        );
         add(&mut reports, number, report);
     }
     unreachable!()
+}
+
+/// Serves the next connection that the listener gives, and returns its report; `None` where it gives none
+/// any more. The line is dropped once its connection has ended.
+pub fn serve_next<H: AllocGlobal, A: Application, N: Listener, U: Runner, P: Pause>(
+    rt: &H,
+    limits: &Limits,
+    state: &State,
+    app: &A,
+    listener: &mut N,
+    runner: &mut U,
+    pause: &mut P,
+) -> Option<Report>
+    ensures { ServesNext N.L.Reads N.L.Counts N.L.Messages.own (A.answers app.now) limits.now state.now (N.answers listener.old) (N.answers listener.new)
+        (P.count pause.old) (P.count pause.new) result }
+{
+    let (line, client, server) = listener.next()?;
+    Some(serve(
+        rt, limits, state, app, line, &client, &server, runner, pause,
+    ))
 }
 
 /// Serves one connection, and drops its line.

@@ -1,58 +1,118 @@
 //! A socket that is closed only once its peer had time to read what was written.
 ghost use Rattle.std.specs.Prelude.{◌≡◌};
 
-use std::io::{self, Read, Write};
+use asgi_io::is_passing;
+use std::io::{self, ErrorKind, Read, Write};
 use std::net::{OpenStream, Shutdown};
+use std::time::{Clock, Duration, Instant};
 
-/// How many pieces of what the peer still sends are read and dropped at the end of a connection.
-const PIECES: u32 = 256;
+/// How long a read waits for bytes, and a write for room, before it pauses, in milliseconds. The system
+/// keeps no shorter time than its own step, some 4 to 8 milliseconds.
+const TIMEOUT: u64 = 1;
 
-/// A socket, which is closed where it is dropped: first the half that writes, and then, once the peer
-/// has closed too, sends nothing for a moment, or has sent a mebibyte in vain, the other one. A socket
-/// that is closed while input waits in it would be reset, and the peer could lose the end of what was
-/// written (RFC 9112, section 9.6).
-pub struct Socket<S: Read + OpenStream> {
+/// How many reads at the end of a connection may find nothing: some 800 milliseconds.
+const SILENT_READS: u32 = 100;
+
+/// How long the end of a connection may take, in milliseconds.
+const LONGEST_END: u64 = 1_000;
+
+/// A socket, which is closed where it is dropped: first the half that writes, and then the other one, once
+/// the peer has closed too, or was silent for a while, or a second has passed. A socket that is closed while
+/// input waits in it would be reset, and the peer could lose the end of what was written (RFC 9112, section
+/// 9.6).
+///
+/// A socket that can't be made ready, since its peer is gone, say, gives no byte and takes none.
+pub struct Socket<'a, H: Clock, S: Read + OpenStream> {
+    clock: &'a H,
     stream: S,
+    is_ready: bool,
 }
 
-impl<S: Read + OpenStream> Socket<S> {
-    /// A socket over this stream, whose reads do not wait for long.
-    pub fn new(stream: S) -> Self
+impl<'a, H: Clock, S: Read + OpenStream> Socket<'a, H, S> {
+    /// A socket over this stream, whose reads and writes do not wait for long from here on.
+    pub fn new(clock: &'a H, stream: S) -> Self
         ensures { result.stream ≡ stream }
     {
-        Socket { stream }
-    }
-}
-
-impl<S: Read + OpenStream + Drop> Drop for Socket<S> {
-    fn drop(self) {
-        let Socket { mut stream } = self;
-        if stream.shutdown(Shutdown::Write).is_ok() {
-            drain(&mut stream);
+        let is_ready = ready(&stream).is_ok();
+        Socket {
+            clock,
+            stream,
+            is_ready,
         }
     }
 }
 
-/// Reads and drops what is still sent, up to the first read that gives nothing.
-fn drain<S: Read>(stream: &mut S) {
-    let mut piece = [0; 4_096];
-    for _read in 0..PIECES {
+/// Makes a stream ready to be served.
+fn ready<S: OpenStream>(stream: &S) -> io::Result<()> {
+    // A response leaves in several writes, none of which is to wait for an answer to the one before.
+    stream.set_nodelay(true)?;
+    stream.set_read_timeout(Some(Duration::from_millis(TIMEOUT)))?;
+    stream.set_write_timeout(Some(Duration::from_millis(TIMEOUT)))
+}
+
+impl<'a, H: Clock, S: Read + OpenStream + Drop> Drop for Socket<'a, H, S> {
+    fn drop(self) {
+        let Socket {
+            clock,
+            mut stream,
+            is_ready,
+        } = self;
+        if is_ready && stream.shutdown(Shutdown::Write).is_ok() {
+            drain(clock, &mut stream);
+        }
+    }
+}
+
+/// Reads and drops what is still sent.
+fn drain<H: Clock, S: Read>(clock: &H, stream: &mut S) {
+    let Ok(began) = Instant::now(clock) else {
+        return;
+    };
+    let mut piece = [0; 16_384];
+    let mut silent = 0u32;
+    for _read in 0..u32::MAX {
         match stream.read(&mut piece) {
             Ok(0) => return,
             Ok(_) => {}
-            Err(_) => return,
+            Err(e) => {
+                silent = silent.saturating_add(1);
+                if !is_passing(&e) || silent >= SILENT_READS {
+                    return;
+                }
+            }
+        }
+        if is_late(clock, began) {
+            return;
         }
     }
 }
 
-impl<S: Read + OpenStream> Read for Socket<S> {
+/// Whether the end of a connection that began then is to be over, as it is where no time can be had.
+fn is_late<H: Clock>(clock: &H, began: Instant) -> bool {
+    match began.elapsed(clock) {
+        Ok(time) => time >= Duration::from_millis(LONGEST_END),
+        Err(_) => true,
+    }
+}
+
+fn unready() -> io::Error {
+    io::Error::from(ErrorKind::NotConnected)
+}
+
+impl<H: Clock, S: Read + OpenStream> Read for Socket<'_, H, S> {
     fn read(&mut self, buf: &mut [u8]) -> io::Result<usize> {
+        if !self.is_ready {
+            return Err(unready());
+        }
         self.stream.read(buf)
     }
 }
 
-impl<S: Read + Write + OpenStream> Write for Socket<S> {
+impl<H: Clock, S: Read + Write + OpenStream> Write for Socket<'_, H, S> {
     fn write(&mut self, buf: &[u8]) -> io::Result<usize> {
+        if !self.is_ready {
+            return Err(unready());
+        }
         self.stream.write(buf)
     }
 

@@ -1,5 +1,6 @@
-use Rattle.std.proofs.Common.{◌≡◌, ◌++◌, ◌∷◌, [], ℕ, ◌+◌, List, length, map, Some, None, refl, sym, ap, ◌∙◌, subst, arith, append_assoc, append-nil}
-use Rattle.asgi_server.proofs.ConnectionLemmas.{counted_on, goes_on}
+use Rattle.std.proofs.Common.{◌++◌, ◌∷◌, [], ℕ, ◌+◌, length, map, Some, None, refl, sym, ap, ◌∙◌, subst, arith, append-nil}
+use Rattle.asgi_server.specs.Connections.{EachConnectionOnce, arrived}
+use Rattle.asgi_server.proofs.ConnectionLemmas.{counted_on, none_left, goes_on}
 use Rattle.asgi_server.proofs.serving.serve_all.Goals as goal
 
 pub loop-number-init : goal.loop-number-init
@@ -21,27 +22,32 @@ returns-in-Err g c =
     }
 
 -- the listener gives none any more
-pub returns-in_default-next : goal.returns-in_default-next
-returns-in_default-next g c =
+pub returns-in_default-serve_next : goal.returns-in_default-serve_next
+returns-in_default-serve_next g c =
     let (given, told, each) = c.loop-number.invariant.served in
+    let (none, same) = none_left g.N.L.Reads g.N.L.Counts g.N.L.Messages (g.A.Application.answers c.args.app.now) c.args.limits.now c.args.state.now
+    (g.N.Listener.answers c.loop-number.listener) (g.N.Listener.answers c.serve_next.new.listener) (g.P.Pause.count c.loop-number.pause) (g.P.Pause.count c.serve_next.new.pause)
+    c.serve_next.result c.in_default-serve_next.is c.serve_next.ensures in
+    let P : ℕ → Type 0 = λ pauses. EachConnectionOnce (g.A.Application.answers c.args.app.now) c.args.limits.now c.args.state.now 1 (map (arrived g.N.L.Reads g.N.L.Counts g.N.L.Messages) given)
+    (g.P.Pause.count c.args.pause.now) pauses c.loop-number.reports.items in
     record {
       given = given;
-      asked = c.next.ensures.told ∙ ap (λ answer. g.N.Listener.answers c.loop-number.listener ++ answer ∷ []) c.in_default-next.is ∙ ap (λ list. list ++ None ∷ []) told;
+      asked = none ∙ ap (λ list. list ++ None ∷ []) told;
       reports = c.loop-number.reports.items;
-      each = each;
+      each = subst P (sym same) each;
       all = λ list is. let kept = c.reserve.ensures.items in cc;
     }
 
 pub loop-number-preserved : goal.loop-number-preserved
 loop-number-preserved g c =
     let (given, told, each) = c.loop-number.invariant.served in
-    let grown = c.add.ensures ∙ ap (λ list. list ++ (c.loop-number.number, c.serve-report.result) ∷ []) c.reserve.ensures.items in
+    let grown = c.add.ensures ∙ ap (λ list. list ++ (c.loop-number.number, c.in-Some.report) ∷ []) c.reserve.ensures.items in
     record {
-      number_is = counted_on c.loop-number.number c.loop-number.reports.items c.add.new.reports.items c.serve-report.result c.loop-number.invariant.number_is grown;
+      number_is = counted_on c.loop-number.number c.loop-number.reports.items c.add.new.reports.items c.in-Some.report c.loop-number.invariant.number_is grown;
       served = goes_on g.N.L.Reads g.N.L.Counts g.N.L.Messages (g.A.Application.answers c.args.app.now) c.args.limits.now c.args.state.now
-          (g.N.Listener.answers c.args.listener.now) (g.N.Listener.answers c.loop-number.listener) (g.N.Listener.answers c.next.new.self) given
-          c.in-Some.line c.in-Some.client c.in-Some.server (g.P.Pause.count c.args.pause.now) (g.P.Pause.count c.loop-number.pause) (g.P.Pause.count c.serve-report.new.pause)
-          c.loop-number.number c.loop-number.reports.items c.add.new.reports.items c.serve-report.result told c.in-Some.ensures.told each c.serve-report.ensures
+          (g.N.Listener.answers c.args.listener.now) (g.N.Listener.answers c.loop-number.listener) (g.N.Listener.answers c.serve_next.new.listener) given
+          (g.P.Pause.count c.args.pause.now) (g.P.Pause.count c.loop-number.pause) (g.P.Pause.count c.serve_next.new.pause)
+          c.loop-number.number c.loop-number.reports.items c.add.new.reports.items c.serve_next.result c.in-Some.report told each c.in-Some.is c.serve_next.ensures
           c.loop-number.invariant.number_is grown;
     }
 

@@ -1,5 +1,5 @@
-use Rattle.std.proofs.Common.{◌≡◌, ◌++◌, ℕ, ◌+◌, List, length, map, Some}
-use Rattle.asgi_server.specs.Connections.{Given, EachConnectionOnce, arrived}
+use Rattle.std.proofs.Common.{◌≡◌, ◌++◌, ◌+◌, List, length, map, Some}
+use Rattle.asgi_server.specs.Connections.{EachConnectionOnce, arrived}
 use Rattle.asgi_server.proofs.serving.serve_all.Given as goal
 
 abbrev pub invariant-loop-number : goal.invariant-loop-number

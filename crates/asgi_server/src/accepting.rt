@@ -1,0 +1,106 @@
+//! How a connection is accepted, past those that are lost and through a want of descriptors (accept(2)).
+ghost use Rattle.std.specs.Prelude.{◌≡◌};
+ghost use Rattle.std.specs.IoError.{raw_os_error, error_kind};
+ghost use Rattle.asgi_server.specs.Accepting.{fault_of, fault_of_code, fault_of_kind};
+
+use std::io::{self, ErrorKind};
+use std::net::{OpenListener, SocketAddr};
+use std::thread;
+use std::time::{Clock, Duration};
+
+/// How many connections in a row may be lost between their arrival and their being accepted.
+const LOST_IN_A_ROW: u32 = 1_000;
+
+/// How often in a row descriptors or memory may be short, and how long is waited each time, in milliseconds: ten seconds in all.
+const SHORT_IN_A_ROW: u32 = 1_000;
+
+const SHORT_WAIT: u64 = 10;
+
+/// The errors that accept(2) asks to take as "again", and those of one connection: EPERM, EINTR, EAGAIN, ENONET, EPROTO, ENOPROTOOPT,
+/// EOPNOTSUPP, ENETDOWN, ENETUNREACH, ECONNABORTED, ECONNRESET, ETIMEDOUT, EHOSTDOWN, EHOSTUNREACH.
+const PASSING: &[i32] = &[1, 4, 11, 64, 71, 92, 95, 100, 101, 103, 104, 110, 112, 113];
+
+/// Those of a want of memory or of descriptors: ENOMEM, ENFILE, EMFILE, ENOBUFS.
+const SHORT: &[i32] = &[12, 23, 24, 105];
+
+/// What a failed accept is of.
+#[derive(Clone, Copy, Debug, PartialEq, Eq)]
+pub enum Fault {
+    /// Only the connection that was to be accepted is lost, and the next one may be accepted.
+    Passing,
+    /// Descriptors or memory are short, and may be had again.
+    Short,
+    /// No connection can be accepted any more.
+    Lasting,
+}
+
+/// What a failed accept is of.
+pub fn fault_of(e: &io::Error) -> Fault
+    ensures { result ≡ fault_of (raw_os_error e.now) (error_kind e.now) }
+{
+    match e.raw_os_error() {
+        Some(code) => fault_of_code(code),
+        None => fault_of_kind(e.kind()),
+    }
+}
+
+fn fault_of_code(code: i32) -> Fault
+    ensures { result ≡ fault_of_code code }
+{
+    if PASSING.contains(&code) {
+        return Fault::Passing;
+    }
+    if SHORT.contains(&code) {
+        return Fault::Short;
+    }
+    Fault::Lasting
+}
+
+fn fault_of_kind(kind: ErrorKind) -> Fault
+    ensures { result ≡ fault_of_kind kind }
+{
+    match kind {
+        ErrorKind::ConnectionAborted => Fault::Passing,
+        ErrorKind::ConnectionReset => Fault::Passing,
+        ErrorKind::Interrupted => Fault::Passing,
+        ErrorKind::WouldBlock => Fault::Passing,
+        ErrorKind::OutOfMemory => Fault::Short,
+        _ => Fault::Lasting,
+    }
+}
+
+/// Accepts a connection. One that is lost is passed over, and a want of descriptors or memory is waited for.
+pub fn accept_on<H: Clock, L: OpenListener>(
+    clock: &H,
+    listener: &L,
+) -> io::Result<(L::Stream, SocketAddr)> {
+    for _lost in 0..LOST_IN_A_ROW {
+        match accept_in_time(clock, listener) {
+            Ok(accepted) => return Ok(accepted),
+            Err(e) => {
+                if fault_of(&e) != Fault::Passing {
+                    return Err(e);
+                }
+            }
+        }
+    }
+    listener.accept()
+}
+
+fn accept_in_time<H: Clock, L: OpenListener>(
+    clock: &H,
+    listener: &L,
+) -> io::Result<(L::Stream, SocketAddr)> {
+    for _short in 0..SHORT_IN_A_ROW {
+        match listener.accept() {
+            Ok(accepted) => return Ok(accepted),
+            Err(e) => {
+                if fault_of(&e) != Fault::Short {
+                    return Err(e);
+                }
+                thread::sleep(clock, Duration::from_millis(SHORT_WAIT));
+            }
+        }
+    }
+    listener.accept()
+}

@@ -1,0 +1,56 @@
+// A library for LD_PRELOAD: the first calls of a kind fail, as a system does at a bad moment.
+//
+// FAIL_CALL names the call: accept, setsockopt (where it asks for TCP_NODELAY), or getsockname. FAIL_ERROR is the number of its
+// error, and FAIL_TIMES how many calls fail, 1 where it is not there.
+#define _GNU_SOURCE
+#include <dlfcn.h>
+#include <errno.h>
+#include <netinet/in.h>
+#include <netinet/tcp.h>
+#include <stdlib.h>
+#include <string.h>
+#include <sys/socket.h>
+
+static long made;
+
+static int fails(const char *call)
+{
+    const char *name = getenv("FAIL_CALL"), *times = getenv("FAIL_TIMES"), *error = getenv("FAIL_ERROR");
+    if (!name || !error || strcmp(name, call) != 0 || made >= (times ? atol(times) : 1))
+        return 0;
+    made++;
+    errno = atoi(error);
+    return 1;
+}
+
+int accept4(int listener, struct sockaddr *address, socklen_t *size, int flags)
+{
+    static int (*next)(int, struct sockaddr *, socklen_t *, int);
+    if (!next)
+        next = (int (*)(int, struct sockaddr *, socklen_t *, int))dlsym(RTLD_NEXT, "accept4");
+    return fails("accept") ? -1 : next(listener, address, size, flags);
+}
+
+int accept(int listener, struct sockaddr *address, socklen_t *size)
+{
+    static int (*next)(int, struct sockaddr *, socklen_t *);
+    if (!next)
+        next = (int (*)(int, struct sockaddr *, socklen_t *))dlsym(RTLD_NEXT, "accept");
+    return fails("accept") ? -1 : next(listener, address, size);
+}
+
+int setsockopt(int socket, int level, int name, const void *value, socklen_t size)
+{
+    static int (*next)(int, int, int, const void *, socklen_t);
+    if (!next)
+        next = (int (*)(int, int, int, const void *, socklen_t))dlsym(RTLD_NEXT, "setsockopt");
+    return level == IPPROTO_TCP && name == TCP_NODELAY && fails("setsockopt") ? -1 : next(socket, level, name, value, size);
+}
+
+int getsockname(int socket, struct sockaddr *address, socklen_t *size)
+{
+    static int (*next)(int, struct sockaddr *, socklen_t *);
+    if (!next)
+        next = (int (*)(int, struct sockaddr *, socklen_t *))dlsym(RTLD_NEXT, "getsockname");
+    return fails("getsockname") ? -1 : next(socket, address, size);
+}

@@ -1,0 +1,265 @@
+#!/usr/bin/env python3
+"""What may happen to the built program as a server: calls of the system that fail, clients that take nothing, and signals.
+
+Usage: faults.py PROGRAM [TEST..]. The last line is 'N passed, M failed', and the status is 0 only with none failed.
+Calls fail by a library that is preloaded (tests/fail_once.c), which gcc builds here, and descriptors are taken away by a
+limit of the system. What accept(2) says of its errors is the source of the first table. The clients are sockets of this
+script and Python's `http.client`. Each server is started by its test, and has ended at its end.
+"""
+
+import errno
+import http.client
+import os
+import resource
+import signal
+import socket
+import subprocess
+import sys
+import tempfile
+import threading
+import time
+import unittest
+from concurrent.futures import ThreadPoolExecutor
+
+import servers
+from servers import GET, GREETING, HANDSHAKE, SECONDS, Server, read_all
+
+LIBRARY = ""
+# accept(2): a connection that is lost before it is accepted is passed over, and the next one is accepted. (The last ones are
+# pending errors of the new socket, which are to be taken as "again".)
+PASSED_OVER = [
+    "ECONNABORTED", "ECONNRESET", "EINTR", "EPERM", "EAGAIN", "ETIMEDOUT",
+    "ENETDOWN", "EPROTO", "ENOPROTOOPT", "EHOSTDOWN", "ENONET", "EHOSTUNREACH", "EOPNOTSUPP", "ENETUNREACH",
+]  # fmt: skip
+# A want that may pass.
+WAITED_FOR = ["EMFILE", "ENFILE", "ENOBUFS", "ENOMEM"]
+# The listening socket is of no use any more.
+LASTING = ["EBADF", "EINVAL", "ENOTSOCK", "EFAULT"]
+FAULT = "device fault\n"
+# How long another client may have to wait for one that holds the server: it is 9 seconds for a pong that is not taken.
+HELD = 20
+# "Any client that is refused gets its answer": the largest body that is taken, and more than that.
+MEBIBYTE = 1 << 20
+# A ping with a payload of 125 bytes, masked by zeros.
+PING = b"\x89\xfd" + bytes(4) + bytes(125)
+
+
+class Failing(Server):
+    """A server some of whose calls fail."""
+
+    def __init__(self, app, count=1, call="", error=0, times=1):
+        given = {"LD_PRELOAD": LIBRARY, "FAIL_CALL": call, "FAIL_ERROR": str(error), "FAIL_TIMES": str(times)}
+        super().__init__(app, count, env=given)
+
+
+def ask(server):
+    """What a client is answered, with its end of the connection left open: nothing where it is reset."""
+    with server.connect() as line:
+        try:
+            line.sendall(GET)
+            line.settimeout(SECONDS)
+            answer = b""
+            while not answer.endswith(GREETING) and (piece := line.recv(1 << 16)):
+                answer += piece
+            return answer
+        except ConnectionError:
+            return b""
+
+
+def is_greeted(answer):
+    return answer.startswith(b"HTTP/1.1 200 OK\r\n") and answer.endswith(GREETING)
+
+
+def asked(server):
+    """Whether a client is greeted, and how the server of one connection ended."""
+    try:
+        greeted = is_greeted(ask(server))
+    except OSError:
+        greeted = False
+    return (greeted, *server.ended())
+
+
+SERVED, ENDED = (True, ["1 1 finished"], "", 0), (False, [], FAULT, 5)
+
+
+class Faults(unittest.TestCase):
+    """Calls of the system that fail."""
+
+    def accepts(self, rows):
+        """Sees what becomes of servers whose accept fails so often, and is then asked."""
+
+        def row(given):
+            name, times, _ = given
+            with Failing("hello", call="accept", error=getattr(errno, name), times=times) as server:
+                return asked(server)
+
+        with ThreadPoolExecutor(8) as pool:
+            for (name, times, wanted), found in zip(rows, pool.map(row, rows)):
+                with self.subTest(error=name, times=times):
+                    self.assertEqual(found, wanted)
+
+    def test_a_connection_that_is_lost_is_passed_over(self):
+        self.accepts([(name, times, SERVED) for name in PASSED_OVER for times in (1, 1_000)])
+
+    def test_connections_that_are_lost_for_ever_end_the_server(self):
+        self.accepts([("EPROTO", 1_000_000, ENDED), ("ECONNABORTED", 1_000_000, ENDED)])
+
+    def test_a_want_of_descriptors_or_memory_is_waited_for(self):
+        self.accepts([(name, times, SERVED) for name in WAITED_FOR for times in (1, 50)])
+
+    def test_a_socket_that_accepts_nothing_ends_the_server(self):
+        self.accepts([(name, 1_000_000, ENDED) for name in LASTING])
+
+    def test_a_socket_that_can_not_be_made_ready_is_reported(self):
+        with Failing("hello", 2, "setsockopt", errno.EINVAL) as server:
+            self.assertEqual(ask(server), b"")
+            self.assertTrue(is_greeted(ask(server)))
+            self.assertEqual(server.ended(), (["1 0 input-broke", "2 1 finished"], "", 0))
+
+    def test_a_socket_without_a_name_is_served(self):
+        with Failing("hello", 1, "getsockname", errno.ENOBUFS) as server:
+            self.assertEqual(asked(server), SERVED)
+
+    def test_descriptors_that_come_back_are_used(self):
+        with Server("hello") as server:
+            hard = resource.prlimit(server.ran.pid, resource.RLIMIT_NOFILE)[1]
+            resource.prlimit(server.ran.pid, resource.RLIMIT_NOFILE, (3, hard))
+            with server.connect() as line:
+                line.sendall(GET)
+                time.sleep(1)
+                self.assertIsNone(server.ran.poll())
+                resource.prlimit(server.ran.pid, resource.RLIMIT_NOFILE, (hard, hard))
+                line.shutdown(socket.SHUT_WR)
+                self.assertTrue(is_greeted(read_all(line)))
+            self.assertEqual(server.ended(), (["1 1 finished"], "", 0))
+
+
+class Held(unittest.TestCase):
+    """Clients that would hold the server, or lose an answer."""
+
+    def test_a_client_that_reads_no_pongs_does_not_hold_the_server(self):
+        with Server("wsecho", 2) as server:
+            pings = socket.socket()
+            pings.setsockopt(socket.SOL_SOCKET, socket.SO_RCVBUF, 4_096)
+            pings.connect(("127.0.0.1", server.port))
+            pings.sendall(HANDSHAKE)
+            stop = threading.Event()
+
+            def send():
+                pings.settimeout(0.1)
+                while not stop.is_set():
+                    try:
+                        pings.send(PING * 1_000)
+                    except TimeoutError:
+                        continue
+                    except OSError:
+                        return
+
+            sending = threading.Thread(target=send)
+            sending.start()
+            time.sleep(2)
+            began = time.monotonic()
+            with server.connect() as line:
+                line.sendall(HANDSHAKE)
+                line.settimeout(HELD)
+                answer = line.recv(1 << 16)
+                waited = time.monotonic() - began
+                stop.set()
+                sending.join()
+                pings.close()
+            self.assertTrue(answer.startswith(b"HTTP/1.1 101 "), answer)
+            self.assertLess(waited, HELD)
+            reports, errors, status = server.ended()
+            self.assertEqual((reports[0][:4], len(reports), errors, status), ("1 1 ", 2, "", 0))
+
+    def refused(self, post):
+        """Sees that five clients that send too much are told so, and that all are reported."""
+        with Server("echo", 5) as server:
+            for _ in range(5):
+                self.assertEqual(post(server), 413)
+            reports = [f"{number} 0 refused 413" for number in range(1, 6)]
+            self.assertEqual(server.ended(), (reports, "", 0))
+
+    def test_a_body_that_is_sent_at_once_is_refused(self):
+        def post(server):
+            client = http.client.HTTPConnection("127.0.0.1", server.port, timeout=SECONDS)
+            client.request("POST", "/", body=bytes(5_000_000))
+            return client.getresponse().status
+
+        self.refused(post)
+
+    def test_a_body_that_is_sent_in_pieces_is_refused(self):
+        def pieces():
+            for _ in range(17):
+                yield bytes(65_536)
+                time.sleep(0.01)
+
+        def post(server):
+            client = http.client.HTTPConnection("127.0.0.1", server.port, timeout=SECONDS)
+            client.request("POST", "/", body=pieces(), headers={"Content-Length": str(17 * 65_536)})
+            return client.getresponse().status
+
+        self.refused(post)
+
+    def test_a_refused_client_that_sends_for_ever_is_left_after_a_second(self):
+        with Server("echo", 2) as server:
+            line = server.connect()
+            line.sendall(b"POST / HTTP/1.1\r\nHost: a\r\nContent-Length: 99999999999\r\n\r\n")
+            began, stop = time.monotonic(), threading.Event()
+
+            def send():
+                while not stop.is_set():
+                    try:
+                        line.send(bytes(1_000))
+                        time.sleep(0.005)
+                    except OSError:
+                        return
+
+            sending = threading.Thread(target=send)
+            sending.start()
+            with server.connect() as other:
+                other.sendall(b"GET / HTTP/1.0\r\n\r\n")
+                answer = read_all(other)
+            waited = time.monotonic() - began
+            stop.set()
+            sending.join()
+            line.close()
+            self.assertTrue(answer.startswith(b"HTTP/1.1 200 OK\r\n"), answer)
+            self.assertLess(waited, 2.5)
+            self.assertEqual(server.ended(), (["1 0 refused 413", "2 1 finished"], "", 0))
+
+    def test_a_signal_loses_no_report(self):
+        with Server("hello", 500) as server:
+            lines = []
+            reads = threading.Thread(target=lambda: lines.extend(server.ran.stdout))
+            reads.start()
+            for number in range(1, 21):
+                with server.connect() as line:
+                    line.sendall(GET)
+                    line.shutdown(socket.SHUT_WR)
+                    self.assertTrue(is_greeted(read_all(line)))
+                servers.wait_for(lambda number=number: len(lines) >= number, f"the report of connection {number} is not printed")
+            server.ran.send_signal(signal.SIGTERM)
+            self.assertEqual(server.ran.wait(SECONDS), -signal.SIGTERM)
+            reads.join()
+            self.assertEqual(lines, [b"%d 1 finished\n" % number for number in range(1, 21)])
+
+
+def main():
+    global LIBRARY
+    servers.PROGRAM = os.path.abspath(sys.argv[1])
+    with tempfile.TemporaryDirectory() as room:
+        LIBRARY = f"{room}/fail_once.so"
+        source = f"{os.path.dirname(os.path.realpath(__file__))}/fail_once.c"
+        subprocess.run(["gcc", "-shared", "-fPIC", "-O1", "-Wall", "-o", LIBRARY, source, "-ldl"], check=True)
+        loader = unittest.defaultTestLoader
+        loader.testNamePatterns = [f"*{it}*" for it in sys.argv[2:]] or None
+        suite = loader.loadTestsFromModule(sys.modules[__name__])
+        result = unittest.TextTestRunner(stream=sys.stdout, verbosity=2).run(suite)
+    failed = len({getattr(test, "test_case", test).id() for test, _ in [*result.failures, *result.errors]})
+    print(f"{result.testsRun - failed} passed, {failed} failed")
+    return 1 if failed or not result.testsRun else 0
+
+
+if __name__ == "__main__":
+    sys.exit(main())
