@@ -22,6 +22,7 @@ import time
 import unittest
 
 PROGRAM = ""
+TOP = os.path.dirname(os.path.dirname(os.path.realpath(__file__)))
 PYTHON = "/usr/bin/python3"
 PACKAGES = {"curl": "curl", "ab": "apache2-utils", "wrk": "wrk", "nginx": "nginx-light"}
 SECONDS = 60
@@ -107,6 +108,36 @@ def run(words, **options):
 
 def needs(name):
     return unittest.skipUnless(shutil.which(name), f"{name} can't be had")
+
+
+class Example(unittest.TestCase):
+    """The program of `crates/asgi_port_example`, as the README has it."""
+
+    @needs("curl")
+    def test_an_application_of_ones_own_is_served_on_a_port(self):
+        port = free_port()
+        ran = subprocess.Popen([f"{TOP}/crates/asgi_port_example/out/asgi_port_example", str(port), "2"], stdout=subprocess.PIPE)
+        try:
+            wait_for(lambda: listens(port) or ran.poll() is not None, "the example does not listen")
+            for path in ("/a/b", "/a%20b?q"):
+                status, output, _ = run(["curl", "-s", "-m", str(SECONDS), f"http://127.0.0.1:{port}{path}"])
+                wanted = {"/a/b": b"GET /a/b\n", "/a%20b?q": b"GET /a b\n"}[path]
+                self.assertEqual((status, output), (0, wanted))
+            told = ran.communicate(timeout=SECONDS)[0]
+            self.assertEqual((told, ran.returncode), (b"1 exchanges, finished\n" * 2, 0))
+        finally:
+            ran.kill()
+
+    def test_the_readme_has_its_main_and_its_line(self):
+        with open(f"{TOP}/README.md", encoding="utf-8") as it:
+            readme = it.read()
+        with open(f"{TOP}/crates/asgi_port_example/src/main.rt", encoding="utf-8") as it:
+            source = it.read()
+        body = re.search(r"^fn main\(.*?^}\n", source, re.M | re.S)[0]
+        with open(f"{TOP}/crates.txt", encoding="utf-8") as it:
+            [line] = [line for line in it if line.startswith("asgi_port_example ")]
+        self.assertIn(f"```rust\n{body}```\n", readme)
+        self.assertIn(f"```text\n{line}```\n", readme)
 
 
 class Program(unittest.TestCase):

@@ -63,7 +63,7 @@ fn are_answered<N: Net + Clock + AllocGlobal>(rt: &N, port: u16) -> io::Result<b
 }
 
 /// Whether two connections of the port are served to their end.
-fn serves<N: Net + AllocGlobal + RandomSource>(rt: &N, port: u16) -> io::Result<bool> {
+fn serves<N: Net + Clock + AllocGlobal + RandomSource>(rt: &N, port: u16) -> io::Result<bool> {
     let state = State::new(rt.alloc());
     let mut listener = Sockets::new(rt, rt.alloc(), port, 2);
     let reports = serve(rt, &Echo, &state, &mut listener)?;
