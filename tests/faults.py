@@ -1,16 +1,23 @@
 #!/usr/bin/env python3
 """What may happen to the built program as a server: calls of the system that fail, clients that take nothing, and signals.
 
-Usage: faults.py PROGRAM [TEST..]. The last line is 'N passed, M failed', and the status is 0 only with none failed.
+Usage: faults.py PROGRAM [TEST..], or faults.py --edits [NAME..]. The last line is 'N passed, M failed', and the status is 0
+only with none failed.
 Calls fail by a library that is preloaded (tests/fail_once.c), which gcc builds here, and descriptors are taken away by a
 limit of the system. What accept(2) says of its errors is the source of the first table. The clients are sockets of this
 script and Python's `http.client`. Each server is started by its test, and has ended at its end.
+
+--edits: tries the edits of tests/faults, which no clause can see: each takes a cure back. The program is proved and built anew
+with each in a copy of this tree, over the work that a check kept here, and the test that the edit names must fail. It takes
+minutes an edit, and is no part of the gate.
 """
 
 import errno
 import http.client
 import os
+import re
 import resource
+import shutil
 import signal
 import socket
 import subprocess
@@ -24,6 +31,7 @@ from concurrent.futures import ThreadPoolExecutor
 import servers
 from servers import GET, GREETING, HANDSHAKE, SECONDS, Server, read_all
 
+TOP = os.path.dirname(os.path.dirname(os.path.realpath(__file__)))
 LIBRARY = ""
 # accept(2): a connection that is lost before it is accepted is passed over, and the next one is accepted. (The last ones are
 # pending errors of the new socket, which are to be taken as "again".)
@@ -211,7 +219,7 @@ class Held(unittest.TestCase):
                 while not stop.is_set():
                     try:
                         line.send(bytes(1_000))
-                        time.sleep(0.005)
+                        time.sleep(0.001)
                     except OSError:
                         return
 
@@ -245,8 +253,44 @@ class Held(unittest.TestCase):
             self.assertEqual(lines, [b"%d 1 finished\n" % number for number in range(1, 21)])
 
 
+def try_edit(name):
+    """Returns what is wrong with an edit of tests/faults: its test does not fail with it, or nothing can be built."""
+    with open(f"{TOP}/tests/faults/{name}.edit", encoding="utf-8") as it:
+        test, file, old, new = re.fullmatch(r"fails: (\w+)\nfile: (\S+)\nold: (.*)\nnew: (.*)\n", it.read()).groups()
+    with tempfile.TemporaryDirectory() as room:
+        shutil.copytree(TOP, f"{room}/tree", ignore=shutil.ignore_patterns(".git"), copy_function=shutil.copy2)
+        with open(f"{room}/tree/{file}", encoding="utf-8") as it:
+            text = it.read()
+        if text.count(old) != 1:
+            return f"its old text is in {file} {text.count(old)} times"
+        with open(f"{room}/tree/{file}", "w", encoding="utf-8") as it:
+            it.write(text.replace(old, new))
+        program = f"{room}/tree/crates/asgi_demo/out/asgi_demo"
+        if os.path.exists(program):
+            os.remove(program)
+        built = subprocess.run(["rt", "run"], cwd=f"{room}/tree/crates/asgi_demo", stdin=subprocess.DEVNULL, capture_output=True, check=False)
+        if not os.path.exists(program):
+            return f"no program is built with it: {(built.stdout + built.stderr).decode(errors='replace')[-500:]}"
+        tried = subprocess.run([sys.executable, __file__, program, test], capture_output=True, check=False)
+        said = tried.stdout.decode().rstrip("\n").rpartition("\n")[2]
+        return None if said == "0 passed, 1 failed" else f"{test} says: {said}"
+
+
+def try_edits(names):
+    names = names or sorted(it.removesuffix(".edit") for it in os.listdir(f"{TOP}/tests/faults"))
+    failed = 0
+    for name in names:
+        why = try_edit(name)
+        print(f"{name}: {why or 'its test fails, as it must'}", flush=True)
+        failed += why is not None
+    print(f"{len(names) - failed} passed, {failed} failed")
+    return 1 if failed or not names else 0
+
+
 def main():
     global LIBRARY
+    if sys.argv[1:2] == ["--edits"]:
+        return try_edits(sys.argv[2:])
     servers.PROGRAM = os.path.abspath(sys.argv[1])
     with tempfile.TemporaryDirectory() as room:
         LIBRARY = f"{room}/fail_once.so"
