@@ -129,9 +129,11 @@ class Faults(unittest.TestCase):
             self.assertEqual(asked(server), SERVED)
 
     def test_descriptors_that_come_back_are_used(self):
-        with Server("hello") as server:
+        with Server("hello", 2) as server:
             hard = resource.prlimit(server.ran.pid, resource.RLIMIT_NOFILE)[1]
             resource.prlimit(server.ran.pid, resource.RLIMIT_NOFILE, (3, hard))
+            # The accept that waits has its descriptor already; the next one finds none.
+            self.assertTrue(is_greeted(ask(server)))
             with server.connect() as line:
                 line.sendall(GET)
                 time.sleep(1)
@@ -139,7 +141,7 @@ class Faults(unittest.TestCase):
                 resource.prlimit(server.ran.pid, resource.RLIMIT_NOFILE, (hard, hard))
                 line.shutdown(socket.SHUT_WR)
                 self.assertTrue(is_greeted(read_all(line)))
-            self.assertEqual(server.ended(), (["1 1 finished"], "", 0))
+            self.assertEqual(server.ended(), (["1 1 finished", "2 1 finished"], "", 0))
 
 
 class Held(unittest.TestCase):
