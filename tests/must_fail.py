@@ -47,7 +47,7 @@ MEMORY, SECONDS = 2_000_000_000, 12
 # The most edits that are tried in one check. Of 24 edits of asgi_types each took 6.1 processor seconds, of 12 each 7.5, and one alone 23.
 AT_ONCE = 24
 # How many checks of edits go beside those of `rt ci`, and the free memory that one is to find, of which it leaves half to a proof.
-BESIDE, FREE = 2, 3 * MEMORY
+BESIDE, FREE = 3, 3 * MEMORY
 
 
 def part_of(text):
@@ -141,19 +141,20 @@ def asked_for(edit, folder):
 
 
 def groups_of(edits, folder):
-    """Returns the edits in groups: those of a group change bodies of different functions, and one that can't be told so stands alone."""
-    alone, groups = [], []
+    """Returns the edits in as few groups as can be: those of a group change bodies of different functions, and one that can't be told so stands alone."""
+    alone, by_function = [], {}
     for edit in edits:
         if not changes_of(edit, folder):
             alone.append([edit])
             continue
         # One method may be named with its module, and without.
-        function = re.sub(r"^.*?(?=[A-Z])", "", asked_for(edit, folder))
-        group = next((it for it in groups if len(it) < AT_ONCE and function not in it), None)
-        if group is None:
-            groups.append(group := {})
-        group[function] = edit
-    return [[*it.values()] for it in groups] + alone
+        by_function.setdefault(re.sub(r"^.*?(?=[A-Z])", "", asked_for(edit, folder)), []).append(edit)
+    number = sum(map(len, by_function.values()))
+    groups = [[] for _ in range(max([-(-number // AT_ONCE), *map(len, by_function.values())]))]
+    for own in sorted(by_function.values(), key=len, reverse=True):
+        for group, edit in zip(sorted(groups, key=len), own):
+            group.append(edit)
+    return [it for it in groups if it] + alone
 
 
 def texts_of(edits, folder):
