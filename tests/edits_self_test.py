@@ -9,6 +9,7 @@ sees which edits are due. The last line is 'N passed, M failed'.
 import contextlib
 import io
 import os
+import subprocess
 import sys
 import tempfile
 import time
@@ -268,9 +269,38 @@ def beside(rt):
             yield None if is_right else f"beside a run that proved {sorted(proved)} are tried {tried}, and then {left}"
 
 
+def grouped():
+    """Yields what is wrong, or None, of the groups in which a repository's edits are tried: each edit is in one, which has one at most of each function, and
+    no more than may be tried at once."""
+    folder = f"{must_fail.TOP}/tests/edits"
+    for name in sorted(os.listdir(folder)):
+        crate = f"{must_fail.TOP}/crates/{name}"
+        edits = sorted(f"{folder}/{name}/{it}" for it in os.listdir(f"{folder}/{name}") if it.endswith(".edit"))
+        groups = must_fail.groups_of(edits, crate)
+        functions = [[must_fail.promised(it)[0].split("::")[-2:] for it in group] for group in groups]
+        is_right = sorted(sum(groups, [])) == edits and all(len(it) <= must_fail.AT_ONCE for it in groups)
+        is_right &= all(own.count(it) == 1 for own in functions for it in own)
+        yield None if is_right else f"the groups of {name} are {groups}"
+
+
+# A run beside another one, which says whether it was told within half a second that the other one has ended.
+TOLD = "import must_fail; print(must_fail.end_of_input().wait(0.5))"
+
+
+def told():
+    """Yields what is wrong, or None, of what a run beside another one is told: nothing while its input is open, and it ends well then too, and the end
+    once its input has ended."""
+    tests = os.path.dirname(os.path.realpath(__file__))
+    for what, given, wanted in (("is open", subprocess.PIPE, "False\n"), ("has ended", subprocess.DEVNULL, "True\n")):
+        how = {"cwd": tests, "stdin": given, "stdout": subprocess.PIPE, "stderr": subprocess.STDOUT, "text": True}
+        with subprocess.Popen([sys.executable, "-c", TOLD], **how) as ran:
+            status, said = ran.wait(), ran.stdout.read()
+        yield None if (status, said) == (0, wanted) else f"a run whose input {what} has the status {status}, and says {said!r}"
+
+
 def main():
     rt = load_rt()
-    found = [*changed(rt), *faulty(rt), *draws(rt), *beside(rt), *try_small(rt)]
+    found = [*changed(rt), *faulty(rt), *draws(rt), *beside(rt), *grouped(), *told(), *try_small(rt)]
     failed = [it for it in found if it]
     for it in failed:
         print(f"FAILED: self-test: {it}")

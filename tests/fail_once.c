@@ -1,12 +1,13 @@
 // A library for LD_PRELOAD: the first calls of a kind fail, as a system does at a bad moment.
 //
-// FAIL_CALL names the call: accept, setsockopt (where it asks for TCP_NODELAY), or getsockname. FAIL_ERROR is the number of its
-// error, and FAIL_TIMES how many calls fail, 1 where it is not there.
+// FAIL_CALL names the call: accept, setsockopt (where it asks for TCP_NODELAY), getsockname, or pthread_create. FAIL_ERROR is the
+// number of its error, and FAIL_TIMES how many calls fail, 1 where it is not there.
 #define _GNU_SOURCE
 #include <dlfcn.h>
 #include <errno.h>
 #include <netinet/in.h>
 #include <netinet/tcp.h>
+#include <pthread.h>
 #include <stdlib.h>
 #include <string.h>
 #include <sys/socket.h>
@@ -53,4 +54,12 @@ int getsockname(int socket, struct sockaddr *address, socklen_t *size)
     if (!next)
         next = (int (*)(int, struct sockaddr *, socklen_t *))dlsym(RTLD_NEXT, "getsockname");
     return fails("getsockname") ? -1 : next(socket, address, size);
+}
+
+int pthread_create(pthread_t *thread, const pthread_attr_t *how, void *(*does)(void *), void *with)
+{
+    static int (*next)(pthread_t *, const pthread_attr_t *, void *(*)(void *), void *);
+    if (!next)
+        next = (int (*)(pthread_t *, const pthread_attr_t *, void *(*)(void *), void *))dlsym(RTLD_NEXT, "pthread_create");
+    return fails("pthread_create") ? errno : next(thread, how, does, with);
 }

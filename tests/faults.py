@@ -128,6 +128,15 @@ class Faults(unittest.TestCase):
         with Failing("hello", 1, "getsockname", errno.ENOBUFS) as server:
             self.assertEqual(asked(server), SERVED)
 
+    def test_a_thread_that_is_refused_is_told_of_its_connection_alone(self):
+        for times in (1, 3):
+            with self.subTest(times=times), Failing("hello", times + 1, "pthread_create", errno.EAGAIN, times) as server:
+                for _ in range(times):
+                    self.assertEqual(ask(server), b"")
+                self.assertTrue(is_greeted(ask(server)))
+                lines = [f"{number} 0 no-thread" for number in range(1, times + 1)]
+                self.assertEqual(server.ended(), ([*lines, f"{times + 1} 1 finished"], "", 0))
+
     def test_descriptors_that_come_back_are_used(self):
         with Server("hello", 2) as server:
             hard = resource.prlimit(server.ran.pid, resource.RLIMIT_NOFILE)[1]

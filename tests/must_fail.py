@@ -148,7 +148,7 @@ def groups_of(edits, folder):
             alone.append([edit])
             continue
         # One method may be named with its module, and without.
-        by_function.setdefault(re.sub(r"^.*?(?=[A-Z])", "", asked_for(edit, folder)), []).append(edit)
+        by_function.setdefault(re.sub(r"^[^A-Z]*(?=[A-Z])", "", asked_for(edit, folder)), []).append(edit)
     number = sum(map(len, by_function.values()))
     groups = [[] for _ in range(max([-(-number // AT_ONCE), *map(len, by_function.values())]))]
     for own in sorted(by_function.values(), key=len, reverse=True):
@@ -408,7 +408,8 @@ def end_of_input():
     ended = threading.Event()
 
     def read():
-        while sys.stdin.buffer.read(1 << 16):
+        # Not through sys.stdin: where all edits are tried before the input ends, the end of the program would wait for its lock, and fail.
+        while os.read(0, 1 << 16):
             pass
         ended.set()
 

@@ -11,6 +11,7 @@ import asyncio
 import contextlib
 import http.client
 import os
+import random
 import re
 import shutil
 import socket
@@ -18,6 +19,7 @@ import struct
 import subprocess
 import sys
 import tempfile
+import threading
 import time
 import unittest
 
@@ -37,9 +39,19 @@ HANDSHAKE = (
 )
 
 
+# The ports that servers of these tests are given: below those that the system gives to clients (ip(7), ip_local_port_range), each once.
+FIRST_OF_CLIENTS = 32_768
+PORTS = iter(random.sample(range(10_000, FIRST_OF_CLIENTS), FIRST_OF_CLIENTS - 10_000))
+NEXT_PORT = threading.Lock()
+
+
 def free_port():
-    with socket.create_server(("127.0.0.1", 0)) as it:
-        return it.getsockname()[1]
+    """A port that nothing uses, which no other call of this run is given, and no client that connects meanwhile."""
+    with NEXT_PORT:
+        for port in PORTS:
+            with contextlib.suppress(OSError), socket.create_server(("127.0.0.1", port)):
+                return port
+    raise OSError("no port is free")
 
 
 def listens(port):

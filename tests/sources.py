@@ -20,11 +20,11 @@ import sys
 TOP = os.path.dirname(os.path.dirname(os.path.realpath(__file__)))
 # Where an `AllocError` is built: with no growth refused, for a number of bytes or places that no `usize` says; and where a
 # push was refused, whose error is the element.
-BUILDS = {"crates/asgi_apps/src/mounts.rt": 1, "crates/asgi_pipes/src/plain.rt": 1, "crates/asgi_response/src/append.rt": 1}
+BUILDS = {"crates/asgi_apps/src/mounts.rt": 1, "crates/asgi_pipes/src/plain.rt": 1, "crates/asgi_pipes/src/rings.rt": 1, "crates/asgi_response/src/append.rt": 1}
 # Where an answer is thrown away: what can't be written on standard error can be told nowhere.
 THROWS = {"crates/asgi_demo/src/telling.rt": 1}
-# A value of the type: not where it is brought in, nor the end of a type's arguments, nor the field that an error keeps.
-BUILT = re.compile(r"(?<!\] )\bAllocError\b(?!>)")
+# A value of the type: not where it is brought in, nor the end of a type's arguments, nor the field that an error keeps, nor a parameter that is not read.
+BUILT = re.compile(r"(?<!\] )(?<!_: )\bAllocError\b(?!>)")
 GROWS = re.compile(r"\b(with_capacity|reserve|reserve_exact|shrink_to|shrink_to_fit)\s*\(")
 CLAUSE = re.compile(r"\b(ensures|requires|ghost|measure)\b")
 

@@ -243,7 +243,7 @@ struct Pair {
 }
 
 fn pair_of(alloc: Global, kind: Kind, offered: &[Offered]) -> Result<Pair, AllocError>
-    ensures { IfOk result (λ made. (made.app.kind ≡ kind) × (made.app.heard.items ≡ []) × (made.app.said.items ≡ []) × (made.app.ended ≡ None)) }
+    ensures { IfOk result (λ made. (made.app.state.kind ≡ kind) × (made.app.state.heard.items ≡ []) × (made.app.state.said.items ≡ []) × (made.app.state.ended ≡ None)) }
 {
     let (mut conn, mut app) = Plain.make(alloc, kind, facts(alloc), 16)?;
     offer(&mut conn, event_of(alloc, at(offered, 0)));
@@ -289,8 +289,8 @@ fn is_told<T: AppTask>(
     pair: Pair,
     expected: &str,
 ) -> Result<bool, AllocError>
-    requires open { pair.app.ended ≡ None }
-    requires stands { T.stands task pair.app.kind pair.app.heard.items pair.app.said.items }
+    requires open { pair.app.state.ended ≡ None }
+    requires stands { T.stands task pair.app.state.kind pair.app.state.heard.items pair.app.state.said.items }
     ensures { Keeps cx.old cx.new }
 {
     let Pair { mut conn, app } = pair;

@@ -1,5 +1,5 @@
 -- One request is answered: its exchange is behind those before it, and the connection rests or has ended.
-use Rattle.std.proofs.Common.{◌≡◌, ℕ, ◌+◌, List, [], ◌∷◌, ◌++◌, inl, inr, refl, sym, ap, ◌∙◌, append-nil, subst, Option, Some, None, IsSomeAnd}
+use Rattle.std.proofs.Common.{◌≡◌, ℕ, ◌+◌, List, [], ◌∷◌, ◌++◌, inl, inr, sym, ap, ◌∙◌, append-nil, subst, Option, Some, None, IsSomeAnd}
 use Rattle.asgi_types.specs.declared.end_kind.EndKind.{EndKind}
 use Rattle.asgi_types.specs.declared.facts.Facts.{Facts}
 use Rattle.asgi_types.specs.declared.incoming.Incoming.{Incoming}
@@ -16,7 +16,9 @@ use Rattle.asgi_exchange.specs.HttpExchange.{IsHttpExchange}
 use Rattle.asgi_exchange.specs.Views.{said_of}
 use Rattle.asgi_exchange.proofs.HttpExchangeLemmas.{in_words}
 use Rattle.asgi_conversation.specs.declared.report.Outcome.{Outcome}
-use Rattle.asgi_conversation.specs.declared.report.Outcome.TheVariants.{NoMemory}
+use Rattle.asgi_conversation.specs.OutcomeClasses.{IsLacking}
+use Rattle.asgi_conversation.specs.declared.input.InputEnd.{InputEnd}
+use Rattle.asgi_conversation.proofs.LoopLemmas.{lacks_between}
 use Rattle.asgi_conversation.specs.Exchanges.{Exchanged, fault_of, fault_count}
 use Rattle.asgi_conversation.specs.Persistence.{Converses, EndsBetween}
 use Rattle.asgi_conversation.specs.Promised.{IsPromised, ArePromised, task_end}
@@ -30,9 +32,9 @@ use Rattle.asgi_conn.specs.declared.runner.AppSide.TheVariants.{Runs, HasEnded}
 use Rattle.asgi_conn.specs.declared.tally.Tally.{Tally}
 use Rattle.asgi_conn.specs.declared.wire.Wire.{Wire}
 use Rattle.asgi_conn.specs.contracts.exchange_half.ConnHalfHalf.TheImpl as http_half
-use Rattle.asgi_conn.specs.Half.{Scene}
+use Rattle.asgi_conn.specs.Half.{Scene, failures_as, failures_of}
 use Rattle.asgi_conn.specs.HalfSteps.{Opens}
-use Rattle.asgi_conn.specs.Lines.{LineState}
+use Rattle.asgi_conn.specs.Lines.{LineState, HasMoved}
 use Rattle.asgi_conn.specs.Loop.{IsAt, IsTallied, Serving, IsLeft}
 use Rattle.asgi_conn.specs.Running.{OfEnd, IsOfRequest, IsOpened, HasRun}
 use Rattle.asgi_conn.proofs.HttpEndLemmas.{http_ends}
@@ -111,22 +113,28 @@ module _ {T E : Type 0} (promise : Scope → List Incoming → List Outgoing →
     stands = stands_at at left;
   }
 
--- ---- want of memory, before the application is called
+-- ---- memory or a thread is refused, before the application is called
+
+-- no write failed
+pub lacks_moved : (start now : LineState) (end : InputEnd) (read written : List ℕ) (outcome : Outcome) → IsLacking outcome → HasMoved start now end read written 0
+    → HasMoved start now end read written (failures_of outcome)
+lacks_moved start now end read written outcome (inl is) moved = subst (λ (n : ℕ). HasMoved start now end read written n) (sym (ap failures_as is)) moved
+lacks_moved start now end read written outcome (inr is) moved = subst (λ (n : ℕ). HasMoved start now end read written n) (sym (ap failures_as is)) moved
 
 pub serves_short : (promise : Scope → List Incoming → List Outgoing → Option EndKind → Type 0) (client server : Option Peer) (state : List (List ℕ × StateValue)) (scene : Scene) (now : LineState)
     (wire : Wire) (facts : Facts) (read arrived : List ℕ) (tally : Tally) → Opens scene now wire facts read arrived
-    → ArePromised promise client server state scene.exchanges → IsTallied tally scene.exchanges
-    → Serving promise wire.limits client server state scene.start now tally (Ended NoMemory)
-serves_short promise client server state scene now wire facts read arrived tally opens promised tallied = record {
+    → ArePromised promise client server state scene.exchanges → IsTallied tally scene.exchanges → (outcome : Outcome) → IsLacking outcome
+    → Serving promise wire.limits client server state scene.start now tally (Ended outcome)
+serves_short promise client server state scene now wire facts read arrived tally opens promised tallied outcome lacks = record {
   read = read;
   written = scene.before;
   exchanges = scene.exchanges;
   promised = promised;
   counted = tallied;
-  stands = http_ends wire.limits scene.start now wire.input read scene.exchanges scene.before NoMemory opens.moved
+  stands = http_ends wire.limits scene.start now wire.input read scene.exchanges scene.before outcome (lacks_moved scene.start now wire.input read scene.before outcome lacks opens.moved)
       (λ report o c.
       let one = opens.within.one in
-      let ends : EndsBetween report.outcome wire.limits wire.input one.behind [] = subst (λ (q : Outcome). EndsBetween q wire.limits wire.input one.behind []) (sym o) refl in
+      let ends : EndsBetween report.outcome wire.limits wire.input one.behind [] = lacks_between wire.limits wire.input one.behind report.outcome (subst (λ (q : Outcome). IsLacking q) (sym o) lacks) in
       subst (λ (l : List ℕ). Converses wire.limits wire.input read scene.exchanges l report) (append-nil scene.before)
       (ends_between wire.limits wire.input read scene.exchanges one.behind scene.before [] report one.so_far ends c)) opens.ahead;
 }

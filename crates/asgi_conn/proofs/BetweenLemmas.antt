@@ -32,6 +32,7 @@ use Rattle.asgi_response.specs.Exchange.{refusal_text}
 use Rattle.asgi_conversation.specs.declared.input.InputEnd.TheVariants.{AtEnd, Failed}
 use Rattle.asgi_conversation.specs.declared.report.Outcome.{Outcome}
 use Rattle.asgi_conversation.specs.declared.report.Outcome.TheVariants.{Finished, Refused, InputBroke, WriteFailed, Idle, NoMemory}
+use Rattle.asgi_conversation.specs.OutcomeClasses.{IsLacking}
 use Rattle.asgi_conversation.specs.Behind.{IsBlank}
 use Rattle.asgi_conversation.specs.Exchanges.{Exchanged, requests_of}
 use Rattle.asgi_conversation.specs.SoFar.{Between}
@@ -65,6 +66,9 @@ all_whole limits bytes (results ∷ requests) rest are = by (all_whole limits ar
 
 pub ends_whole : (limits : Limits) (bytes : List ℕ) (given : List Next) (behind : List ℕ) → HasClosed limits bytes given behind → EndsWhole given
 ends_whole limits bytes given behind x = subst EndsWhole (sym x.2) (all_whole limits bytes x.0 behind x.1)
+
+no_memory : (outcome : Outcome) → outcome ≡ NoMemory → IsLacking outcome
+no_memory outcome is = subst (λ (q : Outcome). IsLacking q) (sym is) (inl refl)
 
 module _ (reader : Reading) (bytes : List ℕ) (given : List Next) (behind : List ℕ) (x : HasClosed reader.limits bytes given behind) (stands : StandsFor reader bytes given) where
   at_start : reader.place ≡ Start
@@ -152,7 +156,7 @@ module _ (limits : Limits) (start now : LineState) (wire : Wire) (read : List �
       http_ends limits start now wire.input read exchanges written Idle x.moved (λ report o c. loop.idle limits wire.input read given exchanges behind written report x.between c g.0 g.1 o) x.ahead
 
   pub ends_short : EndsSo limits start now read exchanges written NoMemory
-  ends_short = http_ends limits start now wire.input read exchanges written NoMemory x.moved (λ report o c. loop.no_memory limits wire.input read given exchanges behind written report x.between c o) x.ahead
+  ends_short = http_ends limits start now wire.input read exchanges written NoMemory x.moved (λ report o c. loop.lacking limits wire.input read given exchanges behind written report x.between c (no_memory report.outcome o)) x.ahead
 
   pub ends_finished : AllGiven wire.requests read given → wire.input ≡ AtEnd → IsBlank behind → EndsSo limits start now read exchanges written Finished
   ends_finished all at blank =
@@ -233,4 +237,4 @@ module _ (limits : Limits) (start now : LineState) (wire : Wire) (read : List �
     pub ends_fed_short : EndsSo limits start next (read ++ more) exchanges written NoMemory
     ends_fed_short =
         http_ends limits start next later.input (read ++ more) exchanges written NoMemory moved
-        (λ report o c. loop.no_memory limits later.input (read ++ more) given exchanges (behind ++ more) written report further c o) ahead_of
+        (λ report o c. loop.lacking limits later.input (read ++ more) given exchanges (behind ++ more) written report further c (no_memory report.outcome o)) ahead_of

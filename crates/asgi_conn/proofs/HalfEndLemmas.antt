@@ -63,7 +63,8 @@ use Rattle.asgi_conn.specs.HalfSteps.{KeepsBesidesBody, GivesOn, GivesBehind, Ha
 use Rattle.asgi_conn.specs.Lines.{LineState, HasMoved, how_wrote, piece_size}
 use Rattle.asgi_conn.specs.ReadAhead.{ReadsAhead}
 use Rattle.asgi_conversation.specs.Persistence.{InHand, Beginning, Saying, Ending, StopsWithin}
-use Rattle.asgi_conversation.specs.TaskEnds.{has_ended, is_faulty, is_cut, unanswered, incomplete, kept, after_response, after_task}
+use Rattle.asgi_conversation.specs.OutcomeClasses.{is_cut, cuts_exchange}
+use Rattle.asgi_conversation.specs.TaskEnds.{has_ended, is_faulty, unanswered, incomplete, kept, after_response, after_task}
 use Rattle.asgi_conn.proofs.HalfLemmas.{not_written, unfailed}
 use Rattle.asgi_conn.proofs.LineLemmas.{moved_by_write, tries_front}
 use Rattle.asgi_conn.proofs.ReadAheadLemmas.{reads_in, within_reads}
@@ -119,7 +120,7 @@ not_true true n = absurd (n refl)
 
 module _ (scene : Scene) (now : LineState) (half : ConnHalf) (read : List ℕ) (view : ConnView ℕ ℕ) (x : Stands scene now half read view) where
   -- the connection is cut short where it stands
-  pub cut_here : (out : Outcome) → failures_at half.stage ≡ 0 → failures_of out ≡ 0 → is_cut out ≡ true → ((n : ℕ) → out ≡ outcome.WriteFailed n → ⊥)
+  pub cut_here : (out : Outcome) → failures_at half.stage ≡ 0 → failures_of out ≡ 0 → cuts_exchange out ≡ true → ((n : ℕ) → out ≡ outcome.WriteFailed n → ⊥)
       → Stands scene now (record half { stage = stage.Over (ConnectionEnds out) }) read view
   cut_here out none unfailing cut other = record {
     moved = subst (λ (n : ℕ). HasMoved scene.start now half.wire.input read (scene.before ++ view.written) n) (none ∙ sym unfailing) x.moved;

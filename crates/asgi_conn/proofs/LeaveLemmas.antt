@@ -26,7 +26,8 @@ use Rattle.asgi_conversation.specs.declared.report.Report.{Report}
 use Rattle.asgi_conversation.specs.Exchanges.{Exchanged, IsFollowed, requests_of}
 use Rattle.asgi_conversation.specs.Persistence.{CountsExchanges, Converses, InHand, Beginning, Saying, Ending, StopsWithin}
 use Rattle.asgi_conversation.specs.SoFar.{exchanged, Between, TaskIsOver, IsCutBy}
-use Rattle.asgi_conversation.specs.TaskEnds.{is_cut, after_task}
+use Rattle.asgi_conversation.specs.OutcomeClasses.{is_cut, cuts_exchange}
+use Rattle.asgi_conversation.specs.TaskEnds.{after_task}
 use Rattle.asgi_conversation.proofs.LoopLemmas.{keeps_on}
 use Rattle.asgi_conversation.proofs.RequestLemmas.{requests_join}
 use Rattle.asgi_conversation.proofs.SoFarLemmas.{taken_whole, end_put, ends_by_task, ends_cut}
@@ -126,7 +127,7 @@ module _ (limits : Limits) (scene : Scene) (now : LineState) (half : ConnHalf) (
       let back = sym o in
       ends_cut half.wire.limits half.wire.input read scene.exchanges scene.before scene.scope scene.facts w
       (body_events half.wire.limits scene.facts.framing w.conn.arrived) state report s.within.one i
-      (body_is_read half.wire.limits scene.facts.framing w.conn.arrived) s.breaks (subst (λ (q : Outcome). is_cut q ≡ true) back t.cut)
+      (body_is_read half.wire.limits scene.facts.framing w.conn.arrived) s.breaks (subst (λ (q : Outcome). cuts_exchange q ≡ true) back t.cut)
       (λ n e. stops_within n (input_of state) w.conn.written (t.stops n (back ∙ e))) c
 
   ended : (outcome : Outcome) → EndsByTask scene half w.conn outcome ⊎ IsCutShort scene half w.conn outcome → (report : Report) → report.outcome ≡ outcome → CountsExchanges report after

@@ -18,6 +18,7 @@ pub mod HalfEndLemmas
 pub mod SessionOfferLemmas
 pub mod HttpHalfLemmas
 pub mod InlineLemmas
+pub mod ApartLemmas
 pub mod LeaveLemmas
 pub mod PromiseLemmas
 pub mod AnswerLemmas

@@ -1,5 +1,5 @@
 -- An event of a denial is said that the judge has passed: wherever the half of a session stood, it stands again.
-use Rattle.std.proofs.Common.{◌≡◌, ℕ, ◌<◌, Bool, true, false, List, [], ◌∷◌, ◌++◌, length, take, drop, refl, sym, ap, ◌∙◌, subst, append_assoc, Option, None, map, Result, Ok, Err, OnOk}
+use Rattle.std.proofs.Common.{◌≡◌, ℕ, ◌<◌, true, false, List, [], ◌∷◌, ◌++◌, length, take, drop, refl, sym, ap, ◌∙◌, subst, append_assoc, Option, None, map, Result, Ok, Err, OnOk}
 use Rattle.std.specs.Io.KnownBytes.{Appends}
 use Rattle.std.specs.Result.{is_err}
 use Rattle.std.proofs.lemmas.List.{append-nil, length-map, map-append, take-map, take-append-drop}
@@ -30,7 +30,7 @@ use Rattle.asgi_conversation.specs.Sessions.{handshake_of, Saying}
 use Rattle.asgi_conn.specs.declared.half.Stage.{Stage}
 use Rattle.asgi_conn.specs.declared.half.Stage.TheVariants.{Running, Cut}
 use Rattle.asgi_conn.specs.declared.session_half.Answered.{Answered}
-use Rattle.asgi_conn.specs.declared.session_half.Answered.TheVariants.{Unanswered, Open}
+use Rattle.asgi_conn.specs.declared.session_half.Answered.TheVariants.{Unanswered}
 use Rattle.asgi_conn.specs.declared.session_half.Due.{Due}
 use Rattle.asgi_conn.specs.declared.session_half.Due.TheVariants as due
 use Rattle.asgi_conn.specs.declared.session_half.SessionHalf.{SessionHalf}

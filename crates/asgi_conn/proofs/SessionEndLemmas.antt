@@ -1,9 +1,8 @@
 -- A session ends with its task: what the end adds is written, and the connection ends as it says.
-use Rattle.std.proofs.Common.{◌≡◌, ℕ, ◌<◌, Bool, true, false, ◌⊎◌, inl, inr, List, [], ◌∷◌, ◌++◌, length, take, drop, refl, sym, ap, ◌∙◌, subst, append_assoc, Option, Some, None, map, arith}
+use Rattle.std.proofs.Common.{◌≡◌, ℕ, ◌<◌, Bool, true, false, ◌⊎◌, inl, inr, List, [], ◌∷◌, ◌++◌, length, take, drop, refl, sym, ap, ◌∙◌, subst, append_assoc, Option, Some, map, arith}
 use Rattle.std.specs.Prelude.{if◌then◌else◌}
 use Rattle.std.specs.Io.KnownBytes.{Appends}
 use Rattle.std.proofs.lemmas.List.{append-nil, length-map, map-append, take-map, take-append-drop}
-use mathlib.Core.List.{IsPrefix}
 use Rattle.asgi_io.specs.declared.write.Wrote.TheVariants as wrote
 use Rattle.asgi_io.specs.Counting.{RoseBy}
 use Rattle.asgi_io.specs.Writing.{TriesWrites}
@@ -32,7 +31,6 @@ use Rattle.asgi_ws.specs.declared.messages.Put.{Put}
 use Rattle.asgi_ws.specs.declared.messages.Put.TheVariants as put
 use Rattle.asgi_ws.specs.Sessions.{taken_by, has_failed, count_after}
 use Rattle.asgi_exchange.specs.Items.{end_of}
-use Rattle.asgi_exchange.specs.Messages.{has_close}
 use Rattle.asgi_exchange.specs.Session.{Output, Byte, Message, accepted_session, ending_of, session_ending}
 use Rattle.asgi_exchange.specs.SessionExchange.{ending_behind, session_text}
 use Rattle.asgi_exchange.specs.Steps.{is_by_input}
@@ -48,7 +46,7 @@ use Rattle.asgi_conn.specs.declared.session_half.Answered.TheVariants.{Unanswere
 use Rattle.asgi_conn.specs.declared.session_half.SessionHalf.{SessionHalf}
 use Rattle.asgi_conn.specs.Half.{failures_of}
 use Rattle.asgi_conn.specs.Lines.{LineState, how_wrote}
-use Rattle.asgi_conn.specs.SessionHalf.{SessionScene, Stands, Talks, EndsByTask, IsAt, IsCarried, IsCarrying, IsCutShort, IsSilent, answer_to, exchange_of, known, outcome_behind, output_in, said_in, talk_in, text_failures}
+use Rattle.asgi_conn.specs.SessionHalf.{SessionScene, Stands, Talks, EndsByTask, IsAt, IsCarried, IsSilent, answer_to, exchange_of, known, outcome_behind, output_in, said_in, talk_in, text_failures}
 use Rattle.asgi_conn.specs.Talking.{TalksOn}
 use Rattle.asgi_conn.proofs.LineLemmas.{tries_front}
 use Rattle.asgi_conn.proofs.TalkLemmas.{LeavesText, talk_written, talk_sent}

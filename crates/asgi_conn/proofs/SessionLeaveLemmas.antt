@@ -24,18 +24,18 @@ use Rattle.asgi_ws.specs.declared.messages.Handed.{Handed}
 use Rattle.asgi_ws.specs.declared.messages.Msg.{Msg}
 use Rattle.asgi_conversation.specs.declared.following.Following.TheVariants.{ConnectionEnds}
 use Rattle.asgi_conversation.specs.declared.report.Outcome.{Outcome}
-use Rattle.asgi_conversation.specs.declared.report.Outcome.TheVariants.{Finished, Refused, InputBroke, WriteFailed, Idle, NoMemory}
+use Rattle.asgi_conversation.specs.declared.report.Outcome.TheVariants.{Finished, Refused, InputBroke, Idle}
 use Rattle.asgi_conversation.specs.declared.report.Report.{Report}
 use Rattle.asgi_conversation.specs.Exchanges.{Exchanged}
 use Rattle.asgi_conversation.specs.Persistence.{CountsExchanges}
-use Rattle.asgi_conversation.specs.Sessions.{Talk, silence, handshake_of, HearsSession, IsLeft, ByApplication, ByClient, ByCut as left_by_cut, IsDoneTalking, IsNext, Saying, Ending, StopsTalking, Opens, Accepted, Silent, ServesHandshake, EndsInSession, ConversesInSession, after_session, session_outcome, open_outcome, said_out, spoken}
-use Rattle.asgi_conversation.specs.TaskEnds.{is_cut}
+use Rattle.asgi_conversation.specs.Sessions.{Talk, silence, handshake_of, IsLeft, ByApplication, ByClient, ByCut as left_by_cut, IsDoneTalking, IsNext, Saying, Ending, Opens, Accepted, Silent, ServesHandshake, EndsInSession, EndsInSessionAs, ConversesInSession, after_session, session_outcome, open_outcome, said_out, spoken}
+use Rattle.asgi_conversation.specs.OutcomeClasses.{OutcomeClass, Uncut, ByWrite, GivenUp, Lacking, Unbegun, class_of, is_cut, is_cut_class}
 use Rattle.asgi_conn.specs.declared.half.Stage.{Stage}
 use Rattle.asgi_conn.specs.declared.half.Stage.TheVariants.{Over}
 use Rattle.asgi_conn.specs.declared.session_half.Answered.{Answered}
 use Rattle.asgi_conn.specs.declared.session_half.Answered.TheVariants as answered
 use Rattle.asgi_conn.specs.declared.session_half.SessionHalf.{SessionHalf}
-use Rattle.asgi_conn.specs.SessionHalf.{SessionScene, Stands, IsAt, IsCarried, IsCarrying, IsCutShort, IsSilent, EndsByTask, known, output_in, said_in, session_of, talk_in}
+use Rattle.asgi_conn.specs.SessionHalf.{SessionScene, Stands, IsAt, IsCarried, IsCarrying, IsCutShort, IsCutShortAs, IsSilent, EndsByTask, known, output_in, said_in, session_of, talk_in}
 use Rattle.asgi_conn.specs.Lines.{LineState}
 
 -- ---- how an exchange may end that was not cut short
@@ -84,15 +84,17 @@ why_broken kind.Returned said broke received e = broken_off said broke received 
 why_broken kind.Faulted said broke received e = broken_off said broke received (session_ways said broke received) e
 why_broken kind.Idle said broke received e = cc e
 
-no_failure : (said : List Outgoing) (broke : Bool) (received : List Msg) (n : ℕ) → Ways said broke received → session_outcome said broke received ≡ WriteFailed n → ⊥
-no_failure said broke received n (IsFinished is) e = cc (is, e)
-no_failure said broke received n (IsRefused is) e = cc (is, e)
-no_failure said broke received n (IsBroken is by none) e = cc (is, e)
+-- what the end of a task makes of the connection does not cut it short, but where a limit stopped the task
+never_cut : (said : List Outgoing) (broke : Bool) (received : List Msg) → Ways said broke received → class_of (session_outcome said broke received) ≡ Uncut
+never_cut said broke received (IsFinished is) = ap class_of is
+never_cut said broke received (IsRefused is) = ap class_of is
+never_cut said broke received (IsBroken is by none) = ap class_of is
 
-never_fails : (ended : EndKind) (said : List Outgoing) (broke : Bool) (received : List Msg) (n : ℕ) → after_session ended said broke received ≡ WriteFailed n → ⊥
-never_fails kind.Returned said broke received n e = no_failure said broke received n (session_ways said broke received) e
-never_fails kind.Faulted said broke received n e = no_failure said broke received n (session_ways said broke received) e
-never_fails kind.Idle said broke received n e = cc e
+after_class : (ended : EndKind) (said : List Outgoing) (broke : Bool) (received : List Msg)
+    → (class_of (after_session ended said broke received) ≡ Uncut) ⊎ (after_session ended said broke received ≡ Idle)
+after_class kind.Returned said broke received = inl (never_cut said broke received (session_ways said broke received))
+after_class kind.Faulted said broke received = inl (never_cut said broke received (session_ways said broke received))
+after_class kind.Idle said broke received = inr refl
 
 no_idle : (said : List Outgoing) (broke : Bool) (received : List Msg) → Ways said broke received → session_outcome said broke received ≡ Idle → ⊥
 no_idle said broke received (IsFinished is) e = cc (is, e)
@@ -104,16 +106,6 @@ given_up : (facts : Facts) (ended : EndKind) (said all : List Outgoing) (broke :
 given_up facts kind.Returned said all broke received e = absurd (no_idle said broke received (session_ways said broke received) e)
 given_up facts kind.Faulted said all broke received e = absurd (no_idle said broke received (session_ways said broke received) e)
 given_up facts kind.Idle said all broke received e = refl
-
-no_want : (said : List Outgoing) (broke : Bool) (received : List Msg) → Ways said broke received → session_outcome said broke received ≡ NoMemory → ⊥
-no_want said broke received (IsFinished is) e = cc (is, e)
-no_want said broke received (IsRefused is) e = cc (is, e)
-no_want said broke received (IsBroken is by none) e = cc (is, e)
-
-never_lacks : (ended : EndKind) (said : List Outgoing) (broke : Bool) (received : List Msg) → after_session ended said broke received ≡ NoMemory → ⊥
-never_lacks kind.Returned said broke received e = no_want said broke received (session_ways said broke received) e
-never_lacks kind.Faulted said broke received e = no_want said broke received (session_ways said broke received) e
-never_lacks kind.Idle said broke received e = cc e
 
 -- ---- the text of more
 
@@ -166,16 +158,15 @@ module _ (scene : SessionScene) (now : LineState) (half : SessionHalf) (read : L
   opens answered.Open c = opens_accepted c
   opens answered.Closed c = opens_accepted c
 
-  cut_short : (o : Outcome) → IsCutShort scene w.conn o → is_cut o ≡ true
-  cut_short (WriteFailed n) c = refl
-  cut_short Idle c = refl
-  cut_short NoMemory c = refl
-  cut_short Finished c = absurd c
-  cut_short (Refused status) c = absurd c
-  cut_short InputBroke c = absurd c
+  cut_short : (k : OutcomeClass) → IsCutShortAs k scene w.conn → is_cut_class k ≡ true
+  cut_short Uncut c = absurd c
+  cut_short (ByWrite n) c = refl
+  cut_short GivenUp c = refl
+  cut_short Lacking c = refl
+  cut_short Unbegun c = absurd c
 
   is_cut_by : w.conn.broken ≡ Some ByCut → is_cut outcome ≡ true
-  is_cut_by b = elim ends_so [ inl t ↦ cc (t.uncut, b) | inr c ↦ cut_short outcome c ]
+  is_cut_by b = elim ends_so [ inl t ↦ cc (t.uncut, b) | inr c ↦ cut_short (class_of outcome) c ]
 
   left : (events : List Incoming) (it : Incoming) → HasSessionCause w events it → IsLeft (is_cut outcome) one w.conn.arrived events it
   left events it (inl c) = ByApplication c.0 c.1
@@ -220,17 +211,19 @@ module _ (scene : SessionScene) (now : LineState) (half : SessionHalf) (read : L
       let why = why_broken t.kind (said_in scene w.conn) (is_by_input w.conn.broken) w.conn.arrived (t.follows ∙ is) in
       elim (s.breaks why.0) [ inl closed ↦ cc (closed, why.1) | inr ends ↦ ends ]
 
-  ends_by_task : (o : Outcome) → outcome ≡ o → (t : EndsByTask scene w.conn outcome) → IsDoneTalking o one talk s.text → EndsInSession o one talk s.text
-  ends_by_task Finished is t d = d
-  ends_by_task (Refused status) is t d = d
-  ends_by_task InputBroke is t d = (d, no_more t is)
-  ends_by_task (WriteFailed n) is t d = absurd (never_fails t.kind (said_in scene w.conn) (is_by_input w.conn.broken) w.conn.arrived n (t.follows ∙ is))
-  ends_by_task Idle is t d =
-      prefix_same (spoken s.text talk) (said_out one)
-      (d.3 ∙ ap (λ (o : Option EndKind). session_text (handshake_of scene.facts) scene.facts (said_of w.app) o (is_by_input w.conn.broken)) (ended_put t.kind t.taken)
-      ∙ ap (λ (l : List Output). said_out one ++ l) (given_up scene.facts t.kind (said_in scene w.conn) (said_of w.app) (is_by_input w.conn.broken) w.conn.arrived (t.follows ∙ is))
-      ∙ append-nil (said_out one))
-  ends_by_task NoMemory is t d = absurd (never_lacks t.kind (said_in scene w.conn) (is_by_input w.conn.broken) w.conn.arrived (t.follows ∙ is))
+  ends_by_task : (t : EndsByTask scene w.conn outcome) → IsDoneTalking outcome one talk s.text → EndsInSession outcome one talk s.text
+  ends_by_task t d = elim (after_class t.kind (said_in scene w.conn) (is_by_input w.conn.broken) w.conn.arrived) [
+    | inl uncut ↦
+        let of : Uncut ≡ class_of outcome = sym uncut ∙ ap class_of t.follows in
+        subst (λ (k : OutcomeClass). EndsInSessionAs k outcome one talk s.text) of (d, no_more t)
+    | inr idle ↦
+        let of : GivenUp ≡ class_of outcome = ap class_of (sym idle ∙ t.follows) in
+        subst (λ (k : OutcomeClass). EndsInSessionAs k outcome one talk s.text) of
+        (prefix_same (spoken s.text talk) (said_out one)
+        (d.3 ∙ ap (λ (o : Option EndKind). session_text (handshake_of scene.facts) scene.facts (said_of w.app) o (is_by_input w.conn.broken)) (ended_put t.kind t.taken)
+        ∙ ap (λ (l : List Output). said_out one ++ l) (given_up scene.facts t.kind (said_in scene w.conn) (said_of w.app) (is_by_input w.conn.broken) w.conn.arrived idle)
+        ∙ append-nil (said_out one)))
+  ]
 
   -- what was next of what was taken is next of what was said
   next : (out more : List Output) → IsNext (known scene w.conn) out more → IsNext one out more
@@ -246,16 +239,15 @@ module _ (scene : SessionScene) (now : LineState) (half : SessionHalf) (read : L
       let grown : IsPrefix taken (said_out one) = subst (λ (l : List Outgoing). IsPrefix taken (session_output (handshake_of scene.facts) scene.facts l)) i.taken.1 (output_grows scene.facts scene.limits.ring (taken_of w.conn) i.taken.0) in
       subst (λ (l : List Output). IsPrefix l (said_out one)) s.written (prefix_trans w.conn.written taken (said_out one) p grown)
 
-  ends_cut : (o : Outcome) → IsCutShort scene w.conn o → EndsInSession o one talk s.text
-  ends_cut (WriteFailed n) c = record { out = c.out; more = c.more; is_next = next c.out c.more c.is_next; within = c.within; written_is = sym s.written ∙ c.written_is }
-  ends_cut Idle c = front c
-  ends_cut NoMemory c = front c
-  ends_cut Finished c = absurd c
-  ends_cut (Refused status) c = absurd c
-  ends_cut InputBroke c = absurd c
+  ends_cut : (k : OutcomeClass) → IsCutShortAs k scene w.conn → EndsInSessionAs k outcome one talk s.text
+  ends_cut Uncut c = absurd c
+  ends_cut (ByWrite n) c = record { out = c.out; more = c.more; is_next = next c.out c.more c.is_next; within = c.within; written_is = sym s.written ∙ c.written_is }
+  ends_cut GivenUp c = front c
+  ends_cut Lacking c = front c
+  ends_cut Unbegun c = absurd c
 
   ends : EndsInSession outcome one talk s.text
-  ends = elim ends_so [ inl t ↦ ends_by_task outcome refl t (done t) | inr c ↦ ends_cut outcome c ]
+  ends = elim ends_so [ inl t ↦ ends_by_task t (done t) | inr c ↦ ends_cut (class_of outcome) c ]
 
   pub converses : (report : Report) → report.outcome ≡ outcome → CountsExchanges report (scene.exchanges ++ one ∷ [])
       → ConversesInSession scene.limits half.wire.input read (scene.exchanges ++ one ∷ []) talk (scene.before ++ s.text) report

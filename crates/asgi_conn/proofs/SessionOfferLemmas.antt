@@ -39,7 +39,8 @@ use Rattle.asgi_conn.specs.declared.session_half.Due.TheVariants as due
 use Rattle.asgi_conn.specs.declared.session_half.SessionHalf.{SessionHalf}
 use Rattle.asgi_conn.specs.Half.{failures_at}
 use Rattle.asgi_conn.specs.Lines.{LineState}
-use Rattle.asgi_conn.specs.SessionHalf.{SessionScene, Stands, Talks, IsAt, IsCarried, IsCutOff, IsCutShort, IsDue, exchange_of, known, output_in, said_in, talk_in, text_failures}
+use Rattle.asgi_conn.specs.SessionHalf.{SessionScene, Stands, Talks, IsAt, IsCarried, IsCutOff, IsCutShort, IsCutShortAs, IsDue, exchange_of, known, output_in, said_in, talk_in, text_failures}
+use Rattle.asgi_conversation.specs.OutcomeClasses.{OutcomeClass, Uncut, ByWrite, GivenUp, Lacking, Unbegun, class_of}
 use Rattle.asgi_conn.specs.Talking.{TalksOn}
 use Rattle.asgi_conn.proofs.HalfEndLemmas.{offers_cut}
 
@@ -210,13 +211,14 @@ module _ (scene : SessionScene) (line : LineState) (half : SessionHalf) (read : 
 -- what is out does not speak of a disconnect of a cut, nor of what is taken behind it
 pub short_on : (scene : SessionScene) (view : ConnView Msg Output) (out : Outcome) (offered : List Incoming) (broken : Option Break) → is_by_input broken ≡ is_by_input view.broken
     → IsCutShort scene view out → IsCutShort scene (record view { offered = offered; broken = broken }) out
-short_on scene view outcome.Idle offered broken same short = short
-short_on scene view outcome.NoMemory offered broken same short = short
-short_on scene view (outcome.WriteFailed n) offered broken same short =
-    subst (λ (b : Bool). StopsTalking n (record (known scene view) { broke = b }) view.written) (sym same) short
-short_on scene view outcome.Finished offered broken same short = short
-short_on scene view (outcome.Refused status) offered broken same short = short
-short_on scene view outcome.InputBroke offered broken same short = short
+short_on scene view out offered broken same short = by (class_of out) short
+  where
+    by : (k : OutcomeClass) → IsCutShortAs k scene view → IsCutShortAs k scene (record view { offered = offered; broken = broken })
+    by Uncut short = short
+    by (ByWrite n) short = subst (λ (b : Bool). StopsTalking n (record (known scene view) { broke = b }) view.written) (sym same) short
+    by GivenUp short = short
+    by Lacking short = short
+    by Unbegun short = short
 
 next_on : (y : Exchanged) (said more : List Outgoing) (ended : Option EndKind) (out next : List Output) → IsNext (record y { said = said; ended = None }) out next
     → IsNext (record y { said = said ++ more; ended = ended }) out next
@@ -226,22 +228,27 @@ next_on y said more ended out next (Ending kind e o t) = cc
 
 pub short_behind : (scene : SessionScene) (view : ConnView Msg Output) (out : Outcome) (item : OutItem) → end_of view.got ≡ None
     → IsCutShort scene view out → IsCutShort scene (record view { got = view.got ++ item ∷ [] }) out
-short_behind scene view outcome.Idle item none short = prefix_trans view.written (output_in scene view) (output_in scene (record view { got = view.got ++ item ∷ [] })) short (output_behind scene view.got item)
-short_behind scene view outcome.NoMemory item none short = prefix_trans view.written (output_in scene view) (output_in scene (record view { got = view.got ++ item ∷ [] })) short (output_behind scene view.got item)
-short_behind scene view (outcome.WriteFailed n) item none short =
-    let last = end_of (view.got ++ item ∷ []) in
-    subst (λ (l : List Outgoing). StopsTalking n (record (known scene view) { said = l; ended = last }) view.written) (sym (events_append view.got (item ∷ [])))
-    (record {
-      out = short.out;
-      more = short.more;
-      is_next = next_on (known scene view) (events_of view.got) (events_of (item ∷ [])) last short.out short.more
-          (subst (λ (o : Option EndKind). IsNext (record (known scene view) { ended = o }) short.out short.more) none short.is_next);
-      within = short.within;
-      written_is = short.written_is;
-    })
-short_behind scene view outcome.Finished item none short = absurd short
-short_behind scene view (outcome.Refused status) item none short = absurd short
-short_behind scene view outcome.InputBroke item none short = absurd short
+short_behind scene view out item none short = by (class_of out) short
+  where
+    front : IsPrefix view.written (output_in scene view) → IsPrefix view.written (output_in scene (record view { got = view.got ++ item ∷ [] }))
+    front short = prefix_trans view.written (output_in scene view) (output_in scene (record view { got = view.got ++ item ∷ [] })) short (output_behind scene view.got item)
+
+    by : (k : OutcomeClass) → IsCutShortAs k scene view → IsCutShortAs k scene (record view { got = view.got ++ item ∷ [] })
+    by Uncut short = absurd short
+    by (ByWrite n) short =
+        let last = end_of (view.got ++ item ∷ []) in
+        subst (λ (l : List Outgoing). StopsTalking n (record (known scene view) { said = l; ended = last }) view.written) (sym (events_append view.got (item ∷ [])))
+        (record {
+          out = short.out;
+          more = short.more;
+          is_next = next_on (known scene view) (events_of view.got) (events_of (item ∷ [])) last short.out short.more
+              (subst (λ (o : Option EndKind). IsNext (record (known scene view) { ended = o }) short.out short.more) none short.is_next);
+          within = short.within;
+          written_is = short.written_is;
+        })
+    by GivenUp short = front short
+    by Lacking short = front short
+    by Unbegun short = absurd short
 
 -- the end of a connection that is cut off, by what offering the disconnect answers
 pub cut_off : {E : Type 0} (C : conn_end.Ghosts E) (old new : E) (view : ConnView Msg Output) (first : Bool) (event : Incoming) → event ≡ WsDisconnect 1006 [] → IsViewOf C old view

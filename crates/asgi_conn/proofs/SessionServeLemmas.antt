@@ -1,5 +1,5 @@
 -- An opening handshake is served: its exchange is behind those before it, and the connection has ended in it.
-use Rattle.std.proofs.Common.{◌≡◌, ℕ, ◌+◌, List, [], ◌∷◌, ◌++◌, refl, sym, ap, ◌∙◌, inr, subst, Option, Some, None}
+use Rattle.std.proofs.Common.{◌≡◌, ℕ, ◌+◌, List, [], ◌∷◌, ◌++◌, sym, ap, ◌∙◌, inr, subst, Option, Some}
 use Rattle.asgi_types.specs.declared.end_kind.EndKind.{EndKind}
 use Rattle.asgi_types.specs.declared.facts.Facts.{Facts}
 use Rattle.asgi_types.specs.declared.facts.Framing.TheVariants.{Upgrade}
@@ -13,7 +13,7 @@ use Rattle.asgi_types.specs.Scopes.{scope_with}
 use Rattle.asgi_request.specs.declared.next.Next.{Next}
 use Rattle.asgi_request.specs.declared.next.Next.TheVariants.{Head}
 use Rattle.asgi_request.specs.Opened.{BeginsWithHandshake, HasClosed}
-use Rattle.asgi_request.specs.Reading.{Reading, StandsFor}
+use Rattle.asgi_request.specs.Reading.{StandsFor}
 use Rattle.asgi_response.specs.declared.text.ResponseText.{ResponseText}
 use Rattle.asgi_response.specs.Standing as standing
 use Rattle.asgi_pipes.specs.declared.ends.AppEnd.{Ghosts}
@@ -22,13 +22,12 @@ use Rattle.asgi_exchange.specs.SessionExchange.{IsSessionExchange}
 use Rattle.asgi_exchange.specs.Views.{said_of}
 use Rattle.asgi_exchange.proofs.SessionExchangeLemmas.{in_words}
 use Rattle.asgi_conversation.specs.declared.report.Outcome.{Outcome}
-use Rattle.asgi_conversation.specs.declared.report.Outcome.TheVariants.{NoMemory}
+use Rattle.asgi_conversation.specs.OutcomeClasses.{IsLacking}
 use Rattle.asgi_conversation.specs.Exchanges.{Exchanged, fault_of, fault_count, requests_of}
 use Rattle.asgi_conversation.specs.Promised.{IsPromised, ArePromised, task_end}
 use Rattle.asgi_conversation.specs.Sessions.{handshake_of}
 use Rattle.asgi_conversation.proofs.LoopLemmas as loop
 use Rattle.asgi_conversation.proofs.RequestLemmas.{requests_join}
-use Rattle.asgi_conn.specs.declared.connection.Place.{Place}
 use Rattle.asgi_conn.specs.declared.connection.Place.TheVariants.{Ended}
 use Rattle.asgi_conn.specs.declared.half.Stage.{Stage}
 use Rattle.asgi_conn.specs.declared.half.Stage.TheVariants.{Over}
@@ -39,18 +38,17 @@ use Rattle.asgi_conn.specs.declared.session_half.SessionHalf.{SessionHalf}
 use Rattle.asgi_conn.specs.declared.tally.Tally.{Tally}
 use Rattle.asgi_conn.specs.declared.wire.Wire.{Wire}
 use Rattle.asgi_conn.specs.contracts.exchange_half.SessionHalfHalf.TheImpl as session_half
-use Rattle.asgi_conn.specs.Half.{failures_at, failures_of}
-use Rattle.asgi_conn.specs.Lines.{LineState, HasMoved}
+use Rattle.asgi_conn.specs.Lines.{LineState}
 use Rattle.asgi_conn.specs.Loop.{EndsSo, IsTallied, Serving}
 use Rattle.asgi_conn.specs.ReadAhead.{ReadsAhead}
 use Rattle.asgi_conn.specs.Running.{IsOpened, HasRun}
-use Rattle.asgi_conn.specs.SessionHalf.{SessionScene, Stands, IsAt, IsCarried, OpensHandshake, OpensSession, IsOf, session_of, talk_in, text_failures}
+use Rattle.asgi_conn.specs.SessionHalf.{SessionScene, Stands, IsAt, IsCarried, OpensHandshake, OpensSession, session_of, talk_in, text_failures}
 use Rattle.asgi_conn.specs.Talking.{TalksOn, failures_in}
+use Rattle.asgi_conn.proofs.AnswerLemmas.{lacks_moved}
 use Rattle.asgi_conn.proofs.HttpEndLemmas.{http_ends}
 use Rattle.asgi_conn.proofs.PromiseLemmas.{is_kept, all_more, length_more, faults_more}
 use Rattle.asgi_conn.proofs.ReadAheadLemmas.{more_requests}
 use Rattle.asgi_conn.proofs.SessionLeaveLemmas as leave
-use Rattle.std.specs.Prelude.{◌⊎◌}
 use Rattle.asgi_conversation.specs.declared.following.Following.TheVariants.{NextRequest, ConnectionEnds}
 use Rattle.asgi_conversation.specs.declared.following.Following.{Following}
 
@@ -86,18 +84,18 @@ module _ (scene : SessionScene) (now : LineState) (wire : Wire) (facts : Facts) 
         empty = o.empty;
       })
 
-  -- want of memory, before the application is called
+  -- memory or a thread is refused, before the application is called
   pub opens_short : (promise : Scope → List Incoming → List Outgoing → Option EndKind → Type 0) (client server : Option Peer) (state : List (List ℕ × StateValue)) (tally : Tally)
-      → ArePromised promise client server state scene.exchanges → IsTallied tally scene.exchanges
-      → Serving promise scene.limits client server state scene.start now tally (Ended NoMemory)
-  opens_short promise client server state tally promised tallied = record {
+      → ArePromised promise client server state scene.exchanges → IsTallied tally scene.exchanges → (outcome : Outcome) → IsLacking outcome
+      → Serving promise scene.limits client server state scene.start now tally (Ended outcome)
+  opens_short promise client server state tally promised tallied outcome lacks = record {
     read = read;
     written = scene.before;
     exchanges = scene.exchanges;
     promised = promised;
     counted = tallied;
-    stands = http_ends scene.limits scene.start now wire.input read scene.exchanges scene.before NoMemory o.moved
-        (λ report is c. loop.no_memory scene.limits wire.input read o.given scene.exchanges o.behind scene.before report o.between c is) o.ahead;
+    stands = http_ends scene.limits scene.start now wire.input read scene.exchanges scene.before outcome (lacks_moved scene.start now wire.input read scene.before outcome lacks o.moved)
+        (λ report is c. loop.lacking scene.limits wire.input read o.given scene.exchanges o.behind scene.before report o.between c (subst (λ (q : Outcome). IsLacking q) (sym is) lacks)) o.ahead;
   }
 
 -- ---- and is over

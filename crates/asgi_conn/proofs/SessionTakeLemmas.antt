@@ -1,5 +1,5 @@
 -- What the half of a session takes: nothing, the end of the task, or an event, which says nothing where the judge does not pass it.
-use Rattle.std.proofs.Common.{◌≡◌, ◌≢◌, ◌≤◌, ℕ, true, false, Bool, List, [], ◌∷◌, ◌++◌, refl, sym, ap, ◌∙◌, subst, Option, Some, None, Vec, Global}
+use Rattle.std.proofs.Common.{◌≡◌, ◌≢◌, ◌≤◌, ℕ, true, false, Bool, List, [], ◌∷◌, ◌++◌, refl, sym, ap, ◌∙◌, subst, Option, None, Vec, Global}
 use Rattle.std.proofs.lemmas.List.{append-nil}
 use Rattle.asgi_types.specs.Fields.{HeaderField}
 use Rattle.asgi_types.specs.declared.end_kind.EndKind.{EndKind}
@@ -40,7 +40,7 @@ use Rattle.asgi_conn.specs.declared.session_half.SessionHalf.{SessionHalf}
 use Rattle.asgi_conn.specs.declared.wire.Wire.{Wire}
 use Rattle.asgi_conn.specs.Half.{failures_at}
 use Rattle.asgi_conn.specs.Lines.{LineState}
-use Rattle.asgi_conn.specs.SessionHalf.{SessionScene, Stands, OpensSession, Talks, IsAt, IsCarried, IsCarrying, IsDue, IsSilent, answer_to, exchange_of, output_in, said_in, talk_in, text_failures}
+use Rattle.asgi_conn.specs.SessionHalf.{SessionScene, Stands, OpensSession, Talks, IsAt, IsCarried, IsCarrying, IsDue, IsSilent, answer_to, exchange_of, said_in, talk_in, text_failures}
 use Rattle.asgi_conn.specs.Talking.{TalksOn, drop_limit}
 use Rattle.asgi_conn.proofs.SessionPassLemmas.{same_said}
 use Rattle.asgi_conn.proofs.TalkLemmas.{talk_begins}

@@ -37,7 +37,8 @@ use Rattle.asgi_conn.specs.Lines.{LineState, HasMoved}
 use Rattle.asgi_conn.specs.ReadAhead.{ReadsAhead}
 use Rattle.asgi_conversation.specs.Persistence.{StopsWithin, heads_of}
 use Rattle.asgi_conversation.specs.SoFar.{InOne, HasBrokenIn, TaskIsOver, exchanged}
-use Rattle.asgi_conversation.specs.TaskEnds.{has_ended, is_faulty, is_cut, after_task}
+use Rattle.asgi_conversation.specs.OutcomeClasses.{OutcomeClass, ByWrite, class_of, is_cut, cuts_exchange}
+use Rattle.asgi_conversation.specs.TaskEnds.{has_ended, is_faulty, after_task}
 
 -- What stays the same in one exchange: what was known of the line when the connection began, the exchanges before this one and
 -- what was written for them, the request, and the results of the reader up to its head.
@@ -128,7 +129,7 @@ pub record IsRunning (scene : Scene) (half : ConnHalf) (read : List ℕ) (view :
 
 -- The connection is cut short; n bytes of the text in hand are out where a write failed.
 pub record IsCutShort (scene : Scene) (half : ConnHalf) (view : ConnView ℕ ℕ) (outcome : Outcome) : Type 0 where
-  pub cut : is_cut outcome ≡ true
+  pub cut : cuts_exchange outcome ≡ true
   pub stops : (n : ℕ) → outcome ≡ WriteFailed n → StopsWithin n (known scene view) (input_of (state_in scene half view)) view.written
 
 -- The end of the task was taken, and the connection ends as it says.
@@ -165,9 +166,12 @@ IsAt (Over following) scene half read view = Leaves following scene half read vi
 -- ---- the half
 
 -- a write failed
+abbrev pub failures_as : OutcomeClass → ℕ
+failures_as (ByWrite n) = 1
+failures_as _ = 0
+
 abbrev pub failures_of : Outcome → ℕ
-failures_of (WriteFailed n) = 1
-failures_of _ = 0
+failures_of outcome = failures_as (class_of outcome)
 
 abbrev pub failures_at : Stage → ℕ
 failures_at (Cut outcome) = failures_of outcome

@@ -1,5 +1,5 @@
 -- The two halves of one exchange, run until it is over.
-use Rattle.std.specs.Prelude.{◌≡◌, ℕ, List, [], ◌++◌, Option, Some, IsSomeAnd, ⊤}
+use Rattle.std.specs.Prelude.{◌≡◌, ◌⊎◌, ℕ, List, [], ◌++◌, Option, Some, None, IsSomeAnd, ⊤}
 use Rattle.asgi_types.specs.declared.end_kind.EndKind.{EndKind}
 use Rattle.asgi_types.specs.declared.end_kind.EndKind.TheVariants.{Faulted}
 use Rattle.asgi_types.specs.declared.incoming.Incoming.{Incoming}
@@ -8,6 +8,7 @@ use Rattle.asgi_types.specs.declared.scope.Kind.{Kind}
 use Rattle.asgi_pipes.specs.declared.ends.AppEnd.{Ghosts}
 use Rattle.asgi_pipes.specs.declared.ends.ConnEnd as conn_end
 use Rattle.asgi_pipes.specs.Items.{items_of}
+use Rattle.asgi_apps.specs.Driving.{IsDriven}
 use Rattle.asgi_apps.specs.Ends.{IsWithin, MayGoOn, own_end}
 use Rattle.asgi_exchange.specs.Calls.{view_of}
 use Rattle.asgi_exchange.specs.Items.{end_of}
@@ -63,6 +64,21 @@ pub record HasRun {H T E : Type 0} (halves : any_half.Ghosts H) (answers : T →
   pub exchange : IsExchange (halves.exchange scene) world
   pub ended : end_of world.app.put ≡ Some kind
   pub answers_for : Answers answers ends side world.app kind
+
+-- The runner drove the task by itself, within these limits, and its counts are those of the task; or it did not, and they are as before.
+abbrev pub Drives : (turn_limit idle_limit pauses_old pauses_new driven_old driven_new : ℕ) → EndKind → Type 0
+Drives turn_limit idle_limit pauses_old pauses_new driven_old driven_new kind =
+    ((pauses_new ≡ pauses_old) × (driven_new ≡ driven_old)) ⊎ IsDriven turn_limit idle_limit pauses_old pauses_new driven_new kind
+
+-- the pauses that a pause counted, where one is at hand
+abbrev pub paused_by : {Q : Type 0} → (Q → ℕ) → Option Q → ℕ
+paused_by count None = 0
+paused_by count (Some pause) = count pause
+
+-- it drove the task, where that runs
+abbrev pub DrivesRunning : {T E : Type 0} → AppSide T E → (turn_limit idle_limit pauses_old pauses_new driven_new : ℕ) → EndKind → Type 0
+DrivesRunning (Runs running) turn_limit idle_limit pauses_old pauses_new driven_new kind = IsDriven turn_limit idle_limit pauses_old pauses_new driven_new kind
+DrivesRunning (HasEnded app_end ended) turn_limit idle_limit pauses_old pauses_new driven_new kind = pauses_new ≡ pauses_old
 
 -- ---- the steps of a runner: words of private functions
 

@@ -38,7 +38,8 @@ use Rattle.asgi_ws.specs.declared.messages.Put.{Put}
 use Rattle.asgi_ws.specs.declared.messages.Put.TheVariants as put
 use Rattle.asgi_conversation.specs.declared.following.Following.TheVariants.{NextRequest, ConnectionEnds}
 use Rattle.asgi_conversation.specs.declared.report.Outcome.{Outcome}
-use Rattle.asgi_conversation.specs.declared.report.Outcome.TheVariants.{Finished, InputBroke, WriteFailed, Idle, NoMemory}
+use Rattle.asgi_conversation.specs.declared.report.Outcome.TheVariants.{Finished, InputBroke, WriteFailed, NoMemory}
+use Rattle.asgi_conversation.specs.OutcomeClasses.{OutcomeClass, Uncut, ByWrite, GivenUp, Lacking, Unbegun, class_of}
 use Rattle.asgi_conversation.specs.Exchanges.{Exchanged, AreAnswered, answer_texts, requests_of}
 use Rattle.asgi_conversation.specs.Sessions.{Talk, handshake_of, after_session, StopsTalking}
 use Rattle.asgi_conversation.specs.SoFar.{Between}
@@ -169,11 +170,15 @@ pub record Talks (scene : SessionScene) (half : SessionHalf) (view : ConnView Ms
   pub closed : half.answered ≡ Open → half.client_closed ≡ has_close view.arrived
 
 -- The connection is cut short: of what was next so much is out where a write failed, else nothing.
+abbrev pub IsCutShortAs : OutcomeClass → SessionScene → ConnView Msg Output → Type 0
+IsCutShortAs Uncut scene view = ⊥
+IsCutShortAs (ByWrite n) scene view = StopsTalking n (known scene view) view.written
+IsCutShortAs GivenUp scene view = IsPrefix view.written (output_in scene view)
+IsCutShortAs Lacking scene view = IsPrefix view.written (output_in scene view)
+IsCutShortAs Unbegun scene view = ⊥
+
 abbrev pub IsCutShort : SessionScene → ConnView Msg Output → Outcome → Type 0
-IsCutShort scene view (WriteFailed n) = StopsTalking n (known scene view) view.written
-IsCutShort scene view Idle = IsPrefix view.written (output_in scene view)
-IsCutShort scene view NoMemory = IsPrefix view.written (output_in scene view)
-IsCutShort scene view _ = ⊥
+IsCutShort scene view outcome = IsCutShortAs (class_of outcome) scene view
 
 -- The end of the task was taken, and the connection ends as it says.
 pub record EndsByTask (scene : SessionScene) (view : ConnView Msg Output) (outcome : Outcome) : Type 0 where

@@ -17,6 +17,7 @@ ghost use Rattle.asgi_response.specs.Exchange.{refusal_text};
 ghost use Rattle.asgi_response.specs.Refusals.{is_refusal};
 ghost use Rattle.asgi_apps.specs.Scopes.{kind_of};
 ghost use Rattle.asgi_conversation.specs.declared.following.Following.{Following};
+ghost use Rattle.asgi_conversation.specs.OutcomeClasses.{IsLacking};
 ghost use Rattle.asgi_conversation.specs.Behind.{IsBlank};
 ghost use Rattle.asgi_conversation.specs.Exchanges.{Exchanged};
 ghost use Rattle.asgi_conversation.specs.Persistence.{RefusesWith};
@@ -32,7 +33,7 @@ ghost use Rattle.asgi_conn.specs.Serving.{Serves};
 ghost use Rattle.asgi_conn.specs.SessionHalf.{SessionScene, OpensHandshake};
 
 use crate::half::{ConnHalf, Stage};
-use crate::runner::{AppSide, Runner};
+use crate::runner::{AppSide, NoEnds, Runner};
 use crate::session_half::SessionHalf;
 use crate::tally::Tally;
 use crate::wire::{Wire, write};
@@ -83,7 +84,7 @@ impl Place {
 ///
 /// Each scope has this client and server, and a state equal to this one. The runner runs each
 /// exchange; where nothing moves in a turn the pause is called. The caller closes the line.
-pub fn serve_connection<H: AllocGlobal, A: Application, L: Line, U: Runner, P: Pause>(
+pub fn serve_connection<H: AllocGlobal, A: Application, L: Line, U: Runner<A::Task>, P: Pause>(
     rt: &H,
     limits: &Limits,
     client: &Option<Peer>,
@@ -118,7 +119,7 @@ pub fn serve_connection<H: AllocGlobal, A: Application, L: Line, U: Runner, P: P
 }
 
 /// Asks the reader what comes next, and does what is due to it.
-fn step<A: Application, L: Line, U: Runner, P: Pause>(
+fn step<A: Application, L: Line, U: Runner<A::Task>, P: Pause>(
     place: Place,
     client: &Option<Peer>,
     server: &Option<Peer>,
@@ -293,7 +294,7 @@ fn refuse<L: Line>(status: u16, line: &mut L) -> Place
 // ---- one exchange
 
 /// Answers a request: the application is called, and both halves of the exchange run to its end.
-fn answer<A: Application, L: Line, U: Runner, P: Pause>(
+fn answer<A: Application, L: Line, U: Runner<A::Task>, P: Pause>(
     wire: Wire,
     scope: &Scope,
     facts: Facts,
@@ -318,14 +319,26 @@ fn answer<A: Application, L: Line, U: Runner, P: Pause>(
     ensures turn_limits { (tally.new.turns.turn_limit ≡ tally.old.turns.turn_limit) × (tally.new.turns.idle_limit ≡ tally.old.turns.idle_limit) }
 {
     let text = ResponseText::new(wire.alloc, &facts);
-    let Ok((end, app_end)) = runner.make(wire.alloc, Kind::Http, facts, wire.limits.ring) else {
-        return Place::Ended(Outcome::NoMemory);
+    let (end, app_end) = match runner.make(wire.alloc, Kind::Http, facts, wire.limits.ring) {
+        Err(why) => return Place::Ended(without_ends(why)),
+        Ok(ends) => ends,
     };
     let side = call(wire.alloc, app, scope, app_end);
     let mut half = ConnHalf::begin(wire, text, line);
     let kind = runner.run(&mut half, line, pause, &mut tally.turns, end, side);
     tally.count(kind);
     leave(half)
+}
+
+/// How a connection ends whose next exchange has no ends.
+fn without_ends(why: NoEnds) -> Outcome
+    ensures lacking { IsLacking result }
+    ensures reason { (why ≡ NoEnds.NoMemory → result ≡ Outcome.NoMemory) × (why ≡ NoEnds.NoThread → result ≡ Outcome.NoThread) }
+{
+    match why {
+        NoEnds::NoMemory => Outcome::NoMemory,
+        NoEnds::NoThread => Outcome::NoThread,
+    }
 }
 
 /// Calls the application. Where the call faults, that is the end of its task.
@@ -370,7 +383,7 @@ fn leave(half: ConnHalf) -> Place
 // ---- a session
 
 /// Serves the exchange of an opening handshake, in which the connection ends.
-fn open<A: Application, L: Line, U: Runner, P: Pause>(
+fn open<A: Application, L: Line, U: Runner<A::Task>, P: Pause>(
     wire: Wire,
     scope: &Scope,
     facts: Facts,
@@ -402,9 +415,9 @@ fn open<A: Application, L: Line, U: Runner, P: Pause>(
         return Place::Ended(Outcome::NoMemory);
     };
     let text = ResponseText::new(wire.alloc, &own);
-    let Ok((end, app_end)) = runner.make(wire.alloc, Kind::WebSocket, facts, wire.limits.ring)
-    else {
-        return Place::Ended(Outcome::NoMemory);
+    let (end, app_end) = match runner.make(wire.alloc, Kind::WebSocket, facts, wire.limits.ring) {
+        Err(why) => return Place::Ended(without_ends(why)),
+        Ok(ends) => ends,
     };
     let side = call(wire.alloc, app, scope, app_end);
     let mut half = SessionHalf::begin(wire, own, text, frames);

@@ -1,5 +1,5 @@
 //! Both halves of an exchange in one thread, turn by turn.
-ghost use Rattle.std.specs.Prelude.{◌≡◌, ◌≢◌, ◌<◌, ◌⊎◌, ◌++◌, ℕ, List, Some, IsSome, IsTrue, IsFalse};
+ghost use Rattle.std.specs.Prelude.{◌≡◌, ◌≢◌, ◌<◌, ◌⊎◌, ◌++◌, ℕ, List, Some, IsSome, ⊤};
 ghost use Rattle.asgi_io.specs.declared.turns.Turn.{Turn};
 ghost use Rattle.asgi_io.specs.Turns.{CountsTurns};
 ghost use Rattle.asgi_pipes.specs.PlainPairs.{IsPlainPair};
@@ -9,10 +9,10 @@ ghost use Rattle.asgi_exchange.specs.Views.{ConnView};
 ghost use Rattle.asgi_conversation.specs.declared.following.Following.TheVariants.{NextRequest};
 ghost use Rattle.asgi_conn.specs.Limits.{IsAtLimit, IsOverIdle, IsSettled};
 ghost use Rattle.asgi_conn.specs.Lines.{state_of};
-ghost use Rattle.asgi_conn.specs.Running.{OfEnd, MayRun, HasRun, HasPassed, IsOfRequest, EndsIn, GoesOnAs, TagStays};
+ghost use Rattle.asgi_conn.specs.Running.{OfEnd, MayRun, HasRun, Drives, HasPassed, IsOfRequest, EndsIn, GoesOnAs, TagStays};
 
 use crate::exchange_half::Half;
-use crate::runner::{AppSide, Runner};
+use crate::runner::{AppSide, NoEnds, Runner, goes_on};
 use asgi_apps::{AppTask, Lent, Running};
 use asgi_exchange::join;
 use asgi_io::{Pause, Turn, Turns};
@@ -20,7 +20,7 @@ use asgi_pipes::{AppEnd, ConnEnd, EndKind, Pipes, Plain, PlainApp, PlainConn};
 use asgi_types::{Facts, Kind};
 use asgi_ws::Line;
 use futures::task::{Context, Poll};
-use std::alloc::{AllocError, Global};
+use std::alloc::Global;
 
 /// Runs both halves in the caller's thread, turn by turn. In a turn the connection's half takes
 /// one, and then the task is polled, by this context, while each poll moves something, at most as
@@ -44,7 +44,7 @@ impl<'q> Inline<'q> {
     }
 }
 
-impl<'q> Runner for Inline<'q> {
+impl<'q, T: AppTask> Runner<T> for Inline<'q> {
     type Pipes = Plain;
 
     ghost not_met = { λ _. 0 };
@@ -53,20 +53,22 @@ impl<'q> Runner for Inline<'q> {
 
     ghost driven = { λ _. 0 };
 
+    ghost is_ready = { λ _. ⊤ };
+
     fn make(
         &mut self,
         alloc: Global,
         kind: Kind,
         facts: Facts,
         ring: usize,
-    ) -> Result<(PlainConn, PlainApp), AllocError> {
+    ) -> Result<(PlainConn, PlainApp), NoEnds> {
         let Some((conn, app)) = self.spare.take() else {
-            return Plain.make(alloc, kind, facts, ring);
+            return Ok(Plain.make(alloc, kind, facts, ring)?);
         };
-        Plain.renew(alloc, conn, app, kind, facts, ring)
+        Ok(Plain.renew(alloc, conn, app, kind, facts, ring)?)
     }
 
-    fn run<H: Half, L: Line, P: Pause, T: AppTask>(
+    fn run<H: Half, L: Line, P: Pause>(
         &mut self,
         half: &mut H,
         line: &mut L,
@@ -75,6 +77,7 @@ impl<'q> Runner for Inline<'q> {
         end: PlainConn,
         side: AppSide<T, PlainApp>,
     ) -> EndKind
+        requires ready { ⊤ }
         requires pair { OfEnd side (λ app. IsPlainPair end app) }
         requires may { MayRun T.stands ⟦<PlainApp as AppEnd>⟧ side }
         ensures runs { (scene : H.Scene) (read : List ℕ) (view : ConnView H.In H.Out) → H.stands scene (state_of L.Reads L.Counts L.Messages.own line.old) half.old read view
@@ -87,6 +90,7 @@ impl<'q> Runner for Inline<'q> {
         ensures takes_a_turn { H.following half.new ≡ Some NextRequest → (H.following half.old ≡ Some NextRequest) ⊎ (turns.old.turns < turns.new.turns) }
         ensures settled { IsSettled (H.following half.old) → (half.new ≡ half.old) × (turns.new.turns ≡ turns.old.turns) }
         ensures idle { IsOverIdle (H.following half.new) → IsAtLimit turns.new }
+        ensures drives { Drives turns.old.turn_limit turns.old.idle_limit 0 0 0 0 result }
         ensures met { ◌≡◌ {A = ℕ} 0 0 }
     {
         let mut conn = end;
@@ -101,8 +105,8 @@ impl<'q> Runner for Inline<'q> {
             turns.take(both(moved, polled), pause);
         }
         half.give_up(&mut conn);
-        let last = end_of(side);
-        let _met = join::<Plain>(&conn, &last.app_end);
+        let mut last = end_of(side);
+        let _met = join::<Plain>(&mut conn, &mut last.app_end);
         self.spare = Some((conn, last.app_end));
         last.kind
     }
@@ -118,16 +122,6 @@ impl<'q> Runner for Inline<'q> {
     fn turned(&self) -> u64 {
         0
     }
-}
-
-/// Whether one more turn is taken: until the exchange is over, or a limit is reached. One that is over
-/// as idle waits for the limit.
-fn goes_on<H: Half>(half: &H, turns: &Turns) -> bool
-    ensures yes { IsTrue result → (turns.now.turns < turns.now.turn_limit) × (turns.now.idle < turns.now.idle_limit) }
-    ensures open { IsTrue result → ¬ (IsSettled (H.following half.now)) }
-    ensures over { IsFalse result → IsAtLimit turns.now ⊎ IsSettled (H.following half.now) }
-{
-    !turns.is_over() && !half.is_settled()
 }
 
 /// What both halves did in a turn: it is idle where neither moved anything.

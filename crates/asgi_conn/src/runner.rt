@@ -1,5 +1,5 @@
 //! What runs the two halves of an exchange.
-ghost use Rattle.std.specs.Prelude.{◌≡◌, ◌+◌, ◌<◌, ◌⊎◌, false, [], ◌++◌, ℕ, List, Some, None, IfOk, IsSome};
+ghost use Rattle.std.specs.Prelude.{◌≡◌, ◌+◌, ◌<◌, ◌⊎◌, false, [], ◌++◌, ℕ, List, Some, None, IfOk, IsOk, IsSome, IsTrue, IsFalse};
 ghost use Rattle.asgi_io.specs.declared.turns.Turn.{Turn};
 ghost use Rattle.asgi_io.specs.Turns.{CountsTurns};
 ghost use Rattle.asgi_exchange.specs.Calls.{IsViewOf, IsExchangeOf};
@@ -7,7 +7,7 @@ ghost use Rattle.asgi_exchange.specs.Views.{ConnView};
 ghost use Rattle.asgi_conversation.specs.declared.following.Following.TheVariants.{NextRequest};
 ghost use Rattle.asgi_conn.specs.Limits.{IsAtLimit, IsOverIdle, IsSettled};
 ghost use Rattle.asgi_conn.specs.Lines.{state_of};
-ghost use Rattle.asgi_conn.specs.Running.{OfEnd, MayRun, HasRun};
+ghost use Rattle.asgi_conn.specs.Running.{OfEnd, MayRun, HasRun, Drives};
 
 use crate::exchange_half::Half;
 use asgi_apps::{AppTask, Running};
@@ -26,8 +26,23 @@ pub enum AppSide<T, E> {
     HasEnded { app_end: E, kind: EndKind },
 }
 
-/// Runs the two halves of an exchange.
-pub trait Runner {
+/// Why an exchange has no ends. No task was begun.
+#[derive(Clone, Copy, Debug, PartialEq, Eq)]
+pub enum NoEnds {
+    /// Memory was refused.
+    NoMemory,
+    /// A thread, or memory for it, was refused.
+    NoThread,
+}
+
+impl From<AllocError> for NoEnds {
+    fn from(_: AllocError) -> NoEnds {
+        NoEnds::NoMemory
+    }
+}
+
+/// Runs the two halves of an exchange whose task is of this type.
+pub trait Runner<T: AppTask> {
     /// The pairs of ends between them.
     type Pipes: Pipes + Drop;
 
@@ -40,28 +55,32 @@ pub trait Runner {
     // The turns of the last task that it drove by itself.
     ghost driven: { Self → ℕ };
 
+    // It has what the exchange of the ends that it made last needs.
+    ghost is_ready: { Self → Type 0 };
+
     /// The ends of an exchange, as `make` of those pairs gives them, with `ring` places for events
-    /// each way. Memory of the exchange before may serve again. `AllocError` where memory is
-    /// refused.
+    /// each way. Memory of the exchange before may serve again. Refused where memory is, or a thread
+    /// that the exchange would need.
     fn make(
         &mut self,
         alloc: Global,
         kind: Kind,
         facts: Facts,
         ring: usize,
-    ) -> Result<(<Self::Pipes as Pipes>::Conn, <Self::Pipes as Pipes>::App), AllocError>
+    ) -> Result<(<Self::Pipes as Pipes>::Conn, <Self::Pipes as Pipes>::App), NoEnds>
         ensures inward { IfOk result (λ ends. (Self.Pipes.Conn.offered ends.0 ≡ []) × (Self.Pipes.Conn.is_broken ends.0 ≡ false) × (Self.Pipes.App.heard ends.1 ≡ []) × (Self.Pipes.App.pulled ends.1 ≡ []) × (Self.Pipes.App.seen ends.1 ≡ [])) }
         ensures outward { IfOk result (λ ends. (Self.Pipes.App.said ends.1 ≡ []) × (Self.Pipes.App.ended ends.1 ≡ None) × (Self.Pipes.Conn.got ends.0 ≡ []) × (Self.Pipes.Conn.seen ends.0 ≡ [])) }
         ensures places { IfOk result (λ ends. (Self.Pipes.Conn.ring ends.0 ≡ ring) × (Self.Pipes.Conn.room ends.0 ≡ ring) × (Self.Pipes.App.ring ends.1 ≡ ring) × (Self.Pipes.App.room ends.1 ≡ ring)) }
         ensures capacity { IfOk result (λ ends. (Self.Pipes.Conn.capacity ends.0 ≡ (ring + 1, ring + 1)) × (Self.Pipes.App.capacity ends.1 ≡ (ring + 1, ring + 1))) }
         ensures scope { IfOk result (λ ends. (Self.Pipes.App.kind ends.1 ≡ kind) × (Self.Pipes.App.facts ends.1 ≡ facts) × (Self.Pipes.App.has_moved ends.1 ≡ false)) }
         ensures pair { IfOk result (λ ends. Self.Pipes.is_pair ends.0 ends.1) }
+        ensures ready { IsOk result → is_ready self.new }
         ensures counts { (not_met self.new ≡ not_met self.old) × (pauses self.new ≡ pauses self.old) × (driven self.new ≡ driven self.old) };
 
     /// Runs both halves of an exchange until it is over, or a limit on turns is reached, where it
     /// is given up, and a task that still runs is ended as idle. The answer says how the task
     /// ended.
-    fn run<H: Half, L: Line, P: Pause, T: AppTask>(
+    fn run<H: Half, L: Line, P: Pause>(
         &mut self,
         half: &mut H,
         line: &mut L,
@@ -70,6 +89,7 @@ pub trait Runner {
         end: <Self::Pipes as Pipes>::Conn,
         side: AppSide<T, <Self::Pipes as Pipes>::App>,
     ) -> EndKind
+        requires ready { is_ready self.old }
         requires pair { OfEnd side (λ app. Self.Pipes.is_pair end app) }
         requires may { MayRun T.stands Self.Pipes.App.AppEnd side }
         // Wherever the connection stood in an exchange of these ends, it stands behind it.
@@ -85,6 +105,8 @@ pub trait Runner {
         ensures settled { IsSettled (H.following half.old) → (half.new ≡ half.old) × (turns.new.turns ≡ turns.old.turns) }
         // It is over as idle only at a limit.
         ensures idle { IsOverIdle (H.following half.new) → IsAtLimit turns.new }
+        // Where it drives the task by itself, its turns and pauses are those of this task.
+        ensures drives { Drives turns.old.turn_limit turns.old.idle_limit (pauses self.old) (pauses self.new) (driven self.old) (driven self.new) result }
         // The ends of a pair always meet.
         ensures met { not_met self.new ≡ not_met self.old };
 
@@ -99,4 +121,14 @@ pub trait Runner {
     /// How many turns the last task took that it drove by itself.
     fn turned(&self) -> u64
         ensures { result ≡ driven self.now };
+}
+
+/// Whether one more turn is taken: until the exchange is over, or a limit is reached. One that is over
+/// as idle waits for the limit.
+pub(crate) fn goes_on<H: Half>(half: &H, turns: &Turns) -> bool
+    ensures yes { IsTrue result → (turns.now.turns < turns.now.turn_limit) × (turns.now.idle < turns.now.idle_limit) }
+    ensures open { IsTrue result → ¬ (IsSettled (H.following half.now)) }
+    ensures over { IsFalse result → IsAtLimit turns.now ⊎ IsSettled (H.following half.now) }
+{
+    !turns.is_over() && !half.is_settled()
 }

@@ -28,13 +28,15 @@ use Rattle.asgi_response.specs.declared.refusal.Input.TheVariants as input
 use Rattle.asgi_exchange.specs.Http.{input_of}
 use Rattle.asgi_exchange.proofs.ListLemmas.{prefix_behind, prefix_same, prefix_trans, prefix_front}
 use Rattle.asgi_conversation.specs.declared.report.Outcome.{Outcome}
-use Rattle.asgi_conversation.specs.declared.report.Outcome.TheVariants.{Finished, Refused, InputBroke, WriteFailed, Idle, NoMemory}
+use Rattle.asgi_conversation.specs.declared.report.Outcome.TheVariants.{Finished, Refused, InputBroke}
+use Rattle.asgi_conversation.proofs.OutcomeLemmas.{IsWhole, AsFinished, AsRefused, AsInputBroke, is_whole}
 use Rattle.asgi_conversation.specs.declared.report.Report.{Report}
 use Rattle.asgi_conversation.specs.Behind.{NothingIsDue}
 use Rattle.asgi_conversation.specs.declared.following.Following.{Following}
 use Rattle.asgi_conversation.specs.declared.following.Following.TheVariants.{NextRequest, ConnectionEnds}
 use Rattle.asgi_conversation.specs.declared.input.InputEnd.{InputEnd}
-use Rattle.asgi_conversation.specs.TaskEnds.{is_cut, after_response}
+use Rattle.asgi_conversation.specs.OutcomeClasses.{is_cut}
+use Rattle.asgi_conversation.specs.TaskEnds.{after_response}
 use Rattle.asgi_conversation.specs.Exchanges.{Exchanged, out_text}
 use Rattle.asgi_conversation.specs.Persistence.{EndsBetween, listed, Converses}
 use Rattle.asgi_conversation.proofs.OneConversationLemmas.{one_conversation}
@@ -102,12 +104,15 @@ BetweenAs limits bytes text =
 
 between_as : (o : Outcome) (limits : Limits) (end : InputEnd) (bytes text : List ℕ) → is_cut o ≡ false → EndsBetween o limits end bytes text → BetweenAs limits bytes text
 unfolding BetweenAs
-between_as Finished limits end bytes text c e = inl (e.1, e.0)
-between_as (Refused status) limits end bytes text c e = inr (e.0, refusal_first limits bytes e.0 e.1, e.3 ∙ ap refusal_text e.2)
-between_as InputBroke limits end bytes text c e = inl (e.1, e.0)
-between_as (WriteFailed n) limits end bytes text c e = absurd (cc)
-between_as Idle limits end bytes text c e = absurd (cc)
-between_as NoMemory limits end bytes text c e = absurd (cc)
+between_as o limits end bytes text c e = by (is_whole o c)
+  where
+    of_kind : (p : Outcome) → o ≡ p → EndsBetween p limits end bytes text
+    of_kind p is = subst (λ (q : Outcome). EndsBetween q limits end bytes text) is e
+
+    by : IsWhole o → BetweenAs limits bytes text
+    by (AsFinished is) = let f = of_kind Finished is in inl (f.1, f.0)
+    by (AsRefused status is) = let f = of_kind (Refused status) is in inr (f.0, refusal_first limits bytes f.0 f.1, f.3 ∙ ap refusal_text f.2)
+    by (AsInputBroke is) = let f = of_kind InputBroke is in inl (f.1, f.0)
 
 no_head : (limits : Limits) (bytes text : List ℕ) (scope : Scope) (facts : Facts) → BetweenAs limits bytes text → HasFirst limits bytes (Head scope facts ∷ []) → ⊥
 unfolding BetweenAs

@@ -9,10 +9,10 @@ use Rattle.asgi_exchange.specs.Http.{input_of}
 use Rattle.asgi_exchange.specs.HttpExchange.{text_of}
 use Rattle.asgi_exchange.proofs.ListLemmas.{prefix_trans, prefix_same, prefix_behind}
 use Rattle.asgi_conversation.specs.declared.report.Outcome.{Outcome}
-use Rattle.asgi_conversation.specs.declared.report.Outcome.TheVariants.{Finished, Refused, InputBroke, WriteFailed, Idle, NoMemory}
+use Rattle.asgi_conversation.specs.OutcomeClasses.{OutcomeClass, Uncut, ByWrite, GivenUp, Lacking, Unbegun, class_of}
 use Rattle.asgi_conversation.specs.declared.input.InputEnd.{InputEnd}
 use Rattle.asgi_conversation.specs.Exchanges.{Exchanged, out_text}
-use Rattle.asgi_conversation.specs.Persistence.{InHand, Beginning, Saying, Ending, StopsWithin, EndsWithin}
+use Rattle.asgi_conversation.specs.Persistence.{InHand, Beginning, Saying, Ending, StopsWithin, EndsWithin, EndsWithinAs}
 use Rattle.asgi_conversation.proofs.SoFarLemmas.{text_front, response_first}
 
 module _ (x : Exchanged) (state : BodyState) where
@@ -42,9 +42,11 @@ module _ (x : Exchanged) (state : BodyState) where
       (prefix_trans (s.out ++ take n s.text) (s.out ++ s.text) (out_text x (input_of state)) part (in_hand_first s.out s.text s.in_hand))
 
   pub written_first : (outcome : Outcome) (end : InputEnd) (text : List ℕ) → EndsWithin outcome end x state text → IsPrefix text (out_text x (input_of state))
-  written_first Finished end text e = prefix_same text (out_text x (input_of state)) e.1
-  written_first (Refused status) end text e = prefix_same text (out_text x (input_of state)) e.1
-  written_first InputBroke end text e = prefix_same text (out_text x (input_of state)) e.0.1
-  written_first (WriteFailed n) end text e = stopped_first n text e
-  written_first Idle end text e = e
-  written_first NoMemory end text e = e
+  written_first outcome end text e = by (class_of outcome) e
+    where
+      by : (k : OutcomeClass) → EndsWithinAs k outcome end x state text → IsPrefix text (out_text x (input_of state))
+      by Uncut e = prefix_same text (out_text x (input_of state)) e.0.1
+      by (ByWrite n) e = stopped_first n text e
+      by GivenUp e = e
+      by Lacking e = e
+      by Unbegun e = absurd e

@@ -1,3 +1,4 @@
+pub mod OutcomeLemmas
 pub mod BodyShapeLemmas
 pub mod ToldLemmas
 pub mod ServedLemmas

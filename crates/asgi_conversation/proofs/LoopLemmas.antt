@@ -30,7 +30,8 @@ use Rattle.asgi_exchange.specs.HttpExchange.{IsHttpExchange}
 use Rattle.asgi_exchange.specs.Steps.{is_by_input}
 use Rattle.asgi_exchange.specs.Views.{World, taken_of}
 use Rattle.asgi_conversation.specs.declared.report.Outcome.{Outcome}
-use Rattle.asgi_conversation.specs.declared.report.Outcome.TheVariants.{Finished, Refused, InputBroke, WriteFailed, Idle, NoMemory}
+use Rattle.asgi_conversation.specs.declared.report.Outcome.TheVariants.{Finished, Refused, InputBroke, WriteFailed, Idle}
+use Rattle.asgi_conversation.specs.OutcomeClasses.{OutcomeClass, IsLacking}
 use Rattle.asgi_conversation.specs.declared.report.Report.{Report}
 use Rattle.asgi_conversation.specs.Behind.{NothingIsDue, IsBlank}
 use Rattle.asgi_conversation.specs.declared.following.Following.TheVariants.{NextRequest}
@@ -38,7 +39,7 @@ use Rattle.asgi_conversation.specs.declared.input.InputEnd.{InputEnd}
 use Rattle.asgi_conversation.specs.declared.input.InputEnd.TheVariants.{AtEnd, Failed}
 use Rattle.asgi_conversation.specs.TaskEnds.{has_ended}
 use Rattle.asgi_conversation.specs.Exchanges.{Exchanged}
-use Rattle.asgi_conversation.specs.Persistence.{RefusesWith, EndsBetween, CountsExchanges, Converses}
+use Rattle.asgi_conversation.specs.Persistence.{RefusesWith, EndsBetween, EndsBetweenAs, CountsExchanges, Converses}
 use Rattle.asgi_conversation.specs.SoFar.{exchanged, Between, Within, TaskIsOver}
 use Rattle.asgi_conversation.proofs.RequestLemmas.{nothing_due, none_closed}
 use Rattle.asgi_conversation.proofs.SoFarLemmas.{start, grows, sees_end, one_grows, one_more, ends_between}
@@ -129,6 +130,10 @@ ends_as : (limits : Limits) (end : InputEnd) (read : List ℕ) (exchanges : List
 ends_as limits end read exchanges behind written text given outcome report b e ends c =
     ends_between limits end read exchanges behind written text report b.so_far (subst (λ (o : Outcome). EndsBetween o limits end behind text) (sym e) ends) c
 
+pub lacks_between : (limits : Limits) (end : InputEnd) (behind : List ℕ) (outcome : Outcome) → IsLacking outcome → EndsBetween outcome limits end behind []
+lacks_between limits end behind outcome (inl is) = subst (λ (k : OutcomeClass). EndsBetweenAs k outcome limits end behind []) (sym is) refl
+lacks_between limits end behind outcome (inr is) = subst (λ (k : OutcomeClass). EndsBetweenAs k outcome limits end behind []) (sym is) refl
+
 ends_silent : (limits : Limits) (end : InputEnd) (read : List ℕ) (exchanges : List Exchanged) (behind written : List ℕ) (given : List Next) (outcome : Outcome) (report : Report)
     → Between limits end read given exchanges behind written → report.outcome ≡ outcome → EndsBetween outcome limits end behind [] → CountsExchanges report exchanges
     → Converses limits end read exchanges written report
@@ -161,5 +166,6 @@ module _ (limits : Limits) (end : InputEnd) (read : List ℕ) (given : List Next
   pub idle : (rest : List ℕ) → GivesResults limits read given rest → report.outcome ≡ Idle → Converses limits end read exchanges written report
   idle rest g o = ends_silent limits end read exchanges behind written given Idle report b o (refl, none_due rest g) c
 
-  pub no_memory : report.outcome ≡ NoMemory → Converses limits end read exchanges written report
-  no_memory o = ends_silent limits end read exchanges behind written given NoMemory report b o refl c
+  -- memory or a thread was refused
+  pub lacking : IsLacking report.outcome → Converses limits end read exchanges written report
+  lacking l = ends_silent limits end read exchanges behind written given report.outcome report b refl (lacks_between limits end behind report.outcome l) c

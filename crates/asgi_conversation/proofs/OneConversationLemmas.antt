@@ -20,14 +20,16 @@ use Rattle.asgi_response.specs.declared.progress.Progress.TheVariants.{Nothing, 
 use Rattle.asgi_exchange.specs.Http.{input_of}
 use Rattle.asgi_exchange.proofs.ListLemmas.{last_same}
 use Rattle.asgi_conversation.specs.declared.report.Outcome.{Outcome}
-use Rattle.asgi_conversation.specs.declared.report.Outcome.TheVariants.{Finished, Refused, InputBroke, WriteFailed, Idle, NoMemory}
+use Rattle.asgi_conversation.specs.declared.report.Outcome.TheVariants.{Finished, Refused, InputBroke}
+use Rattle.asgi_conversation.proofs.OutcomeLemmas.{IsWhole, AsFinished, AsRefused, AsInputBroke, is_whole, is_done}
 use Rattle.asgi_conversation.specs.declared.report.Report.{Report}
 use Rattle.asgi_conversation.specs.Behind.{NothingIsDue, IsBlank}
 use Rattle.asgi_conversation.specs.declared.following.Following.{Following}
 use Rattle.asgi_conversation.specs.declared.following.Following.TheVariants.{NextRequest, ConnectionEnds}
 use Rattle.asgi_conversation.specs.declared.input.InputEnd.{InputEnd}
 use Rattle.asgi_conversation.specs.declared.input.InputEnd.TheVariants.{AtEnd, Failed}
-use Rattle.asgi_conversation.specs.TaskEnds.{is_cut, after_response, after_task}
+use Rattle.asgi_conversation.specs.OutcomeClasses.{is_cut}
+use Rattle.asgi_conversation.specs.TaskEnds.{after_response, after_task}
 use Rattle.asgi_conversation.specs.Exchanges.{Exchanged, ServesFirst, IsFollowed, out_text, AreAnswered, answer_texts}
 use Rattle.asgi_conversation.specs.Persistence.{EndsBetween, IsDone, EndsWithin, Ends, listed, Converses}
 
@@ -87,39 +89,30 @@ not_both end bytes e blank (inr g) = g.1 blank
 
 one_between : (limits : Limits) (end : InputEnd) (behind : List ℕ) (o p : Outcome) (text other : List ℕ) → is_cut o ≡ false → is_cut p ≡ false
     → EndsBetween o limits end behind text → EndsBetween p limits end behind other → (o ≡ p) × (text ≡ other)
-one_between limits end behind Finished Finished text other c d x y = (refl, x.0 ∙ sym y.0)
-one_between limits end behind Finished (Refused s) text other c d x y = absurd (never limits behind y.0 y.1 x.1)
-one_between limits end behind Finished InputBroke text other c d x y = absurd (not_both end behind x.2 x.3 y.2)
-one_between limits end behind (Refused s) Finished text other c d x y = absurd (never limits behind x.0 x.1 y.1)
-one_between limits end behind (Refused s) (Refused t) text other c d x y =
-    let same : s ≡ t = x.2 ∙ same_refusal limits behind x.0 y.0 x.1 y.1 ∙ sym y.2 in
-    (ap (λ (n : ℕ). Refused n) same, x.3 ∙ ap refusal_text same ∙ sym y.3)
-one_between limits end behind (Refused s) InputBroke text other c d x y = absurd (never limits behind x.0 x.1 y.1)
-one_between limits end behind InputBroke Finished text other c d x y = absurd (not_both end behind y.2 y.3 x.2)
-one_between limits end behind InputBroke (Refused s) text other c d x y = absurd (never limits behind y.0 y.1 x.1)
-one_between limits end behind InputBroke InputBroke text other c d x y = (refl, x.0 ∙ sym y.0)
-one_between limits end behind (WriteFailed n) p text other c d x y = cc
-one_between limits end behind Idle p text other c d x y = cc
-one_between limits end behind NoMemory p text other c d x y = cc
-one_between limits end behind Finished (WriteFailed n) text other c d x y = cc
-one_between limits end behind Finished Idle text other c d x y = cc
-one_between limits end behind Finished NoMemory text other c d x y = cc
-one_between limits end behind (Refused s) (WriteFailed n) text other c d x y = cc
-one_between limits end behind (Refused s) Idle text other c d x y = cc
-one_between limits end behind (Refused s) NoMemory text other c d x y = cc
-one_between limits end behind InputBroke (WriteFailed n) text other c d x y = cc
-one_between limits end behind InputBroke Idle text other c d x y = cc
-one_between limits end behind InputBroke NoMemory text other c d x y = cc
+one_between limits end behind o p text other c d x y = by (is_whole o c) (is_whole p d)
+  where
+    one : (q : Outcome) → o ≡ q → EndsBetween q limits end behind text
+    one q is = subst (λ (r : Outcome). EndsBetween r limits end behind text) is x
+
+    two : (q : Outcome) → p ≡ q → EndsBetween q limits end behind other
+    two q is = subst (λ (r : Outcome). EndsBetween r limits end behind other) is y
+
+    by : IsWhole o → IsWhole p → (o ≡ p) × (text ≡ other)
+    by (AsFinished a) (AsFinished b) = (a ∙ sym b, (one Finished a).0 ∙ sym (two Finished b).0)
+    by (AsFinished a) (AsRefused t b) = let f = one Finished a in let g = two (Refused t) b in absurd (never limits behind g.0 g.1 f.1)
+    by (AsFinished a) (AsInputBroke b) = let f = one Finished a in let g = two InputBroke b in absurd (not_both end behind f.2 f.3 g.2)
+    by (AsRefused s a) (AsFinished b) = let f = one (Refused s) a in let g = two Finished b in absurd (never limits behind f.0 f.1 g.1)
+    by (AsRefused s a) (AsRefused t b) =
+        let f = one (Refused s) a in
+        let g = two (Refused t) b in
+        let same : s ≡ t = f.2 ∙ same_refusal limits behind f.0 g.0 f.1 g.1 ∙ sym g.2 in
+        (a ∙ ap (λ (n : ℕ). Refused n) same ∙ sym b, f.3 ∙ ap refusal_text same ∙ sym g.3)
+    by (AsRefused s a) (AsInputBroke b) = let f = one (Refused s) a in let g = two InputBroke b in absurd (never limits behind f.0 f.1 g.1)
+    by (AsInputBroke a) (AsFinished b) = let f = one InputBroke a in let g = two Finished b in absurd (not_both end behind g.2 g.3 f.2)
+    by (AsInputBroke a) (AsRefused t b) = let f = one InputBroke a in let g = two (Refused t) b in absurd (never limits behind g.0 g.1 f.1)
+    by (AsInputBroke a) (AsInputBroke b) = (a ∙ sym b, (one InputBroke a).0 ∙ sym (two InputBroke b).0)
 
 -- ---- in an exchange
-
-is_done : (o : Outcome) (end : InputEnd) (x : Exchanged) (state : BodyState) (text : List ℕ) → is_cut o ≡ false → EndsWithin o end x state text → IsDone o x state text
-is_done Finished end x state text c e = e
-is_done (Refused s) end x state text c e = e
-is_done InputBroke end x state text c e = e.0
-is_done (WriteFailed n) end x state text c e = cc
-is_done Idle end x state text c e = cc
-is_done NoMemory end x state text c e = cc
 
 outcome_of : (o p : Outcome) → ConnectionEnds o ≡ ConnectionEnds p → o ≡ p
 outcome_of o p e = cc

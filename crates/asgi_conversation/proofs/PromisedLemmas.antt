@@ -16,12 +16,14 @@ use Rattle.asgi_response.specs.Progress.{progress_of}
 use Rattle.asgi_response.specs.declared.refusal.Input.TheVariants as input
 use Rattle.asgi_exchange.proofs.ListLemmas.{prefix_whole}
 use Rattle.asgi_conversation.specs.declared.report.Outcome.{Outcome}
-use Rattle.asgi_conversation.specs.declared.report.Outcome.TheVariants.{Finished, Refused, InputBroke, WriteFailed, Idle, NoMemory}
+use Rattle.asgi_conversation.specs.declared.report.Outcome.TheVariants.{Idle}
+use Rattle.asgi_conversation.proofs.OutcomeLemmas.{is_done}
 use Rattle.asgi_conversation.specs.declared.report.Report.{Report}
 use Rattle.asgi_conversation.specs.declared.following.Following.{Following}
 use Rattle.asgi_conversation.specs.declared.following.Following.TheVariants.{NextRequest, ConnectionEnds}
 use Rattle.asgi_conversation.specs.declared.input.InputEnd.{InputEnd}
-use Rattle.asgi_conversation.specs.TaskEnds.{is_cut, after_task}
+use Rattle.asgi_conversation.specs.OutcomeClasses.{is_cut}
+use Rattle.asgi_conversation.specs.TaskEnds.{after_task}
 use Rattle.asgi_conversation.specs.Exchanges.{Exchanged, ServesFirst, IsFollowed, out_text, AreAnswered, answer_texts, fault_of, fault_count}
 use Rattle.asgi_conversation.specs.Persistence.{EndsBetween, IsDone, EndsWithin, Ends, listed}
 use Rattle.asgi_conversation.specs.Promised.{IsPromised, ConversesWith}
@@ -42,14 +44,6 @@ returned_at x state next f goes faults = by f.0 f.1 f.2
 not_idle : (o : Outcome) → is_cut o ≡ false → ConnectionEnds Idle ≡ ConnectionEnds o → ⊥
 not_idle o c e = let same : Idle ≡ o = cc e in let cut : is_cut Idle ≡ false = ap is_cut same ∙ c in cc cut
 
-no_cut : (o : Outcome) (end : InputEnd) (x : Exchanged) (state : BodyState) (text : List ℕ) → is_cut o ≡ false → EndsWithin o end x state text → IsDone o x state text
-no_cut Finished end x state text c e = e
-no_cut (Refused status) end x state text c e = e
-no_cut InputBroke end x state text c e = e.0
-no_cut (WriteFailed n) end x state text c e = absurd (cc)
-no_cut Idle end x state text c e = absurd (cc)
-no_cut NoMemory end x state text c e = absurd (cc)
-
 -- ---- the conversation
 
 module _ (answers : Scope → List Incoming → List Outgoing → Option EndKind → Type 0) (say : List Incoming → List Outgoing) (law : SaysOf answers say)
@@ -68,7 +62,7 @@ module _ (answers : Scope → List Incoming → List Outgoing → Option EndKind
   plain o c bytes [] (Some x) behind text a e faults p =
       let S : Bool → Type 0 = λ cut. ServesFirst limits end cut behind x e.0 in
       let s = subst (λ (b : List ℕ). ServesFirst limits end false b x e.0) (sym a) (subst S c e.1) in
-      let done = no_cut o end x e.0 text c e.2 in (
+      let done = is_done o end x e.0 text c e.2 in (
         e.0,
         replies bytes x e.0 (ConnectionEnds o) s done.0 (not_idle o c) (omega (arith, faults)) (All-head (IsPromised answers client server values) x [] p),
         done.1,

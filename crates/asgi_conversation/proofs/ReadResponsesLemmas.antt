@@ -27,11 +27,11 @@ use Rattle.asgi_response.proofs.LawfulLemmas.{lawful_is_accepted}
 use Rattle.asgi_exchange.specs.Http.{input_of}
 use Rattle.asgi_exchange.specs.HttpExchange.{text_of}
 use Rattle.asgi_conversation.specs.declared.report.Outcome.{Outcome}
-use Rattle.asgi_conversation.specs.declared.report.Outcome.TheVariants.{Finished, Refused, InputBroke, WriteFailed, Idle, NoMemory}
+use Rattle.asgi_conversation.proofs.OutcomeLemmas.{is_done}
 use Rattle.asgi_conversation.specs.declared.report.Report.{Report}
 use Rattle.asgi_conversation.specs.declared.following.Following.TheVariants.{NextRequest}
 use Rattle.asgi_conversation.specs.declared.input.InputEnd.{InputEnd}
-use Rattle.asgi_conversation.specs.TaskEnds.{is_cut}
+use Rattle.asgi_conversation.specs.OutcomeClasses.{is_cut}
 use Rattle.asgi_conversation.specs.Exchanges.{Exchanged, IsFollowed, out_text, AreAnswered, answer_texts}
 use Rattle.asgi_conversation.specs.Persistence.{EndsWithin, Ends, listed, Converses}
 use Rattle.asgi_conversation.specs.ReadResponses.{ReadsAnswer, AreRead, CanBeSent, AllCanBeSent}
@@ -107,21 +107,13 @@ answered_are_read limits end bytes (x ∷ exchanges) behind more a sent =
 
 -- ---- the last one
 
-all_is_out : (o : Outcome) (end : InputEnd) (x : Exchanged) (state : BodyState) (text : List ℕ) → is_cut o ≡ false → EndsWithin o end x state text → text ≡ out_text x (input_of state)
-all_is_out Finished end x state text c e = e.1
-all_is_out (Refused status) end x state text c e = e.1
-all_is_out InputBroke end x state text c e = e.0.1
-all_is_out (WriteFailed n) end x state text c e = absurd (cc)
-all_is_out Idle end x state text c e = absurd (cc)
-all_is_out NoMemory end x state text c e = absurd (cc)
-
 last_is_read : (o : Outcome) (limits : Limits) (end : InputEnd) (behind : List ℕ) (x : Exchanged) (text : List ℕ) → is_cut o ≡ false → Ends o limits end behind (Some x) text
     → IsClosed Http x.said → All CanBeSent x.said → ReadsAnswer text x []
 last_is_read o limits end behind x text c e closed sent =
     let s = e.1 in
     let one = answer_is_read x closed s.lawful sent (keeps_v11 limits behind s.arrived x s.head) [] (λ h. refl) in
     let same : response_text x.facts x.said ++ [] ≡ text =
-    append-nil (response_text x.facts x.said) ∙ sym (all_is_out o end x e.0 text c e.2 ∙ closed_text x (input_of e.0) s.lawful closed) in
+    append-nil (response_text x.facts x.said) ∙ sym ((is_done o end x e.0 text c e.2).1 ∙ closed_text x (input_of e.0) s.lawful closed) in
     subst (λ (l : List ℕ). ReadsAnswer l x []) same one
 
 -- ---- a conversation

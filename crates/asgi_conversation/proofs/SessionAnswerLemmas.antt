@@ -28,9 +28,11 @@ use Rattle.asgi_apps.specs.Answers.{not_found_events}
 use Rattle.asgi_conversation.specs.declared.following.Following.TheVariants.{NextRequest, ConnectionEnds}
 use Rattle.asgi_conversation.specs.declared.input.InputEnd.{InputEnd}
 use Rattle.asgi_conversation.specs.declared.report.Outcome.{Outcome}
-use Rattle.asgi_conversation.specs.declared.report.Outcome.TheVariants.{Finished, Refused, InputBroke, WriteFailed, Idle, NoMemory}
+use Rattle.asgi_conversation.specs.declared.report.Outcome.TheVariants.{Finished, Refused, InputBroke}
+use Rattle.asgi_conversation.proofs.OutcomeLemmas.{IsWhole, AsFinished, AsRefused, AsInputBroke, is_whole}
 use Rattle.asgi_conversation.specs.declared.report.Report.{Report}
-use Rattle.asgi_conversation.specs.TaskEnds.{is_cut, after_task}
+use Rattle.asgi_conversation.specs.OutcomeClasses.{is_cut}
+use Rattle.asgi_conversation.specs.TaskEnds.{after_task}
 use Rattle.asgi_conversation.specs.Exchanges.{Exchanged, ServesFirst, IsFollowed, AreAnswered, answer_texts, out_text, fault_of, fault_count}
 use Rattle.asgi_conversation.specs.Promised.{IsPromised, ArePromised, ConversesInSessionWith, task_end, ws_echo_promise}
 use Rattle.asgi_conversation.specs.SessionEcho.{payloads_in, IsEchoed, EchoesUntil}
@@ -158,12 +160,17 @@ all_echoed limits end read exchanges talk written report w =
 
     by : (o : Outcome) → is_cut o ≡ false → EchoesUntil o w.converses.serves.frames w.converses.session talk w.converses.text
         → IsEchoed w.converses.serves.frames w.converses.session talk w.converses.text × (o ≡ outcome_for (has_close talk.received))
-    by Finished uncut e = (e.0, sym (ap outcome_for e.1))
-    by (Refused status) uncut e = let fault : fault_of (Some kind.Faulted) ≡ 0 = ap fault_of (sym e.failed) ∙ no_fault in absurd (omega (arith, fault))
-    by InputBroke uncut e = (e.0, sym (ap outcome_for e.1))
-    by (WriteFailed n) uncut e = absurd (cc (uncut))
-    by Idle uncut e = absurd (cc (uncut))
-    by NoMemory uncut e = absurd (cc (uncut))
+    by o uncut e = as_whole (is_whole o uncut)
+      where
+        of_kind : (p : Outcome) → o ≡ p → EchoesUntil p w.converses.serves.frames w.converses.session talk w.converses.text
+        of_kind p is = subst (λ (q : Outcome). EchoesUntil q w.converses.serves.frames w.converses.session talk w.converses.text) is e
+
+        as_whole : IsWhole o → IsEchoed w.converses.serves.frames w.converses.session talk w.converses.text × (o ≡ outcome_for (has_close talk.received))
+        as_whole (AsFinished is) = let f = of_kind Finished is in (f.0, is ∙ sym (ap outcome_for f.1))
+        as_whole (AsRefused status is) =
+            let f = of_kind (Refused status) is in
+            let fault : fault_of (Some kind.Faulted) ≡ 0 = ap fault_of (sym f.failed) ∙ no_fault in absurd (omega (arith, fault))
+        as_whole (AsInputBroke is) = let f = of_kind InputBroke is in (f.0, is ∙ sym (ap outcome_for f.1))
 
 pub all_sent_back : (limits : Limits) (end : InputEnd) (read : List ℕ) (exchanges : List Exchanged) (talk : Talk) (written : List ℕ) (report : Report)
     → (w : ConversesInSessionWith ws_echo_promise limits end read exchanges talk written report)

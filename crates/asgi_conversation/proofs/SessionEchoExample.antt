@@ -85,7 +85,7 @@ it_is_a_session = record {
   each = refl;
   text = accepted_text;
   serves = is_served;
-  ends = (Returned, refl, refl, all_is_written);
+  ends = ((Returned, refl, refl, all_is_written), λ broke. absurd (cc (broke)));
   written_is = refl;
   counts = record { exchanges_are = refl; faults_are = refl };
 }

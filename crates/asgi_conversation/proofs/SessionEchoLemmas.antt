@@ -39,13 +39,14 @@ use Rattle.asgi_apps.specs.Answers.{Answers}
 use Rattle.asgi_apps.specs.WsEcho.{accept_events, messages_of, session_echo, HeardDisconnect, SessionAnswers}
 use Rattle.asgi_conversation.specs.declared.input.InputEnd.{InputEnd}
 use Rattle.asgi_conversation.specs.declared.report.Outcome.{Outcome}
-use Rattle.asgi_conversation.specs.declared.report.Outcome.TheVariants.{Finished, Refused, InputBroke, WriteFailed, Idle, NoMemory}
+use Rattle.asgi_conversation.specs.declared.report.Outcome.TheVariants.{Finished, Refused, InputBroke, Idle}
+use Rattle.asgi_conversation.proofs.OutcomeLemmas.{IsWhole, AsFinished, AsRefused, AsInputBroke, is_whole}
 use Rattle.asgi_conversation.specs.declared.report.Report.{Report}
-use Rattle.asgi_conversation.specs.TaskEnds.{is_cut}
+use Rattle.asgi_conversation.specs.OutcomeClasses.{OutcomeClass, Uncut, ByWrite, GivenUp, Lacking, Unbegun, class_of, is_cut, is_cut_class}
 use Rattle.asgi_conversation.specs.Exchanges.{Exchanged}
 use Rattle.asgi_conversation.specs.Promised.{IsPromised, ArePromised, task_end, ws_echo_promise}
-use Rattle.asgi_conversation.specs.SessionEcho.{payloads_in, IsEchoed, IsRefused, IsBegun, EchoesUntil}
-use Rattle.asgi_conversation.specs.Sessions.{Talk, silence, spoken, IsLeft, ByApplication, ByClient, ByCut, ServesHandshake, Opens, Accepted, Silent, handshake_of, said_out, session_out, session_outcome, open_outcome, after_session, IsDoneTalking, IsNext, Saying, Ending, StopsTalking, EndsInSession, ConversesInSession}
+use Rattle.asgi_conversation.specs.SessionEcho.{payloads_in, IsEchoed, IsOpened, IsRefused, IsBegun, EchoesUntil, EchoesUncut, EchoesAs}
+use Rattle.asgi_conversation.specs.Sessions.{Talk, silence, spoken, IsLeft, ByApplication, ByClient, ByCut, ServesHandshake, Opens, Accepted, Silent, handshake_of, said_out, session_out, session_outcome, open_outcome, after_session, IsDoneTalking, IsNext, Saying, Ending, StopsTalking, EndsInSession, ConversesInSession, EndsInSessionAs}
 
 -- ---- a text and the messages behind it
 
@@ -579,20 +580,39 @@ last_of_all P (y ∷ xs) x h = last_of_all P xs x (All-tail P y (xs ++ x ∷ [])
 
 module _ (limits : Limits) (bytes : List ℕ) (x : Exchanged) (talk : Talk) (text : List ℕ)
     (client server : Option Peer) (values : List (List ℕ × StateValue)) (p : IsPromised ws_echo_promise client server values x) where
+  -- nothing cut it short
+  whole : (cut : Bool) (s : ServesHandshake limits cut bytes x talk text) → cut ≡ false → (o : Outcome) → IsWhole o → IsDoneTalking o x talk text
+      → (o ≡ InputBroke → talk.is_over ≡ true) → EchoesUncut o s.frames x talk text
+  whole true s uncut o w d over = absurd (cc (uncut))
+  whole false s uncut o w d over = by w
+    where
+      by : IsWhole o → EchoesUncut o s.frames x talk text
+      by (AsFinished is) =
+          let e = subst (λ (q : Outcome). IsDoneTalking q x talk text) is d in
+          subst (λ (q : Outcome). EchoesUncut q s.frames x talk text) (sym is)
+          (finished limits bytes x talk text s client server values p (done limits bytes x talk text s client server values p Finished e))
+      by (AsRefused status is) =
+          let e = subst (λ (q : Outcome). IsDoneTalking q x talk text) is d in
+          subst (λ (q : Outcome). EchoesUncut q s.frames x talk text) (sym is)
+          (refused_with limits bytes x talk text s client server values p status (done limits bytes x talk text s client server values p (Refused status) e))
+      by (AsInputBroke is) =
+          let e = subst (λ (q : Outcome). IsDoneTalking q x talk text) is d in
+          let all = input_broke limits bytes x talk text s client server values p (done limits bytes x talk text s client server values p InputBroke e) in
+          subst (λ (q : Outcome). EchoesUncut q s.frames x talk text) (sym is) (all.0, all.1, over is)
+
+  short : (cut : Bool) (s : ServesHandshake limits cut bytes x talk text) → (IsPrefix text (handshake_of x.facts None []) ⊎ IsPrefix text (refusal_text 500)) × IsBegun talk
+      → IsOpened x talk text × IsBegun talk
+  short cut s b = (record { text_is = b.0; messages_follow = messages_follow limits cut bytes x talk text s client server values p }, b.1)
+
   echoes : (o : Outcome) (s : ServesHandshake limits (is_cut o) bytes x talk text) → EndsInSession o x talk text → EchoesUntil o s.frames x talk text
-  echoes Finished s e = finished limits bytes x talk text s client server values p (done limits bytes x talk text s client server values p Finished e)
-  echoes (Refused status) s e = refused_with limits bytes x talk text s client server values p status (done limits bytes x talk text s client server values p (Refused status) e)
-  echoes InputBroke s e =
-      let all = input_broke limits bytes x talk text s client server values p (done limits bytes x talk text s client server values p InputBroke e.0) in (all.0, all.1, e.1)
-  echoes (WriteFailed n) s e =
-      let b = stops limits true bytes x talk text s client server values p n e in
-      (record { text_is = b.0; messages_follow = messages_follow limits true bytes x talk text s client server values p }, b.1)
-  echoes Idle s e =
-      let b = gives_up limits true bytes x talk text s client server values p e in
-      (record { text_is = b.0; messages_follow = messages_follow limits true bytes x talk text s client server values p }, b.1)
-  echoes NoMemory s e =
-      let b = gives_up limits true bytes x talk text s client server values p e in
-      (record { text_is = b.0; messages_follow = messages_follow limits true bytes x talk text s client server values p }, b.1)
+  echoes o s e = by (class_of o) refl e
+    where
+      by : (k : OutcomeClass) → class_of o ≡ k → EndsInSessionAs k o x talk text → EchoesAs k o s.frames x talk text
+      by Uncut is e = let uncut : is_cut o ≡ false = ap is_cut_class is in whole (is_cut o) s uncut o (is_whole o uncut) e.0 e.1
+      by (ByWrite n) is e = short (is_cut o) s (stops limits (is_cut o) bytes x talk text s client server values p n e)
+      by GivenUp is e = short (is_cut o) s (gives_up limits (is_cut o) bytes x talk text s client server values p e)
+      by Lacking is e = short (is_cut o) s (gives_up limits (is_cut o) bytes x talk text s client server values p e)
+      by Unbegun is e = e
 
 pub session_echoes : (limits : Limits) (end : InputEnd) (read : List ℕ) (exchanges : List Exchanged) (talk : Talk) (written : List ℕ) (report : Report)
     (client server : Option Peer) (values : List (List ℕ × StateValue)) (c : ConversesInSession limits end read exchanges talk written report)

@@ -214,7 +214,7 @@ a_message_is_sent_back = record {
   each = refl;
   text = accepted_text;
   serves = is_served;
-  ends = ((Returned, refl, refl, all_is_written), refl);
+  ends = ((Returned, refl, refl, all_is_written), λ broke. refl);
   written_is = refl;
   counts = record { exchanges_are = refl; faults_are = refl };
 }

@@ -24,13 +24,15 @@ use Rattle.asgi_exchange.specs.Steps.{is_by_input}
 use Rattle.asgi_exchange.specs.Views.{World, said_of, taken_of}
 use Rattle.asgi_exchange.proofs.ListLemmas.{prefix_trans, prefix_front}
 use Rattle.asgi_conversation.specs.declared.report.Outcome.{Outcome}
-use Rattle.asgi_conversation.specs.declared.report.Outcome.TheVariants.{Finished, Refused, InputBroke, WriteFailed, Idle, NoMemory}
+use Rattle.asgi_conversation.specs.declared.report.Outcome.TheVariants.{InputBroke, WriteFailed}
+use Rattle.asgi_conversation.proofs.OutcomeLemmas.{failed_write, cut_short}
 use Rattle.asgi_conversation.specs.declared.report.Report.{Report}
 use Rattle.asgi_conversation.specs.declared.following.Following.TheVariants.{NextRequest, ConnectionEnds}
 use Rattle.asgi_conversation.specs.declared.input.InputEnd.{InputEnd}
-use Rattle.asgi_conversation.specs.TaskEnds.{has_ended, is_faulty, is_cut}
+use Rattle.asgi_conversation.specs.OutcomeClasses.{OutcomeClass, Uncut, ByWrite, GivenUp, Lacking, Unbegun, class_of, is_cut, is_cut_class, cuts_exchange, cuts_exchange_class}
+use Rattle.asgi_conversation.specs.TaskEnds.{has_ended, is_faulty}
 use Rattle.asgi_conversation.specs.Exchanges.{Exchanged, ServesFirst, IsFollowed, out_text, answer_texts}
-use Rattle.asgi_conversation.specs.Persistence.{EndsBetween, StopsWithin, EndsWithin, CountsExchanges, Converses}
+use Rattle.asgi_conversation.specs.Persistence.{EndsBetween, StopsWithin, EndsWithin, EndsWithinAs, CountsExchanges, Converses}
 use Rattle.asgi_conversation.specs.SoFar.{SoFar, InOne, exchanged, HasBroken, IsCutBy, IsOut}
 use Rattle.asgi_conversation.proofs.AnsweredLemmas.{answered_grow, answered_end, answered_more, texts_more}
 
@@ -150,12 +152,14 @@ ends_in limits end read exchanges behind written x state text report s serves e 
 
 done : (outcome : Outcome) (end : InputEnd) (x : Exchanged) (state : BodyState) (text : List ℕ) → IsFollowed x state (ConnectionEnds outcome) → text ≡ out_text x (input_of state)
     → is_cut outcome ≡ false → (outcome ≡ InputBroke → (has_ended end ≡ true) ⊎ (is_faulty state ≡ true)) → EndsWithin outcome end x state text
-done Finished end x state text f out uncut broke = (f, out)
-done (Refused status) end x state text f out uncut broke = (f, out)
-done InputBroke end x state text f out uncut broke = ((f, out), broke refl)
-done (WriteFailed n) end x state text f out uncut broke = cc
-done Idle end x state text f out uncut broke = cc
-done NoMemory end x state text f out uncut broke = cc
+done outcome end x state text f out uncut broke = by (class_of outcome) uncut
+  where
+    by : (k : OutcomeClass) → is_cut_class k ≡ false → EndsWithinAs k outcome end x state text
+    by Uncut c = ((f, out), broke)
+    by (ByWrite n) c = absurd (cc)
+    by GivenUp c = absurd (cc)
+    by Lacking c = absurd (cc)
+    by Unbegun c = absurd (cc)
 
 -- the end of the task decides, and all is out
 pub ends_by_task : (limits : Limits) (end : InputEnd) (read : List ℕ) (exchanges : List Exchanged) (written : List ℕ) (scope : Scope) (facts : Facts) (w : World ℕ ℕ) (kind : EndKind) (events : List Incoming)
@@ -206,24 +210,22 @@ written_front limits scope facts w events state i body =
 pub ends_cut : (limits : Limits) (end : InputEnd) (read : List ℕ) (exchanges : List Exchanged) (written : List ℕ) (scope : Scope) (facts : Facts) (w : World ℕ ℕ) (events : List Incoming)
     (state : BodyState) (report : Report)
     → InOne limits end read exchanges written scope facts w.conn.arrived → IsHttpExchange limits facts w
-    → ReadsBody limits facts.framing w.conn.arrived events state → HasBroken end w state → is_cut report.outcome ≡ true
+    → ReadsBody limits facts.framing w.conn.arrived events state → HasBroken end w state → cuts_exchange report.outcome ≡ true
     → ((n : ℕ) → report.outcome ≡ WriteFailed n → StopsWithin n (exchanged scope facts w) (input_of state) w.conn.written)
     → CountsExchanges report (exchanges ++ exchanged scope facts w ∷ [])
     → Converses limits end read (exchanges ++ exchanged scope facts w ∷ []) (written ++ w.conn.written) report
 ends_cut limits end read exchanges written scope facts w events state report o i body broke cut stops c =
     ends_in limits end read exchanges o.behind written (exchanged scope facts w) state w.conn.written report o.so_far
-    (subst (λ (b : Bool). ServesFirst limits end b o.behind (exchanged scope facts w) state) (sym cut)
+    (subst (λ (b : Bool). ServesFirst limits end b o.behind (exchanged scope facts w) state) (sym (cut_short report.outcome cut))
     (serves_of limits end true o.behind scope facts w events state o.head i body broke (λ b. refl)))
-    (by report.outcome cut stops) c
+    (by (class_of report.outcome) refl cut) c
   where
     front : IsPrefix w.conn.written (out_text (exchanged scope facts w) (input_of state))
     front = written_front limits scope facts w events state i body
 
-    by : (outcome : Outcome) → is_cut outcome ≡ true → ((n : ℕ) → outcome ≡ WriteFailed n → StopsWithin n (exchanged scope facts w) (input_of state) w.conn.written)
-        → EndsWithin outcome end (exchanged scope facts w) state w.conn.written
-    by Finished cut stops = cc
-    by (Refused status) cut stops = cc
-    by InputBroke cut stops = cc
-    by (WriteFailed n) cut stops = stops n refl
-    by Idle cut stops = front
-    by NoMemory cut stops = front
+    by : (k : OutcomeClass) → class_of report.outcome ≡ k → cuts_exchange_class k ≡ true → EndsWithinAs k report.outcome end (exchanged scope facts w) state w.conn.written
+    by Uncut is cut = absurd (cc (cut))
+    by (ByWrite n) is cut = stops n (failed_write report.outcome n is)
+    by GivenUp is cut = front
+    by Lacking is cut = front
+    by Unbegun is cut = absurd (cc (cut))

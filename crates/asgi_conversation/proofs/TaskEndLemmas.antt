@@ -36,7 +36,8 @@ use Rattle.asgi_conversation.specs.declared.report.Outcome.TheVariants.{Finished
 use Rattle.asgi_conversation.specs.declared.report.Report.{Report}
 use Rattle.asgi_conversation.specs.declared.following.Following.TheVariants.{ConnectionEnds}
 use Rattle.asgi_conversation.specs.declared.input.InputEnd.{InputEnd}
-use Rattle.asgi_conversation.specs.TaskEnds.{has_ended, is_faulty, is_cut, after_response, incomplete}
+use Rattle.asgi_conversation.specs.OutcomeClasses.{is_cut, cuts_exchange}
+use Rattle.asgi_conversation.specs.TaskEnds.{has_ended, is_faulty, after_response, incomplete}
 use Rattle.asgi_conversation.specs.Exchanges.{Exchanged}
 use Rattle.asgi_conversation.specs.Persistence.{Beginning, Saying, Ending, StopsWithin, CountsExchanges, Converses}
 use Rattle.asgi_conversation.specs.SoFar.{exchanged, Within, TaskIsOver, HasBroken, HasBrokenIn, IsOut}
@@ -185,7 +186,7 @@ module _ (limits : Limits) (end : InputEnd) (read : List ℕ) (opened : List Nex
           written_is = out ∙ ap (λ (l : List Outgoing). response_text facts l ++ take n (refusal_text status)) whole;
         } in
         ends_cut limits end read exchanges written scope facts w (body_events limits facts.framing w.conn.arrived) known report x.one i
-        (subst S same (body_is_read limits facts.framing w.conn.arrived)) broke (ap is_cut o)
+        (subst S same (body_is_read limits facts.framing w.conn.arrived)) broke (ap cuts_exchange o)
         (λ m e. subst (λ (j : ℕ). StopsWithin j (exchanged scope facts w) (input_of known) w.conn.written) (cc (sym o ∙ e)) stops) c
 
     pub failure_unsent : (n : ℕ) → Reaches limits read (opened ++ (map Event events ++ Whole ∷ [])) place held → (is_by_input w.conn.broken ≡ true → has_ended end ≡ true)
@@ -211,7 +212,7 @@ module _ (limits : Limits) (end : InputEnd) (read : List ℕ) (opened : List Nex
   stops_as n broke stops o =
       let s = body_state limits facts.framing w.conn.arrived in
       ends_cut limits end read exchanges written scope facts w (body_events limits facts.framing w.conn.arrived) s report x.one i
-      (body_is_read limits facts.framing w.conn.arrived) broke (ap is_cut o)
+      (body_is_read limits facts.framing w.conn.arrived) broke (ap cuts_exchange o)
       (λ m e. subst (λ (j : ℕ). StopsWithin j (exchanged scope facts w) (input_of s) w.conn.written) (cc (sym o ∙ e)) stops) c
 
   pub beginning_unsent : (n : ℕ) → HasBrokenIn limits end facts w → n < length (response_text facts []) → w.conn.written ≡ take n (response_text facts [])
@@ -244,9 +245,9 @@ module _ (limits : Limits) (end : InputEnd) (read : List ℕ) (opened : List Nex
       ends_cut limits end read exchanges written scope facts w (body_events limits facts.framing w.conn.arrived) (body_state limits facts.framing w.conn.arrived) report x.one i
       (body_is_read limits facts.framing w.conn.arrived) broke (cut o) (λ n e. absurd (other n o e)) c
     where
-      cut : (report.outcome ≡ Idle) ⊎ (report.outcome ≡ NoMemory) → is_cut report.outcome ≡ true
-      cut (inl e) = ap is_cut e
-      cut (inr e) = ap is_cut e
+      cut : (report.outcome ≡ Idle) ⊎ (report.outcome ≡ NoMemory) → cuts_exchange report.outcome ≡ true
+      cut (inl e) = ap cuts_exchange e
+      cut (inr e) = ap cuts_exchange e
 
       other : (n : ℕ) → (report.outcome ≡ Idle) ⊎ (report.outcome ≡ NoMemory) → report.outcome ≡ WriteFailed n → ⊥
       other n (inl e) f = cc (sym e ∙ f)

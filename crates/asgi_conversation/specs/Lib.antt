@@ -1,4 +1,5 @@
 pub mod Behind
+pub mod OutcomeClasses
 pub mod OutcomeWords
 pub mod TaskEnds
 pub mod Exchanges

@@ -18,13 +18,14 @@ use Rattle.asgi_response.specs.Exchange.{refusal_text, added_by_end}
 use Rattle.asgi_response.specs.Response.{response_text}
 use Rattle.asgi_exchange.specs.Http.{input_of}
 use Rattle.asgi_conversation.specs.declared.report.Outcome.{Outcome}
-use Rattle.asgi_conversation.specs.declared.report.Outcome.TheVariants.{Finished, Refused, InputBroke, WriteFailed, Idle, NoMemory}
+use Rattle.asgi_conversation.specs.declared.report.Outcome.TheVariants.{Finished, Refused, InputBroke}
 use Rattle.asgi_conversation.specs.declared.report.Report.{Report}
 use Rattle.asgi_conversation.specs.Behind.{NothingIsDue, IsBlank}
 use Rattle.asgi_conversation.specs.declared.following.Following.TheVariants.{ConnectionEnds}
 use Rattle.asgi_conversation.specs.declared.input.InputEnd.{InputEnd}
 use Rattle.asgi_conversation.specs.declared.input.InputEnd.TheVariants.{AtEnd, Failed}
-use Rattle.asgi_conversation.specs.TaskEnds.{has_ended, is_faulty, is_cut}
+use Rattle.asgi_conversation.specs.OutcomeClasses.{OutcomeClass, Uncut, ByWrite, GivenUp, Lacking, Unbegun, class_of, is_cut}
+use Rattle.asgi_conversation.specs.TaskEnds.{has_ended, is_faulty}
 use Rattle.asgi_conversation.specs.Exchanges.{Exchanged, ServesFirst, IsFollowed, out_text, AreAnswered, answer_texts, fault_count}
 
 -- ---- the end between two requests
@@ -34,20 +35,28 @@ abbrev pub RefusesWith : Limits → List ℕ → ℕ → Type 0
 RefusesWith limits bytes status = (why : Refusal) × RefusesHead limits bytes why × (status ≡ status_of why)
 
 -- By the bytes behind the answered requests: what is written there.
-abbrev pub EndsBetween : Outcome → Limits → InputEnd → List ℕ → List ℕ → Type 0
+abbrev pub EndsUncut : Outcome → Limits → InputEnd → List ℕ → List ℕ → Type 0
 -- the input ended, and no further request was begun
-EndsBetween Finished limits end behind text = (text ≡ []) × NothingIsDue limits behind × (end ≡ AtEnd) × IsBlank behind
+EndsUncut Finished limits end behind text = (text ≡ []) × NothingIsDue limits behind × (end ≡ AtEnd) × IsBlank behind
 -- a head is refused
-EndsBetween (Refused status) limits end behind text =
+EndsUncut (Refused status) limits end behind text =
     (why : Refusal) × RefusesHead limits behind why × (status ≡ status_of why) × (text ≡ refusal_text status)
 -- the input failed, or ended inside a head
-EndsBetween InputBroke limits end behind text =
+EndsUncut InputBroke limits end behind text =
     (text ≡ []) × NothingIsDue limits behind × ((end ≡ Failed) ⊎ ((end ≡ AtEnd) × ¬ (IsBlank behind)))
+EndsUncut _ limits end behind text = ⊥
+
+abbrev pub EndsBetweenAs : OutcomeClass → Outcome → Limits → InputEnd → List ℕ → List ℕ → Type 0
+EndsBetweenAs Uncut outcome limits end behind text = EndsUncut outcome limits end behind text
 -- a head is refused, and so much of its refusal was written
-EndsBetween (WriteFailed n) limits end behind text =
+EndsBetweenAs (ByWrite n) outcome limits end behind text =
     (why : Refusal) × RefusesHead limits behind why × (n < length (refusal_text (status_of why))) × (text ≡ take n (refusal_text (status_of why)))
-EndsBetween Idle limits end behind text = (text ≡ []) × NothingIsDue limits behind
-EndsBetween NoMemory limits end behind text = text ≡ []
+EndsBetweenAs GivenUp outcome limits end behind text = (text ≡ []) × NothingIsDue limits behind
+EndsBetweenAs Lacking outcome limits end behind text = text ≡ []
+EndsBetweenAs Unbegun outcome limits end behind text = text ≡ []
+
+abbrev pub EndsBetween : Outcome → Limits → InputEnd → List ℕ → List ℕ → Type 0
+EndsBetween outcome limits end behind text = EndsBetweenAs (class_of outcome) outcome limits end behind text
 
 -- ---- the end in an exchange
 
@@ -71,13 +80,17 @@ abbrev pub IsDone : Outcome → Exchanged → BodyState → List ℕ → Type 0
 IsDone outcome x state text = IsFollowed x state (ConnectionEnds outcome) × (text ≡ out_text x (input_of state))
 
 -- By the exchange, and how far the body of its request has come: what is written there.
+abbrev pub EndsWithinAs : OutcomeClass → Outcome → InputEnd → Exchanged → BodyState → List ℕ → Type 0
+EndsWithinAs Uncut outcome end x state text =
+    IsDone outcome x state text × (outcome ≡ InputBroke → (has_ended end ≡ true) ⊎ (is_faulty state ≡ true))
+EndsWithinAs (ByWrite n) outcome end x state text = StopsWithin n x (input_of state) text
+EndsWithinAs GivenUp outcome end x state text = IsPrefix text (out_text x (input_of state))
+EndsWithinAs Lacking outcome end x state text = IsPrefix text (out_text x (input_of state))
+-- no task was begun
+EndsWithinAs Unbegun outcome end x state text = ⊥
+
 abbrev pub EndsWithin : Outcome → InputEnd → Exchanged → BodyState → List ℕ → Type 0
-EndsWithin Finished end x state text = IsDone Finished x state text
-EndsWithin (Refused status) end x state text = IsDone (Refused status) x state text
-EndsWithin InputBroke end x state text = IsDone InputBroke x state text × ((has_ended end ≡ true) ⊎ (is_faulty state ≡ true))
-EndsWithin (WriteFailed n) end x state text = StopsWithin n x (input_of state) text
-EndsWithin Idle end x state text = IsPrefix text (out_text x (input_of state))
-EndsWithin NoMemory end x state text = IsPrefix text (out_text x (input_of state))
+EndsWithin outcome end x state text = EndsWithinAs (class_of outcome) outcome end x state text
 
 -- The bytes behind the answered requests begin with one more, in whose exchange the connection ended; or none was begun.
 abbrev pub Ends : Outcome → Limits → InputEnd → List ℕ → Option Exchanged → List ℕ → Type 0

@@ -16,7 +16,7 @@ use Rattle.asgi_apps.specs.Scopes.{kind_of}
 use Rattle.asgi_apps.specs.WsEcho.{WsEchoAnswers}
 use Rattle.asgi_conversation.specs.declared.report.Report.{Report}
 use Rattle.asgi_conversation.specs.declared.input.InputEnd.{InputEnd}
-use Rattle.asgi_conversation.specs.TaskEnds.{is_cut}
+use Rattle.asgi_conversation.specs.OutcomeClasses.{is_cut}
 use Rattle.asgi_conversation.specs.Exchanges.{Exchanged}
 use Rattle.asgi_conversation.specs.Persistence.{Converses}
 use Rattle.asgi_conversation.specs.Sessions.{Talk, ConversesInSession}

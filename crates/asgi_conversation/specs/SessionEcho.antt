@@ -11,7 +11,8 @@ use Rattle.asgi_ws.specs.declared.messages.Msg.{Msg}
 use Rattle.asgi_ws.specs.declared.messages.Msg.TheVariants as msg
 use Rattle.asgi_exchange.specs.Messages.{has_close, session_events, session_disconnect}
 use Rattle.asgi_conversation.specs.declared.report.Outcome.{Outcome}
-use Rattle.asgi_conversation.specs.declared.report.Outcome.TheVariants.{Finished, Refused, InputBroke, WriteFailed, Idle, NoMemory}
+use Rattle.asgi_conversation.specs.declared.report.Outcome.TheVariants.{Finished, Refused, InputBroke}
+use Rattle.asgi_conversation.specs.OutcomeClasses.{OutcomeClass, Uncut, ByWrite, GivenUp, Lacking, Unbegun, class_of}
 use Rattle.asgi_conversation.specs.Exchanges.{Exchanged}
 use Rattle.asgi_conversation.specs.Sessions.{Talk, silence, handshake_of}
 
@@ -53,13 +54,22 @@ abbrev pub IsBegun : Talk → Type 0
 IsBegun talk = IsPrefix talk.handed (payloads_in talk.received)
 
 -- what the client got, by the outcome of the connection
-abbrev pub EchoesUntil : Outcome → List ℕ → Exchanged → Talk → List ℕ → Type 0
+abbrev pub EchoesUncut : Outcome → List ℕ → Exchanged → Talk → List ℕ → Type 0
 -- it closed the session
-EchoesUntil Finished frames session talk text = IsEchoed frames session talk text × (has_close talk.received ≡ true)
+EchoesUncut Finished frames session talk text = IsEchoed frames session talk text × (has_close talk.received ≡ true)
 -- it did not, and no more messages come
-EchoesUntil InputBroke frames session talk text = IsEchoed frames session talk text × (has_close talk.received ≡ false) × (talk.is_over ≡ true)
-EchoesUntil (Refused status) frames session talk text = IsRefused status session talk text
+EchoesUncut InputBroke frames session talk text = IsEchoed frames session talk text × (has_close talk.received ≡ false) × (talk.is_over ≡ true)
+EchoesUncut (Refused status) frames session talk text = IsRefused status session talk text
+EchoesUncut _ frames session talk text = ⊥
+
+abbrev pub EchoesAs : OutcomeClass → Outcome → List ℕ → Exchanged → Talk → List ℕ → Type 0
+EchoesAs Uncut outcome frames session talk text = EchoesUncut outcome frames session talk text
 -- cut short by a write, a limit or want of memory
-EchoesUntil (WriteFailed n) frames session talk text = IsOpened session talk text × IsBegun talk
-EchoesUntil Idle frames session talk text = IsOpened session talk text × IsBegun talk
-EchoesUntil NoMemory frames session talk text = IsOpened session talk text × IsBegun talk
+EchoesAs (ByWrite n) outcome frames session talk text = IsOpened session talk text × IsBegun talk
+EchoesAs GivenUp outcome frames session talk text = IsOpened session talk text × IsBegun talk
+EchoesAs Lacking outcome frames session talk text = IsOpened session talk text × IsBegun talk
+-- no task was begun
+EchoesAs Unbegun outcome frames session talk text = ⊥
+
+abbrev pub EchoesUntil : Outcome → List ℕ → Exchanged → Talk → List ℕ → Type 0
+EchoesUntil outcome frames session talk text = EchoesAs (class_of outcome) outcome frames session talk text

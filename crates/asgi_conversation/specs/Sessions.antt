@@ -24,9 +24,9 @@ use Rattle.asgi_exchange.specs.Session.{Output, Byte, Message, Handshake, sessio
 use Rattle.asgi_exchange.specs.SessionExchange.{session_text}
 use Rattle.asgi_conversation.specs.declared.input.InputEnd.{InputEnd}
 use Rattle.asgi_conversation.specs.declared.report.Outcome.{Outcome}
-use Rattle.asgi_conversation.specs.declared.report.Outcome.TheVariants.{Finished, Refused, InputBroke, WriteFailed, Idle, NoMemory}
+use Rattle.asgi_conversation.specs.declared.report.Outcome.TheVariants.{Finished, Refused, InputBroke, Idle}
 use Rattle.asgi_conversation.specs.declared.report.Report.{Report}
-use Rattle.asgi_conversation.specs.TaskEnds.{is_cut}
+use Rattle.asgi_conversation.specs.OutcomeClasses.{OutcomeClass, Uncut, ByWrite, GivenUp, Lacking, Unbegun, class_of, is_cut}
 use Rattle.asgi_conversation.specs.Exchanges.{Exchanged, AreAnswered, answer_texts}
 use Rattle.asgi_conversation.specs.Persistence.{CountsExchanges, Converses}
 
@@ -143,14 +143,17 @@ pub record StopsTalking (n : ℕ) (x : Exchanged) (written : List Output) : Type
   pub within : n < length more
   pub written_is : written ≡ out ++ take n more
 
-abbrev pub EndsInSession : Outcome → Exchanged → Talk → List ℕ → Type 0
-EndsInSession Finished x talk text = IsDoneTalking Finished x talk text
-EndsInSession (Refused status) x talk text = IsDoneTalking (Refused status) x talk text
-EndsInSession InputBroke x talk text = IsDoneTalking InputBroke x talk text × (talk.is_over ≡ true)
-EndsInSession (WriteFailed n) x talk text = StopsTalking n x (spoken text talk)
+abbrev pub EndsInSessionAs : OutcomeClass → Outcome → Exchanged → Talk → List ℕ → Type 0
+EndsInSessionAs Uncut outcome x talk text = IsDoneTalking outcome x talk text × (outcome ≡ InputBroke → talk.is_over ≡ true)
+EndsInSessionAs (ByWrite n) outcome x talk text = StopsTalking n x (spoken text talk)
 -- it was given up, or memory was refused: the end of the task adds nothing
-EndsInSession Idle x talk text = IsPrefix (spoken text talk) (said_out x)
-EndsInSession NoMemory x talk text = IsPrefix (spoken text talk) (said_out x)
+EndsInSessionAs GivenUp outcome x talk text = IsPrefix (spoken text talk) (said_out x)
+EndsInSessionAs Lacking outcome x talk text = IsPrefix (spoken text talk) (said_out x)
+-- no task was begun
+EndsInSessionAs Unbegun outcome x talk text = ⊥
+
+abbrev pub EndsInSession : Outcome → Exchanged → Talk → List ℕ → Type 0
+EndsInSession outcome x talk text = EndsInSessionAs (class_of outcome) outcome x talk text
 
 -- ---- the conversation
 

@@ -11,7 +11,7 @@ use Rattle.asgi_conversation.specs.declared.following.Following.TheVariants.{Nex
 use Rattle.asgi_conversation.specs.declared.input.InputEnd.{InputEnd}
 use Rattle.asgi_conversation.specs.declared.input.InputEnd.TheVariants.{OpenStill, AtEnd, Failed}
 use Rattle.asgi_conversation.specs.declared.report.Outcome.{Outcome}
-use Rattle.asgi_conversation.specs.declared.report.Outcome.TheVariants.{Finished, Refused, InputBroke, WriteFailed, Idle, NoMemory}
+use Rattle.asgi_conversation.specs.declared.report.Outcome.TheVariants.{Finished, Refused, InputBroke, Idle}
 
 -- no more bytes come
 abbrev pub has_ended : InputEnd → Bool
@@ -23,15 +23,6 @@ abbrev pub is_faulty : BodyState → Bool
 is_faulty partial = false
 is_faulty (complete behind) = false
 is_faulty (faulty why) = true
-
--- the connection was cut short by a write, a limit or want of memory
-abbrev pub is_cut : Outcome → Bool
-is_cut Finished = false
-is_cut (Refused status) = false
-is_cut InputBroke = false
-is_cut (WriteFailed n) = true
-is_cut Idle = true
-is_cut NoMemory = true
 
 -- The response has not begun. The rest of the body is read, and the server answers in its place.
 abbrev pub unanswered : BodyState → Outcome

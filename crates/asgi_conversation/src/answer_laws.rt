@@ -22,7 +22,7 @@ ghost use Rattle.asgi_conversation.specs.Promised.{IsPromised, ConversesWith, Co
 ghost use Rattle.asgi_conversation.specs.Sessions.{Talk};
 ghost use Rattle.asgi_conversation.specs.ReadResponses.{ReadsAnswer, AreRead, AllCanBeSent, refusal_fields};
 ghost use Rattle.asgi_conversation.specs.declared.input.InputEnd.{InputEnd};
-ghost use Rattle.asgi_conversation.specs.TaskEnds.{is_cut};
+ghost use Rattle.asgi_conversation.specs.OutcomeClasses.{is_cut};
 
 /// `Echo` says back all of the body that came, event by event, where its task returned and the
 /// connection was not cut short.

@@ -32,7 +32,8 @@ ghost use Rattle.asgi_conversation.specs.SoFar.{SoFar, InOne, Between, Within, e
 ghost use Rattle.asgi_conversation.specs.declared.following.Following.TheVariants.{NextRequest, ConnectionEnds};
 ghost use Rattle.asgi_conversation.specs.declared.input.InputEnd.{InputEnd};
 ghost use Rattle.asgi_conversation.specs.declared.input.InputEnd.TheVariants.{AtEnd, Failed};
-ghost use Rattle.asgi_conversation.specs.TaskEnds.{has_ended, is_faulty, is_cut};
+ghost use Rattle.asgi_conversation.specs.OutcomeClasses.{is_cut, cuts_exchange, IsLacking};
+ghost use Rattle.asgi_conversation.specs.TaskEnds.{has_ended, is_faulty};
 
 pub use crate::answer_laws::{
     answers_are_one, answers_to_a_front_come_first, echo_says_the_body_back,
@@ -103,7 +104,7 @@ pub fn ends_make_a_conversation()
     ensures cut { (limits : Limits) (end : InputEnd) (read : List ℕ) (exchanges : List Exchanged) (written : List ℕ) (scope : Scope) (facts : Facts)
         (w : World ℕ ℕ) (events : List Incoming) (state : BodyState) (report : Report)
         → InOne limits end read exchanges written scope facts w.conn.arrived → IsHttpExchange limits facts w
-        → ReadsBody limits facts.framing w.conn.arrived events state → HasBroken end w state → is_cut report.outcome ≡ true
+        → ReadsBody limits facts.framing w.conn.arrived events state → HasBroken end w state → cuts_exchange report.outcome ≡ true
         → ((n : ℕ) → report.outcome ≡ Outcome.WriteFailed n → StopsWithin n (exchanged scope facts w) (input_of state) w.conn.written)
         → CountsExchanges report (exchanges ++ exchanged scope facts w ∷ [])
         → ConversesLast limits end read exchanges written scope facts w report }
@@ -138,7 +139,7 @@ pub fn a_reader_leads_from_exchange_to_exchange()
 {}
 
 /// Between two exchanges the refusal that a reader gives, all given at the end of the input, a
-/// limit or want of memory makes a conversation.
+/// limit, or want of memory or of a thread, makes a conversation.
 pub fn a_reader_ends_a_conversation()
     ensures refused { (reader : Reading) (end : InputEnd) (read : List ℕ) (given : List Next) (exchanges : List Exchanged) (behind written : List ℕ) (report : Report) (status : ℕ)
         → Between reader.limits end read given exchanges behind written → CountsExchanges report exchanges
@@ -159,9 +160,9 @@ pub fn a_reader_ends_a_conversation()
     ensures idle { (reader : Reading) (end : InputEnd) (read : List ℕ) (given : List Next) (exchanges : List Exchanged) (behind written : List ℕ) (report : Report)
         → Between reader.limits end read given exchanges behind written → CountsExchanges report exchanges
         → AllGiven reader read given → report.outcome ≡ Outcome.Idle → Converses reader.limits end read exchanges written report }
-    ensures no_memory { (limits : Limits) (end : InputEnd) (read : List ℕ) (given : List Next) (exchanges : List Exchanged) (behind written : List ℕ) (report : Report)
+    ensures lacking { (limits : Limits) (end : InputEnd) (read : List ℕ) (given : List Next) (exchanges : List Exchanged) (behind written : List ℕ) (report : Report)
         → Between limits end read given exchanges behind written → CountsExchanges report exchanges
-        → report.outcome ≡ Outcome.NoMemory → Converses limits end read exchanges written report }
+        → IsLacking report.outcome → Converses limits end read exchanges written report }
 {}
 
 /// In an exchange whose task returned or faulted: a response that has begun stays as it is, what

@@ -1,6 +1,7 @@
 //! How a connection ended.
 ghost use Rattle.std.specs.Prelude.{◌≡◌, ◌≤◌, ◌++◌, Some, length};
 ghost use Rattle.std.specs.Fmt.{decimal};
+ghost use Rattle.asgi_conversation.specs.OutcomeClasses.{is_cut};
 ghost use Rattle.asgi_conversation.specs.OutcomeWords.{outcome_words};
 
 use arrayvec::ArrayString;
@@ -24,6 +25,8 @@ pub enum Outcome {
     Idle,
     /// Memory was refused.
     NoMemory,
+    /// A thread, or memory for it, was refused, and no task was begun.
+    NoThread,
 }
 
 impl Outcome {
@@ -40,6 +43,17 @@ impl Outcome {
             Outcome::WriteFailed(n) => numbered("write-failed ", n as u64),
             Outcome::Idle => word("idle"),
             Outcome::NoMemory => word("no-memory"),
+            Outcome::NoThread => word("no-thread"),
+        }
+    }
+
+    /// Whether a write, a limit on turns, or want of memory or of a thread cut the connection short.
+    pub fn is_cut(self) -> bool
+        ensures { result ≡ is_cut self }
+    {
+        match self {
+            Outcome::Finished | Outcome::Refused(_) | Outcome::InputBroke => false,
+            _ => true,
         }
     }
 }

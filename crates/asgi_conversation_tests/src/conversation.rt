@@ -1,5 +1,5 @@
 //! Whole conversations: what is written, the outcome, the exchanges and the faults, however the input is cut.
-use asgi_conn::Outcome;
+use asgi_conn::{Host, Outcome};
 use asgi_fakes::texts::{
     BAD_REQUEST, CONTINUE, ECHO_HEAD, END, GET, GET_AND_CLOSE, HELLO, HELLO_AND_CLOSE, HELLO_HEAD,
     LAST_CHUNK, NOT_IMPLEMENTED, OLD_HELLO, PLAIN_HEAD, POST, SERVER_ERROR, TOO_LARGE,
@@ -7,10 +7,9 @@ use asgi_fakes::texts::{
 };
 use asgi_fakes::{App, End, Heard, Pieces, Said, Step, is_served};
 use asgi_types::{BadLimit, Limits};
-use std::alloc::{AllocError, AllocGlobal, Global};
+use std::alloc::{AllocError, Global};
 use std::io::ErrorKind;
 use std::process::Abort;
-use std::random::RandomSource;
 use std::test::Fail;
 
 /// The limits of a row.
@@ -48,19 +47,14 @@ fn joined(alloc: Global, parts: &[&[u8]]) -> Result<Vec<u8>, AllocError> {
 }
 
 /// Serves the input in such pieces, and compares.
-fn is_row<H: RandomSource + AllocGlobal>(
-    rt: &H,
-    row: &Row,
-    pieces: Pieces,
-    wanted: &[u8],
-) -> Result<bool, Fail> {
+fn is_row<H: Host>(rt: &H, row: &Row, pieces: Pieces, wanted: &[u8]) -> Result<bool, Fail> {
     let (under, app, _, _, end) = *row;
     let limits = limits_of(under)?;
     Ok(is_served(rt, &limits, app, pieces, wanted, end)?)
 }
 
 /// Each row, whole and in pieces of three sizes, and byte by byte with a read that would block before each.
-fn check<H: Abort + RandomSource + AllocGlobal>(rt: &H, rows: &[Row]) -> Result<(), Fail> {
+fn check<H: Abort + Host>(rt: &H, rows: &[Row]) -> Result<(), Fail> {
     for (place, row) in rows.iter().enumerate() {
         let input = joined(rt.alloc(), row.2)?;
         let wanted = joined(rt.alloc(), row.3)?;
@@ -79,7 +73,7 @@ fn check<H: Abort + RandomSource + AllocGlobal>(rt: &H, rows: &[Row]) -> Result<
 }
 
 /// Each row, cut in two at each place.
-fn check_halves<H: Abort + RandomSource + AllocGlobal>(rt: &H, rows: &[Row]) -> Result<(), Fail> {
+fn check_halves<H: Abort + Host>(rt: &H, rows: &[Row]) -> Result<(), Fail> {
     for (place, row) in rows.iter().enumerate() {
         let input = joined(rt.alloc(), row.2)?;
         let wanted = joined(rt.alloc(), row.3)?;

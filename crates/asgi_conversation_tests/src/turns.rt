@@ -1,11 +1,9 @@
 //! How turns and pauses are counted, and what their limits do.
-use asgi_conn::Outcome;
+use asgi_conn::{Host, Outcome};
 use asgi_fakes::texts::{BAD_REQUEST, GET, HELLO, TWO_REQUESTS};
-use asgi_fakes::{App, Memory, Never, Pieces, Step, is_served, line_of, serve_by, text_of};
+use asgi_fakes::{App, Memory, Never, Pieces, Step, Way, is_served_so, line_of, serve_by, text_of};
 use asgi_types::Limits;
-use std::alloc::AllocGlobal;
 use std::io::{self, ErrorKind, Read};
-use std::random::RandomSource;
 use std::test::Fail;
 
 /// The turns, the pauses, and the idle turns at the end.
@@ -36,17 +34,13 @@ fn pieces_of(row: &Row) -> Pieces<'static> {
 }
 
 /// Whether the connection over the row's pieces is counted so.
-fn is_counted<H: RandomSource + AllocGlobal>(rt: &H, row: &Row) -> io::Result<bool> {
+fn is_counted<H: Host>(rt: &H, row: &Row) -> io::Result<bool> {
     let mut line = line_of(rt, pieces_of(row))?;
     is_line_counted(rt, &mut line, row.3)
 }
 
-fn is_line_counted<H: RandomSource + AllocGlobal>(
-    rt: &H,
-    line: &mut Memory<Pieces>,
-    counts: Counts,
-) -> io::Result<bool> {
-    let (report, paused) = serve_by(rt, &Limits::usual(), App::Hello, line)?;
+fn is_line_counted<H: Host>(rt: &H, line: &mut Memory<Pieces>, counts: Counts) -> io::Result<bool> {
+    let (report, paused) = serve_by(rt, Way::Inline, &Limits::usual(), App::Hello, line)?;
     Ok((report.turns, paused, report.idle) == counts)
 }
 
@@ -59,7 +53,7 @@ fn turns_are_counted(rt: HostRuntime) -> Result<(), Fail> {
 }
 
 /// Whether a connection reaches a limit, so that nothing is written, and is counted so.
-fn idles<H: RandomSource + AllocGlobal, R: Read + Drop>(
+fn idles<H: Host, R: Read + Drop>(
     rt: &H,
     limits: &Limits,
     app: App,
@@ -70,14 +64,14 @@ fn idles<H: RandomSource + AllocGlobal, R: Read + Drop>(
     line_idles(rt, limits, app, &mut line, counts)
 }
 
-fn line_idles<H: RandomSource + AllocGlobal, R: Read + Drop>(
+fn line_idles<H: Host, R: Read + Drop>(
     rt: &H,
     limits: &Limits,
     app: App,
     line: &mut Memory<R>,
     counts: Counts,
 ) -> io::Result<bool> {
-    let (report, paused) = serve_by(rt, limits, app, line)?;
+    let (report, paused) = serve_by(rt, Way::Inline, limits, app, line)?;
     let is_idle = report.outcome == Outcome::Idle && text_of(line).is_empty();
     Ok(is_idle && (report.turns, paused, report.idle) == counts)
 }
@@ -135,12 +129,12 @@ const LIMITED: &[Limited] = &[
     (TWO_REQUESTS, 5, HELLO, Outcome::Idle, 2),
 ];
 
-fn is_limited<H: RandomSource + AllocGlobal>(rt: &H, row: &Limited) -> Result<bool, Fail> {
+fn is_limited<H: Host>(rt: &H, row: &Limited) -> Result<bool, Fail> {
     let (input, turns, wanted, outcome, exchanges) = *row;
     let limits = Limits::new(64, 64, 0, 1, 2, 30, turns)?;
     let pieces = Pieces::new(input, 64, 64);
     let end = (outcome, exchanges, 0);
-    Ok(is_served(rt, &limits, App::Hello, pieces, wanted, end)?)
+    Ok(is_served_so(rt, Way::Inline, &limits, App::Hello, pieces, wanted, end)?)
 }
 
 #[test]

@@ -21,7 +21,7 @@ use Rattle.asgi_lifespan.specs.Stopping.{Stops}
 use Rattle.asgi_server.specs.Connections.{Promise}
 use Rattle.asgi_demo.specs.declared.ending.Ending.{Ending}
 use Rattle.asgi_demo.specs.declared.ending.Ending.TheVariants.{StartupFailed, NoStartup}
-use Rattle.asgi_demo.specs.Serving.{Around, LivesOrNot, Follows, ServesOrNot, ending_of}
+use Rattle.asgi_demo.specs.Serving.{Around, LivesOrNot, Follows, ServesEach, ending_of}
 
 -- what holds beside the one case is left aside
 pub aside : {A B C : Type 0} → (A × B) ⊎ C → A ⊎ C
@@ -69,7 +69,7 @@ module _ {L T : Type 0} (R : reads.Ghosts L) (W : counts.Ghosts L) (M : messages
       lives_by answer x (subst (λ a. Follows R W M answers limits has_failed a x.heard x.said old new between after ending) (sym is) follows)
 
   as_started : (life : Lifespan T g) (state : List (List ℕ × StateValue)) (well : Bool) (at : ℕ) (reply : Stop) → Starts (answers lifespan_scope) limits before between (start.Started life state)
-      → ServesOrNot R W M answers limits has_failed state old new between at well
+      → ServesEach R W M answers limits has_failed state old new between at well
       → ((heard : List Incoming) (said : List Outgoing) (ended : Option EndKind) → StandsFor limits life heard said ended → Stops (PromiseOf life) limits heard said at after reply)
       → ending ≡ ending_of well reply → LivesOrNot R W M answers limits has_failed old new before after ending
   as_started life state well at reply x served stops ends =
@@ -78,7 +78,7 @@ module _ {L T : Type 0} (R : reads.Ghosts L) (W : counts.Ghosts L) (M : messages
 
   pub lives_started : (answer : Start T g) (life : Lifespan T g) (state : List (List ℕ × StateValue)) (well : Bool) (at : ℕ) (reply : Stop) → answer ≡ start.Started life state
       → IsNoMemory answer ⊎ Starts (answers lifespan_scope) limits before between answer
-      → ServesOrNot R W M answers limits has_failed state old new between at well
+      → ServesEach R W M answers limits has_failed state old new between at well
       → ((heard : List Incoming) (said : List Outgoing) (ended : Option EndKind) → StandsFor limits life heard said ended → Stops (PromiseOf life) limits heard said at after reply)
       → ending ≡ ending_of well reply → LivesOrNot R W M answers limits has_failed old new before after ending
   lives_started answer life state well at reply same (inl none) served stops ends = absurd (subst (λ a. IsNoMemory a) same none)
@@ -87,13 +87,13 @@ module _ {L T : Type 0} (R : reads.Ghosts L) (W : counts.Ghosts L) (M : messages
 
   pub lives_unsupported : (answer : Start T g) (state : List (List ℕ × StateValue)) (well : Bool) → answer ≡ start.Unsupported → state ≡ []
       → IsNoMemory answer ⊎ Starts (answers lifespan_scope) limits before between answer
-      → ServesOrNot R W M answers limits has_failed state old new between after well
+      → ServesEach R W M answers limits has_failed state old new between after well
       → ending ≡ ending_of well stop.Stopped → LivesOrNot R W M answers limits has_failed old new before after ending
   lives_unsupported answer state well same empty (inl none) served ends = absurd (subst (λ a. IsNoMemory a) same none)
   lives_unsupported answer state well same empty (inr x) served ends =
       let X : Starts (answers lifespan_scope) limits before between start.Unsupported = subst (λ a. Starts (answers lifespan_scope) limits before between a) same x in
       follows_by start.Unsupported (Some unsupported) X X.answered
-      (well, subst (λ s. ServesOrNot R W M answers limits has_failed s old new between after well) empty served, ends)
+      (well, subst (λ s. ServesEach R W M answers limits has_failed s old new between after well) empty served, ends)
 
   pub lives_failed : (answer : Start T g) (message : List ℕ) → answer ≡ start.Failed message → IsNoMemory answer ⊎ Starts (answers lifespan_scope) limits before between answer
       → new ≡ old → after ≡ between → ending ≡ StartupFailed message → LivesOrNot R W M answers limits has_failed old new before after ending

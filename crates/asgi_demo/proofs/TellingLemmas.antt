@@ -1,7 +1,8 @@
 -- What is told of an outcome, by its status.
-use Rattle.std.proofs.Common.{◌≡◌, ℕ, List, ◌++◌, codes, subst, sym, refl}
+use Rattle.std.proofs.Common.{◌≡◌, ℕ, Bool, true, false, List, ◌++◌, Some, None, codes, subst, sym, refl}
+use Rattle.std.specs.Prelude.{if◌then◌else◌}
 use Rattle.asgi_conversation.specs.declared.report.Outcome.{Outcome}
-use Rattle.asgi_conversation.specs.declared.report.Outcome.TheVariants.{Finished, Refused, InputBroke, WriteFailed, Idle, NoMemory}
+use Rattle.asgi_conversation.specs.OutcomeClasses.{is_cut}
 use Rattle.asgi_demo.specs.declared.ending.Ending.{Ending}
 use Rattle.asgi_demo.specs.declared.ending.Ending.TheVariants.{ShutdownFailed}
 use Rattle.asgi_demo.specs.Command.{exit_status}
@@ -11,21 +12,19 @@ use Rattle.asgi_demo.specs.Telling.{Writer, Tells, TellsOf, of_outcome, stopped}
 -- another status than 0: the connection stopped, and so it was told
 pub stopped_is_told : (o : Outcome) (text : List ℕ) (old new : Writer) → ¬ (exit_status o ≡ 0) → text ≡ stopped o → Tells text old new
     → TellsOf (of_outcome o) old new
-stopped_is_told Finished text old new fails is told = absurd (fails refl)
-stopped_is_told (Refused status) text old new fails is told = absurd (fails refl)
-stopped_is_told InputBroke text old new fails is told = absurd (fails refl)
-stopped_is_told (WriteFailed n) text old new fails is told = subst (λ t. Tells t old new) is told
-stopped_is_told Idle text old new fails is told = subst (λ t. Tells t old new) is told
-stopped_is_told NoMemory text old new fails is told = subst (λ t. Tells t old new) is told
+stopped_is_told o text old new fails is told = by (is_cut o) fails
+  where
+    by : (b : Bool) → ¬ (◌≡◌ {A = ℕ} (if b then 5 else 0) 0) → TellsOf (if b then Some (stopped o) else None) old new
+    by true fails = subst (λ t. Tells t old new) is told
+    by false fails = absurd (fails refl)
 
 -- status 0: nothing is told
 pub nothing_is_told : (o : Outcome) (old : Writer) → exit_status o ≡ 0 → TellsOf (of_outcome o) old old
-nothing_is_told Finished old well = refl
-nothing_is_told (Refused status) old well = refl
-nothing_is_told InputBroke old well = refl
-nothing_is_told (WriteFailed n) old well = cc
-nothing_is_told Idle old well = cc
-nothing_is_told NoMemory old well = cc
+nothing_is_told o old well = by (is_cut o) well
+  where
+    by : (b : Bool) → ◌≡◌ {A = ℕ} (if b then 5 else 0) 0 → TellsOf (if b then Some (stopped o) else None) old old
+    by true well = cc
+    by false well = refl
 
 -- the text of a stop that failed
 pub failed_stop_is_told : (e : Ending) (message text : List ℕ) (old new : Writer) → e ≡ ShutdownFailed message → text ≡ message

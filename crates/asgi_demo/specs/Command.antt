@@ -1,5 +1,5 @@
 -- What the program does with its words.
-use Rattle.std.specs.Prelude.{◌≡◌, ℕ, Bool, List, [], ◌∷◌, codes, None}
+use Rattle.std.specs.Prelude.{◌≡◌, ℕ, Bool, List, [], ◌∷◌, codes, None, if◌then◌else◌}
 use Rattle.asgi_io.specs.declared.counts.Counts as counts
 use Rattle.asgi_io.specs.declared.reads.Reads as reads
 use Rattle.asgi_types.specs.declared.limits.Limits.{Limits}
@@ -14,8 +14,8 @@ use Rattle.asgi_apps.specs.Mounts.{MountsAnswer}
 use Rattle.asgi_apps.specs.Scopes.{kind_of}
 use Rattle.asgi_apps.specs.WsEcho.{WsEchoAnswers}
 use Rattle.asgi_conversation.specs.declared.report.Outcome.{Outcome}
-use Rattle.asgi_conversation.specs.declared.report.Outcome.TheVariants.{Finished, Refused, InputBroke, WriteFailed, Idle, NoMemory}
 use Rattle.asgi_conversation.specs.declared.report.Report.{Report}
+use Rattle.asgi_conversation.specs.OutcomeClasses.{is_cut}
 use Rattle.asgi_conversation.specs.Promised.{echo_promise, hello_promise}
 use Rattle.asgi_conn.specs.Lines.{LineState}
 use Rattle.asgi_conn.specs.Serving.{Serves}
@@ -42,12 +42,7 @@ promise app.NoStop = LifeAnswers NoStop
 
 -- the exit status of `once`
 abbrev pub exit_status : Outcome → ℕ
-exit_status Finished = 0
-exit_status (Refused status) = 0
-exit_status InputBroke = 0
-exit_status (WriteFailed n) = 5
-exit_status Idle = 5
-exit_status NoMemory = 5
+exit_status outcome = if is_cut outcome then 5 else 0
 
 -- what is known of the line and of standard error at one time
 pub record Streams : Type 0 where

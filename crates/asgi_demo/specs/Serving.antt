@@ -84,21 +84,16 @@ module _ {L : Type 0} (R : reads.Ghosts L) (W : counts.Ghosts L) (M : messages.G
     pub tells : Puts (report_lines reports) old.output new.output told
     pub well_is : well ≡ (to_end && told && not has_failed)
 
-  -- or nothing can run a task, and the listener was not asked
-  abbrev pub ServesOrNot : List (List ℕ × StateValue) → Around L → Around L → ℕ → ℕ → Bool → Type 0
-  ServesOrNot state old new before after well =
-      ServesEach state old new before after well ⊎ ((new ≡ old) × (after ≡ before) × (well ≡ false))
-
   -- ---- the life of the application
 
   -- What follows the answer to "Startup", behind what was heard and said up to it: where the start failed, or there was no answer,
   -- the listener is not asked.
   abbrev pub Follows : Option StartAnswer → List Incoming → List Outgoing → Around L → Around L → ℕ → ℕ → Ending → Type 0
   Follows (Some (started state)) heard said old new before after ending =
-      (well : Bool) × (between : ℕ) × (answer : Stop) × ServesOrNot state old new before between well
+      (well : Bool) × (between : ℕ) × (answer : Stop) × ServesEach state old new before between well
       × Stops (answers lifespan_scope) limits heard said between after answer × (ending ≡ ending_of well answer)
   Follows (Some unsupported) heard said old new before after ending =
-      (well : Bool) × ServesOrNot [] old new before after well × (ending ≡ ending_of well stop.Stopped)
+      (well : Bool) × ServesEach [] old new before after well × (ending ≡ ending_of well stop.Stopped)
   Follows (Some (failed message)) heard said old new before after ending = (new ≡ old) × (after ≡ before) × (ending ≡ StartupFailed message)
   Follows None heard said old new before after ending = (new ≡ old) × (after ≡ before) × (ending ≡ NoStartup)
 

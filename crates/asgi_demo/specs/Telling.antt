@@ -1,5 +1,5 @@
 -- What is told on standard error and standard output: which text for which case, and how much of it goes out.
-use Rattle.std.specs.Prelude.{◌≡◌, ℕ, Bool, true, false, List, ◌++◌, codes, Option, Some, None}
+use Rattle.std.specs.Prelude.{◌≡◌, ℕ, Bool, true, false, List, ◌++◌, codes, Option, Some, None, if◌then◌else◌}
 use Rattle.std.specs.Fmt.{decimal}
 use Rattle.std.specs.List.{flat_map}
 use Rattle.asgi_io.specs.declared.answer.Answer.{Answer}
@@ -7,8 +7,8 @@ use Rattle.asgi_io.specs.declared.write.Wrote.{Wrote}
 use Rattle.asgi_io.specs.declared.write.Wrote.TheVariants.{Done, Failed}
 use Rattle.asgi_io.specs.Writing.{WritesOut, TriesWrites, out_of}
 use Rattle.asgi_conversation.specs.declared.report.Outcome.{Outcome}
-use Rattle.asgi_conversation.specs.declared.report.Outcome.TheVariants.{Finished, Refused, InputBroke, WriteFailed, Idle, NoMemory}
 use Rattle.asgi_conversation.specs.declared.report.Report.{Report}
+use Rattle.asgi_conversation.specs.OutcomeClasses.{is_cut}
 use Rattle.asgi_conversation.specs.OutcomeWords.{outcome_words}
 
 -- the texts, each a line
@@ -23,12 +23,7 @@ stopped outcome = codes "stopped: " ++ outcome_words outcome ++ codes "\n"
 
 -- what is told of an outcome: nothing where the connection was served to its end
 abbrev pub of_outcome : Outcome → Option (List ℕ)
-of_outcome Finished = None
-of_outcome (Refused status) = None
-of_outcome InputBroke = None
-of_outcome (WriteFailed n) = Some (stopped (WriteFailed n))
-of_outcome Idle = Some (stopped Idle)
-of_outcome NoMemory = Some (stopped NoMemory)
+of_outcome outcome = if is_cut outcome then Some (stopped outcome) else None
 
 -- the line of a report: the number of the connection, that of its exchanges, and the words of its outcome
 abbrev pub report_line : ℕ × Report → List ℕ

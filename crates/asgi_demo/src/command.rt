@@ -19,7 +19,7 @@ use crate::telling::{device_fault, tell};
 use crate::words::{App, Command, command_of};
 use arrayvec::ArrayString;
 use asgi_apps::{Application, Echo, Hello, Life, NotFound, WsEcho};
-use asgi_conn::{CountingPause, Inline, Line, Outcome, Report, serve_connection};
+use asgi_conn::{CountingPause, Host, Inline, Line, Outcome, Report, serve_connection};
 use asgi_io::Counts;
 use asgi_server::Accepts;
 use asgi_types::{Limits, State};
@@ -27,7 +27,6 @@ use futures::task::{Doorbell, Solo};
 use std::alloc::AllocGlobal;
 use std::io::{self, ErrorKind};
 use std::random::RandomSource;
-use std::time::Clock;
 
 const USAGE: &[u8] = b"usage: asgi_demo once APP | asgi_demo serve PORT COUNT APP\n";
 
@@ -37,7 +36,7 @@ const USAGE: &[u8] = b"usage: asgi_demo once APP | asgi_demo serve PORT COUNT AP
 /// connection stopped, where it did. `serve PORT COUNT APP` starts the application, serves so many
 /// connections of that port, tells a line of each on `output`, stops the application, and tells on
 /// `errors` what went wrong. Any other words give the usage text on `errors`, and nothing else is done.
-pub fn command<H: RandomSource + AllocGlobal + Clock, L: Line, N: Listens, W: Counts, E: Counts>(
+pub fn command<H: Host, L: Line, N: Listens, W: Counts, E: Counts>(
     rt: &H,
     words: &[String],
     line: &mut L,
@@ -98,7 +97,7 @@ fn once_by<H: RandomSource + AllocGlobal, L: Line, E: Counts>(
 }
 
 /// Serves the connections of the listener by the application that is named, with the usual limits.
-fn serve_by<H: RandomSource + AllocGlobal + Clock, N: Accepts, W: Counts, E: Counts>(
+fn serve_by<H: Host, N: Accepts, W: Counts, E: Counts>(
     rt: &H,
     app: App,
     listener: &mut N,
@@ -223,10 +222,7 @@ fn tell_end<E: Counts>(outcome: Outcome, errors: &mut E) -> u8
 fn exit_status(outcome: Outcome) -> u8
     ensures { result ≡ spec.exit_status outcome }
 {
-    match outcome {
-        Outcome::Finished | Outcome::Refused(_) | Outcome::InputBroke => 0,
-        Outcome::WriteFailed(_) | Outcome::Idle | Outcome::NoMemory => 5,
-    }
+    if outcome.is_cut() { 5 } else { 0 }
 }
 
 /// The text for a connection that stopped.

@@ -1,29 +1,27 @@
 //! The server: its lifespan, its connections, and how it ended.
 ghost use Rattle.std.specs.Prelude.{◌≡◌, ◌&&◌, not};
-ghost use Rattle.asgi_demo.specs.Serving.{LivesOrNot, ServesEach, ServesOn, ServesOrNot, around, ending_of};
+ghost use Rattle.asgi_demo.specs.Serving.{LivesOrNot, ServesEach, ServesOn, around, ending_of};
 ghost use Rattle.asgi_demo.specs.Telling.{writer};
 ghost use Rattle.asgi_types.specs.declared.limits.Limits.{Limits};
 
 use crate::ending::Ending;
 use crate::reports::print_next;
 use crate::telling::device_fault;
-use asgi_apps::Application;
-use asgi_conn::{Inline, Runner};
+use asgi_apps::{AppTask, Application};
+use asgi_conn::{Beside, Host};
 use asgi_io::{Counts, Pause};
 use asgi_lifespan::{Lifespan, Start, Stop};
-use asgi_server::{Accepts, Waiting, serve_next};
+use asgi_server::{Accepts, serve_next};
 use asgi_types::{Limits, State};
 use futures::task::{Context, Doorbell, Solo};
-use std::alloc::AllocGlobal;
-use std::random::RandomSource;
-use std::time::Clock;
 
 /// Serves the connections of the listener by this application: starts it, serves each connection, tells
 /// a line of each on `output`, stops the application, and tells on `errors` what went wrong. It gives
-/// the exit status.
+/// the exit status. Its tasks run in a thread of their own, and its start and stop in this one.
 pub fn serve_on<
-    H: RandomSource + AllocGlobal + Clock,
-    A: Application,
+    H: Host,
+    T: AppTask + Send + 'static,
+    A: Application<Task = T>,
     N: Accepts,
     W: Counts,
     E: Counts,
@@ -37,20 +35,41 @@ pub fn serve_on<
     let Ok(solo) = Solo::new(rt, Doorbell::spinning()) else {
         return device_fault(errors);
     };
-    let mut pause = Waiting::new(rt);
+    let Ok((mut runner, mut pause)) = Beside::napping(*rt) else {
+        return device_fault(errors);
+    };
     let mut cx = solo.begin();
-    let ending = live(rt, limits, app, listener, &mut cx, &mut pause, output);
+    let ending = live(
+        rt,
+        limits,
+        app,
+        listener,
+        &mut cx,
+        &mut runner,
+        &mut pause,
+        output,
+    );
     cx.cancel();
+    runner.end();
     ending.tell(errors)
 }
 
 /// Starts the application, serves, and stops it.
-fn live<H: RandomSource + AllocGlobal, A: Application, N: Accepts, P: Pause, W: Counts>(
+fn live<
+    H: Host,
+    T: AppTask + Send + 'static,
+    A: Application<Task = T>,
+    N: Accepts,
+    Q: Pause + Drop + Send + 'static,
+    P: Pause,
+    W: Counts,
+>(
     rt: &H,
     limits: &Limits,
     app: &A,
     listener: &mut N,
     cx: &mut Context<'_>,
+    runner: &mut Beside<T, Q, H>,
     pause: &mut P,
     output: &mut W,
 ) -> Ending
@@ -61,12 +80,12 @@ fn live<H: RandomSource + AllocGlobal, A: Application, N: Accepts, P: Pause, W: 
 {
     match Lifespan::start(rt.alloc(), app, limits, cx, pause) {
         Start::Started(lifespan, state) => {
-            let served = serve(rt, limits, &state, app, listener, pause, output);
+            let served = serve_each(rt, limits, &state, app, listener, runner, pause, output);
             ending_of(served, lifespan.stop(cx, pause))
         }
         Start::Unsupported => {
             let state = State::new(rt.alloc());
-            let served = serve(rt, limits, &state, app, listener, pause, output);
+            let served = serve_each(rt, limits, &state, app, listener, runner, pause, output);
             ending_of(served, Stop::Stopped)
         }
         Start::Failed(message) => Ending::StartupFailed(message),
@@ -75,39 +94,24 @@ fn live<H: RandomSource + AllocGlobal, A: Application, N: Accepts, P: Pause, W: 
     }
 }
 
-/// Serves the connections in this thread, and says whether all went well.
-fn serve<H: RandomSource + AllocGlobal, A: Application, N: Accepts, P: Pause, W: Counts>(
-    rt: &H,
-    limits: &Limits,
-    state: &State,
-    app: &A,
-    listener: &mut N,
-    pause: &mut P,
-    output: &mut W,
-) -> bool
-    ensures { ServesOrNot N.L.Reads N.L.Counts N.L.Messages.own (A.answers app.now) limits.now (N.has_failed listener.new) state.now
-        (around (N.Listener.own.answers listener.old) (writer (W.written output.old) (W.answers output.old) (W.failed output.old)))
-        (around (N.Listener.own.answers listener.new) (writer (W.written output.new) (W.answers output.new) (W.failed output.new)))
-        (P.count pause.old) (P.count pause.new) result }
-{
-    let Ok(solo) = Solo::new(rt, Doorbell::spinning()) else {
-        return false;
-    };
-    let mut runner = Inline::new(solo.begin());
-    let well = serve_each(rt, limits, state, app, listener, &mut runner, pause, output);
-    runner.end();
-    well
-}
-
 /// Serves one connection after another, and tells a line of each once it has ended. It says whether all went
 /// well: a line that is not written whole is the last one, and the connections are served all the same.
-fn serve_each<H: AllocGlobal, A: Application, N: Accepts, U: Runner, P: Pause, W: Counts>(
+/// Where there is no thread for the tasks, one is asked for before each connection.
+fn serve_each<
+    H: Host,
+    T: AppTask + Send + 'static,
+    A: Application<Task = T>,
+    N: Accepts,
+    Q: Pause + Drop + Send + 'static,
+    P: Pause,
+    W: Counts,
+>(
     rt: &H,
     limits: &Limits,
     state: &State,
     app: &A,
     listener: &mut N,
-    runner: &mut U,
+    runner: &mut Beside<T, Q, H>,
     pause: &mut P,
     output: &mut W,
 ) -> bool
@@ -118,6 +122,7 @@ fn serve_each<H: AllocGlobal, A: Application, N: Accepts, U: Runner, P: Pause, W
 {
     let mut told = true;
     for number in 1..u64::MAX {
+        let _ready = runner.ready();
         let Some(report) = serve_next(rt, limits, state, app, listener, runner, pause) else {
             return is_well(told, listener.failed());
         };

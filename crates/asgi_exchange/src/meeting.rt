@@ -20,19 +20,19 @@ use asgi_pipes::{Met, Pipes};
 /// Brings the ends of one exchange together, and counts what was left between them: it is never
 /// `None`. What the connection's half kept and what the ends say of their lists make an exchange,
 /// with no step of the application's half.
-pub fn join<P: Pipes>(conn: &P::Conn, app: &P::App) -> Option<Met>
-    requires { P.is_pair conn.now app.now }
+pub fn join<P: Pipes>(conn: &mut P::Conn, app: &mut P::App) -> Option<Met>
+    requires { P.is_pair conn.old app.old }
     ensures met { IsSome result }
-    ensures inward { IfSome result (λ met. KeepsOrder (open_places (P.Conn.ring conn.now) (P.Conn.is_broken conn.now)) (P.Conn.offered conn.now) (P.App.pulled app.now) met.left_in) }
-    ensures outward { IfSome result (λ met. KeepsOrder (open_places (P.Conn.ring conn.now) (is_some (P.App.ended app.now))) (items_of (P.App.said app.now) (P.App.ended app.now)) (P.Conn.got conn.now) met.left_out) }
-    ensures heard { Hears (P.App.kind app.now) (P.App.said app.now) (P.App.pulled app.now) (P.App.heard app.now) }
-    ensures lawful { IsLawful (P.App.kind app.now) (P.App.facts app.now) (P.App.said app.now) }
-    ensures http { (limits : Limits) (view : ConnView ℕ ℕ) → P.App.kind app.now ≡ Http
-        → ConnKeeps (http limits (P.App.facts app.now)) view → view.offered ≡ P.Conn.offered conn.now → view.got ≡ P.Conn.got conn.now
-        → IsHttpExchange limits (P.App.facts app.now) (record { conn = view; app = record { pulled = P.App.pulled app.now; heard = P.App.heard app.now; put = items_of (P.App.said app.now) (P.App.ended app.now) } }) }
-    ensures web_socket { (handshake : Handshake) (ring : ℕ) (view : ConnView Msg Output) → P.App.kind app.now ≡ WebSocket
-        → ConnKeeps (web_socket handshake (P.App.facts app.now) ring) view → view.offered ≡ P.Conn.offered conn.now → view.got ≡ P.Conn.got conn.now
-        → IsSessionExchange handshake (P.App.facts app.now) (record { conn = view; app = record { pulled = P.App.pulled app.now; heard = P.App.heard app.now; put = items_of (P.App.said app.now) (P.App.ended app.now) } }) }
+    ensures inward { IfSome result (λ met. KeepsOrder (open_places (P.Conn.ring conn.old) (P.Conn.is_broken conn.old)) (P.Conn.offered conn.old) (P.App.pulled app.old) met.left_in) }
+    ensures outward { IfSome result (λ met. KeepsOrder (open_places (P.Conn.ring conn.old) (is_some (P.App.ended app.old))) (items_of (P.App.said app.old) (P.App.ended app.old)) (P.Conn.got conn.old) met.left_out) }
+    ensures heard { Hears (P.App.kind app.old) (P.App.said app.old) (P.App.pulled app.old) (P.App.heard app.old) }
+    ensures lawful { IsLawful (P.App.kind app.old) (P.App.facts app.old) (P.App.said app.old) }
+    ensures http { (limits : Limits) (view : ConnView ℕ ℕ) → P.App.kind app.old ≡ Http
+        → ConnKeeps (http limits (P.App.facts app.old)) view → view.offered ≡ P.Conn.offered conn.old → view.got ≡ P.Conn.got conn.old
+        → IsHttpExchange limits (P.App.facts app.old) (record { conn = view; app = record { pulled = P.App.pulled app.old; heard = P.App.heard app.old; put = items_of (P.App.said app.old) (P.App.ended app.old) } }) }
+    ensures web_socket { (handshake : Handshake) (ring : ℕ) (view : ConnView Msg Output) → P.App.kind app.old ≡ WebSocket
+        → ConnKeeps (web_socket handshake (P.App.facts app.old) ring) view → view.offered ≡ P.Conn.offered conn.old → view.got ≡ P.Conn.got conn.old
+        → IsSessionExchange handshake (P.App.facts app.old) (record { conn = view; app = record { pulled = P.App.pulled app.old; heard = P.App.heard app.old; put = items_of (P.App.said app.old) (P.App.ended app.old) } }) }
 {
     P::meet(conn, app)
 }

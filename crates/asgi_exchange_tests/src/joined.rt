@@ -39,31 +39,35 @@ fn take(pair: &mut Pair) {
     pair.conn.take();
 }
 
-fn left_in(pair: &Pair) -> Option<(usize, usize)> {
-    match join::<Plain>(&pair.conn, &pair.app) {
-        Some(met) => Some((met.left_in, met.left_out)),
-        None => None,
-    }
+fn left_in(pair: Pair) -> Option<(usize, usize)> {
+    let Pair {
+        mut conn,
+        mut app,
+        ..
+    } = pair;
+    let met = join::<Plain>(&mut conn, &mut app)?;
+    Some((met.left_in, met.left_out))
 }
 
-fn left_by(pair: &mut Pair, (breaks, ends, takes): (bool, bool, bool)) -> Option<(usize, usize)> {
+fn left_by(pair: Pair, (breaks, ends, takes): (bool, bool, bool)) -> Option<(usize, usize)> {
+    let mut pair = pair;
     if breaks {
-        break_off(pair);
+        break_off(&mut pair);
     }
     if ends {
-        finish(pair);
+        finish(&mut pair);
     }
     pair.carry();
     if takes {
-        take(pair);
+        take(&mut pair);
     }
     left_in(pair)
 }
 
 /// Whether the row holds for a fresh pair.
 fn holds(alloc: Global, row: &Row) -> Result<bool, AllocError> {
-    let mut pair = pair_of(alloc)?;
-    Ok(left_by(&mut pair, row.0) == Some(row.1))
+    let pair = pair_of(alloc)?;
+    Ok(left_by(pair, row.0) == Some(row.1))
 }
 
 /// The first row that does not hold, or how many there are.

@@ -9,4 +9,4 @@ pub mod texts;
 
 pub use apps::{Heard, Refuses, Said, Scripted, ScriptedTask, Step, Targets};
 pub use lines::{Memory, Never, Pieces, Sink, line_of, text_of};
-pub use serving::{App, End, is_served, serve, serve_by};
+pub use serving::{App, End, Way, is_served, is_served_so, serve, serve_by};

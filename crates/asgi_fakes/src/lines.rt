@@ -6,7 +6,7 @@ use std::alloc::{AllocError, AllocGlobal};
 use std::io::{self, ErrorKind, Read, Write};
 
 /// A reader that gives its bytes in pieces.
-#[derive(Drop)]
+#[derive(Clone, Copy)]
 pub struct Pieces<'a> {
     pub bytes: &'a [u8],
     /// The most bytes of the first read, and of each later one.
@@ -69,7 +69,7 @@ fn give(bytes: &mut &[u8], most: usize, buf: &mut [u8]) -> usize
 }
 
 /// A reader that would block for ever.
-#[derive(Drop)]
+#[derive(Clone, Copy)]
 pub struct Never;
 
 impl Read for Never {

@@ -11,6 +11,10 @@ pub trait Pause {
     fn pause(&mut self)
         ensures { count self.new ≡ counted (count self.old + 1) };
 
+    /// Called after each turn in which something moved.
+    fn moved(&mut self)
+        ensures { count self.new ≡ count self.old };
+
     /// How often `pause` was called.
     fn paused(&self) -> u64
         ensures { result ≡ count self.now };
@@ -37,6 +41,8 @@ impl Pause for CountingPause {
     fn pause(&mut self) {
         self.count = self.count.saturating_add(1);
     }
+
+    fn moved(&mut self) {}
 
     fn paused(&self) -> u64 {
         self.count

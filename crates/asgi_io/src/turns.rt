@@ -55,7 +55,8 @@ impl Turns {
     }
 
     /// Counts a turn, where no limit is reached yet, and makes a pause where it was idle. A turn
-    /// that moved something ends the row of idle ones, the last turn does not.
+    /// that moved something ends the row of idle ones, and the pause hears of it; the last turn does
+    /// neither.
     pub fn take<P: Pause>(&mut self, turn: Turn, pause: &mut P)
         requires turns { self.old.turns < self.old.turn_limit }
         requires idle { self.old.idle < self.old.idle_limit }
@@ -68,7 +69,10 @@ impl Turns {
     {
         self.turns += 1;
         match turn {
-            Turn::Moved => self.idle = 0,
+            Turn::Moved => {
+                self.idle = 0;
+                pause.moved();
+            }
             Turn::Idle => {
                 self.idle += 1;
                 pause.pause();

@@ -1,6 +1,5 @@
 -- What a lifespan task with its ends is, step by step.
 use Rattle.std.proofs.Common.{◌≡◌, ◌≢◌, ℕ, ◌+◌, ◌-◌, ◌≤◌, List, [], ◌∷◌, ◌++◌, length, Option, Some, None, refl, sym, ap, ◌∙◌, subst, arith, append_assoc, append-nil, length-append}
-use Rattle.std.proofs.Math.Logic.{∥∥₁_map}
 use mathlib.Core.List.{IsPrefix}
 use Rattle.asgi_types.specs.declared.end_kind.EndKind.{EndKind}
 use Rattle.asgi_types.specs.declared.facts.Facts.{Facts}
@@ -19,7 +18,7 @@ use Rattle.asgi_pipes.specs.Items.{items_of}
 use Rattle.asgi_pipes.specs.PlainPairs.{IsPlainPair}
 use Rattle.asgi_pipes.specs.contracts.plain_app.PlainAppAppEnd.TheImpl as app_end
 use Rattle.asgi_pipes.specs.contracts.plain_conn.PlainConnConnEnd.TheImpl as conn_end
-use Rattle.asgi_pipes.proofs.HadLemmas.{hears_was, lawful_was}
+use Rattle.asgi_pipes.proofs.StateLemmas.{heard_in, lawful_in}
 use Rattle.asgi_apps.specs.Ends.{IsWithin}
 use Rattle.asgi_apps.proofs.EndLemmas.{prefix_self, prefix_same, prefix_then}
 use Rattle.asgi_lifespan.specs.declared.hosted.Hosted.{Hosted}
@@ -34,18 +33,16 @@ module _ {T : Type 0} (stands : T → Kind → List Incoming → List Outgoing �
   -- what was said is lawful
   pub lawful : (hosted : Hosted T) → IsOpen stands hosted → IsLawful Lifespan no_request (said_by hosted)
   lawful hosted is =
-      let app = hosted.app_end in
+      let app = hosted.app_end.state in
       subst (λ (k : Kind). IsLawful k no_request app.said.items) is.kind
-      (subst (λ (f : Facts). IsLawful app.kind f app.said.items) is.facts
-      (lawful_was app.kind app.facts app.said.items (∥∥₁_map app.judged (λ s. s.lawful))))
+      (subst (λ (f : Facts). IsLawful app.kind f app.said.items) is.facts (lawful_in app))
 
   -- what was heard is a beginning of what was offered
   pub hears : (hosted : Hosted T) → IsHosted stands hosted → IsPrefix (heard_by hosted) (offered_to hosted)
   hears hosted is =
-      let app = hosted.app_end in
-      let all : Hears app.kind app.said.items app.inn.taken.items app.heard.items = hears_was app.kind app.said.items app.inn.taken.items app.heard.items app.hears_is in
-      let same : app.heard.items ≡ app.inn.taken.items = subst (λ (k : Kind). Hears k app.said.items app.inn.taken.items app.heard.items) is.0.kind all in
-      (app_end.ghosts.seen app, ap (λ (l : List Incoming). l ++ app_end.ghosts.seen app) same ∙ sym is.1.inward)
+      let app = hosted.app_end.state in
+      let same : app.heard.items ≡ app.pulled.items = subst (λ (k : Kind). Hears k app.said.items app.pulled.items app.heard.items) is.0.kind (heard_in app) in
+      (app_end.ghosts.seen hosted.app_end, ap (λ (l : List Incoming). l ++ app_end.ghosts.seen hosted.app_end) same ∙ sym is.1.inward)
 
   -- a place is free while one event was offered at most
   pub has_place : (hosted : Hosted T) → IsHosted stands hosted → length (offered_to hosted) ≤ 1 → conn_end.ghosts.room hosted.conn ≢ 0

@@ -1,12 +1,10 @@
 //! Memory refused to a connection. `tests/memory.py` runs this with each allocation refused in turn; with ample memory
 //! none is refused.
-use asgi_conn::{Outcome, Report};
+use asgi_conn::{Host, Outcome, Report};
 use asgi_fakes::texts::{BAD_REQUEST, GET, HELLO, HELLO_HEAD, SERVER_ERROR};
-use asgi_fakes::{App, Memory, Pieces, line_of, serve_by, text_of};
+use asgi_fakes::{App, Memory, Pieces, Way, line_of, serve_by, text_of};
 use asgi_types::Limits;
-use std::alloc::AllocGlobal;
 use std::process::Abort;
-use std::random::RandomSource;
 use std::test::Fail;
 
 const HEAD: &[u8] = b"HEAD /a%20b?c HTTP/1.1\r\nHost: a\r\nX: y\r\nX: z\r\n\r\n";
@@ -51,19 +49,15 @@ fn is_end(report: &Report, row: &Row) -> bool {
 }
 
 /// Serves a connection that comes in two pieces, and compares with its answer. False where memory was refused.
-fn is_served<H: Abort + RandomSource + AllocGlobal>(rt: &H, row: &Row) -> bool {
+fn is_served<H: Abort + Host>(rt: &H, row: &Row) -> bool {
     let Ok(mut line) = line_of(rt, Pieces::new(row.1, 9, 4_096)) else {
         return false;
     };
     is_line_served(rt, &mut line, row)
 }
 
-fn is_line_served<H: Abort + RandomSource + AllocGlobal>(
-    rt: &H,
-    line: &mut Memory<Pieces>,
-    row: &Row,
-) -> bool {
-    let Ok((report, _)) = serve_by(rt, &Limits::usual(), row.0, line) else {
+fn is_line_served<H: Abort + Host>(rt: &H, line: &mut Memory<Pieces>, row: &Row) -> bool {
+    let Ok((report, _)) = serve_by(rt, Way::Inline, &Limits::usual(), row.0, line) else {
         return false;
     };
     let written = text_of(line);

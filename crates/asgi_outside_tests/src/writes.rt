@@ -1,13 +1,12 @@
 //! Writers that take little, fail, or would block.
-use asgi_conn::Outcome;
+use asgi_conn::{Host, Outcome};
 use asgi_fakes::texts::{GET, HELLO, TWO_REQUESTS};
-use asgi_fakes::{App, End, Heard, Pieces, Said, Sink, Step, serve_by};
+use asgi_fakes::{App, End, Heard, Pieces, Said, Sink, Step, Way, serve_by};
 use asgi_io::{Counts, Reads};
 use asgi_types::Limits;
 use asgi_ws::{Pair, Wired};
 use std::alloc::{AllocError, AllocGlobal};
 use std::io::{self, ErrorKind};
-use std::random::RandomSource;
 use std::test::Fail;
 
 /// What a writer of nine bytes takes first.
@@ -51,20 +50,20 @@ fn taken_by(line: &SinkLine) -> &[u8] {
 }
 
 /// Whether the connection over the line ends so, and its writer took this.
-fn is_line_served<H: RandomSource + AllocGlobal>(
+fn is_line_served<H: Host>(
     rt: &H,
     app: App,
     line: &mut SinkLine,
     wanted: &[u8],
     end: End,
 ) -> io::Result<bool> {
-    let (report, _) = serve_by(rt, &Limits::usual(), app, line)?;
+    let (report, _) = serve_by(rt, Way::Inline, &Limits::usual(), app, line)?;
     let ended = (report.outcome, report.exchanges, report.faults);
     Ok(ended == end && taken_by(line) == wanted)
 }
 
 /// Whether a connection to this writer, served by `Hello`, ends so.
-fn is_written<H: RandomSource + AllocGlobal>(
+fn is_written<H: Host>(
     rt: &H,
     input: &'static [u8],
     writer: Sink,
@@ -76,7 +75,7 @@ fn is_written<H: RandomSource + AllocGlobal>(
 }
 
 /// Whether a request to a writer of three bytes, whose call of this number fails, ends so, with so many failures.
-fn is_failed_at<H: RandomSource + AllocGlobal>(
+fn is_failed_at<H: Host>(
     rt: &H,
     call: u64,
     wanted: &[u8],
@@ -87,7 +86,7 @@ fn is_failed_at<H: RandomSource + AllocGlobal>(
     has_failed(rt, &mut line, wanted, outcome, failures)
 }
 
-fn has_failed<H: RandomSource + AllocGlobal>(
+fn has_failed<H: Host>(
     rt: &H,
     line: &mut SinkLine,
     wanted: &[u8],
@@ -151,7 +150,7 @@ const NINE: &[Nine] = &[
 ];
 
 /// Whether nine bytes are taken, and then the write fails.
-fn is_nine<H: RandomSource + AllocGlobal>(rt: &H, row: &Nine) -> io::Result<bool> {
+fn is_nine<H: Host>(rt: &H, row: &Nine) -> io::Result<bool> {
     let mut reader = Pieces::new(row.1, 4_096, 4_096);
     reader.fails_at = 2;
     let writer = failing_sink(rt, 9, 2)?;
@@ -159,11 +158,7 @@ fn is_nine<H: RandomSource + AllocGlobal>(rt: &H, row: &Nine) -> io::Result<bool
     is_nine_of(rt, &mut line, row)
 }
 
-fn is_nine_of<H: RandomSource + AllocGlobal>(
-    rt: &H,
-    line: &mut SinkLine,
-    row: &Nine,
-) -> io::Result<bool> {
+fn is_nine_of<H: Host>(rt: &H, line: &mut SinkLine, row: &Nine) -> io::Result<bool> {
     let (app, _, faults, reads) = *row;
     let end = (Outcome::WriteFailed(9), 1, faults);
     let is_so = is_line_served(rt, app, line, NINE_BYTES, end)?;
@@ -196,7 +191,7 @@ fn the_second_answer_may_fail(rt: HostRuntime) -> Result<(), Fail> {
 }
 
 /// Whether the line's writer is called once, and takes nothing.
-fn takes_nothing<H: RandomSource + AllocGlobal>(rt: &H, line: &mut SinkLine) -> io::Result<bool> {
+fn takes_nothing<H: Host>(rt: &H, line: &mut SinkLine) -> io::Result<bool> {
     let end = (Outcome::WriteFailed(0), 1, 0);
     let is_so = is_line_served(rt, App::Hello, line, b"", end)?;
     let calls = line.stream().map(|pair| pair.writer.calls);
@@ -212,7 +207,7 @@ fn a_writer_that_takes_nothing_has_failed(rt: HostRuntime) -> Result<(), Fail> {
 }
 
 /// Whether this is taken, with this outcome, where so many calls answer the fault first.
-fn is_retried<H: RandomSource + AllocGlobal>(
+fn is_retried<H: Host>(
     rt: &H,
     fault: ErrorKind,
     faults: u64,
@@ -236,7 +231,7 @@ fn a_thousand_retries_and_no_more(rt: HostRuntime) -> Result<(), Fail> {
 }
 
 /// Whether this is taken, with this outcome, nine bytes at a time, where so many calls answer a fault behind each.
-fn is_retried_again<H: RandomSource + AllocGlobal>(
+fn is_retried_again<H: Host>(
     rt: &H,
     again: u64,
     wanted: &[u8],

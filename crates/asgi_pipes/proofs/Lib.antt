@@ -6,3 +6,4 @@ pub mod JudgedLemmas
 pub mod LawLemmas
 pub mod PairLemmas
 pub mod StartLemmas
+pub mod StateLemmas

@@ -1,3 +1,4 @@
+pub mod AppStates
 pub mod Boxes
 pub mod Closings
 pub mod Disconnects
@@ -6,3 +7,5 @@ pub mod Laws
 pub mod Pairs
 pub mod PlainPairs
 pub mod Queues
+pub mod RingEnds
+pub mod RingPairs

@@ -2,6 +2,7 @@
 //! application says back. Contracts speak of whole lists of events; an end keeps only what waits.
 #![tactic(auto)]
 
+mod app_state;
 mod disconnect;
 mod ends;
 mod inbox;
@@ -12,6 +13,9 @@ mod pipes;
 mod plain;
 mod plain_app;
 mod plain_conn;
+mod ring_app;
+mod ring_conn;
+mod rings;
 
 pub use asgi_types::EndKind;
 pub use ends::{AppEnd, ConnEnd};
@@ -20,3 +24,6 @@ pub use pipes::{Met, Pipes};
 pub use plain::Plain;
 pub use plain_app::PlainApp;
 pub use plain_conn::PlainConn;
+pub use ring_app::RingApp;
+pub use ring_conn::RingConn;
+pub use rings::Rings;

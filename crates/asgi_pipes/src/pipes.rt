@@ -73,13 +73,20 @@ pub trait Pipes {
 
     /// Brings the ends of one pair together, and counts what was left between them: it is never
     /// `None`. Only the disconnect or the end is ever in a reserved place.
-    fn meet(conn: &Self::Conn, app: &Self::App) -> Option<Met>
-        requires { is_pair conn.now app.now }
+    fn meet(conn: &mut Self::Conn, app: &mut Self::App) -> Option<Met>
+        requires { is_pair conn.old app.old }
         ensures met { IsSome result }
-        ensures inward { IfSome result (λ met. KeepsOrder (open_places (Self.Conn.ring conn.now) (Self.Conn.is_broken conn.now)) (Self.Conn.offered conn.now) (Self.App.pulled app.now) met.left_in) }
-        ensures outward { IfSome result (λ met. KeepsOrder (open_places (Self.Conn.ring conn.now) (is_some (Self.App.ended app.now))) (items_of (Self.App.said app.now) (Self.App.ended app.now)) (Self.Conn.got conn.now) met.left_out) }
-        ensures heard { Hears (Self.App.kind app.now) (Self.App.said app.now) (Self.App.pulled app.now) (Self.App.heard app.now) }
-        ensures lawful { IsLawful (Self.App.kind app.now) (Self.App.facts app.now) (Self.App.said app.now) };
+        ensures inward { IfSome result (λ met. KeepsOrder (open_places (Self.Conn.ring conn.old) (Self.Conn.is_broken conn.old)) (Self.Conn.offered conn.old) (Self.App.pulled app.old) met.left_in) }
+        ensures outward { IfSome result (λ met. KeepsOrder (open_places (Self.Conn.ring conn.old) (is_some (Self.App.ended app.old))) (items_of (Self.App.said app.old) (Self.App.ended app.old)) (Self.Conn.got conn.old) met.left_out) }
+        ensures heard { Hears (Self.App.kind app.old) (Self.App.said app.old) (Self.App.pulled app.old) (Self.App.heard app.old) }
+        ensures lawful { IsLawful (Self.App.kind app.old) (Self.App.facts app.old) (Self.App.said app.old) }
+        // They stay the ends of that pair, with the same lists.
+        ensures pair { is_pair conn.new app.new }
+        ensures conn { (Self.Conn.offered conn.new ≡ Self.Conn.offered conn.old) × (Self.Conn.is_broken conn.new ≡ Self.Conn.is_broken conn.old) × (Self.Conn.got conn.new ≡ Self.Conn.got conn.old) }
+        ensures conn_tag { (Self.Conn.tag conn.new ≡ Self.Conn.tag conn.old) × (Self.Conn.ring conn.new ≡ Self.Conn.ring conn.old) × (Self.Conn.capacity conn.new ≡ Self.Conn.capacity conn.old) }
+        ensures app { (Self.App.heard app.new ≡ Self.App.heard app.old) × (Self.App.pulled app.new ≡ Self.App.pulled app.old) × (Self.App.said app.new ≡ Self.App.said app.old) × (Self.App.ended app.new ≡ Self.App.ended app.old) }
+        ensures scope { (Self.App.kind app.new ≡ Self.App.kind app.old) × (Self.App.facts app.new ≡ Self.App.facts app.old) × (Self.App.has_moved app.new ≡ Self.App.has_moved app.old) }
+        ensures app_tag { (Self.App.tag app.new ≡ Self.App.tag app.old) × (Self.App.ring app.new ≡ Self.App.ring app.old) × (Self.App.capacity app.new ≡ Self.App.capacity app.old) };
 
     // The calls of an end keep its tag, and so the pair.
     ghost stays_pair: { (c d : Self.Conn) (a b : Self.App) → Self.Conn.tag d ≡ Self.Conn.tag c → Self.App.tag b ≡ Self.App.tag a → is_pair c a → is_pair d b };

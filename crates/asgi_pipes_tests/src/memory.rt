@@ -1,10 +1,11 @@
 //! `make`, where one allocation is refused: it answers so, and can be called again. No call of an end takes memory, and
 //! `renew` takes none where the places are as many.
 //! `tests/memory.py` runs these with each allocation refused in turn; with ample memory none is refused.
-use crate::pairs::{Answer, Row, Step, facts, run_table};
+use crate::pairs::{Answer, Pair, PlainPair, Ran, RingPair, Row, Step, facts, run_table};
 use asgi_pipes::{AppEnd, ConnEnd, EndKind, Pipes, Plain, PlainApp, PlainConn};
 use asgi_types::{Incoming, Kind};
-use std::alloc::{AllocError, Global};
+use std::alloc::{AllocError, AllocGlobal, Global};
+use std::random::RandomSource;
 use std::test::Fail;
 
 /// The ends of a pair of two places. They are asked for again where memory was refused.
@@ -103,12 +104,18 @@ const ROWS: &[Row] = &[
     (Step::Receive, Answer::Event("disconnect", 1000)),
 ];
 
+/// What the rows give, which are run again where memory was refused.
+fn table_of<P: Pair, R: RandomSource + AllocGlobal>(rt: &R) -> Result<Ran, AllocError> {
+    match run_table::<P, R>(rt, Kind::WebSocket, 1, true, ROWS) {
+        Ok(ran) => Ok(ran),
+        Err(_) => run_table::<P, R>(rt, Kind::WebSocket, 1, true, ROWS),
+    }
+}
+
 #[test]
 fn memory_for_a_table(rt: HostRuntime) -> Result<(), Fail> {
-    let ran = match run_table(&rt, Kind::WebSocket, 1, true, ROWS) {
-        Ok(ran) => ran,
-        Err(_) => run_table(&rt, Kind::WebSocket, 1, true, ROWS)?,
-    };
-    assert_eq!(rt; ran, (None, (0, 1)));
+    let plain = table_of::<PlainPair, HostRuntime>(&rt)?;
+    let rings = table_of::<RingPair, HostRuntime>(&rt)?;
+    assert_eq!(rt; (plain, rings), ((None, (0, 1)), (None, (0, 1))));
     Ok(())
 }

@@ -1,19 +1,18 @@
-//! Pairs of plain ends on tables of calls, each with its answer.
-ghost use Rattle.std.specs.Prelude.{◌≡◌, false, None};
-ghost use Rattle.asgi_pipes.specs.PlainPairs.{IsPlainPair};
-
+//! Pairs of ends on tables of calls, each with its answer.
+mod ends;
 mod full_rings;
 mod http;
 mod lifespan;
 mod renewed;
 mod websocket;
 
-use asgi_pipes::{AppEnd, ConnEnd, EndKind, OutItem, Pipes, Plain, PlainApp, PlainConn, Sent};
+use asgi_pipes::EndKind;
 use asgi_types::{
     Chars, Facts, Framing, Headers, HttpVersion, Incoming, Kind, Names, Octets, Outgoing, Payload,
     Reason, State,
 };
-use futures::task::{Context, Doorbell, Poll, Solo};
+pub use ends::{Pair, PlainPair, RingPair};
+use futures::task::{Context, Doorbell, Solo};
 use std::alloc::{AllocError, AllocGlobal, Global};
 use std::process::Abort;
 use std::random::RandomSource;
@@ -63,16 +62,6 @@ pub enum Answer {
     Refused(u8),
 }
 
-/// The two ends of one pair.
-#[derive(Drop)]
-struct Pair {
-    conn: PlainConn,
-    app: PlainApp,
-    finished: bool,
-    ghost pair: { IsPlainPair conn app },
-    ghost open: { finished ≡ false → app.ended ≡ None },
-}
-
 /// A call, and what it is to answer.
 pub type Row = (Step, Answer);
 
@@ -85,18 +74,11 @@ type Left = (usize, usize);
 /// What a table gave, and what was left behind it.
 pub type Ran = (Other, Left);
 
-fn left_in(pair: &Pair) -> Left {
-    match Plain::meet(&pair.conn, &pair.app) {
-        Some(met) => (met.left_in, met.left_out),
-        None => unreachable!(),
-    }
-}
-
 /// Runs a table on the pair. Where `carries`, what was put is carried behind each call.
-fn run(
+fn run<P: Pair>(
     alloc: Global,
     cx: &mut Context<'_>,
-    pair: &mut Pair,
+    pair: &mut P,
     carries: bool,
     rows: &[Row],
 ) -> Result<Other, AllocError> {
@@ -109,10 +91,10 @@ fn run(
 }
 
 /// What the call answers, where that is not what it is to answer.
-fn other_at(
+fn other_at<P: Pair>(
     alloc: Global,
     cx: &mut Context<'_>,
-    pair: &mut Pair,
+    pair: &mut P,
     carries: bool,
     row: Row,
 ) -> Result<Option<Answer>, AllocError> {
@@ -126,10 +108,10 @@ fn other_at(
     Ok(Some(answer))
 }
 
-fn answer_at(
+fn answer_at<P: Pair>(
     alloc: Global,
     cx: &mut Context<'_>,
-    pair: &mut Pair,
+    pair: &mut P,
     step: Step,
 ) -> Result<Answer, AllocError> {
     match step {
@@ -150,7 +132,7 @@ fn answer_at(
 }
 
 /// The session breaks off with the code, and with no reason.
-fn break_session(pair: &mut Pair, code: u16) -> Answer {
+fn break_session<P: Pair>(pair: &mut P, code: u16) -> Answer {
     match Reason::new("") {
         Some(reason) => pair.break_off(Incoming::WsDisconnect { code, reason }),
         None => Answer::Nothing,
@@ -222,124 +204,6 @@ fn said(alloc: Global, step: Step) -> Result<Outgoing, AllocError> {
     })
 }
 
-impl Pair {
-    fn offer(&mut self, event: Incoming) -> Answer {
-        match self.conn.offer(event) {
-            Ok(()) => Answer::Taken,
-            Err(_) => Answer::Back,
-        }
-    }
-
-    fn break_off(&mut self, event: Incoming) -> Answer {
-        yes_or_no(self.conn.offer_disconnect(event))
-    }
-
-    fn take(&mut self) -> Answer {
-        match self.conn.take() {
-            Some(OutItem::Event(event)) => shown_said(&event),
-            Some(OutItem::Ended(end)) => Answer::Ended(end),
-            None => Answer::Nothing,
-        }
-    }
-
-    fn receive(&mut self, cx: &mut Context<'_>) -> Answer {
-        match self.app.poll_receive(cx) {
-            Poll::Ready(event) => shown_heard(&event),
-            Poll::Pending => Answer::Pending,
-        }
-    }
-
-    fn say(&mut self, cx: &mut Context<'_>, event: Outgoing) -> Answer {
-        if self.finished {
-            return Answer::Nothing;
-        }
-        let sent = self.app.poll_send(cx, event);
-        shown_sent(&sent)
-    }
-
-    fn finish(&mut self, end: EndKind) -> Answer {
-        self.finished = true;
-        yes_or_no(self.app.finish(end))
-    }
-
-    fn moved(&mut self) -> Answer {
-        yes_or_no(self.app.moved())
-    }
-
-    fn carry(&mut self) -> Answer {
-        Plain::carry(&mut self.conn, &mut self.app);
-        Answer::Nothing
-    }
-}
-
-fn yes_or_no(is: bool) -> Answer {
-    if is { Answer::Yes } else { Answer::No }
-}
-
-fn shown_sent(sent: &Sent) -> Answer {
-    match sent {
-        Sent::Done => Answer::Done,
-        Sent::Ignored => Answer::Ignored,
-        Sent::Full(_) => Answer::Full,
-        Sent::Refused(number, _) => Answer::Refused(*number),
-    }
-}
-
-fn first(bytes: &[u8]) -> u16 {
-    match bytes.first() {
-        Some(byte) => *byte as u16,
-        None => 0,
-    }
-}
-
-fn shown_heard(event: &Incoming) -> Answer {
-    match event {
-        Incoming::HttpRequest { body, more_body: _ } => Answer::Event("body", first(body.bytes())),
-        Incoming::HttpDisconnect => Answer::Event("disconnect", 0),
-        Incoming::WsConnect => Answer::Event("connect", 0),
-        Incoming::WsReceive { payload } => Answer::Event("message", content(payload)),
-        Incoming::WsDisconnect { code, reason } => {
-            if reason.bytes().is_empty() {
-                Answer::Event("disconnect", *code)
-            } else {
-                Answer::Event("reason", *code)
-            }
-        }
-        Incoming::LifespanStartup => Answer::Event("startup", 0),
-        Incoming::LifespanShutdown => Answer::Event("shutdown", 0),
-    }
-}
-
-fn content(payload: &Payload) -> u16 {
-    match payload {
-        Payload::Text(text) => first(text.as_str().as_bytes()),
-        Payload::Bytes(bytes) => first(bytes.bytes()),
-    }
-}
-
-fn shown_said(event: &Outgoing) -> Answer {
-    match event {
-        Outgoing::ResponseStart { status, headers: _ } => Answer::Event("start", *status),
-        Outgoing::ResponseBody { body, more_body } => {
-            if *more_body {
-                Answer::Event("body", first(body.bytes()))
-            } else {
-                Answer::Event("last", first(body.bytes()))
-            }
-        }
-        Outgoing::WsAccept { .. } => Answer::Event("accept", 0),
-        Outgoing::WsSend { payload } => Answer::Event("send", content(payload)),
-        Outgoing::WsClose { code, reason: _ } => Answer::Event("close", *code),
-        Outgoing::DenialStart { status, headers: _ } => Answer::Event("denial", *status),
-        Outgoing::DenialBody { body, more_body: _ } => {
-            Answer::Event("denial body", first(body.bytes()))
-        }
-        Outgoing::StartupComplete { .. } => Answer::Event("started", 0),
-        Outgoing::ShutdownComplete => Answer::Event("stopped", 0),
-        _ => Answer::Nothing,
-    }
-}
-
 pub fn facts(alloc: Global) -> Facts {
     Facts {
         version: HttpVersion::V11,
@@ -352,15 +216,6 @@ pub fn facts(alloc: Global) -> Facts {
     }
 }
 
-fn pair_of(alloc: Global, kind: Kind, ring: usize) -> Result<Pair, AllocError> {
-    let (conn, app) = Plain.make(alloc, kind, facts(alloc), ring)?;
-    Ok(Pair {
-        conn,
-        app,
-        finished: false,
-    })
-}
-
 /// A context comes from here, which the calls of the application's end ask for another poll.
 pub fn solo_of<R: RandomSource + AllocGlobal>(rt: &R) -> Result<Solo, AllocError> {
     match Solo::new(rt, Doorbell::spinning()) {
@@ -370,32 +225,32 @@ pub fn solo_of<R: RandomSource + AllocGlobal>(rt: &R) -> Result<Solo, AllocError
 }
 
 /// Runs the table on the pair, within one poll.
-fn run_on(
+fn run_on<P: Pair>(
     alloc: Global,
     solo: &Solo,
-    pair: &mut Pair,
+    pair: &mut P,
     carries: bool,
     rows: &[Row],
 ) -> Result<Ran, AllocError> {
     let mut cx = solo.begin();
     let other = run(alloc, &mut cx, pair, carries, rows);
     cx.cancel();
-    Ok((other?, left_in(pair)))
+    Ok((other?, pair.left_in()))
 }
 
-fn run_fresh(
+fn run_fresh<P: Pair>(
     alloc: Global,
     solo: &Solo,
     (kind, ring): (Kind, usize),
     carries: bool,
     rows: &[Row],
 ) -> Result<Ran, AllocError> {
-    let mut pair = pair_of(alloc, kind, ring)?;
+    let mut pair = P::made(alloc, kind, facts(alloc), ring)?;
     run_on(alloc, solo, &mut pair, carries, rows)
 }
 
 /// Runs the table on a fresh pair. `Err` where memory was refused.
-pub fn run_table<R: RandomSource + AllocGlobal>(
+pub fn run_table<P: Pair, R: RandomSource + AllocGlobal>(
     rt: &R,
     kind: Kind,
     ring: usize,
@@ -403,10 +258,11 @@ pub fn run_table<R: RandomSource + AllocGlobal>(
     rows: &[Row],
 ) -> Result<Ran, AllocError> {
     let solo = solo_of(rt)?;
-    run_fresh(rt.alloc(), &solo, (kind, ring), carries, rows)
+    run_fresh::<P>(rt.alloc(), &solo, (kind, ring), carries, rows)
 }
 
-/// Compares each answer of the table and what is left in the queues.
+/// Compares each answer of the table and what is left in the queues, over plain ends, and over rings where
+/// what was put is carried behind each call.
 pub fn check<R: Abort + RandomSource + AllocGlobal>(
     rt: &R,
     kind: Kind,
@@ -415,7 +271,11 @@ pub fn check<R: Abort + RandomSource + AllocGlobal>(
     rows: &[Row],
     left: Left,
 ) -> Result<(), Fail> {
-    let ran = run_table(rt, kind, ring, carries, rows)?;
+    let ran = run_table::<PlainPair, R>(rt, kind, ring, carries, rows)?;
     assert_eq!(rt; ran, (None, left));
+    if carries {
+        let ran = run_table::<RingPair, R>(rt, kind, ring, carries, rows)?;
+        assert_eq!(rt; ran, (None, left), "over rings");
+    }
     Ok(())
 }

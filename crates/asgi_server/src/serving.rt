@@ -18,7 +18,7 @@ use std::alloc::{AllocError, AllocGlobal};
 ///
 /// A line is dropped once its connection has ended. Where memory for one more report is refused the
 /// listener is not asked for a connection, so none that it gave is left unserved.
-pub fn serve_all<H: AllocGlobal, A: Application, N: Listener, U: Runner, P: Pause>(
+pub fn serve_all<H: AllocGlobal, A: Application, N: Listener, U: Runner<A::Task>, P: Pause>(
     rt: &H,
     limits: &Limits,
     state: &State,
@@ -45,7 +45,7 @@ pub fn serve_all<H: AllocGlobal, A: Application, N: Listener, U: Runner, P: Paus
 
 /// Serves the next connection that the listener gives, and returns its report; `None` where it gives none
 /// any more. The line is dropped once its connection has ended.
-pub fn serve_next<H: AllocGlobal, A: Application, N: Listener, U: Runner, P: Pause>(
+pub fn serve_next<H: AllocGlobal, A: Application, N: Listener, U: Runner<A::Task>, P: Pause>(
     rt: &H,
     limits: &Limits,
     state: &State,
@@ -64,7 +64,7 @@ pub fn serve_next<H: AllocGlobal, A: Application, N: Listener, U: Runner, P: Pau
 }
 
 /// Serves one connection, and drops its line.
-fn serve<H: AllocGlobal, A: Application, L: Line + Drop, U: Runner, P: Pause>(
+fn serve<H: AllocGlobal, A: Application, L: Line + Drop, U: Runner<A::Task>, P: Pause>(
     rt: &H,
     limits: &Limits,
     state: &State,

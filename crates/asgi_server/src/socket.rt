@@ -1,13 +1,14 @@
 //! A socket that is closed only once its peer had time to read what was written.
 ghost use Rattle.std.specs.Prelude.{◌≡◌};
+ghost use Rattle.std.specs.Io.{WritesAtMost};
 
 use asgi_io::is_passing;
 use std::io::{self, ErrorKind, Read, Write};
 use std::net::{OpenStream, Shutdown};
 use std::time::{Clock, Duration, Instant};
 
-/// How long a read waits for bytes, and a write for room, before it pauses, in milliseconds. The system
-/// keeps no shorter time than its own step, some 4 to 8 milliseconds.
+/// How long a write waits for room, and a read for bytes where it waits, in milliseconds. The system keeps no
+/// shorter time than its own step, some 4 to 8 milliseconds.
 const TIMEOUT: u64 = 1;
 
 /// How many reads at the end of a connection may find nothing: some 800 milliseconds.
@@ -25,29 +26,34 @@ const LONGEST_END: u64 = 1_000;
 pub struct Socket<'a, H: Clock, S: Read + OpenStream> {
     clock: &'a H,
     stream: S,
+    /// Its reads wait for bytes, for a short while.
+    waits: bool,
     is_ready: bool,
 }
 
 impl<'a, H: Clock, S: Read + OpenStream> Socket<'a, H, S> {
-    /// A socket over this stream, whose reads and writes do not wait for long from here on.
-    pub fn new(clock: &'a H, stream: S) -> Self
+    /// A socket over this stream. From here on its writes do not wait for long, and its reads neither, or not at
+    /// all.
+    pub fn new(clock: &'a H, stream: S, waits: bool) -> Self
         ensures { result.stream ≡ stream }
     {
-        let is_ready = ready(&stream).is_ok();
+        let is_ready = ready(&stream, waits).is_ok();
         Socket {
             clock,
             stream,
+            waits,
             is_ready,
         }
     }
 }
 
 /// Makes a stream ready to be served.
-fn ready<S: OpenStream>(stream: &S) -> io::Result<()> {
+fn ready<S: OpenStream>(stream: &S, waits: bool) -> io::Result<()> {
     // A response leaves in several writes, none of which is to wait for an answer to the one before.
     stream.set_nodelay(true)?;
     stream.set_read_timeout(Some(Duration::from_millis(TIMEOUT)))?;
-    stream.set_write_timeout(Some(Duration::from_millis(TIMEOUT)))
+    stream.set_write_timeout(Some(Duration::from_millis(TIMEOUT)))?;
+    stream.set_nonblocking(!waits)
 }
 
 impl<'a, H: Clock, S: Read + OpenStream + Drop> Drop for Socket<'a, H, S> {
@@ -55,12 +61,19 @@ impl<'a, H: Clock, S: Read + OpenStream + Drop> Drop for Socket<'a, H, S> {
         let Socket {
             clock,
             mut stream,
+            waits: _,
             is_ready,
         } = self;
-        if is_ready && stream.shutdown(Shutdown::Write).is_ok() {
+        if is_ready && end_writing(&stream).is_ok() {
             drain(clock, &mut stream);
         }
     }
+}
+
+/// Ends the half that writes. The reads of the other one wait for a short while.
+fn end_writing<S: OpenStream>(stream: &S) -> io::Result<()> {
+    stream.shutdown(Shutdown::Write)?;
+    stream.set_nonblocking(false)
 }
 
 /// Reads and drops what is still sent.
@@ -99,6 +112,26 @@ fn unready() -> io::Error {
     io::Error::from(ErrorKind::NotConnected)
 }
 
+/// Whether a write found no room.
+fn is_full(wrote: &io::Result<usize>) -> bool {
+    match wrote {
+        Ok(_) => false,
+        Err(e) => e.kind() == ErrorKind::WouldBlock,
+    }
+}
+
+impl<H: Clock, S: Read + Write + OpenStream> Socket<'_, H, S> {
+    /// Writes once room is there, where it comes soon.
+    fn write_waiting(&mut self, buf: &[u8]) -> io::Result<usize>
+        ensures bound { WritesAtMost result buf.now }
+    {
+        self.stream.set_nonblocking(false)?;
+        let wrote = self.stream.write(buf);
+        self.is_ready = self.stream.set_nonblocking(true).is_ok();
+        wrote
+    }
+}
+
 impl<H: Clock, S: Read + OpenStream> Read for Socket<'_, H, S> {
     fn read(&mut self, buf: &mut [u8]) -> io::Result<usize> {
         if !self.is_ready {
@@ -113,7 +146,11 @@ impl<H: Clock, S: Read + Write + OpenStream> Write for Socket<'_, H, S> {
         if !self.is_ready {
             return Err(unready());
         }
-        self.stream.write(buf)
+        let wrote = self.stream.write(buf);
+        if !self.waits && is_full(&wrote) {
+            return self.write_waiting(buf);
+        }
+        wrote
     }
 
     fn flush(&mut self) -> io::Result<()> {

@@ -31,13 +31,16 @@ pub struct Sockets<'a, R: Net + Clock> {
     port: u16,
     // How many more connections it gives.
     left: u64,
+    // The reads of their sockets wait for bytes.
+    waits: bool,
     listener: Option<R::Listener>,
     has_failed: bool,
     told: History<Option<OverSocket<'a, R>>>,
 }
 
 impl<'a, R: Net + Clock> Sockets<'a, R> {
-    /// Gives so many connections of this port. Nothing is opened yet.
+    /// Gives so many connections of this port, whose reads wait for bytes, a few milliseconds at the most: for a
+    /// runner in whose one thread nothing else is to be done meanwhile. Nothing is opened yet.
     pub fn new(rt: &'a R, alloc: Global, port: u16, count: u64) -> Self
         ensures nothing { (result.told.items ≡ []) × (result.has_failed ≡ false) }
         ensures count { (result.left ≡ count) × (result.port ≡ port) }
@@ -47,10 +50,22 @@ impl<'a, R: Net + Clock> Sockets<'a, R> {
             alloc,
             port,
             left: count,
+            waits: true,
             listener: None,
             has_failed: false,
             told: History::new(),
         }
+    }
+
+    /// The same with reads that do not wait: for a runner whose tasks have a thread of their own, since a read that
+    /// waited would hold up what they say meanwhile.
+    pub fn non_blocking(rt: &'a R, alloc: Global, port: u16, count: u64) -> Self
+        ensures nothing { (result.told.items ≡ []) × (result.has_failed ≡ false) }
+        ensures count { (result.left ≡ count) × (result.port ≡ port) }
+    {
+        let mut sockets = Sockets::new(rt, alloc, port, count);
+        sockets.waits = false;
+        sockets
     }
 
     /// Gives so many connections of this port from here on, and none of the one before. One that has
@@ -107,7 +122,7 @@ impl<'a, R: Net + Clock> Sockets<'a, R> {
             Ok(address) => peer_of(self.alloc, address),
             Err(_) => None,
         };
-        let line = Wired::new(self.alloc, Socket::new(self.rt, stream));
+        let line = Wired::new(self.alloc, Socket::new(self.rt, stream, self.waits));
         Ok((line, client, server))
     }
 }

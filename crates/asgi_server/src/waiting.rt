@@ -33,6 +33,8 @@ impl<'a, H: Clock> Pause for Waiting<'a, H> {
         thread::sleep(self.clock, Duration::from_millis(WAIT));
     }
 
+    fn moved(&mut self) {}
+
     fn paused(&self) -> u64 {
         self.count
     }

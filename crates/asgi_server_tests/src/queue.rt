@@ -155,7 +155,9 @@ fn are_whole_or_lack_memory(reports: &[(u64, Report)]) -> bool {
         match report.outcome {
             Outcome::Finished | Outcome::NoMemory | Outcome::WriteFailed(_) => {}
             Outcome::Refused(500) => {}
-            Outcome::Refused(_) | Outcome::InputBroke | Outcome::Idle => return false,
+            Outcome::Refused(_) | Outcome::InputBroke | Outcome::Idle | Outcome::NoThread => {
+                return false;
+            }
         }
     }
     true

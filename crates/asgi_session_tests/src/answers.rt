@@ -1,6 +1,6 @@
 //! What is answered to an opening handshake, over a stream.
 use crate::apps::{Heard, Said, Step};
-use crate::rows::{Row, Written, check};
+use crate::rows::{Row, Written, check, check_inline};
 use crate::serving::App;
 use crate::texts::{
     ACCEPTED, CHAT_ACCEPTED, DENIED, FORBIDDEN, GET, HANDSHAKE, HELLO, HELLO_BACK, LAST_CHUNK,
@@ -208,7 +208,7 @@ const ACCEPTS: &[Row] = &[
 
 #[test]
 fn a_handshake_is_accepted(rt: HostRuntime) -> Result<(), Fail> {
-    check(&rt, ACCEPTS)
+    check_inline(&rt, ACCEPTS)
 }
 
 /// Requests in front of the handshake, and all of it in one read.

@@ -1,6 +1,6 @@
 //! Closes of the client and of the application, over a stream (RFC 6455, sections 5.5.1 and 7).
 use crate::apps::{Heard, Said, Step};
-use crate::rows::{Row, Session, Written, check, check_sessions};
+use crate::rows::{Row, Session, Written, check_inline, check_sessions};
 use crate::serving::App;
 use crate::texts::{ACCEPTED, CLOSE, HANDSHAKE, HELLO, HELLO_BACK};
 use asgi_conn::Outcome;
@@ -204,5 +204,5 @@ const OWN_CLOSES: &[Row] = &[
 
 #[test]
 fn an_application_closes(rt: HostRuntime) -> Result<(), Fail> {
-    check(&rt, OWN_CLOSES)
+    check_inline(&rt, OWN_CLOSES)
 }

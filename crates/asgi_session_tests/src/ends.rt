@@ -4,13 +4,12 @@ use crate::rows::Parts;
 use crate::scripts::{Given, Out, is_handed, is_text, script_of};
 use crate::serving::{App, serve_by};
 use crate::texts::{ACCEPTED, DENIED, FORBIDDEN, HANDSHAKE, HELLO, LAST_CHUNK, SERVER_ERROR};
-use asgi_conn::Outcome;
+use asgi_conn::{Host, Outcome};
+use asgi_fakes::Way;
 use asgi_types::{BadLimit, Limits};
 use asgi_ws::Script;
-use std::alloc::AllocGlobal;
 use std::io;
 use std::process::Abort;
-use std::random::RandomSource;
 use std::test::Fail;
 
 /// The application, the messages, what is handed over, and the outcome and the faults.
@@ -18,13 +17,14 @@ type Row = (App, &'static [Given], &'static [Out], (Outcome, u64));
 
 /// Serves a handshake that is accepted, with one exchange, and says how many messages were read where all is as the row
 /// has it.
-fn read_over<H: RandomSource + AllocGlobal>(
+fn read_over<H: Host>(
     rt: &H,
+    way: Way,
     limits: &Limits,
     row: &Row,
     line: &mut Script,
 ) -> io::Result<Option<usize>> {
-    let (report, _) = serve_by(rt, limits, row.0, line)?;
+    let (report, _) = serve_by(rt, way, limits, row.0, line)?;
     let ended = (report.outcome, report.faults) == row.3 && report.exchanges == 1;
     if ended && is_handed(line, row.2) && line.text() == ACCEPTED {
         return Ok(Some(line.received().len()));
@@ -33,21 +33,29 @@ fn read_over<H: RandomSource + AllocGlobal>(
 }
 
 /// The same over a line of the row's messages.
-fn reads<H: RandomSource + AllocGlobal>(
-    rt: &H,
-    limits: &Limits,
-    row: &Row,
-) -> io::Result<Option<usize>> {
+fn reads<H: Host>(rt: &H, way: Way, limits: &Limits, row: &Row) -> io::Result<Option<usize>> {
     let mut line = script_of(rt.alloc(), &[HANDSHAKE], row.1)?;
-    read_over(rt, limits, row, &mut line)
+    read_over(rt, way, limits, row, &mut line)
 }
 
-fn check<H: Abort + RandomSource + AllocGlobal>(rt: &H, rows: &[Row]) -> Result<(), Fail> {
+/// Each row, in this way.
+fn check_so<H: Abort + Host>(rt: &H, way: Way, rows: &[Row]) -> Result<(), Fail> {
     for (place, row) in rows.iter().enumerate() {
-        let read = reads(rt, &Limits::usual(), row)?;
-        assert!(rt; read.is_some(), "row {place}");
+        let read = reads(rt, way, &Limits::usual(), row)?;
+        assert!(rt; read.is_some(), "row {place}, {way:?}");
     }
     Ok(())
+}
+
+/// Each row, in one thread: in two, what the task says may cross with what is read.
+fn check<H: Abort + Host>(rt: &H, rows: &[Row]) -> Result<(), Fail> {
+    check_so(rt, Way::Inline, rows)
+}
+
+/// Each row, in either way.
+fn check_both<H: Abort + Host>(rt: &H, rows: &[Row]) -> Result<(), Fail> {
+    check_so(rt, Way::Inline, rows)?;
+    check_so(rt, Way::Beside, rows)
 }
 
 const CONNECTS: Step = Step::Hears(Heard::Connect);
@@ -125,13 +133,13 @@ fn messages_are_heard_and_handed_over(rt: HostRuntime) -> Result<(), Fail> {
 }
 
 /// Whether the message is echoed, and the line was given the bytes behind the handshake.
-fn is_handed_on<H: RandomSource + AllocGlobal>(rt: &H, line: &mut Script) -> io::Result<bool> {
-    let (report, _) = serve_by(rt, &Limits::usual(), App::WsEcho, line)?;
+fn is_handed_on<H: Host>(rt: &H, line: &mut Script) -> io::Result<bool> {
+    let (report, _) = serve_by(rt, Way::Inline, &Limits::usual(), App::WsEcho, line)?;
     let is_so = is_handed(line, &[Out::Text("a")]) && report.outcome == Outcome::InputBroke;
     Ok(is_so && line.leftover() == Some(HELLO))
 }
 
-fn hands_on<H: RandomSource + AllocGlobal>(rt: &H) -> io::Result<bool> {
+fn hands_on<H: Host>(rt: &H) -> io::Result<bool> {
     let mut line = script_of(rt.alloc(), &[HANDSHAKE, HELLO], &[Given::Text("a")])?;
     is_handed_on(rt, &mut line)
 }
@@ -175,18 +183,14 @@ const ANSWERS: &[Answer] = &[
 ];
 
 /// Whether the text of the answer is written, and nothing else is done.
-fn is_answered<H: RandomSource + AllocGlobal>(
-    rt: &H,
-    row: &Answer,
-    line: &mut Script,
-) -> io::Result<bool> {
-    let (report, _) = serve_by(rt, &Limits::usual(), row.0, line)?;
+fn is_answered<H: Host>(rt: &H, row: &Answer, line: &mut Script) -> io::Result<bool> {
+    let (report, _) = serve_by(rt, Way::Inline, &Limits::usual(), row.0, line)?;
     let ended = (report.outcome, report.faults) == row.2 && report.exchanges == 1;
     let is_silent = line.leftover().is_none() && line.received().is_empty();
     Ok(ended && is_silent && is_handed(line, &[]) && is_text(line, row.1))
 }
 
-fn answers<H: RandomSource + AllocGlobal>(rt: &H, row: &Answer) -> io::Result<bool> {
+fn answers<H: Host>(rt: &H, row: &Answer) -> io::Result<bool> {
     let mut line = script_of(rt.alloc(), &[HANDSHAKE], &[Given::Text("x")])?;
     is_answered(rt, row, &mut line)
 }
@@ -232,7 +236,35 @@ fn a_task_that_ends_in_an_open_session_closes_it(rt: HostRuntime) -> Result<(), 
     check(&rt, OPEN)
 }
 
-/// A task ends behind a close, or behind the end of the input: nothing more is handed over. It need not have heard of it.
+/// A task ends behind a close or the end of the input, of which it has heard: nothing more is handed over, in either way.
+const HEARD: &[Row] = &[
+    (
+        App::Scripted(&[CONNECTS, ACCEPTS, HEARS_1000]),
+        &[Given::Close(1000, "")],
+        &[],
+        (Outcome::Finished, 0),
+    ),
+    (
+        App::Scripted(&[CONNECTS, ACCEPTS, HEARS_1000, Step::Faults]),
+        &[Given::Close(1000, ""), Given::Fault],
+        &[],
+        (Outcome::Finished, 1),
+    ),
+    (
+        App::Scripted(&[CONNECTS, ACCEPTS, HEARS_1006]),
+        &[],
+        &[],
+        (Outcome::InputBroke, 0),
+    ),
+    (
+        App::Scripted(&[CONNECTS, ACCEPTS, HEARS_1006, Step::Faults]),
+        &[Given::Fault, Given::Close(1000, "")],
+        &[],
+        (Outcome::InputBroke, 1),
+    ),
+];
+
+/// The same where it has not heard of it.
 const BROKEN: &[Row] = &[
     (
         App::Scripted(&[CONNECTS, ACCEPTS, SAYS_BYE]),
@@ -247,34 +279,10 @@ const BROKEN: &[Row] = &[
         (Outcome::Finished, 1),
     ),
     (
-        App::Scripted(&[CONNECTS, ACCEPTS, HEARS_1000]),
-        &[Given::Close(1000, "")],
-        &[],
-        (Outcome::Finished, 0),
-    ),
-    (
-        App::Scripted(&[CONNECTS, ACCEPTS, HEARS_1000, Step::Faults]),
-        &[Given::Close(1000, ""), Given::Fault],
-        &[],
-        (Outcome::Finished, 1),
-    ),
-    (
         App::Scripted(&[CONNECTS, ACCEPTS, RESTS]),
         &[Given::Close(1000, "")],
         &[],
         (Outcome::Finished, 0),
-    ),
-    (
-        App::Scripted(&[CONNECTS, ACCEPTS, HEARS_1006]),
-        &[],
-        &[],
-        (Outcome::InputBroke, 0),
-    ),
-    (
-        App::Scripted(&[CONNECTS, ACCEPTS, HEARS_1006, Step::Faults]),
-        &[Given::Fault, Given::Close(1000, "")],
-        &[],
-        (Outcome::InputBroke, 1),
     ),
     (
         App::Scripted(&[CONNECTS, ACCEPTS, RESTS]),
@@ -292,11 +300,12 @@ const BROKEN: &[Row] = &[
 
 #[test]
 fn a_task_that_ends_behind_a_close_adds_nothing(rt: HostRuntime) -> Result<(), Fail> {
+    check_both(&rt, HEARD)?;
     check(&rt, BROKEN)
 }
 
-/// Each receive behind a disconnect gives an equal one, and nothing can be said: behind the client's, and behind one's own.
-const AGAIN: &[Row] = &[
+/// Each receive behind a disconnect gives an equal one, and nothing can be said: behind the client's, in either way.
+const AGAIN_BEHIND_THE_CLIENT: &[Row] = &[
     (
         App::Scripted(&[
             CONNECTS,
@@ -324,6 +333,10 @@ const AGAIN: &[Row] = &[
         &[],
         (Outcome::InputBroke, 0),
     ),
+];
+
+/// The same behind one's own.
+const AGAIN: &[Row] = &[
     (
         App::Scripted(&[CONNECTS, ACCEPTS, SAYS_BYE, HEARS_1000]),
         &[Given::Text("x")],
@@ -349,6 +362,7 @@ const AGAIN: &[Row] = &[
 
 #[test]
 fn each_receive_behind_a_disconnect_is_equal(rt: HostRuntime) -> Result<(), Fail> {
+    check_both(&rt, AGAIN_BEHIND_THE_CLIENT)?;
     check(&rt, AGAIN)
 }
 
@@ -379,7 +393,7 @@ const CLOSING: &[Row] = &[
 #[test]
 fn of_100_pings_behind_a_close_64_are_read(rt: HostRuntime) -> Result<(), Fail> {
     for (place, row) in CLOSING.iter().enumerate() {
-        let read = reads(&rt, &Limits::usual(), row)?;
+        let read = reads(&rt, Way::Inline, &Limits::usual(), row)?;
         assert_eq!(rt; read, Some(64), "row {place}");
     }
     Ok(())
@@ -431,7 +445,7 @@ const CROWDED: &[(Row, usize)] = &[
 fn a_message_waits_for_a_place(rt: HostRuntime) -> Result<(), Fail> {
     let limits = Limits::new(16_384, 64, 0, 1, 2, 30_000, 1_000_000)?;
     for (place, (row, wanted)) in CROWDED.iter().enumerate() {
-        let read = reads(&rt, &limits, row)?;
+        let read = reads(&rt, Way::Inline, &limits, row)?;
         assert_eq!(rt; read, Some(*wanted), "row {place}");
     }
     Ok(())
@@ -489,23 +503,19 @@ const WAITING: &[Waiting] = &[
 ];
 
 /// Whether the connection is given up behind three turns that were idle.
-fn is_given_up<H: RandomSource + AllocGlobal>(
+fn is_given_up<H: Host>(
     rt: &H,
     limits: &Limits,
     row: &Waiting,
     line: &mut Script,
 ) -> io::Result<bool> {
-    let (report, _) = serve_by(rt, limits, row.0.0, line)?;
+    let (report, _) = serve_by(rt, Way::Inline, limits, row.0.0, line)?;
     let counts = (report.exchanges, report.faults, report.idle);
     let ended = report.outcome == Outcome::Idle && counts == (1, 0, 3);
     Ok(ended && is_handed(line, row.0.2) && is_text(line, row.1))
 }
 
-fn gives_up<H: RandomSource + AllocGlobal>(
-    rt: &H,
-    limits: &Limits,
-    row: &Waiting,
-) -> io::Result<bool> {
+fn gives_up<H: Host>(rt: &H, limits: &Limits, row: &Waiting) -> io::Result<bool> {
     let mut line = script_of(rt.alloc(), &[HANDSHAKE], row.0.1)?;
     is_given_up(rt, limits, row, &mut line)
 }

@@ -1,13 +1,12 @@
 //! Frames of a client, over a stream: those of RFC 6455, section 5.7, and those that its rules refuse.
 use crate::apps::Heard;
-use crate::rows::{Session, Written, check_sessions, is_served, joined};
+use crate::rows::{BOTH, Session, Written, check_sessions, is_served, joined};
 use crate::serving::App;
 use crate::texts::{ACCEPTED, HANDSHAKE, HELLO, HELLO_BACK};
-use asgi_conn::Outcome;
+use asgi_conn::{Host, Outcome};
 use asgi_fakes::Pieces;
-use std::alloc::{AllocError, AllocGlobal, Global};
+use std::alloc::{AllocError, Global};
 use std::io;
-use std::random::RandomSource;
 use std::test::Fail;
 
 const LOST: Heard = Heard::Disconnect(1006, "");
@@ -308,22 +307,18 @@ fn frame(alloc: Global, front: &[u8], head: &[u8], count: usize) -> Result<Vec<u
 const PIECES: &[usize] = &[100_000, 4_096, 1_000];
 
 /// The piece in which the message is not echoed first, if any.
-fn wrong_piece<H: RandomSource + AllocGlobal>(
-    rt: &H,
-    input: &[u8],
-    wanted: &[u8],
-) -> io::Result<Option<usize>> {
+fn wrong_piece<H: Host>(rt: &H, input: &[u8], wanted: &[u8]) -> io::Result<Option<usize>> {
     for piece in PIECES {
         let pieces = Pieces::new(input, *piece, *piece);
         let end = (Outcome::InputBroke, 1, 0);
-        if !is_served(rt, App::WsEcho, pieces, Written::Just(&[wanted]), end)? {
+        if !is_served(rt, BOTH, App::WsEcho, pieces, Written::Just(&[wanted]), end)? {
             return Ok(Some(*piece));
         }
     }
     Ok(None)
 }
 
-fn fails_at<H: RandomSource + AllocGlobal>(rt: &H, row: &Head) -> io::Result<Option<usize>> {
+fn fails_at<H: Host>(rt: &H, row: &Head) -> io::Result<Option<usize>> {
     let input = frame(rt.alloc(), HANDSHAKE, row.1, row.0)?;
     let wanted = frame(rt.alloc(), ACCEPTED, row.2, row.0)?;
     wrong_piece(rt, &input, &wanted)

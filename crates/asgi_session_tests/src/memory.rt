@@ -4,13 +4,11 @@ use crate::rows::{Parts, behind, joined};
 use crate::scripts::{Given, Out, is_front, is_handed, script_of};
 use crate::serving::{App, serve_by};
 use crate::texts::{ACCEPTED, FORBIDDEN, HANDSHAKE, HELLO, HELLO_BACK, OFFERING, SERVER_ERROR};
-use asgi_conn::{Outcome, Report};
-use asgi_fakes::{Memory, Pieces, line_of, text_of};
+use asgi_conn::{Host, Outcome, Report};
+use asgi_fakes::{Memory, Pieces, Way, line_of, text_of};
 use asgi_types::Limits;
 use asgi_ws::Script;
-use std::alloc::AllocGlobal;
 use std::io;
-use std::random::RandomSource;
 use std::test::Fail;
 
 /// What came of a session.
@@ -88,17 +86,13 @@ fn wired_came(row: &Row, written: &[u8], report: &Report) -> Came {
     Came::whole_if(is_one_exchange(report) && behind(written, row.2) == Some(b""))
 }
 
-fn serve_over<H: RandomSource + AllocGlobal>(
-    rt: &H,
-    row: &Row,
-    line: &mut Memory<Pieces>,
-) -> io::Result<Came> {
-    let (report, _) = serve_by(rt, &Limits::usual(), row.0, line)?;
+fn serve_over<H: Host>(rt: &H, row: &Row, line: &mut Memory<Pieces>) -> io::Result<Came> {
+    let (report, _) = serve_by(rt, Way::Inline, &Limits::usual(), row.0, line)?;
     Ok(wired_came(row, text_of(line), &report))
 }
 
 /// Serves a session over a stream, whose input comes in two pieces.
-fn serve_wired<H: RandomSource + AllocGlobal>(rt: &H, row: &Row) -> io::Result<Came> {
+fn serve_wired<H: Host>(rt: &H, row: &Row) -> io::Result<Came> {
     let input = joined(rt.alloc(), b"", row.1)?;
     let mut line = line_of(rt, Pieces::new(&input, 9, 4_096))?;
     serve_over(rt, row, &mut line)
@@ -128,13 +122,13 @@ fn scripted_came(line: &Script, report: &Report) -> Came {
     Came::whole_if(is_so && is_one_exchange(report))
 }
 
-fn serve_over_script<H: RandomSource + AllocGlobal>(rt: &H, line: &mut Script) -> io::Result<Came> {
-    let (report, _) = serve_by(rt, &Limits::usual(), App::WsEcho, line)?;
+fn serve_over_script<H: Host>(rt: &H, line: &mut Script) -> io::Result<Came> {
+    let (report, _) = serve_by(rt, Way::Inline, &Limits::usual(), App::WsEcho, line)?;
     Ok(scripted_came(line, &report))
 }
 
 /// The same over a line in memory.
-fn serve_script<H: RandomSource + AllocGlobal>(rt: &H) -> io::Result<Came> {
+fn serve_script<H: Host>(rt: &H) -> io::Result<Came> {
     let mut line = script_of(rt.alloc(), &[HANDSHAKE], &[Given::Text("Hello")])?;
     serve_over_script(rt, &mut line)
 }

@@ -1,13 +1,11 @@
 //! Reads that fail, before a session and in one.
 use crate::apps::Heard;
-use crate::rows::{Written, is_served, joined};
+use crate::rows::{BOTH, Written, is_served, joined};
 use crate::serving::App;
 use crate::texts::{ACCEPTED, HANDSHAKE, HELLO, HELLO_BACK};
-use asgi_conn::Outcome;
+use asgi_conn::{Host, Outcome};
 use asgi_fakes::Pieces;
-use std::alloc::AllocGlobal;
 use std::io;
-use std::random::RandomSource;
 use std::test::Fail;
 
 const LOST: Heard = Heard::Disconnect(1006, "");
@@ -28,20 +26,20 @@ fn wanted_behind(read: usize) -> (App, &'static [u8], &'static [u8], u64) {
 }
 
 /// How many bytes are read before the first failure that ends in another way.
-fn wrong_behind<H: RandomSource + AllocGlobal>(rt: &H, input: &[u8]) -> io::Result<Option<usize>> {
+fn wrong_behind<H: Host>(rt: &H, input: &[u8]) -> io::Result<Option<usize>> {
     for read in 0..=input.len() {
         let (app, accepted, echo, exchanges) = wanted_behind(read);
         let mut pieces = Pieces::new(input, 1, 1);
         pieces.fails_at = (read as u64).saturating_add(1);
         let end = (Outcome::InputBroke, exchanges, 0);
-        if !is_served(rt, app, pieces, Written::Just(&[accepted, echo]), end)? {
+        if !is_served(rt, BOTH, app, pieces, Written::Just(&[accepted, echo]), end)? {
             return Ok(Some(read));
         }
     }
     Ok(None)
 }
 
-fn wrong_read<H: RandomSource + AllocGlobal>(rt: &H) -> io::Result<Option<usize>> {
+fn wrong_read<H: Host>(rt: &H) -> io::Result<Option<usize>> {
     let input = joined(rt.alloc(), HANDSHAKE, &[HELLO])?;
     wrong_behind(rt, &input)
 }

@@ -1,14 +1,13 @@
 //! Rows over a stream, and how they are compared, in pieces and cut in two at each place.
 use crate::apps::Heard;
 use crate::serving::{App, serve_by};
-use crate::texts::HANDSHAKE;
-use asgi_conn::Outcome;
-use asgi_fakes::{End, Memory, Pieces, line_of, text_of};
+use crate::texts::{ACCEPTED, HANDSHAKE};
+use asgi_conn::{Host, Outcome};
+use asgi_fakes::{End, Memory, Pieces, Way, line_of, text_of};
 use asgi_types::Limits;
-use std::alloc::{AllocError, AllocGlobal, Global};
+use std::alloc::{AllocError, Global};
 use std::io::{self, ErrorKind};
 use std::process::Abort;
-use std::random::RandomSource;
 use std::test::Fail;
 
 pub type Parts = &'static [&'static [u8]];
@@ -55,28 +54,63 @@ pub fn is_written(bytes: &[u8], written: Written<'_>) -> bool {
     }
 }
 
-/// Serves the input in such pieces, and compares.
-pub fn is_served<H: RandomSource + AllocGlobal>(
+/// In one thread alone: in two, what the task says by itself may cross with what is read.
+const ONE: &[Way] = &[Way::Inline];
+
+/// In either way.
+pub const BOTH: &[Way] = &[Way::Inline, Way::Beside];
+
+/// Serves the input in such pieces, in each of these ways, and compares.
+pub fn is_served<H: Host>(
     rt: &H,
+    ways: &[Way],
+    app: App,
+    pieces: Pieces,
+    written: Written<'_>,
+    end: End,
+) -> io::Result<bool> {
+    for way in ways {
+        if !is_served_so(rt, *way, app, pieces, written, end)? {
+            return Ok(false);
+        }
+    }
+    Ok(true)
+}
+
+fn is_served_so<H: Host>(
+    rt: &H,
+    way: Way,
     app: App,
     pieces: Pieces,
     written: Written<'_>,
     end: End,
 ) -> io::Result<bool> {
     let mut line = line_of(rt, pieces)?;
-    is_line_served(rt, app, &mut line, written, end)
+    is_line_served(rt, way, app, &mut line, written, end)
 }
 
-fn is_line_served<H: RandomSource + AllocGlobal>(
+fn is_line_served<H: Host>(
     rt: &H,
+    way: Way,
     app: App,
     line: &mut Memory<Pieces>,
     written: Written<'_>,
     end: End,
 ) -> io::Result<bool> {
-    let (report, _) = serve_by(rt, &Limits::usual(), app, line)?;
+    let (report, _) = serve_by(rt, way, &Limits::usual(), app, line)?;
     let ended = (report.outcome, report.exchanges, report.faults);
-    Ok(ended == end && is_written(text_of(line), written))
+    let is_so = ended == end && is_written(text_of(line), written);
+    Ok(is_so || way == Way::Beside && is_crossed(ended, text_of(line), written, end))
+}
+
+/// Whether the end of the session was read before the last message was sent, which is refused then: where the task has a thread
+/// of its own, either may be first.
+fn is_crossed(ended: End, bytes: &[u8], written: Written<'_>, end: End) -> bool {
+    let Written::Around(parts, _) = written else {
+        return false;
+    };
+    let is_lost = ended.0 == Outcome::WriteFailed(0) && ended.1 == end.1;
+    is_lost && parts.first() == Some(&ACCEPTED) && bytes.starts_with(ACCEPTED)
 }
 
 /// How many bytes come in a read, and the fault that comes before each, if any.
@@ -91,8 +125,9 @@ const SIZES: &[(usize, Option<ErrorKind>)] = &[
 
 /// The piece in which the row fails first: whole, byte by byte and in pieces of seven, with and without a read that would
 /// block before each.
-fn fails_at<H: RandomSource + AllocGlobal>(
+fn fails_at<H: Host>(
     rt: &H,
+    ways: &[Way],
     app: App,
     input: &[u8],
     written: Written<'_>,
@@ -100,7 +135,7 @@ fn fails_at<H: RandomSource + AllocGlobal>(
 ) -> io::Result<Option<usize>> {
     for (size, before) in SIZES {
         let pieces = pieces_of(input, *size, *size, *before);
-        if !is_served(rt, app, pieces, written, end)? {
+        if !is_served(rt, ways, app, pieces, written, end)? {
             return Ok(Some(*size));
         }
     }
@@ -118,34 +153,36 @@ fn pieces_of<'a>(
     pieces
 }
 
-fn row_fails_at<H: RandomSource + AllocGlobal>(rt: &H, row: &Row) -> io::Result<Option<usize>> {
+fn row_fails_at<H: Host>(rt: &H, ways: &[Way], row: &Row) -> io::Result<Option<usize>> {
     let input = joined(rt.alloc(), b"", row.1)?;
-    fails_at(rt, row.0, &input, row.2, row.3)
+    fails_at(rt, ways, row.0, &input, row.2, row.3)
 }
 
-/// Each row, in pieces.
-pub fn check<H: Abort + RandomSource + AllocGlobal>(rt: &H, rows: &[Row]) -> Result<(), Fail> {
+fn check_so<H: Abort + Host>(rt: &H, ways: &[Way], rows: &[Row]) -> Result<(), Fail> {
     for (place, row) in rows.iter().enumerate() {
-        let failed = row_fails_at(rt, row)?;
+        let failed = row_fails_at(rt, ways, row)?;
         assert_eq!(rt; failed, None, "row {place}");
     }
     Ok(())
 }
 
-fn session_fails_at<H: RandomSource + AllocGlobal>(
-    rt: &H,
-    app: App,
-    row: &Session,
-) -> io::Result<Option<usize>> {
+/// Each row, in pieces.
+pub fn check<H: Abort + Host>(rt: &H, rows: &[Row]) -> Result<(), Fail> {
+    check_so(rt, BOTH, rows)
+}
+
+/// The same in one thread.
+pub fn check_inline<H: Abort + Host>(rt: &H, rows: &[Row]) -> Result<(), Fail> {
+    check_so(rt, ONE, rows)
+}
+
+fn session_fails_at<H: Host>(rt: &H, app: App, row: &Session) -> io::Result<Option<usize>> {
     let input = joined(rt.alloc(), HANDSHAKE, row.0)?;
-    fails_at(rt, app, &input, row.2, (row.3, 1, 0))
+    fails_at(rt, BOTH, app, &input, row.2, (row.3, 1, 0))
 }
 
 /// Each session, in pieces, by an application that hears just these events, and by `WsEcho`.
-pub fn check_sessions<H: Abort + RandomSource + AllocGlobal>(
-    rt: &H,
-    rows: &[Session],
-) -> Result<(), Fail> {
+pub fn check_sessions<H: Abort + Host>(rt: &H, rows: &[Session]) -> Result<(), Fail> {
     for (place, row) in rows.iter().enumerate() {
         let failed = session_fails_at(rt, App::Listens(row.1), row)?;
         assert_eq!(rt; failed, None, "row {place}");
@@ -156,7 +193,7 @@ pub fn check_sessions<H: Abort + RandomSource + AllocGlobal>(
 }
 
 /// The first place at which the input, cut in two there, is served in another way.
-fn wrong_cut<H: RandomSource + AllocGlobal>(
+fn wrong_cut<H: Host>(
     rt: &H,
     row: &Row,
     input: &[u8],
@@ -164,14 +201,14 @@ fn wrong_cut<H: RandomSource + AllocGlobal>(
 ) -> io::Result<Option<usize>> {
     for cut in 1..input.len() {
         let two = pieces_of(input, cut, 4_096, before);
-        if !is_served(rt, row.0, two, row.2, row.3)? {
+        if !is_served(rt, BOTH, row.0, two, row.2, row.3)? {
             return Ok(Some(cut));
         }
     }
     Ok(None)
 }
 
-fn wrong_cut_of<H: RandomSource + AllocGlobal>(
+fn wrong_cut_of<H: Host>(
     rt: &H,
     row: &Row,
     before: Option<ErrorKind>,
@@ -181,7 +218,7 @@ fn wrong_cut_of<H: RandomSource + AllocGlobal>(
 }
 
 /// Each row, cut in two at each place, with this fault before each read, if any.
-pub fn check_halves<H: Abort + RandomSource + AllocGlobal>(
+pub fn check_halves<H: Abort + Host>(
     rt: &H,
     rows: &[Row],
     before: Option<ErrorKind>,

@@ -4,14 +4,13 @@ use crate::rows::{Written, is_written, joined};
 use crate::scripts::{Given, Out, is_handed, script_of};
 use crate::serving::{App, serve_by};
 use crate::texts::{ACCEPTED, CLOSE, DENIED, FORBIDDEN, HANDSHAKE, HELLO, SERVER_ERROR};
-use asgi_conn::Outcome;
-use asgi_fakes::{Pieces, Sink};
+use asgi_conn::{Host, Outcome};
+use asgi_fakes::{Pieces, Sink, Way};
 use asgi_io::Counts;
 use asgi_types::Limits;
 use asgi_ws::{Pair, Script, Wired};
 use std::alloc::{AllocError, AllocGlobal};
 use std::io::{self, ErrorKind};
-use std::random::RandomSource;
 use std::test::Fail;
 
 const CONNECTS: Step = Step::Hears(Heard::Connect);
@@ -40,13 +39,8 @@ const ANSWERS: &[Answer] = &[
 ];
 
 /// Whether just so many bytes of the answer are written, and nothing else is done.
-fn is_cut_off<H: RandomSource + AllocGlobal>(
-    rt: &H,
-    row: &Answer,
-    out: usize,
-    line: &mut Script,
-) -> io::Result<bool> {
-    let (report, _) = serve_by(rt, &Limits::usual(), row.0, line)?;
+fn is_cut_off<H: Host>(rt: &H, row: &Answer, out: usize, line: &mut Script) -> io::Result<bool> {
+    let (report, _) = serve_by(rt, Way::Inline, &Limits::usual(), row.0, line)?;
     let counts = (report.exchanges, report.faults, line.failures());
     let ended = report.outcome == Outcome::WriteFailed(out) && counts == (1, 0, 1);
     let is_silent = line.leftover().is_none() && line.received().is_empty();
@@ -54,14 +48,14 @@ fn is_cut_off<H: RandomSource + AllocGlobal>(
 }
 
 /// The same over a line that takes so many bytes, three at a time.
-fn stops_at<H: RandomSource + AllocGlobal>(rt: &H, row: &Answer, out: usize) -> io::Result<bool> {
+fn stops_at<H: Host>(rt: &H, row: &Answer, out: usize) -> io::Result<bool> {
     let line = script_of(rt.alloc(), &[HANDSHAKE], &[Given::Text("x")])?;
     let mut line = line.failing_write((out / 3) as u64, 3);
     is_cut_off(rt, row, out, &mut line)
 }
 
 /// How many bytes go out of the answer where it is cut off in another way first.
-fn wrong_out<H: RandomSource + AllocGlobal>(rt: &H, row: &Answer) -> io::Result<Option<usize>> {
+fn wrong_out<H: Host>(rt: &H, row: &Answer) -> io::Result<Option<usize>> {
     for out in 0..row.1.len() {
         if out % 3 == 0 && !stops_at(rt, row, out)? {
             return Ok(Some(out));
@@ -131,18 +125,14 @@ const REFUSED: &[Row] = &[
     ),
 ];
 
-fn is_lost<H: RandomSource + AllocGlobal>(
-    rt: &H,
-    row: &Row,
-    line: &mut Script,
-) -> io::Result<bool> {
-    let (report, _) = serve_by(rt, &Limits::usual(), row.0, line)?;
+fn is_lost<H: Host>(rt: &H, row: &Row, line: &mut Script) -> io::Result<bool> {
+    let (report, _) = serve_by(rt, Way::Inline, &Limits::usual(), row.0, line)?;
     let counts = (report.exchanges, report.faults);
     let ended = report.outcome == Outcome::WriteFailed(0) && counts == (1, row.4);
     Ok(ended && is_handed(line, row.3) && line.text() == ACCEPTED)
 }
 
-fn loses<H: RandomSource + AllocGlobal>(rt: &H, row: &Row) -> io::Result<bool> {
+fn loses<H: Host>(rt: &H, row: &Row) -> io::Result<bool> {
     let line = script_of(rt.alloc(), &[HANDSHAKE], row.2)?;
     let mut line = line.failing_send(row.1);
     is_lost(rt, row, &mut line)
@@ -191,20 +181,20 @@ fn taken_by<'a>(line: &'a SinkLine<'_>) -> &'a [u8] {
 }
 
 /// Whether the connection ends by a failed write, with this taken.
-fn is_failed_write<H: RandomSource + AllocGlobal>(
+fn is_failed_write<H: Host>(
     rt: &H,
     app: App,
     line: &mut SinkLine<'_>,
     taken: Written<'_>,
 ) -> io::Result<bool> {
-    let (report, _) = serve_by(rt, &Limits::usual(), app, line)?;
+    let (report, _) = serve_by(rt, Way::Inline, &Limits::usual(), app, line)?;
     let counts = (report.exchanges, report.faults);
     let ended = report.outcome == Outcome::WriteFailed(0) && counts == (1, 0);
     Ok(ended && is_written(taken_by(line), taken))
 }
 
 /// The same over a line of this input, to such a writer.
-fn fails_to<H: RandomSource + AllocGlobal>(
+fn fails_to<H: Host>(
     rt: &H,
     app: App,
     input: &[u8],
@@ -229,7 +219,7 @@ const HEARS_HELLO: App = App::Listens(&[
     Heard::Disconnect(1006, ""),
 ]);
 
-fn echo_fails<H: RandomSource + AllocGlobal>(rt: &H, frame: &Frame) -> io::Result<bool> {
+fn echo_fails<H: Host>(rt: &H, frame: &Frame) -> io::Result<bool> {
     let input = joined(rt.alloc(), HANDSHAKE, &[HELLO])?;
     let taken = Written::Just(&[ACCEPTED, frame.2]);
     fails_to(rt, HEARS_HELLO, &input, frame, taken)
@@ -253,7 +243,7 @@ const LATE: App = App::Scripted(&[
     Step::Hears(Heard::Disconnect(1000, "")),
 ]);
 
-fn late_fails<H: RandomSource + AllocGlobal>(rt: &H) -> io::Result<bool> {
+fn late_fails<H: Host>(rt: &H) -> io::Result<bool> {
     let input = joined(rt.alloc(), HANDSHAKE, &[CLOSE])?;
     let taken = Written::Around(&[ACCEPTED], b"");
     fails_to(rt, LATE, &input, &(200, 0, b""), taken)

@@ -1,13 +1,11 @@
 //! The same answer however the input is cut.
-use asgi_conn::Outcome;
+use asgi_conn::{Host, Outcome};
 use asgi_fakes::texts::{BAD_REQUEST, GET, HELLO, HELLO_AND_CLOSE};
-use asgi_fakes::{App, End, Memory, Pieces, is_served, line_of, serve_by, text_of};
+use asgi_fakes::{App, End, Memory, Pieces, Way, is_served, line_of, serve_by, text_of};
 use asgi_io::Reads;
 use asgi_types::Limits;
-use std::alloc::AllocGlobal;
 use std::io::{self, ErrorKind};
 use std::process::Abort;
-use std::random::RandomSource;
 use std::test::Fail;
 
 const CLOSE: &[u8] = b"\r\nGET / HTTP/1.1\r\nHost: a\r\nConnection: close\r\n\r\n";
@@ -30,12 +28,12 @@ const ROWS: &[Row] = &[
 ];
 
 /// Whether the input, cut so, gets the answer to the whole.
-fn is_row<H: RandomSource + AllocGlobal>(rt: &H, row: &Row, reader: Pieces) -> io::Result<bool> {
+fn is_row<H: Host>(rt: &H, row: &Row, reader: Pieces) -> io::Result<bool> {
     let (_, wanted, end) = *row;
     is_served(rt, &Limits::usual(), App::Hello, reader, wanted, end)
 }
 
-fn check_halves<H: Abort + RandomSource + AllocGlobal>(rt: &H, row: &Row) -> Result<(), Fail> {
+fn check_halves<H: Abort + Host>(rt: &H, row: &Row) -> Result<(), Fail> {
     for place in 1..row.0.len() {
         let two = Pieces::new(row.0, place, 4_096);
         assert!(rt; is_row(rt, row, two)?, "cut at {place}");
@@ -44,11 +42,7 @@ fn check_halves<H: Abort + RandomSource + AllocGlobal>(rt: &H, row: &Row) -> Res
 }
 
 /// Pieces of four sizes, with this fault before each read, if any.
-fn check_pieces<H: Abort + RandomSource + AllocGlobal>(
-    rt: &H,
-    row: &Row,
-    before: Option<ErrorKind>,
-) -> Result<(), Fail> {
+fn check_pieces<H: Abort + Host>(rt: &H, row: &Row, before: Option<ErrorKind>) -> Result<(), Fail> {
     for size in [1, 2, 7, 1_000] {
         let mut pieces = Pieces::new(row.0, size, size);
         pieces.before = before;
@@ -76,17 +70,17 @@ fn failing_at(bytes: &[u8], fails_at: u64) -> Pieces {
 }
 
 /// Whether nothing is answered, and each read is told, where the read of this number fails.
-fn is_unanswered<H: RandomSource + AllocGlobal>(rt: &H, failing: u64) -> io::Result<bool> {
+fn is_unanswered<H: Host>(rt: &H, failing: u64) -> io::Result<bool> {
     let mut line = line_of(rt, failing_at(GET, failing))?;
     is_line_unanswered(rt, &mut line, failing)
 }
 
-fn is_line_unanswered<H: RandomSource + AllocGlobal>(
+fn is_line_unanswered<H: Host>(
     rt: &H,
     line: &mut Memory<Pieces>,
     failing: u64,
 ) -> io::Result<bool> {
-    let (report, _) = serve_by(rt, &Limits::usual(), App::Hello, line)?;
+    let (report, _) = serve_by(rt, Way::Inline, &Limits::usual(), App::Hello, line)?;
     let counts = (report.exchanges, report.turns, line.faults());
     let ended = report.outcome == Outcome::InputBroke && counts == (0, failing, 1);
     Ok(ended && text_of(line).is_empty())
@@ -101,11 +95,7 @@ fn a_read_that_fails_gets_no_answer(rt: HostRuntime) -> Result<(), Fail> {
 }
 
 /// Whether the request is answered, with this outcome, where the read of this number fails.
-fn is_answered<H: RandomSource + AllocGlobal>(
-    rt: &H,
-    failing: u64,
-    outcome: Outcome,
-) -> io::Result<bool> {
+fn is_answered<H: Host>(rt: &H, failing: u64, outcome: Outcome) -> io::Result<bool> {
     let pieces = failing_at(GET, failing);
     let end = (outcome, 1, 0);
     is_served(rt, &Limits::usual(), App::Hello, pieces, HELLO, end)

@@ -1,14 +1,13 @@
 //! The greatest heads and bodies that a connection takes, and the largest responses. With ample memory each is served whole.
-use asgi_conn::{Outcome, Report};
+use asgi_conn::{Host, Outcome, Report};
 use asgi_fakes::texts::{BAD_REQUEST, ECHO_HEAD, GET, HELLO, LAST_CHUNK, POST, TOO_LARGE};
-use asgi_fakes::{App, Memory, Pieces, is_served, line_of, serve_by, text_of};
+use asgi_fakes::{App, Memory, Pieces, Way, is_served, line_of, serve_by, text_of};
 use asgi_response::ResponseText;
 use asgi_types::{
     Facts, Framing, HeaderError, Headers, HttpVersion, Limits, Names, Octets, Outgoing,
 };
-use std::alloc::{AllocError, AllocGlobal, Global};
+use std::alloc::{AllocError, Global};
 use std::io;
-use std::random::RandomSource;
 use std::test::Fail;
 
 /// A head of so many bytes, its last field filled up with letters.
@@ -92,23 +91,19 @@ fn is_report(report: &Report, served: Served) -> bool {
 }
 
 /// Whether the input is served so, under the greatest limits on heads.
-fn is_head_served<H: RandomSource + AllocGlobal>(
-    rt: &H,
-    input: &[u8],
-    served: Served,
-) -> Result<bool, Fail> {
+fn is_head_served<H: Host>(rt: &H, input: &[u8], served: Served) -> Result<bool, Fail> {
     let limits = Limits::new(65_535, 128, 0, 1, 2, 1, 100_000)?;
     let mut line = line_of(rt, Pieces::new(input, served.piece, served.piece))?;
     Ok(is_line_served(rt, &limits, &mut line, served)?)
 }
 
-fn is_line_served<H: RandomSource + AllocGlobal>(
+fn is_line_served<H: Host>(
     rt: &H,
     limits: &Limits,
     line: &mut Memory<Pieces>,
     served: Served,
 ) -> io::Result<bool> {
-    let (report, pauses) = serve_by(rt, limits, App::Hello, line)?;
+    let (report, pauses) = serve_by(rt, Way::Inline, limits, App::Hello, line)?;
     let reads = line.stream().map(|pair| pair.reader.reads);
     let is_so = is_report(&report, served) && reads == Some(served.reads);
     Ok(is_so && text_of(line) == served.wanted && pauses == 0)
@@ -210,12 +205,7 @@ fn long_answer(alloc: Global) -> Result<Vec<u8>, AllocError> {
 }
 
 /// Whether the two requests are answered so, read in such pieces.
-fn is_echoed<H: RandomSource + AllocGlobal>(
-    rt: &H,
-    input: &[u8],
-    piece: usize,
-    wanted: &[u8],
-) -> io::Result<bool> {
+fn is_echoed<H: Host>(rt: &H, input: &[u8], piece: usize, wanted: &[u8]) -> io::Result<bool> {
     let pieces = Pieces::new(input, piece, piece);
     let end = (Outcome::Finished, 2, 0);
     is_served(rt, &Limits::usual(), App::Echo, pieces, wanted, end)

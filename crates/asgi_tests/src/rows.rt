@@ -1,28 +1,21 @@
 //! What is answered to each form of a head, given whole.
 use crate::edges::head_of;
-use asgi_conn::Outcome;
+use asgi_conn::{Host, Outcome};
 use asgi_fakes::texts::{
     BAD_REQUEST, GET, HELLO, HELLO_AND_CLOSE, HELLO_HEAD, NOT_IMPLEMENTED, OLD_HELLO,
     OLD_HELLO_HEAD, TOO_LARGE, TOO_LARGE_CONTENT, UPGRADE_REQUIRED,
 };
 use asgi_fakes::{App, Pieces, is_served};
 use asgi_types::Limits;
-use std::alloc::AllocGlobal;
 use std::io;
 use std::process::Abort;
-use std::random::RandomSource;
 use std::test::Fail;
 
 /// Inputs, and of each what is written, the outcome and the exchanges.
 type Case = (&'static [&'static [u8]], &'static [u8], Outcome, u64);
 
 /// Whether the input, given whole, is served so.
-fn is_case<H: RandomSource + AllocGlobal>(
-    rt: &H,
-    limits: &Limits,
-    input: &[u8],
-    case: &Case,
-) -> io::Result<bool> {
+fn is_case<H: Host>(rt: &H, limits: &Limits, input: &[u8], case: &Case) -> io::Result<bool> {
     let (_, wanted, outcome, exchanges) = *case;
     let whole = Pieces::new(input, 4_096, 4_096);
     let end = (outcome, exchanges, 0);
@@ -30,11 +23,7 @@ fn is_case<H: RandomSource + AllocGlobal>(
 }
 
 /// Serves each input of each case.
-fn check<H: Abort + RandomSource + AllocGlobal>(
-    rt: &H,
-    limits: &Limits,
-    cases: &[Case],
-) -> Result<(), Fail> {
+fn check<H: Abort + Host>(rt: &H, limits: &Limits, cases: &[Case]) -> Result<(), Fail> {
     for (place, case) in cases.iter().enumerate() {
         for (row, input) in case.0.iter().enumerate() {
             assert!(rt;
@@ -332,7 +321,7 @@ fn an_input_that_ends_early_gets_no_answer(rt: HostRuntime) -> Result<(), Fail> 
 }
 
 /// Whether a head of `length` bytes is served so.
-fn is_head_served<H: RandomSource + AllocGlobal>(
+fn is_head_served<H: Host>(
     rt: &H,
     limits: &Limits,
     length: usize,
@@ -374,10 +363,10 @@ const ONE_FIELD: &[Case] = &[
 
 #[test]
 fn a_head_keeps_its_limits(rt: HostRuntime) -> Result<(), Fail> {
-    let small = Limits::new(64, 64, 0, 1, 2, 10, 100)?;
+    let small = Limits::new(64, 64, 0, 1, 2, 1_000, 1_000_000)?;
     assert!(rt; is_head_served(&rt, &small, 64, &FITS)?);
     assert!(rt; is_head_served(&rt, &small, 65, &IS_OVER)?);
     check(&rt, &small, SMALL)?;
-    let one_field = Limits::new(16_384, 1, 0, 1, 2, 10, 100)?;
+    let one_field = Limits::new(16_384, 1, 0, 1, 2, 1_000, 1_000_000)?;
     check(&rt, &one_field, ONE_FIELD)
 }

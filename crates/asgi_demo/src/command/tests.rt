@@ -94,12 +94,7 @@ impl Listens for Nowhere {
 }
 
 /// Runs the program, where no connection comes from its port.
-fn run<H: RandomSource + AllocGlobal + Clock, L: Line, E: Counts>(
-    rt: &H,
-    words: &[String],
-    line: &mut L,
-    errors: &mut E,
-) -> u8 {
+fn run<H: Host, L: Line, E: Counts>(rt: &H, words: &[String], line: &mut L, errors: &mut E) -> u8 {
     let mut nowhere = Nowhere {
         told: History::new(),
     };
@@ -118,11 +113,7 @@ type Row = (
 
 /// Whether the program does so on the words and the input of the row, and whether it left so many bytes of the input, where
 /// that is asked.
-fn is_row<H: RandomSource + AllocGlobal + Clock>(
-    rt: &H,
-    row: &Row,
-    left: Option<usize>,
-) -> Result<bool, Fail> {
+fn is_row<H: Host>(rt: &H, row: &Row, left: Option<usize>) -> Result<bool, Fail> {
     let (texts, input, status, text, told) = *row;
     let words = words(rt.alloc(), texts)?;
     let mut line = line_of(rt.alloc(), input);
@@ -224,11 +215,7 @@ impl Write for Stuck {
 }
 
 /// The status of `once hello` over this line, where it tells this; None where it tells something else.
-fn status_of<H: RandomSource + AllocGlobal + Clock, L: Line>(
-    rt: &H,
-    line: &mut L,
-    told: &[u8],
-) -> Result<Option<u8>, Fail> {
+fn status_of<H: Host, L: Line>(rt: &H, line: &mut L, told: &[u8]) -> Result<Option<u8>, Fail> {
     let words = words(rt.alloc(), &["once", "hello"])?;
     let mut errors = Counted::new(Vec::new(rt.alloc()));
     let status = run(rt, &words, line, &mut errors);
@@ -290,11 +277,7 @@ fn words_that_cannot_be_had_are_told(rt: HostRuntime) {
 
 /// The statuses of wrong words, of a connection that stops, and of words that can't be had, and how often what they tell
 /// failed.
-fn statuses_untold<H: RandomSource + AllocGlobal + Clock>(
-    rt: &H,
-    none: &[String],
-    once: &[String],
-) -> ([u8; 3], u64) {
+fn statuses_untold<H: Host>(rt: &H, none: &[String], once: &[String]) -> ([u8; 3], u64) {
     let kind = ErrorKind::BrokenPipe;
     let mut errors = Counted::new(Stuck { kind });
     let mut line = line_between(rt.alloc(), REQUEST, Stuck { kind });

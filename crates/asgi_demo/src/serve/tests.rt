@@ -118,7 +118,7 @@ impl Write for Room {
 type End = (u8, u64, &'static [u8], &'static [u8]);
 
 /// Whether a server of the one connection, whose listener may fail and whose output has so much room, ends so.
-fn ends<H: RandomSource + AllocGlobal + Clock, A: Application>(
+fn ends<H: Host, T: AppTask + Send + 'static, A: Application<Task = T>>(
     rt: &H,
     limits: &Limits,
     app: &A,

@@ -1,5 +1,5 @@
 //! Pairs of ends with 1,024 places each way, the most that the limits of a connection have.
-use super::{Answer, Left, Pair, Row, Step, left_in, other_at, pair_of, run, solo_of};
+use super::{Answer, Left, Pair, PlainPair, RingPair, Row, Step, facts, other_at, run, solo_of};
 use asgi_pipes::EndKind;
 use asgi_types::Kind;
 use futures::task::{Context, Solo};
@@ -107,10 +107,10 @@ type Other = Option<(usize, (usize, Answer))>;
 /// What the parts gave, and what was left behind them.
 type Ran = (Other, Left);
 
-fn run_events(
+fn run_events<P: Pair>(
     alloc: Global,
     cx: &mut Context<'_>,
-    pair: &mut Pair,
+    pair: &mut P,
     carries: bool,
     (many, from): (Many, usize),
 ) -> Result<Option<(usize, Answer)>, AllocError> {
@@ -122,10 +122,10 @@ fn run_events(
     Ok(None)
 }
 
-fn run_part(
+fn run_part<P: Pair>(
     alloc: Global,
     cx: &mut Context<'_>,
-    pair: &mut Pair,
+    pair: &mut P,
     carries: bool,
     part: Part,
 ) -> Result<Option<(usize, Answer)>, AllocError> {
@@ -135,10 +135,10 @@ fn run_part(
     }
 }
 
-fn run_parts(
+fn run_parts<P: Pair>(
     alloc: Global,
     cx: &mut Context<'_>,
-    pair: &mut Pair,
+    pair: &mut P,
     carries: bool,
     parts: &[Part],
 ) -> Result<Other, AllocError> {
@@ -151,33 +151,39 @@ fn run_parts(
 }
 
 /// Runs the parts on the pair, within one poll.
-fn run_on(
+fn run_on<P: Pair>(
     alloc: Global,
     solo: &Solo,
-    pair: &mut Pair,
+    pair: &mut P,
     carries: bool,
     parts: &[Part],
 ) -> Result<Ran, AllocError> {
     let mut cx = solo.begin();
     let other = run_parts(alloc, &mut cx, pair, carries, parts);
     cx.cancel();
-    Ok((other?, left_in(pair)))
+    Ok((other?, pair.left_in()))
 }
 
-fn run_fresh(alloc: Global, solo: &Solo, carries: bool, parts: &[Part]) -> Result<Ran, AllocError> {
-    let mut pair = pair_of(alloc, Kind::Http, PLACES)?;
+fn run_fresh<P: Pair>(
+    alloc: Global,
+    solo: &Solo,
+    carries: bool,
+    parts: &[Part],
+) -> Result<Ran, AllocError> {
+    let mut pair = P::made(alloc, Kind::Http, facts(alloc), PLACES)?;
     run_on(alloc, solo, &mut pair, carries, parts)
 }
 
-/// What the parts give where nothing is carried, and where all is behind each call.
-fn run_both<R: RandomSource + AllocGlobal>(
+/// What the parts give over plain ends, where nothing is carried and where all is behind each call, and over rings.
+fn run_all<R: RandomSource + AllocGlobal>(
     rt: &R,
     parts: &[Part],
-) -> Result<(Ran, Ran), AllocError> {
+) -> Result<(Ran, Ran, Ran), AllocError> {
     let solo = solo_of(rt)?;
-    let late = run_fresh(rt.alloc(), &solo, false, parts)?;
-    let carried = run_fresh(rt.alloc(), &solo, true, parts)?;
-    Ok((late, carried))
+    let late = run_fresh::<PlainPair>(rt.alloc(), &solo, false, parts)?;
+    let carried = run_fresh::<PlainPair>(rt.alloc(), &solo, true, parts)?;
+    let over_rings = run_fresh::<RingPair>(rt.alloc(), &solo, false, parts)?;
+    Ok((late, carried, over_rings))
 }
 
 /// Compares each answer of the parts and what is left in the queues.
@@ -186,8 +192,8 @@ fn check<R: Abort + RandomSource + AllocGlobal>(
     parts: &[Part],
     left: Left,
 ) -> Result<(), Fail> {
-    let ran = run_both(rt, parts)?;
-    assert_eq!(rt; ran, ((None, left), (None, left)));
+    let ran = run_all(rt, parts)?;
+    assert_eq!(rt; ran, ((None, left), (None, left), (None, left)));
     Ok(())
 }
 

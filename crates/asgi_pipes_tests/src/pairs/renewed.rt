@@ -1,7 +1,7 @@
 //! Pairs made out of the ends of another one answer as fresh ones.
 use super::http::{EVERY_ANSWER, PAIR_OF_TWO_PLACES};
-use super::{Answer, Pair, Ran, Row, Step, facts, pair_of, run_on, solo_of};
-use asgi_pipes::{EndKind, Pipes, Plain};
+use super::{Answer, Pair, PlainPair, Ran, RingPair, Row, Step, facts, run_on, solo_of};
+use asgi_pipes::EndKind;
 use asgi_types::Kind;
 use futures::task::Solo;
 use std::alloc::{AllocError, AllocGlobal, Global};
@@ -38,40 +38,40 @@ const NOTHING_CAME: &[Row] = &[
 type Twice = (Ran, Ran);
 
 /// Runs a table on a WebSocket pair of so many places, and the rows on an HTTP pair out of its ends.
-fn run_twice(alloc: Global, solo: &Solo, ring: usize, rows: &[Row]) -> Result<Twice, AllocError> {
-    let mut pair = pair_of(alloc, Kind::WebSocket, ring)?;
+fn run_twice<P: Pair>(
+    alloc: Global,
+    solo: &Solo,
+    ring: usize,
+    rows: &[Row],
+) -> Result<Twice, AllocError> {
+    let mut pair = P::made(alloc, Kind::WebSocket, facts(alloc), ring)?;
     match run_on(alloc, solo, &mut pair, false, LEAVES_ITEMS) {
         Ok(before) => Ok((before, run_renewed(alloc, solo, pair, rows)?)),
         Err(refused) => Err(refused),
     }
 }
 
-fn run_renewed(alloc: Global, solo: &Solo, pair: Pair, rows: &[Row]) -> Result<Ran, AllocError> {
-    let mut pair = renewed(alloc, pair)?;
+/// Runs the rows on an HTTP pair of two places.
+fn run_renewed<P: Pair>(
+    alloc: Global,
+    solo: &Solo,
+    pair: P,
+    rows: &[Row],
+) -> Result<Ran, AllocError> {
+    let mut pair = pair.renewed(alloc, Kind::Http, facts(alloc), 2)?;
     run_on(alloc, solo, &mut pair, true, rows)
-}
-
-/// An HTTP pair of two places.
-fn renewed(alloc: Global, pair: Pair) -> Result<Pair, AllocError> {
-    let Pair {
-        conn,
-        app,
-        finished: _,
-    } = pair;
-    let (conn, app) = Plain.renew(alloc, conn, app, Kind::Http, facts(alloc), 2)?;
-    Ok(Pair {
-        conn,
-        app,
-        finished: false,
-    })
 }
 
 /// Each leaves nothing on the new pair.
 const TABLES: &[&[Row]] = &[NOTHING_CAME, PAIR_OF_TWO_PLACES, EVERY_ANSWER];
 
-fn check_renewed<R: Abort + AllocGlobal>(rt: &R, solo: &Solo, ring: usize) -> Result<(), Fail> {
+fn check_renewed<P: Pair, R: Abort + AllocGlobal>(
+    rt: &R,
+    solo: &Solo,
+    ring: usize,
+) -> Result<(), Fail> {
     for (place, rows) in TABLES.iter().enumerate() {
-        let ran = run_twice(rt.alloc(), solo, ring, rows)?;
+        let ran = run_twice::<P>(rt.alloc(), solo, ring, rows)?;
         assert_eq!(rt;
             ran,
             ((None, (2, 2)), (None, (0, 0))),
@@ -86,7 +86,8 @@ fn renewed_pair_answers_as_a_fresh_one(rt: HostRuntime) -> Result<(), Fail> {
     let solo = solo_of(&rt)?;
     // The pair before has as many places, fewer, or more.
     for ring in [2, 1, 3] {
-        check_renewed(&rt, &solo, ring)?;
+        check_renewed::<PlainPair, HostRuntime>(&rt, &solo, ring)?;
+        check_renewed::<RingPair, HostRuntime>(&rt, &solo, ring)?;
     }
     Ok(())
 }

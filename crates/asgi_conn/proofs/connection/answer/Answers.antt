@@ -9,13 +9,13 @@ use Rattle.asgi_conn.proofs.AnswerLemmas as lemma
 use Rattle.asgi_conn.proofs.HttpHalfLemmas.{over_at}
 use Rattle.asgi_conn.proofs.connection.answer.Goals as goal
 
-pub returns-in_default-clause-serves : goal.returns-in_default-clause-serves
-returns-in_default-clause-serves g c scene client server state read arrived scope opens promised tallied =
+pub returns-in-Err-clause-serves : goal.returns-in-Err-clause-serves
+returns-in-Err-clause-serves g c scene client server state read arrived scope opens promised tallied =
     lemma.serves_short (g.A.Application.answers c.args.app.now) client server state scene (state_of g.L.Reads g.L.Counts g.L.Messages c.args.line.now) c.args.wire c.args.facts read arrived c.args.tally.now
-    opens promised tallied
+    opens promised tallied c.without_ends.result c.without_ends.ensures.lacking
 
-pub returns-in_default-clause-counts : goal.returns-in_default-clause-counts
-returns-in_default-clause-counts g c turned pauses counts = (
+pub returns-in-Err-clause-counts : goal.returns-in-Err-clause-counts
+returns-in-Err-clause-counts g c turned pauses counts = (
   [],
   subst (λ (l : List Turn). CountsTurns c.args.tally.now.turns.turn_limit c.args.tally.now.turns.idle_limit l pauses
       (g.P.Pause.count c.args.pause.now) c.args.tally.now.turns.turns c.args.tally.now.turns.idle) (sym (append-nil turned)) counts,
@@ -23,8 +23,8 @@ returns-in_default-clause-counts g c turned pauses counts = (
 
 pub run-kind-requires-clause-pair : goal.run-kind-requires-clause-pair
 run-kind-requires-clause-pair g c =
-    let was = c.in-Ok.app_end in
-    let end = c.in-Ok.end in
+    let was = c.in-Ok.ends.1 in
+    let end = c.in-Ok.ends.0 in
     lemma.of_pair (g.A.Application.answers c.args.app.now c.args.scope.now) g.A.Task.AppTask.answers g.U.Pipes.App.AppEnd was (λ app. g.U.Pipes.Pipes.is_pair end app) c.in-Ok.ensures.pair
     c.call-side.result c.call-side.ensures.opens (λ app tag. g.met.U.Pipes.Pipes.stays_pair end end was app refl tag c.in-Ok.ensures.pair)
 
@@ -36,7 +36,7 @@ returns-clause-serves g c scene client server state read arrived scope opens pro
     let promise = g.A.Application.answers c.args.app.now in
     let answers = g.A.Task.AppTask.answers in
     let ends = g.U.Pipes.App.AppEnd in
-    let was = c.in-Ok.app_end in
+    let was = c.in-Ok.ends.1 in
     let made = c.in-Ok.ensures in
     let side = c.call-side.result in
     let opened = c.call-side.ensures.opens in

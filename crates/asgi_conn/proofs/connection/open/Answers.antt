@@ -1,9 +1,10 @@
-use Rattle.std.proofs.Common.{◌++◌, [], ℕ, List, refl, sym, ap, ◌∙◌, append-nil, subst}
+use Rattle.std.proofs.Common.{◌++◌, ℕ, List, inl, refl, sym, ◌∙◌, subst}
 use Rattle.asgi_io.specs.declared.turns.Turn.{Turn}
 use Rattle.asgi_io.specs.declared.turns.Turns.{Turns}
 use Rattle.asgi_io.specs.Turns.{CountsTurns}
 use Rattle.asgi_exchange.specs.Calls.{IsExchangeOf}
 use Rattle.asgi_exchange.specs.Views.{empty_conn}
+use Rattle.asgi_conversation.specs.declared.report.Outcome.TheVariants.{NoMemory}
 use Rattle.asgi_conversation.specs.Exchanges.{requests_of}
 use Rattle.asgi_conn.specs.Lines.{state_of}
 use Rattle.asgi_conn.specs.ReadAhead.{ReadsAhead}
@@ -17,7 +18,7 @@ use Rattle.asgi_conn.proofs.connection.open.Goals as goal
 pub returns-in_default-clause-serves : goal.returns-in_default-clause-serves
 returns-in_default-clause-serves g c scene client server state read scope opens promised tallied =
     lemma.opens_short scene (state_of g.L.Reads g.L.Counts g.L.Messages c.args.line.now) c.args.wire c.args.facts read opens
-    (g.A.Application.answers c.args.app.now) client server state c.args.tally.now promised tallied
+    (g.A.Application.answers c.args.app.now) client server state c.args.tally.now promised tallied NoMemory (inl refl)
 
 pub returns-in_default-clause-counts : goal.returns-in_default-clause-counts
 returns-in_default-clause-counts g c turned pauses counts = counts_still _ _ turned pauses _ _ _ counts
@@ -25,23 +26,23 @@ returns-in_default-clause-counts g c turned pauses counts = counts_still _ _ tur
 pub returns-in_default-copy-clause-serves : goal.returns-in_default-copy-clause-serves
 returns-in_default-copy-clause-serves g c scene client server state read scope opens promised tallied =
     lemma.opens_short scene (state_of g.L.Reads g.L.Counts g.L.Messages c.args.line.now) c.args.wire c.args.facts read opens
-    (g.A.Application.answers c.args.app.now) client server state c.args.tally.now promised tallied
+    (g.A.Application.answers c.args.app.now) client server state c.args.tally.now promised tallied NoMemory (inl refl)
 
 pub returns-in_default-copy-clause-counts : goal.returns-in_default-copy-clause-counts
 returns-in_default-copy-clause-counts g c turned pauses counts = counts_still _ _ turned pauses _ _ _ counts
 
-pub returns-in_default-make-clause-serves : goal.returns-in_default-make-clause-serves
-returns-in_default-make-clause-serves g c scene client server state read scope opens promised tallied =
+pub returns-in-Err-clause-serves : goal.returns-in-Err-clause-serves
+returns-in-Err-clause-serves g c scene client server state read scope opens promised tallied =
     lemma.opens_short scene (state_of g.L.Reads g.L.Counts g.L.Messages c.args.line.now) c.args.wire c.args.facts read opens
-    (g.A.Application.answers c.args.app.now) client server state c.args.tally.now promised tallied
+    (g.A.Application.answers c.args.app.now) client server state c.args.tally.now promised tallied c.without_ends.result c.without_ends.ensures.lacking
 
-pub returns-in_default-make-clause-counts : goal.returns-in_default-make-clause-counts
-returns-in_default-make-clause-counts g c turned pauses counts = counts_still _ _ turned pauses _ _ _ counts
+pub returns-in-Err-clause-counts : goal.returns-in-Err-clause-counts
+returns-in-Err-clause-counts g c turned pauses counts = counts_still _ _ turned pauses _ _ _ counts
 
 pub run-ended-requires-clause-pair : goal.run-ended-requires-clause-pair
 run-ended-requires-clause-pair g c =
-    let was = c.in-Ok-make.app_end in
-    let end = c.in-Ok-make.end in
+    let was = c.in-Ok-make.ends.1 in
+    let end = c.in-Ok-make.ends.0 in
     of_pair (g.A.Application.answers c.args.app.now c.args.scope.now) g.A.Task.AppTask.answers g.U.Pipes.App.AppEnd was (λ app. g.U.Pipes.Pipes.is_pair end app) c.in-Ok-make.ensures.pair
     c.call-side.result c.call-side.ensures.opens (λ app tag. g.met.U.Pipes.Pipes.stays_pair end end was app refl tag c.in-Ok-make.ensures.pair)
 
@@ -53,7 +54,7 @@ outcome_of-requires g c =
     let opens = c.requires.opens.2 in
     let answers = g.A.Task.AppTask.answers in
     let ends = g.U.Pipes.App.AppEnd in
-    let was = c.in-Ok-make.app_end in
+    let was = c.in-Ok-make.ends.1 in
     let made = c.in-Ok-make.ensures in
     let promise = g.A.Application.answers c.args.app.now in
     let side = c.call-side.result in
@@ -74,7 +75,7 @@ returns-clause-serves g c scene client server state read scope opens promised ta
     let promise = g.A.Application.answers c.args.app.now in
     let answers = g.A.Task.AppTask.answers in
     let ends = g.U.Pipes.App.AppEnd in
-    let was = c.in-Ok-make.app_end in
+    let was = c.in-Ok-make.ends.1 in
     let made = c.in-Ok-make.ensures in
     let side = c.call-side.result in
     let now = state_of g.L.Reads g.L.Counts g.L.Messages c.args.line.now in

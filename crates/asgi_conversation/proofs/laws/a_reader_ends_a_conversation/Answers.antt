@@ -18,5 +18,5 @@ returns-clause-input_broke c reader end read given exchanges behind written repo
 pub returns-clause-idle : goal.returns-clause-idle
 returns-clause-idle c reader end read given exchanges behind written report b n g o = lemma.idle reader.limits end read given exchanges behind written report b n g.0 g.1 o
 
-pub returns-clause-no_memory : goal.returns-clause-no_memory
-returns-clause-no_memory c limits end read given exchanges behind written report b n o = lemma.no_memory limits end read given exchanges behind written report b n o
+pub returns-clause-lacking : goal.returns-clause-lacking
+returns-clause-lacking c limits end read given exchanges behind written report b n l = lemma.lacking limits end read given exchanges behind written report b n l

@@ -7,8 +7,8 @@ use Rattle.asgi_io.proofs.turns.Turns.take.Goals as goal
 
 pub returns-in-Moved-clause-counts : goal.returns-in-Moved-clause-counts
 returns-in-Moved-clause-counts g c turned pauses x =
-    subst (λ (t : Turn). CountsTurns c.args.self.now.turn_limit c.args.self.now.idle_limit (turned ++ t ∷ []) pauses (g.P.Pause.count c.args.pause.now) (c.args.self.now.turns + 1) 0)
-    (sym c.in-Moved.is) (one_more_turn _ _ turned Moved pauses _ _ _ _ x c.requires.turns c.requires.idle (omega arith) (omega arith))
+    rw c.moved.ensures (subst (λ (t : Turn). CountsTurns c.args.self.now.turn_limit c.args.self.now.idle_limit (turned ++ t ∷ []) pauses (g.P.Pause.count c.args.pause.now) (c.args.self.now.turns + 1) 0)
+    (sym c.in-Moved.is) (one_more_turn _ _ turned Moved pauses _ _ _ _ x c.requires.turns c.requires.idle (omega arith) (omega arith)))
 
 pub returns-in-Idle-clause-counts : goal.returns-in-Idle-clause-counts
 returns-in-Idle-clause-counts g c turned pauses x =
