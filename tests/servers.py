@@ -43,22 +43,29 @@ HANDSHAKE = (
 FIRST_OF_CLIENTS = 32_768
 PORTS = iter(random.sample(range(10_000, FIRST_OF_CLIENTS), FIRST_OF_CLIENTS - 10_000))
 NEXT_PORT = threading.Lock()
+# The state of a socket that listens, in /proc/net/tcp.
+LISTENS = "0A"
+
+
+def sockets():
+    """The sockets of this machine's TCP over IPv4: the address and port of each, as the system writes them, and its state."""
+    with open("/proc/net/tcp", encoding="ascii") as it:
+        return [(row[1], row[3]) for row in map(str.split, it.readlines()[1:])]
 
 
 def free_port():
-    """A port that nothing uses, which no other call of this run is given, and no client that connects meanwhile."""
+    """A port that nothing uses, which no other call of this run is given, and no client that connects meanwhile.
+
+    No socket is opened to find out: a process that another thread starts meanwhile would hold it until it runs its program, and
+    the server that is given the port would find it in use."""
     with NEXT_PORT:
-        for port in PORTS:
-            with contextlib.suppress(OSError), socket.create_server(("127.0.0.1", port)):
-                return port
-    raise OSError("no port is free")
+        used = {address.partition(":")[2] for address, _ in sockets()}
+        return next(port for port in PORTS if f"{port:04X}" not in used)
 
 
 def listens(port):
     """Whether a socket listens on this port of the loopback address, with no connection made to find out."""
-    with open("/proc/net/tcp", encoding="ascii") as it:
-        rows = [line.split() for line in it.readlines()[1:]]
-    return any(row[1] == f"0100007F:{port:04X}" and row[3] == "0A" for row in rows)
+    return (f"0100007F:{port:04X}", LISTENS) in sockets()
 
 
 def wait_for(what, why):
