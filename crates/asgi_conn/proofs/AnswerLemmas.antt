@@ -18,7 +18,7 @@ use Rattle.asgi_exchange.proofs.HttpExchangeLemmas.{in_words}
 use Rattle.asgi_conversation.specs.declared.report.Outcome.{Outcome}
 use Rattle.asgi_conversation.specs.OutcomeClasses.{IsLacking}
 use Rattle.asgi_conversation.specs.declared.input.InputEnd.{InputEnd}
-use Rattle.asgi_conversation.proofs.LoopLemmas.{lacks_between}
+use Rattle.asgi_conversation.proofs.LoopLemmas.{lacks_in_front}
 use Rattle.asgi_conversation.specs.Exchanges.{Exchanged, fault_of, fault_count}
 use Rattle.asgi_conversation.specs.Persistence.{Converses, EndsBetween}
 use Rattle.asgi_conversation.specs.Promised.{IsPromised, ArePromised, task_end}
@@ -134,7 +134,8 @@ serves_short promise client server state scene now wire facts read arrived tally
   stands = http_ends wire.limits scene.start now wire.input read scene.exchanges scene.before outcome (lacks_moved scene.start now wire.input read scene.before outcome lacks opens.moved)
       (λ report o c.
       let one = opens.within.one in
-      let ends : EndsBetween report.outcome wire.limits wire.input one.behind [] = lacks_between wire.limits wire.input one.behind report.outcome (subst (λ (q : Outcome). IsLacking q) (sym o) lacks) in
+      let ends : EndsBetween report.outcome wire.limits wire.input one.behind [] = lacks_in_front wire.limits wire.input one.behind report.outcome (subst (λ (q : Outcome). IsLacking q) (sym o) lacks)
+          (one.head.head, facts.framing, arrived, one.head.reads) in
       subst (λ (l : List ℕ). Converses wire.limits wire.input read scene.exchanges l report) (append-nil scene.before)
       (ends_between wire.limits wire.input read scene.exchanges one.behind scene.before [] report one.so_far ends c)) opens.ahead;
 }

@@ -32,7 +32,7 @@ use Rattle.asgi_response.specs.Exchange.{refusal_text}
 use Rattle.asgi_conversation.specs.declared.input.InputEnd.TheVariants.{AtEnd, Failed}
 use Rattle.asgi_conversation.specs.declared.report.Outcome.{Outcome}
 use Rattle.asgi_conversation.specs.declared.report.Outcome.TheVariants.{Finished, Refused, InputBroke, WriteFailed, Idle, NoMemory}
-use Rattle.asgi_conversation.specs.OutcomeClasses.{IsLacking}
+use Rattle.asgi_conversation.specs.OutcomeClasses.{Lacking, class_of}
 use Rattle.asgi_conversation.specs.Behind.{IsBlank}
 use Rattle.asgi_conversation.specs.Exchanges.{Exchanged, requests_of}
 use Rattle.asgi_conversation.specs.SoFar.{Between}
@@ -67,8 +67,8 @@ all_whole limits bytes (results ∷ requests) rest are = by (all_whole limits ar
 pub ends_whole : (limits : Limits) (bytes : List ℕ) (given : List Next) (behind : List ℕ) → HasClosed limits bytes given behind → EndsWhole given
 ends_whole limits bytes given behind x = subst EndsWhole (sym x.2) (all_whole limits bytes x.0 behind x.1)
 
-no_memory : (outcome : Outcome) → outcome ≡ NoMemory → IsLacking outcome
-no_memory outcome is = subst (λ (q : Outcome). IsLacking q) (sym is) (inl refl)
+no_memory : (outcome : Outcome) → outcome ≡ NoMemory → class_of outcome ≡ Lacking
+no_memory outcome is = ap class_of is
 
 module _ (reader : Reading) (bytes : List ℕ) (given : List Next) (behind : List ℕ) (x : HasClosed reader.limits bytes given behind) (stands : StandsFor reader bytes given) where
   at_start : reader.place ≡ Start

@@ -95,7 +95,9 @@ module _ (scene : SessionScene) (now : LineState) (wire : Wire) (facts : Facts) 
     promised = promised;
     counted = tallied;
     stands = http_ends scene.limits scene.start now wire.input read scene.exchanges scene.before outcome (lacks_moved scene.start now wire.input read scene.before outcome lacks o.moved)
-        (λ report is c. loop.lacking scene.limits wire.input read o.given scene.exchanges o.behind scene.before report o.between c (subst (λ (q : Outcome). IsLacking q) (sym is) lacks)) o.ahead;
+        (λ report is c.
+        loop.unbegun scene.limits wire.input read o.given scene.exchanges o.behind scene.before report o.between c (subst (λ (q : Outcome). IsLacking q) (sym is) lacks)
+        (o.head.head, Upgrade, scene.frames, o.head.reads)) o.ahead;
   }
 
 -- ---- and is over

@@ -75,10 +75,10 @@ abbrev pub paused_by : {Q : Type 0} → (Q → ℕ) → Option Q → ℕ
 paused_by count None = 0
 paused_by count (Some pause) = count pause
 
--- it drove the task, where that runs
-abbrev pub DrivesRunning : {T E : Type 0} → AppSide T E → (turn_limit idle_limit pauses_old pauses_new driven_new : ℕ) → EndKind → Type 0
-DrivesRunning (Runs running) turn_limit idle_limit pauses_old pauses_new driven_new kind = IsDriven turn_limit idle_limit pauses_old pauses_new driven_new kind
-DrivesRunning (HasEnded app_end ended) turn_limit idle_limit pauses_old pauses_new driven_new kind = pauses_new ≡ pauses_old
+-- it drove the task, where that runs, and no task where it had ended
+abbrev pub DrivesRunning : {T E : Type 0} → AppSide T E → (turn_limit idle_limit pauses_old pauses_new driven_old driven_new : ℕ) → EndKind → Type 0
+DrivesRunning (Runs running) turn_limit idle_limit pauses_old pauses_new driven_old driven_new kind = IsDriven turn_limit idle_limit pauses_old pauses_new driven_new kind
+DrivesRunning (HasEnded app_end ended) turn_limit idle_limit pauses_old pauses_new driven_old driven_new kind = (pauses_new ≡ pauses_old) × (driven_new ≡ driven_old)
 
 -- ---- the steps of a runner: words of private functions
 

@@ -153,7 +153,7 @@ impl<T: AppTask, Q: Pause + Drop, R: Wait + Drop> Runner<T> for Beside<T, Q, R> 
         ensures idle { IsOverIdle (H.following half.new) → IsAtLimit turns.new }
         ensures drives { Drives turns.old.turn_limit turns.old.idle_limit (paused_by Q.count self.old.napping) (paused_by Q.count self.new.napping) self.old.driven self.new.driven result }
         // Each task that runs is driven in the other thread.
-        ensures drove { DrivesRunning side turns.old.turn_limit turns.old.idle_limit (paused_by Q.count self.old.napping) (paused_by Q.count self.new.napping) self.new.driven result }
+        ensures drove { DrivesRunning side turns.old.turn_limit turns.old.idle_limit (paused_by Q.count self.old.napping) (paused_by Q.count self.new.napping) self.old.driven self.new.driven result }
         ensures met { ◌≡◌ {A = ℕ} 0 0 }
     {
         match side {

@@ -31,9 +31,9 @@ use Rattle.asgi_exchange.specs.Steps.{is_by_input}
 use Rattle.asgi_exchange.specs.Views.{World, taken_of}
 use Rattle.asgi_conversation.specs.declared.report.Outcome.{Outcome}
 use Rattle.asgi_conversation.specs.declared.report.Outcome.TheVariants.{Finished, Refused, InputBroke, WriteFailed, Idle}
-use Rattle.asgi_conversation.specs.OutcomeClasses.{OutcomeClass, IsLacking}
+use Rattle.asgi_conversation.specs.OutcomeClasses.{OutcomeClass, Lacking, class_of, IsLacking}
 use Rattle.asgi_conversation.specs.declared.report.Report.{Report}
-use Rattle.asgi_conversation.specs.Behind.{NothingIsDue, IsBlank}
+use Rattle.asgi_conversation.specs.Behind.{NothingIsDue, RequestIsDue, IsBlank}
 use Rattle.asgi_conversation.specs.declared.following.Following.TheVariants.{NextRequest}
 use Rattle.asgi_conversation.specs.declared.input.InputEnd.{InputEnd}
 use Rattle.asgi_conversation.specs.declared.input.InputEnd.TheVariants.{AtEnd, Failed}
@@ -130,9 +130,12 @@ ends_as : (limits : Limits) (end : InputEnd) (read : List ℕ) (exchanges : List
 ends_as limits end read exchanges behind written text given outcome report b e ends c =
     ends_between limits end read exchanges behind written text report b.so_far (subst (λ (o : Outcome). EndsBetween o limits end behind text) (sym e) ends) c
 
-pub lacks_between : (limits : Limits) (end : InputEnd) (behind : List ℕ) (outcome : Outcome) → IsLacking outcome → EndsBetween outcome limits end behind []
-lacks_between limits end behind outcome (inl is) = subst (λ (k : OutcomeClass). EndsBetweenAs k outcome limits end behind []) (sym is) refl
-lacks_between limits end behind outcome (inr is) = subst (λ (k : OutcomeClass). EndsBetweenAs k outcome limits end behind []) (sym is) refl
+lacks_memory : (limits : Limits) (end : InputEnd) (behind : List ℕ) (outcome : Outcome) → class_of outcome ≡ Lacking → EndsBetween outcome limits end behind []
+lacks_memory limits end behind outcome is = subst (λ (k : OutcomeClass). EndsBetweenAs k outcome limits end behind []) (sym is) refl
+
+pub lacks_in_front : (limits : Limits) (end : InputEnd) (behind : List ℕ) (outcome : Outcome) → IsLacking outcome → RequestIsDue limits behind → EndsBetween outcome limits end behind []
+lacks_in_front limits end behind outcome (inl is) due = lacks_memory limits end behind outcome is
+lacks_in_front limits end behind outcome (inr is) due = subst (λ (k : OutcomeClass). EndsBetweenAs k outcome limits end behind []) (sym is) (refl, due)
 
 ends_silent : (limits : Limits) (end : InputEnd) (read : List ℕ) (exchanges : List Exchanged) (behind written : List ℕ) (given : List Next) (outcome : Outcome) (report : Report)
     → Between limits end read given exchanges behind written → report.outcome ≡ outcome → EndsBetween outcome limits end behind [] → CountsExchanges report exchanges
@@ -166,6 +169,10 @@ module _ (limits : Limits) (end : InputEnd) (read : List ℕ) (given : List Next
   pub idle : (rest : List ℕ) → GivesResults limits read given rest → report.outcome ≡ Idle → Converses limits end read exchanges written report
   idle rest g o = ends_silent limits end read exchanges behind written given Idle report b o (refl, none_due rest g) c
 
-  -- memory or a thread was refused
-  pub lacking : IsLacking report.outcome → Converses limits end read exchanges written report
-  lacking l = ends_silent limits end read exchanges behind written given report.outcome report b refl (lacks_between limits end behind report.outcome l) c
+  -- memory was refused
+  pub lacking : class_of report.outcome ≡ Lacking → Converses limits end read exchanges written report
+  lacking l = ends_silent limits end read exchanges behind written given report.outcome report b refl (lacks_memory limits end behind report.outcome l) c
+
+  -- memory or a thread was, where a task was to be begun
+  pub unbegun : IsLacking report.outcome → RequestIsDue limits behind → Converses limits end read exchanges written report
+  unbegun l due = ends_silent limits end read exchanges behind written given report.outcome report b refl (lacks_in_front limits end behind report.outcome l due) c

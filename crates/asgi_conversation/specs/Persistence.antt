@@ -20,7 +20,7 @@ use Rattle.asgi_exchange.specs.Http.{input_of}
 use Rattle.asgi_conversation.specs.declared.report.Outcome.{Outcome}
 use Rattle.asgi_conversation.specs.declared.report.Outcome.TheVariants.{Finished, Refused, InputBroke}
 use Rattle.asgi_conversation.specs.declared.report.Report.{Report}
-use Rattle.asgi_conversation.specs.Behind.{NothingIsDue, IsBlank}
+use Rattle.asgi_conversation.specs.Behind.{NothingIsDue, RequestIsDue, IsBlank}
 use Rattle.asgi_conversation.specs.declared.following.Following.TheVariants.{ConnectionEnds}
 use Rattle.asgi_conversation.specs.declared.input.InputEnd.{InputEnd}
 use Rattle.asgi_conversation.specs.declared.input.InputEnd.TheVariants.{AtEnd, Failed}
@@ -53,7 +53,8 @@ EndsBetweenAs (ByWrite n) outcome limits end behind text =
     (why : Refusal) × RefusesHead limits behind why × (n < length (refusal_text (status_of why))) × (text ≡ take n (refusal_text (status_of why)))
 EndsBetweenAs GivenUp outcome limits end behind text = (text ≡ []) × NothingIsDue limits behind
 EndsBetweenAs Lacking outcome limits end behind text = text ≡ []
-EndsBetweenAs Unbegun outcome limits end behind text = text ≡ []
+-- a task was to be begun
+EndsBetweenAs Unbegun outcome limits end behind text = (text ≡ []) × RequestIsDue limits behind
 
 abbrev pub EndsBetween : Outcome → Limits → InputEnd → List ℕ → List ℕ → Type 0
 EndsBetween outcome limits end behind text = EndsBetweenAs (class_of outcome) outcome limits end behind text

@@ -25,14 +25,14 @@ ghost use Rattle.asgi_exchange.specs.Steps.{is_by_input};
 ghost use Rattle.asgi_exchange.specs.Views.{World, taken_of};
 ghost use Rattle.asgi_conversation.specs.declared.report.Outcome.{Outcome};
 ghost use Rattle.asgi_conversation.specs.declared.report.Report.{Report};
-ghost use Rattle.asgi_conversation.specs.Behind.{NothingIsDue, IsBlank};
+ghost use Rattle.asgi_conversation.specs.Behind.{NothingIsDue, RequestIsDue, IsBlank};
 ghost use Rattle.asgi_conversation.specs.Exchanges.{Exchanged, IsFollowed, out_text, requests_of};
 ghost use Rattle.asgi_conversation.specs.Persistence.{CountsExchanges, Converses, EndsBetween, EndsWithin, StopsWithin, heads_of};
 ghost use Rattle.asgi_conversation.specs.SoFar.{SoFar, InOne, Between, Within, exchanged, TaskIsOver, HasBroken, HasBrokenIn, IsCutBy, IsOut, IsLast, ConversesLast};
 ghost use Rattle.asgi_conversation.specs.declared.following.Following.TheVariants.{NextRequest, ConnectionEnds};
 ghost use Rattle.asgi_conversation.specs.declared.input.InputEnd.{InputEnd};
 ghost use Rattle.asgi_conversation.specs.declared.input.InputEnd.TheVariants.{AtEnd, Failed};
-ghost use Rattle.asgi_conversation.specs.OutcomeClasses.{is_cut, cuts_exchange, IsLacking};
+ghost use Rattle.asgi_conversation.specs.OutcomeClasses.{Lacking, class_of, is_cut, cuts_exchange, IsLacking};
 ghost use Rattle.asgi_conversation.specs.TaskEnds.{has_ended, is_faulty};
 
 pub use crate::answer_laws::{
@@ -162,7 +162,11 @@ pub fn a_reader_ends_a_conversation()
         → AllGiven reader read given → report.outcome ≡ Outcome.Idle → Converses reader.limits end read exchanges written report }
     ensures lacking { (limits : Limits) (end : InputEnd) (read : List ℕ) (given : List Next) (exchanges : List Exchanged) (behind written : List ℕ) (report : Report)
         → Between limits end read given exchanges behind written → CountsExchanges report exchanges
-        → IsLacking report.outcome → Converses limits end read exchanges written report }
+        → class_of report.outcome ≡ Lacking → Converses limits end read exchanges written report }
+    // memory or a thread was refused where a task was to be begun
+    ensures unbegun { (limits : Limits) (end : InputEnd) (read : List ℕ) (given : List Next) (exchanges : List Exchanged) (behind written : List ℕ) (report : Report)
+        → Between limits end read given exchanges behind written → CountsExchanges report exchanges
+        → IsLacking report.outcome → RequestIsDue limits behind → Converses limits end read exchanges written report }
 {}
 
 /// In an exchange whose task returned or faulted: a response that has begun stays as it is, what

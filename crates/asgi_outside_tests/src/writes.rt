@@ -14,6 +14,9 @@ const NINE_BYTES: &[u8] = b"HTTP/1.1 ";
 
 type SinkLine = Wired<Pair<Pieces<'static>, Sink>>;
 
+/// Each writer is met by both runners.
+const WAYS: [Way; 2] = [Way::Inline, Way::Beside];
+
 /// A writer that takes so many bytes at a time.
 fn sink<H: AllocGlobal>(rt: &H, most: usize) -> Result<Sink, AllocError> {
     let taken = Vec::with_capacity(rt.alloc(), 256)?;
@@ -52,12 +55,13 @@ fn taken_by(line: &SinkLine) -> &[u8] {
 /// Whether the connection over the line ends so, and its writer took this.
 fn is_line_served<H: Host>(
     rt: &H,
+    way: Way,
     app: App,
     line: &mut SinkLine,
     wanted: &[u8],
     end: End,
 ) -> io::Result<bool> {
-    let (report, _) = serve_by(rt, Way::Inline, &Limits::usual(), app, line)?;
+    let (report, _) = serve_by(rt, way, &Limits::usual(), app, line)?;
     let ended = (report.outcome, report.exchanges, report.faults);
     Ok(ended == end && taken_by(line) == wanted)
 }
@@ -65,56 +69,63 @@ fn is_line_served<H: Host>(
 /// Whether a connection to this writer, served by `Hello`, ends so.
 fn is_written<H: Host>(
     rt: &H,
+    way: Way,
     input: &'static [u8],
     writer: Sink,
     wanted: &[u8],
     end: End,
 ) -> io::Result<bool> {
     let mut line = line_to(rt, input, writer);
-    is_line_served(rt, App::Hello, &mut line, wanted, end)
+    is_line_served(rt, way, App::Hello, &mut line, wanted, end)
 }
 
 /// Whether a request to a writer of three bytes, whose call of this number fails, ends so, with so many failures.
 fn is_failed_at<H: Host>(
     rt: &H,
+    way: Way,
     call: u64,
     wanted: &[u8],
     outcome: Outcome,
     failures: u64,
 ) -> io::Result<bool> {
     let mut line = line_to(rt, GET, failing_sink(rt, 3, call)?);
-    has_failed(rt, &mut line, wanted, outcome, failures)
+    has_failed(rt, way, &mut line, wanted, outcome, failures)
 }
 
 fn has_failed<H: Host>(
     rt: &H,
+    way: Way,
     line: &mut SinkLine,
     wanted: &[u8],
     outcome: Outcome,
     failures: u64,
 ) -> io::Result<bool> {
-    let is_so = is_line_served(rt, App::Hello, line, wanted, (outcome, 1, 0))?;
+    let is_so = is_line_served(rt, way, App::Hello, line, wanted, (outcome, 1, 0))?;
     Ok(is_so && line.failures() == failures)
 }
 
 #[test]
 fn a_failed_write_says_how_far_it_came(rt: HostRuntime) -> Result<(), Fail> {
     assert_eq!(rt; HELLO.len(), 89);
-    for failing in 1..=30usize {
-        let out = 3 * (failing - 1);
-        let wanted = HELLO.get(..out).unwrap_or(b"");
-        let outcome = Outcome::WriteFailed(out);
-        assert!(rt;
-            is_failed_at(&rt, failing as u64, wanted, outcome, 1)?,
-            "call {failing}"
-        );
+    for way in WAYS {
+        for failing in 1..=30usize {
+            let out = 3 * (failing - 1);
+            let wanted = HELLO.get(..out).unwrap_or(b"");
+            let outcome = Outcome::WriteFailed(out);
+            assert!(rt;
+                is_failed_at(&rt, way, failing as u64, wanted, outcome, 1)?,
+                "call {failing}"
+            );
+        }
     }
     Ok(())
 }
 
 #[test]
 fn a_fault_behind_the_answer_is_not_met(rt: HostRuntime) -> Result<(), Fail> {
-    assert!(rt; is_failed_at(&rt, 31, HELLO, Outcome::Finished, 0)?);
+    for way in WAYS {
+        assert!(rt; is_failed_at(&rt, way, 31, HELLO, Outcome::Finished, 0)?);
+    }
     Ok(())
 }
 
@@ -139,7 +150,8 @@ const BAD_BODY: &[u8] = b"POST / HTTP/1.1\r\nHost: a\r\nTransfer-Encoding: chunk
 /// The application, the input, the tasks that faulted, and the reads that did.
 type Nine = (App, &'static [u8], u64, u64);
 
-/// The second read would fail: it is not made, since nothing is read while the application goes on.
+/// The second read would fail: it is not made, since nothing is read while the application goes on. It may be where the
+/// application has a thread of its own, once that was waited for.
 const NINE: &[Nine] = &[
     (App::Hello, GET, 0, 0),
     (GREETS_AND_HEARS, GET, 0, 0),
@@ -150,25 +162,27 @@ const NINE: &[Nine] = &[
 ];
 
 /// Whether nine bytes are taken, and then the write fails.
-fn is_nine<H: Host>(rt: &H, row: &Nine) -> io::Result<bool> {
+fn is_nine<H: Host>(rt: &H, way: Way, row: &Nine) -> io::Result<bool> {
     let mut reader = Pieces::new(row.1, 4_096, 4_096);
     reader.fails_at = 2;
     let writer = failing_sink(rt, 9, 2)?;
     let mut line = Wired::new(rt.alloc(), Pair { reader, writer });
-    is_nine_of(rt, &mut line, row)
+    is_nine_of(rt, way, &mut line, row)
 }
 
-fn is_nine_of<H: Host>(rt: &H, line: &mut SinkLine, row: &Nine) -> io::Result<bool> {
+fn is_nine_of<H: Host>(rt: &H, way: Way, line: &mut SinkLine, row: &Nine) -> io::Result<bool> {
     let (app, _, faults, reads) = *row;
     let end = (Outcome::WriteFailed(9), 1, faults);
-    let is_so = is_line_served(rt, app, line, NINE_BYTES, end)?;
-    Ok(is_so && line.faults() == reads)
+    let is_so = is_line_served(rt, way, app, line, NINE_BYTES, end)?;
+    Ok(is_so && (line.faults() == reads || way == Way::Beside && line.faults() == 1))
 }
 
 #[test]
 fn nine_bytes_and_then_a_fault(rt: HostRuntime) -> Result<(), Fail> {
-    for (place, row) in NINE.iter().enumerate() {
-        assert!(rt; is_nine(&rt, row)?, "row {place}");
+    for way in WAYS {
+        for (place, row) in NINE.iter().enumerate() {
+            assert!(rt; is_nine(&rt, way, row)?, "row {place}");
+        }
     }
     Ok(())
 }
@@ -176,39 +190,46 @@ fn nine_bytes_and_then_a_fault(rt: HostRuntime) -> Result<(), Fail> {
 #[test]
 fn a_refusal_that_is_not_written_is_a_failed_write(rt: HostRuntime) -> Result<(), Fail> {
     let input = b"GET / HTTP/1.1\r\n\r\n";
-    let writer = failing_sink(&rt, 9, 2)?;
     let end = (Outcome::WriteFailed(9), 0, 0);
-    assert!(rt; is_written(&rt, input, writer, NINE_BYTES, end)?);
+    for way in WAYS {
+        let writer = failing_sink(&rt, 9, 2)?;
+        assert!(rt; is_written(&rt, way, input, writer, NINE_BYTES, end)?);
+    }
     Ok(())
 }
 
 #[test]
 fn the_second_answer_may_fail(rt: HostRuntime) -> Result<(), Fail> {
-    let writer = failing_sink(&rt, 89, 2)?;
     let end = (Outcome::WriteFailed(0), 2, 0);
-    assert!(rt; is_written(&rt, TWO_REQUESTS, writer, HELLO, end)?);
+    for way in WAYS {
+        let writer = failing_sink(&rt, 89, 2)?;
+        assert!(rt; is_written(&rt, way, TWO_REQUESTS, writer, HELLO, end)?);
+    }
     Ok(())
 }
 
 /// Whether the line's writer is called once, and takes nothing.
-fn takes_nothing<H: Host>(rt: &H, line: &mut SinkLine) -> io::Result<bool> {
+fn takes_nothing<H: Host>(rt: &H, way: Way, line: &mut SinkLine) -> io::Result<bool> {
     let end = (Outcome::WriteFailed(0), 1, 0);
-    let is_so = is_line_served(rt, App::Hello, line, b"", end)?;
+    let is_so = is_line_served(rt, way, App::Hello, line, b"", end)?;
     let calls = line.stream().map(|pair| pair.writer.calls);
     Ok(is_so && calls == Some(1))
 }
 
 #[test]
 fn a_writer_that_takes_nothing_has_failed(rt: HostRuntime) -> Result<(), Fail> {
-    let mut line = line_to(&rt, GET, sink(&rt, 0)?);
-    let is_so = takes_nothing(&rt, &mut line);
-    assert!(rt; is_so?);
+    for way in WAYS {
+        let mut line = line_to(&rt, GET, sink(&rt, 0)?);
+        let is_so = takes_nothing(&rt, way, &mut line);
+        assert!(rt; is_so?);
+    }
     Ok(())
 }
 
 /// Whether this is taken, with this outcome, where so many calls answer the fault first.
 fn is_retried<H: Host>(
     rt: &H,
+    way: Way,
     fault: ErrorKind,
     faults: u64,
     wanted: &[u8],
@@ -217,15 +238,17 @@ fn is_retried<H: Host>(
     let mut writer = sink(rt, 100)?;
     writer.fault = fault;
     writer.faults = faults;
-    is_written(rt, GET, writer, wanted, (outcome, 1, 0))
+    is_written(rt, way, GET, writer, wanted, (outcome, 1, 0))
 }
 
 #[test]
 fn a_thousand_retries_and_no_more(rt: HostRuntime) -> Result<(), Fail> {
     let failed = Outcome::WriteFailed(0);
-    for fault in [ErrorKind::WouldBlock, ErrorKind::Interrupted] {
-        assert!(rt; is_retried(&rt, fault, 1_000, HELLO, Outcome::Finished)?);
-        assert!(rt; is_retried(&rt, fault, 1_001, b"", failed)?);
+    for way in WAYS {
+        for fault in [ErrorKind::WouldBlock, ErrorKind::Interrupted] {
+            assert!(rt; is_retried(&rt, way, fault, 1_000, HELLO, Outcome::Finished)?);
+            assert!(rt; is_retried(&rt, way, fault, 1_001, b"", failed)?);
+        }
     }
     Ok(())
 }
@@ -233,6 +256,7 @@ fn a_thousand_retries_and_no_more(rt: HostRuntime) -> Result<(), Fail> {
 /// Whether this is taken, with this outcome, nine bytes at a time, where so many calls answer a fault behind each.
 fn is_retried_again<H: Host>(
     rt: &H,
+    way: Way,
     again: u64,
     wanted: &[u8],
     outcome: Outcome,
@@ -240,13 +264,15 @@ fn is_retried_again<H: Host>(
     let mut writer = sink(rt, 9)?;
     writer.faults = 1_000;
     writer.again = again;
-    is_written(rt, GET, writer, wanted, (outcome, 1, 0))
+    is_written(rt, way, GET, writer, wanted, (outcome, 1, 0))
 }
 
 #[test]
 fn each_byte_that_goes_out_ends_a_row_of_retries(rt: HostRuntime) -> Result<(), Fail> {
     let failed = Outcome::WriteFailed(9);
-    assert!(rt; is_retried_again(&rt, 1_000, HELLO, Outcome::Finished)?);
-    assert!(rt; is_retried_again(&rt, 1_001, NINE_BYTES, failed)?);
+    for way in WAYS {
+        assert!(rt; is_retried_again(&rt, way, 1_000, HELLO, Outcome::Finished)?);
+        assert!(rt; is_retried_again(&rt, way, 1_001, NINE_BYTES, failed)?);
+    }
     Ok(())
 }

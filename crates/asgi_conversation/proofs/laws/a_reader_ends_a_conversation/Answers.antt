@@ -20,3 +20,6 @@ returns-clause-idle c reader end read given exchanges behind written report b n 
 
 pub returns-clause-lacking : goal.returns-clause-lacking
 returns-clause-lacking c limits end read given exchanges behind written report b n l = lemma.lacking limits end read given exchanges behind written report b n l
+
+pub returns-clause-unbegun : goal.returns-clause-unbegun
+returns-clause-unbegun c limits end read given exchanges behind written report b n l due = lemma.unbegun limits end read given exchanges behind written report b n l due
