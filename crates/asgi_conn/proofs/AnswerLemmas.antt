@@ -135,7 +135,7 @@ serves_short promise client server state scene now wire facts read arrived tally
       (λ report o c.
       let one = opens.within.one in
       let ends : EndsBetween report.outcome wire.limits wire.input one.behind [] = lacks_in_front wire.limits wire.input one.behind report.outcome (subst (λ (q : Outcome). IsLacking q) (sym o) lacks)
-      (one.head.head, facts.framing, arrived, one.head.reads) in
+      (one.head.head, scene.facts.framing, arrived, one.head.reads) in
       subst (λ (l : List ℕ). Converses wire.limits wire.input read scene.exchanges l report) (append-nil scene.before)
       (ends_between wire.limits wire.input read scene.exchanges one.behind scene.before [] report one.so_far ends c)) opens.ahead;
 }

@@ -1,6 +1,6 @@
 //! What is answered to an opening handshake, over a stream.
 use crate::apps::{Heard, Said, Step};
-use crate::rows::{Row, Written, check, check_inline};
+use crate::rows::{Crossed, Row, Written, check, check_crossing};
 use crate::serving::App;
 use crate::texts::{
     ACCEPTED, CHAT_ACCEPTED, DENIED, FORBIDDEN, GET, HANDSHAKE, HELLO, HELLO_BACK, LAST_CHUNK,
@@ -206,9 +206,16 @@ const ACCEPTS: &[Row] = &[
     ),
 ];
 
+/// The end of the input is read before the task has ended: the server does not close then.
+const ACCEPTS_CROSSED: &[Crossed] = &[
+    &[(Written::Just(&[CHAT_ACCEPTED]), Outcome::InputBroke)],
+    &[(Written::Just(&[ACCEPTED]), Outcome::InputBroke)],
+    &[(Written::Just(&[ACCEPTED]), Outcome::InputBroke)],
+];
+
 #[test]
 fn a_handshake_is_accepted(rt: HostRuntime) -> Result<(), Fail> {
-    check_inline(&rt, ACCEPTS)
+    check_crossing(&rt, ACCEPTS, ACCEPTS_CROSSED)
 }
 
 /// Requests in front of the handshake, and all of it in one read.

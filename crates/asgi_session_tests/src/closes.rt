@@ -1,6 +1,6 @@
 //! Closes of the client and of the application, over a stream (RFC 6455, sections 5.5.1 and 7).
 use crate::apps::{Heard, Said, Step};
-use crate::rows::{Row, Session, Written, check_inline, check_sessions};
+use crate::rows::{Crossed, Row, Session, Written, check_crossing, check_sessions};
 use crate::serving::App;
 use crate::texts::{ACCEPTED, CLOSE, HANDSHAKE, HELLO, HELLO_BACK};
 use asgi_conn::Outcome;
@@ -202,7 +202,27 @@ const OWN_CLOSES: &[Row] = &[
     ),
 ];
 
+/// The end of what the client says is read before the application's close is sent, which is refused then.
+const REFUSED: (Written<'static>, Outcome) = (
+    Written::Around(&[ACCEPTED], b""),
+    Outcome::WriteFailed(0),
+);
+
+/// The client's close is read before that, and answered by one with its code (section 5.5.1).
+const ANSWERED_FIRST: (Written<'static>, Outcome) = (
+    Written::Just(&[ACCEPTED, b"\x88\x02\x03\xe8"]),
+    Outcome::Finished,
+);
+
+const OWN_CLOSES_CROSSED: &[Crossed] = &[
+    &[REFUSED, ANSWERED_FIRST],
+    &[REFUSED],
+    &[REFUSED],
+    &[REFUSED],
+    &[REFUSED, ANSWERED_FIRST],
+];
+
 #[test]
 fn an_application_closes(rt: HostRuntime) -> Result<(), Fail> {
-    check_inline(&rt, OWN_CLOSES)
+    check_crossing(&rt, OWN_CLOSES, OWN_CLOSES_CROSSED)
 }

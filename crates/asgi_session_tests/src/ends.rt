@@ -1,6 +1,6 @@
 //! How a session ends, over lines in memory: what is handed over, and the outcome.
 use crate::apps::{Heard, Said, Step};
-use crate::rows::Parts;
+use crate::rows::{BOTH, Parts};
 use crate::scripts::{Given, Out, is_handed, is_text, script_of};
 use crate::serving::{App, serve_by};
 use crate::texts::{ACCEPTED, DENIED, FORBIDDEN, HANDSHAKE, HELLO, LAST_CHUNK, SERVER_ERROR};
@@ -47,15 +47,54 @@ fn check_so<H: Abort + Host>(rt: &H, way: Way, rows: &[Row]) -> Result<(), Fail>
     Ok(())
 }
 
-/// Each row, in one thread: in two, what the task says may cross with what is read.
-fn check<H: Abort + Host>(rt: &H, rows: &[Row]) -> Result<(), Fail> {
-    check_so(rt, Way::Inline, rows)
-}
-
 /// Each row, in either way.
 fn check_both<H: Abort + Host>(rt: &H, rows: &[Row]) -> Result<(), Fail> {
     check_so(rt, Way::Inline, rows)?;
     check_so(rt, Way::Beside, rows)
+}
+
+/// What else may come of a row where the task has a thread of its own, since what it says may cross with what is read: what is
+/// handed over, and the outcome.
+type Crossed = &'static [(&'static [Out], Outcome)];
+
+/// A message or a close behind the client's close is refused.
+const LOST: Outcome = Outcome::WriteFailed(0);
+
+fn is_among(line: &Script, outcome: Outcome, crossed: Crossed) -> bool {
+    for (handed, ended) in crossed {
+        if outcome == *ended && is_handed(line, handed) {
+            return true;
+        }
+    }
+    false
+}
+
+/// Whether a session in two threads ends as the row has it, or in one of these other ways.
+fn is_crossed<H: Host>(rt: &H, row: &Row, crossed: Crossed) -> io::Result<bool> {
+    let mut line = script_of(rt.alloc(), &[HANDSHAKE], row.1)?;
+    is_line_crossed(rt, row, crossed, &mut line)
+}
+
+fn is_line_crossed<H: Host>(
+    rt: &H,
+    row: &Row,
+    crossed: Crossed,
+    line: &mut Script,
+) -> io::Result<bool> {
+    let (report, _) = serve_by(rt, Way::Beside, &Limits::usual(), row.0, line)?;
+    let is_so = (report.outcome, report.faults) == row.3 && is_handed(line, row.2);
+    let is_one = report.exchanges == 1 && line.text() == ACCEPTED;
+    Ok(is_one && (is_so || is_among(line, report.outcome, crossed)))
+}
+
+/// Each row, in one thread just so, and in two so or as these have it.
+fn check_crossing<H: Abort + Host>(rt: &H, rows: &[Row], crossed: &[Crossed]) -> Result<(), Fail> {
+    check_so(rt, Way::Inline, rows)?;
+    for (place, (row, crossed)) in rows.iter().zip(crossed).enumerate() {
+        let is_so = is_crossed(rt, row, crossed)?;
+        assert!(rt; is_so, "row {place}");
+    }
+    Ok(())
 }
 
 const CONNECTS: Step = Step::Hears(Heard::Connect);
@@ -127,27 +166,38 @@ const ECHOED: &[Row] = &[
     ),
 ];
 
+/// The close is read before the first echo is sent, or before the second one.
+const ECHOED_CROSSED: &[Crossed] = &[
+    &[],
+    &[],
+    &[(&[], LOST), (&[Out::Text("a")], LOST)],
+    &[],
+    &[],
+];
+
 #[test]
 fn messages_are_heard_and_handed_over(rt: HostRuntime) -> Result<(), Fail> {
-    check(&rt, ECHOED)
+    check_crossing(&rt, ECHOED, ECHOED_CROSSED)
 }
 
 /// Whether the message is echoed, and the line was given the bytes behind the handshake.
-fn is_handed_on<H: Host>(rt: &H, line: &mut Script) -> io::Result<bool> {
-    let (report, _) = serve_by(rt, Way::Inline, &Limits::usual(), App::WsEcho, line)?;
+fn is_handed_on<H: Host>(rt: &H, way: Way, line: &mut Script) -> io::Result<bool> {
+    let (report, _) = serve_by(rt, way, &Limits::usual(), App::WsEcho, line)?;
     let is_so = is_handed(line, &[Out::Text("a")]) && report.outcome == Outcome::InputBroke;
     Ok(is_so && line.leftover() == Some(HELLO))
 }
 
-fn hands_on<H: Host>(rt: &H) -> io::Result<bool> {
+fn hands_on<H: Host>(rt: &H, way: Way) -> io::Result<bool> {
     let mut line = script_of(rt.alloc(), &[HANDSHAKE, HELLO], &[Given::Text("a")])?;
-    is_handed_on(rt, &mut line)
+    is_handed_on(rt, way, &mut line)
 }
 
 #[test]
 fn the_bytes_behind_a_handshake_are_handed_on(rt: HostRuntime) -> Result<(), Fail> {
-    let is_so = hands_on(&rt)?;
-    assert!(rt; is_so);
+    for way in BOTH {
+        let is_so = hands_on(&rt, *way)?;
+        assert!(rt; is_so);
+    }
     Ok(())
 }
 
@@ -183,23 +233,25 @@ const ANSWERS: &[Answer] = &[
 ];
 
 /// Whether the text of the answer is written, and nothing else is done.
-fn is_answered<H: Host>(rt: &H, row: &Answer, line: &mut Script) -> io::Result<bool> {
-    let (report, _) = serve_by(rt, Way::Inline, &Limits::usual(), row.0, line)?;
+fn is_answered<H: Host>(rt: &H, way: Way, row: &Answer, line: &mut Script) -> io::Result<bool> {
+    let (report, _) = serve_by(rt, way, &Limits::usual(), row.0, line)?;
     let ended = (report.outcome, report.faults) == row.2 && report.exchanges == 1;
     let is_silent = line.leftover().is_none() && line.received().is_empty();
     Ok(ended && is_silent && is_handed(line, &[]) && is_text(line, row.1))
 }
 
-fn answers<H: Host>(rt: &H, row: &Answer) -> io::Result<bool> {
+fn answers<H: Host>(rt: &H, way: Way, row: &Answer) -> io::Result<bool> {
     let mut line = script_of(rt.alloc(), &[HANDSHAKE], &[Given::Text("x")])?;
-    is_answered(rt, row, &mut line)
+    is_answered(rt, way, row, &mut line)
 }
 
 #[test]
 fn an_answer_in_place_of_a_session_is_text_alone(rt: HostRuntime) -> Result<(), Fail> {
-    for (place, row) in ANSWERS.iter().enumerate() {
-        let is_so = answers(&rt, row)?;
-        assert!(rt; is_so, "row {place}");
+    for way in BOTH {
+        for (place, row) in ANSWERS.iter().enumerate() {
+            let is_so = answers(&rt, *way, row)?;
+            assert!(rt; is_so, "row {place}");
+        }
     }
     Ok(())
 }
@@ -231,9 +283,16 @@ const OPEN: &[Row] = &[
     ),
 ];
 
+/// The end of the input, or the client's close, is read before the task has ended; or the close before the task's message is sent.
+const OPEN_CROSSED: &[Crossed] = &[
+    &[(&[], Outcome::InputBroke)],
+    &[(&[], Outcome::InputBroke)],
+    &[(&[Out::Text("a")], Outcome::Finished), (&[], LOST)],
+];
+
 #[test]
 fn a_task_that_ends_in_an_open_session_closes_it(rt: HostRuntime) -> Result<(), Fail> {
-    check(&rt, OPEN)
+    check_crossing(&rt, OPEN, OPEN_CROSSED)
 }
 
 /// A task ends behind a close or the end of the input, of which it has heard: nothing more is handed over, in either way.
@@ -298,10 +357,19 @@ const BROKEN: &[Row] = &[
     ),
 ];
 
+/// The close is read before the task's own is sent; or the task has rested and ended before that, and the server closes.
+const BROKEN_CROSSED: &[Crossed] = &[
+    &[(&[], LOST)],
+    &[],
+    &[(&[Out::Close(1000, "")], Outcome::Finished)],
+    &[(&[Out::Close(1000, "")], Outcome::Finished)],
+    &[(&[Out::Close(1011, "")], Outcome::Finished)],
+];
+
 #[test]
 fn a_task_that_ends_behind_a_close_adds_nothing(rt: HostRuntime) -> Result<(), Fail> {
     check_both(&rt, HEARD)?;
-    check(&rt, BROKEN)
+    check_crossing(&rt, BROKEN, BROKEN_CROSSED)
 }
 
 /// Each receive behind a disconnect gives an equal one, and nothing can be said: behind the client's, in either way.
@@ -360,10 +428,13 @@ const AGAIN: &[Row] = &[
     ),
 ];
 
+/// The close is read before the task's own is sent.
+const AGAIN_CROSSED: &[Crossed] = &[&[], &[(&[], LOST)]];
+
 #[test]
 fn each_receive_behind_a_disconnect_is_equal(rt: HostRuntime) -> Result<(), Fail> {
     check_both(&rt, AGAIN_BEHIND_THE_CLIENT)?;
-    check(&rt, AGAIN)
+    check_crossing(&rt, AGAIN, AGAIN_CROSSED)
 }
 
 const PINGS: &[Given] = &[Given::Ping; 100];

@@ -54,7 +54,7 @@ pub fn is_written(bytes: &[u8], written: Written<'_>) -> bool {
     }
 }
 
-/// In one thread alone: in two, what the task says by itself may cross with what is read.
+/// In one thread alone.
 const ONE: &[Way] = &[Way::Inline];
 
 /// In either way.
@@ -171,9 +171,74 @@ pub fn check<H: Abort + Host>(rt: &H, rows: &[Row]) -> Result<(), Fail> {
     check_so(rt, BOTH, rows)
 }
 
-/// The same in one thread.
-pub fn check_inline<H: Abort + Host>(rt: &H, rows: &[Row]) -> Result<(), Fail> {
-    check_so(rt, ONE, rows)
+/// What else may come of a row where the task has a thread of its own, since what it says may cross with what is read: what is
+/// written, and the outcome.
+pub type Crossed = &'static [(Written<'static>, Outcome)];
+
+/// Whether the row is served in two threads as it stands, or so.
+fn is_crossing<H: Host>(rt: &H, row: &Row, crossed: Crossed, pieces: Pieces) -> io::Result<bool> {
+    let mut line = line_of(rt, pieces)?;
+    is_line_crossing(rt, row, crossed, &mut line)
+}
+
+fn is_line_crossing<H: Host>(
+    rt: &H,
+    row: &Row,
+    crossed: Crossed,
+    line: &mut Memory<Pieces>,
+) -> io::Result<bool> {
+    let (report, _) = serve_by(rt, Way::Beside, &Limits::usual(), row.0, line)?;
+    let ended = (report.outcome, report.exchanges, report.faults);
+    let written = text_of(line);
+    let is_so = ended == row.3 && is_written(written, row.2);
+    Ok(is_so || ended.1 == 1 && is_among(written, ended.0, crossed))
+}
+
+fn is_among(bytes: &[u8], outcome: Outcome, crossed: Crossed) -> bool {
+    for (written, ended) in crossed {
+        if outcome == *ended && is_written(bytes, *written) {
+            return true;
+        }
+    }
+    false
+}
+
+fn crossing_fails_at<H: Host>(
+    rt: &H,
+    row: &Row,
+    crossed: Crossed,
+    input: &[u8],
+) -> io::Result<Option<usize>> {
+    for (size, before) in SIZES {
+        let pieces = pieces_of(input, *size, *size, *before);
+        if !is_crossing(rt, row, crossed, pieces)? {
+            return Ok(Some(*size));
+        }
+    }
+    Ok(None)
+}
+
+fn crossing_row_fails_at<H: Host>(
+    rt: &H,
+    row: &Row,
+    crossed: Crossed,
+) -> io::Result<Option<usize>> {
+    let input = joined(rt.alloc(), b"", row.1)?;
+    crossing_fails_at(rt, row, crossed, &input)
+}
+
+/// Each row, in pieces: in one thread just so, and in two so or as these have it.
+pub fn check_crossing<H: Abort + Host>(
+    rt: &H,
+    rows: &[Row],
+    crossed: &[Crossed],
+) -> Result<(), Fail> {
+    check_so(rt, ONE, rows)?;
+    for (place, (row, crossed)) in rows.iter().zip(crossed).enumerate() {
+        let failed = crossing_row_fails_at(rt, row, crossed)?;
+        assert_eq!(rt; failed, None, "row {place}");
+    }
+    Ok(())
 }
 
 fn session_fails_at<H: Host>(rt: &H, app: App, row: &Session) -> io::Result<Option<usize>> {

@@ -1,6 +1,6 @@
 //! Answers and messages that go out in part, or not at all.
 use crate::apps::{Heard, Said, Step};
-use crate::rows::{Written, is_written, joined};
+use crate::rows::{BOTH, Written, is_written, joined};
 use crate::scripts::{Given, Out, is_handed, script_of};
 use crate::serving::{App, serve_by};
 use crate::texts::{ACCEPTED, CLOSE, DENIED, FORBIDDEN, HANDSHAKE, HELLO, SERVER_ERROR};
@@ -39,8 +39,14 @@ const ANSWERS: &[Answer] = &[
 ];
 
 /// Whether just so many bytes of the answer are written, and nothing else is done.
-fn is_cut_off<H: Host>(rt: &H, row: &Answer, out: usize, line: &mut Script) -> io::Result<bool> {
-    let (report, _) = serve_by(rt, Way::Inline, &Limits::usual(), row.0, line)?;
+fn is_cut_off<H: Host>(
+    rt: &H,
+    way: Way,
+    row: &Answer,
+    out: usize,
+    line: &mut Script,
+) -> io::Result<bool> {
+    let (report, _) = serve_by(rt, way, &Limits::usual(), row.0, line)?;
     let counts = (report.exchanges, report.faults, line.failures());
     let ended = report.outcome == Outcome::WriteFailed(out) && counts == (1, 0, 1);
     let is_silent = line.leftover().is_none() && line.received().is_empty();
@@ -48,16 +54,16 @@ fn is_cut_off<H: Host>(rt: &H, row: &Answer, out: usize, line: &mut Script) -> i
 }
 
 /// The same over a line that takes so many bytes, three at a time.
-fn stops_at<H: Host>(rt: &H, row: &Answer, out: usize) -> io::Result<bool> {
+fn stops_at<H: Host>(rt: &H, way: Way, row: &Answer, out: usize) -> io::Result<bool> {
     let line = script_of(rt.alloc(), &[HANDSHAKE], &[Given::Text("x")])?;
     let mut line = line.failing_write((out / 3) as u64, 3);
-    is_cut_off(rt, row, out, &mut line)
+    is_cut_off(rt, way, row, out, &mut line)
 }
 
 /// How many bytes go out of the answer where it is cut off in another way first.
-fn wrong_out<H: Host>(rt: &H, row: &Answer) -> io::Result<Option<usize>> {
+fn wrong_out<H: Host>(rt: &H, way: Way, row: &Answer) -> io::Result<Option<usize>> {
     for out in 0..row.1.len() {
-        if out % 3 == 0 && !stops_at(rt, row, out)? {
+        if out % 3 == 0 && !stops_at(rt, way, row, out)? {
             return Ok(Some(out));
         }
     }
@@ -66,9 +72,11 @@ fn wrong_out<H: Host>(rt: &H, row: &Answer) -> io::Result<Option<usize>> {
 
 #[test]
 fn an_answer_may_go_out_in_part(rt: HostRuntime) -> Result<(), Fail> {
-    for (place, row) in ANSWERS.iter().enumerate() {
-        let out = wrong_out(&rt, row)?;
-        assert_eq!(rt; out, None, "row {place}");
+    for way in BOTH {
+        for (place, row) in ANSWERS.iter().enumerate() {
+            let out = wrong_out(&rt, *way, row)?;
+            assert_eq!(rt; out, None, "row {place}");
+        }
     }
     Ok(())
 }
@@ -114,7 +122,7 @@ const REFUSED: &[Row] = &[
         &[],
         0,
     ),
-    // The close of the server itself.
+    // The close of the server itself, but where the task has a thread of its own and the end of the input is read before.
     (App::Scripted(&[CONNECTS, ACCEPTS]), 0, &[], &[], 0),
     (
         App::Scripted(&[CONNECTS, ACCEPTS, Step::Faults]),
@@ -125,24 +133,27 @@ const REFUSED: &[Row] = &[
     ),
 ];
 
-fn is_lost<H: Host>(rt: &H, row: &Row, line: &mut Script) -> io::Result<bool> {
-    let (report, _) = serve_by(rt, Way::Inline, &Limits::usual(), row.0, line)?;
-    let counts = (report.exchanges, report.faults);
-    let ended = report.outcome == Outcome::WriteFailed(0) && counts == (1, row.4);
+fn is_lost<H: Host>(rt: &H, way: Way, row: &Row, line: &mut Script) -> io::Result<bool> {
+    let (report, _) = serve_by(rt, way, &Limits::usual(), row.0, line)?;
+    let is_so = report.outcome == Outcome::WriteFailed(0);
+    let is_before = way == Way::Beside && row.2.is_empty() && report.outcome == Outcome::InputBroke;
+    let ended = (is_so || is_before) && (report.exchanges, report.faults) == (1, row.4);
     Ok(ended && is_handed(line, row.3) && line.text() == ACCEPTED)
 }
 
-fn loses<H: Host>(rt: &H, row: &Row) -> io::Result<bool> {
+fn loses<H: Host>(rt: &H, way: Way, row: &Row) -> io::Result<bool> {
     let line = script_of(rt.alloc(), &[HANDSHAKE], row.2)?;
     let mut line = line.failing_send(row.1);
-    is_lost(rt, row, &mut line)
+    is_lost(rt, way, row, &mut line)
 }
 
 #[test]
 fn a_message_that_is_refused_is_a_failed_write(rt: HostRuntime) -> Result<(), Fail> {
-    for (place, row) in REFUSED.iter().enumerate() {
-        let is_so = loses(&rt, row)?;
-        assert!(rt; is_so, "row {place}");
+    for way in BOTH {
+        for (place, row) in REFUSED.iter().enumerate() {
+            let is_so = loses(&rt, *way, row)?;
+            assert!(rt; is_so, "row {place}");
+        }
     }
     Ok(())
 }
@@ -183,11 +194,12 @@ fn taken_by<'a>(line: &'a SinkLine<'_>) -> &'a [u8] {
 /// Whether the connection ends by a failed write, with this taken.
 fn is_failed_write<H: Host>(
     rt: &H,
+    way: Way,
     app: App,
     line: &mut SinkLine<'_>,
     taken: Written<'_>,
 ) -> io::Result<bool> {
-    let (report, _) = serve_by(rt, Way::Inline, &Limits::usual(), app, line)?;
+    let (report, _) = serve_by(rt, way, &Limits::usual(), app, line)?;
     let counts = (report.exchanges, report.faults);
     let ended = report.outcome == Outcome::WriteFailed(0) && counts == (1, 0);
     Ok(ended && is_written(taken_by(line), taken))
@@ -196,13 +208,14 @@ fn is_failed_write<H: Host>(
 /// The same over a line of this input, to such a writer.
 fn fails_to<H: Host>(
     rt: &H,
+    way: Way,
     app: App,
     input: &[u8],
     frame: &Frame,
     taken: Written<'_>,
 ) -> io::Result<bool> {
     let mut line = line_to(rt, input, frame.0, frame.1)?;
-    is_failed_write(rt, app, &mut line, taken)
+    is_failed_write(rt, way, app, &mut line, taken)
 }
 
 /// The accept has 129 bytes, and the frame of the echo 7.
@@ -219,22 +232,25 @@ const HEARS_HELLO: App = App::Listens(&[
     Heard::Disconnect(1006, ""),
 ]);
 
-fn echo_fails<H: Host>(rt: &H, frame: &Frame) -> io::Result<bool> {
+fn echo_fails<H: Host>(rt: &H, way: Way, frame: &Frame) -> io::Result<bool> {
     let input = joined(rt.alloc(), HANDSHAKE, &[HELLO])?;
     let taken = Written::Just(&[ACCEPTED, frame.2]);
-    fails_to(rt, HEARS_HELLO, &input, frame, taken)
+    fails_to(rt, way, HEARS_HELLO, &input, frame, taken)
 }
 
 #[test]
 fn a_frame_that_goes_out_in_part_is_a_failed_write(rt: HostRuntime) -> Result<(), Fail> {
-    for (place, frame) in FRAMES.iter().enumerate() {
-        let is_so = echo_fails(&rt, frame)?;
-        assert!(rt; is_so, "row {place}");
+    for way in BOTH {
+        for (place, frame) in FRAMES.iter().enumerate() {
+            let is_so = echo_fails(&rt, *way, frame)?;
+            assert!(rt; is_so, "row {place}");
+        }
     }
     Ok(())
 }
 
-/// A message behind the client's close, of which the application has not heard: the message layer refuses it.
+/// A message behind the client's close, of which the application has not heard: the message layer refuses it. (In one thread: in
+/// two, the task may have rested before the close is read.)
 const LATE: App = App::Scripted(&[
     CONNECTS,
     ACCEPTS,
@@ -246,7 +262,7 @@ const LATE: App = App::Scripted(&[
 fn late_fails<H: Host>(rt: &H) -> io::Result<bool> {
     let input = joined(rt.alloc(), HANDSHAKE, &[CLOSE])?;
     let taken = Written::Around(&[ACCEPTED], b"");
-    fails_to(rt, LATE, &input, &(200, 0, b""), taken)
+    fails_to(rt, Way::Inline, LATE, &input, &(200, 0, b""), taken)
 }
 
 #[test]
