@@ -1,5 +1,5 @@
 //! Both halves of an exchange at the same time, in two threads.
-ghost use Rattle.std.specs.Prelude.{◌≢◌, Err, false, ◌≡◌, ◌<◌, ◌⊎◌, ◌++◌, ℕ, List, Some, IsSome, true, is_some, IfOk, IsOk};
+ghost use Rattle.std.specs.Prelude.{◌≡◌, ◌<◌, ◌⊎◌, ◌++◌, ℕ, List, Some, IsSome, true, is_some, IfOk, IsOk};
 ghost use Rattle.asgi_io.specs.declared.turns.Turn.{Turn};
 ghost use Rattle.asgi_io.specs.Turns.{CountsTurns};
 ghost use Rattle.asgi_apps.specs.Driving.{IsDriven};
@@ -122,18 +122,11 @@ impl<T: AppTask, Q: Pause + Drop, R: Wait + Drop> Runner<T> for Beside<T, Q, R> 
         kind: Kind,
         facts: Facts,
         ring: usize,
-    ) -> Result<(RingConn, RingApp), NoEnds>
-        // NoThread is said just where there is none.
-        ensures no_thread { is_some self.old.kept ≡ false → result ≡ Err NoEnds.NoThread }
-        ensures thread { is_some self.old.kept ≡ true → result ≢ Err NoEnds.NoThread }
-    {
+    ) -> Result<(RingConn, RingApp), NoEnds> {
         if self.kept.is_none() {
             return Err(NoEnds::NoThread);
         }
-        match Rings.make(alloc, kind, facts, ring) {
-            Ok(ends) => Ok(ends),
-            Err(_) => Err(NoEnds::NoMemory),
-        }
+        Ok(Rings.make(alloc, kind, facts, ring)?)
     }
 
     fn run<H: Half, L: Line, P: Pause>(
