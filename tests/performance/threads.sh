@@ -83,7 +83,13 @@ fn serve<H: AllocGlobal + Net + Clock + Wait + RandomSource, A: Application>(
     let mut pause = Waiting::new(rt);
     for _served in 0..count {
         let next = serve_next(
-            rt, &limits, &state, app, &mut listener, &mut runner, &mut pause,
+            rt,
+            &limits,
+            &state,
+            app,
+            &mut listener,
+            &mut runner,
+            &mut pause,
         );
         if next.is_none() {
             break;
@@ -95,14 +101,19 @@ fn serve<H: AllocGlobal + Net + Clock + Wait + RandomSource, A: Application>(
 P
 }
 
-# Proves the peer, and builds it by LLVM.
+# Proves the peer and what it stands on, and builds it by LLVM: `rt ci` takes from its earlier runs what it proved of the same files.
 build() {
+  local below
+  below=$(sed -n '/^asgi_io:/,/^asgi_server:/s/:.*//p' crates.txt)
   mkdir -p "$folder/crates/one_thread/src"
-  cp -a crates/asgi_* HANDLES "$folder/crates"
-  mv "$folder/crates/HANDLES" "$folder"
+  for crate in $below; do
+    mkdir "$folder/crates/$crate"
+    cp -a "crates/$crate/src" "crates/$crate/specs" "crates/$crate/proofs" "$folder/crates/$crate"
+  done
+  cp HANDLES "$folder"
   peer_text >"$folder/crates/one_thread/src/main.rt"
-  { grep '^asgi_' crates.txt; echo 'one_thread status=2: asgi_types asgi_ws asgi_apps asgi_conn asgi_server futures'; } >"$folder/crates.txt"
-  (cd "$folder/crates/one_thread" && rt run </dev/null >"$folder/log" 2>&1) || grep -q 'status=2' "$folder/log" || { cat "$folder/log"; exit 1; }
+  { sed -n '/^asgi_io:/,/^asgi_server:/p' crates.txt; echo 'one_thread status=2: asgi_types asgi_ws asgi_apps asgi_conn asgi_server futures'; } >"$folder/crates.txt"
+  (cd "$folder" && rt ci >"$folder/log" 2>&1) || { cat "$folder/log"; exit 1; }
 }
 [ -n "$peer" ] || { build; peer=$folder/crates/one_thread/out/one_thread; }
 

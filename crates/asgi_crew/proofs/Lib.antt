@@ -1,0 +1,5 @@
+pub mod Flat
+pub mod Given
+pub mod Moves
+pub mod Numbers
+pub mod Turns

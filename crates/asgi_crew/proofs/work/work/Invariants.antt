@@ -1,0 +1,14 @@
+use Rattle.std.proofs.Common.{◌≡◌, []}
+use Rattle.crossbeam_channel.specs.Claims.{view, IsSeatAt}
+use Rattle.crossbeam_channel.specs.Ends.{receives_on}
+use Rattle.asgi_crew.specs.Channel.{hand}
+use Rattle.asgi_crew.specs.Ran.{reports_of}
+use Rattle.asgi_crew.specs.Shared.{InTurn}
+use Rattle.asgi_crew.proofs.work.work.Given as goal
+
+abbrev pub invariant-loop : goal.invariant-loop
+invariant-loop g l = record {
+  seat : IsSeatAt (receives_on l.from) l.pass;
+  part : view l.pass ≡ hand 1 0 [] (view l.pass).taken 0 0;
+  in_turn : InTurn g.W.Worker.serves l.fn.worker l.worker (view l.pass).taken (reports_of l.done);
+}

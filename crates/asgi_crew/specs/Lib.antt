@@ -1,0 +1,3 @@
+pub mod Channel
+pub mod Ran
+pub mod Shared
