@@ -29,7 +29,7 @@ put_into-requires g t c =
 pub returns-clause-ran : goal.returns-clause-ran
 returns-clause-ran g t c =
     let was : c.args.crew.items ≡ c.pop.new.self.items ++ c.in-Some.worker ∷ [] = search rules in
-    let is : c.push.new.self.items ≡ c.in_ok-pass.field-0.crew.items ++ c.join-other.result.worker ∷ [] = search rules in
+    let is : c.push-room.new.self.items ≡ c.in_ok-pass.field-0.crew.items ++ c.join-other.result.worker ∷ [] = search rules in
     let same : c.in-Ok.child.promise.worker.value ≡ c.in-Some.worker = search rules in
     let turn = subst (λ (w : g.row.W.Denot). InTurn g.W.Worker.serves w c.join-other.result.worker (view c.join-other.result.pass).taken (reports_of c.join-other.result.done)) same c.join-other.ensures.2 in
     one_more_at g.W.Worker.serves _ _ _ _ _ _ _ _ _ _ _ _ _ _ _ c.in_ok-pass.ensures.ran turn
