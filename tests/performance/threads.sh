@@ -160,8 +160,8 @@ for program in "$program" "$peer"; do
     "$folder/trips" "$port" "$way" 2000 > "$folder/trip"
     wait "$pid" 2> /dev/null || true
     wait "$tracer" 2> /dev/null || true
-    awk -v way="$way" '$NF == "total" { all = $3 } $NF ~ /^(read|recvfrom|write|sendto|futex|sched_yield|poll|clock_nanosleep|setsockopt|fcntl|ioctl)$/ { n[$NF] = $4 }
-      END { printf "  %-5s %.1f calls a round trip:", way, all / 2000; for (name in n) printf " %s %.2f", name, n[name] / 2000; print "" }' "$folder/calls"
+    awk -v way="$way" '$4 ~ /^[0-9]+$/ && $NF != "total" { all += $4; n[$NF] = $4 }
+      END { printf "  %-5s %.1f calls a round trip:", way, all / 2000; for (name in n) if (n[name] >= 200) printf " %s %.2f", name, n[name] / 2000; print "" }' "$folder/calls"
   done
   start "$program" hello 1
   exec 3<> "/dev/tcp/127.0.0.1/$port"
