@@ -6,9 +6,9 @@ ghost use Rattle.asgi_crew.specs.Channel.{hand, gave};
 ghost use Rattle.asgi_crew.specs.Ran.{items_of, last_of};
 ghost use Rattle.asgi_crew.specs.Shared.{numbered};
 
+use crate::asks::Asks;
 use crate::channel::{Gives, Knows, Mark, Task, To};
 use crate::done::Done;
-use crate::giver::Giver;
 use std::alloc::Global;
 use std::sync::Wait;
 
@@ -91,9 +91,10 @@ fn place_for<N: Drop>(alloc: Global, all: &mut Vec<(u64, N)>, next: u64) -> Opti
 
 /// Gives each item that the giver gives, numbered from 1 on.
 #[tactic(auto, using(crate::proofs::Given::answers_more, crate::proofs::Given::numbers_more, crate::proofs::Given::count_more, crate::proofs::Given::answers_end, crate::proofs::Given::answers_stay))]
-pub fn give_all<C: Drop, N: Drop, G: Giver<C>, R: Wait>(
+pub fn give_all<C: Drop, N: Drop, G, E: Asks<G, C>, R: Wait>(
     rt: &R,
     alloc: Global,
+    how: &E,
     to: &To<C, N>,
     pass: &mut Knows<C, N>,
     giver: &mut G,
@@ -104,7 +105,7 @@ pub fn give_all<C: Drop, N: Drop, G: Giver<C>, R: Wait>(
     requires fresh { ((view pass.old).given ≡ []) × ((view pass.old).shut ≡ 0) × (all.old.items ≡ []) }
     ensures seat { IsSeatAt (sends_on to.now) pass.new }
     ensures part { view pass.new ≡ hand (view pass.old).parts 1 (view pass.new).given (view pass.old).taken 0 (view pass.old).ended }
-    ensures answers { G.answers giver.new ≡ G.answers giver.old ++ (map Some (items_of (view pass.new).given) ++ last_of result) }
+    ensures answers { E.answers giver.new ≡ E.answers giver.old ++ (map Some (items_of (view pass.new).given) ++ last_of result) }
     ensures numbers { (view pass.new).given ≡ numbered 0 (items_of (view pass.new).given) }
     ensures room { (all.new.items ≡ []) × (length (view pass.new).given ≤ vec_capacity all.new) }
 {
@@ -117,7 +118,7 @@ pub fn give_all<C: Drop, N: Drop, G: Giver<C>, R: Wait>(
         let Some(place) = place_for(alloc, all, number) else {
             return End::NoMemory;
         };
-        let Some(item) = giver.next() else {
+        let Some(item) = how.ask(giver) else {
             return End::Given;
         };
         let task = Task {

@@ -1,20 +1,20 @@
 //! A giver and its workers: each item that is given is served once, by one of them, in threads of their own.
 #![tactic(auto)]
 
+mod asks;
 mod channel;
 mod done;
 mod gather;
 mod give;
-mod giver;
 mod refused;
 mod run;
+mod serves;
 mod sharing;
 mod work;
-mod worker;
 mod workers;
 
-pub use giver::Giver;
+pub use asks::Asks;
 pub use refused::Refused;
+pub use serves::Serves;
 pub use sharing::share;
-pub use worker::Worker;
 pub use workers::Workers;

@@ -4,15 +4,15 @@ ghost use Rattle.crossbeam_channel.specs.Claims.{view, IsSeatAt};
 ghost use Rattle.crossbeam_channel.specs.Ends.{sends_on, receives_on};
 ghost use Rattle.asgi_crew.specs.Channel.{hand};
 ghost use Rattle.asgi_crew.specs.Ran.{last_of, Ran};
-ghost use Rattle.asgi_crew.specs.Shared.{IsShared};
+ghost use Rattle.asgi_crew.specs.Shared.{IsShared, IsRefused};
 
+use crate::asks::Asks;
 use crate::channel::{Fair, From, Hand, Knows, Mark, To};
 use crate::gather::settle;
 use crate::give::End;
-use crate::giver::Giver;
-use crate::refused::Refused;
+use crate::refused::{NoThread, Refused};
 use crate::run::{Crew, run};
-use crate::worker::Worker;
+use crate::serves::Serves;
 use crossbeam_channel::bounded_with;
 use std::alloc::Global;
 use std::sync::Wait;
@@ -33,32 +33,34 @@ fn keep<T>(lent: &mut T)
 fn run_scoped<
     C: Drop + Send,
     N: Drop + Send,
-    G: Giver<C>,
-    W: Worker<C, Report = N> + Drop + Send,
+    G,
+    W: Drop + Send,
+    E: Asks<G, C> + Serves<W, C, Report = N> + Sync,
     R: Threads + Wait + Sync,
 >(
     rt: &R,
     alloc: Global,
+    how: &E,
     from: &From<C, N>,
     to: &To<C, N>,
     giver: &mut G,
     pass: Knows<C, N>,
     crew: Vec<W>,
-) -> Result<Crew<C, N, W>, Refused>
+) -> Result<Crew<C, N, W>, NoThread>
     requires seat { IsSeatAt (sends_on to.now) pass × (receives_on from.now ≡ sends_on to.now) }
     requires may { (view pass ≡ hand 64 1 [] [] 0 0) × (vec_len crew ≤ 8) }
     ensures seat { IfOk result (λ c. IsSeatAt (sends_on to.now) c.pass) }
     ensures part { IfOk result (λ c. ((view c.pass).gives ≡ 1) × ((view c.pass).parts ≡ 64)) }
     ensures ended { IfOk result (λ c. (view c.pass).ended ≡ vec_len crew) }
     ensures stopped { IfOk result (λ c. (view c.pass).shut ≡ vec_len crew) }
-    ensures ran { IfOk result (λ c. Ran W.serves (G.answers giver.old) (G.answers giver.new) (last_of c.end) crew.items c.crew.items c.all.items (view c.pass)) }
-    ensures refused { IfErr result (λ e. (e ≡ Refused.NoThread) × (G.answers giver.new ≡ G.answers giver.old)) }
+    ensures ran { IfOk result (λ c. Ran (E.serves how.now) (E.answers giver.old) (E.answers giver.new) (last_of c.end) crew.items c.crew.items c.all.items (view c.pass)) }
+    ensures refused { IfErr result (λ _. E.answers giver.new ≡ E.answers giver.old) }
 {
     let lent = &mut *giver;
     let (lent, ended) = thread::scope(
         thread::scope_env(),
         rt,
-        move |scope| -> (&mut G, Result<Crew<C, N, W>, Refused>)
+        move |scope| -> (&mut G, Result<Crew<C, N, W>, NoThread>)
             requires seat { IsSeatAt (sends_on to.now) pass × (receives_on from.now ≡ sends_on to.now) }
             requires may { (view pass ≡ hand 64 1 [] [] 0 0) × (vec_len crew ≤ 8) }
             ensures same { result.0.ghost_name ≡ lent.entry.ghost_name }
@@ -66,10 +68,10 @@ fn run_scoped<
             ensures part { IfOk result.1 (λ c. ((view c.pass).gives ≡ 1) × ((view c.pass).parts ≡ 64)) }
             ensures ended { IfOk result.1 (λ c. (view c.pass).ended ≡ vec_len crew) }
             ensures stopped { IfOk result.1 (λ c. (view c.pass).shut ≡ vec_len crew) }
-            ensures ran { IfOk result.1 (λ c. Ran W.serves (G.answers lent.entry.now) (G.answers result.0.now) (last_of c.end) crew.items c.crew.items c.all.items (view c.pass)) }
-            ensures refused { IfErr result.1 (λ e. (e ≡ Refused.NoThread) × (G.answers result.0.now ≡ G.answers lent.entry.now)) }
+            ensures ran { IfOk result.1 (λ c. Ran (E.serves how.entry.now) (E.answers lent.entry.now) (E.answers result.0.now) (last_of c.end) crew.items c.crew.items c.all.items (view c.pass)) }
+            ensures refused { IfErr result.1 (λ _. E.answers result.0.now ≡ E.answers lent.entry.now) }
         {
-            let ended = run(rt, scope, alloc, from, to, &mut *lent, pass, crew, 0);
+            let ended = run(rt, scope, alloc, how, from, to, &mut *lent, pass, crew, 0);
             (lent, ended)
         },
     );
@@ -83,28 +85,39 @@ fn run_scoped<
 pub fn share<
     C: Drop + Send,
     N: Drop + Send,
-    G: Giver<C>,
-    W: Worker<C, Report = N> + Drop + Send,
+    G,
+    W: Drop + Send,
+    E: Asks<G, C> + Serves<W, C, Report = N> + Sync,
     R: Threads + Wait + Sync,
->(rt: &R, alloc: Global, giver: &mut G, crew: Vec<W>) -> Result<(Vec<(u64, N)>, Vec<W>), Refused>
+>(
+    rt: &R,
+    alloc: Global,
+    how: &E,
+    giver: &mut G,
+    crew: Vec<W>,
+) -> Result<(Vec<(u64, N)>, Vec<W>), Refused<W>>
     requires { (0 < vec_len crew) × (vec_len crew ≤ 8) }
-    ensures shared { IfOk result (λ r. IsShared W.serves (G.answers giver.old) (G.answers giver.new) (None ∷ []) crew.items r.1.items r.0.items) }
-    ensures no_thread { result ≡ Err Refused.NoThread → G.answers giver.new ≡ G.answers giver.old }
-    ensures no_memory { result ≡ Err Refused.NoMemory → (is : List W) × (reports : List (ℕ × N)) × IsShared W.serves (G.answers giver.old) (G.answers giver.new) [] crew.items is reports }
+    ensures shared { IfOk result (λ r. IsShared (E.serves how.now) (E.answers giver.old) (E.answers giver.new) (None ∷ []) crew.items r.1.items r.0.items) }
+    ensures refused { IfErr result (λ e. IsRefused (E.serves how.now) (E.answers giver.old) (E.answers giver.new) crew.items e) }
 {
     let Ok((to, from, pass)) = bounded_with::<Mark<C, N>, Hand<C>, Fair, Global>(alloc, PLACES)
     else {
-        return Err(Refused::NoMemory);
+        return Err(Refused::NoMemory(crew));
     };
-    let Crew {
-        pass,
-        all,
-        crew,
-        end,
-    } = run_scoped(rt, alloc, &from, &to, giver, pass, crew)?;
+    let Ok(
+        Crew {
+            pass,
+            all,
+            crew,
+            end,
+        },
+    ) = run_scoped(rt, alloc, how, &from, &to, giver, pass, crew)
+    else {
+        return Err(Refused::NoThread);
+    };
     let reports = settle(&to, pass, all);
     match end {
         End::Given => Ok((reports, crew)),
-        End::NoMemory => Err(Refused::NoMemory),
+        End::NoMemory => Err(Refused::NoMemory(crew)),
     }
 }

@@ -8,7 +8,7 @@ ghost use Rattle.asgi_crew.specs.Shared.{InTurn};
 
 use crate::channel::{From, Knows, Mark, Takes, Task};
 use crate::done::Done;
-use crate::worker::Worker;
+use crate::serves::Serves;
 use std::sync::Wait;
 
 /// What a worker did, and what its pass knows of it.
@@ -36,8 +36,9 @@ fn take<C: Drop, N: Drop, R: Wait>(rt: &R, from: &From<C, N>, pass: &mut Knows<C
 
 /// Serves items until a stop comes.
 #[tactic(auto, using(crate::proofs::Turns::served_next))]
-pub fn work<C: Drop, N: Drop, W: Worker<C, Report = N> + Drop, R: Wait>(
+pub fn work<C: Drop, N: Drop, W: Drop, E: Serves<W, C, Report = N>, R: Wait>(
     rt: &R,
+    how: &E,
     from: &From<C, N>,
     mut pass: Knows<C, N>,
     mut worker: W,
@@ -46,7 +47,7 @@ pub fn work<C: Drop, N: Drop, W: Worker<C, Report = N> + Drop, R: Wait>(
     requires fresh { view pass ≡ hand 1 0 [] [] 0 0 }
     ensures seat { IsSeatAt (receives_on from.now) result.pass }
     ensures part { view result.pass ≡ hand 1 0 [] (view result.pass).taken 0 1 }
-    ensures in_turn { InTurn W.serves worker result.worker (view result.pass).taken (reports_of result.done) }
+    ensures in_turn { InTurn (E.serves how.now) worker result.worker (view result.pass).taken (reports_of result.done) }
 {
     let mut done = Done::Nothing;
     for _ in rt.forever() {
@@ -57,7 +58,7 @@ pub fn work<C: Drop, N: Drop, W: Worker<C, Report = N> + Drop, R: Wait>(
                     item,
                     place,
                 } = task;
-                let report = worker.serve(item);
+                let report = how.serve(&mut worker, item);
                 done = done.with(number, report, place);
             }
             Mark::Stop => return Worked { pass, worker, done },

@@ -1,7 +1,7 @@
 //! A giver of numbers, and workers that count what they served.
-ghost use Rattle.std.specs.Prelude.{◌≡◌};
+ghost use Rattle.std.specs.Prelude.{◌≡◌, min};
 
-use asgi_crew::{Giver, Worker};
+use asgi_crew::{Asks, Serves};
 use asgi_io::History;
 
 /// Gives the numbers from 1 to the last one, and counts how often it was asked.
@@ -34,16 +34,6 @@ impl Numbers {
     }
 }
 
-impl Giver<u64> for Numbers {
-    ghost answers = { λ giver. giver.told.items };
-
-    fn next(&mut self) -> Option<u64> {
-        let answer = self.answer();
-        self.told = History::with(&self.told, &answer);
-        answer
-    }
-}
-
 /// Counts the numbers that it was given, and reports each with its own name.
 #[derive(Drop)]
 pub struct Counter {
@@ -51,13 +41,28 @@ pub struct Counter {
     pub served: u64,
 }
 
-impl Worker<u64> for Counter {
+/// Asks for numbers, and has them counted, up to a highest one, which is lent to all workers.
+pub struct Counting {
+    pub highest: u64,
+}
+
+impl Asks<Numbers, u64> for Counting {
+    ghost answers = { λ giver. giver.told.items };
+
+    fn ask(&self, giver: &mut Numbers) -> Option<u64> {
+        let answer = giver.answer();
+        giver.told = History::with(&giver.told, &answer);
+        answer
+    }
+}
+
+impl Serves<Counter, u64> for Counting {
     type Report = (u64, u64);
 
-    ghost serves = { λ was is item report. (report.0 ≡ item) × (report.1 ≡ was.name) × (is.name ≡ was.name) };
+    ghost serves = { λ how was is item report. (report.0 ≡ min item how.highest) × (report.1 ≡ was.name) × (is.name ≡ was.name) };
 
-    fn serve(&mut self, item: u64) -> (u64, u64) {
-        self.served = self.served.saturating_add(1);
-        (item, self.name)
+    fn serve(&self, worker: &mut Counter, item: u64) -> (u64, u64) {
+        worker.served = worker.served.saturating_add(1);
+        (item.min(self.highest), worker.name)
     }
 }

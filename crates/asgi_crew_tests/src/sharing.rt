@@ -1,7 +1,7 @@
 //! Each number is served once, whoever serves it, and the reports stand in the order of the numbers.
-use crate::fakes::{Counter, Numbers};
-use asgi_crew::share;
-use std::alloc::{AllocGlobal, Global};
+use crate::fakes::{Counter, Counting, Numbers};
+use asgi_crew::{Refused, share};
+use std::alloc::{AllocError, AllocGlobal, Global};
 use std::process::Abort;
 use std::sync::Wait;
 use std::test::Fail;
@@ -9,6 +9,9 @@ use std::thread::Threads;
 
 /// So many items, and so many workers.
 const ROWS: [(u64, u64); 7] = [(0, 1), (0, 2), (1, 8), (3, 3), (17, 5), (40, 1), (300, 8)];
+
+/// Counts all numbers as they are.
+const ALL: Counting = Counting { highest: u64::MAX };
 
 /// Shares so many numbers out among so many workers.
 fn shares<R: Threads + Wait + Sync + Abort + AllocGlobal>(
@@ -23,7 +26,11 @@ fn shares<R: Threads + Wait + Sync + Abort + AllocGlobal>(
         crew.push(Counter { name, served: 0 })?;
     }
     assert!(rt; 0 < crew.len() && crew.len() <= 8, "{workers} workers");
-    let (reports, crew) = share(rt, alloc, &mut giver, crew)?;
+    let (reports, crew) = match share(rt, alloc, &ALL, &mut giver, crew) {
+        Ok(shared) => shared,
+        Err(Refused::NoThread) => return Err(Fail::from("no thread")),
+        Err(Refused::NoMemory(_)) => return Err(Fail::from(AllocError)),
+    };
     assert_eq!(rt;
         giver.asked,
         items.saturating_add(1),
@@ -66,4 +73,57 @@ fn each_item_is_served_once(rt: HostRuntime) -> Result<(), Fail> {
         shares(&rt, items, workers)?;
     }
     Ok(())
+}
+
+/// How many numbers all workers served.
+fn served_by(crew: &[Counter]) -> u64 {
+    let mut served = 0u64;
+    for worker in crew {
+        served = served.saturating_add(worker.served);
+    }
+    served
+}
+
+#[test]
+fn what_all_workers_are_lent_is_in_each_report(rt: HostRuntime) -> Result<(), Fail> {
+    let alloc: Global = rt.alloc();
+    let mut crew = Vec::new(alloc);
+    crew.push(Counter { name: 0, served: 0 })?;
+    crew.push(Counter { name: 1, served: 0 })?;
+    assert!(rt; crew.len() == 2);
+    match share(
+        &rt,
+        alloc,
+        &Counting { highest: 3 },
+        &mut Numbers::up_to(5),
+        crew,
+    ) {
+        Ok((reports, _crew)) => {
+            let counted = reports
+                .iter()
+                .all(|(number, report)| report.0 == (*number).min(3));
+            assert!(rt; reports.len() == 5 && counted);
+            Ok(())
+        }
+        Err(_) => Err(Fail::from(AllocError)),
+    }
+}
+
+#[test]
+fn memory_for_five_numbers_and_two_workers(rt: HostRuntime) {
+    let alloc: Global = rt.alloc();
+    let mut giver = Numbers::up_to(5);
+    let mut crew = Vec::new(alloc);
+    for name in 0..2 {
+        if crew.push(Counter { name, served: 0 }).is_err() {
+            return;
+        }
+    }
+    assert!(rt; crew.len() == 2);
+    let well = match share(&rt, alloc, &ALL, &mut giver, crew) {
+        Ok((reports, crew)) => reports.len() == 5 && giver.asked == 6 && served_by(&crew) == 5,
+        Err(Refused::NoThread) => giver.asked == 0,
+        Err(Refused::NoMemory(crew)) => crew.len() == 2 && served_by(&crew) == giver.asked,
+    };
+    assert!(rt; well);
 }

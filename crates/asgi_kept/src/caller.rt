@@ -15,7 +15,6 @@ use asgi_pipes::AppEnd;
 use rtrb::{Consumer, Producer};
 use std::alloc::Global;
 use std::sync::Wait;
-use std::thread::{JoinHandle, Threads};
 
 /// The kept thread at rest, as its caller sees it.
 #[derive(Drop)]
@@ -33,7 +32,6 @@ pub struct Working<T: AppTask, E: AppEnd, P: Pause> {
     pub(crate) giver: Producer<Job<T, E, P>, Global, MayBeDriven>,
     pub(crate) going: Producer<Token<T, E, P>, Global, HasOneJob>,
     pub(crate) backs: Consumer<Token<T, E, P>, Global, KeptItsPromise>,
-    pub(crate) child: JoinHandle<()>,
     pub(crate) resting: Resting,
     ghost goes: { home_of (λ t. ring_of t.jobs.end) (sent going) ≡ Some (ring_of giver.end) },
     ghost comes: { home_of (λ t. ring_of t.jobs.end) (received backs) ≡ Some (ring_of giver.end) },
@@ -51,19 +49,25 @@ impl<T: AppTask, E: AppEnd, P: Pause + Drop> Kept<T, E, P> {
         thread
     }
 
-    /// Ends the thread, and waits until it has ended. One that is only dropped leaves a thread behind that sleeps until
-    /// the program ends.
-    pub fn end<R: Threads>(self, rt: &R) {
+    /// Ends the thread, and waits until it has let go of its ends of the rings, which it does last. One that is only
+    /// dropped leaves a thread behind that sleeps until the program ends.
+    pub fn end<R: Wait>(self, rt: &R) {
         let Kept { thread, jobs: _ } = self;
         let Working {
             going,
-            child,
+            mut backs,
             mut resting,
             ..
         } = thread;
         drop(going);
         resting.wake();
-        child.join(rt);
+        for _ in rt.forever() {
+            if backs.is_abandoned() {
+                return;
+            }
+            resting.rest(rt);
+        }
+        unreachable!()
     }
 }
 

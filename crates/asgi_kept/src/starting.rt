@@ -82,14 +82,14 @@ pub fn start<
             cx.cancel();
         },
     );
-    let Ok(child) = child else {
+    // What its thread is known by stays with no thread, so that the caller's side may go to any.
+    if child.is_err() {
         return Err(NoThread);
-    };
+    }
     let thread = Working {
         giver,
         going,
         backs,
-        child,
         resting: here,
     };
     Ok(Kept { thread, jobs })

@@ -54,20 +54,6 @@ ServesNext R W M answers limits state asked_old asked_new before after None = (a
 ServesNext R W M answers limits state asked_old asked_new before after (Some report) =
     (given : Given _) × (asked_new ≡ asked_old ++ Some given ∷ []) × IsServed answers limits state (arrived R W M given) before after report
 
--- what the listener answered at last: that there is no connection any more, but where memory for one more report was refused
--- and it was not asked
-abbrev pub last_answer : {L : Type 0} → Option (List (ℕ × Report)) → List (Option (Given L))
-last_answer (Some reports) = None ∷ []
-last_answer None = []
-
--- All connections of a listener were served: its answers, the count of pauses, and the reports that are returned, where memory
--- for them sufficed.
-pub record ServesAll {L : Type 0} (R : reads.Ghosts L) (W : counts.Ghosts L) (M : messages.Ghosts L) (answers : Promise) (limits : Limits) (state : List (List ℕ × StateValue))
-    (asked_old asked_new : List (Option (Given L))) (pauses_old pauses_new : ℕ) (returned : Option (List (ℕ × Report))) : Type 0 where
-  -- the connections that the listener gave, and then none
-  pub given : List (Given L)
-  pub asked : asked_new ≡ asked_old ++ map Some given ++ last_answer returned
-  -- each was served, and reported once, with the numbers 1 upwards
-  pub reports : List (ℕ × Report)
-  pub each : EachConnectionOnce answers limits state 1 (map (arrived R W M) given) pauses_old pauses_new reports
-  pub all : (list : List (ℕ × Report)) → returned ≡ Some list → list ≡ reports
+-- From the worker as it was to the worker as it is, it served this connection, and this is the report; `count` is that of its pauses.
+abbrev pub by_worker : {L S : Type 0} → reads.Ghosts L → counts.Ghosts L → messages.Ghosts L → Promise → Limits → List (List ℕ × StateValue) → (S → ℕ) → S → S → Given L → Report → Type 0
+by_worker R W M answers limits state count was is given report = IsServed answers limits state (arrived R W M given) (count was) (count is) report

@@ -4,13 +4,18 @@
 mod accepting;
 mod listener;
 mod serving;
+mod sharing;
 mod socket;
 mod sockets;
+mod station;
 mod waiting;
 
+pub use asgi_crew::{Refused, Workers};
 pub use asgi_lifespan::{Lifespan, Start, Stop};
 pub use listener::{Accepts, Listener};
-pub use serving::{serve_all, serve_next};
+pub use serving::serve_next;
+pub use sharing::serve_all;
 pub use socket::Socket;
 pub use sockets::Sockets;
+pub use station::{BesideStation, NoStation, Station, end_stations, stations};
 pub use waiting::Waiting;

@@ -1,4 +1,4 @@
-//! Tests of a server of one connection after another, as tables on its public calls.
+//! Tests of a server of many connections, as tables on its public calls.
 #![tactic(auto)]
 
 #[cfg(test)]
@@ -9,3 +9,5 @@ mod loopback;
 mod queue;
 #[cfg(test)]
 mod serves;
+#[cfg(test)]
+mod workers;

@@ -1,12 +1,11 @@
 //! The lifespan of an application, and its connections between its start and its stop.
 use crate::queue::is_served;
-use asgi_apps::{Application, Hello, Life, Mounts, RootPath};
-use asgi_conn::{CountingPause, Outcome};
+use asgi_apps::{AppTask, Application, Hello, Life, Mounts, RootPath};
+use asgi_conn::{CountingPause, Host, Outcome};
 use asgi_server::{Lifespan, Start, Stop};
 use asgi_types::{Chars, Limits, State};
 use futures::task::{Context, Doorbell, Solo};
-use std::alloc::{AllocError, AllocGlobal, Global};
-use std::random::RandomSource;
+use std::alloc::{AllocError, Global};
 use std::test::Fail;
 
 const OLD_GET: &[u8] = b"GET / HTTP/1.0\r\n\r\n";
@@ -24,7 +23,7 @@ enum Way {
 }
 
 /// Starts the application, serves two connections, and stops it.
-fn live<H: RandomSource + AllocGlobal, A: Application>(
+fn live<H: Host + Sync, T: AppTask + Send + 'static, A: Application<Task = T> + Send + Sync>(
     rt: &H,
     app: &A,
     cx: &mut Context<'_>,
@@ -57,7 +56,10 @@ fn is_stopped(stop: Stop) -> bool {
 }
 
 /// The way of this application.
-fn way_of<H: RandomSource + AllocGlobal, A: Application>(rt: &H, app: &A) -> Result<Way, Fail> {
+fn way_of<H: Host + Sync, T: AppTask + Send + 'static, A: Application<Task = T> + Send + Sync>(
+    rt: &H,
+    app: &A,
+) -> Result<Way, Fail> {
     let solo = Solo::new(rt, Doorbell::spinning())?;
     let mut cx = solo.begin();
     let way = live(rt, app, &mut cx);

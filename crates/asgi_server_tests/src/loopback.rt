@@ -1,15 +1,14 @@
 //! Connections over the loopback address, whose client is a thread of the test.
 use crate::queue::{is_reported, serve};
 use asgi_apps::Echo;
-use asgi_conn::Outcome;
-use asgi_server::Sockets;
-use asgi_types::State;
-use std::alloc::AllocGlobal;
+use asgi_conn::{Host, Outcome};
+use asgi_server::{Sockets, Workers};
+use asgi_types::{Limits, State};
+use std::alloc::{AllocError, AllocGlobal};
 use std::io::{self, Read, Write};
 use std::net::{
     Ipv4Addr, Net, OpenListener, OpenStream, Shutdown, SocketAddr, TcpListener, TcpStream,
 };
-use std::random::RandomSource;
 use std::test::Fail;
 use std::thread;
 use std::time::{Clock, Duration};
@@ -62,11 +61,20 @@ fn are_answered<N: Net + Clock + AllocGlobal>(rt: &N, port: u16) -> io::Result<b
     Ok(one.as_slice() == ANSWER && other.as_slice() == ANSWER)
 }
 
-/// Whether two connections of the port are served to their end.
-fn serves<N: Net + Clock + AllocGlobal + RandomSource>(rt: &N, port: u16) -> io::Result<bool> {
+/// Whether two connections of the port are served to their end, by two workers.
+fn serves<K: OpenStream + Read + Write + Drop + Send, N: Net<Stream = K> + Clock + Host + Sync>(
+    rt: &N,
+    port: u16,
+) -> Result<bool, AllocError>
+where
+    N::Listener: Send,
+{
     let state = State::new(rt.alloc());
-    let mut listener = Sockets::new(rt, rt.alloc(), port, 2);
-    let reports = serve(rt, &Echo, &state, &mut listener)?;
+    let Some(two) = Workers::new(2) else {
+        return Err(AllocError);
+    };
+    let mut listener = Sockets::non_blocking(rt, rt.alloc(), port, 2);
+    let reports = serve(rt, &Echo, &state, &mut listener, &Limits::usual(), two)?;
     let ends = [(Outcome::Finished, 1), (Outcome::Finished, 1)];
     Ok(is_reported(&reports, &ends))
 }

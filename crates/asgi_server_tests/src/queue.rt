@@ -1,44 +1,57 @@
-//! A listener of two connections in memory.
+//! Connections in memory, and workers that serve them.
 ghost use Rattle.std.specs.Prelude.{◌≡◌};
 
-use asgi_apps::Application;
-use asgi_conn::{CountingPause, Inline, Outcome, Report};
+use asgi_apps::{AppTask, Application};
+use asgi_conn::{Host, Line, Outcome, Report};
 use asgi_fakes::texts::SERVER_ERROR;
 use asgi_io::History;
-use asgi_server::{Listener, serve_all};
+use asgi_server::{Listener, Refused, Workers, end_stations, serve_all, stations};
 use asgi_types::{Limits, Peer, State};
 use asgi_ws::{Pair, Wired};
-use futures::task::{Doorbell, Solo};
-use std::alloc::AllocGlobal;
-use std::io;
-use std::random::RandomSource;
+use std::alloc::{AllocError, Global};
+use std::mem;
 
 /// A connection in memory, whose output outlives it.
 pub type InMemory<'a> = Wired<Pair<&'a [u8], &'a mut Vec<u8>>>;
 
-/// Gives these connections, and then none.
+/// Gives a connection for each of these outputs, with these inputs in turn, and then none.
 #[derive(Drop)]
-pub struct Queue<'a> {
-    first: Option<InMemory<'a>>,
-    second: Option<InMemory<'a>>,
+pub struct Feed<'a> {
+    alloc: Global,
+    inputs: &'a [&'a [u8]],
+    given: usize,
+    outputs: &'a mut [Vec<u8>],
     told: History<Option<(InMemory<'a>, Option<Peer>, Option<Peer>)>>,
 }
 
-impl<'a> Queue<'a> {
+impl<'a> Feed<'a> {
+    /// None was given yet.
+    pub fn new(alloc: Global, inputs: &'a [&'a [u8]], outputs: &'a mut [Vec<u8>]) -> Self {
+        Feed {
+            alloc,
+            inputs,
+            given: 0,
+            outputs,
+            told: History::new(),
+        }
+    }
+
     fn pop(&mut self) -> Option<InMemory<'a>>
         ensures { self.new.told ≡ self.old.told }
     {
-        match self.first.take() {
-            Some(line) => Some(line),
-            None => self.second.take(),
-        }
+        let at = self.given.checked_rem(self.inputs.len())?;
+        let reader = *self.inputs.get(at)?;
+        let (writer, rest) = mem::take(&mut self.outputs).split_first_mut()?;
+        self.outputs = rest;
+        self.given = self.given.saturating_add(1);
+        Some(Wired::new(self.alloc, Pair { reader, writer }))
     }
 }
 
-impl<'a> Listener for Queue<'a> {
+impl<'a> Listener for Feed<'a> {
     type L = InMemory<'a>;
 
-    ghost answers = { λ q. q.told.items };
+    ghost answers = { λ f. f.told.items };
 
     fn next(&mut self) -> Option<(InMemory<'a>, Option<Peer>, Option<Peer>)> {
         let given = match self.pop() {
@@ -68,80 +81,108 @@ pub fn is_reported(reports: &[(u64, Report)], ends: &[End]) -> bool {
     at == ends.len()
 }
 
-/// Serves what the listener gives, with this state.
-pub fn serve<H: RandomSource + AllocGlobal, A: Application, N: Listener>(
+/// Serves what the listener gives, with this state, by so many workers.
+pub fn serve<
+    H: Host + Sync,
+    T: AppTask + Send + 'static,
+    A: Application<Task = T> + Send + Sync,
+    L: Line + Drop + Send,
+    N: Listener<L = L> + Send,
+>(
     rt: &H,
     app: &A,
     state: &State,
     listener: &mut N,
-) -> io::Result<Vec<(u64, Report)>> {
-    let solo = Solo::new(rt, Doorbell::spinning())?;
-    let limits = Limits::usual();
-    let mut runner = Inline::new(solo.begin());
-    let mut pause = CountingPause::new();
-    let reports = serve_all(rt, &limits, state, app, listener, &mut runner, &mut pause);
-    runner.end();
-    Ok(reports?)
+    limits: &Limits,
+    workers: Workers,
+) -> Result<Vec<(u64, Report)>, AllocError> {
+    let Ok(list) = stations::<T, H>(*rt, workers) else {
+        return Err(AllocError);
+    };
+    match serve_all(rt, limits, state, app, listener, workers, list) {
+        Ok((reports, list)) => {
+            end_stations(list);
+            Ok(reports)
+        }
+        Err(Refused::NoThread) => Err(AllocError),
+        Err(Refused::NoMemory(list)) => {
+            end_stations(list);
+            Err(AllocError)
+        }
+    }
 }
 
-/// Serves what the queue gives, and drops it.
-pub fn serve_queue<H: RandomSource + AllocGlobal, A: Application>(
+/// Serves a connection for each output, with these inputs in turn, by so many workers.
+pub fn serve_feed<
+    H: Host + Sync,
+    T: AppTask + Send + 'static,
+    A: Application<Task = T> + Send + Sync,
+>(
     rt: &H,
     app: &A,
     state: &State,
-    queue: Queue<'_>,
-) -> io::Result<Vec<(u64, Report)>> {
-    let mut queue = queue;
-    let reports = serve(rt, app, state, &mut queue);
-    drop(queue);
+    inputs: &[&[u8]],
+    outputs: &mut [Vec<u8>],
+    limits: &Limits,
+    workers: u64,
+) -> Result<Vec<(u64, Report)>, AllocError> {
+    let Some(workers) = Workers::new(workers) else {
+        return Err(AllocError);
+    };
+    let mut feed = Feed::new(rt.alloc(), inputs, outputs);
+    let reports = serve(rt, app, state, &mut feed, limits, workers);
+    drop(feed);
     reports
 }
 
-/// Whether two connections with these inputs end so, and have these outputs.
-pub fn is_served<H: RandomSource + AllocGlobal, A: Application>(
+/// Whether two connections with these inputs end so, and have these outputs, by one worker and by two.
+pub fn is_served<
+    H: Host + Sync,
+    T: AppTask + Send + 'static,
+    A: Application<Task = T> + Send + Sync,
+>(
     rt: &H,
     app: &A,
     state: &State,
     inputs: [&[u8]; 2],
     outputs: [&[u8]; 2],
     ends: &[End],
-) -> io::Result<bool> {
-    let mut one = Vec::new(rt.alloc());
-    let mut other = Vec::new(rt.alloc());
-    let queue = Queue {
-        first: Some(line(rt, inputs[0], &mut one)),
-        second: Some(line(rt, inputs[1], &mut other)),
-        told: History::new(),
-    };
-    let reports = serve_queue(rt, app, state, queue)?;
-    Ok(
-        is_reported(&reports, ends)
-            && one.as_slice() == outputs[0]
-            && other.as_slice() == outputs[1],
-    )
+) -> Result<bool, AllocError> {
+    let limits = Limits::usual();
+    for workers in [1, 2] {
+        let mut texts = [Vec::new(rt.alloc()), Vec::new(rt.alloc())];
+        let reports = serve_feed(rt, app, state, &inputs, &mut texts, &limits, workers)?;
+        if !is_reported(&reports, ends)
+            || texts[0].as_slice() != outputs[0]
+            || texts[1].as_slice() != outputs[1]
+        {
+            return Ok(false);
+        }
+    }
+    Ok(true)
 }
 
-/// Whether two connections with this input are served, or end for want of memory, and get the output
-/// or a beginning of it, or are told that the application failed.
-pub fn is_begun<H: RandomSource + AllocGlobal, A: Application>(
-    rt: &H,
-    app: &A,
-    state: &State,
-    input: &[u8],
-    output: &[u8],
-) -> bool {
-    let mut one = Vec::new(rt.alloc());
-    let mut other = Vec::new(rt.alloc());
-    let queue = Queue {
-        first: Some(line(rt, input, &mut one)),
-        second: Some(line(rt, input, &mut other)),
-        told: History::new(),
-    };
-    let well = match serve_queue(rt, app, state, queue) {
+/// Whether two connections with this input are served by so many workers, or not begun or ended for want of memory or of a
+/// thread, and get the output or a beginning of it, or are told that the application failed.
+pub fn is_begun<
+    H: Host + Sync,
+    T: AppTask + Send + 'static,
+    A: Application<Task = T> + Send + Sync,
+>(rt: &H, app: &A, state: &State, input: &[u8], output: &[u8], workers: u64) -> bool {
+    let mut texts = [Vec::new(rt.alloc()), Vec::new(rt.alloc())];
+    let well = match serve_feed(
+        rt,
+        app,
+        state,
+        &[input],
+        &mut texts,
+        &Limits::usual(),
+        workers,
+    ) {
         Ok(reports) => reports.len() == 2 && are_whole_or_lack_memory(&reports),
-        Err(_lacks_memory) => true,
+        Err(_lacks) => true,
     };
-    well && is_lawful(&one, output) && is_lawful(&other, output)
+    well && is_lawful(&texts[0], output) && is_lawful(&texts[1], output)
 }
 
 /// Whether this may be written where memory is refused somewhere.
@@ -161,17 +202,4 @@ fn are_whole_or_lack_memory(reports: &[(u64, Report)]) -> bool {
         }
     }
     true
-}
-
-fn line<'a, H: AllocGlobal>(rt: &H, reader: &'a [u8], writer: &'a mut Vec<u8>) -> InMemory<'a> {
-    Wired::new(rt.alloc(), Pair { reader, writer })
-}
-
-/// A queue of no connections.
-pub fn empty() -> Queue<'static> {
-    Queue {
-        first: None,
-        second: None,
-        told: History::new(),
-    }
 }

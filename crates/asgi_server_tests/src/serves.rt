@@ -1,6 +1,6 @@
-//! Two connections, one after another.
-use crate::queue::{End, empty, is_begun, is_reported, is_served, serve_queue};
-use asgi_apps::{Echo, Hello};
+//! Two connections, by one worker and by two.
+use crate::queue::{End, is_begun, is_served};
+use asgi_apps::Hello;
 use asgi_conn::Outcome;
 use asgi_fakes::texts::{BAD_REQUEST, GET, HELLO, TWO_REQUESTS};
 use asgi_types::State;
@@ -38,14 +38,6 @@ fn each_connection_has_its_answer_and_its_report(rt: HostRuntime) -> Result<(), 
 }
 
 #[test]
-fn a_listener_with_no_connections_gives_no_reports(rt: HostRuntime) -> Result<(), Fail> {
-    let state = State::new(rt.alloc());
-    let reports = serve_queue(&rt, &Echo, &state, empty())?;
-    assert!(rt; is_reported(&reports, &[]));
-    Ok(())
-}
-
-#[test]
 fn requests_that_are_sent_ahead_are_answered_in_order(rt: HostRuntime) -> Result<(), Fail> {
     let state = State::new(rt.alloc());
     let ends = [(Outcome::Finished, 1), (Outcome::Finished, 2)];
@@ -60,5 +52,11 @@ fn requests_that_are_sent_ahead_are_answered_in_order(rt: HostRuntime) -> Result
 #[test]
 fn memory_of_two_connections(rt: HostRuntime) {
     let state = State::new(rt.alloc());
-    assert!(rt; is_begun(&rt, &Hello, &state, GET, HELLO));
+    assert!(rt; is_begun(&rt, &Hello, &state, GET, HELLO, 1));
+}
+
+#[test]
+fn memory_of_two_workers(rt: HostRuntime) {
+    let state = State::new(rt.alloc());
+    assert!(rt; is_begun(&rt, &Hello, &state, GET, HELLO, 2));
 }

@@ -11,7 +11,7 @@ invariant-loop g l = record {
   seat : IsSeatAt (sends_on l.to) l.pass;
   part : view l.pass ≡ hand (view l.fn.pass).parts 1 (view l.pass).given (view l.fn.pass).taken 0 (view l.fn.pass).ended;
   some : 0 < (view l.fn.pass).parts;
-  answers : g.G.Giver.answers l.giver ≡ g.G.Giver.answers l.fn.giver ++ map Some (items_of (view l.pass).given);
+  answers : g.E.Asks.answers l.giver ≡ g.E.Asks.answers l.fn.giver ++ map Some (items_of (view l.pass).given);
   numbers : (view l.pass).given ≡ numbered 0 (items_of (view l.pass).given);
   count : length (view l.pass).given ≡ l.given;
   room : l.given ≤ vec_capacity l.all;

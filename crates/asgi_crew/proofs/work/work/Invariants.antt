@@ -10,5 +10,5 @@ abbrev pub invariant-loop : goal.invariant-loop
 invariant-loop g l = record {
   seat : IsSeatAt (receives_on l.from) l.pass;
   part : view l.pass ≡ hand 1 0 [] (view l.pass).taken 0 0;
-  in_turn : InTurn g.W.Worker.serves l.fn.worker l.worker (view l.pass).taken (reports_of l.done);
+  in_turn : InTurn (g.E.Serves.serves l.fn.how) l.fn.worker l.worker (view l.pass).taken (reports_of l.done);
 }

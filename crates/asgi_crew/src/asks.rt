@@ -1,0 +1,13 @@
+//! How items are asked for, as connections are of a listener.
+
+/// Asks a giver for one item after another.
+pub trait Asks<G, C> {
+    ghost use Rattle.std.specs.Prelude.{◌≡◌, List, [], ◌∷◌, ◌++◌, Option};
+
+    // Each answer that the giver gave, in order.
+    ghost answers: { G → List (Option C) };
+
+    /// Asks for the next item. `None` says that there is no more.
+    fn ask(&self, giver: &mut G) -> Option<C>
+        ensures told { answers giver.new ≡ answers giver.old ++ result ∷ [] };
+}

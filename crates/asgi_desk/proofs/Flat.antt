@@ -1,0 +1,137 @@
+-- What all views have together, as one of them changes.
+use Rattle.std.proofs.Common.{◌≡◌, ◌≢◌, ℕ, zero, suc, ◌+◌, ◌≤◌, List, [], ◌∷◌, ◌++◌, set, refl, sym, ap, ◌∙◌, subst, ⊎_elim, append_assoc, append-nil, flat_map, arith}
+use mathlib.Core.Option.{some, some-ne-none}
+use lib.ListN.{get_elem?}
+use Rattle.std.specs.List.Sorted.{IsPermutation}
+use Rattle.std.proofs.lemmas.List.Sorted.{IsPermutation-refl, IsPermutation-trans, IsPermutation-append_left, IsPermutation-append_right, IsPermutation-append_comm}
+use Rattle.atomic_table.proofs.Lists.{at_set, at_snoc}
+use Rattle.asgi_desk.specs.Channel.{total}
+
+pub some_same : {A : Type 0} (a b : A) → some a ≡ some b → a ≡ b
+some_same a b e = cc
+
+module _ {A : Type 0} where
+  pub same_elements : (xs ys : List A) → xs ≡ ys → IsPermutation xs ys
+  same_elements xs ys e = subst (λ l. IsPermutation xs l) e (IsPermutation-refl xs)
+
+  -- the middle and the last of three change places
+  pub last_first : (xs ys zs : List A) → IsPermutation ((xs ++ ys) ++ zs) ((xs ++ zs) ++ ys)
+  last_first xs ys zs =
+      rw (append_assoc xs ys zs, append_assoc xs zs ys) (IsPermutation-append_right xs (ys ++ zs) (zs ++ ys) (IsPermutation-append_comm ys zs))
+
+  -- the first two of three change places
+  pub second_first : (xs ys zs : List A) → IsPermutation (xs ++ (ys ++ zs)) (ys ++ (xs ++ zs))
+  second_first xs ys zs =
+      rw (← append_assoc xs ys zs, ← append_assoc ys xs zs) (IsPermutation-append_left zs (xs ++ ys) (ys ++ xs) (IsPermutation-append_comm xs ys))
+
+module _ {V A : Type 0} (f : V → List A) where
+  -- one view has more
+  pub flat_more : (views : List V) (port : ℕ) (v w : V) (more : List A) → get_elem? views port ≡ some v → f w ≡ f v ++ more
+      → IsPermutation (flat_map f views ++ more) (flat_map f (set views port w))
+  flat_more [] port v w more at is = absurd (some-ne-none v (sym at))
+  flat_more (x ∷ xs) zero v w more at is =
+      let same = ap f (some_same x v at) in
+      subst (λ (l : List A). IsPermutation ((f x ++ flat_map f xs) ++ more) (l ++ flat_map f xs)) (sym (is ∙ ap (λ (l : List A). l ++ more) (sym same))) (last_first (f x) (flat_map f xs) more)
+  flat_more (x ∷ xs) (suc j) v w more at is =
+      rw (append_assoc (f x) (flat_map f xs) more) (IsPermutation-append_right (f x) (flat_map f xs ++ more) (flat_map f (set xs j w)) (flat_more xs j v w more at is))
+
+  -- one view has the same
+  pub flat_same : (views : List V) (port : ℕ) (v w : V) → get_elem? views port ≡ some v → f w ≡ f v → flat_map f (set views port w) ≡ flat_map f views
+  flat_same [] port v w at is = absurd (some-ne-none v (sym at))
+  flat_same (x ∷ xs) zero v w at is = ap (λ (l : List A). l ++ flat_map f xs) (is ∙ ap f (sym (some_same x v at)))
+  flat_same (x ∷ xs) (suc j) v w at is = ap (λ (l : List A). f x ++ l) (flat_same xs j v w at is)
+
+  -- one view has nothing any more
+  pub flat_less : (views : List V) (port : ℕ) (u spent : V) → get_elem? views port ≡ some u → f spent ≡ []
+      → IsPermutation (flat_map f views) (f u ++ flat_map f (set views port spent))
+  flat_less [] port u spent at none = absurd (some-ne-none u (sym at))
+  flat_less (x ∷ xs) zero u spent at none =
+      same_elements (f x ++ flat_map f xs) (f u ++ (f spent ++ flat_map f xs))
+      (ap (λ (y : V). f y ++ flat_map f xs) (some_same x u at) ∙ ap (λ (l : List A). f u ++ (l ++ flat_map f xs)) (sym none))
+  flat_less (x ∷ xs) (suc j) u spent at none =
+      IsPermutation-trans _ _ _ (IsPermutation-append_right (f x) (flat_map f xs) (f u ++ flat_map f (set xs j spent)) (flat_less xs j u spent at none))
+      (second_first (f x) (f u) (flat_map f (set xs j spent)))
+
+  -- one view takes in what another has
+  pub flat_both : (views : List V) (port : ℕ) (v : V) (other : ℕ) (u both spent : V) → get_elem? views port ≡ some v → ¬ (other ≡ port)
+      → get_elem? (set views port both) other ≡ some u → f both ≡ f v ++ f u → f spent ≡ [] → IsPermutation (flat_map f views) (flat_map f (set (set views port both) other spent))
+  flat_both [] port v other u both spent at two at-2 is none = absurd (some-ne-none v (sym at))
+  flat_both (x ∷ xs) zero v zero u both spent at two at-2 is none = absurd (two refl)
+  flat_both (x ∷ xs) zero v (suc k) u both spent at two at-2 is none =
+      let rest = flat_map f (set xs k spent) in
+      let e : f both ++ rest ≡ f x ++ (f u ++ rest) = ap (λ (l : List A). l ++ rest) (is ∙ ap (λ (y : V). f y ++ f u) (sym (some_same x v at))) ∙ append_assoc (f x) (f u) rest in
+      subst (λ (l : List A). IsPermutation (f x ++ flat_map f xs) l) (sym e) (IsPermutation-append_right (f x) (flat_map f xs) (f u ++ rest) (flat_less xs k u spent at-2 none))
+  flat_both (x ∷ xs) (suc j) v zero u both spent at two at-2 is none =
+      let e : f x ≡ f u = ap f (some_same x u at-2) in
+      let grown : IsPermutation (flat_map f xs ++ f u) (flat_map f (set xs j both)) = flat_more xs j v both (f u) at is in
+      subst (λ (l : List A). IsPermutation (f x ++ flat_map f xs) (l ++ flat_map f (set xs j both))) (sym none)
+      (subst (λ (l : List A). IsPermutation (l ++ flat_map f xs) (flat_map f (set xs j both))) (sym e)
+      (IsPermutation-trans _ _ _ (IsPermutation-append_comm (f u) (flat_map f xs)) grown))
+  flat_both (x ∷ xs) (suc j) v (suc k) u both spent at two at-2 is none =
+      IsPermutation-append_right (f x) (flat_map f xs) (flat_map f (set (set xs j both) k spent))
+      (flat_both xs j v k u both spent at (λ e. two (ap suc e)) at-2 is none)
+
+  -- a new view has nothing
+  pub flat_snoc : (views : List V) (w : V) → f w ≡ [] → flat_map f (views ++ w ∷ []) ≡ flat_map f views
+  flat_snoc [] w none = ap (λ (l : List A). l ++ []) none
+  flat_snoc (x ∷ xs) w none = ap (λ (l : List A). f x ++ l) (flat_snoc xs w none)
+
+module _ {V : Type 0} (f : V → ℕ) where
+  pub total_set : (views : List V) (port : ℕ) (v w : V) → get_elem? views port ≡ some v → total f (set views port w) + f v ≡ total f views + f w
+  total_set [] port v w at = absurd (some-ne-none v (sym at))
+  total_set (x ∷ xs) zero v w at = let e = ap f (some_same x v at) in omega arith
+  total_set (x ∷ xs) (suc j) v w at = let e = total_set xs j v w at in omega arith
+
+  pub total_snoc : (views : List V) (w : V) → total f (views ++ w ∷ []) ≡ total f views + f w
+  total_snoc [] w = omega arith
+  total_snoc (x ∷ xs) w = let e = total_snoc xs w in omega arith
+
+  pub at_le : (views : List V) (port : ℕ) (v : V) → get_elem? views port ≡ some v → f v ≤ total f views
+  at_le [] port v at = absurd (some-ne-none v (sym at))
+  at_le (x ∷ xs) zero v at = let e = ap f (some_same x v at) in omega arith
+  at_le (x ∷ xs) (suc j) v at = let e = at_le xs j v at in omega arith
+
+  -- two views have at most what all have
+  pub both_le : (views : List V) (port other : ℕ) (v u : V) → other ≢ port → get_elem? views port ≡ some v → get_elem? views other ≡ some u → f v + f u ≤ total f views
+  both_le [] port other v u two at at-2 = absurd (some-ne-none v (sym at))
+  both_le (x ∷ xs) zero zero v u two at at-2 = absurd (two refl)
+  both_le (x ∷ xs) zero (suc k) v u two at at-2 = let e = ap f (some_same x v at) in let le = at_le xs k u at-2 in omega arith
+  both_le (x ∷ xs) (suc j) zero v u two at at-2 = let e = ap f (some_same x u at-2) in let le = at_le xs j v at in omega arith
+  both_le (x ∷ xs) (suc j) (suc k) v u two at at-2 = let le = both_le xs j k v u (λ e. two (ap suc e)) at at-2 in omega arith
+
+-- where one view has all of k, it has all of what a view with nothing of k has not
+module _ {V A : Type 0} (k : V → ℕ) (f : V → List A) where
+  no_flat : (views : List V) → total k views ≡ 0 → ((j : ℕ) (u : V) → get_elem? views j ≡ some u → k u ≡ 0 → f u ≡ []) → flat_map f views ≡ []
+  no_flat [] e idle = refl
+  no_flat (x ∷ xs) e idle =
+      let a : f x ≡ [] = idle 0 x refl (omega arith) in
+      let b = no_flat xs (omega arith) (λ j u at. idle (suc j) u at) in ap (λ (l : List A). l ++ flat_map f xs) a ∙ b
+
+  pub sole_flat : (views : List V) (port : ℕ) (v : V) → get_elem? views port ≡ some v → total k views ≡ k v
+      → ((j : ℕ) (u : V) → get_elem? views j ≡ some u → k u ≡ 0 → f u ≡ []) → flat_map f views ≡ f v
+  sole_flat [] port v at e idle = absurd (some-ne-none v (sym at))
+  sole_flat (x ∷ xs) zero v at e idle =
+      let s = some_same x v at in let b = ap k s in
+      let c = no_flat xs (omega arith) (λ j u at. idle (suc j) u at) in
+      ap (λ (l : List A). f x ++ l) c ∙ append-nil (f x) ∙ ap f s
+  sole_flat (x ∷ xs) (suc j) v at e idle =
+      let le = at_le k xs j v at in let a : f x ≡ [] = idle 0 x refl (omega arith) in
+      let b = sole_flat xs j v at (omega arith) (λ j u at. idle (suc j) u at) in ap (λ (l : List A). l ++ flat_map f xs) a ∙ b
+
+-- what holds of each view
+module _ {V : Type 0} (P : V → Type 0) where
+  pub each_set : (views : List V) (port : ℕ) (w : V) → P w → ((j : ℕ) (v : V) → j ≢ port → get_elem? views j ≡ some v → P v)
+      → (j : ℕ) (v : V) → get_elem? (set views port w) j ≡ some v → P v
+  each_set views port w mine others j u e = ⊎_elim
+      (λ (x : (j ≡ port) × (w ≡ u)). subst P x.1 mine)
+      (λ (x : (j ≢ port) × (get_elem? views j ≡ some u)). others j u x.0 x.1) (at_set views port j w u e)
+
+  pub each_snoc : (views : List V) (w : V) → P w → ((j : ℕ) (v : V) → get_elem? views j ≡ some v → P v)
+      → (j : ℕ) (v : V) → get_elem? (views ++ w ∷ []) j ≡ some v → P v
+  each_snoc views w mine all j u e = ⊎_elim
+      (λ (x : get_elem? views j ≡ some u). all j u x)
+      (λ (is : w ≡ u). subst P is mine) (at_snoc views w u j e)
+
+  pub each_one : (w : V) → P w → (j : ℕ) (v : V) → get_elem? (w ∷ []) j ≡ some v → P v
+  each_one w mine zero v e = subst P (some_same w v e) mine
+  each_one w mine (suc j) v e = absurd (some-ne-none v (sym e))

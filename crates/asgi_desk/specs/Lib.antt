@@ -1,0 +1,5 @@
+pub mod Book
+pub mod Channel
+pub mod Heap
+pub mod Seat
+pub mod Told

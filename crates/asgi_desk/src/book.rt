@@ -1,0 +1,119 @@
+//! The one book of a desk: who has it in hand may tell.
+ghost use Rattle.std.specs.Prelude.{◌≡◌, ℕ, ◌≤◌, [], ◌∷◌, ◌++◌, length, vec_len, vec_capacity};
+ghost use Rattle.std.specs.List.Sorted.{IsPermutation};
+ghost use Rattle.asgi_desk.specs.Book.{told_of, waiting_of, all_of, added, Keeps, IsKept};
+
+use crate::done::Done;
+use crate::place::Place;
+use crate::teller::Teller;
+use crate::waiting::{Entry, Waiting, merged};
+use std::mem;
+use std::snapshot::Snapshot;
+
+/// The report that was handed in last. It has no bytes of its own.
+#[derive(Drop)]
+pub enum Last<N> {
+    /// None was handed in.
+    Unused,
+    /// This one.
+    Put(Snapshot<(u64, N)>),
+}
+
+/// How many reports were told, these, those that wait, and the teller.
+#[derive(Drop)]
+pub struct Book<N: Drop, T: Drop> {
+    pub(crate) count: u64,
+    pub(crate) told: Done<N>,
+    pub(crate) waiting: Waiting<N>,
+    pub(crate) teller: T,
+    pub(crate) last: Last<N>,
+}
+
+impl<N: Drop, T: Teller<N> + Drop> Book<N, T> {
+    /// A book with no report.
+    pub(crate) fn new(teller: T) -> Book<N, T>
+        ensures none { (all_of result ≡ []) × (result.teller ≡ teller) }
+        ensures kept { IsKept T.tells teller result }
+    {
+        Book {
+            count: 0,
+            told: Done::Nothing,
+            waiting: Waiting::Empty,
+            teller,
+            last: Last::Unused,
+        }
+    }
+
+    /// Takes the report in, to wait.
+    fn add(&mut self, number: u64, report: N, place: Place<N>)
+        ensures all { IsPermutation (all_of self.old ++ (number, report) ∷ []) (all_of self.new) }
+        ensures last { added self.new ≡ (number, report) ∷ [] }
+        ensures keeps { (was : T) → Keeps T.tells was self.old → Keeps T.tells was self.new }
+    {
+        let put = (number, report);
+        self.last = Last::Put(Snapshot::of(&put));
+        let (number, report) = put;
+        let one = Waiting::one(number, report, place);
+        let others = mem::replace(&mut self.waiting, Waiting::Empty);
+        self.waiting = merged(others, one);
+    }
+
+    /// Tells one report, whose turn it is.
+    fn tell(&mut self, entry: Entry<N>)
+        ensures told { told_of self.new.told ≡ told_of self.old.told ++ (entry.number, entry.report) ∷ [] }
+        ensures tells { T.tells self.old.teller self.new.teller entry.number entry.report }
+        ensures count { self.new.count ≡ entry.number }
+        ensures same { (self.new.waiting ≡ self.old.waiting) × (self.new.last ≡ self.old.last) }
+    {
+        let Entry {
+            number,
+            report,
+            place,
+        } = entry;
+        self.teller.tell(number, &report);
+        self.told.push(number, report, place);
+        self.count = number;
+    }
+
+    /// Tells each report whose turn it is, in order.
+    fn tell_due(&mut self)
+        ensures all { IsPermutation (all_of self.old) (all_of self.new) }
+        ensures last { added self.new ≡ added self.old }
+        ensures kept { (was : T) → Keeps T.tells was self.old → IsKept T.tells was self.new }
+    {
+        loop {
+            let count = self.count;
+            let Some(entry) = self.waiting.take_due(count) else {
+                return;
+            };
+            self.tell(entry);
+        }
+    }
+
+    /// Takes the report in, and tells each whose turn it is.
+    pub(crate) fn hand_in(&mut self, number: u64, report: N, place: Place<N>)
+        ensures all { IsPermutation (all_of self.old ++ added self.new) (all_of self.new) }
+        ensures last { added self.new ≡ (number, report) ∷ [] }
+        ensures kept { (was : T) → Keeps T.tells was self.old → IsKept T.tells was self.new }
+    {
+        self.add(number, report, place);
+        self.tell_due();
+    }
+
+    /// The teller, and the reports that were told, in order.
+    pub(crate) fn into_told(self, mut all: Vec<(u64, N)>) -> (T, Vec<(u64, N)>)
+        requires { (all.items ≡ []) × (length (told_of self.told) ≤ vec_capacity all) }
+        ensures { (result.0 ≡ self.teller) × (result.1.items ≡ told_of self.told) }
+    {
+        let Book {
+            count: _count,
+            told,
+            waiting: _waiting,
+            teller,
+            last: _last,
+        } = self;
+        told.put_into(&mut all);
+        all.reverse();
+        (teller, all)
+    }
+}

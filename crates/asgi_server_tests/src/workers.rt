@@ -1,0 +1,150 @@
+//! Many connections, by many workers at the same time.
+use crate::queue::{End, is_reported, serve_feed};
+use asgi_apps::{AppFault, AppTask, Application, Hello};
+use asgi_conn::{Host, Outcome, Report};
+use asgi_fakes::texts::{GET, HELLO};
+use asgi_fakes::{Said, Scripted, ScriptedTask, Step};
+use asgi_pipes::AppEnd;
+use asgi_types::{BadLimit, Limits, Scope, State};
+use futures::task::{Context, Poll};
+use std::alloc::{AllocError, Global};
+use std::sync::Arc;
+use std::sync::atomic::{AtomicU64, Ordering};
+use std::test::Fail;
+
+/// What `Hello` says.
+const GREETS: Scripted = Scripted(&[
+    Step::Says(Said::Start(200, &[("content-type", "text/plain")])),
+    Step::Says(Said::Last("hello\n")),
+]);
+
+/// Answers as `Hello` once so many tasks have been polled.
+#[derive(Drop)]
+struct Gathers {
+    need: u64,
+    polled: Arc<AtomicU64, Global>,
+}
+
+#[derive(Drop)]
+struct GathersTask {
+    need: u64,
+    polled: Arc<AtomicU64, Global>,
+    is_counted: bool,
+    greets: ScriptedTask,
+}
+
+impl Application for Gathers {
+    type Task = GathersTask;
+
+    fn call(&self, alloc: Global, scope: &Scope) -> Result<GathersTask, AppFault> {
+        Ok(GathersTask {
+            need: self.need,
+            polled: Arc::try_clone(&self.polled)?,
+            is_counted: false,
+            greets: GREETS.call(alloc, scope)?,
+        })
+    }
+}
+
+impl AppTask for GathersTask {
+    fn poll<E: AppEnd>(&mut self, cx: &mut Context<'_>, end: &mut E) -> Poll<Result<(), AppFault>> {
+        if !self.is_counted {
+            self.is_counted = true;
+            self.polled.fetch_add(1, Ordering::SeqCst);
+        }
+        if self.polled.load(Ordering::SeqCst) < self.need {
+            return cx.yield_now();
+        }
+        self.greets.poll(cx, end)
+    }
+
+    ghost keeps = { λ _ _ _ _ _. tt };
+}
+
+/// So many empty texts.
+fn texts_of(alloc: Global, count: usize) -> Result<Vec<Vec<u8>>, AllocError> {
+    let mut texts = Vec::new(alloc);
+    for _ in 0..count {
+        texts.push(Vec::new(alloc))?;
+    }
+    Ok(texts)
+}
+
+/// Whether each report is of one finished exchange, so many of them, numbered from 1.
+fn are_finished(reports: &[(u64, Report)], count: usize) -> bool {
+    let mut next = 0;
+    for (number, report) in reports {
+        next += 1;
+        if *number != next as u64 || report.exchanges != 1 || report.outcome != Outcome::Finished {
+            return false;
+        }
+    }
+    next == count
+}
+
+/// How many connections there are, and how many workers.
+const ROWS: [(usize, u64); 8] = [
+    (0, 1),
+    (0, 8),
+    (1, 8),
+    (2, 1),
+    (8, 8),
+    (17, 5),
+    (20, 3),
+    (40, 2),
+];
+
+#[test]
+fn each_connection_is_served_once_by_so_many_workers(rt: HostRuntime) -> Result<(), Fail> {
+    let state = State::new(rt.alloc());
+    let limits = Limits::usual();
+    for (count, workers) in ROWS {
+        let mut texts = texts_of(rt.alloc(), count)?;
+        let reports = serve_feed(&rt, &Hello, &state, &[GET], &mut texts, &limits, workers)?;
+        let answered = texts.iter().all(|text| text.as_slice() == HELLO);
+        assert!(rt;
+            are_finished(&reports, count) && answered,
+            "{count} by {workers}"
+        );
+    }
+    Ok(())
+}
+
+/// Limits that give an exchange up behind so many idle turns.
+fn patient(idle_turns: u32) -> Result<Limits, BadLimit> {
+    Limits::new(16_384, 64, 1 << 20, 16_384, 16, idle_turns, 1 << 40)
+}
+
+/// So many connections at a gate that opens once as many tasks have been polled: how they end.
+fn gathered<H: Host + Sync>(
+    rt: &H,
+    count: usize,
+    workers: u64,
+    idle_turns: u32,
+    ends: &[End],
+) -> Result<bool, Fail> {
+    let state = State::new(rt.alloc());
+    let app = Gathers {
+        need: count as u64,
+        polled: Arc::new(rt.alloc(), AtomicU64::new(0))?,
+    };
+    let limits = patient(idle_turns)?;
+    let mut texts = texts_of(rt.alloc(), count)?;
+    let reports = serve_feed(rt, &app, &state, &[GET], &mut texts, &limits, workers)?;
+    Ok(is_reported(&reports, ends))
+}
+
+const ONE: End = (Outcome::Finished, 1);
+
+#[test]
+fn as_many_are_served_at_once_as_there_are_workers(rt: HostRuntime) -> Result<(), Fail> {
+    assert!(rt; gathered(&rt, 2, 2, 30_000, &[ONE; 2])?);
+    assert!(rt; gathered(&rt, 8, 8, 30_000, &[ONE; 8])?);
+    Ok(())
+}
+
+#[test]
+fn one_worker_gives_up_what_needs_two(rt: HostRuntime) -> Result<(), Fail> {
+    assert!(rt; gathered(&rt, 2, 1, 150, &[(Outcome::Idle, 1), ONE])?);
+    Ok(())
+}
