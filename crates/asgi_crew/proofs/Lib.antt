@@ -1,5 +1,4 @@
 pub mod Flat
 pub mod Given
 pub mod Moves
-pub mod Numbers
 pub mod Turns
