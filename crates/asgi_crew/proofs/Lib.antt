@@ -1,4 +1,5 @@
 pub mod Flat
 pub mod Given
 pub mod Moves
+pub mod Seen
 pub mod Turns
