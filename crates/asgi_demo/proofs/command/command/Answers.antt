@@ -10,9 +10,9 @@ pub returns-in-None-clause-once : goal.returns-in-None-clause-once
 returns-in-None-clause-once g c = λ a is. absurd (c.in-None.ensures.none (Once a) is)
 
 pub returns-in-None-clause-serves_port : goal.returns-in-None-clause-serves_port
-returns-in-None-clause-serves_port g c = λ a is. absurd (c.in-None.ensures.none (Serve is.0 is.1 a) is.2)
+returns-in-None-clause-serves_port g c = λ a n is. absurd (c.in-None.ensures.none (Serve is.0 is.1 a is.2) is.3)
 
 pub returns-in-Some-Serve-clause-serves_port : goal.returns-in-Some-Serve-clause-serves_port
-returns-in-Some-Serve-clause-serves_port g c = λ a is.
-    port_asked g.N.L.Reads g.N.L.Counts g.N.L.Messages (map string_bytes c.args.words.now) a c.in-Some-Serve.app c.in-Some-Serve.port c.in-Some-Serve.count _ _ _ _ _ _ _ _ c.in-Some-Serve.field-0
+returns-in-Some-Serve-clause-serves_port g c = λ a n is.
+    port_asked g.M.Reads g.M.Counts g.M.Messages (map string_bytes c.args.words.now) a c.in-Some-Serve.app c.in-Some-Serve.port c.in-Some-Serve.count n c.in-Some-Serve.workers _ _ _ _ _ _ _ _ c.in-Some-Serve.field-0
     is c.in-Some-Serve.ensures.some c.in-Some-Serve.field-0-is c.listen_on.ensures c.serve_by.ensures
