@@ -72,14 +72,14 @@ fn texts_of(alloc: Global, count: usize) -> Result<Vec<Vec<u8>>, AllocError> {
 
 /// Whether each report is of one finished exchange, so many of them, numbered from 1.
 fn are_finished(reports: &[(u64, Report)], count: usize) -> bool {
-    let mut next = 0;
+    let mut next = 0_u64;
     for (number, report) in reports {
-        next += 1;
-        if *number != next as u64 || report.exchanges != 1 || report.outcome != Outcome::Finished {
+        next = next.saturating_add(1);
+        if *number != next || report.exchanges != 1 || report.outcome != Outcome::Finished {
             return false;
         }
     }
-    next == count
+    reports.len() == count
 }
 
 /// How many connections there are, and how many workers.
