@@ -81,10 +81,10 @@ fn serve_by_two(words: &[String]) -> Option<Command>
     ensures some { IfSome result (λ command. IsServe (map string_bytes words.now) command) }
     ensures none { IfNone result ((command : Command) → ¬ (IsServe (map string_bytes words.now) command)) }
 {
-    let [serve, port, count, name] = words else {
+    let [first, port, count, name] = words else {
         return None;
     };
-    if serve.as_str() != "serve" {
+    if first.as_str() != "serve" {
         return None;
     }
     serve_with(port.as_str(), count.as_str(), name.as_str(), Workers::new(USUAL)?)
