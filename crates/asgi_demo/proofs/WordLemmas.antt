@@ -1,12 +1,13 @@
 -- Two words and their texts.
 use Rattle.std.proofs.Common.{◌≡◌, ◌∙◌, ap, sym, ℕ, zero, suc, ◌+◌, ◌<◌, ◌≤◌, Bool, true, false, List, [], ◌∷◌, length, get_or, map, refl, arith, Option, Some, None, IfSome, IfNone, subst, if◌then◌else◌}
-use Rattle.std.specs.Prelude.{bytes_eq, codes, not}
+use Rattle.std.specs.Prelude.{bytes_eq, codes, not, nat_le, ◌&&◌}
 use Rattle.asgi_demo.specs.declared.words.App.{App}
 use Rattle.asgi_demo.specs.declared.words.App.TheVariants as app
 use Rattle.asgi_demo.specs.declared.words.Command.{Command}
 use Rattle.asgi_demo.specs.declared.words.Command.TheVariants.{Once, Serve}
 use Rattle.asgi_demo.specs.Words.{word_of, number_of_word, number_in, within, workers_of, Asks, IsOnce, IsServe, IsServeWith}
 use Rattle.asgi_crew.specs.declared.workers.Workers.{Workers}
+use Rattle.std.proofs.lemmas.Bool.Decides.{nat_tests}
 use Rattle.std.proofs.lemmas.List.{length-map}
 use Rattle.std.proofs.lemmas.Slice.Eq.{bytes_eq-Decides}
 
@@ -154,6 +155,13 @@ pub no_command : (words : List (List ℕ)) (found : Option Command) → ((a : Ap
 no_command words (Some it) once serve = serve
 no_command words None once serve = asks_nothing words once serve
 
+-- words that ask to serve one connection name one application
+pub one_once : (words : List (List ℕ)) (a b : App) → IsOnce words a → IsOnce words b → a ≡ b
+one_once words a b is is' =
+    let same : codes "once" ∷ word_of a ∷ [] ≡ codes "once" ∷ word_of b ∷ [] = sym is ∙ is' in
+    let named_so : word_of a ≡ word_of b = cc in
+    one_name a b named_so
+
 -- words that ask to serve name one application and one number of workers
 pub one_serving : (words : List (List ℕ)) (a b : App) (p c q d : ℕ) (w v : Workers) → IsServe words (Serve p c a w) → IsServe words (Serve q d b v) → (a ≡ b) × (w.count ≡ v.count)
 one_serving words a b p c q d w v (port, count, name, rest, n, is, of, with_these) (port', count', name', rest', m, is', of', with_others) =
@@ -164,10 +172,15 @@ one_serving words a b p c q d w v (port, count, name, rest, n, is, of, with_thes
     let as_many : n ≡ m = cc in
     (one_name a b (sym with_these.2 ∙ named_so ∙ with_others.2), with_these.3 ∙ as_many ∙ sym with_others.3)
 
+bounds_of : (n k : ℕ) (b c : Bool) → nat_le 1 k ≡ b → nat_le k 8 ≡ c → ◌≡◌ {A = Option ℕ} (if b && c then Some k else None) (Some n) → (0 < n) × (n ≤ 8)
+bounds_of n k true true x y is = let same : k ≡ n = cc in (grind (arith, nat_tests), grind (arith, nat_tests))
+bounds_of n k true false x y is = cc
+bounds_of n k false c x y is = cc
+
 -- a number within these bounds is one of workers
 pub no_number : (word : List ℕ) (n : ℕ) → number_in 1 8 word ≡ Some n → (0 < n) × (n ≤ 8)
 no_number word n is = by (number_of_word word) is
   where
     by : (found : Option ℕ) → within 1 8 found ≡ Some n → (0 < n) × (n ≤ 8)
     by None is = cc
-    by (Some k) is = ?
+    by (Some k) is = bounds_of n k (nat_le 1 k) (nat_le k 8) refl refl is

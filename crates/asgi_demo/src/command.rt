@@ -44,14 +44,7 @@ pub fn command<
     N: Listens + Listener<L = M> + Send,
     W: Counts + Send,
     E: Counts,
->(
-    rt: &H,
-    words: &[String],
-    line: &mut L,
-    listener: &mut N,
-    output: &mut W,
-    errors: &mut E,
-) -> u8
+>(rt: &H, words: &[String], line: &mut L, listener: &mut N, output: &mut W, errors: &mut E) -> u8
     ensures serves { (app : App) → IsOnce (map string_bytes words.now) app → (
         let before = streams (state_of L.Reads L.Counts L.Messages.own line.old) (writer (E.written errors.old) (E.answers errors.old) (E.failed errors.old)) in
         let after = streams (state_of L.Reads L.Counts L.Messages.own line.new) (writer (E.written errors.new) (E.answers errors.new) (E.failed errors.new)) in
@@ -71,12 +64,14 @@ pub fn command<
     match command_of(words) {
         None => usage(errors),
         Some(Command::Once(app)) => once_by(rt, app, line, errors),
-        Some(Command::Serve {
-            port,
-            count,
-            app,
-            workers,
-        }) => {
+        Some(
+            Command::Serve {
+                port,
+                count,
+                app,
+                workers,
+            },
+        ) => {
             listener.listen_on(port, count);
             serve_by(rt, app, workers, listener, output, errors)
         }
@@ -116,14 +111,7 @@ fn serve_by<
     N: Accepts + Listener<L = L> + Send,
     W: Counts + Send,
     E: Counts,
->(
-    rt: &H,
-    app: App,
-    workers: Workers,
-    listener: &mut N,
-    output: &mut W,
-    errors: &mut E,
-) -> u8
+>(rt: &H, app: App, workers: Workers, listener: &mut N, output: &mut W, errors: &mut E) -> u8
     ensures { ServesPort L.Reads L.Counts L.Messages.own (promise app) workers.count (N.has_failed listener.new)
         (around (N.Listener.own.answers listener.old) (writer (W.written output.old) (W.answers output.old) (W.failed output.old)))
         (around (N.Listener.own.answers listener.new) (writer (W.written output.new) (W.answers output.new) (W.failed output.new)))
@@ -141,8 +129,24 @@ fn serve_by<
             Err(_) => device_fault(errors),
         },
         App::Life => serve_on(rt, &limits, workers, &Life::Works, listener, output, errors),
-        App::NoStart => serve_on(rt, &limits, workers, &Life::NoStart, listener, output, errors),
-        App::NoStop => serve_on(rt, &limits, workers, &Life::NoStop, listener, output, errors),
+        App::NoStart => serve_on(
+            rt,
+            &limits,
+            workers,
+            &Life::NoStart,
+            listener,
+            output,
+            errors,
+        ),
+        App::NoStop => serve_on(
+            rt,
+            &limits,
+            workers,
+            &Life::NoStop,
+            listener,
+            output,
+            errors,
+        ),
     }
 }
 

@@ -23,8 +23,8 @@ impl<'a, W: Counts> Teller<Report> for Printer<'a, W> {
 
     ghost tells = { λ was is number report. (is.output.ghost_name ≡ was.output.ghost_name)
         × PutsNext was.told (report_line (number, report))
-            (writer (W.written was.output.now) (W.answers was.output.now) (W.failed was.output.now))
-            (writer (W.written is.output.now) (W.answers is.output.now) (W.failed is.output.now)) is.told };
+        (writer (W.written was.output.now) (W.answers was.output.now) (W.failed was.output.now))
+        (writer (W.written is.output.now) (W.answers is.output.now) (W.failed is.output.now)) is.told };
 
     fn tell(&mut self, number: u64, report: &Report) {
         self.told = print_next(self.told, number, report, &mut *self.output);

@@ -1,5 +1,5 @@
 //! The server: its lifespan, its connections, and how it ended.
-ghost use Rattle.std.specs.Prelude.{◌≡◌, ◌&&◌, ◌==◌, not, All, vec_len};
+ghost use Rattle.std.specs.Prelude.{◌≡◌, ◌&&◌, not, true, All, vec_len};
 ghost use Rattle.asgi_demo.specs.Serving.{LivesOrNot, ServesEach, ServesOn, around, ending_of, gave_all};
 ghost use Rattle.asgi_demo.specs.Telling.{writer};
 ghost use Rattle.asgi_types.specs.declared.limits.Limits.{Limits};
@@ -148,10 +148,46 @@ fn serve_each<
         (around (N.Listener.own.answers listener.new) (writer (W.written output.new) (W.answers output.new) (W.failed output.new)))
         result }
 {
+    let lent = &mut *output;
     let printer = Printer {
-        output: &mut *output,
+        output: lent,
         told: true,
     };
+    let (well, printer) = serve_printing(rt, limits, workers, state, app, listener, list, printer);
+    let Printer {
+        output: lent,
+        told: _told,
+    } = printer;
+    keep(lent);
+    well
+}
+
+/// The same by a printer of the lines, which comes back.
+fn serve_printing<
+    'a,
+    H: Host + Sync,
+    T: AppTask + Send + 'static,
+    A: Application<Task = T> + Send + Sync,
+    L: Line + Drop + Send,
+    N: Accepts + Listener<L = L> + Send,
+    W: Counts + Send,
+>(
+    rt: &H,
+    limits: &Limits,
+    workers: Workers,
+    state: &State,
+    app: &A,
+    listener: &mut N,
+    list: Vec<BesideStation<T, H>>,
+    printer: Printer<'a, W>,
+) -> (bool, Printer<'a, W>)
+    requires { (vec_len list ≡ workers.count) × All (λ s. s.pause.count ≡ 0) list.items × (printer.told ≡ true) }
+    ensures served { ServesEach L.Reads L.Counts L.Messages.own (A.answers app.now) limits.now workers.count (N.has_failed listener.new) state.now
+        (around (N.Listener.own.answers listener.old) (writer (W.written printer.entry.output.now) (W.answers printer.entry.output.now) (W.failed printer.entry.output.now)))
+        (around (N.Listener.own.answers listener.new) (writer (W.written result.1.output.now) (W.answers result.1.output.now) (W.failed result.1.output.now)))
+        result.0 }
+    ensures same { result.1.output.ghost_name ≡ printer.entry.output.ghost_name }
+{
     let Shared {
         reports: _reports,
         workers: list,
@@ -159,9 +195,8 @@ fn serve_each<
         end,
     } = serve_all(rt, limits, state, app, listener, workers, list, printer);
     end_stations(list);
-    let Printer { output, told } = teller;
-    keep(output);
-    is_well(end, told, listener.failed())
+    let well = is_well(end, teller.told, listener.failed());
+    (well, teller)
 }
 
 /// Whether all went well, by why no more connections were asked for, whether each line went out and whether the

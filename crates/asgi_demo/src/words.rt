@@ -1,5 +1,5 @@
 //! The words behind the program's name.
-ghost use Rattle.std.specs.Prelude.{◌≡◌, IfSome, IfNone, Some, None, ℕ, map, string_bytes, slice_len};
+ghost use Rattle.std.specs.Prelude.{◌≡◌, IfSome, IfNone, Some, None, ℕ, map, string_bytes, length};
 ghost use Rattle.asgi_demo.specs.Words as spec;
 ghost use Rattle.asgi_demo.specs.Words.{Asks, IsOnce, IsServe};
 
@@ -77,7 +77,7 @@ fn serve_of(words: &[String]) -> Option<Command>
 
 /// The same of four words.
 fn serve_by_two(words: &[String]) -> Option<Command>
-    requires { slice_len words.now ≡ 4 }
+    requires { length words.now ≡ 4 }
     ensures some { IfSome result (λ command. IsServe (map string_bytes words.now) command) }
     ensures none { IfNone result ((command : Command) → ¬ (IsServe (map string_bytes words.now) command)) }
 {
@@ -87,12 +87,17 @@ fn serve_by_two(words: &[String]) -> Option<Command>
     if first.as_str() != "serve" {
         return None;
     }
-    serve_with(port.as_str(), count.as_str(), name.as_str(), Workers::new(USUAL)?)
+    serve_with(
+        port.as_str(),
+        count.as_str(),
+        name.as_str(),
+        Workers::new(USUAL)?,
+    )
 }
 
 /// The same of five words.
 fn serve_by(words: &[String]) -> Option<Command>
-    requires { slice_len words.now ≡ 5 }
+    requires { length words.now ≡ 5 }
     ensures some { IfSome result (λ command. IsServe (map string_bytes words.now) command) }
     ensures none { IfNone result ((command : Command) → ¬ (IsServe (map string_bytes words.now) command)) }
 {
@@ -123,12 +128,12 @@ fn serve_with(port: &str, count: &str, name: &str, workers: Workers) -> Option<C
 }
 
 /// The number of workers in a word.
+#[tactic(auto, using(crate::proofs::WordLemmas::no_number))]
 fn workers_in(word: &str) -> Option<Workers>
     ensures some { IfSome result (λ workers. spec.number_in 1 8 word.now ≡ Some workers.count) }
     ensures none { IfNone result (spec.number_in 1 8 word.now ≡ None) }
 {
-    let number = number_in(1, 8, word)?;
-    Workers::new(number)
+    Workers::new(number_in(1, 8, word)?)
 }
 
 /// The number that a word of 1 to 5 digits writes, where it is within these bounds.

@@ -320,7 +320,13 @@ const SERVERS: &[Row] = &[
         b"",
         b"",
     ),
-    (&["serve", "08000", "0001", "life", "8"], REQUEST, 0, b"", b""),
+    (
+        &["serve", "08000", "0001", "life", "8"],
+        REQUEST,
+        0,
+        b"",
+        b"",
+    ),
     (
         &["serve", "08000", "0001", "nostart"],
         REQUEST,
