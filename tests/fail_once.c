@@ -1,7 +1,8 @@
-// A library for LD_PRELOAD: the first calls of a kind fail, as a system does at a bad moment.
+// A library for LD_PRELOAD: some calls of a kind fail, as a system does at a bad moment.
 //
 // FAIL_CALL names the call: accept, setsockopt (where it asks for TCP_NODELAY), getsockname, or pthread_create. FAIL_ERROR is the
-// number of its error, and FAIL_TIMES how many calls fail, 1 where it is not there.
+// number of its error, FAIL_TIMES how many calls fail, 1 where it is not there, and FAIL_AFTER behind how many, 0 where it is not
+// there.
 #define _GNU_SOURCE
 #include <dlfcn.h>
 #include <errno.h>
@@ -12,12 +13,19 @@
 #include <string.h>
 #include <sys/socket.h>
 
-static long made;
+static long made, passed;
 
 static int fails(const char *call)
 {
     const char *name = getenv("FAIL_CALL"), *times = getenv("FAIL_TIMES"), *error = getenv("FAIL_ERROR");
-    if (!name || !error || strcmp(name, call) != 0 || made >= (times ? atol(times) : 1))
+    const char *after = getenv("FAIL_AFTER");
+    if (!name || !error || strcmp(name, call) != 0)
+        return 0;
+    if (after && passed < atol(after)) {
+        passed++;
+        return 0;
+    }
+    if (made >= (times ? atol(times) : 1))
         return 0;
     made++;
     errno = atoi(error);

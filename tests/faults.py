@@ -55,9 +55,9 @@ PING = b"\x89\xfd" + bytes(4) + bytes(125)
 class Failing(Server):
     """A server some of whose calls fail."""
 
-    def __init__(self, app, count=1, call="", error=0, times=1):
-        given = {"LD_PRELOAD": LIBRARY, "FAIL_CALL": call, "FAIL_ERROR": str(error), "FAIL_TIMES": str(times)}
-        super().__init__(app, count, env=given)
+    def __init__(self, app, count=1, call="", error=0, times=1, after=0, workers=None):
+        given = {"LD_PRELOAD": LIBRARY, "FAIL_CALL": call, "FAIL_ERROR": str(error), "FAIL_TIMES": str(times), "FAIL_AFTER": str(after)}
+        super().__init__(app, count, env=given, workers=workers)
 
 
 def ask(server):
@@ -128,14 +128,15 @@ class Faults(unittest.TestCase):
         with Failing("hello", 1, "getsockname", errno.ENOBUFS) as server:
             self.assertEqual(asked(server), SERVED)
 
-    def test_a_thread_that_is_refused_is_told_of_its_connection_alone(self):
-        for times in (1, 3):
-            with self.subTest(times=times), Failing("hello", times + 1, "pthread_create", errno.EAGAIN, times) as server:
-                for _ in range(times):
-                    self.assertEqual(ask(server), b"")
-                self.assertTrue(is_greeted(ask(server)))
-                lines = [f"{number} 0 no-thread" for number in range(1, times + 1)]
-                self.assertEqual(server.ended(), ([*lines, f"{times + 1} 1 finished"], "", 0))
+    def test_a_thread_that_is_refused_ends_the_server_before_a_connection(self):
+        # A thread for the tasks of each worker, and then one for each worker.
+        for workers in (1, 2, 8):
+            for after in range(2 * workers):
+                with self.subTest(workers=workers, after=after):
+                    with Failing("life", 1, "pthread_create", errno.EAGAIN, after=after, workers=workers) as server:
+                        self.assertEqual(asked(server), ENDED)
+            with self.subTest(workers=workers), Failing("hello", 1, "pthread_create", errno.EAGAIN, after=2 * workers, workers=workers) as server:
+                self.assertEqual(asked(server), SERVED)
 
     def test_descriptors_that_come_back_are_used(self):
         with Server("hello", 2) as server:

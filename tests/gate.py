@@ -35,6 +35,7 @@ PARTS = [
     ("tests from outside", ["python3", "tests/sessions.py", PROGRAM]),
     ("tests from outside", ["python3", "tests/servers.py", PROGRAM]),
     ("tests from outside", ["python3", "tests/faults.py", PROGRAM]),
+    ("tests from outside", ["python3", "tests/many.py", PROGRAM]),
     ("tests from outside", ["python3", "tests/keys.py", KEYS]),
     ("further edits refused", ["python3", "tests/must_fail.py", "--beside"]),
 ]

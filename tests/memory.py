@@ -53,7 +53,7 @@ ANSWERED = (
     b"sec-websocket-accept: s3pPLMBiTxaQ9kYGzzhZRbK+xOo=\r\n\r\n"
     b"\x81\x05Hello\x82\x02ab\x8a\x01p\x88\x03\x03\xe8r"
 )
-USAGE = b"usage: asgi_demo once APP | asgi_demo serve PORT COUNT APP\n"
+USAGE = b"usage: asgi_demo once APP | asgi_demo serve PORT COUNT APP [WORKERS]\n"
 FIELDS = b"".join(b"x-%d: %s\r\n" % (number, b"v" * 100) for number in range(40))
 # The words, the input, and the whole answer: the status, the output and the errors.
 RUNS = [

@@ -27,7 +27,7 @@ ECHO_HEAD = b"HTTP/1.1 200 OK\r\ncontent-type: application/octet-stream\r\ntrans
 LAST_CHUNK = b"0\r\n\r\n"
 CONTINUE = b"HTTP/1.1 100 Continue\r\n\r\n"
 NOT_FOUND = b"HTTP/1.1 404 Not Found\r\ncontent-length: 0\r\n\r\n"
-USAGE = b"usage: asgi_demo once APP | asgi_demo serve PORT COUNT APP\n"
+USAGE = b"usage: asgi_demo once APP | asgi_demo serve PORT COUNT APP [WORKERS]\n"
 
 
 def refusal(status):

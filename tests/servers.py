@@ -79,10 +79,10 @@ def wait_for(what, why):
 class Server:
     """The program, which serves so many connections, and then ends by itself."""
 
-    def __init__(self, app, count=1, port=None, zeros=0, env=None):
+    def __init__(self, app, count=1, port=None, zeros=0, env=None, workers=None):
         self.port = port or free_port()
         self.url = f"http://127.0.0.1:{self.port}/"
-        words = [PROGRAM, "serve", f"{self.port:0{zeros}}", f"{count:0{zeros}}", app]
+        words = [PROGRAM, "serve", f"{self.port:0{zeros}}", f"{count:0{zeros}}", app, *([str(workers)] if workers else [])]
         pipes = {"stdin": subprocess.DEVNULL, "stdout": subprocess.PIPE, "stderr": subprocess.PIPE}
         self.ran = subprocess.Popen(words, env={**os.environ, **(env or {})}, **pipes)
 
@@ -163,13 +163,18 @@ class Program(unittest.TestCase):
     """What the program prints, and its status."""
 
     def test_wrong_words_give_the_usage_text(self):
-        usage = b"usage: asgi_demo once APP | asgi_demo serve PORT COUNT APP\n"
+        usage = b"usage: asgi_demo once APP | asgi_demo serve PORT COUNT APP [WORKERS]\n"
         port = str(free_port())
         for words in (
             [],
             ["serve"],
             ["serve", port, "1"],
             ["serve", port, "1", "hello", "more"],
+            ["serve", port, "1", "hello", "0"],
+            ["serve", port, "1", "hello", "9"],
+            ["serve", port, "1", "hello", "-1"],
+            ["serve", port, "1", "hello", ""],
+            ["serve", port, "1", "hello", "2", "2"],
             ["serve", "0", "1", "hello"],
             ["serve", "65536", "1", "hello"],
             ["serve", "080000", "1", "hello"],

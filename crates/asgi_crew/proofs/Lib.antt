@@ -1,5 +1,5 @@
 pub mod Flat
 pub mod Given
 pub mod Moves
-pub mod Numbers
+pub mod Seen
 pub mod Turns

@@ -1,15 +1,34 @@
 -- What is known of workers, one after another.
-use Rattle.std.proofs.Common.{◌≡◌, ℕ, List, [], ◌∷◌, ◌++◌, length, map, refl, sym, ap, ◌∙◌, subst, append_assoc, append-nil, flat_map, Option, Some, Result, Ok, Err, IsOk, is_ok, if◌then◌else◌, All, arith}
-use Rattle.std.specs.List.Sorted.{IsPermutation, IsNonDecreasingBy}
+use Rattle.std.proofs.Common.{◌≡◌, ℕ, List, [], ◌∷◌, ◌++◌, ◌+◌, length, map, refl, sym, ap, ◌∙◌, subst, append-nil, flat_map, Option, Some, All, ◌<◌, arith}
+use Rattle.std.specs.List.{range_with_len}
+use Rattle.std.specs.List.Sorted.{IsPermutation}
 use Rattle.std.proofs.lemmas.List.{map-append, length-map}
 use Rattle.std.proofs.lemmas.List.Concat.{flat_map-append}
 use Rattle.std.proofs.lemmas.List.Elements.{All-nil, All-cons, All-push, All-head, All-tail}
-use Rattle.std.proofs.lemmas.List.Sorted.{IsPermutation-refl, IsPermutation-trans, IsPermutation-append_left, IsPermutation-append_right, IsPermutation-append_comm, IsPermutation-map, length_permutation}
+use Rattle.std.proofs.lemmas.List.Sorted.{IsPermutation-map, length_permutation}
 use Rattle.asgi_crew.specs.declared.channel.Hand.{Hand}
-use Rattle.asgi_crew.specs.Shared.{numbered, numbers_of, Turn, InTurn, IsShared}
-use Rattle.asgi_crew.specs.Ran.{items_of, Ran}
+use Rattle.asgi_desk.specs.Told.{numbers_of, one_to}
+use Rattle.asgi_crew.specs.Shared.{numbered, Turn, InTurn, IsShared}
+use Rattle.asgi_crew.specs.declared.give.End.{End}
+use Rattle.asgi_crew.specs.declared.give.End.TheVariants.{Given, NoMemory, NoThread}
+use Rattle.asgi_crew.specs.Ran.{items_of, last_of, HaveEnded, Ran}
 use Rattle.asgi_crew.proofs.Flat.{same_elements}
-use Rattle.asgi_crew.proofs.Numbers.{in_order}
+
+numbered_to : {C : Type 0} (n : ℕ) (cs : List C) → numbers_of (numbered n cs) ≡ range_with_len (n + 1) (length cs)
+numbered_to n [] = refl
+numbered_to n (c ∷ cs) = ap (λ (l : List ℕ). (n + 1) ∷ l) (numbered_to (n + 1) cs)
+
+-- all workers took their stop
+pub all_ended : (e : End) (workers ended : ℕ) → ¬ (e ≡ NoThread) → ended ≡ workers → HaveEnded e workers ended
+all_ended Given workers ended begun is = is
+all_ended NoMemory workers ended begun is = is
+all_ended NoThread workers ended begun is = absurd (begun refl)
+
+-- where there are workers, one ended
+pub some_ended : (e : End) (workers ended : ℕ) → HaveEnded e workers ended → 0 < workers → 0 < ended
+some_ended Given workers ended is some = omega arith
+some_ended NoMemory workers ended is some = omega arith
+some_ended NoThread workers ended is some = is
 
 module _ {W C N : Type 0} (serves : W → W → C → N → Type 0) where
   -- one item more
@@ -53,79 +72,75 @@ module _ {W C N : Type 0} (serves : W → W → C → N → Type 0) where
       ∙ sym (map-append (λ (i : ℕ × C). i.0) t.items (flat_map (λ t. t.items) turns))
 
   -- as many reports as items that were taken
-  pub as_many : (old new last : List (Option C)) (was is : List W) (reports : List (ℕ × N)) (v : Hand C) → Ran serves old new last was is reports v → length reports ≡ length v.taken
-  as_many old new last was is reports v ran =
+  pub as_many : (old new last : List (Option C)) (was is : List W) (put : List (ℕ × N)) (v : Hand C) → Ran serves old new last was is put v → length put ≡ length v.taken
+  as_many old new last was is put v ran =
       let same = ap length (all_numbers ran.turns ran.in_turn) in
-      let long = length_permutation _ _ ran.told in
+      let told = ap length ran.told in
       let taken = ap length ran.taken in
       omega (arith, length-map (flat_map (λ t. t.reports) ran.turns) (λ (r : ℕ × N). r.0), length-map (flat_map (λ t. t.items) ran.turns) (λ (i : ℕ × C). i.0))
 
+  -- once nothing is left of what was given, the reports have the numbers 1, 2, 3 .. up to how many there are
+  pub all_numbered : (old new last : List (Option C)) (was is : List W) (put : List (ℕ × N)) (v : Hand C) → Ran serves old new last was is put v → IsPermutation v.given v.taken
+      → IsPermutation (one_to (length put)) (numbers_of put)
+  all_numbered old new last was is put v ran all =
+      let names : numbers_of put ≡ numbers_of v.taken = ap numbers_of (sym ran.told) ∙ all_numbers ran.turns ran.in_turn ∙ ap numbers_of ran.taken in
+      let moved : IsPermutation (numbers_of v.given) (numbers_of v.taken) = IsPermutation-map (λ (i : ℕ × C). i.0) v.given v.taken all in
+      let long = length_permutation _ _ all in
+      let many = as_many old new last was is put v ran in
+      let same : length (items_of v.given) ≡ length put = omega (arith, length-map v.given (λ (i : ℕ × C). i.1)) in
+      let up : numbers_of v.given ≡ one_to (length put) = ap numbers_of ran.numbers ∙ numbered_to 0 (items_of v.given) ∙ ap one_to same in
+      subst (λ (l : List ℕ). IsPermutation l (numbers_of put)) up (subst (λ (l : List ℕ). IsPermutation (numbers_of v.given) l) (sym names) moved)
+
   -- no worker has ended yet
-  pub begun : (old new last : List (Option C)) (v : Hand C) → v.taken ≡ [] → new ≡ old ++ (map Some (items_of v.given) ++ last) → v.given ≡ numbered 0 (items_of v.given)
-      → Ran serves old new last [] [] [] v
-  begun old new last v none answers numbers = record {
+  pub begun_at : (old new last : List (Option C)) (was is : List W) (put : List (ℕ × N)) (v v-2 : Hand C) → was ≡ [] → is ≡ [] → put ≡ [] → v.taken ≡ []
+      → new ≡ old ++ (map Some (items_of v.given) ++ last) → v.given ≡ numbered 0 (items_of v.given) → v-2.given ≡ v.given → v-2.taken ≡ v.taken
+      → Ran serves old new last was is put v-2
+  begun_at old new last was is put v v-2 no-was no-is no-put none answers numbers given taken = record {
     turns = [];
-    before = refl;
-    after = refl;
+    before = sym no-was;
+    after = sym no-is;
     in_turn = All-nil (λ t. InTurn serves t.before t.after t.items t.reports);
-    taken = sym none;
-    told = IsPermutation-refl [];
-    answers = answers;
-    numbers = numbers;
+    taken = sym (taken ∙ none);
+    told = sym no-put;
+    answers = subst (λ (l : List (ℕ × C)). new ≡ old ++ (map Some (items_of l) ++ last)) (sym given) answers;
+    numbers = subst (λ (l : List (ℕ × C)). l ≡ numbered 0 (items_of l)) (sym given) numbers;
   }
 
-  pub begun_at : (old new last : List (Option C)) (was is : List W) (reports : List (ℕ × N)) (v v-2 : Hand C) → was ≡ [] → is ≡ [] → reports ≡ [] → v.taken ≡ []
-      → new ≡ old ++ (map Some (items_of v.given) ++ last) → v.given ≡ numbered 0 (items_of v.given) → v-2.given ≡ v.given → v-2.taken ≡ v.taken
-      → Ran serves old new last was is reports v-2
-  begun_at old new last was is reports v v-2 no-was no-is no-reports none answers numbers given taken =
-      rw (no-was, no-is, no-reports)
-      (begun old new last v-2 (taken ∙ none) (subst (λ (l : List (ℕ × C)). new ≡ old ++ (map Some (items_of l) ++ last)) (sym given) answers)
-      (subst (λ (l : List (ℕ × C)). l ≡ numbered 0 (items_of l)) (sym given) numbers))
-
   -- one worker more
-  pub one_more : (old new last : List (Option C)) (was is : List W) (reports all : List (ℕ × N)) (v v-2 : Hand C) (w w-2 : W) (taken : List (ℕ × C)) (told : List (ℕ × N))
-      → Ran serves old new last was is reports v → InTurn serves w w-2 taken told → v-2.given ≡ v.given → v-2.taken ≡ v.taken ++ taken → IsPermutation (reports ++ told) all
-      → Ran serves old new last (was ++ w ∷ []) (is ++ w-2 ∷ []) all v-2
-  one_more old new last was is reports all v v-2 w w-2 taken told ran turn same-given same-taken moved =
+  pub one_more_at : (old new last : List (Option C)) (was is was-2 is-2 : List W) (put all : List (ℕ × N)) (v v-2 : Hand C) (w w-2 : W) (taken : List (ℕ × C)) (told : List (ℕ × N))
+      → Ran serves old new last was is put v → InTurn serves w w-2 taken told → v-2.given ≡ v.given → v-2.taken ≡ v.taken ++ taken → all ≡ put ++ told
+      → was-2 ≡ was ++ w ∷ [] → is-2 ≡ is ++ w-2 ∷ [] → Ran serves old new last was-2 is-2 all v-2
+  one_more_at old new last was is was-2 is-2 put all v v-2 w w-2 taken told ran turn same-given same-taken grown e e-2 =
       let t : Turn W C N = record { before = w; after = w-2; items = taken; reports = told } in record {
         turns = ran.turns ++ t ∷ [];
-        before = map-append (λ (t : Turn W C N). t.before) ran.turns (t ∷ []) ∙ ap (λ (l : List W). l ++ w ∷ []) ran.before;
-        after = map-append (λ (t : Turn W C N). t.after) ran.turns (t ∷ []) ∙ ap (λ (l : List W). l ++ w-2 ∷ []) ran.after;
+        before = map-append (λ (t : Turn W C N). t.before) ran.turns (t ∷ []) ∙ ap (λ (l : List W). l ++ w ∷ []) ran.before ∙ sym e;
+        after = map-append (λ (t : Turn W C N). t.after) ran.turns (t ∷ []) ∙ ap (λ (l : List W). l ++ w-2 ∷ []) ran.after ∙ sym e-2;
         in_turn = All-push (λ t. InTurn serves t.before t.after t.items t.reports) ran.turns t ran.in_turn turn;
         taken = flat_map-append (λ (t : Turn W C N). t.items) ran.turns (t ∷ []) ∙ ap (λ (l : List (ℕ × C)). flat_map (λ t. t.items) ran.turns ++ l) (append-nil taken)
             ∙ ap (λ (l : List (ℕ × C)). l ++ taken) ran.taken ∙ sym same-taken;
-        told = IsPermutation-trans _ _ _ (same_elements _ _ (flat_map-append (λ (t : Turn W C N). t.reports) ran.turns (t ∷ [])
-            ∙ ap (λ (l : List (ℕ × N)). flat_map (λ t. t.reports) ran.turns ++ l) (append-nil told)))
-            (IsPermutation-trans _ _ _ (IsPermutation-append_left told _ _ ran.told) moved);
+        told = flat_map-append (λ (t : Turn W C N). t.reports) ran.turns (t ∷ []) ∙ ap (λ (l : List (ℕ × N)). flat_map (λ t. t.reports) ran.turns ++ l) (append-nil told)
+            ∙ ap (λ (l : List (ℕ × N)). l ++ told) ran.told ∙ sym grown;
         answers = subst (λ (l : List (ℕ × C)). new ≡ old ++ (map Some (items_of l) ++ last)) (sym same-given) ran.answers;
         numbers = subst (λ (l : List (ℕ × C)). l ≡ numbered 0 (items_of l)) (sym same-given) ran.numbers;
       }
 
-  pub one_more_at : (old new last : List (Option C)) (was is was-2 is-2 : List W) (reports all : List (ℕ × N)) (v v-2 : Hand C) (w w-2 : W) (taken : List (ℕ × C)) (told : List (ℕ × N))
-      → Ran serves old new last was is reports v → InTurn serves w w-2 taken told → v-2.given ≡ v.given → v-2.taken ≡ v.taken ++ taken → IsPermutation (reports ++ told) all
-      → was-2 ≡ was ++ w ∷ [] → is-2 ≡ is ++ w-2 ∷ [] → Ran serves old new last was-2 is-2 all v-2
-  one_more_at old new last was is was-2 is-2 reports all v v-2 w w-2 taken told ran turn same-given same-taken moved e e-2 =
-      rw (e, e-2) (one_more old new last was is reports all v v-2 w w-2 taken told ran turn same-given same-taken moved)
-
   -- all workers have ended, and nothing is left
-  pub shared : (old new last : List (Option C)) (was is : List W) (reports sorted : List (ℕ × N)) (v : Hand C)
-      → Ran serves old new last was is reports v → IsPermutation v.given v.taken → IsPermutation reports sorted → IsNonDecreasingBy (λ r. r.0) sorted
-      → IsShared serves old new last was is sorted
-  shared old new last was is reports sorted v ran all moved up =
+  pub shared : (old new last : List (Option C)) (was is : List W) (put reports : List (ℕ × N)) (v : Hand C)
+      → Ran serves old new last was is put v → IsPermutation v.given v.taken → IsPermutation put reports → numbers_of reports ≡ one_to (length put)
+      → IsShared serves old new last was is reports
+  shared old new last was is put reports v ran all moved up =
       let given = items_of v.given in
-      let each_item : IsPermutation (numbered 0 given) (flat_map (λ t. t.items) ran.turns) = rw (sym ran.numbers, ran.taken) all in
-      let each_report = IsPermutation-trans _ _ _ ran.told moved in
-      let items = IsPermutation-map (λ (i : ℕ × C). i.0) _ _ each_item in
-      let reports = IsPermutation-map (λ (r : ℕ × N). r.0) _ _ each_report in
-      let same = same_elements _ _ (sym (all_numbers ran.turns ran.in_turn)) in record {
+      let long = length_permutation _ _ all in
+      let many = as_many old new last was is put v ran in
+      let same : length put ≡ length given = omega (arith, length-map v.given (λ (i : ℕ × C). i.1)) in record {
         given = given;
         answers = ran.answers;
         turns = ran.turns;
         workers = (ran.before, ran.after);
         in_turn = ran.in_turn;
-        each_item = each_item;
-        each_report = each_report;
-        in_order = in_order given sorted up (IsPermutation-trans _ _ _ items (IsPermutation-trans _ _ _ same reports));
+        each_item = rw (sym ran.numbers, ran.taken) all;
+        each_report = subst (λ (l : List (ℕ × N)). IsPermutation l reports) (sym ran.told) moved;
+        in_order = up ∙ ap one_to same ∙ sym (numbered_to 0 given);
       }
 
   -- each worker as it was, where no item was asked for
@@ -158,7 +173,20 @@ module _ {W C N : Type 0} (serves : W → W → C → N → Type 0) where
   still_in_turn [] = All-nil (λ t. InTurn serves t.before t.after t.items t.reports)
   still_in_turn (w ∷ ws) = All-cons (λ (t : Turn W C N). InTurn serves t.before t.after t.items t.reports) (record { before = w; after = w; items = []; reports = [] }) (still ws) refl (still_in_turn ws)
 
-  pub none_asked : (old : List (Option C)) (was : List W) → IsShared serves old old [] was was []
+  -- these workers were not started, and nothing was given
+  pub none_started : (old new : List (Option C)) (ws : List W) (put : List (ℕ × N)) (v : Hand C) → new ≡ old → put ≡ [] → v.given ≡ [] → v.taken ≡ [] → Ran serves old new [] ws ws put v
+  none_started old new ws put v same no-put none none-2 = record {
+    turns = still ws;
+    before = still_before ws;
+    after = still_after ws;
+    in_turn = still_in_turn ws;
+    taken = still_items ws ∙ sym none-2;
+    told = still_reports ws ∙ sym no-put;
+    answers = same ∙ sym (append-nil old) ∙ ap (λ (l : List (ℕ × C)). old ++ (map Some (items_of l) ++ [])) (sym none);
+    numbers = none ∙ ap (λ (l : List (ℕ × C)). numbered 0 (items_of l)) (sym none);
+  }
+
+  none_asked : (old : List (Option C)) (was : List W) → IsShared serves old old [] was was []
   none_asked old was = record {
     given = [];
     answers = sym (append-nil old);
@@ -170,12 +198,5 @@ module _ {W C N : Type 0} (serves : W → W → C → N → Type 0) where
     in_order = refl;
   }
 
--- what a push leaves that had room
-pub pushed : {A B E : Type 0} (r : Result A E) (xs ys zs : List B) → IsOk r → zs ≡ (if is_ok r then xs else ys) → zs ≡ xs
-pushed (Ok a) xs ys zs ok is = is
-pushed (Err e) xs ys zs ok is = cc
-
--- a report is put behind all others, and those before it after it
-pub put_more : {A : Type 0} (base all before : List A) (x : A) → IsPermutation base (all ++ (before ++ x ∷ [])) → IsPermutation base ((all ++ x ∷ []) ++ before)
-put_more base all before x h =
-    IsPermutation-trans _ _ _ h (rw (append_assoc all (x ∷ []) before) (IsPermutation-append_right all (before ++ x ∷ []) (x ∷ before) (IsPermutation-append_comm before (x ∷ []))))
+  pub not_begun : (old : List (Option C)) (e : End) (was is : List W) (reports : List (ℕ × N)) → e ≡ NoMemory → is ≡ was → reports ≡ [] → IsShared serves old old (last_of e) was is reports
+  not_begun old e was is reports end same none = rw (end, same, none) (none_asked old was)

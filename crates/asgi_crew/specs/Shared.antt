@@ -2,16 +2,12 @@
 use Rattle.std.specs.Prelude.{◌≡◌, ℕ, ◌+◌, List, [], ◌∷◌, ◌++◌, map, Option, Some, All}
 use Rattle.std.specs.List.{flat_map}
 use Rattle.std.specs.List.Sorted.{IsPermutation}
-use Rattle.asgi_crew.specs.declared.refused.Refused.{Refused}
-use Rattle.asgi_crew.specs.declared.refused.Refused.TheVariants.{NoThread, NoMemory}
+use Rattle.asgi_desk.specs.Told.{numbers_of}
 
 -- items under their numbers, the first one under n + 1
 abbrev pub numbered : {C : Type 0} → ℕ → List C → List (ℕ × C)
 numbered n [] = []
 numbered n (c ∷ cs) = (n + 1, c) ∷ numbered (n + 1) cs
-
-abbrev pub numbers_of : {A : Type 0} → List (ℕ × A) → List ℕ
-numbers_of xs = map (λ x. x.0) xs
 
 -- a worker as it was and as it is, the items that it took, and its reports
 pub record Turn (W C N : Type 0) : Type 0 where
@@ -39,9 +35,3 @@ module _ {W C N : Type 0} (serves : W → W → C → N → Type 0) where
     pub each_item : IsPermutation (numbered 0 given) (flat_map (λ t. t.items) turns)
     pub each_report : IsPermutation (flat_map (λ t. t.reports) turns) reports
     pub in_order : numbers_of reports ≡ numbers_of (numbered 0 given)
-
-  -- A thread was refused, and the giver was not asked; or memory was, before it was asked once more, and the items that it had given
-  -- were shared all the same.
-  abbrev pub IsRefused : List (Option C) → List (Option C) → List W → Refused W → Type 0
-  IsRefused old new was NoThread = new ≡ old
-  IsRefused old new was (NoMemory is) = (reports : List (ℕ × N)) × IsShared old new [] was is.items reports

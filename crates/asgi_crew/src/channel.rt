@@ -1,5 +1,5 @@
 //! What goes through the channel, and what each pass knows of it.
-use crate::done::Done;
+use asgi_desk::Place;
 use crossbeam_channel::protocol::{Join, Lesson, Outcome, Protocol, Split};
 use crossbeam_channel::{Pass, RuledReceiver, RuledSender};
 use std::collections::LinkedList;
@@ -9,7 +9,7 @@ use std::collections::LinkedList;
 pub struct Task<C: Drop, N: Drop> {
     pub(crate) number: u64,
     pub(crate) item: C,
-    pub(crate) place: Box<Done<N>>,
+    pub(crate) place: Place<N>,
 }
 
 /// An item, or the end of a worker.

@@ -1,6 +1,6 @@
 //! What the workers did, brought together.
 ghost use Rattle.std.specs.Prelude.{◌≡◌, ◌+◌, ◌-◌, ◌<◌, ◌≤◌, [], ◌++◌, length};
-ghost use Rattle.std.specs.List.Sorted.{IsPermutation, IsNonDecreasingBy};
+ghost use Rattle.std.specs.List.Sorted.{IsPermutation};
 ghost use Rattle.crossbeam_channel.specs.Claims.{view, IsSeatAt};
 ghost use Rattle.crossbeam_channel.specs.Ends.{sends_on};
 ghost use Rattle.asgi_crew.specs.Channel.{hand};
@@ -31,19 +31,11 @@ pub fn absorb<C: Drop, N: Drop>(to: &To<C, N>, pass: &mut Knows<C, N>, other: Kn
     to.learn_as::<Bound>(pass);
 }
 
-/// The reports in the order of their numbers, once all workers have ended.
-pub fn settle<C: Drop, N: Drop>(
-    to: &To<C, N>,
-    mut pass: Knows<C, N>,
-    mut all: Vec<(u64, N)>,
-) -> Vec<(u64, N)>
+/// Once all workers have ended, nothing that was given is left.
+pub fn settle<C: Drop, N: Drop>(to: &To<C, N>, mut pass: Knows<C, N>)
     requires seat { IsSeatAt (sends_on to.now) pass }
     requires whole { ((view pass).gives ≡ 1) × ((view pass).parts ≡ 64) × (0 < (view pass).ended) }
-    ensures each { IsPermutation (view pass).given (view pass).taken }
-    ensures reports { IsPermutation all.items result.items }
-    ensures sorted { IsNonDecreasingBy (λ r. r.0) result.items }
+    ensures { IsPermutation (view pass).given (view pass).taken }
 {
     to.learn_as::<Total>(&mut pass);
-    all.sort_unstable_by_key(|report| report.0);
-    all
 }

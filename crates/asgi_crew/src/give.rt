@@ -5,20 +5,23 @@ ghost use Rattle.crossbeam_channel.specs.Ends.{sends_on};
 ghost use Rattle.asgi_crew.specs.Channel.{hand, gave};
 ghost use Rattle.asgi_crew.specs.Ran.{items_of, last_of};
 ghost use Rattle.asgi_crew.specs.Shared.{numbered};
+ghost use Rattle.asgi_crew.specs.declared.give.End.TheVariants.{NoThread};
 
 use crate::asks::Asks;
 use crate::channel::{Gives, Knows, Mark, Task, To};
-use crate::done::Done;
+use asgi_desk::Place;
 use std::alloc::Global;
 use std::sync::Wait;
 
-/// How the giving ended.
+/// Why no more items were asked for.
 #[derive(Clone, Copy, Drop, PartialEq, Eq)]
 pub enum End {
-    /// The giver gives no more.
+    /// The giver has no more.
     Given,
     /// Memory was refused before the next item was asked for.
     NoMemory,
+    /// A thread was refused before an item was asked for.
+    NoThread,
 }
 
 /// Waits until the item, with its number and its place, stands in the channel.
@@ -74,7 +77,7 @@ pub fn give_stops<C: Drop, N: Drop, R: Wait>(
 
 /// A place for the report of the next item behind so many, and room for it among all reports. `None` where memory is
 /// refused.
-fn place_for<N: Drop>(alloc: Global, all: &mut Vec<(u64, N)>, next: u64) -> Option<Box<Done<N>>>
+fn place_for<N: Drop>(alloc: Global, all: &mut Vec<(u64, N)>, next: u64) -> Option<Place<N>>
     requires { all.old.items ≡ [] }
     ensures same { all.new.items ≡ [] }
     ensures kept { vec_capacity all.old ≤ vec_capacity all.new }
@@ -83,10 +86,7 @@ fn place_for<N: Drop>(alloc: Global, all: &mut Vec<(u64, N)>, next: u64) -> Opti
     if all.try_reserve(next as usize).is_err() {
         return None;
     }
-    match Box::new(alloc, Done::Nothing) {
-        Ok(place) => Some(place),
-        Err(_) => None,
-    }
+    Place::new(alloc).ok()
 }
 
 /// Gives each item that the giver gives, numbered from 1 on.
@@ -108,6 +108,7 @@ pub fn give_all<C: Drop, N: Drop, G, E: Asks<G, C>, R: Wait>(
     ensures answers { E.answers giver.new ≡ E.answers giver.old ++ (map Some (items_of (view pass.new).given) ++ last_of result) }
     ensures numbers { (view pass.new).given ≡ numbered 0 (items_of (view pass.new).given) }
     ensures room { (all.new.items ≡ []) × (length (view pass.new).given ≤ vec_capacity all.new) }
+    ensures begun { ¬ (result ≡ NoThread) }
 {
     let mut given = 0u64;
     for _ in rt.forever() {

@@ -3,18 +3,17 @@
 
 mod asks;
 mod channel;
-mod done;
 mod gather;
 mod give;
-mod refused;
 mod run;
 mod serves;
 mod sharing;
 mod work;
 mod workers;
 
+pub use asgi_desk::Teller;
 pub use asks::Asks;
-pub use refused::Refused;
+pub use give::End;
 pub use serves::Serves;
-pub use sharing::share;
+pub use sharing::{Shared, share};
 pub use workers::Workers;

@@ -1,18 +1,21 @@
 //! Starts the workers, and gives.
-ghost use Rattle.std.specs.Prelude.{◌≡◌, ◌+◌, ◌<◌, ◌≤◌, [], ◌∷◌, ◌++◌, length, vec_len, vec_capacity, IfOk, IfErr};
+ghost use Rattle.std.specs.Prelude.{◌≡◌, ◌+◌, ◌<◌, ◌≤◌, [], ◌∷◌, ◌++◌, length, vec_len, vec_capacity};
 ghost use Rattle.crossbeam_channel.specs.Claims.{view, IsSeatAt};
 ghost use Rattle.crossbeam_channel.specs.Ends.{sends_on, receives_on};
+ghost use Rattle.asgi_desk.specs.Channel.{seated};
+ghost use Rattle.asgi_desk.specs.Seat.{knows, IsSeatOf};
 ghost use Rattle.asgi_crew.specs.Channel.{hand};
-ghost use Rattle.asgi_crew.specs.Ran.{last_of, reports_of, Ran};
+ghost use Rattle.asgi_crew.specs.Ran.{last_of, HaveEnded, Ran};
 ghost use Rattle.asgi_crew.specs.Shared.{InTurn};
+ghost use Rattle.asgi_crew.specs.declared.give.End.TheVariants.{NoThread};
 
 use crate::asks::Asks;
 use crate::channel::{From, Knows, To};
 use crate::gather::{absorb, cut};
 use crate::give::{End, give_all, give_stops};
-use crate::refused::NoThread;
 use crate::serves::Serves;
 use crate::work::{Worked, work};
+use asgi_desk::{Desk, Seat, Teller};
 use std::alloc::Global;
 use std::snapshot::Snapshot;
 use std::sync::Wait;
@@ -20,37 +23,87 @@ use std::thread::{Promise, Scope, Threads};
 
 // What the thread of a worker promises.
 #[derive(Drop)]
-struct Keeps<C: Drop, N: Drop, W: Drop, E> {
+struct Keeps<C: Drop, N: Drop, W: Drop, T: Teller<N> + Drop, E> {
     how: Snapshot<E>,
     from: Snapshot<From<C, N>>,
+    desk: Snapshot<Desk<N, T>>,
     worker: Snapshot<W>,
 }
 
-impl<C: Drop, N: Drop, W: Drop, E: Serves<W, C, Report = N>> Promise<Worked<C, N, W>>
-    for Keeps<C, N, W, E> {
+impl<C: Drop, N: Drop, W: Drop, T: Teller<N> + Drop, E: Serves<W, C, Report = N>> Promise<
+    Worked<C, N, W, T>,
+> for Keeps<C, N, W, T, E> {
     ghost use Rattle.std.specs.Prelude.{◌≡◌, []};
     ghost use Rattle.crossbeam_channel.specs.Claims.{view, IsSeatAt};
     ghost use Rattle.crossbeam_channel.specs.Ends.{receives_on};
+    ghost use Rattle.asgi_desk.specs.Channel.{seated};
+    ghost use Rattle.asgi_desk.specs.Seat.{knows, IsSeatOf};
     ghost use Rattle.asgi_crew.specs.Channel.{hand};
-    ghost use Rattle.asgi_crew.specs.Ran.{reports_of};
     ghost use Rattle.asgi_crew.specs.Shared.{InTurn};
 
-    ghost kept_by = { λ p r. IsSeatAt (receives_on p.from.value) r.pass
+    ghost kept_by = { λ p r. (IsSeatAt (receives_on p.from.value) r.pass × IsSeatOf p.desk.value r.seat)
         × (view r.pass ≡ hand 1 0 [] (view r.pass).taken 0 1)
-        × InTurn (E.serves p.how.value) p.worker.value r.worker (view r.pass).taken (reports_of r.done) };
+        × (knows r.seat ≡ seated 1 (knows r.seat).first (knows r.seat).put)
+        × InTurn (E.serves p.how.value) p.worker.value r.worker (view r.pass).taken (knows r.seat).put };
 }
 
-/// The workers that have ended, all reports, how the giving ended, and what the giver's pass knows with theirs.
+/// The workers that have ended, room for all reports, why no more items were asked for, and what the giver's pass and seat
+/// know with theirs.
 #[derive(Drop)]
-pub struct Crew<C: Drop, N: Drop, W: Drop> {
+pub struct Crew<C: Drop, N: Drop, W: Drop, T: Drop> {
     pub pass: Knows<C, N>,
+    pub seat: Seat<N, T>,
     pub all: Vec<(u64, N)>,
     pub crew: Vec<W>,
     pub end: End,
 }
 
+/// One more worker that has ended.
+fn joined<C: Drop, N: Drop, W: Drop, T: Teller<N> + Drop>(
+    to: &To<C, N>,
+    desk: &Desk<N, T>,
+    so_far: Crew<C, N, W, T>,
+    worked: Worked<C, N, W, T>,
+) -> Crew<C, N, W, T>
+    requires seat { IsSeatAt (sends_on to.now) so_far.pass × IsSeatOf desk.now so_far.seat × IsSeatAt (sends_on to.now) worked.pass × IsSeatOf desk.now worked.seat }
+    requires may { ((view so_far.pass).gives ≡ 1) × (0 < (view so_far.pass).parts) × (0 < (knows so_far.seat).parts) }
+    requires free { knows so_far.seat ≡ seated (knows so_far.seat).parts (knows so_far.seat).first (knows so_far.seat).put }
+    requires part { view worked.pass ≡ hand 1 0 [] (view worked.pass).taken 0 1 }
+    requires part_2 { knows worked.seat ≡ seated 1 (knows worked.seat).first (knows worked.seat).put }
+    requires room { vec_len so_far.crew < vec_capacity so_far.crew }
+    ensures seat { IsSeatAt (sends_on to.now) result.pass × IsSeatOf desk.now result.seat }
+    ensures pass { view result.pass ≡ hand ((view so_far.pass).parts + 1) 1 (view so_far.pass).given ((view so_far.pass).taken ++ (view worked.pass).taken) (view so_far.pass).shut ((view so_far.pass).ended + 1) }
+    ensures put { knows result.seat ≡ seated ((knows so_far.seat).parts + 1) (knows so_far.seat).first ((knows so_far.seat).put ++ (knows worked.seat).put) }
+    ensures crew { (result.crew.items ≡ so_far.crew.items ++ worked.worker ∷ []) × (vec_capacity result.crew ≡ vec_capacity so_far.crew) }
+    ensures same { (result.all ≡ so_far.all) × (result.end ≡ so_far.end) }
+{
+    let Crew {
+        mut pass,
+        mut seat,
+        all,
+        mut crew,
+        end,
+    } = so_far;
+    let Worked {
+        pass: other,
+        seat: theirs,
+        worker,
+    } = worked;
+    absorb(to, &mut pass, other);
+    desk.rejoin(&mut seat, theirs);
+    crew.push_reserved(worker);
+    Crew {
+        pass,
+        seat,
+        all,
+        crew,
+        end,
+    }
+}
+
 /// Starts each worker in a thread of its own, behind so many that were started, gives all items in this one, and a stop
-/// for each worker. `NoThread` where a thread was refused, before an item is asked for: those that run are stopped.
+/// for each worker. Where a thread is refused no item is asked for: those that run are stopped, and its worker takes its
+/// stop in this thread.
 pub fn run<
     's,
     'e,
@@ -58,6 +111,7 @@ pub fn run<
     N: Drop + Send + 's,
     G,
     W: Drop + Send + 's,
+    T: Teller<N> + Drop + Send + 's,
     E: Asks<G, C> + Serves<W, C, Report = N> + Sync + 's,
     R: Threads + Wait + Sync,
 >(
@@ -67,83 +121,88 @@ pub fn run<
     how: &'s E,
     from: &'s From<C, N>,
     to: &To<C, N>,
+    desk: &'s Desk<N, T>,
     giver: &mut G,
     mut pass: Knows<C, N>,
+    mut seat: Seat<N, T>,
     mut crew: Vec<W>,
     started: u64,
-) -> Result<Crew<C, N, W>, NoThread>
-    requires seat { IsSeatAt (sends_on to.now) pass × (receives_on from.now ≡ sends_on to.now) }
+) -> Crew<C, N, W, T>
+    requires seat { IsSeatAt (sends_on to.now) pass × IsSeatOf desk.now seat × (receives_on from.now ≡ sends_on to.now) }
     requires may { (view pass ≡ hand (view pass).parts 1 [] [] 0 0) × (vec_len crew < (view pass).parts) }
+    requires free { (knows seat ≡ seated (knows seat).parts (knows seat).first []) × (vec_len crew < (knows seat).parts) }
     requires few { started + vec_len crew ≤ 8 }
-    ensures seat { IfOk result (λ c. IsSeatAt (sends_on to.now) c.pass) }
-    ensures part { IfOk result (λ c. ((view c.pass).gives ≡ 1) × ((view c.pass).parts ≡ (view pass).parts)) }
-    ensures ended { IfOk result (λ c. (view c.pass).ended ≡ vec_len crew) }
-    ensures stopped { IfOk result (λ c. (view c.pass).shut ≡ started + vec_len crew) }
-    ensures ran { IfOk result (λ c. Ran (E.serves how.now) (E.answers giver.old) (E.answers giver.new) (last_of c.end) crew.items c.crew.items c.all.items (view c.pass)) }
-    ensures room { IfOk result (λ c. length (view c.pass).given ≤ vec_capacity c.all) }
-    ensures crew { IfOk result (λ c. (vec_len c.crew ≡ vec_len crew) × (vec_capacity crew ≤ vec_capacity c.crew)) }
-    ensures refused { IfErr result (λ _. E.answers giver.new ≡ E.answers giver.old) }
+    ensures seat { IsSeatAt (sends_on to.now) result.pass × IsSeatOf desk.now result.seat }
+    ensures part { ((view result.pass).gives ≡ 1) × ((view result.pass).parts ≡ (view pass).parts) }
+    ensures free { knows result.seat ≡ seated (knows seat).parts (knows seat).first (knows result.seat).put }
+    ensures ended { HaveEnded result.end (vec_len crew) (view result.pass).ended }
+    ensures stopped { (view result.pass).shut ≡ started + (view result.pass).ended }
+    ensures ran { Ran (E.serves how.now) (E.answers giver.old) (E.answers giver.new) (last_of result.end) crew.items result.crew.items (knows result.seat).put (view result.pass) }
+    ensures room { (result.all.items ≡ []) × (length (view result.pass).given ≤ vec_capacity result.all) }
+    ensures crew { (vec_len result.crew ≡ vec_len crew) × (vec_capacity crew ≤ vec_capacity result.crew) }
+    ensures refused { result.end ≡ NoThread → E.answers giver.new ≡ E.answers giver.old }
 {
     let Some(worker) = crew.pop() else {
         let mut all = Vec::new(alloc);
         let end = give_all(rt, alloc, how, to, &mut pass, giver, &mut all);
         give_stops(rt, to, &mut pass, started);
-        return Ok(Crew {
+        return Crew {
             pass,
+            seat,
             all,
             crew,
             end,
-        });
+        };
     };
     let mine = cut(to, &mut pass);
+    let place = desk.seat(&mut seat);
     let keeps = Keeps {
         how: Snapshot::of(how),
         from: Snapshot::of(from),
+        desk: Snapshot::of(desk),
         worker: Snapshot::of(&worker),
     };
-    let Ok(child) = scope.spawn_with(
+    match scope.spawn_with(
         keeps,
-        move || -> Worked<C, N, W>
-            requires { IsSeatAt (receives_on from.now) mine × (view mine ≡ hand 1 0 [] [] 0 0) }
-            ensures seat { IsSeatAt (receives_on from.entry.now) result.pass }
+        move || -> Worked<C, N, W, T>
+            requires seat { IsSeatAt (receives_on from.now) mine × IsSeatOf desk.now place }
+            requires fresh { (view mine ≡ hand 1 0 [] [] 0 0) × (knows place ≡ seated 1 (knows place).first []) }
+            ensures seat { IsSeatAt (receives_on from.entry.now) result.pass × IsSeatOf desk.entry.now result.seat }
             ensures part { view result.pass ≡ hand 1 0 [] (view result.pass).taken 0 1 }
-            ensures in_turn { InTurn (E.serves how.entry.now) worker result.worker (view result.pass).taken (reports_of result.done) }
-        { work(rt, how, from, mine, worker) },
-    ) else {
-        give_stops(rt, to, &mut pass, started);
-        return Err(NoThread);
-    };
-    let rest = run(
-        rt,
-        scope,
-        alloc,
-        how,
-        from,
-        to,
-        giver,
-        pass,
-        crew,
-        started + 1,
-    );
-    let Worked {
-        pass: other,
-        worker,
-        done,
-    } = child.join(rt);
-    let Crew {
-        mut pass,
-        mut all,
-        mut crew,
-        end,
-    } = rest?;
-    absorb(to, &mut pass, other);
-    done.put_into(&mut all);
-    // There is room: it stood there before.
-    let _room = crew.push(worker);
-    Ok(Crew {
-        pass,
-        all,
-        crew,
-        end,
-    })
+            ensures free { knows result.seat ≡ seated 1 (knows result.seat).first (knows result.seat).put }
+            ensures in_turn { InTurn (E.serves how.entry.now) worker result.worker (view result.pass).taken (knows result.seat).put }
+        { work(rt, how, from, desk, mine, place, worker) },
+    ) {
+        Ok(child) => {
+            let so_far = run(
+                rt,
+                scope,
+                alloc,
+                how,
+                from,
+                to,
+                desk,
+                giver,
+                pass,
+                seat,
+                crew,
+                started + 1,
+            );
+            let worked = child.join(rt);
+            joined(to, desk, so_far, worked)
+        }
+        Err(refused) => {
+            give_stops(rt, to, &mut pass, started + 1);
+            let serve = refused.value;
+            let worked = serve();
+            let none = Crew {
+                pass,
+                seat,
+                all: Vec::new(alloc),
+                crew,
+                end: End::NoThread,
+            };
+            joined(to, desk, none, worked)
+        }
+    }
 }

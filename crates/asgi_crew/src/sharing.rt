@@ -1,18 +1,22 @@
 //! Shares the items out among the workers.
-ghost use Rattle.std.specs.Prelude.{◌≡◌, ℕ, ◌<◌, ◌≤◌, List, [], ◌∷◌, None, Err, vec_len, IfOk, IfErr};
+ghost use Rattle.std.specs.Prelude.{◌≡◌, ◌<◌, ◌≤◌, [], length, vec_len, vec_capacity};
 ghost use Rattle.crossbeam_channel.specs.Claims.{view, IsSeatAt};
 ghost use Rattle.crossbeam_channel.specs.Ends.{sends_on, receives_on};
+ghost use Rattle.asgi_desk.specs.Channel.{seated};
+ghost use Rattle.asgi_desk.specs.Seat.{knows, IsSeatOf};
+ghost use Rattle.asgi_desk.specs.Told.{Told};
 ghost use Rattle.asgi_crew.specs.Channel.{hand};
-ghost use Rattle.asgi_crew.specs.Ran.{last_of, Ran};
-ghost use Rattle.asgi_crew.specs.Shared.{IsShared, IsRefused};
+ghost use Rattle.asgi_crew.specs.Ran.{last_of, HaveEnded, Ran};
+ghost use Rattle.asgi_crew.specs.Shared.{IsShared};
+ghost use Rattle.asgi_crew.specs.declared.give.End.TheVariants.{NoThread};
 
 use crate::asks::Asks;
 use crate::channel::{Fair, From, Hand, Knows, Mark, To};
 use crate::gather::settle;
 use crate::give::End;
-use crate::refused::{NoThread, Refused};
 use crate::run::{Crew, run};
 use crate::serves::Serves;
+use asgi_desk::{Desk, Seat, Teller};
 use crossbeam_channel::bounded_with;
 use std::alloc::Global;
 use std::sync::Wait;
@@ -21,6 +25,19 @@ use std::thread::Threads;
 
 /// How many items may wait for a worker.
 const PLACES: usize = 4;
+
+/// What came of items that were shared out.
+#[derive(Drop)]
+pub struct Shared<N: Drop, W: Drop, T: Drop> {
+    /// The reports under their numbers, 1 upwards, in the order in which the items were given.
+    pub reports: Vec<(u64, N)>,
+    /// The workers, in their order.
+    pub workers: Vec<W>,
+    /// The teller, which was told each report.
+    pub teller: T,
+    /// Why no more items were asked for.
+    pub end: End,
+}
 
 /// What was lent stays as it is. A `&mut` that came back in a result is known again behind a call of it.
 fn keep<T>(lent: &mut T)
@@ -35,6 +52,7 @@ fn run_scoped<
     N: Drop + Send,
     G,
     W: Drop + Send,
+    T: Teller<N> + Drop + Send,
     E: Asks<G, C> + Serves<W, C, Report = N> + Sync,
     R: Threads + Wait + Sync,
 >(
@@ -43,35 +61,43 @@ fn run_scoped<
     how: &E,
     from: &From<C, N>,
     to: &To<C, N>,
+    desk: &Desk<N, T>,
     giver: &mut G,
     pass: Knows<C, N>,
+    seat: Seat<N, T>,
     crew: Vec<W>,
-) -> Result<Crew<C, N, W>, NoThread>
-    requires seat { IsSeatAt (sends_on to.now) pass × (receives_on from.now ≡ sends_on to.now) }
-    requires may { (view pass ≡ hand 64 1 [] [] 0 0) × (vec_len crew ≤ 8) }
-    ensures seat { IfOk result (λ c. IsSeatAt (sends_on to.now) c.pass) }
-    ensures part { IfOk result (λ c. ((view c.pass).gives ≡ 1) × ((view c.pass).parts ≡ 64)) }
-    ensures ended { IfOk result (λ c. (view c.pass).ended ≡ vec_len crew) }
-    ensures stopped { IfOk result (λ c. (view c.pass).shut ≡ vec_len crew) }
-    ensures ran { IfOk result (λ c. Ran (E.serves how.now) (E.answers giver.old) (E.answers giver.new) (last_of c.end) crew.items c.crew.items c.all.items (view c.pass)) }
-    ensures refused { IfErr result (λ _. E.answers giver.new ≡ E.answers giver.old) }
+) -> Crew<C, N, W, T>
+    requires seat { IsSeatAt (sends_on to.now) pass × IsSeatOf desk.now seat × (receives_on from.now ≡ sends_on to.now) }
+    requires may { (view pass ≡ hand 64 1 [] [] 0 0) × (knows seat ≡ seated 64 (knows seat).first []) × (vec_len crew ≤ 8) }
+    ensures seat { IsSeatAt (sends_on to.now) result.pass × IsSeatOf desk.now result.seat }
+    ensures part { ((view result.pass).gives ≡ 1) × ((view result.pass).parts ≡ 64) }
+    ensures free { knows result.seat ≡ seated 64 (knows seat).first (knows result.seat).put }
+    ensures ended { HaveEnded result.end (vec_len crew) (view result.pass).ended }
+    ensures stopped { (view result.pass).shut ≡ (view result.pass).ended }
+    ensures ran { Ran (E.serves how.now) (E.answers giver.old) (E.answers giver.new) (last_of result.end) crew.items result.crew.items (knows result.seat).put (view result.pass) }
+    ensures room { (result.all.items ≡ []) × (length (view result.pass).given ≤ vec_capacity result.all) }
+    ensures refused { result.end ≡ NoThread → E.answers giver.new ≡ E.answers giver.old }
 {
     let lent = &mut *giver;
     let (lent, ended) = thread::scope(
         thread::scope_env(),
         rt,
-        move |scope| -> (&mut G, Result<Crew<C, N, W>, NoThread>)
-            requires seat { IsSeatAt (sends_on to.now) pass × (receives_on from.now ≡ sends_on to.now) }
-            requires may { (view pass ≡ hand 64 1 [] [] 0 0) × (vec_len crew ≤ 8) }
+        move |scope| -> (&mut G, Crew<C, N, W, T>)
+            requires seat { IsSeatAt (sends_on to.now) pass × IsSeatOf desk.now seat × (receives_on from.now ≡ sends_on to.now) }
+            requires may { (view pass ≡ hand 64 1 [] [] 0 0) × (knows seat ≡ seated 64 (knows seat).first []) × (vec_len crew ≤ 8) }
             ensures same { result.0.ghost_name ≡ lent.entry.ghost_name }
-            ensures seat { IfOk result.1 (λ c. IsSeatAt (sends_on to.entry.now) c.pass) }
-            ensures part { IfOk result.1 (λ c. ((view c.pass).gives ≡ 1) × ((view c.pass).parts ≡ 64)) }
-            ensures ended { IfOk result.1 (λ c. (view c.pass).ended ≡ vec_len crew) }
-            ensures stopped { IfOk result.1 (λ c. (view c.pass).shut ≡ vec_len crew) }
-            ensures ran { IfOk result.1 (λ c. Ran (E.serves how.entry.now) (E.answers lent.entry.now) (E.answers result.0.now) (last_of c.end) crew.items c.crew.items c.all.items (view c.pass)) }
-            ensures refused { IfErr result.1 (λ _. E.answers result.0.now ≡ E.answers lent.entry.now) }
+            ensures seat { IsSeatAt (sends_on to.entry.now) result.1.pass × IsSeatOf desk.entry.now result.1.seat }
+            ensures part { ((view result.1.pass).gives ≡ 1) × ((view result.1.pass).parts ≡ 64) }
+            ensures free { knows result.1.seat ≡ seated 64 (knows seat).first (knows result.1.seat).put }
+            ensures ended { HaveEnded result.1.end (vec_len crew) (view result.1.pass).ended }
+            ensures stopped { (view result.1.pass).shut ≡ (view result.1.pass).ended }
+            ensures ran { Ran (E.serves how.entry.now) (E.answers lent.entry.now) (E.answers result.0.now) (last_of result.1.end) crew.items result.1.crew.items (knows result.1.seat).put (view result.1.pass) }
+            ensures room { (result.1.all.items ≡ []) × (length (view result.1.pass).given ≤ vec_capacity result.1.all) }
+            ensures refused { result.1.end ≡ NoThread → E.answers result.0.now ≡ E.answers lent.entry.now }
         {
-            let ended = run(rt, scope, alloc, how, from, to, &mut *lent, pass, crew, 0);
+            let ended = run(
+                rt, scope, alloc, how, from, to, desk, &mut *lent, pass, seat, crew, 0,
+            );
             (lent, ended)
         },
     );
@@ -79,45 +105,62 @@ fn run_scoped<
     ended
 }
 
-/// Hands each item that the giver gives to one of the workers, each in a thread of its own, and gives the reports back in
-/// the order in which the items were given, numbered from 1 on, and the workers in their order. Memory for a report is had
-/// before its item is asked for.
+/// Nothing was asked for, since memory was refused.
+fn not_begun<N: Drop, W: Drop, T: Drop>(
+    alloc: Global,
+    workers: Vec<W>,
+    teller: T,
+) -> Shared<N, W, T>
+    ensures { (result.reports.items ≡ []) × (result.workers ≡ workers) × (result.teller ≡ teller) × (result.end ≡ End.NoMemory) }
+{
+    Shared {
+        reports: Vec::new(alloc),
+        workers,
+        teller,
+        end: End::NoMemory,
+    }
+}
+
+/// Hands each item that the giver gives to one of the workers, each in a thread of its own. The teller is told each report
+/// once, in the order in which the items were given, and each as soon as all those before it are there.
+///
+/// Memory for a report is had before its item is asked for, and where it is refused no more is asked for (`NoMemory`).
+/// Where a worker is refused its thread none is asked for (`NoThread`).
 pub fn share<
     C: Drop + Send,
     N: Drop + Send,
     G,
     W: Drop + Send,
+    T: Teller<N> + Drop + Send,
     E: Asks<G, C> + Serves<W, C, Report = N> + Sync,
     R: Threads + Wait + Sync,
->(
-    rt: &R,
-    alloc: Global,
-    how: &E,
-    giver: &mut G,
-    crew: Vec<W>,
-) -> Result<(Vec<(u64, N)>, Vec<W>), Refused<W>>
+>(rt: &R, alloc: Global, how: &E, giver: &mut G, crew: Vec<W>, teller: T) -> Shared<N, W, T>
     requires { (0 < vec_len crew) × (vec_len crew ≤ 8) }
-    ensures shared { IfOk result (λ r. IsShared (E.serves how.now) (E.answers giver.old) (E.answers giver.new) (None ∷ []) crew.items r.1.items r.0.items) }
-    ensures refused { IfErr result (λ e. IsRefused (E.serves how.now) (E.answers giver.old) (E.answers giver.new) crew.items e) }
+    ensures shared { IsShared (E.serves how.now) (E.answers giver.old) (E.answers giver.new) (last_of result.end) crew.items result.workers.items result.reports.items }
+    ensures told { Told T.tells teller result.teller result.reports.items }
+    ensures no_thread { result.end ≡ NoThread → E.answers giver.new ≡ E.answers giver.old }
 {
     let Ok((to, from, pass)) = bounded_with::<Mark<C, N>, Hand<C>, Fair, Global>(alloc, PLACES)
     else {
-        return Err(Refused::NoMemory(crew));
+        return not_begun(alloc, crew, teller);
     };
-    let Ok(
-        Crew {
-            pass,
-            all,
-            crew,
-            end,
-        },
-    ) = run_scoped(rt, alloc, how, &from, &to, giver, pass, crew)
-    else {
-        return Err(Refused::NoThread);
+    let (desk, seat) = match Desk::open(rt, alloc, teller) {
+        Ok(opened) => opened,
+        Err(refused) => return not_begun(alloc, crew, refused.value),
     };
-    let reports = settle(&to, pass, all);
-    match end {
-        End::Given => Ok((reports, crew)),
-        End::NoMemory => Err(Refused::NoMemory(crew)),
+    let Crew {
+        pass,
+        seat,
+        all,
+        crew,
+        end,
+    } = run_scoped(rt, alloc, how, &from, &to, &desk, giver, pass, seat, crew);
+    settle(&to, pass);
+    let (teller, reports) = desk.close(rt, seat, all);
+    Shared {
+        reports,
+        workers: crew,
+        teller,
+        end,
     }
 }

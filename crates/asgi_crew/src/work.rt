@@ -2,21 +2,22 @@
 ghost use Rattle.std.specs.Prelude.{◌≡◌, ◌<◌, []};
 ghost use Rattle.crossbeam_channel.specs.Claims.{view, IsSeatAt};
 ghost use Rattle.crossbeam_channel.specs.Ends.{receives_on};
+ghost use Rattle.asgi_desk.specs.Channel.{seated};
+ghost use Rattle.asgi_desk.specs.Seat.{knows, IsSeatOf};
 ghost use Rattle.asgi_crew.specs.Channel.{hand, took};
-ghost use Rattle.asgi_crew.specs.Ran.{reports_of};
 ghost use Rattle.asgi_crew.specs.Shared.{InTurn};
 
 use crate::channel::{From, Knows, Mark, Takes, Task};
-use crate::done::Done;
 use crate::serves::Serves;
+use asgi_desk::{Desk, Seat, Teller};
 use std::sync::Wait;
 
-/// What a worker did, and what its pass knows of it.
+/// A worker that has ended, what its pass knows of the items that it took, and its seat of the reports that it handed in.
 #[derive(Drop)]
-pub struct Worked<C: Drop, N: Drop, W: Drop> {
+pub struct Worked<C: Drop, N: Drop, W: Drop, T: Drop> {
     pub pass: Knows<C, N>,
+    pub seat: Seat<N, T>,
     pub worker: W,
-    pub done: Done<N>,
 }
 
 /// Waits for what stands first in the channel.
@@ -34,22 +35,24 @@ fn take<C: Drop, N: Drop, R: Wait>(rt: &R, from: &From<C, N>, pass: &mut Knows<C
     unreachable!()
 }
 
-/// Serves items until a stop comes.
+/// Serves items until a stop comes, and hands in a report of each.
 #[tactic(auto, using(crate::proofs::Turns::served_next))]
-pub fn work<C: Drop, N: Drop, W: Drop, E: Serves<W, C, Report = N>, R: Wait>(
+pub fn work<C: Drop, N: Drop, W: Drop, T: Teller<N> + Drop, E: Serves<W, C, Report = N>, R: Wait>(
     rt: &R,
     how: &E,
     from: &From<C, N>,
+    desk: &Desk<N, T>,
     mut pass: Knows<C, N>,
+    mut seat: Seat<N, T>,
     mut worker: W,
-) -> Worked<C, N, W>
-    requires seat { IsSeatAt (receives_on from.now) pass }
-    requires fresh { view pass ≡ hand 1 0 [] [] 0 0 }
-    ensures seat { IsSeatAt (receives_on from.now) result.pass }
+) -> Worked<C, N, W, T>
+    requires seat { IsSeatAt (receives_on from.now) pass × IsSeatOf desk.now seat }
+    requires fresh { (view pass ≡ hand 1 0 [] [] 0 0) × (knows seat ≡ seated 1 (knows seat).first []) }
+    ensures seat { IsSeatAt (receives_on from.now) result.pass × IsSeatOf desk.now result.seat }
     ensures part { view result.pass ≡ hand 1 0 [] (view result.pass).taken 0 1 }
-    ensures in_turn { InTurn (E.serves how.now) worker result.worker (view result.pass).taken (reports_of result.done) }
+    ensures free { knows result.seat ≡ seated 1 (knows seat).first (knows result.seat).put }
+    ensures in_turn { InTurn (E.serves how.now) worker result.worker (view result.pass).taken (knows result.seat).put }
 {
-    let mut done = Done::Nothing;
     for _ in rt.forever() {
         match take(rt, from, &mut pass) {
             Mark::Item(task) => {
@@ -59,9 +62,9 @@ pub fn work<C: Drop, N: Drop, W: Drop, E: Serves<W, C, Report = N>, R: Wait>(
                     place,
                 } = task;
                 let report = how.serve(&mut worker, item);
-                done = done.with(number, report, place);
+                desk.hand_in(rt, &mut seat, number, report, place);
             }
-            Mark::Stop => return Worked { pass, worker, done },
+            Mark::Stop => return Worked { pass, seat, worker },
         }
     }
     unreachable!()

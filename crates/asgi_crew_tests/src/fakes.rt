@@ -1,7 +1,7 @@
-//! A giver of numbers, and workers that count what they served.
+//! A giver of numbers, workers that count what they served, and a teller that counts what it was told.
 ghost use Rattle.std.specs.Prelude.{◌≡◌, min};
 
-use asgi_crew::{Asks, Serves};
+use asgi_crew::{Asks, Serves, Teller};
 use asgi_io::History;
 
 /// Gives the numbers from 1 to the last one, and counts how often it was asked.
@@ -42,6 +42,7 @@ pub struct Counter {
 }
 
 /// Asks for numbers, and has them counted, up to a highest one, which is lent to all workers.
+#[derive(Drop)]
 pub struct Counting {
     pub highest: u64,
 }
@@ -64,5 +65,31 @@ impl Serves<Counter, u64> for Counting {
     fn serve(&self, worker: &mut Counter, item: u64) -> (u64, u64) {
         worker.served = worker.served.saturating_add(1);
         (item.min(self.highest), worker.name)
+    }
+}
+
+/// Is told reports, and keeps whether each came under the next number.
+#[derive(Drop)]
+pub struct Heard {
+    pub count: u64,
+    pub is_ordered: bool,
+}
+
+impl Heard {
+    /// Was told none.
+    pub fn none() -> Heard {
+        Heard {
+            count: 0,
+            is_ordered: true,
+        }
+    }
+}
+
+impl Teller<(u64, u64)> for Heard {
+    ghost tells = { λ was is number report. is.count ≡ number };
+
+    fn tell(&mut self, number: u64, _report: &(u64, u64)) {
+        self.is_ordered = self.is_ordered && number > self.count && number - self.count == 1;
+        self.count = number;
     }
 }

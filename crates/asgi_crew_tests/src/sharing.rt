@@ -1,6 +1,6 @@
-//! Each number is served once, whoever serves it, and the reports stand in the order of the numbers.
-use crate::fakes::{Counter, Counting, Numbers};
-use asgi_crew::{Refused, share};
+//! Each number is served once, whoever serves it, and the reports are told, and stand, in the order of the numbers.
+use crate::fakes::{Counter, Counting, Heard, Numbers};
+use asgi_crew::{End, Shared, share};
 use std::alloc::{AllocError, AllocGlobal, Global};
 use std::process::Abort;
 use std::sync::Wait;
@@ -26,11 +26,20 @@ fn shares<R: Threads + Wait + Sync + Abort + AllocGlobal>(
         crew.push(Counter { name, served: 0 })?;
     }
     assert!(rt; 0 < crew.len() && crew.len() <= 8, "{workers} workers");
-    let (reports, crew) = match share(rt, alloc, &ALL, &mut giver, crew) {
-        Ok(shared) => shared,
-        Err(Refused::NoThread) => return Err(Fail::from("no thread")),
-        Err(Refused::NoMemory(_)) => return Err(Fail::from(AllocError)),
-    };
+    let Shared {
+        reports,
+        workers: crew,
+        teller,
+        end,
+    } = share(rt, alloc, &ALL, &mut giver, crew, Heard::none());
+    if end == End::NoMemory {
+        return Err(Fail::from(AllocError));
+    }
+    assert!(rt; end == End::Given, "a thread for each of {workers}");
+    assert!(rt;
+        teller.count == items && teller.is_ordered,
+        "told, of {items} items by {workers}"
+    );
     assert_eq!(rt;
         giver.asked,
         items.saturating_add(1),
@@ -91,22 +100,21 @@ fn what_all_workers_are_lent_is_in_each_report(rt: HostRuntime) -> Result<(), Fa
     crew.push(Counter { name: 0, served: 0 })?;
     crew.push(Counter { name: 1, served: 0 })?;
     assert!(rt; crew.len() == 2);
-    match share(
+    let how = Counting { highest: 3 };
+    let shared = share(
         &rt,
         alloc,
-        &Counting { highest: 3 },
+        &how,
         &mut Numbers::up_to(5),
         crew,
-    ) {
-        Ok((reports, _crew)) => {
-            let counted = reports
-                .iter()
-                .all(|(number, report)| report.0 == (*number).min(3));
-            assert!(rt; reports.len() == 5 && counted);
-            Ok(())
-        }
-        Err(_) => Err(Fail::from(AllocError)),
-    }
+        Heard::none(),
+    );
+    let counted = shared
+        .reports
+        .iter()
+        .all(|(number, report)| report.0 == (*number).min(3));
+    assert!(rt; shared.end == End::Given && shared.reports.len() == 5 && counted);
+    Ok(())
 }
 
 #[test]
@@ -120,10 +128,19 @@ fn memory_for_five_numbers_and_two_workers(rt: HostRuntime) {
         }
     }
     assert!(rt; crew.len() == 2);
-    let well = match share(&rt, alloc, &ALL, &mut giver, crew) {
-        Ok((reports, crew)) => reports.len() == 5 && giver.asked == 6 && served_by(&crew) == 5,
-        Err(Refused::NoThread) => giver.asked == 0,
-        Err(Refused::NoMemory(crew)) => crew.len() == 2 && served_by(&crew) == giver.asked,
+    let Shared {
+        reports,
+        workers,
+        teller,
+        end,
+    } = share(&rt, alloc, &ALL, &mut giver, crew, Heard::none());
+    let asked = match end {
+        End::Given => 6,
+        End::NoMemory => reports.len() as u64,
+        End::NoThread => 0,
     };
-    assert!(rt; well);
+    let served = if end == End::Given { 5 } else { giver.asked };
+    assert!(rt; giver.asked == asked && reports.len() as u64 == served);
+    assert!(rt; workers.len() == 2 && served_by(&workers) == served);
+    assert!(rt; teller.count == served && teller.is_ordered);
 }

@@ -1,10 +1,9 @@
 -- Texts that are written one behind another are one text.
-use Rattle.std.proofs.Common.{◌≡◌, ◌∙◌, ℕ, suc, ◌+◌, Bool, true, false, List, [], ◌∷◌, ◌++◌, length, take, Option, refl, sym, ap, ap₂, subst, arith, codes, replicate, length-append, append_assoc, append-nil, zero-add}
+use Rattle.std.proofs.Common.{◌≡◌, ◌∙◌, ℕ, suc, ◌+◌, Bool, true, false, List, [], ◌∷◌, ◌++◌, length, take, Option, All, map, refl, sym, ap, ap₂, subst, arith, codes, replicate, length-append, append_assoc, append-nil, zero-add}
 use Rattle.std.proofs.KnownBytes.{Appends-nil, Appends-trans}
-use Rattle.std.proofs.lemmas.List.Elements.{All-append}
+use Rattle.std.proofs.lemmas.List.Elements.{All-append, All-head, All-tail}
 use Rattle.std.proofs.lemmas.List.Sums.{sum_by-append}
 use Rattle.std.proofs.lemmas.List.{take-append-le}
-use Rattle.std.proofs.lemmas.List.Concat.{flat_map-append}
 use Rattle.std.specs.Io.KnownBytes.{Appends}
 use Rattle.asgi_io.specs.declared.answer.Answer.{Answer}
 use Rattle.asgi_io.specs.declared.answer.Answer.TheVariants.{Paused, Moved}
@@ -13,6 +12,7 @@ use Rattle.asgi_io.specs.declared.write.Wrote.TheVariants.{Done, Failed}
 use Rattle.asgi_io.specs.Writing.{WritesOut, TriesWrites, Part, IsPart, IsEnd, part_answers, out_of}
 use Rattle.asgi_io.proofs.CountLemmas.{never_fell, rose_after}
 use Rattle.asgi_conversation.specs.declared.report.Report.{Report}
+use Rattle.asgi_desk.specs.Told.{Told}
 use Rattle.asgi_demo.specs.Telling.{Writer, Tells, Puts, PutsNext, is_whole, report_line, report_lines}
 
 -- how much went out of a text, so many bytes behind the beginning of a longer one
@@ -120,18 +120,35 @@ failure_goes_out what why a b c d one other last is goes x y z =
     let Y : Puts why b c true = subst (λ w. Puts why b c w) goes y in
     puts_told (what ++ why ++ codes "\n") a d last (puts_next (what ++ why) (codes "\n") a c d last (puts_next what why a b c true X Y) z)
 
--- the lines of some reports, and of one more
-lines_more : (reports : List (ℕ × Report)) (report : ℕ × Report) → report_lines (reports ++ report ∷ []) ≡ report_lines reports ++ report_line report
-lines_more reports report =
-    flat_map-append report_line reports (report ∷ []) ∙ ap (λ (l : List ℕ). report_lines reports ++ l) (append-nil (report_line report))
-
 next_by : (text line : List ℕ) (told whole : Bool) (a b c : Writer) → Puts text a b told → PutsNext told line b c whole → Puts (text ++ line) a c whole
 next_by text line true whole a b c x y = puts_next text line a b c whole x y
 next_by text line false whole a b c x (same, fails) =
     subst (λ w. Puts (text ++ line) a c w) (sym fails) (subst (λ w. Puts (text ++ line) a w false) (sym same) (puts_stopped text line a b x))
 
--- the lines of the reports so far, and that of the next one
-pub line_is_next : (reports : List (ℕ × Report)) (number : ℕ) (report : Report) (told whole : Bool) (a b c : Writer) → Puts (report_lines reports) a b told
-    → PutsNext told (report_line (number, report)) b c whole → Puts (report_lines (reports ++ (number, report) ∷ [])) a c whole
-line_is_next reports number report told whole a b c x y =
-    subst (λ l. Puts l a c whole) (sym (lines_more reports (number, report))) (next_by (report_lines reports) (report_line (number, report)) told whole a b c x y)
+-- A teller that wrote the lines of the reports, one after another, wrote them as one text.
+module _ {T : Type 0} (tells : T → T → ℕ → Report → Type 0) (whole_of : T → Bool) (at : T → Writer)
+    (prints : (was is : T) (n : ℕ) (r : Report) → tells was is n r → PutsNext (whole_of was) (report_line (n, r)) (at was) (at is) (whole_of is)) where
+  printed_behind : (text : List ℕ) (a : Writer) (was is : T) (reports : List (ℕ × Report)) → Told tells was is reports → Puts text a (at was) (whole_of was)
+      → Puts (text ++ report_lines reports) a (at is) (whole_of is)
+  printed_behind text a was is [] told x =
+      subst (λ (l : List ℕ). Puts l a (at is) (whole_of is)) (sym (append-nil text)) (subst (λ (t : T). Puts text a (at t) (whole_of t)) (sym told) x)
+  printed_behind text a was is (r ∷ rs) told x =
+      let next = next_by text (report_line r) (whole_of was) (whole_of told.0) a (at was) (at told.0) x (prints was told.0 r.0 r.1 told.1) in
+      subst (λ (l : List ℕ). Puts l a (at is) (whole_of is)) (append_assoc text (report_line r) (report_lines rs))
+      (printed_behind (text ++ report_line r) a told.0 is rs told.2 next)
+
+  pub printed : (was is : T) (reports : List (ℕ × Report)) → Told tells was is reports → whole_of was ≡ true → Puts (report_lines reports) (at was) (at is) (whole_of is)
+  printed was is reports told begins =
+      printed_behind [] (at was) was is reports told (subst (λ b. Puts [] (at was) (at was) b) (sym begins) (puts_nothing (at was)))
+
+-- what each report leaves as it is stays so
+pub stays : {T X N : Type 0} (tells : T → T → ℕ → N → Type 0) (part : T → X) → ((was is : T) (n : ℕ) (r : N) → tells was is n r → part is ≡ part was)
+    → (was is : T) (reports : List (ℕ × N)) → Told tells was is reports → part is ≡ part was
+stays tells part same was is [] told = ap part told
+stays tells part same was is (r ∷ rs) told = stays tells part same told.0 is rs told.2 ∙ same was told.0 r.0 r.1 told.1
+
+-- each count is none
+pub all_none : {A : Type 0} (count : A → ℕ) (xs : List A) → All (λ x. count x ≡ 0) xs → map count xs ≡ replicate (length xs) 0
+all_none count [] all = refl
+all_none count (x ∷ xs) all =
+    ap₂ (λ (n : ℕ) (l : List ℕ). n ∷ l) (All-head (λ x. count x ≡ 0) x xs all) (all_none count xs (All-tail (λ x. count x ≡ 0) x xs all))

@@ -73,9 +73,9 @@ pub record BeginsNone (old new : Streams) (status : ℕ) : Type 0 where
   pub tells : Tells device_fault old.errors new.errors
   pub status_is : status ≡ 5
 
--- The connections of a port were served with the usual limits, by an application of this promise.
-pub record ServesPort {L : Type 0} (R : reads.Ghosts L) (W : counts.Ghosts L) (M : messages.Ghosts L) (answers : Promise) (has_failed : Bool)
+-- The connections of a port were served with the usual limits, by an application of this promise and so many workers.
+pub record ServesPort {L : Type 0} (R : reads.Ghosts L) (W : counts.Ghosts L) (M : messages.Ghosts L) (answers : Promise) (workers : ℕ) (has_failed : Bool)
     (old new : Around L) (errors_old errors_new : Writer) (status : ℕ) : Type 0 where
   pub limits : Limits
   pub usual : AreLimits limits 16384 64 1048576 16384 16 30000 1099511627776
-  pub serves : ServesOn R W M answers limits has_failed old new errors_old errors_new status
+  pub serves : ServesOn R W M answers limits workers has_failed old new errors_old errors_new status

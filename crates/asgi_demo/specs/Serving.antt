@@ -1,6 +1,6 @@
 -- How the program serves the connections of a listener: the application is started, each connection is served and reported, and the
 -- application is stopped, whatever happened in between (ASGI lifespan protocol 2.0).
-use Rattle.std.specs.Prelude.{◌≡◌, ◌⊎◌, ◌&&◌, ◌++◌, ℕ, Bool, true, false, not, List, [], ◌∷◌, codes, length, map, Option, Some, None, if◌then◌else◌}
+use Rattle.std.specs.Prelude.{◌≡◌, ◌⊎◌, ◌&&◌, ◌++◌, ℕ, Bool, true, false, not, List, [], ◌∷◌, codes, replicate, Option, Some, None}
 use mathlib.Core.List.{IsPrefix}
 use Rattle.asgi_io.specs.declared.counts.Counts as counts
 use Rattle.asgi_io.specs.declared.reads.Reads as reads
@@ -20,7 +20,11 @@ use Rattle.asgi_lifespan.specs.Facts.{lifespan_scope, no_request}
 use Rattle.asgi_lifespan.specs.Lifespan.{StartAnswer, started, failed, unsupported, start_answer}
 use Rattle.asgi_lifespan.specs.Stopping.{Stops}
 use Rattle.asgi_lifespan.specs.Turning.{TakesTurns}
-use Rattle.asgi_server.specs.Connections.{Promise, Given, arrived, EachConnectionOnce}
+use Rattle.asgi_crew.specs.declared.give.End.{End}
+use Rattle.asgi_crew.specs.declared.give.End.TheVariants as end
+use Rattle.asgi_crew.specs.Ran.{last_of}
+use Rattle.asgi_crew.specs.Shared.{IsShared}
+use Rattle.asgi_server.specs.Connections.{Promise, Given, served_by}
 use Rattle.asgi_demo.specs.declared.ending.Ending.{Ending}
 use Rattle.asgi_demo.specs.declared.ending.Ending.TheVariants.{Done, StartupFailed, NoStartup, ShutdownFailed, NoShutdown, DeviceFault}
 use Rattle.asgi_demo.specs.Telling.{Writer, Tells, TellsOf, Puts, report_lines, device_fault}
@@ -67,22 +71,26 @@ pub record Around (L : Type 0) : Type 0 where
 abbrev pub around : {L : Type 0} → List (Option (Given L)) → Writer → Around L
 around asked output = record { asked = asked; output = output }
 
-module _ {L : Type 0} (R : reads.Ghosts L) (W : counts.Ghosts L) (M : messages.Ghosts L) (answers : Promise) (limits : Limits) (has_failed : Bool) where
-  -- The connections of the listener were served with this state, one after another, and of each a line was told once it had ended.
-  -- All went well where each line went out, and the listener has not failed.
-  pub record ServesEach (state : List (List ℕ × StateValue)) (old new : Around L) (before after : ℕ) (well : Bool) : Type 0 where
-    -- the connections that it gave, and then none, where it was asked to its end
-    pub given : List (Given L)
-    pub to_end : Bool
-    pub asked : new.asked ≡ old.asked ++ map Some given ++ (if to_end then None ∷ [] else [])
-    -- each was served, and reported once, with the numbers 1 upwards; it is asked to its end but where no number is left
+-- whether the listener has no more connections
+abbrev pub gave_all : End → Bool
+gave_all end.Given = true
+gave_all end.NoMemory = false
+gave_all end.NoThread = false
+
+module _ {L : Type 0} (R : reads.Ghosts L) (W : counts.Ghosts L) (M : messages.Ghosts L) (answers : Promise) (limits : Limits) (workers : ℕ) (has_failed : Bool) where
+  -- The connections of the listener were served with this state, each by one of so many workers, and of each a line was told, in the
+  -- order in which they came. All went well where the listener gave all that it had and has not failed, and each line went out.
+  pub record ServesEach (state : List (List ℕ × StateValue)) (old new : Around L) (well : Bool) : Type 0 where
+    -- why no more was asked for
+    pub ended : End
+    -- the count of each worker's pauses began at none, and is this
+    pub pauses : List ℕ
     pub reports : List (ℕ × Report)
-    pub each : EachConnectionOnce answers limits state 1 (map (arrived R W M) given) before after reports
-    pub ends : to_end ≡ false → length reports ≡ 18446744073709551614
+    pub shared : IsShared (served_by R W M answers limits state) old.asked new.asked (last_of ended) (replicate workers 0) pauses reports
     -- the lines went out, all of them or as much as the writer took
     pub told : Bool
     pub tells : Puts (report_lines reports) old.output new.output told
-    pub well_is : well ≡ (to_end && told && not has_failed)
+    pub well_is : well ≡ (gave_all ended && told && not has_failed)
 
   -- ---- the life of the application
 
@@ -90,10 +98,9 @@ module _ {L : Type 0} (R : reads.Ghosts L) (W : counts.Ghosts L) (M : messages.G
   -- the listener is not asked.
   abbrev pub Follows : Option StartAnswer → List Incoming → List Outgoing → Around L → Around L → ℕ → ℕ → Ending → Type 0
   Follows (Some (started state)) heard said old new before after ending =
-      (well : Bool) × (between : ℕ) × (answer : Stop) × ServesEach state old new before between well
-      × Stops (answers lifespan_scope) limits heard said between after answer × (ending ≡ ending_of well answer)
+      (well : Bool) × (answer : Stop) × ServesEach state old new well × Stops (answers lifespan_scope) limits heard said before after answer × (ending ≡ ending_of well answer)
   Follows (Some unsupported) heard said old new before after ending =
-      (well : Bool) × ServesEach [] old new before after well × (ending ≡ ending_of well stop.Stopped)
+      (well : Bool) × ServesEach [] old new well × (after ≡ before) × (ending ≡ ending_of well stop.Stopped)
   Follows (Some (failed message)) heard said old new before after ending = (new ≡ old) × (after ≡ before) × (ending ≡ StartupFailed message)
   Follows None heard said old new before after ending = (new ≡ old) × (after ≡ before) × (ending ≡ NoStartup)
 

@@ -13,7 +13,7 @@ use Rattle.asgi_conversation.specs.OutcomeWords.{outcome_words}
 
 -- the texts, each a line
 abbrev pub usage : List ℕ
-usage = codes "usage: asgi_demo once APP | asgi_demo serve PORT COUNT APP\n"
+usage = codes "usage: asgi_demo once APP | asgi_demo serve PORT COUNT APP [WORKERS]\n"
 
 abbrev pub device_fault : List ℕ
 device_fault = codes "device fault\n"

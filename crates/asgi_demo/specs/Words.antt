@@ -2,6 +2,7 @@
 use Rattle.std.specs.Prelude.{◌≡◌, ℕ, ◌&&◌, nat_le, if◌then◌else◌, List, [], ◌∷◌, length, codes, Option, Some, None}
 use Rattle.std.specs.List.{list_all}
 use Rattle.asgi_types.specs.Lengths.{is_digit, number_of}
+use Rattle.asgi_crew.specs.declared.workers.Workers.{Workers}
 use Rattle.asgi_demo.specs.declared.words.App.{App}
 use Rattle.asgi_demo.specs.declared.words.App.TheVariants as app
 use Rattle.asgi_demo.specs.declared.words.Command.{Command}
@@ -34,20 +35,27 @@ number_in least most word = within least most (number_of_word word)
 abbrev pub IsOnce : List (List ℕ) → App → Type 0
 IsOnce words named = words ≡ codes "once" ∷ word_of named ∷ []
 
--- a port, a number of connections and the name of an application, in words
-abbrev pub IsServeWith : (port count name : List ℕ) → Command → Type 0
-IsServeWith port count name (Once named) = ⊥
-IsServeWith port count name (Serve p c named) = (number_in 1 65535 port ≡ Some p) × (number_in 1 1000 count ≡ Some c) × (name ≡ word_of named)
+-- the number of workers: two, or the one word that names it
+abbrev pub workers_of : List (List ℕ) → Option ℕ
+workers_of [] = Some 2
+workers_of (word ∷ []) = number_in 1 8 word
+workers_of (word ∷ other ∷ words) = None
 
--- the words are `serve` and these three
+-- a port, a number of connections and the name of an application, in words, and so many workers
+abbrev pub IsServeWith : (port count name : List ℕ) → ℕ → Command → Type 0
+IsServeWith port count name workers (Once named) = ⊥
+IsServeWith port count name workers (Serve p c named w) = (number_in 1 65535 port ≡ Some p) × (number_in 1 1000 count ≡ Some c) × (name ≡ word_of named) × (w.count ≡ workers)
+
+-- the words are `serve`, these three, and the number of workers where it is named
 abbrev pub IsServe : List (List ℕ) → Command → Type 0
-IsServe words command = (port count name : List ℕ) × (words ≡ codes "serve" ∷ port ∷ count ∷ name ∷ []) × IsServeWith port count name command
+IsServe words command = (port count name : List ℕ) × (rest : List (List ℕ)) × (workers : ℕ) × (words ≡ codes "serve" ∷ port ∷ count ∷ name ∷ rest)
+    × (workers_of rest ≡ Some workers) × IsServeWith port count name workers command
 
--- the words ask to serve some connections of some port by this application
-abbrev pub IsServing : List (List ℕ) → App → Type 0
-IsServing words named = (port count : ℕ) × IsServe words (Serve port count named)
+-- the words ask to serve some connections of some port by this application and so many workers
+abbrev pub IsServing : List (List ℕ) → App → ℕ → Type 0
+IsServing words named workers = (port count : ℕ) × (w : Workers) × IsServe words (Serve port count named w) × (w.count ≡ workers)
 
 -- the words ask for this
 abbrev pub Asks : List (List ℕ) → Command → Type 0
 Asks words (Once named) = IsOnce words named
-Asks words (Serve port count named) = IsServe words (Serve port count named)
+Asks words (Serve port count named w) = IsServe words (Serve port count named w)

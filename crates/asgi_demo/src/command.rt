@@ -1,5 +1,5 @@
 //! The command line.
-ghost use Rattle.std.specs.Prelude.{◌≡◌, ◌⊎◌, ◌++◌, map, string_bytes};
+ghost use Rattle.std.specs.Prelude.{◌≡◌, ℕ, ◌⊎◌, ◌++◌, map, string_bytes};
 ghost use Rattle.std.specs.IoError.{error_kind};
 ghost use Rattle.std.specs.declared.io.ErrorKind.TheVariants.{OutOfMemory};
 ghost use Rattle.asgi_conn.specs.Lines.{state_of};
@@ -21,34 +21,35 @@ use arrayvec::ArrayString;
 use asgi_apps::{Application, Echo, Hello, Life, NotFound, WsEcho};
 use asgi_conn::{CountingPause, Host, Inline, Line, Outcome, Report, serve_connection};
 use asgi_io::Counts;
-use asgi_server::Accepts;
+use asgi_server::{Accepts, Listener, Workers};
 use asgi_types::{Limits, State};
 use futures::task::{Doorbell, Solo};
 use std::alloc::AllocGlobal;
 use std::io::{self, ErrorKind};
 use std::random::RandomSource;
 
-const USAGE: &[u8] = b"usage: asgi_demo once APP | asgi_demo serve PORT COUNT APP\n";
+const USAGE: &[u8] = b"usage: asgi_demo once APP | asgi_demo serve PORT COUNT APP [WORKERS]\n";
 
 /// Runs the program on the words behind its name, and gives the exit status.
 ///
 /// `once APP` serves one connection over the line by that application, and tells on `errors` why the
-/// connection stopped, where it did. `serve PORT COUNT APP` starts the application, serves so many
-/// connections of that port, tells a line of each on `output`, stops the application, and tells on
-/// `errors` what went wrong. Any other words give the usage text on `errors`, and nothing else is done.
-pub fn command<H: Host, L: Line, N: Listens, W: Counts, E: Counts>(
-    rt: &H,
-    words: &[String],
-    line: &mut L,
-    listener: &mut N,
-    output: &mut W,
-    errors: &mut E,
-) -> u8
+/// connection stopped, where it did. `serve PORT COUNT APP [WORKERS]` starts the application, serves so many
+/// connections of that port by 1 to 8 workers, 2 where it is not said, tells a line of each on `output`,
+/// stops the application, and tells on `errors` what went wrong. Any other words give the usage text on
+/// `errors`, and nothing else is done.
+pub fn command<
+    H: Host + Sync,
+    L: Line,
+    M: Line + Drop + Send,
+    N: Listens + Listener<L = M> + Send,
+    W: Counts + Send,
+    E: Counts,
+>(rt: &H, words: &[String], line: &mut L, listener: &mut N, output: &mut W, errors: &mut E) -> u8
     ensures serves { (app : App) → IsOnce (map string_bytes words.now) app → (
         let before = streams (state_of L.Reads L.Counts L.Messages.own line.old) (writer (E.written errors.old) (E.answers errors.old) (E.failed errors.old)) in
         let after = streams (state_of L.Reads L.Counts L.Messages.own line.new) (writer (E.written errors.new) (E.answers errors.new) (E.failed errors.new)) in
         (ServesOnce (promise app) before after result) ⊎ (BeginsNone before after result)) }
-    ensures serves_port { (app : App) → IsServing (map string_bytes words.now) app → ServesPort N.L.Reads N.L.Counts N.L.Messages.own (promise app) (N.has_failed listener.new)
+    ensures serves_port { (app : App) (workers : ℕ) → IsServing (map string_bytes words.now) app workers → ServesPort M.Reads M.Counts M.Messages.own (promise app) workers (N.has_failed listener.new)
         (around (N.Listener.own.answers listener.old) (writer (W.written output.old) (W.answers output.old) (W.failed output.old)))
         (around (N.Listener.own.answers listener.new) (writer (W.written output.new) (W.answers output.new) (W.failed output.new)))
         (writer (E.written errors.old) (E.answers errors.old) (E.failed errors.old))
@@ -57,15 +58,22 @@ pub fn command<H: Host, L: Line, N: Listens, W: Counts, E: Counts>(
         (writer (E.written errors.old) (E.answers errors.old) (E.failed errors.old))
         (writer (E.written errors.new) (E.answers errors.new) (E.failed errors.new)) }
     ensures kept { ((asked : Command) → ¬ (Asks (map string_bytes words.now) asked)) → (line.new ≡ line.old) × (listener.new ≡ listener.old) × (output.new ≡ output.old) }
-    ensures port { (app : App) → IsServing (map string_bytes words.now) app → line.new ≡ line.old }
+    ensures port { (app : App) (workers : ℕ) → IsServing (map string_bytes words.now) app workers → line.new ≡ line.old }
     ensures once { (app : App) → IsOnce (map string_bytes words.now) app → (listener.new ≡ listener.old) × (output.new ≡ output.old) }
 {
     match command_of(words) {
         None => usage(errors),
         Some(Command::Once(app)) => once_by(rt, app, line, errors),
-        Some(Command::Serve { port, count, app }) => {
+        Some(
+            Command::Serve {
+                port,
+                count,
+                app,
+                workers,
+            },
+        ) => {
             listener.listen_on(port, count);
-            serve_by(rt, app, listener, output, errors)
+            serve_by(rt, app, workers, listener, output, errors)
         }
     }
 }
@@ -96,15 +104,15 @@ fn once_by<H: RandomSource + AllocGlobal, L: Line, E: Counts>(
     }
 }
 
-/// Serves the connections of the listener by the application that is named, with the usual limits.
-fn serve_by<H: Host, N: Accepts, W: Counts, E: Counts>(
-    rt: &H,
-    app: App,
-    listener: &mut N,
-    output: &mut W,
-    errors: &mut E,
-) -> u8
-    ensures { ServesPort N.L.Reads N.L.Counts N.L.Messages.own (promise app) (N.has_failed listener.new)
+/// Serves the connections of the listener by the application that is named and so many workers, with the usual limits.
+fn serve_by<
+    H: Host + Sync,
+    L: Line + Drop + Send,
+    N: Accepts + Listener<L = L> + Send,
+    W: Counts + Send,
+    E: Counts,
+>(rt: &H, app: App, workers: Workers, listener: &mut N, output: &mut W, errors: &mut E) -> u8
+    ensures { ServesPort L.Reads L.Counts L.Messages.own (promise app) workers.count (N.has_failed listener.new)
         (around (N.Listener.own.answers listener.old) (writer (W.written output.old) (W.answers output.old) (W.failed output.old)))
         (around (N.Listener.own.answers listener.new) (writer (W.written output.new) (W.answers output.new) (W.failed output.new)))
         (writer (E.written errors.old) (E.answers errors.old) (E.failed errors.old))
@@ -112,17 +120,33 @@ fn serve_by<H: Host, N: Accepts, W: Counts, E: Counts>(
 {
     let limits = Limits::usual();
     match app {
-        App::Hello => serve_on(rt, &limits, &Hello, listener, output, errors),
-        App::Echo => serve_on(rt, &limits, &Echo, listener, output, errors),
-        App::NotFound => serve_on(rt, &limits, &NotFound, listener, output, errors),
-        App::WsEcho => serve_on(rt, &limits, &WsEcho, listener, output, errors),
+        App::Hello => serve_on(rt, &limits, workers, &Hello, listener, output, errors),
+        App::Echo => serve_on(rt, &limits, workers, &Echo, listener, output, errors),
+        App::NotFound => serve_on(rt, &limits, workers, &NotFound, listener, output, errors),
+        App::WsEcho => serve_on(rt, &limits, workers, &WsEcho, listener, output, errors),
         App::Mounts => match mounts(rt.alloc()) {
-            Ok(app) => serve_on(rt, &limits, &app, listener, output, errors),
+            Ok(app) => serve_on(rt, &limits, workers, &app, listener, output, errors),
             Err(_) => device_fault(errors),
         },
-        App::Life => serve_on(rt, &limits, &Life::Works, listener, output, errors),
-        App::NoStart => serve_on(rt, &limits, &Life::NoStart, listener, output, errors),
-        App::NoStop => serve_on(rt, &limits, &Life::NoStop, listener, output, errors),
+        App::Life => serve_on(rt, &limits, workers, &Life::Works, listener, output, errors),
+        App::NoStart => serve_on(
+            rt,
+            &limits,
+            workers,
+            &Life::NoStart,
+            listener,
+            output,
+            errors,
+        ),
+        App::NoStop => serve_on(
+            rt,
+            &limits,
+            workers,
+            &Life::NoStop,
+            listener,
+            output,
+            errors,
+        ),
     }
 }
 

@@ -6,11 +6,34 @@ use crate::telling::put;
 use arrayvec::ArrayString;
 use asgi_conn::Report;
 use asgi_io::Counts;
+use asgi_server::Teller;
 use itoa::Buffer;
+
+/// Writes a line of each report.
+#[derive(Drop)]
+pub struct Printer<'a, W> {
+    pub output: &'a mut W,
+    /// Whether each line so far was written whole.
+    pub told: bool,
+}
+
+impl<'a, W: Counts> Teller<Report> for Printer<'a, W> {
+    ghost use Rattle.std.specs.Prelude.{◌≡◌};
+    ghost use Rattle.asgi_demo.specs.Telling.{PutsNext, report_line, writer};
+
+    ghost tells = { λ was is number report. (is.output.ghost_name ≡ was.output.ghost_name)
+        × PutsNext was.told (report_line (number, report))
+        (writer (W.written was.output.now) (W.answers was.output.now) (W.failed was.output.now))
+        (writer (W.written is.output.now) (W.answers is.output.now) (W.failed is.output.now)) is.told };
+
+    fn tell(&mut self, number: u64, report: &Report) {
+        self.told = print_next(self.told, number, report, &mut *self.output);
+    }
+}
 
 /// Writes the line of a report, where all lines before it were written whole: the number of the connection,
 /// that of its exchanges, and the words of its outcome. It says whether this one was, too.
-pub fn print_next<W: Counts>(told: bool, number: u64, report: &Report, output: &mut W) -> bool
+fn print_next<W: Counts>(told: bool, number: u64, report: &Report, output: &mut W) -> bool
     ensures { PutsNext told (report_line (number, report.now))
         (writer (W.written output.old) (W.answers output.old) (W.failed output.old))
         (writer (W.written output.new) (W.answers output.new) (W.failed output.new)) result }

@@ -1,32 +1,46 @@
 //! The server: its lifespan, its connections, and how it ended.
-ghost use Rattle.std.specs.Prelude.{◌≡◌, ◌&&◌, not};
-ghost use Rattle.asgi_demo.specs.Serving.{LivesOrNot, ServesEach, ServesOn, around, ending_of};
+ghost use Rattle.std.specs.Prelude.{◌≡◌, ◌&&◌, not, true, All, vec_len};
+ghost use Rattle.asgi_demo.specs.Serving.{LivesOrNot, ServesEach, ServesOn, around, ending_of, gave_all};
 ghost use Rattle.asgi_demo.specs.Telling.{writer};
 ghost use Rattle.asgi_types.specs.declared.limits.Limits.{Limits};
 
 use crate::ending::Ending;
-use crate::reports::print_next;
+use crate::reports::Printer;
 use crate::telling::device_fault;
 use asgi_apps::{AppTask, Application};
-use asgi_conn::{Beside, Host};
+use asgi_conn::Host;
 use asgi_io::{Counts, Pause};
+use asgi_kept::{Napping, Resting};
 use asgi_lifespan::{Lifespan, Start, Stop};
-use asgi_server::{Accepts, serve_next};
+use asgi_server::{
+    Accepts, BesideStation, End, Listener, Shared, Workers, end_stations, serve_all, stations,
+};
 use asgi_types::{Limits, State};
+use asgi_ws::Line;
 use futures::task::{Context, Doorbell, Solo};
 
-/// Serves the connections of the listener by this application: starts it, serves each connection, tells
-/// a line of each on `output`, stops the application, and tells on `errors` what went wrong. It gives
-/// the exit status. Its tasks run in a thread of their own, and its start and stop in this one.
+/// Serves the connections of the listener by this application and so many workers: starts it, serves each
+/// connection, tells a line of each on `output`, stops the application, and tells on `errors` what went
+/// wrong. It gives the exit status. Each worker and its tasks run in threads of their own, and the
+/// application's start and stop in this one.
 pub fn serve_on<
-    H: Host,
+    H: Host + Sync,
     T: AppTask + Send + 'static,
-    A: Application<Task = T>,
-    N: Accepts,
-    W: Counts,
+    A: Application<Task = T> + Send + Sync,
+    L: Line + Drop + Send,
+    N: Accepts + Listener<L = L> + Send,
+    W: Counts + Send,
     E: Counts,
->(rt: &H, limits: &Limits, app: &A, listener: &mut N, output: &mut W, errors: &mut E) -> u8
-    ensures { ServesOn N.L.Reads N.L.Counts N.L.Messages.own (A.answers app.now) limits.now (N.has_failed listener.new)
+>(
+    rt: &H,
+    limits: &Limits,
+    workers: Workers,
+    app: &A,
+    listener: &mut N,
+    output: &mut W,
+    errors: &mut E,
+) -> u8
+    ensures { ServesOn L.Reads L.Counts L.Messages.own (A.answers app.now) limits.now workers.count (N.has_failed listener.new)
         (around (N.Listener.own.answers listener.old) (writer (W.written output.old) (W.answers output.old) (W.failed output.old)))
         (around (N.Listener.own.answers listener.new) (writer (W.written output.new) (W.answers output.new) (W.failed output.new)))
         (writer (E.written errors.old) (E.answers errors.old) (E.failed errors.old))
@@ -35,107 +49,162 @@ pub fn serve_on<
     let Ok(solo) = Solo::new(rt, Doorbell::spinning()) else {
         return device_fault(errors);
     };
-    let Ok((mut runner, mut pause)) = Beside::napping(*rt) else {
+    let Ok((here, _there)) = Resting::pair(rt.alloc()) else {
+        return device_fault(errors);
+    };
+    let Ok(list) = stations::<T, H>(*rt, workers) else {
         return device_fault(errors);
     };
     let mut cx = solo.begin();
+    let mut pause = Napping::new(*rt, here);
     let ending = live(
-        rt,
-        limits,
-        app,
-        listener,
-        &mut cx,
-        &mut runner,
-        &mut pause,
-        output,
+        rt, limits, workers, app, listener, &mut cx, list, &mut pause, output,
     );
     cx.cancel();
-    runner.end();
     ending.tell(errors)
 }
 
 /// Starts the application, serves, and stops it.
 fn live<
-    H: Host,
+    H: Host + Sync,
     T: AppTask + Send + 'static,
-    A: Application<Task = T>,
-    N: Accepts,
-    Q: Pause + Drop + Send + 'static,
+    A: Application<Task = T> + Send + Sync,
+    L: Line + Drop + Send,
+    N: Accepts + Listener<L = L> + Send,
     P: Pause,
-    W: Counts,
+    W: Counts + Send,
 >(
     rt: &H,
     limits: &Limits,
+    workers: Workers,
     app: &A,
     listener: &mut N,
     cx: &mut Context<'_>,
-    runner: &mut Beside<T, Q, H>,
+    list: Vec<BesideStation<T, H>>,
     pause: &mut P,
     output: &mut W,
 ) -> Ending
-    ensures { LivesOrNot N.L.Reads N.L.Counts N.L.Messages.own (A.answers app.now) limits.now (N.has_failed listener.new)
+    requires { (vec_len list ≡ workers.count) × All (λ s. s.pause.count ≡ 0) list.items }
+    ensures { LivesOrNot L.Reads L.Counts L.Messages.own (A.answers app.now) limits.now workers.count (N.has_failed listener.new)
         (around (N.Listener.own.answers listener.old) (writer (W.written output.old) (W.answers output.old) (W.failed output.old)))
         (around (N.Listener.own.answers listener.new) (writer (W.written output.new) (W.answers output.new) (W.failed output.new)))
         (P.count pause.old) (P.count pause.new) result }
 {
     match Lifespan::start(rt.alloc(), app, limits, cx, pause) {
         Start::Started(lifespan, state) => {
-            let served = serve_each(rt, limits, &state, app, listener, runner, pause, output);
+            let served = serve_each(rt, limits, workers, &state, app, listener, list, output);
             ending_of(served, lifespan.stop(cx, pause))
         }
         Start::Unsupported => {
             let state = State::new(rt.alloc());
-            let served = serve_each(rt, limits, &state, app, listener, runner, pause, output);
+            let served = serve_each(rt, limits, workers, &state, app, listener, list, output);
             ending_of(served, Stop::Stopped)
         }
-        Start::Failed(message) => Ending::StartupFailed(message),
-        Start::Idle(_turns) => Ending::NoStartup,
-        Start::NoMemory => Ending::DeviceFault,
+        Start::Failed(message) => {
+            end_stations(list);
+            Ending::StartupFailed(message)
+        }
+        Start::Idle(_turns) => {
+            end_stations(list);
+            Ending::NoStartup
+        }
+        Start::NoMemory => {
+            end_stations(list);
+            Ending::DeviceFault
+        }
     }
 }
 
-/// Serves one connection after another, and tells a line of each once it has ended. It says whether all went
-/// well: a line that is not written whole is the last one, and the connections are served all the same.
-/// Where there is no thread for the tasks, one is asked for before each connection.
+/// What was lent stays as it is. A `&mut` that came back in a result is known again behind a call of it.
+fn keep<T>(lent: &mut T)
+    ensures { lent.new ≡ lent.old }
+{
+    let _ = lent;
+}
+
+/// Serves the connections, and tells a line of each, in the order in which they came, once it and all before it have
+/// ended. It says whether all went well: a line that is not written whole is the last one, and the connections are served
+/// all the same.
 fn serve_each<
-    H: Host,
+    H: Host + Sync,
     T: AppTask + Send + 'static,
-    A: Application<Task = T>,
-    N: Accepts,
-    Q: Pause + Drop + Send + 'static,
-    P: Pause,
-    W: Counts,
+    A: Application<Task = T> + Send + Sync,
+    L: Line + Drop + Send,
+    N: Accepts + Listener<L = L> + Send,
+    W: Counts + Send,
 >(
     rt: &H,
     limits: &Limits,
+    workers: Workers,
     state: &State,
     app: &A,
     listener: &mut N,
-    runner: &mut Beside<T, Q, H>,
-    pause: &mut P,
+    list: Vec<BesideStation<T, H>>,
     output: &mut W,
 ) -> bool
-    ensures { ServesEach N.L.Reads N.L.Counts N.L.Messages.own (A.answers app.now) limits.now (N.has_failed listener.new) state.now
+    requires { (vec_len list ≡ workers.count) × All (λ s. s.pause.count ≡ 0) list.items }
+    ensures { ServesEach L.Reads L.Counts L.Messages.own (A.answers app.now) limits.now workers.count (N.has_failed listener.new) state.now
         (around (N.Listener.own.answers listener.old) (writer (W.written output.old) (W.answers output.old) (W.failed output.old)))
         (around (N.Listener.own.answers listener.new) (writer (W.written output.new) (W.answers output.new) (W.failed output.new)))
-        (P.count pause.old) (P.count pause.new) result }
+        result }
 {
-    let mut told = true;
-    for number in 1..u64::MAX {
-        let _ready = runner.ready();
-        let Some(report) = serve_next(rt, limits, state, app, listener, runner, pause) else {
-            return is_well(told, listener.failed());
-        };
-        told = print_next(told, number, &report, output);
-    }
-    false
+    let lent = &mut *output;
+    let printer = Printer {
+        output: lent,
+        told: true,
+    };
+    let (well, printer) = serve_printing(rt, limits, workers, state, app, listener, list, printer);
+    let Printer {
+        output: lent,
+        told: _told,
+    } = printer;
+    keep(lent);
+    well
 }
 
-/// Whether all went well, by whether each line went out and whether the listener failed.
-fn is_well(told: bool, failed: bool) -> bool
-    ensures { result ≡ (told && not failed) }
+/// The same by a printer of the lines, which comes back.
+fn serve_printing<
+    'a,
+    H: Host + Sync,
+    T: AppTask + Send + 'static,
+    A: Application<Task = T> + Send + Sync,
+    L: Line + Drop + Send,
+    N: Accepts + Listener<L = L> + Send,
+    W: Counts + Send,
+>(
+    rt: &H,
+    limits: &Limits,
+    workers: Workers,
+    state: &State,
+    app: &A,
+    listener: &mut N,
+    list: Vec<BesideStation<T, H>>,
+    printer: Printer<'a, W>,
+) -> (bool, Printer<'a, W>)
+    requires { (vec_len list ≡ workers.count) × All (λ s. s.pause.count ≡ 0) list.items × (printer.told ≡ true) }
+    ensures served { ServesEach L.Reads L.Counts L.Messages.own (A.answers app.now) limits.now workers.count (N.has_failed listener.new) state.now
+        (around (N.Listener.own.answers listener.old) (writer (W.written printer.entry.output.now) (W.answers printer.entry.output.now) (W.failed printer.entry.output.now)))
+        (around (N.Listener.own.answers listener.new) (writer (W.written result.1.output.now) (W.answers result.1.output.now) (W.failed result.1.output.now)))
+        result.0 }
+    ensures same { result.1.output.ghost_name ≡ printer.entry.output.ghost_name }
 {
-    told && !failed
+    let Shared {
+        reports: _reports,
+        workers: list,
+        teller,
+        end,
+    } = serve_all(rt, limits, state, app, listener, workers, list, printer);
+    end_stations(list);
+    let well = is_well(end, teller.told, listener.failed());
+    (well, teller)
+}
+
+/// Whether all went well, by why no more connections were asked for, whether each line went out and whether the
+/// listener failed.
+fn is_well(end: End, told: bool, failed: bool) -> bool
+    ensures { result ≡ (gave_all end && told && not failed) }
+{
+    end == End::Given && told && !failed
 }
 
 /// How the server ended, whose application was stopped with this answer.

@@ -1,9 +1,13 @@
 //! The words behind the program's name.
-ghost use Rattle.std.specs.Prelude.{◌≡◌, IfSome, IfNone, ℕ, map, string_bytes};
+ghost use Rattle.std.specs.Prelude.{◌≡◌, IfSome, IfNone, Some, None, ℕ, map, string_bytes, length};
 ghost use Rattle.asgi_demo.specs.Words as spec;
 ghost use Rattle.asgi_demo.specs.Words.{Asks, IsOnce, IsServe};
 
+use asgi_server::Workers;
 use asgi_types::parse_length;
+
+/// How many workers there are where no word says it.
+const USUAL: u64 = 2;
 
 /// The applications that a word names.
 #[derive(Clone, Copy, Debug, PartialEq, Eq)]
@@ -24,8 +28,13 @@ pub enum App {
 pub enum Command {
     /// `once APP`: serves one connection, standard input and standard output.
     Once(App),
-    /// `serve PORT COUNT APP`: serves so many connections of this port.
-    Serve { port: u16, count: u64, app: App },
+    /// `serve PORT COUNT APP [WORKERS]`: serves so many connections of this port by so many workers.
+    Serve {
+        port: u16,
+        count: u64,
+        app: App,
+        workers: Workers,
+    },
 }
 
 /// What the words ask for; None where they are no command.
@@ -53,24 +62,59 @@ fn once_of(words: &[String]) -> Option<App>
     app_named(name.as_str())
 }
 
-/// What is to be served, where the words are `serve`, a port, a number of connections, and a name.
+/// What is to be served, where the words are `serve`, a port, a number of connections, a name, and a number of workers,
+/// which are two where it is not there.
 fn serve_of(words: &[String]) -> Option<Command>
     ensures some { IfSome result (λ command. IsServe (map string_bytes words.now) command) }
     ensures none { IfNone result ((command : Command) → ¬ (IsServe (map string_bytes words.now) command)) }
 {
-    let [serve, port, count, name] = words else {
+    match words.len() {
+        4 => serve_by_two(words),
+        5 => serve_by(words),
+        _ => None,
+    }
+}
+
+/// The same of four words.
+fn serve_by_two(words: &[String]) -> Option<Command>
+    requires { length words.now ≡ 4 }
+    ensures some { IfSome result (λ command. IsServe (map string_bytes words.now) command) }
+    ensures none { IfNone result ((command : Command) → ¬ (IsServe (map string_bytes words.now) command)) }
+{
+    let [first, port, count, name] = words else {
+        return None;
+    };
+    if first.as_str() != "serve" {
+        return None;
+    }
+    serve_with(
+        port.as_str(),
+        count.as_str(),
+        name.as_str(),
+        Workers::new(USUAL)?,
+    )
+}
+
+/// The same of five words.
+fn serve_by(words: &[String]) -> Option<Command>
+    requires { length words.now ≡ 5 }
+    ensures some { IfSome result (λ command. IsServe (map string_bytes words.now) command) }
+    ensures none { IfNone result ((command : Command) → ¬ (IsServe (map string_bytes words.now) command)) }
+{
+    let [serve, port, count, name, workers] = words else {
         return None;
     };
     if serve.as_str() != "serve" {
         return None;
     }
-    serve_with(port.as_str(), count.as_str(), name.as_str())
+    let workers = workers_in(workers.as_str())?;
+    serve_with(port.as_str(), count.as_str(), name.as_str(), workers)
 }
 
-/// What these three words ask to serve.
-fn serve_with(port: &str, count: &str, name: &str) -> Option<Command>
-    ensures some { IfSome result (λ command. spec.IsServeWith port.now count.now name.now command) }
-    ensures none { IfNone result ((command : Command) → ¬ (spec.IsServeWith port.now count.now name.now command)) }
+/// What these three words ask to serve, by so many workers.
+fn serve_with(port: &str, count: &str, name: &str, workers: Workers) -> Option<Command>
+    ensures some { IfSome result (λ command. spec.IsServeWith port.now count.now name.now workers.count command) }
+    ensures none { IfNone result ((command : Command) → ¬ (spec.IsServeWith port.now count.now name.now workers.count command)) }
 {
     let port = number_in(1, 65_535, port)?;
     let count = number_in(1, 1_000, count)?;
@@ -79,7 +123,17 @@ fn serve_with(port: &str, count: &str, name: &str) -> Option<Command>
         port: port as u16,
         count,
         app,
+        workers,
     })
+}
+
+/// The number of workers in a word.
+#[tactic(auto, using(crate::proofs::WordLemmas::no_number))]
+fn workers_in(word: &str) -> Option<Workers>
+    ensures some { IfSome result (λ workers. spec.number_in 1 8 word.now ≡ Some workers.count) }
+    ensures none { IfNone result (spec.number_in 1 8 word.now ≡ None) }
+{
+    Workers::new(number_in(1, 8, word)?)
 }
 
 /// The number that a word of 1 to 5 digits writes, where it is within these bounds.

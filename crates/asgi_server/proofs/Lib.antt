@@ -1,2 +1,1 @@
-pub mod ConnectionLemmas
 pub mod StationLemmas

@@ -1,5 +1,5 @@
 -- What a server promises of its connections: each one that the listener gave is served once, and has one report.
-use Rattle.std.specs.Prelude.{◌≡◌, ℕ, ◌+◌, List, [], ◌∷◌, ◌++◌, map, Option, Some, None}
+use Rattle.std.specs.Prelude.{◌≡◌, ℕ, List, [], ◌∷◌, ◌++◌, Option, Some, None}
 use Rattle.asgi_io.specs.declared.counts.Counts as counts
 use Rattle.asgi_io.specs.declared.reads.Reads as reads
 use Rattle.asgi_types.specs.declared.end_kind.EndKind.{EndKind}
@@ -38,22 +38,12 @@ pub record IsServed (answers : Promise) (limits : Limits) (state : List (List �
   pub line : LineState
   pub serves : Serves answers limits connection.client connection.server state connection.line line before after report
 
--- The connections were served one after another, in the order in which they came: each has one report, and they are numbered
--- from this number on.
-abbrev pub EachConnectionOnce : Promise → Limits → List (List ℕ × StateValue) → ℕ → List Arrived → ℕ → ℕ → List (ℕ × Report) → Type 0
-EachConnectionOnce answers limits state number [] before after reports = (after ≡ before) × (reports ≡ [])
-EachConnectionOnce answers limits state number (connection ∷ connections) before after reports =
-    (report : Report) × (between : ℕ) × (others : List (ℕ × Report))
-    × (reports ≡ (number, report) ∷ others)
-    × IsServed answers limits state connection before between report
-    × EachConnectionOnce answers limits state (number + 1) connections between after others
-
 -- One connection was asked for: there was none, or the one that was given was served, and this is its report.
 abbrev pub ServesNext : {L : Type 0} → reads.Ghosts L → counts.Ghosts L → messages.Ghosts L → Promise → Limits → List (List ℕ × StateValue) → List (Option (Given L)) → List (Option (Given L)) → ℕ → ℕ → Option Report → Type 0
 ServesNext R W M answers limits state asked_old asked_new before after None = (asked_new ≡ asked_old ++ None ∷ []) × (after ≡ before)
 ServesNext R W M answers limits state asked_old asked_new before after (Some report) =
     (given : Given _) × (asked_new ≡ asked_old ++ Some given ∷ []) × IsServed answers limits state (arrived R W M given) before after report
 
--- From the worker as it was to the worker as it is, it served this connection, and this is the report; `count` is that of its pauses.
-abbrev pub by_worker : {L S : Type 0} → reads.Ghosts L → counts.Ghosts L → messages.Ghosts L → Promise → Limits → List (List ℕ × StateValue) → (S → ℕ) → S → S → Given L → Report → Type 0
-by_worker R W M answers limits state count was is given report = IsServed answers limits state (arrived R W M given) (count was) (count is) report
+-- One connection was served by a worker, the count of whose pauses rose so far, and this is the report.
+abbrev pub served_by : {L : Type 0} → reads.Ghosts L → counts.Ghosts L → messages.Ghosts L → Promise → Limits → List (List ℕ × StateValue) → ℕ → ℕ → Given L → Report → Type 0
+served_by R W M answers limits state before after given report = IsServed answers limits state (arrived R W M given) before after report

@@ -10,7 +10,7 @@ mod sockets;
 mod station;
 mod waiting;
 
-pub use asgi_crew::{Refused, Workers};
+pub use asgi_crew::{End, Shared, Teller, Workers};
 pub use asgi_lifespan::{Lifespan, Start, Stop};
 pub use listener::{Accepts, Listener};
 pub use serving::serve_next;

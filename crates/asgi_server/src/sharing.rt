@@ -1,14 +1,17 @@
 //! Many connections at the same time, each with one of several workers.
-ghost use Rattle.std.specs.Prelude.{◌≡◌, [], ◌∷◌, None, vec_len, IfOk, IfErr};
-ghost use Rattle.asgi_crew.specs.Shared.{IsShared, IsRefused};
-ghost use Rattle.asgi_server.specs.Connections.{by_worker, arrived, IsServed};
+ghost use Rattle.std.specs.Prelude.{◌≡◌, map, vec_len};
+ghost use Rattle.asgi_desk.specs.Told.{Told};
+ghost use Rattle.asgi_crew.specs.Ran.{last_of};
+ghost use Rattle.asgi_crew.specs.Shared.{IsShared};
+ghost use Rattle.asgi_crew.specs.declared.give.End.TheVariants.{NoThread};
+ghost use Rattle.asgi_server.specs.Connections.{served_by, arrived, IsServed};
 
 use crate::listener::Listener;
 use crate::serving::serve;
 use crate::station::Station;
 use asgi_apps::{AppTask, Application};
 use asgi_conn::{Report, Runner};
-use asgi_crew::{Asks, Refused, Serves, Workers, share};
+use asgi_crew::{Asks, Serves, Shared, Teller, Workers, share};
 use asgi_io::Pause;
 use asgi_pipes::{AppEnd, ConnEnd, Pipes};
 use asgi_types::{Limits, Peer, State};
@@ -44,7 +47,7 @@ impl<
 > Serves<Station<U, P>, (L, Option<Peer>, Option<Peer>)> for Serving<'a, H, A> {
     type Report = Report;
 
-    ghost serves = { λ how was is given report. by_worker L.Reads L.Counts L.Messages.own (A.answers how.app.now) how.limits.now how.state.now (λ s. P.count s.pause) was is given report };
+    ghost serves = { λ how was is given report. served_by L.Reads L.Counts L.Messages.own (A.answers how.app.now) how.limits.now how.state.now (P.count was.pause) (P.count is.pause) given report };
 
     fn serve(&self, station: &mut Station<U, P>, given: (L, Option<Peer>, Option<Peer>)) -> Report {
         let (line, client, server) = given;
@@ -63,8 +66,8 @@ impl<
 }
 
 /// Serves each connection that the listener gives, as many at the same time as there are workers, each in a thread of
-/// its own with one of these stations, and returns the reports in the order in which the connections were given, each
-/// with its number, 1 upwards, and the stations in their order.
+/// its own with one of these stations. The teller is told each report once, under its connection's number, 1 upwards, in
+/// the order in which the connections were given, and each as soon as all those before it are there.
 ///
 /// A worker serves one connection after another, to its end. A line is dropped once its connection has ended. Where a
 /// worker is refused its thread the listener is not asked (`NoThread`). Where memory for one more report is refused it
@@ -80,6 +83,7 @@ pub fn serve_all<
     Q: Pipes<Conn = C, App = E> + Drop + Send,
     U: Runner<T, Pipes = Q> + Drop + Send,
     P: Pause + Drop + Send,
+    K: Teller<Report> + Drop + Send,
 >(
     rt: &H,
     limits: &Limits,
@@ -88,12 +92,13 @@ pub fn serve_all<
     listener: &mut N,
     workers: Workers,
     stations: Vec<Station<U, P>>,
-) -> Result<(Vec<(u64, Report)>, Vec<Station<U, P>>), Refused<Station<U, P>>>
+    teller: K,
+) -> Shared<Report, Station<U, P>, K>
     requires { vec_len stations ≡ workers.count }
-    ensures served { IfOk result (λ r. IsShared (by_worker L.Reads L.Counts L.Messages.own (A.answers app.now) limits.now state.now (λ s. P.count s.pause))
-        (N.answers listener.old) (N.answers listener.new) (None ∷ []) stations.items r.1.items r.0.items) }
-    ensures refused { IfErr result (λ e. IsRefused (by_worker L.Reads L.Counts L.Messages.own (A.answers app.now) limits.now state.now (λ s. P.count s.pause))
-        (N.answers listener.old) (N.answers listener.new) stations.items e) }
+    ensures served { IsShared (served_by L.Reads L.Counts L.Messages.own (A.answers app.now) limits.now state.now) (N.answers listener.old) (N.answers listener.new) (last_of result.end)
+        (map (λ s. P.count s.pause) stations.items) (map (λ s. P.count s.pause) result.workers.items) result.reports.items }
+    ensures told { Told K.tells teller result.teller result.reports.items }
+    ensures no_thread { result.end ≡ NoThread → N.answers listener.new ≡ N.answers listener.old }
 {
     let _few = workers.count();
     let how = Serving {
@@ -102,5 +107,5 @@ pub fn serve_all<
         state,
         app,
     };
-    share(rt, rt.alloc(), &how, listener, stations)
+    share(rt, rt.alloc(), &how, listener, stations, teller)
 }

@@ -5,7 +5,9 @@ use asgi_apps::{AppTask, Application};
 use asgi_conn::{Host, Line, Outcome, Report};
 use asgi_fakes::texts::SERVER_ERROR;
 use asgi_io::History;
-use asgi_server::{Listener, Refused, Workers, end_stations, serve_all, stations};
+use asgi_server::{
+    End as Why, Listener, Shared, Teller, Workers, end_stations, serve_all, stations,
+};
 use asgi_types::{Limits, Peer, State};
 use asgi_ws::{Pair, Wired};
 use std::alloc::{AllocError, Global};
@@ -81,6 +83,16 @@ pub fn is_reported(reports: &[(u64, Report)], ends: &[End]) -> bool {
     at == ends.len()
 }
 
+/// Is told reports, and keeps none.
+#[derive(Drop)]
+struct Unheard;
+
+impl Teller<Report> for Unheard {
+    ghost tells = { λ _ _ _ _. Unit {0} };
+
+    fn tell(&mut self, _number: u64, _report: &Report) {}
+}
+
 /// Serves what the listener gives, with this state, by so many workers.
 pub fn serve<
     H: Host + Sync,
@@ -99,17 +111,17 @@ pub fn serve<
     let Ok(list) = stations::<T, H>(*rt, workers) else {
         return Err(AllocError);
     };
-    match serve_all(rt, limits, state, app, listener, workers, list) {
-        Ok((reports, list)) => {
-            end_stations(list);
-            Ok(reports)
-        }
-        Err(Refused::NoThread) => Err(AllocError),
-        Err(Refused::NoMemory(list)) => {
-            end_stations(list);
-            Err(AllocError)
-        }
+    let Shared {
+        reports,
+        workers: list,
+        teller: _teller,
+        end,
+    } = serve_all(rt, limits, state, app, listener, workers, list, Unheard);
+    end_stations(list);
+    if end == Why::Given {
+        return Ok(reports);
     }
+    Err(AllocError)
 }
 
 /// Serves a connection for each output, with these inputs in turn, by so many workers.

@@ -2,7 +2,6 @@ ghost use Rattle.std.specs.Prelude.{false};
 
 use super::*;
 use asgi_io::{Counted, History};
-use asgi_server::Listener;
 use asgi_types::Peer;
 use asgi_ws::{Pair, Wired};
 use std::alloc::Global;
@@ -23,7 +22,7 @@ const NOT_FOUND: &[u8] = b"HTTP/1.1 404 Not Found\r\ncontent-length: 0\r\n\r\n";
 const NO_NUMBER: &[u8] =
     b"HTTP/1.1 200 OK\r\ncontent-type: text/plain\r\ntransfer-encoding: chunked\r\n\r\n4\r\nn=?\n\r\n0\r\n\r\n";
 
-const USAGE_TEXT: &[u8] = b"usage: asgi_demo once APP | asgi_demo serve PORT COUNT APP\n";
+const USAGE_TEXT: &[u8] = b"usage: asgi_demo once APP | asgi_demo serve PORT COUNT APP [WORKERS]\n";
 
 fn words(alloc: Global, texts: &[&str]) -> Result<Vec<String>, Fail> {
     let mut words = Vec::new(alloc);
@@ -94,7 +93,12 @@ impl Listens for Nowhere {
 }
 
 /// Runs the program, where no connection comes from its port.
-fn run<H: Host, L: Line, E: Counts>(rt: &H, words: &[String], line: &mut L, errors: &mut E) -> u8 {
+fn run<H: Host + Sync, L: Line, E: Counts>(
+    rt: &H,
+    words: &[String],
+    line: &mut L,
+    errors: &mut E,
+) -> u8 {
     let mut nowhere = Nowhere {
         told: History::new(),
     };
@@ -113,7 +117,7 @@ type Row = (
 
 /// Whether the program does so on the words and the input of the row, and whether it left so many bytes of the input, where
 /// that is asked.
-fn is_row<H: Host>(rt: &H, row: &Row, left: Option<usize>) -> Result<bool, Fail> {
+fn is_row<H: Host + Sync>(rt: &H, row: &Row, left: Option<usize>) -> Result<bool, Fail> {
     let (texts, input, status, text, told) = *row;
     let words = words(rt.alloc(), texts)?;
     let mut line = line_of(rt.alloc(), input);
@@ -181,6 +185,11 @@ const WRONG: &[&[&str]] = &[
     &["once", "hello", "hello"],
     &["once", "notfound", ""],
     &["serve", "0", "1", "hello"],
+    &["serve", "8000", "1", "hello", "0"],
+    &["serve", "8000", "1", "hello", "9"],
+    &["serve", "8000", "1", "hello", "two"],
+    &["serve", "8000", "1", "hello", ""],
+    &["serve", "8000", "1", "hello", "2", "2"],
 ];
 
 #[test]
@@ -215,7 +224,11 @@ impl Write for Stuck {
 }
 
 /// The status of `once hello` over this line, where it tells this; None where it tells something else.
-fn status_of<H: Host, L: Line>(rt: &H, line: &mut L, told: &[u8]) -> Result<Option<u8>, Fail> {
+fn status_of<H: Host + Sync, L: Line>(
+    rt: &H,
+    line: &mut L,
+    told: &[u8],
+) -> Result<Option<u8>, Fail> {
     let words = words(rt.alloc(), &["once", "hello"])?;
     let mut errors = Counted::new(Vec::new(rt.alloc()));
     let status = run(rt, &words, line, &mut errors);
@@ -277,7 +290,7 @@ fn words_that_cannot_be_had_are_told(rt: HostRuntime) {
 
 /// The statuses of wrong words, of a connection that stops, and of words that can't be had, and how often what they tell
 /// failed.
-fn statuses_untold<H: Host>(rt: &H, none: &[String], once: &[String]) -> ([u8; 3], u64) {
+fn statuses_untold<H: Host + Sync>(rt: &H, none: &[String], once: &[String]) -> ([u8; 3], u64) {
     let kind = ErrorKind::BrokenPipe;
     let mut errors = Counted::new(Stuck { kind });
     let mut line = line_between(rt.alloc(), REQUEST, Stuck { kind });
@@ -300,7 +313,20 @@ fn a_text_that_cannot_be_told_changes_no_status(rt: HostRuntime) -> Result<(), F
 
 const SERVERS: &[Row] = &[
     (&["serve", "08000", "0001", "hello"], REQUEST, 0, b"", b""),
-    (&["serve", "08000", "0001", "life"], REQUEST, 0, b"", b""),
+    (
+        &["serve", "08000", "0001", "hello", "1"],
+        REQUEST,
+        0,
+        b"",
+        b"",
+    ),
+    (
+        &["serve", "08000", "0001", "life", "8"],
+        REQUEST,
+        0,
+        b"",
+        b"",
+    ),
     (
         &["serve", "08000", "0001", "nostart"],
         REQUEST,

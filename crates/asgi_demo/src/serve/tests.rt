@@ -2,10 +2,9 @@
 ghost use Rattle.std.specs.Prelude.{◌≡◌, Bool};
 
 use super::*;
-use asgi_apps::{AppFault, AppTask, Life};
+use asgi_apps::{AppFault, Life};
 use asgi_io::{Counted, History};
 use asgi_pipes::AppEnd;
-use asgi_server::Listener;
 use asgi_types::{Peer, Scope};
 use asgi_ws::{Pair, Wired};
 use futures::task::Poll;
@@ -117,10 +116,12 @@ impl Write for Room {
 /// The status, how often a connection is asked for, what is written, and what is told.
 type End = (u8, u64, &'static [u8], &'static [u8]);
 
-/// Whether a server of the one connection, whose listener may fail and whose output has so much room, ends so.
-fn ends<H: Host, T: AppTask + Send + 'static, A: Application<Task = T>>(
+/// Whether a server of the one connection by so many workers, whose listener may fail and whose output has so much room,
+/// ends so.
+fn ends<H: Host + Sync, T: AppTask + Send + 'static, A: Application<Task = T> + Send + Sync>(
     rt: &H,
     limits: &Limits,
+    workers: Workers,
     app: &A,
     fails: bool,
     left: usize,
@@ -130,7 +131,15 @@ fn ends<H: Host, T: AppTask + Send + 'static, A: Application<Task = T>>(
     let written = Vec::new(rt.alloc());
     let mut output = Counted::new(Room { written, left });
     let mut errors = Counted::new(Vec::new(rt.alloc()));
-    let status = serve_on(rt, limits, app, &mut listener, &mut output, &mut errors);
+    let status = serve_on(
+        rt,
+        limits,
+        workers,
+        app,
+        &mut listener,
+        &mut output,
+        &mut errors,
+    );
     let (wanted_status, asked, text, told) = wanted;
     status == wanted_status
         && listener.asked == asked
@@ -159,16 +168,22 @@ const ROWS: &[Row] = &[
 ];
 
 #[test]
-fn the_end_is_that_of_the_stop_where_all_went_well(rt: HostRuntime) {
+fn the_end_is_that_of_the_stop_where_all_went_well(rt: HostRuntime) -> Result<(), Fail> {
     let limits = Limits::usual();
-    for (row, (life, fails, room, end)) in ROWS.iter().enumerate() {
-        assert!(rt; ends(&rt, &limits, life, *fails, *room, *end), "row {row}");
+    for count in [1, 2, 8] {
+        let workers = Workers::new(count).ok_or("refused")?;
+        for (row, (life, fails, room, end)) in ROWS.iter().enumerate() {
+            let well = ends(&rt, &limits, workers, life, *fails, *room, *end);
+            assert!(rt; well, "row {row} by {count}");
+        }
     }
+    Ok(())
 }
 
 #[test]
 fn an_application_that_does_not_start_gets_no_connection(rt: HostRuntime) -> Result<(), Fail> {
     let few = Limits::new(16_384, 64, 1_048_576, 16_384, 16, 3, 1_000)?;
+    let two = Workers::new(2).ok_or("refused")?;
     let unanswered = (
         3,
         0,
@@ -181,7 +196,7 @@ fn an_application_that_does_not_start_gets_no_connection(rt: HostRuntime) -> Res
         b"".as_slice(),
         b"startup failed: no table\n".as_slice(),
     );
-    assert!(rt; ends(&rt, &few, &Silent, false, 100, unanswered));
-    assert!(rt; ends(&rt, &few, &Life::NoStart, false, 100, refused));
+    assert!(rt; ends(&rt, &few, two, &Silent, false, 100, unanswered));
+    assert!(rt; ends(&rt, &few, two, &Life::NoStart, false, 100, refused));
     Ok(())
 }

@@ -1,11 +1,21 @@
-use Rattle.std.proofs.Common.{◌≡◌, [], ◌∷◌, ◌++◌, length, vec_len, ap, sym, ◌∙◌, rules, arith, length-append, subst}
+use Rattle.std.proofs.Common.{◌≡◌, [], ◌∷◌, ◌++◌, length, vec_len, refl, ap, sym, ◌∙◌, rules, arith, subst}
 use Rattle.std.proofs.lemmas.List.{nil_from_length}
 use Rattle.crossbeam_channel.specs.Claims.{view}
+use Rattle.asgi_desk.specs.declared.channel.Hand as desk
+use Rattle.asgi_desk.specs.Seat.{knows}
 use Rattle.asgi_crew.specs.declared.channel.Hand.{Hand}
-use Rattle.asgi_crew.specs.Ran.{reports_of}
+use Rattle.asgi_crew.specs.declared.give.End.{End}
+use Rattle.asgi_crew.specs.Ran.{last_of, Ran}
 use Rattle.asgi_crew.specs.Shared.{InTurn}
-use Rattle.asgi_crew.proofs.Turns.{as_many, as_many_one, begun_at, one_more_at}
+use Rattle.asgi_crew.proofs.Turns.{all_ended, begun_at, none_started, one_more_at}
 use Rattle.asgi_crew.proofs.run.+run.Goals as goal
+
+pub returns-in_default-clause-ended : goal.returns-in_default-clause-ended
+returns-in_default-clause-ended g t c =
+    let none : vec_len c.args.crew ≡ 0 = search rules in
+    let ended : Hand g.row.C.Denot → _ = λ h. h.ended in
+    all_ended c.give_all-end.result _ _ c.give_all-end.ensures.begun
+    (ap ended c.give_stops.ensures.gave ∙ ap ended c.give_all-end.ensures.part ∙ ap ended c.requires.may.0 ∙ sym none)
 
 pub returns-in_default-clause-ran : goal.returns-in_default-clause-ran
 returns-in_default-clause-ran g t c =
@@ -13,27 +23,49 @@ returns-in_default-clause-ran g t c =
     begun_at (g.E.Serves.serves c.args.how.now) _ _ _ _ _ _ (view c.give_all-end.new.pass) _
     (nil_from_length c.args.crew.items (sym c.args.crew.ok.0 ∙ none))
     (nil_from_length c.pop.new.self.items (sym c.pop.new.self.ok.0 ∙ none-2))
-    c.give_all-end.ensures.room.0
+    (search rules)
     (ap (λ (h : Hand g.row.C.Denot). h.taken) c.give_all-end.ensures.part ∙ ap (λ (h : Hand g.row.C.Denot). h.taken) c.requires.may.0)
     c.give_all-end.ensures.answers c.give_all-end.ensures.numbers
     (ap (λ (h : Hand g.row.C.Denot). h.given) gave) (ap (λ (h : Hand g.row.C.Denot). h.taken) gave)
 
-pub put_into-requires : goal.put_into-requires
-put_into-requires g t c =
-    let all = as_many (g.E.Serves.serves c.args.how.now) _ _ _ _ _ _ _ c.in_ok-pass.ensures.ran in
-    let one = as_many_one (g.E.Serves.serves c.in-Ok.child.promise.how.value) _ _ _ _ c.join-other.ensures.2 in
-    let taken = ap (λ (h : Hand g.row.C.Denot). length h.taken) c.absorb.ensures.both in
-    let given = ap (λ (h : Hand g.row.C.Denot). length h.given) c.absorb.ensures.both in
-    omega (arith, c.in_ok-pass.ensures.room, c.absorb.ensures.bound, c.in_ok-pass.field-0.all.ok.0, length-append (view c.in_ok-pass.field-0.pass).taken (view c.join-other.result.pass).taken)
+pub returns-in_default-clause-room : goal.returns-in_default-clause-room
+returns-in_default-clause-room g t c =
+    let room = c.give_all-end.ensures.room in
+    let same = ap (λ (h : Hand g.row.C.Denot). length h.given) c.give_stops.ensures.gave in (room.0, omega (arith, room.1))
 
-pub returns-clause-ran : goal.returns-clause-ran
-returns-clause-ran g t c =
+pub returns-in_default-clause-refused : goal.returns-in_default-clause-refused
+returns-in_default-clause-refused g t c = λ e. absurd (c.give_all-end.ensures.begun e)
+
+pub returns-in-Ok-clause-ran : goal.returns-in-Ok-clause-ran
+returns-in-Ok-clause-ran g t c =
     let was : c.args.crew.items ≡ c.pop.new.self.items ++ c.in-Some.worker ∷ [] = search rules in
-    let is : c.push-room.new.self.items ≡ c.in_ok-pass.field-0.crew.items ++ c.join-other.result.worker ∷ [] = search rules in
     let same : c.in-Ok.child.promise.worker.value ≡ c.in-Some.worker = search rules in
     let same-how : c.in-Ok.child.promise.how.value ≡ c.args.how.now = search rules in
-    let turn = subst (λ (e : g.row.E.Denot). InTurn (g.E.Serves.serves e) c.in-Some.worker c.join-other.result.worker (view c.join-other.result.pass).taken (reports_of c.join-other.result.done)) same-how
-    (subst (λ (w : g.row.W.Denot). InTurn (g.E.Serves.serves c.in-Ok.child.promise.how.value) w c.join-other.result.worker (view c.join-other.result.pass).taken (reports_of c.join-other.result.done)) same c.join-other.ensures.2) in
-    one_more_at (g.E.Serves.serves c.args.how.now) _ _ _ _ _ _ _ _ _ _ _ _ _ _ _ c.in_ok-pass.ensures.ran turn
-    (ap (λ (h : Hand g.row.C.Denot). h.given) c.absorb.ensures.both) (ap (λ (h : Hand g.row.C.Denot). h.taken) c.absorb.ensures.both)
-    c.put_into.ensures.items was is
+    let worked = c.join-worked.result in let so_far = c.run-so_far.result in
+    let turn = subst (λ (e : g.row.E.Denot). InTurn (g.E.Serves.serves e) c.in-Some.worker worked.worker (view worked.pass).taken (knows worked.seat).put) same-how
+    (subst (λ (w : g.row.W.Denot). InTurn (g.E.Serves.serves c.in-Ok.child.promise.how.value) w worked.worker (view worked.pass).taken (knows worked.seat).put) same c.join-worked.ensures.3) in
+    subst (λ (e : End). Ran (g.E.Serves.serves c.args.how.now) (g.E.Asks.answers c.args.giver.now) (g.E.Asks.answers c.run-so_far.new.giver) (last_of e) c.args.crew.items c.joined.result.crew.items (knows c.joined.result.seat).put (view c.joined.result.pass))
+    (sym c.joined.ensures.same.1)
+    (one_more_at (g.E.Serves.serves c.args.how.now) _ _ _ _ _ _ _ _ _ _ _ _ _ _ _ c.run-so_far.ensures.ran turn
+    (ap (λ (h : Hand g.row.C.Denot). h.given) c.joined.ensures.pass) (ap (λ (h : Hand g.row.C.Denot). h.taken) c.joined.ensures.pass)
+    (ap (λ (h : desk.Hand g.row.N.Denot g.row.T.Denot). h.put) c.joined.ensures.put) was c.joined.ensures.crew.0)
+
+pub returns-in-Err-clause-ran : goal.returns-in-Err-clause-ran
+returns-in-Err-clause-ran g t c =
+    let was : c.args.crew.items ≡ c.pop.new.self.items ++ c.in-Some.worker ∷ [] = search rules in
+    let worked = c.spawn_with-worked.result in
+    let same : c.in-Err.refused.value.6 ≡ c.in-Some.worker = search rules in
+    let same-how : c.in-Err.refused.value.1.now ≡ c.args.how.now = search rules in
+    let turn = subst (λ (e : g.row.E.Denot). InTurn (g.E.Serves.serves e) c.in-Some.worker worked.worker (view worked.pass).taken (knows worked.seat).put) same-how
+    (subst (λ (w : g.row.W.Denot). InTurn (g.E.Serves.serves c.in-Err.refused.value.1.now) w worked.worker (view worked.pass).taken (knows worked.seat).put) same c.spawn_with-worked.ensures.in_turn) in
+    let stopped = c.give_stops-in-Err.new.pass in
+    let given = ap (λ (h : Hand g.row.C.Denot). h.given) c.give_stops-in-Err.ensures.gave ∙ ap (λ (h : Hand g.row.C.Denot). h.given) c.cut-mine.ensures.left ∙ ap (λ (h : Hand g.row.C.Denot). h.given) c.requires.may.0 in
+    let taken = ap (λ (h : Hand g.row.C.Denot). h.taken) c.give_stops-in-Err.ensures.gave ∙ ap (λ (h : Hand g.row.C.Denot). h.taken) c.cut-mine.ensures.left ∙ ap (λ (h : Hand g.row.C.Denot). h.taken) c.requires.may.0 in
+    let put = ap (λ (h : desk.Hand g.row.N.Denot g.row.T.Denot). h.put) c.seat-place.ensures.left ∙ ap (λ (h : desk.Hand g.row.N.Denot g.row.T.Denot). h.put) c.requires.free.0 in
+    let answers = g.E.Asks.answers c.args.giver.now in
+    let none = none_started (g.E.Serves.serves c.args.how.now) answers answers c.pop.new.self.items (knows c.seat-place.new.seat).put (view stopped) refl put given taken in
+    subst (λ (e : End). Ran (g.E.Serves.serves c.args.how.now) answers answers (last_of e) c.args.crew.items c.joined-in-Err.result.crew.items (knows c.joined-in-Err.result.seat).put (view c.joined-in-Err.result.pass))
+    (sym c.joined-in-Err.ensures.same.1)
+    (one_more_at (g.E.Serves.serves c.args.how.now) _ _ _ _ _ _ _ _ _ _ _ _ _ _ _ none turn
+    (ap (λ (h : Hand g.row.C.Denot). h.given) c.joined-in-Err.ensures.pass) (ap (λ (h : Hand g.row.C.Denot). h.taken) c.joined-in-Err.ensures.pass)
+    (ap (λ (h : desk.Hand g.row.N.Denot g.row.T.Denot). h.put) c.joined-in-Err.ensures.put) was c.joined-in-Err.ensures.crew.0)

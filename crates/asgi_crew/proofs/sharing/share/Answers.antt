@@ -1,24 +1,32 @@
-use Rattle.std.proofs.Common.{◌≡◌, [], subst}
+use Rattle.std.proofs.Common.{◌≡◌, [], length, vec_len, ap, subst, sym, ◌∙◌, rules, arith, List, ℕ}
+use Rattle.std.proofs.lemmas.List.Sorted.{length_permutation}
+use Rattle.crossbeam_channel.specs.Claims.{view}
+use Rattle.asgi_desk.specs.declared.channel.Hand as desk
+use Rattle.asgi_desk.specs.Seat.{knows}
 use Rattle.asgi_crew.specs.declared.give.End.{End}
-use Rattle.asgi_crew.specs.declared.give.End.TheVariants.{Given, NoMemory}
 use Rattle.asgi_crew.specs.Ran.{last_of}
 use Rattle.asgi_crew.specs.Shared.{IsShared}
-use Rattle.asgi_crew.proofs.Turns.{none_asked, shared}
+use Rattle.asgi_crew.proofs.Turns.{all_numbered, as_many, not_begun, shared}
 use Rattle.asgi_crew.proofs.sharing.share.Goals as goal
 
-pub returns-in_default-clause-refused : goal.returns-in_default-clause-refused
-returns-in_default-clause-refused g c = ([], none_asked (g.E.Serves.serves c.args.how.now) _ _)
+pub returns-in_default-clause-shared : goal.returns-in_default-clause-shared
+returns-in_default-clause-shared g c =
+    not_begun (g.E.Serves.serves c.args.how.now) _ _ _ _ _ c.not_begun.ensures.3 (search rules) c.not_begun.ensures.0
 
-pub returns-in-Given-clause-shared : goal.returns-in-Given-clause-shared
-returns-in-Given-clause-shared g c =
-    let e : c.in-Ok-run_scoped.field-0.end ≡ Given = cc in let settled = c.settle-reports.ensures in
-    subst (λ (e : End). IsShared (g.E.Serves.serves c.args.how.now) (g.E.Asks.answers c.args.giver.now) (g.E.Asks.answers c.run_scoped.new.giver) (last_of e) c.args.crew.items c.in-Ok-run_scoped.field-0.crew.items c.settle-reports.result.items) e
-    (shared (g.E.Serves.serves c.args.how.now) _ _ _ _ _ _ _ _ c.in-Ok-run_scoped.ensures.ran settled.each settled.reports settled.sorted)
+pub returns-in-Err-clause-shared : goal.returns-in-Err-clause-shared
+returns-in-Err-clause-shared g c =
+    not_begun (g.E.Serves.serves c.args.how.now) _ _ _ _ _ c.not_begun-in-Err.ensures.3 (search rules) c.not_begun-in-Err.ensures.0
 
-pub returns-clause-refused : goal.returns-clause-refused
-returns-clause-refused g c =
-    let e : c.in-Ok-run_scoped.field-0.end ≡ NoMemory = cc in let settled = c.settle-reports.ensures in (
-      c.settle-reports.result.items,
-      subst (λ (e : End). IsShared (g.E.Serves.serves c.args.how.now) (g.E.Asks.answers c.args.giver.now) (g.E.Asks.answers c.run_scoped.new.giver) (last_of e) c.args.crew.items c.in-Ok-run_scoped.field-0.crew.items c.settle-reports.result.items) e
-          (shared (g.E.Serves.serves c.args.how.now) _ _ _ _ _ _ _ _ c.in-Ok-run_scoped.ensures.ran settled.each settled.reports settled.sorted),
-    )
+pub close-teller-requires-clause-numbers : goal.close-teller-requires-clause-numbers
+close-teller-requires-clause-numbers g c = all_numbered (g.E.Serves.serves c.args.how.now) _ _ _ _ _ _ _ c.run_scoped-pass.ensures.ran c.settle.ensures
+
+pub close-teller-requires-clause-room : goal.close-teller-requires-clause-room
+close-teller-requires-clause-room g c =
+    let many = as_many (g.E.Serves.serves c.args.how.now) _ _ _ _ _ _ _ c.run_scoped-pass.ensures.ran in
+    let long = length_permutation _ _ c.settle.ensures in
+    let room = c.run_scoped-pass.ensures.room in (room.0, omega (arith, room.1))
+
+pub returns-clause-shared : goal.returns-clause-shared
+returns-clause-shared g c =
+    let closed = c.close-teller.ensures in
+    shared (g.E.Serves.serves c.args.how.now) _ _ _ _ _ _ _ _ c.run_scoped-pass.ensures.ran c.settle.ensures closed.each closed.in_order

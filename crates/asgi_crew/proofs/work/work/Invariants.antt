@@ -2,13 +2,15 @@ use Rattle.std.proofs.Common.{◌≡◌, []}
 use Rattle.crossbeam_channel.specs.Claims.{view, IsSeatAt}
 use Rattle.crossbeam_channel.specs.Ends.{receives_on}
 use Rattle.asgi_crew.specs.Channel.{hand}
-use Rattle.asgi_crew.specs.Ran.{reports_of}
+use Rattle.asgi_desk.specs.Channel.{seated}
+use Rattle.asgi_desk.specs.Seat.{knows, IsSeatOf}
 use Rattle.asgi_crew.specs.Shared.{InTurn}
 use Rattle.asgi_crew.proofs.work.work.Given as goal
 
 abbrev pub invariant-loop : goal.invariant-loop
 invariant-loop g l = record {
-  seat : IsSeatAt (receives_on l.from) l.pass;
+  seat : IsSeatAt (receives_on l.from) l.pass × IsSeatOf l.desk l.seat;
   part : view l.pass ≡ hand 1 0 [] (view l.pass).taken 0 0;
-  in_turn : InTurn (g.E.Serves.serves l.fn.how) l.fn.worker l.worker (view l.pass).taken (reports_of l.done);
+  free : knows l.seat ≡ seated 1 (knows l.fn.seat).first (knows l.seat).put;
+  in_turn : InTurn (g.E.Serves.serves l.fn.how) l.fn.worker l.worker (view l.pass).taken (knows l.seat).put;
 }

@@ -1,5 +1,7 @@
-use Rattle.std.proofs.Common.{map, string_bytes}
-use Rattle.asgi_demo.proofs.ServingLemmas.{port_asked}
+use Rattle.std.proofs.Common.{map, string_bytes, subst}
+use Rattle.asgi_demo.specs.Words.{Asks}
+use Rattle.asgi_demo.proofs.WordLemmas.{one_once}
+use Rattle.asgi_demo.proofs.ServingLemmas.{as_named, port_asked}
 use Rattle.asgi_demo.specs.declared.words.Command.TheVariants.{Once, Serve}
 use Rattle.asgi_demo.proofs.command.command.Goals as goal
 
@@ -10,9 +12,15 @@ pub returns-in-None-clause-once : goal.returns-in-None-clause-once
 returns-in-None-clause-once g c = λ a is. absurd (c.in-None.ensures.none (Once a) is)
 
 pub returns-in-None-clause-serves_port : goal.returns-in-None-clause-serves_port
-returns-in-None-clause-serves_port g c = λ a is. absurd (c.in-None.ensures.none (Serve is.0 is.1 a) is.2)
+returns-in-None-clause-serves_port g c = λ a n is. absurd (c.in-None.ensures.none (Serve is.0 is.1 a is.2) is.3)
 
 pub returns-in-Some-Serve-clause-serves_port : goal.returns-in-Some-Serve-clause-serves_port
-returns-in-Some-Serve-clause-serves_port g c = λ a is.
-    port_asked g.N.L.Reads g.N.L.Counts g.N.L.Messages (map string_bytes c.args.words.now) a c.in-Some-Serve.app c.in-Some-Serve.port c.in-Some-Serve.count _ _ _ _ _ _ _ _ c.in-Some-Serve.field-0
+returns-in-Some-Serve-clause-serves_port g c = λ a n is.
+    port_asked g.M.Reads g.M.Counts g.M.Messages (map string_bytes c.args.words.now) a c.in-Some-Serve.app c.in-Some-Serve.port c.in-Some-Serve.count n c.in-Some-Serve.workers _ _ _ _ _ _ _ _ c.in-Some-Serve.field-0
     is c.in-Some-Serve.ensures.some c.in-Some-Serve.field-0-is c.listen_on.ensures c.serve_by.ensures
+
+pub returns-in-Some-Once-clause-serves : goal.returns-in-Some-Once-clause-serves
+returns-in-Some-Once-clause-serves g c = λ a is.
+    let words = map string_bytes c.args.words.now in
+    as_named a c.in-Some-Once.app _ _ _
+    (one_once words a c.in-Some-Once.app is (subst (λ k. Asks words k) c.in-Some-Once.field-0-is c.in-Some-Once.ensures.some)) c.once_by.ensures
