@@ -5,9 +5,11 @@
 # long so many silent clients hold all workers, where SILENT is 1 (some five minutes).
 # Usage: tests/performance/workers.sh PROGRAM
 # PROGRAM is `asgi_demo`, built. It needs wrk, ab and nginx (Debian's wrk, apache2-utils and nginx-light), and a machine that does
-# nothing else.
+# nothing else. Before all, what one item costs that goes through `share` of asgi_crew to a worker who does nothing with it, and
+# whose report is told: its program stands below, and is proved and built in a folder of its own.
 set -eu
 program=$(realpath "$1")
+cd "$(dirname "$0")/../.."
 folder=$(mktemp -d)
 pid=
 trap 'kill $pid 2>/dev/null || true; rm -rf "$folder"' EXIT
@@ -72,6 +74,71 @@ load() {
   after=$(ticks)
   awk -v spent="$((after - before))" -v hz="$hz" '/requests in/ { n = $1 } /Requests\/sec/ { printf "%d %.1f\n", $2, spent / hz * 1e6 / n }' "$folder/wrk"
 }
+
+sharer_text() {
+  cat <<'P'
+//! Shares so many numbers out among so many workers, who only count them.
+#![tactic(auto)]
+
+mod fakes;
+
+use asgi_crew::{End, share};
+use fakes::{Counter, Counting, Heard, Numbers};
+use std::env;
+use std::process::ExitCode;
+use std::rt::Env;
+
+fn main(rt: HostRuntime) -> ExitCode {
+    let Some((items, workers)) = words_of(&rt) else {
+        return ExitCode::from(2);
+    };
+    let mut crew = Vec::new(rt.alloc());
+    for name in 0..workers {
+        if crew.push(Counter { name, served: 0 }).is_err() {
+            return ExitCode::from(5);
+        }
+    }
+    if crew.is_empty() || crew.len() > 8 {
+        return ExitCode::from(2);
+    }
+    let how = Counting { highest: u64::MAX };
+    let mut giver = Numbers::up_to(items);
+    let shared = share(&rt, rt.alloc(), &how, &mut giver, crew, Heard::none());
+    ExitCode::from(if shared.end == End::Given { 0 } else { 5 })
+}
+
+fn words_of<H: Env + AllocGlobal>(rt: &H) -> Option<(u64, u64)> {
+    let mut words = env::args(rt).ok()?.skip(1);
+    let items = words.next()?.parse::<u64>().ok()?;
+    let workers = words.next()?.parse::<u64>().ok()?;
+    Some((items, workers))
+}
+P
+}
+
+build() {
+  mkdir -p "$folder/crates/sharer/src"
+  for crate in asgi_io asgi_desk asgi_crew; do
+    mkdir "$folder/crates/$crate"
+    cp -a "crates/$crate/src" "crates/$crate/specs" "crates/$crate/proofs" "$folder/crates/$crate"
+  done
+  cp HANDLES "$folder"
+  sharer_text >"$folder/crates/sharer/src/main.rt"
+  # Without the part that the tests alone use.
+  sed '/^\/\/\/ The same, but a worker lets/,/^\/\/\/ Is told reports/{/^\/\/\/ Is told reports/!d}; /^use std::thread;$/d' crates/asgi_crew_tests/src/fakes.rt >"$folder/crates/sharer/src/fakes.rt"
+  { grep -E '^(asgi_io|asgi_desk|asgi_crew):' crates.txt; echo 'sharer status=2: asgi_io asgi_desk asgi_crew'; } >"$folder/crates.txt"
+  (cd "$folder" && rt ci >"$folder/log" 2>&1) || { tail -40 "$folder/log"; exit 1; }
+}
+
+build
+echo "workers: nanoseconds an item that is shared out, the least of three"
+for workers in 1 2 4 8; do
+  for _ in 1 2 3; do
+    began=$(date +%s%N)
+    "$folder/crates/sharer/out/sharer" 200000 "$workers"
+    echo $((($(date +%s%N) - began) / 200000))
+  done | sort -n | head -1 | sed "s/^/$workers: /"
+done
 
 echo "workers: requests a second and microseconds of processor time each, ours and nginx's"
 for workers in 1 2 4 8; do
