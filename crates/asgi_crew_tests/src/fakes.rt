@@ -3,6 +3,7 @@ ghost use Rattle.std.specs.Prelude.{◌≡◌, min};
 
 use asgi_crew::{Asks, Serves, Teller};
 use asgi_io::History;
+use std::thread;
 
 /// Gives the numbers from 1 to the last one, and counts how often it was asked.
 #[derive(Drop)]
@@ -66,6 +67,44 @@ impl Serves<Counter, u64> for Counting {
         worker.served = worker.served.saturating_add(1);
         (item.min(self.highest), worker.name)
     }
+}
+
+/// The same, but a worker lets other threads go first, as often as hangs on this seed and on the number.
+#[derive(Drop)]
+pub struct Dawdling {
+    pub seed: u64,
+}
+
+impl Asks<Numbers, u64> for Dawdling {
+    ghost answers = { λ giver. giver.told.items };
+
+    fn ask(&self, giver: &mut Numbers) -> Option<u64> {
+        let answer = giver.answer();
+        giver.told = History::with(&giver.told, &answer);
+        answer
+    }
+}
+
+impl Serves<Counter, u64> for Dawdling {
+    type Report = (u64, u64);
+
+    ghost serves = { λ how was is item report. (report.0 ≡ item) × (report.1 ≡ was.name) × (is.name ≡ was.name) };
+
+    fn serve(&self, worker: &mut Counter, item: u64) -> (u64, u64) {
+        for _ in 0..mixed(self.seed, item) % 32 {
+            thread::yield_now();
+        }
+        worker.served = worker.served.saturating_add(1);
+        (item, worker.name)
+    }
+}
+
+/// A number that looks as if it hung on neither.
+fn mixed(seed: u64, item: u64) -> u64 {
+    let one = item
+        .wrapping_add(seed.wrapping_mul(0x9E37_79B9_7F4A_7C15))
+        .wrapping_mul(0xBF58_476D_1CE4_E5B9);
+    (one ^ (one >> 31)).wrapping_mul(0x94D0_49BB_1331_11EB) >> 40
 }
 
 /// Is told reports, and keeps whether each came under the next number.

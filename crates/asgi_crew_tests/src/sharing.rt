@@ -1,6 +1,6 @@
 //! Each number is served once, whoever serves it, and the reports are told, and stand, in the order of the numbers.
-use crate::fakes::{Counter, Counting, Heard, Numbers};
-use asgi_crew::{End, Shared, share};
+use crate::fakes::{Counter, Counting, Dawdling, Heard, Numbers};
+use asgi_crew::{Asks, End, Serves, Shared, share};
 use std::alloc::{AllocError, AllocGlobal, Global};
 use std::process::Abort;
 use std::sync::Wait;
@@ -14,11 +14,10 @@ const ROWS: [(u64, u64); 7] = [(0, 1), (0, 2), (1, 8), (3, 3), (17, 5), (40, 1),
 const ALL: Counting = Counting { highest: u64::MAX };
 
 /// Shares so many numbers out among so many workers.
-fn shares<R: Threads + Wait + Sync + Abort + AllocGlobal>(
-    rt: &R,
-    items: u64,
-    workers: u64,
-) -> Result<(), Fail> {
+fn shares<
+    R: Threads + Wait + Sync + Abort + AllocGlobal,
+    E: Asks<Numbers, u64> + Serves<Counter, u64, Report = (u64, u64)> + Sync,
+>(rt: &R, how: &E, items: u64, workers: u64) -> Result<(), Fail> {
     let alloc: Global = rt.alloc();
     let mut giver = Numbers::up_to(items);
     let mut crew = Vec::new(alloc);
@@ -31,7 +30,7 @@ fn shares<R: Threads + Wait + Sync + Abort + AllocGlobal>(
         workers: crew,
         teller,
         end,
-    } = share(rt, alloc, &ALL, &mut giver, crew, Heard::none());
+    } = share(rt, alloc, how, &mut giver, crew, Heard::none());
     if end == End::NoMemory {
         return Err(Fail::from(AllocError));
     }
@@ -79,7 +78,25 @@ fn shares<R: Threads + Wait + Sync + Abort + AllocGlobal>(
 #[test]
 fn each_item_is_served_once(rt: HostRuntime) -> Result<(), Fail> {
     for (items, workers) in ROWS {
-        shares(&rt, items, workers)?;
+        shares(&rt, &ALL, items, workers)?;
+    }
+    Ok(())
+}
+
+#[test]
+fn a_giver_may_end_at_each_place(rt: HostRuntime) -> Result<(), Fail> {
+    for items in 0..20 {
+        for workers in 1..=8 {
+            shares(&rt, &ALL, items, workers)?;
+        }
+    }
+    Ok(())
+}
+
+#[test]
+fn whatever_the_order_in_which_workers_get_their_turns(rt: HostRuntime) -> Result<(), Fail> {
+    for seed in 0..200 {
+        shares(&rt, &Dawdling { seed }, 24, seed % 8 + 1)?;
     }
     Ok(())
 }

@@ -145,6 +145,6 @@ fn as_many_are_served_at_once_as_there_are_workers(rt: HostRuntime) -> Result<()
 
 #[test]
 fn one_worker_gives_up_what_needs_two(rt: HostRuntime) -> Result<(), Fail> {
-    assert!(rt; gathered(&rt, 2, 1, 150, &[(Outcome::Idle, 1), ONE])?);
+    assert!(rt; gathered(&rt, 2, 1, 600, &[(Outcome::Idle, 1), ONE])?);
     Ok(())
 }
