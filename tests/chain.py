@@ -5,7 +5,7 @@ tests/gate.py writes the log while it runs, by looking each second at the prover
 it was the crate's proof, its tests or its edits, when it began and ended, its processor seconds and the memory that it held at
 the most; and for each part of the gate when it began and ended, and how long each processor was idle.
 
-Of each part of a minute or more it prints the chain of the checks that ended last, each behind the last one that it had to
+Of each part of a minute or more it prints the chain of the checks that ended last, each after the last one that it had to
 wait for, with how long it then waited for a processor; how long each processor was idle; and what the checks took, the
 dearest crates first. With --self-test it reads a short log of its own.
 """
@@ -116,7 +116,7 @@ def below_of(crates):
 
 
 def chain_of(checks, below):
-    """Returns the chain that ends with the last of these checks, from its first one on: each with the seconds that it waited behind the one before, None for the first."""
+    """Returns the chain that ends with the last of these checks, from its first one on: each with the seconds that it waited after the one before, None for the first."""
     at, chain = max(checks, key=lambda it: it[3]), []
     while at:
         crate, kind, began = at[:3]
@@ -146,8 +146,8 @@ def told(log, crates):
             continue
         lines.append(f"{name}: {(ended - began) / 60:.1f} minutes; its processors were idle for {', '.join(f'{it:.1f}' for it in idle)}; the checks that ended last:")
         for (crate, kind, start, end, seconds, memory), waited in chain_of(last, below):
-            behind = f"it waited {waited / 60:.1f}, and " if waited is not None and waited > 5 else ""
-            lines.append(f"{(start - began) / 60:6.1f} {crate}, its {kind.replace('_', ' ')}: {behind}took {(end - start) / 60:.1f} ({seconds / 60:.1f} of a processor)")
+            after = f"it waited {waited / 60:.1f}, and " if waited is not None and waited > 5 else ""
+            lines.append(f"{(start - began) / 60:6.1f} {crate}, its {kind.replace('_', ' ')}: {after}took {(end - start) / 60:.1f} ({seconds / 60:.1f} of a processor)")
         lines.append("  what the checks took of a processor, in minutes, and the most memory of one, in MB:")
         sums = {}
         for crate, kind, _, _, seconds, memory in own:

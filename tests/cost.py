@@ -3,7 +3,7 @@
 
 The crate is checked from nothing, at one job, over its libraries in out/. A line a function that took SECONDS (8 where none
 are given) or more, slowest first; then the sum. The first function in order has the start of the check in its figure,
-and a figure may have some of what is shared with the function behind it. It is no part of the gate.
+and a figure may have some of what is shared with the function after it. It is no part of the gate.
 """
 
 import os
@@ -17,7 +17,7 @@ TOP = os.path.dirname(os.path.dirname(os.path.realpath(__file__)))
 
 
 def fields_of(process):
-    """Returns what the system says of a process behind its name, or None once it has ended."""
+    """Returns what the system says of a process after its name, or None once it has ended."""
     try:
         with open(f"/proc/{process}/stat", encoding="utf-8", errors="replace") as it:
             return it.read().rpartition(")")[2].split()

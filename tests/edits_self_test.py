@@ -16,6 +16,7 @@ import time
 import types
 
 import must_fail
+import toolchain
 import record
 from toolchain import crates_in, load_rt
 
@@ -252,6 +253,9 @@ class Ended:
         self.left -= 1
         return self.left < 0
 
+    def proved(self):
+        return set()
+
 
 def beside(rt):
     """Yields what is wrong, or None, of what is tried beside `rt ci`, which has proved these crates, and of what is left then."""
@@ -283,24 +287,117 @@ def grouped():
         yield None if is_right else f"the groups of {name} are {groups}"
 
 
+def halved():
+    """Yields what is wrong, or None, of what is told apart in a group of which one edit spoils each check that it is in: all but that one and its neighbour."""
+    for many in (2, 3, 16):
+        names, checks = [str(it) for it in range(many)], []
+        trial = types.SimpleNamespace(refused=lambda crate, edits, texts, checks=checks: checks.append(edits) or ([] if "1" in edits else edits))
+        trial.cleared = lambda crate, edits, trial=trial: must_fail.Trial.cleared(trial, crate, edits)
+        texts_of, must_fail.texts_of = must_fail.texts_of, lambda edits, folder: {}
+        clear = trial.cleared(types.SimpleNamespace(folder=""), names)
+        must_fail.texts_of = texts_of
+        is_right = clear == ([*names[2:]] if many > 3 else []) and len(checks) < 8
+        yield None if is_right else f"of {many} edits, one of which spoils each check, {clear} are clear after {len(checks)} checks"
+
+
 # A run beside another one, which says whether it was told within half a second that the other one has ended.
-TOLD = "import must_fail; print(must_fail.end_of_input().wait(0.5))"
+TOLD = "import must_fail; told = must_fail.Told(); print(told.wait(0.5), sorted(told.proved()))"
 
 
 def told():
-    """Yields what is wrong, or None, of what a run beside another one is told: nothing while its input is open, and it ends well then too, and the end
-    once its input has ended."""
+    """Yields what is wrong, or None, of what a run beside another one is told: the crates that are named while its input is open, and it ends well then too,
+    and the end once its input has ended."""
     tests = os.path.dirname(os.path.realpath(__file__))
-    for what, given, wanted in (("is open", subprocess.PIPE, "False\n"), ("has ended", subprocess.DEVNULL, "True\n")):
-        how = {"cwd": tests, "stdin": given, "stdout": subprocess.PIPE, "stderr": subprocess.STDOUT, "text": True}
+    for names, ends, wanted in (("", False, "False []\n"), ("low\nhigh\nmi", False, "False ['high', 'low']\n"), ("low\n", True, "True ['low']\n")):
+        how = {"cwd": tests, "stdin": subprocess.PIPE, "stdout": subprocess.PIPE, "stderr": subprocess.STDOUT, "text": True}
         with subprocess.Popen([sys.executable, "-c", TOLD], **how) as ran:
-            status, said = ran.wait(), ran.stdout.read()
-        yield None if (status, said) == (0, wanted) else f"a run whose input {what} has the status {status}, and says {said!r}"
+            ran.stdin.write(names)
+            ran.stdin.flush()
+            if ends:
+                ran.stdin.close()
+            said, status = ran.stdout.read(), ran.wait()
+        yield None if (status, said) == (0, wanted) else f"of the input {names!r} a run has the status {status}, and says {said!r}"
+
+
+class Lasting:
+    """A crate whose sum is this."""
+
+    def __init__(self, root, name, is_program, key):
+        self.folder, self.name, self.is_program, self.key = f"{root}/copy/{name}", name, is_program, key
+
+    def stamp(self):
+        return self.key
+
+
+def built():
+    """Yields what is wrong, or None, of what is taken as proved where the toolchain keeps nothing: what `rt ci` was said to have proved, as it was then."""
+    with tempfile.TemporaryDirectory(prefix="built-") as root:
+        for name, path in (("low", "rlib/low.rlib/a"), ("app", "app")):
+            crate, other = (Lasting(root, name, name == "app", key) for key in ("one", "another"))
+            kept, made = toolchain.Built(root), f"{root}/crates/{name}/out/{path}"
+            gives = [kept.give(crate, False, kept.key(crate))]
+            kept.mark(crate)
+            gives += [kept.give(crate, False, kept.key(crate))]
+            write(root, {f"crates/{name}/out/{path}": "made"})
+            gives += [kept.give(crate, False, kept.key(crate))]
+            kept.mark(crate)
+            gives += [kept.give(crate, False, kept.key(it)) for it in (crate, other)]
+            is_copied = crate.is_program or record.read(f"{crate.folder}/out/{path}") == "made"
+            os.utime(made, (1, 1))
+            gives += [kept.give(crate, False, kept.key(crate))]
+            kept.mark(crate)
+            gives += [kept.give(crate, False, kept.key(crate))]
+            # A file that is gone once it is looked at, as while a crate is built.
+            os.makedirs(f"{root}/crates/{name}/out/rlib", exist_ok=True)
+            os.symlink("gone", f"{root}/crates/{name}/out/rlib/going")
+            gives += [kept.give(crate, False, kept.key(crate))]
+            kept.mark(crate)
+            gives += [kept.give(crate, False, kept.key(crate))]
+            is_right = is_copied and gives == [False, False, False, True, False, False, True, False, False]
+            yield None if is_right else f"of what was built of {name} is given: {gives}"
+
+
+# A part in the place of `rt ci`, which says these lines and then its sum; and one beside it, which says what it was told, or has ended before it is.
+CI = "import time; print('rt: low proved\\nrt: high proved\\nrt: low: its tests are proved', flush=True); time.sleep(0.3); print('2 passed, 0 failed')"
+HEARS = "import must_fail; told = must_fail.Told(); told.wait(9); print('edits: heard', *sorted(told.proved())); print('3 passed, 0 failed')"
+ENDS = "print('edits: none'); print('3 passed, 0 failed')"
+FAILS = "print('edits: heard'); raise SystemExit(1)"
+# The whole gate of the first part, the one in the place of `rt ci` and the one beside it.
+GATE = """import gate, sys, tempfile
+tempfile.tempdir, gate.chain.LOG, gate.CI = sys.argv[1], sys.argv[1] + "/checks", [sys.executable, "-c", sys.argv[2]]
+first = [sys.executable, "-c", "print('1 passed, 0 failed')"]
+gate.PARTS = [("first", first), ("rt ci", gate.CI), ("edits", [sys.executable, "-c", sys.argv[3]])]
+sys.exit(gate.main())
+"""
+
+
+def gate():
+    """Yields what is wrong, or None, of the gate itself: it tells the part beside `rt ci` which crates are proved, and sums all parts."""
+    tests = os.path.dirname(os.path.realpath(__file__))
+    rows = ((HEARS, 0, "7 passed, 0 failed", "edits: heard high low"), (ENDS, 0, "7 passed, 0 failed", "edits: none"), (FAILS, 1, "4 passed, 1 failed", "edits: heard"))
+    for part, status, last, noted in rows:
+        with tempfile.TemporaryDirectory(prefix="gate-") as root:
+            env = {**os.environ, "PYTHONPATH": tests}
+            ran = subprocess.run([sys.executable, "-c", GATE, root, CI, part], env=env, capture_output=True, text=True, check=False)
+        said = ran.stdout.rstrip("\n").split("\n")
+        is_right = ran.returncode == status and said[-2:] == [noted, last]
+        yield None if is_right else f"a gate of parts of its own has the status {ran.returncode}, and ends with {said[-4:]} {ran.stderr[-300:]}"
+
+
+def lines():
+    """Yields what is wrong, or None, of what a line of the record holds: the sums of the last two refusals, newest first."""
+    with tempfile.TemporaryDirectory(prefix="lines-") as root:
+        kept = record.Record(f"{root}/tried")
+        for new in "abbca":
+            kept.note("is_three.edit", new * 32)
+        kept.write()
+        found = record.Record(f"{root}/tried").sums
+        yield None if found == {"is_three.edit": ["a" * 32, "c" * 32]} else f"of five refusals the record holds {found}"
 
 
 def main():
     rt = load_rt()
-    found = [*changed(rt), *faulty(rt), *draws(rt), *beside(rt), *grouped(), *told(), *try_small(rt)]
+    found = [*changed(rt), *faulty(rt), *draws(rt), *beside(rt), *grouped(), *halved(), *told(), *built(), *gate(), *lines(), *try_small(rt)]
     failed = [it for it in found if it]
     for it in failed:
         print(f"FAILED: self-test: {it}")

@@ -158,7 +158,7 @@ class Held(unittest.TestCase):
     """Clients that would hold the server, or lose an answer."""
 
     def test_a_client_that_reads_no_pongs_does_not_hold_the_server(self):
-        with Server("wsecho", 2) as server:
+        with Server("wsecho", 2, workers=1) as server:
             pings = socket.socket()
             pings.setsockopt(socket.SOL_SOCKET, socket.SO_RCVBUF, 4_096)
             pings.connect(("127.0.0.1", server.port))
@@ -222,7 +222,7 @@ class Held(unittest.TestCase):
         self.refused(post)
 
     def test_a_refused_client_that_sends_for_ever_is_left_after_a_second(self):
-        with Server("echo", 2) as server:
+        with Server("echo", 2, workers=1) as server:
             line = server.connect()
             line.sendall(b"POST / HTTP/1.1\r\nHost: a\r\nContent-Length: 99999999999\r\n\r\n")
             began, stop = time.monotonic(), threading.Event()

@@ -21,6 +21,8 @@ TOP = os.path.dirname(os.path.dirname(os.path.realpath(__file__)))
 PROGRAM = "crates/asgi_demo/out/asgi_demo"
 KEYS = "crates/asgi_keys/out/asgi_keys"
 CI = ["rt", "ci"]
+# What `rt ci` says of a crate that is proved, by itself or by what an earlier run on this machine proved of the same files.
+PROVED = r"rt: (\w+)(?: proved| is kept: an earlier run on this machine proved the same .*)"
 # What each part runs, and what its sum counts. The last one runs beside `rt ci`, from whose beginning on.
 PARTS = [
     ("crates in the layout", ["python3", "tests/layout.py"]),
@@ -53,14 +55,15 @@ def side_by_side():
     return max(1, min(len(os.sched_getaffinity(0)), free // CHECK))
 
 
-def run(words):
-    """Runs a part and shows what it prints. Returns its status and its lines."""
+def run(words, heard=lambda line: None):
+    """Runs a part, shows what it prints, and has each line heard. Returns its status and its lines."""
     lines = []
     how = {"cwd": TOP, "stdin": subprocess.DEVNULL, "stdout": subprocess.PIPE, "stderr": subprocess.STDOUT}
     with subprocess.Popen(words, errors="replace", **how) as ran:
         for line in ran.stdout:
             print(line, end="", flush=True)
             lines.append(line.rstrip("\n"))
+            heard(lines[-1])
     return ran.returncode, lines
 
 
@@ -81,9 +84,26 @@ class Beside:
                 if self.has_turn:
                     print(line, end="", flush=True)
 
+    def hear(self, line):
+        """Tells it the name of a crate that the other part says is proved."""
+        proved = re.fullmatch(PROVED, line)
+        if proved:
+            self.tell(f"{proved[1]}\n")
+
+    def tell(self, text):
+        """Writes to it, as long as it runs."""
+        try:
+            self.ran.stdin.write(text)
+            self.ran.stdin.flush()
+        except OSError:
+            pass
+
     def end(self):
         """Tells it that the other part has ended."""
-        self.ran.stdin.close()
+        try:
+            self.ran.stdin.close()
+        except OSError:
+            pass
 
     def run(self):
         """Shows what it prints, until it has ended. Returns its status and its lines."""
@@ -100,8 +120,7 @@ def counts_of_ci(lines, failed):
     What an earlier run on this machine proved of the same files is told in other words, and counts as well; of tests that
     it proved nothing is told but that they ran. An edit that is refused only by a limit of the prover, or that can't be
     tried, is no failure of `rt ci`, and is one here."""
-    of_crate = r"rt: (\w+)(?: proved| is kept: an earlier run on this machine proved the same .*)"
-    crates = {it[1] for it in (re.fullmatch(of_crate, line) for line in lines) if it}
+    crates = {it[1] for it in (re.fullmatch(PROVED, line) for line in lines) if it}
     suites = {it[1] for it in (re.fullmatch(r"rt: (\w+): its tests (?:are proved|passed|FAILED)", line) for line in lines) if it}
     said = [it for it in lines if re.match(r"rt: must-fail \S+: refused, as it must be", it)]
     limits = sum("refused, as it must be (only by a limit" in it for it in said)
@@ -148,7 +167,8 @@ def main():
             print(f"== {' '.join(words)}", flush=True)
             if words == CI:
                 beside = Beside(PARTS[-1][1])
-            status, lines = beside.run() if words == PARTS[-1][1] else run(words)
+            heard = beside.hear if words == CI else lambda line: None
+            status, lines = beside.run() if words == PARTS[-1][1] else run(words, heard)
             if words == CI:
                 beside.end()
             watch.part(" ".join(words), started, idle)

@@ -22,7 +22,7 @@ def answer(text):
         nonce = base64.b64decode(text, validate=True)
     except binascii.Error:
         return "no key"
-    # Only the canonical encoding counts: stray bits behind the last byte are refused.
+    # Only the canonical encoding counts: stray bits after the last byte are refused.
     if len(nonce) != 16 or base64.b64encode(nonce).decode() != text:
         return "no key"
     return base64.b64encode(hashlib.sha1(text.encode() + GUID).digest()).decode()

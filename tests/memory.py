@@ -4,7 +4,7 @@
 Runs each test whose name has WORD (memory_ where none is given) of the programs of tests, crates/*/out/*_tests, once for
 each allocation that it makes, with that one refused. Each call that can answer want of memory does so and leaves its
 object as it was, so that the test passes all the same. Then it runs the program itself so, on some words and inputs: it
-gives its whole answer, or says that it lacks memory behind a beginning of it, and never anything else. No number of
+gives its whole answer, or says that it lacks memory after a beginning of it, and never anything else. No number of
 allocations is written down: one is through once a run had nothing left to refuse.
 The last line is 'N passed, M failed', where a run with one allocation refused is one.
 """
@@ -136,7 +136,7 @@ def wrong_test(_refused, status, output, errors):
 
 
 def wrong_answer(wanted):
-    """The program gives its whole answer, or a beginning of it behind which it says that memory is lacking.
+    """The program gives its whole answer, or a beginning of it after which it says that memory is lacking.
 
     Where the application lacks it, the connection says so to the client."""
 

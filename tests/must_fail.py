@@ -21,7 +21,7 @@ doubt is tried alone, and one that is in doubt then, by a check of the whole cra
 --all: every edit, whatever the record says, and the edits crates/NAME/must-fail/*.edit too, which `rt ci` tries.
 --read: only sees that each edit can be applied and says what refuses it, those of crates/NAME/must-fail too.
 --warm: begins with what the crates' own checks left in out/, and leaves the record as it is. For use while you write.
---beside: beside a run of `rt ci`, which ends where the input ends. It takes what that run leaves of the processors, and tries the edits of a crate
+--beside: beside a run of `rt ci`, of which the input names each crate that it has proved, a line each, and which ends where the input ends. It takes what that run leaves of the processors, and tries the edits of a crate
 once that run has proved it; what is left when it has ended is tried as without this word.
 --jobs N: at most N checks at a time; else as many as there are processors and memory, as under `rt ci`.
 --part I/N: each Nth edit, from the Ith on, for N machines that share the work.
@@ -39,7 +39,7 @@ import time
 from concurrent.futures import ThreadPoolExecutor
 
 import record
-from toolchain import ONE_JOB, clone, copied, crates_in, load_rt, refused_by_function, refused_in
+from toolchain import ONE_JOB, clone, copied, crates_in, kept_of, load_rt, refused_by_function, refused_in, verdict_on
 
 TOP = os.path.dirname(os.path.dirname(os.path.realpath(__file__)))
 # What the check of edits takes: bytes of memory, and seconds for a proof of the whole crate over kept work.
@@ -129,7 +129,7 @@ def changes_of(edit, folder):
 
 
 def asked_for(edit, folder):
-    """Returns the name by which the prover is asked for the function of an edit: that of a method as it is, and any other one behind its module, where the
+    """Returns the name by which the prover is asked for the function of an edit: that of a method as it is, and any other one after its module, where the
     edit's file tells that. (A method stands in the module of its type, wherever its `impl` stands.)"""
     function, changes = promised(edit)[0], changes_of(edit, folder)
     if not changes or re.search(r"[A-Z]", function):
@@ -230,7 +230,7 @@ class Choice:
         if fault:
             print(f"tests/edits/{crate.name}/tried: {fault}, so all edits of {crate.name} are tried", flush=True)
             return []
-        return [it for it in sums if kept.sums.get(it) == sums[it]]
+        return [it for it in sums if sums[it] in kept.sums.get(it, [])]
 
     def note(self, crate, edits, refused):
         """Writes into the record what the tries of these edits came to. Returns which of them contradict it."""
@@ -238,7 +238,7 @@ class Choice:
         with self.alone:
             for name, is_refused in zip(names, refused):
                 if is_refused and os.path.isfile(f"{self.root}/tests/edits/{crate.name}/{name}"):
-                    kept.sums[name] = self.sums[crate][name]
+                    kept.note(name, self.sums[crate][name])
                 elif not is_refused:
                     kept.sums.pop(name, None)
             if not self.asked.warm:
@@ -262,7 +262,7 @@ class Trial:
         self.rt, self.room, self.crates, self.choice, self.is_warm = rt, room, crates, choice, choice.asked.warm
         # As under `rt ci`, crates stand over the statements of those below them.
         rt.Crate.cuts_libraries = not self.is_warm
-        self.kept = rt.Kept(crates)
+        self.kept = kept_of(rt, crates, choice.root)
         # What the prover said last in this thread: rt's verdict has only its first line.
         self.said = threading.local()
         # What was tried before the lanes begin.
@@ -321,24 +321,31 @@ class Trial:
         """Tries an edit alone. Returns whether it is refused as it says, and what to say."""
         label, began = label_of(crate, edit), time.time()
         texts, why = self.rt.read_edit(edit, crate.folder)
-        if not why and self.refused(crate, [edit], texts):
-            kind, text = self.rt.REFUSED, f"{label}: refused, as it must be"
-        else:
-            kind, text = self.rt.must_fail(crate, edit, ONE_JOB)
-            wrong = kept_promise(edit, self.said.log) if kind == self.rt.REFUSED else None
+        is_refused, text = True, f"{label}: refused, as it must be"
+        if why or not self.refused(crate, [edit], texts):
+            is_refused, is_at_limit, text = verdict_on(self.rt, crate, edit)
+            wrong = kept_promise(edit, self.said.log) if is_refused else None
             if wrong:
-                kind, text = "", f"{label}: REFUSED FOR ANOTHER REASON: {wrong}"
-            elif kind == self.rt.AT_LIMIT:
+                is_refused, text = False, f"{label}: REFUSED FOR ANOTHER REASON: {wrong}"
+            elif is_at_limit:
                 text = f"{label}: REFUSED ONLY BY A LIMIT of the prover, which gave no verdict: choose a change that it refuses sooner"
         print(f"{text} ({time.time() - began:.0f} s)", flush=True)
-        return kind == self.rt.REFUSED, text
+        return is_refused, text
+
+    def cleared(self, crate, edits):
+        """Returns those of some edits that a check with others refuses for their own sake. Where a check of all of them says nothing of any, as where one
+        does not compile, each half of them is tried."""
+        if len(edits) < 2:
+            return []
+        clear, half = self.refused(crate, edits, texts_of(edits, crate.folder)), len(edits) // 2
+        return clear if clear or len(edits) < 4 else [*self.cleared(crate, edits[:half]), *self.cleared(crate, edits[half:])]
 
     def attempt_all(self, crate, edits, given):
         """Tries a group of edits. Returns, edit by edit, whether it is refused as it says, and what to say."""
         if not given[crate.name, "proof"]:
             return [(False, f"{label_of(crate, it)}: not tried") for it in edits]
         began = time.time()
-        clear = self.refused(crate, edits, texts_of(edits, crate.folder)) if len(edits) > 1 else []
+        clear = self.cleared(crate, edits)
         each = (time.time() - began) / len(edits)
         for edit in clear:
             print(f"{label_of(crate, edit)}: refused, as it must be, with {len(edits) - 1} others ({each:.0f} s)", flush=True)
@@ -356,11 +363,18 @@ class Trial:
         found = {it for crate, edits in self.choice.tried.items() if edits for it in [crate, *crate.below()]}
         return [it for it in self.crates if it in found]
 
+    def mark(self, names):
+        """Notes that `rt ci` has proved these crates, where the toolchain keeps nothing of that itself."""
+        if hasattr(self.kept, "mark"):
+            for crate in [it for it in self.crates if it.name in names]:
+                self.kept.mark(crate)
+
     def try_beside(self, ended):
         """Tries edits of the crates that `rt ci` has proved by now, until it has ended."""
         left, waiting, running, groups = self.needed(), [], {}, self.groups()
         pool = ThreadPoolExecutor(BESIDE)
         while not ended.wait(1) and (left or waiting):
+            self.mark(ended.proved())
             for crate in [it for it in left if all((below.name, "proof") in self.given for below in it.below())]:
                 os.makedirs(f"{crate.folder}/out", exist_ok=True)
                 if self.kept.give(crate, False, self.kept.key(crate)):
@@ -396,25 +410,39 @@ class Trial:
         """Tries all edits. Returns how many were refused, and what is said of the others."""
         if self.choice.asked.beside:
             os.nice(19)
-            self.try_beside(end_of_input())
+            told = Told()
+            self.try_beside(told)
+            self.mark(told.proved())
         given = self.rt.in_lanes(self.tasks())
         given |= {key: it.result() for key, it in self.given.items() if key[1] == "edits"}
         found = [it for key, its in given.items() if key[1] == "edits" for it in its]
         return sum(refused for refused, _ in found), [text for refused, text in found if not refused]
 
 
-def end_of_input():
-    """Returns an event that is set once the input has ended."""
-    ended = threading.Event()
+class Told:
+    """What the input tells of a run of `rt ci`: a line for each crate that it has proved, and its end by the end of the input."""
 
-    def read():
+    def __init__(self):
+        self.ended, self.alone, self.names, self.text = threading.Event(), threading.Lock(), set(), b""
+        threading.Thread(target=self.read, daemon=True).start()
+
+    def read(self):
         # Not through sys.stdin: where all edits are tried before the input ends, the end of the program would wait for its lock, and fail.
-        while os.read(0, 1 << 16):
-            pass
-        ended.set()
+        while more := os.read(0, 1 << 16):
+            *lines, self.text = (self.text + more).split(b"\n")
+            with self.alone:
+                self.names |= {it.decode() for it in lines}
+        self.ended.set()
 
-    threading.Thread(target=read, daemon=True).start()
-    return ended
+    def wait(self, seconds):
+        """Waits so long for the end of the run at the most. Returns whether it has ended."""
+        return self.ended.wait(seconds)
+
+    def proved(self):
+        """Returns the names of the crates that were told since this was last asked."""
+        with self.alone:
+            names, self.names = self.names, set()
+        return names
 
 
 def copy_repository(root, room, asked):

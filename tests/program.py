@@ -190,7 +190,7 @@ class Once(unittest.TestCase):
                 self.assertEqual(talk.read(len(HELLO)), HELLO)
             self.assertEqual(talk.end(), (0, b"", b""))
 
-    def test_ends_behind_an_answer_that_closes(self):
+    def test_ends_after_an_answer_that_closes(self):
         with Talk("hello") as talk:
             talk.write(GET.replace(b"\r\n\r\n", b"\r\nConnection: close\r\n\r\n"))
             close = HELLO.replace(b"chunked\r\n\r\n6", b"chunked\r\nconnection: close\r\n\r\n6")

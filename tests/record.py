@@ -1,7 +1,7 @@
 """The record of the edits that were refused, and what a refusal stands on.
 
 `tests/edits/NAME/tried` has a line for each edit of the crate NAME that the prover refused, in the order of their names:
-the name, and the sum of all that the refusal stood on. An edit whose sum is the same now need not be tried again. The sum
+the name, and the sum of all that the refusal stood on, of its last two refusals. An edit with a sum that is the same now need not be tried again. A sum
 covers the toolchain's line, HANDLES, the edit, its crate's line of crates.txt with `src`, `specs` and `proofs`, and of the
 crates below it what a check of this crate can see:
 
@@ -26,7 +26,9 @@ RULES = 1
 ONE_IN = 12
 # So many of a crate are drawn together.
 TOGETHER = 12
-LINE = re.compile(r"([A-Za-z0-9_-][A-Za-z0-9_.-]*\.edit) ([0-9a-f]{32})")
+# How many sums a line of the record holds at the most: machines with two toolchains take turns, so that the last one of each stands.
+AT_MOST = 2
+LINE = re.compile(r"([A-Za-z0-9_-][A-Za-z0-9_.-]*\.edit)((?: [0-9a-f]{32}){1,%d})" % AT_MOST)
 # A comment, a text, a character, a word, or one other character.
 TOKEN = re.compile(
     r"(?P<space>//[^\n]*|/\*.*?\*/|\s+)|b?r(?P<hashes>#*)\".*?\"(?P=hashes)|b?\"(?:[^\"\\]|\\.)*\"|b?'(?:[^'\\\n]|\\(?:x..|u\{[^}]*\}|.))'|\w+|.", re.S
@@ -61,8 +63,8 @@ def test_modules(folder):
     return found
 
 
-def behind_group(tokens, at):
-    """Returns the place behind the bracket that closes the one at this place."""
+def after_group(tokens, at):
+    """Returns the place after the bracket that closes the one at this place."""
     depth = 0
     for place in range(at, len(tokens)):
         depth += (tokens[place] in "([{") - (tokens[place] in ")]}") if len(tokens[place]) == 1 else 0
@@ -71,8 +73,8 @@ def behind_group(tokens, at):
     return len(tokens)
 
 
-def behind_head(tokens, at):
-    """Returns the place behind the head of the function whose name stands here: where its body begins, or behind its `;`."""
+def after_head(tokens, at):
+    """Returns the place after the head of the function whose name stands here: where its body begins, or after its `;`."""
     has_clause = False
     while at < len(tokens):
         token = tokens[at]
@@ -82,7 +84,7 @@ def behind_head(tokens, at):
         if token == "{" and not has_clause:
             return at
         if token in ("(", "[", "{"):
-            has_clause, at = has_clause and token != "{", behind_group(tokens, at)
+            has_clause, at = has_clause and token != "{", after_group(tokens, at)
         else:
             at += 1
     return at
@@ -99,15 +101,15 @@ def interface(text):
         if token in ("trait", "macro_rules"):
             while at < len(tokens) and tokens[at] not in ("{", ";"):
                 at += 1
-            at = behind_group(tokens, at)
+            at = after_group(tokens, at)
         elif token == "fn" and at < len(tokens) and re.match(r"\w", tokens[at]):
-            at = behind_head(tokens, at)
+            at = after_head(tokens, at)
             has_body = at < len(tokens) and tokens[at] == "{"
             if has_body and tokens[max(0, begin - 1)] != "const":
                 kept += [*tokens[begin:at], "{}"]
-                at = behind_group(tokens, at)
+                at = after_group(tokens, at)
                 continue
-            at = behind_group(tokens, at) if has_body else at
+            at = after_group(tokens, at) if has_body else at
         kept += tokens[begin:at]
     return " ".join(kept)
 
@@ -183,11 +185,15 @@ class Record:
                 self.fault = f"line {number} can't be read" if not found else f"line {number} is out of order"
                 self.sums = {}
                 return
-            self.sums[found[1]] = found[2]
+            self.sums[found[1]] = found[2].split()
+
+    def note(self, name, new):
+        """Notes that an edit was refused with this sum."""
+        self.sums[name] = [new, *[it for it in self.sums.get(name, []) if it != new]][:AT_MOST]
 
     def write(self):
         """Writes the record, where it is another than the one that stands there."""
-        text = "".join(f"{name} {self.sums[name]}\n" for name in sorted(self.sums))
+        text = "".join(f"{' '.join([name, *self.sums[name]])}\n" for name in sorted(self.sums))
         try:
             if read(self.path) == text:
                 return

@@ -125,12 +125,18 @@ def run(words, **options):
     return done.returncode, done.stdout, done.stderr.decode(errors="replace")
 
 
+def text_of(path):
+    """The text of a file of this repository."""
+    with open(f"{TOP}/{path}", encoding="utf-8") as it:
+        return it.read()
+
+
 def needs(name):
     return unittest.skipUnless(shutil.which(name), f"{name} can't be had")
 
 
 class Example(unittest.TestCase):
-    """The program of `crates/asgi_port_example`, as the README has it."""
+    """The program of `crates/asgi_port_example`, as README.md and docs/APPLICATIONS.md have it."""
 
     @needs("curl")
     def test_an_application_of_ones_own_is_served_on_a_port(self):
@@ -147,16 +153,15 @@ class Example(unittest.TestCase):
         finally:
             ran.kill()
 
-    def test_the_readme_has_its_main_and_its_line(self):
-        with open(f"{TOP}/README.md", encoding="utf-8") as it:
-            readme = it.read()
-        with open(f"{TOP}/crates/asgi_port_example/src/main.rt", encoding="utf-8") as it:
-            source = it.read()
-        body = re.search(r"^fn main\(.*?^}\n", source, re.M | re.S)[0]
-        with open(f"{TOP}/crates.txt", encoding="utf-8") as it:
-            [line] = [line for line in it if line.startswith("asgi_port_example ")]
-        self.assertIn(f"```rust\n{body}```\n", readme)
-        self.assertIn(f"```text\n{line}```\n", readme)
+    def test_the_documents_have_its_application_its_main_and_its_line(self):
+        readme, document = text_of("README.md"), text_of("docs/APPLICATIONS.md")
+        folder = "crates/asgi_port_example/src"
+        application = re.search(r"^impl Application for .*?^}\n", text_of(f"{folder}/asked.rt"), re.M | re.S)[0]
+        body = re.search(r"^fn main\(.*?^}\n", text_of(f"{folder}/main.rt"), re.M | re.S)[0]
+        [line] = [line for line in text_of("crates.txt").splitlines(True) if line.startswith("asgi_port_example ")]
+        self.assertIn(f"```rust\n{application}```\n", readme)
+        self.assertIn(f"```rust\n{body}```\n", document)
+        self.assertIn(f"```text\n{line}```\n", document)
 
 
 class Program(unittest.TestCase):
@@ -212,7 +217,7 @@ class Program(unittest.TestCase):
         with Server("nostart") as server:
             self.assertEqual(server.ended(), ([], "startup failed: no table\n", 3))
 
-    def test_a_stop_that_fails_is_told_behind_the_reports(self):
+    def test_a_stop_that_fails_is_told_after_the_reports(self):
         with Server("nostop", 1) as server:
             with server.connect() as line:
                 line.sendall(b"GET / HTTP/1.0\r\n\r\n")
@@ -429,23 +434,22 @@ http {{
 {said}
 }}
 """
-README = f"{os.path.dirname(os.path.dirname(os.path.realpath(__file__)))}/README.md"
+DEPLOYING = "docs/DEPLOYING.md"
 
 
 def configuration(port, servers):
-    """What the README says to nginx, but for the port on which it listens and those of the servers."""
-    with open(README, encoding="utf-8") as it:
-        said = re.search(r"```nginx\n(.*?)```", it.read(), re.DOTALL)[1]
+    """The text for nginx in docs/DEPLOYING.md, but for the port on which it listens and those of the servers."""
+    said = re.search(r"```nginx\n(.*?)```", text_of(DEPLOYING), re.DOTALL)[1]
     lines = "".join(f"  server 127.0.0.1:{it};\n" for it in servers)
     said, found = re.subn(r"(  server 127\.0\.0\.1:\d+;\n)+", lines, said)
     said, listening = re.subn(r"listen \d+;", f"listen 127.0.0.1:{port};", said)
     if (found, listening) != (1, 1):
-        raise AssertionError("the README has no servers, or no port, to put others in place of")
+        raise AssertionError(f"{DEPLOYING} has no servers, or no port, to put others in place of")
     return said
 
 
 class Proxy:
-    """nginx in front of servers on these ports, as the README has it."""
+    """nginx before servers on these ports, as docs/DEPLOYING.md has it."""
 
     def __init__(self, *servers):
         self.folder, self.port = tempfile.TemporaryDirectory(), free_port()

@@ -229,7 +229,7 @@ class Handshakes(Case):
                 self.assertEqual(client.rest(), wanted)
                 self.ends_well(served)
 
-    def test_is_answered_behind_plain_requests(self):
+    def test_is_answered_after_plain_requests(self):
         for apart in (False, True):
             with self.subTest(apart=apart), Served() as served, Client(served) as client:
                 if apart:
@@ -374,11 +374,11 @@ class Frames(Case):
                     self.assertIn(back[4:], (b"", reason))
                     self.ends_well(served)
 
-    def test_nothing_is_answered_behind_a_close(self):
-        for behind in (HELLO, PING_HELLO, frame(CLOSE, struct.pack(">H", 1001)), b"\xff" * 100):
-            with self.subTest(behind=behind[:2]), Served() as served, Client(served) as client:
+    def test_nothing_is_answered_after_a_close(self):
+        for after in (HELLO, PING_HELLO, frame(CLOSE, struct.pack(">H", 1001)), b"\xff" * 100):
+            with self.subTest(after=after[:2]), Served() as served, Client(served) as client:
                 client.open()
-                client.write(HELLO + frame(CLOSE, struct.pack(">H", 1000)) + behind)
+                client.write(HELLO + frame(CLOSE, struct.pack(">H", 1000)) + after)
                 self.assertEqual(client.rest(), HELLO_BACK + answered(CLOSE, struct.pack(">H", 1000)))
                 self.ends_well(served)
 
@@ -444,8 +444,8 @@ class Faults(Case):
 
     def test_a_client_that_leaves_ends_the_program(self):
         rows = [
-            ("behind the handshake", b""),
-            ("behind a message", HELLO),
+            ("after the handshake", b""),
+            ("after a message", HELLO),
             ("within a header", HELLO + b"\x81"),
             ("within a payload", HELLO + HELLO[:-1]),
             ("within fragments", HELLO + frame(TEXT, b"Hel", final=False)),

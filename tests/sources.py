@@ -7,6 +7,7 @@
 - A call that has no answer for want of memory takes none: it contains no `with_capacity`, `reserve` or `shrink`.
 - No answer of a call is thrown away, but for what is written on standard error.
 - docs/DECISIONS.md names only tests, edits and files that are there.
+- The private words of a crate, those of its `specs/private`, are used by no other crate, and by none of its other definitions.
 
 Of the sources, tests are left out. With --self-test it reads small texts of its own, each with one such fault and one without.
 The last line is 'N passed, M failed', where a file, or a text of the self-test, is one.
@@ -36,7 +37,7 @@ def code_of(text):
 
 
 def end_of(code, at):
-    """Returns the place behind the brace that closes the one at this place."""
+    """Returns the place after the brace that closes the one at this place."""
     depth = 0
     for place in range(at, len(code)):
         depth += (code[place] == "{") - (code[place] == "}")
@@ -106,6 +107,13 @@ BAD = [
 ]
 
 
+def private_uses(path, text):
+    """Returns the private words that a file of a crate may not use: another crate's, or its own in a definition that is not private."""
+    crate = path.split("/")[1]
+    is_public = "/specs/" in path and "/specs/private/" not in path
+    return [f"{it[0]} is private" for it in re.finditer(r"\bRattle\.(\w+)\.specs\.private\.\w+", text) if it[1] != crate or is_public]
+
+
 def self_test():
     """Returns what is wrong with what is said of the texts, and how many there are."""
     failed = [f"self-test: of a good text is said: {it}" for it in faults_of("good.rt", GOOD)]
@@ -115,7 +123,11 @@ def self_test():
             failed.append(f"self-test: of '{new}' is said: {said}")
     if unknown_names("Shown by: test `grow`, edit `shrinks`.", {"grow"}) != ["shrinks"]:
         failed.append("self-test: a name that is not there is passed over")
-    return failed, 2 + len(BAD)
+    for path, count in (("crates/a/specs/A.antt", 2), ("crates/a/specs/private/A.antt", 1), ("crates/a/src/a.rt", 1), ("crates/b/proofs/B.antt", 1)):
+        said = private_uses(path, "use Rattle.a.specs.private.A.{x}\nuse Rattle.b.specs.private.B.{y}\nuse Rattle.b.specs.C.{z}\n")
+        if len(said) != count:
+            failed.append(f"self-test: of private words in {path} is said: {said}")
+    return failed, 6 + len(BAD)
 
 
 def names_there():
@@ -129,7 +141,7 @@ def names_there():
 
 
 def unknown_names(text, names):
-    """Returns what a text names behind 'Shown by:' that is neither a function, nor an edit, nor a file."""
+    """Returns what a text names after 'Shown by:' that is neither a function, nor an edit, nor a file."""
     shown = [name for line in re.findall(r"Shown by: (.*)", text) for name in re.findall(r"`([^`]+)`", line)]
     return [it for it in shown if it not in names and not os.path.exists(f"{TOP}/{it}")]
 
@@ -148,10 +160,16 @@ def main(words):
             with open(f"{TOP}/{path}", encoding="utf-8") as it:
                 said = faults_of(path, it.read())
             failed += [f"{path}: {'; '.join(said)}"] * bool(said)
+        words = sorted(glob.glob("crates/*/*/**/*.antt", recursive=True, root_dir=TOP))
+        words = [it for it in words if it.split("/")[2] in ("specs", "proofs")]
+        for path in [*files, *words]:
+            with open(f"{TOP}/{path}", encoding="utf-8") as it:
+                said = private_uses(path, it.read())
+            failed += [f"{path}: {'; '.join(said)}"] * bool(said)
         with open(f"{TOP}/docs/DECISIONS.md", encoding="utf-8") as it:
             unknown = unknown_names(it.read(), names_there())
         failed += [f"docs/DECISIONS.md names what is not there: {', '.join(unknown)}"] * bool(unknown)
-        count = len(files) + 1
+        count = len(files) + len(words) + 1
     for it in failed:
         print(f"FAILED: {it}")
     print(f"{count - len(failed)} passed, {len(failed)} failed")

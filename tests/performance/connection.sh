@@ -253,10 +253,10 @@ memory = r"(_int_)?(malloc|free|realloc)|malloc_consolidate|unlink_chunk|rattle_
 places = [
     ("memory taken and given back", memory),
     ("bytes dropped from the front of the reader's buffer", r"core::slice::edits|asgi_request::reader::drop_front"),
-    ("`carry`: what was put, on to the other end", r"asgi_conn::inline::carry|asgi_pipes::plain::Plain::carry"),
-    ("`serve_connection`, and the turns of the runner", r"asgi_demo::command|asgi_conn::(connection|inline|tally)|asgi_exchange|asgi_io::turns|asgi_conversation"),
+    ("`carry`: what was put, on to the other end", r"asgi_run::inline::carry|asgi_pipes::plain::Plain::carry"),
+    ("`serve_connection`, and the turns of the runner", r"asgi_demo::command|asgi_conn::(connection|tally)|asgi_run::inline|asgi_exchange|asgi_io::turns|asgi_conversation"),
     ("the reader", r"asgi_request|httparse|memchr|core::(str|slice)|http_header|percent_encoding|asgi_types::headers::Headers::(has_token|value)"),
-    ("the connection's half, and the text of the response", r"asgi_conn::(half|wire)|asgi_response|asgi_io|itoa|std_alloc::vec::Vec::extend"),
+    ("the connection's half, and the text of the response", r"asgi_halves::(half|wire)|asgi_response|asgi_io|itoa|std_alloc::vec::Vec::extend"),
     ("the application, its end and the judge", r"asgi_apps|asgi_demo::asgi_|asgi_pipes|asgi_protocol|asgi_types|futures"),
     ("all else", ""),
 ]

@@ -267,4 +267,4 @@ measure uvicorn /usr/bin/uvicorn --workers 1 --no-access-log --no-server-header 
   --app-dir "$folder" greeting:app
 row uvicorn
 echo
-echo "load behind the runs: $(load)"
+echo "load after the runs: $(load)"

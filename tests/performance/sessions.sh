@@ -1,10 +1,10 @@
 #!/usr/bin/env bash
 # Instructions of one echoed message of a WebSocket session, from standard input to standard output, by
 # `asgi_demo once wsecho` and by a peer that runs the toolchain's `tungstenite` alone in a loop, in the same run:
-# messages of bytes of 1 byte, 1 KiB and 64 KiB, each one masked frame. The peer begins behind the handshake, and reads by
+# messages of bytes of 1 byte, 1 KiB and 64 KiB, each one masked frame. The peer begins after the handshake, and reads by
 # `tungstenite`'s usual buffer of 128 KiB, and once more by one of 4 KiB, as `asgi_ws` has it read.
 # Each number is a long run less a short one, divided by the messages between them. All answers of the short runs are
-# compared first: each message comes back, in order, and behind them the close. Instructions are counted in the program and
+# compared first: each message comes back, in order, and after them the close. Instructions are counted in the program and
 # its libraries, and not in the system. The C library is asked to copy and to fill by the same instructions whatever the
 # size, so that a byte copied counts the same; bytes copied are those of memcpy and memmove, as dhat counts them.
 # Usage: tests/performance/sessions.sh [PROGRAM PEER]
@@ -25,7 +25,7 @@ library=$library:glibc.cpu.x86_non_temporal_threshold=1000000000
 
 peer_text() {
   cat <<'P'
-//! Sends each message of standard input back to standard output, by `tungstenite` alone, as a server behind its handshake.
+//! Sends each message of standard input back to standard output, by `tungstenite` alone, as a server after its handshake.
 //! With a word it reads 4,096 bytes at a time.
 #![tactic(auto)]
 

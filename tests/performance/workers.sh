@@ -125,7 +125,7 @@ build() {
   cp HANDLES "$folder"
   sharer_text >"$folder/crates/sharer/src/main.rt"
   # Without the part that the tests alone use.
-  sed '/^\/\/\/ The same, but a worker lets/,/^\/\/\/ Is told reports/{/^\/\/\/ Is told reports/!d}; /^use std::thread;$/d' crates/asgi_crew_tests/src/fakes.rt >"$folder/crates/sharer/src/fakes.rt"
+  sed '/^\/\/\/ The same, but a worker lets/,/^\/\/\/ Gets reports/{/^\/\/\/ Gets reports/!d}; /^use std::thread;$/d' crates/asgi_crew_tests/src/fakes.rt >"$folder/crates/sharer/src/fakes.rt"
   { grep -E '^(asgi_io|asgi_desk|asgi_crew):' crates.txt; echo 'sharer status=2: asgi_io asgi_desk asgi_crew'; } >"$folder/crates.txt"
   (cd "$folder" && rt ci >"$folder/log" 2>&1) || { tail -40 "$folder/log"; exit 1; }
 }

@@ -30,24 +30,24 @@ text_plain_is_a_value = AllPass-from_list_all is_value_byte (codes "text/plain")
 pub zero_is_a_value : IsFieldValue (codes "0")
 zero_is_a_value = AllPass-from_list_all is_value_byte (codes "0") refl
 
-abbrev passes_behind : Kind → Facts → List Outgoing → Outgoing → Type 0
-passes_behind kind facts before event = verdict_on kind facts before false event ≡ Pass
+abbrev passes_after : Kind → Facts → List Outgoing → Outgoing → Type 0
+passes_after kind facts before event = verdict_on kind facts before false event ≡ Pass
 
-pub one_passes : (kind : Kind) (facts : Facts) (x : Outgoing) → passes_behind kind facts [] x → EachPasses kind facts (x ∷ [])
-one_passes kind facts x p [] after event split = let same : x ≡ event = cc in subst (λ (e : Outgoing). passes_behind kind facts [] e) same p
+pub one_passes : (kind : Kind) (facts : Facts) (x : Outgoing) → passes_after kind facts [] x → EachPasses kind facts (x ∷ [])
+one_passes kind facts x p [] after event split = let same : x ≡ event = cc in subst (λ (e : Outgoing). passes_after kind facts [] e) same p
 one_passes kind facts x p (b ∷ []) after event split = absurd cc
 one_passes kind facts x p (b ∷ c ∷ rest) after event split = absurd cc
 
-pub two_pass : (kind : Kind) (facts : Facts) (x y : Outgoing) → passes_behind kind facts [] x → passes_behind kind facts (x ∷ []) y → EachPasses kind facts (x ∷ y ∷ [])
-two_pass kind facts x y p q [] after event split = let same : x ≡ event = cc in subst (λ (e : Outgoing). passes_behind kind facts [] e) same p
+pub two_pass : (kind : Kind) (facts : Facts) (x y : Outgoing) → passes_after kind facts [] x → passes_after kind facts (x ∷ []) y → EachPasses kind facts (x ∷ y ∷ [])
+two_pass kind facts x y p q [] after event split = let same : x ≡ event = cc in subst (λ (e : Outgoing). passes_after kind facts [] e) same p
 two_pass kind facts x y p q (b ∷ []) after event split =
     let first : x ≡ b = cc in let same : y ≡ event = cc in
-    subst (λ (s : Outgoing). passes_behind kind facts (s ∷ []) event) first (subst (λ (e : Outgoing). passes_behind kind facts (x ∷ []) e) same q)
+    subst (λ (s : Outgoing). passes_after kind facts (s ∷ []) event) first (subst (λ (e : Outgoing). passes_after kind facts (x ∷ []) e) same q)
 two_pass kind facts x y p q (b ∷ c ∷ []) after event split = absurd cc
 two_pass kind facts x y p q (b ∷ c ∷ d ∷ rest) after event split = absurd cc
 
 text_passes : (facts : Facts) (head_only : Bool) (text : List ℕ) → facts.head_only ≡ head_only
-    → passes_behind Http facts (start_of 200 (codes "content-type") (codes "text/plain") ∷ []) (ResponseBody text false)
+    → passes_after Http facts (start_of 200 (codes "content-type") (codes "text/plain") ∷ []) (ResponseBody text false)
 text_passes facts true text is = rw is refl
 text_passes facts false text is = rw is refl
 
@@ -56,7 +56,7 @@ text_is_lawful text facts =
     (lawful_where_each_passes Http facts (text_events text)).1 (two_pass Http facts _ _ refl (text_passes facts facts.head_only text refl))
 
 nothing_passes : (facts : Facts) (head_only : Bool) → facts.head_only ≡ head_only
-    → passes_behind Http facts (start_of 404 (codes "content-length") (codes "0") ∷ []) (ResponseBody [] false)
+    → passes_after Http facts (start_of 404 (codes "content-length") (codes "0") ∷ []) (ResponseBody [] false)
 nothing_passes facts true is = rw is refl
 nothing_passes facts false is = rw is refl
 

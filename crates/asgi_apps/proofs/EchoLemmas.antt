@@ -1,4 +1,4 @@
--- What `Echo` says is lawful, and grows with what it hears.
+-- What `Echo` sends is lawful, and grows with what it receives.
 use Rattle.std.proofs.Common.{◌≡◌, Bool, true, false, ℕ, List, [], ◌∷◌, ◌++◌, refl, ap, sym, ◌∙◌, subst, append-nil}
 use Rattle.std.specs.Prelude.{map, ◌||◌, codes}
 use Rattle.std.specs.List.{list_any}
@@ -111,7 +111,7 @@ is_body : Outgoing → Bool
 is_body (ResponseBody body m) = true
 is_body _ = false
 
--- behind the start there are bodies alone
+-- after the start there are bodies alone
 only_bodies : (heard : List Incoming) (body : List ℕ) (m : Bool) (before after : List Outgoing) (event : Outgoing)
     → bodies_of heard ++ ResponseBody body m ∷ [] ≡ before ++ event ∷ after → is_body event ≡ true
 unfolding is_body
@@ -149,7 +149,7 @@ each facts heard body m (x ∷ before) after event split =
     let first : echo_start ≡ x = cc in let rest : bodies_of heard ++ ResponseBody body m ∷ [] ≡ before ++ event ∷ after = cc in
     subst (λ (e : Outgoing). MeetsRules facts (e ∷ before) event) first (meets facts before event (only_bodies heard body m before after event rest))
 
--- one more body is lawful behind those of a request that has not ended
+-- one more body is lawful after those of a request that has not ended
 pub echo_is_lawful : (facts : Facts) (heard : List Incoming) (body : List ℕ) (m : Bool) → list_any ends_request heard ≡ false
     → IsLawful Http facts (echo_events heard ++ ResponseBody body m ∷ [])
 echo_is_lawful facts heard body m h = record { begins = begins heard body m h; each = each facts heard body m }

@@ -61,7 +61,7 @@ module _ (own kind : Kind) (heard : List Incoming) (said : List Outgoing) where
       let lawful = subst (λ (k : Kind). IsLawful k facts (said ++ event ∷ [])) stands.kind_is (subst (λ (w : Option Outgoing). IsLawful own facts (said ++ option_to_list w)) is (stands.lawful facts)) in
       rw stands.connected ((lawful_where_each_passes kind facts (said ++ event ∷ [])).0 lawful said [] event refl)
 
-  -- it was said, or waits on
+  -- it was sent, or waits on
   pub said_it : (waiting left : Option Outgoing) (event : Outgoing) (listens : Bool) (after : List Outgoing) → waiting ≡ Some event
       → after ++ option_to_list left ≡ said ++ event ∷ [] → StandsAt own waiting listens kind heard said → StandsAt own left listens kind heard after
   said_it waiting left event listens after is put stands =
@@ -75,7 +75,7 @@ module _ (own kind : Kind) (heard : List Incoming) (said : List Outgoing) where
         heard_all = stands.heard_all;
       }
 
-  -- a body was heard, and is to be said
+  -- a body was received, and is to be sent
   pub heard_body : (event : Incoming) (answer : Outgoing) (listens : Bool) (hears : List Incoming) → hears ≡ heard ++ event ∷ [] → ReactsTo event (Says answer listens)
       → StandsAt own None true kind heard said → StandsAt own (Some answer) listens kind hears said
   heard_body event answer listens hears came reacts stands =
@@ -94,7 +94,7 @@ module _ (own kind : Kind) (heard : List Incoming) (said : List Outgoing) where
         heard_all = λ e http. record { before = heard; last = event; in_order = came; ends = reacts.4 ∙ ap not e };
       }
 
-  -- another event was heard
+  -- another event was received
   pub heard_other : (event : Incoming) (hears : List Incoming) → hears ≡ heard ++ event ∷ [] → ReactsTo event Listens
       → StandsAt own None true kind heard said → StandsAt own None true kind hears said
   heard_other event hears came reacts stands =
@@ -123,7 +123,7 @@ module _ (own kind : Kind) (heard : List Incoming) (said : List Outgoing) where
       ∙ ap (λ l. echo_events heard ++ l) reacts.0 ∙ append-nil (echo_events heard) ∙ cc (begun, append-nil said) in
       (rw on.0 (sym grown), λ http. record { before = heard; last = event; in_order = came; ends = reacts.1 })
 
-  -- all was said
+  -- all was sent
   pub said_all : StandsAt own None false kind heard said → EchoAnswers own heard said (Some Returned)
   said_all stands =
       (subst (λ answer. Answers answer heard said (Some Returned)) (sym stands.in_order) (sym (append-nil said)), stands.heard_all refl)

@@ -1,4 +1,4 @@
--- What `Life` says in a lifespan scope is lawful, and each poll keeps to it.
+-- What `Life` sends in a lifespan scope is lawful, and each poll keeps to it.
 use Rattle.std.proofs.Common.{◌≡◌, true, false, List, [], ◌∷◌, ◌++◌, Option, Some, None, refl, ap, sym, ◌∙◌, subst, append-nil, append_assoc, inl, inr, ◌⊎◌}
 use Rattle.std.specs.Option.{option_to_list}
 use Rattle.asgi_types.specs.declared.scope.Kind.{Kind}
@@ -18,7 +18,7 @@ use Rattle.asgi_apps.specs.declared.life.Life.{Life}
 use Rattle.asgi_apps.specs.declared.life.Life.TheVariants.{Works, NoStart, NoStop}
 use Rattle.asgi_apps.specs.declared.life.Service.{Service}
 use Rattle.asgi_apps.specs.Life.{HeardLast, ServiceAnswers, at_shutdown, last_answer, last_event, lifespan_events, shutdown_event, startup_event}
-use Rattle.asgi_apps.specs.Living.{Begins, IsLeft, ServiceStands, is_last, later, reply, shutdown_behind, startup_behind}
+use Rattle.asgi_apps.specs.Living.{Begins, IsLeft, ServiceStands, is_last, later, reply, shutdown_after, startup_after}
 use Rattle.asgi_apps.proofs.AnswerLemmas.{one_passes, two_pass}
 use Rattle.asgi_apps.proofs.EchoLemmas.{connected-append}
 
@@ -50,7 +50,7 @@ started_is_lawful life facts (WsDisconnect c r ∷ heard) = start_is_lawful life
 started_is_lawful life facts (LifespanStartup ∷ heard) = started_is_lawful life facts heard
 started_is_lawful life facts (LifespanShutdown ∷ heard) = whole_is_lawful life facts
 
--- The answer is lawful, whatever was heard.
+-- The answer is lawful, whatever was received.
 pub service_is_lawful : (life : Life) (facts : Facts) (heard : List Incoming) → IsLawful Lifespan facts (lifespan_events life heard)
 service_is_lawful life facts [] = nothing_is_lawful facts
 service_is_lawful life facts (HttpRequest b m ∷ heard) = service_is_lawful life facts heard
@@ -61,7 +61,7 @@ service_is_lawful life facts (WsDisconnect c r ∷ heard) = nothing_is_lawful fa
 service_is_lawful life facts (LifespanStartup ∷ heard) = started_is_lawful life facts heard
 service_is_lawful life facts (LifespanShutdown ∷ heard) = service_is_lawful life facts heard
 
--- nothing is said where nothing is left
+-- nothing is sent if nothing is left
 nothing_later : (more : List Incoming) → later None None more ≡ []
 nothing_later [] = refl
 nothing_later (HttpRequest b m ∷ more) = nothing_later more
@@ -72,7 +72,7 @@ nothing_later (WsDisconnect c r ∷ more) = nothing_later more
 nothing_later (LifespanStartup ∷ more) = nothing_later more
 nothing_later (LifespanShutdown ∷ more) = nothing_later more
 
--- what is left answers as the definition says
+-- what is left answers as the definition has it
 started_later : (life : Life) (more : List Incoming) → at_shutdown life more ≡ later None (shutdown_event life) more
 started_later life [] = refl
 started_later life (HttpRequest b m ∷ more) = started_later life more
@@ -94,7 +94,7 @@ begun_later life (WsDisconnect c r ∷ more) = sym (nothing_later more)
 begun_later life (LifespanStartup ∷ more) = ap (λ l. startup_event life ∷ l) (started_later life more)
 begun_later life (LifespanShutdown ∷ more) = begun_later life more
 
--- a task that has heard nothing stands
+-- the invariant holds of a task that has received nothing
 pub begun_stands : (life : Life) (service : Service) (kind : Kind) → kind ≡ Lifespan → Begins life service → ServiceStands service kind [] []
 begun_stands life service kind is begins = record {
   kind_is = is;
@@ -104,18 +104,18 @@ begun_stands life service kind is begins = record {
   over = λ e. absurd (cc (begins.is_over));
 }
 
-left_behind : (life : Life) (event : Incoming) (startup shutdown : Option Outgoing) → IsLeft life startup shutdown
-    → IsLeft life (startup_behind event startup) (shutdown_behind event startup shutdown)
-left_behind life LifespanStartup (Some s) (Some t) h = h.1
-left_behind life LifespanStartup (Some s) None h = tt
-left_behind life LifespanStartup None shutdown h = h
-left_behind life LifespanShutdown (Some s) shutdown h = h
-left_behind life LifespanShutdown None shutdown h = tt
-left_behind life HttpDisconnect startup shutdown h = tt
-left_behind life (WsDisconnect c r) startup shutdown h = tt
-left_behind life (HttpRequest b m) startup shutdown h = h
-left_behind life WsConnect startup shutdown h = h
-left_behind life (WsReceive p) startup shutdown h = h
+left_after : (life : Life) (event : Incoming) (startup shutdown : Option Outgoing) → IsLeft life startup shutdown
+    → IsLeft life (startup_after event startup) (shutdown_after event startup shutdown)
+left_after life LifespanStartup (Some s) (Some t) h = h.1
+left_after life LifespanStartup (Some s) None h = tt
+left_after life LifespanStartup None shutdown h = h
+left_after life LifespanShutdown (Some s) shutdown h = h
+left_after life LifespanShutdown None shutdown h = tt
+left_after life HttpDisconnect startup shutdown h = tt
+left_after life (WsDisconnect c r) startup shutdown h = tt
+left_after life (HttpRequest b m) startup shutdown h = h
+left_after life WsConnect startup shutdown h = h
+left_after life (WsReceive p) startup shutdown h = h
 
 -- the last event is answered with the last answer
 last_is : (life : Life) (event : Incoming) (startup shutdown : Option Outgoing) → IsLeft life startup shutdown → is_last event startup shutdown ≡ true
@@ -143,27 +143,27 @@ none_left : (waiting : Option Outgoing) → option_to_list waiting ≡ [] → wa
 none_left None h = refl
 none_left (Some event) h = absurd (cc)
 
--- where nothing is left, nothing will be
-silent_behind : (event : Incoming) → (reply event None None ≡ []) × (startup_behind event None ≡ None) × (shutdown_behind event None None ≡ None)
-silent_behind LifespanStartup = (refl, refl, refl)
-silent_behind LifespanShutdown = (refl, refl, refl)
-silent_behind HttpDisconnect = (refl, refl, refl)
-silent_behind (WsDisconnect c r) = (refl, refl, refl)
-silent_behind (HttpRequest b m) = (refl, refl, refl)
-silent_behind WsConnect = (refl, refl, refl)
-silent_behind (WsReceive p) = (refl, refl, refl)
+-- if nothing is left, nothing will be
+silent_after : (event : Incoming) → (reply event None None ≡ []) × (startup_after event None ≡ None) × (shutdown_after event None None ≡ None)
+silent_after LifespanStartup = (refl, refl, refl)
+silent_after LifespanShutdown = (refl, refl, refl)
+silent_after HttpDisconnect = (refl, refl, refl)
+silent_after (WsDisconnect c r) = (refl, refl, refl)
+silent_after (HttpRequest b m) = (refl, refl, refl)
+silent_after WsConnect = (refl, refl, refl)
+silent_after (WsReceive p) = (refl, refl, refl)
 
--- and where a disconnect is heard, nothing is
-connected_behind : (heard : List Incoming) (event : Incoming) (startup shutdown : Option Outgoing) → has_disconnect heard ≡ false
+-- and once a disconnect was received, nothing is
+connected_after : (heard : List Incoming) (event : Incoming) (startup shutdown : Option Outgoing) → has_disconnect heard ≡ false
     → (has_disconnect (heard ++ event ∷ []) ≡ false)
-    ⊎ ((reply event startup shutdown ≡ []) × (startup_behind event startup ≡ None) × (shutdown_behind event startup shutdown ≡ None))
-connected_behind heard HttpDisconnect startup shutdown h = inr (refl, refl, refl)
-connected_behind heard (WsDisconnect c r) startup shutdown h = inr (refl, refl, refl)
-connected_behind heard LifespanStartup startup shutdown h = inl (connected-append heard LifespanStartup h refl)
-connected_behind heard LifespanShutdown startup shutdown h = inl (connected-append heard LifespanShutdown h refl)
-connected_behind heard (HttpRequest b m) startup shutdown h = inl (connected-append heard (HttpRequest b m) h refl)
-connected_behind heard WsConnect startup shutdown h = inl (connected-append heard WsConnect h refl)
-connected_behind heard (WsReceive p) startup shutdown h = inl (connected-append heard (WsReceive p) h refl)
+    ⊎ ((reply event startup shutdown ≡ []) × (startup_after event startup ≡ None) × (shutdown_after event startup shutdown ≡ None))
+connected_after heard HttpDisconnect startup shutdown h = inr (refl, refl, refl)
+connected_after heard (WsDisconnect c r) startup shutdown h = inr (refl, refl, refl)
+connected_after heard LifespanStartup startup shutdown h = inl (connected-append heard LifespanStartup h refl)
+connected_after heard LifespanShutdown startup shutdown h = inl (connected-append heard LifespanShutdown h refl)
+connected_after heard (HttpRequest b m) startup shutdown h = inl (connected-append heard (HttpRequest b m) h refl)
+connected_after heard WsConnect startup shutdown h = inl (connected-append heard WsConnect h refl)
+connected_after heard (WsReceive p) startup shutdown h = inl (connected-append heard (WsReceive p) h refl)
 
 module _ (service : Service) (kind : Kind) (heard : List Incoming) (said : List Outgoing) (stands : ServiceStands service kind heard said) where
   so_far : said ++ option_to_list service.waiting ≡ lifespan_events service.life heard
@@ -178,7 +178,7 @@ module _ (service : Service) (kind : Kind) (heard : List Incoming) (said : List 
       ((lawful_where_each_passes Lifespan facts (said ++ event ∷ [])).0
       (subst (λ (l : List Outgoing). IsLawful Lifespan facts l) (sym in_order) (service_is_lawful service.life facts heard)) said [] event refl)
 
-  -- it was said, or waits on
+  -- it was sent, or waits on
   pub said_it : (event : Outgoing) (new : Service) (kind2 : Kind) (heard2 : List Incoming) (said2 : List Outgoing) → service.waiting ≡ Some event
       → new.life ≡ service.life → new.startup ≡ service.startup → new.shutdown ≡ service.shutdown → new.is_over ≡ service.is_over
       → kind2 ≡ kind → heard2 ≡ heard → said2 ++ option_to_list new.waiting ≡ said ++ event ∷ [] → ServiceStands new kind2 heard2 said2
@@ -200,20 +200,20 @@ module _ (service : Service) (kind : Kind) (heard : List Incoming) (said : List 
     tt,
   )
 
-  -- all was said
+  -- all was sent
   pub said_all : (said2 : List Outgoing) → said2 ≡ said → service.waiting ≡ None → service.is_over ≡ true → ServiceAnswers service.life heard said2 (Some Returned)
   said_all said2 same nothing over =
       (same ∙ sym (append-nil said) ∙ ap (λ w. said ++ option_to_list w) (sym nothing) ∙ so_far, stands.over over)
 
-  -- an event was heard, where nothing waited
+  -- an event was received while nothing waited
   module _ (event : Incoming) (hears : List Incoming) (says : List Outgoing) (nothing : service.waiting ≡ None) (came : hears ≡ heard ++ event ∷ []) (same : says ≡ said) where
     grown : (more : List Incoming) → lifespan_events service.life (hears ++ more)
-        ≡ (says ++ reply event service.startup service.shutdown) ++ later (startup_behind event service.startup) (shutdown_behind event service.startup service.shutdown) more
+        ≡ (says ++ reply event service.startup service.shutdown) ++ later (startup_after event service.startup) (shutdown_after event service.startup service.shutdown) more
     grown more =
         let as_was : said ++ option_to_list service.waiting ≡ says = ap (λ w. said ++ option_to_list w) nothing ∙ append-nil said ∙ sym same in
         ap (λ l. lifespan_events service.life (l ++ more)) came ∙ ap (λ l. lifespan_events service.life l) (append_assoc heard (event ∷ []) more)
         ∙ stands.in_order (event ∷ more)
-        ∙ ap (λ l. l ++ (reply event service.startup service.shutdown ++ later (startup_behind event service.startup) (shutdown_behind event service.startup service.shutdown) more)) as_was
+        ∙ ap (λ l. l ++ (reply event service.startup service.shutdown ++ later (startup_after event service.startup) (shutdown_after event service.startup service.shutdown) more)) as_was
         ∙ sym (append_assoc says (reply event service.startup service.shutdown) _)
 
     heard_last : is_last event service.startup service.shutdown ≡ true → HeardLast service.life hears
@@ -229,23 +229,23 @@ module _ (service : Service) (kind : Kind) (heard : List Incoming) (said : List 
 
     -- it goes on
     pub heard_more : (new : Service) (kind2 : Kind) → kind2 ≡ kind → option_to_list new.waiting ≡ reply event service.startup service.shutdown
-        → new.startup ≡ startup_behind event service.startup → new.shutdown ≡ shutdown_behind event service.startup service.shutdown
+        → new.startup ≡ startup_after event service.startup → new.shutdown ≡ shutdown_after event service.startup service.shutdown
         → new.is_over ≡ is_last event service.startup service.shutdown → new.life ≡ service.life → ServiceStands new kind2 hears says
     heard_more new kind2 k w s t o l = record {
       kind_is = k ∙ stands.kind_is;
       in_order = λ more. rw (l, w, s, t) (grown more);
-      left = rw (l, s, t) (left_behind service.life event service.startup service.shutdown stands.left);
+      left = rw (l, s, t) (left_after service.life event service.startup service.shutdown stands.left);
       connected = elim stands.connected [
-        | inl c ↦ elim (connected_behind heard event service.startup service.shutdown c) [
+        | inl c ↦ elim (connected_after heard event service.startup service.shutdown c) [
           | inl d ↦ inl (rw came d)
           | inr silent ↦ inr (none_left new.waiting (w ∙ silent.0), s ∙ silent.1, t ∙ silent.2)
         ]
         | inr silent ↦
-            let behind = silent_behind event in
+            let after = silent_after event in
             inr (
-              none_left new.waiting (w ∙ ap (λ x. reply event x service.shutdown) silent.1 ∙ ap (λ x. reply event None x) silent.2 ∙ behind.0),
-              s ∙ ap (λ x. startup_behind event x) silent.1 ∙ behind.1,
-              t ∙ ap (λ x. shutdown_behind event x service.shutdown) silent.1 ∙ ap (λ x. shutdown_behind event None x) silent.2 ∙ behind.2,
+              none_left new.waiting (w ∙ ap (λ x. reply event x service.shutdown) silent.1 ∙ ap (λ x. reply event None x) silent.2 ∙ after.0),
+              s ∙ ap (λ x. startup_after event x) silent.1 ∙ after.1,
+              t ∙ ap (λ x. shutdown_after event x service.shutdown) silent.1 ∙ ap (λ x. shutdown_after event None x) silent.2 ∙ after.2,
             )
       ];
       over = λ e. rw l (heard_last (sym o ∙ e));

@@ -11,7 +11,7 @@ use Rattle.asgi_apps.specs.Mounting.{IsLongest}
 use Rattle.asgi_types.specs.declared.scope.Scope.{Scope}
 use Rattle.asgi_apps.specs.Mounts.{EachPrefixOnce, IsBadPrefix, IsMounted, IsUnder, IsUnmounted, MountedAt, TakenAt, TakenBy, local_path, mounted_scope, prefixes_of, slash}
 
--- what a test for no bytes says
+-- what a test for no bytes returns
 pub empty_is : (bytes : List ℕ) (empty : Bool) → empty ≡ (length bytes == 0) → empty ≡ true → bytes ≡ []
 empty_is [] empty e h = refl
 empty_is (x ∷ bytes) empty e h = let zero_long : length (x ∷ bytes) ≡ 0 = (Decides-eqb (length (x ∷ bytes)) 0).0 (sym e ∙ h) in absurd (omega arith)
@@ -20,14 +20,14 @@ pub some_are : (bytes : List ℕ) (empty : Bool) → empty ≡ (length bytes == 
 some_are [] empty e h same = absurd (cc)
 some_are (x ∷ bytes) empty e h same = absurd (cc)
 
--- a prefix with a `/` at its front is refused where it ends with one
+-- a prefix with a `/` at its front is refused if it ends with one
 pub bad_where_ends : (prefix : List ℕ) (starts ends : Bool) → starts ≡ true → starts ≡ starts_with eqb prefix (slash ∷ [])
     → ends ≡ pointwise eqb (slash ∷ []) (drop (length prefix - length (slash ∷ [])) prefix) → prefix ≢ [] → IsTrue ends ↔ IsBadPrefix prefix
 bad_where_ends prefix starts ends begins s e not_empty =
     let front = (starts_is Decides-eqb prefix (slash ∷ []) starts s).0 begins in
     let last = ends_is Decides-eqb prefix (slash ∷ []) ends e in (
       λ h. (not_empty, inr (take (length prefix - length (slash ∷ [])) prefix, last.0 h)),
-      λ bad. elim bad.1 [ inl other ↦ absurd (other (drop (length (slash ∷ [])) prefix) front) | inr behind ↦ last.1 behind.0 behind.1 ],
+      λ bad. elim bad.1 [ inl other ↦ absurd (other (drop (length (slash ∷ [])) prefix) front) | inr after ↦ last.1 after.0 after.1 ],
     )
 
 -- a prefix that stands among the first stands among all
@@ -61,7 +61,7 @@ module _ {A : Type 0} where
   prefixes-length [] = refl
   prefixes-length (m ∷ mounts) = ap suc (prefixes-length mounts)
 
-  -- an application stands where its prefix does
+  -- an application stands in the place of its prefix
   pub prefix_of : (mounts : List (Mount A)) (k : ℕ) (mount : Mount A) → slice_get mounts k ≡ Some mount → slice_get (prefixes_of mounts) k ≡ Some mount.prefix
   prefix_of [] k mount h = absurd (cc)
   prefix_of (m ∷ mounts) zero mount h = let same : m ≡ mount = cc in ap (λ (x : Mount A). Some x.prefix) same
@@ -127,7 +127,7 @@ fronts_agree (x ∷ xs) (y ∷ ys) us vs h n =
 -- a path begins with the prefix that it is under
 front_of : (prefix path : List ℕ) → IsUnder prefix path → (rest : List ℕ) × (path ≡ prefix ++ rest)
 front_of prefix path (inl same) = ([], same ∙ sym (append-nil prefix))
-front_of prefix path (inr behind) = (slash ∷ behind.0, behind.1)
+front_of prefix path (inr after) = (slash ∷ after.0, after.1)
 
 -- A path has one mount at most.
 pub one_mount : (prefixes : List (List ℕ)) (path : List ℕ) (one other : ℕ) → EachPrefixOnce prefixes → MountedAt prefixes path one → MountedAt prefixes path other → one ≡ other
@@ -139,7 +139,7 @@ one_mount prefixes path one other once x y =
     let same : x.prefix ≡ y.prefix = fronts_agree x.prefix y.prefix a.0 b.0 (sym a.1 ∙ b.1) (omega arith) in
     once one other y.prefix (x.stands ∙ ap (λ p. Some p) same) y.stands
 
--- the tests of a path behind a prefix
+-- the tests of a path after a prefix
 pub not_under : (prefix path : List ℕ) → ((rest : List ℕ) → path ≢ prefix ++ rest) → ¬ (IsUnder prefix path)
 not_under prefix path other under = let front = front_of prefix path under in other front.0 front.1
 
@@ -150,18 +150,18 @@ cancel : {X : Type 0} (xs us vs : List X) → xs ++ us ≡ xs ++ vs → us ≡ v
 cancel [] us vs h = h
 cancel (x ∷ xs) us vs h = let tails : xs ++ us ≡ xs ++ vs = cc in cancel xs us vs tails
 
-pub under_behind : (prefix path rest : List ℕ) (starts : Bool) → path ≡ prefix ++ rest → rest ≢ [] → starts ≡ starts_with eqb rest (slash ∷ [])
+pub under_after : (prefix path rest : List ℕ) (starts : Bool) → path ≡ prefix ++ rest → rest ≢ [] → starts ≡ starts_with eqb rest (slash ∷ [])
     → IsTrue starts ↔ IsUnder prefix path
-under_behind prefix path rest starts is more tested =
+under_after prefix path rest starts is more tested =
     let front = starts_is Decides-eqb rest (slash ∷ []) starts tested in (
       λ h. inr (drop (length (slash ∷ [])) rest, is ∙ ap (λ r. prefix ++ r) (front.0 h)),
       λ under. elim under [
         | inl same ↦ absurd (more (cancel prefix rest [] (sym is ∙ same ∙ sym (append-nil prefix))))
-        | inr behind ↦ front.1 behind.0 (cancel prefix rest (slash ∷ behind.0) (sym is ∙ behind.1))
+        | inr after ↦ front.1 after.0 (cancel prefix rest (slash ∷ after.0) (sym is ∙ after.1))
       ],
     )
 
--- what the tests of a prefix say
+-- what the tests of a prefix return
 pub good_prefix : (bad : Bool) (bytes prefix : List ℕ) → IsTrue bad ↔ IsBadPrefix bytes → bad ≡ false → bytes ≡ prefix → ¬ (IsBadPrefix prefix)
 good_prefix bad bytes prefix tests is same refused =
     let tested = tests.1 (subst IsBadPrefix (sym same) refused) in absurd (cc)
@@ -250,7 +250,7 @@ not_longer prefixes prefix path found short before = (
 shorter_than : (a b c d : ℕ) → a ≤ b → b ≡ c → c < d → a ≤ d
 shorter_than a b c d x y z = omega arith
 
--- the last prefix is the longest, where those before it are no longer
+-- the last prefix is the longest, if those before it are no longer
 last_longest : (prefixes : List (List ℕ)) (prefix path : List ℕ) (at : ℕ) → length prefixes ≡ at → IsUnder prefix path
     → ((p : List ℕ) → IsMounted prefixes p → IsUnder p path → length p ≤ length prefix)
     → IsLongest (prefixes ++ prefix ∷ []) path (Some (record { at = at; length = length prefix }))

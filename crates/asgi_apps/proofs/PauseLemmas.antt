@@ -1,4 +1,4 @@
--- A loop that stopped at its limit of idle turns has paused at least so often.
+-- A loop that stopped at its limit of idle turns has paused at least that often.
 use Rattle.std.proofs.Common.{◌≡◌, ℕ, ◌+◌, ◌-◌, ◌^◌, ◌≤◌, List, [], ◌∷◌, ◌++◌, sym, subst, inl, inr, arith}
 use Rattle.std.specs.Prelude.{count_by}
 use Rattle.std.proofs.lemmas.Bool.{cases_lt}
@@ -6,14 +6,14 @@ use Rattle.std.proofs.lemmas.List.Sums.{sum_by-append}
 use Rattle.asgi_io.specs.declared.turns.Turn.{Turn}
 use Rattle.asgi_io.specs.declared.turns.Turn.TheVariants.{Moved, Idle, Last}
 use Rattle.asgi_io.specs.Counting.{RoseBy, RoseExactly}
-use Rattle.asgi_io.specs.Turns.{idle_behind, is_idle, CountsTurns}
+use Rattle.asgi_io.specs.Turns.{idle_after, is_idle, CountsTurns}
 
 -- the idle turns in a row are some of all idle turns
-row_is_some : (row : ℕ) (turned : List Turn) → idle_behind row turned ≤ row + count_by is_idle turned
+row_is_some : (row : ℕ) (turned : List Turn) → idle_after row turned ≤ row + count_by is_idle turned
 row_is_some row [] = omega arith
 row_is_some row (Moved ∷ turned) = let rest = row_is_some 0 turned in omega arith
 row_is_some row (Idle ∷ turned) =
-    let rest : idle_behind row (Idle ∷ turned) ≤ row + 1 + count_by is_idle turned = row_is_some (row + 1) turned in
+    let rest : idle_after row (Idle ∷ turned) ≤ row + 1 + count_by is_idle turned = row_is_some (row + 1) turned in
     let more : count_by is_idle (Idle ∷ turned) ≡ 1 + count_by is_idle turned = sum_by-append _ (Idle ∷ []) turned in omega arith
 row_is_some row (Last ∷ turned) = row_is_some row turned
 

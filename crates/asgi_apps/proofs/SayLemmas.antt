@@ -1,4 +1,4 @@
--- What a task has said of its list.
+-- What a task has sent of its list.
 use Rattle.std.proofs.Common.{◌≡◌, List, [], ◌∷◌, ◌++◌, Option, Some, None, Result, Ok, Err, IfOk, refl, sym, ap, ◌∙◌, subst}
 use Rattle.asgi_types.specs.declared.scope.Kind.{Kind}
 use Rattle.asgi_types.specs.declared.facts.Facts.{Facts}
@@ -16,7 +16,7 @@ use Rattle.asgi_apps.specs.Answers.{Answers}
 use Rattle.asgi_apps.specs.declared.says.Says.{Says}
 use Rattle.asgi_apps.specs.Saying.{Gives, IsToSay, SaysList, script}
 
--- the event that comes next in a lawful list passes, where nothing was heard
+-- the event that comes next in a lawful list passes, if nothing was received
 pub next_passes : (kind : Kind) (facts : Facts) (events said rest : List Outgoing) (heard : List Incoming) (event : Outgoing)
     → heard ≡ [] → events ≡ said ++ event ∷ rest → IsLawful kind facts events → verdict_on kind facts said (has_disconnect heard) event ≡ Pass
 next_passes kind facts events said rest heard event unheard split lawful =
@@ -31,7 +31,7 @@ not_lawful own kind facts events said left rest heard event verdict same unheard
     other (sym is ∙ next_passes kind facts events said rest heard event unheard (sym order ∙ ap (λ l. said ++ l) front)
     (subst (λ (k : Kind). IsLawful k facts events) same (lawful facts)))
 
--- A task that says the list of a lawful answer gives that answer.
+-- A task that sends the list of a lawful answer gives that answer.
 pub gives_answer : (kind : Kind) (events answer : List Outgoing) → events ≡ answer → ((facts : Facts) → IsLawful kind facts answer)
     → (heard : List Incoming) (said : List Outgoing) (ended : Option EndKind) → SaysList kind events said ended → Answers (Some answer) heard said ended
 gives_answer kind events answer is lawful heard said None h = (h.0, h.1 ∙ is)

@@ -1,4 +1,4 @@
--- What `WsEcho` says in a session is lawful, and grows with what it hears.
+-- What `WsEcho` sends in a session is lawful, and grows with what it receives.
 use Rattle.std.proofs.Common.{◌≡◌, Bool, true, false, List, [], ◌∷◌, ◌++◌, None, refl, ap, sym, subst, inl}
 use Rattle.std.specs.Prelude.{map, ◌||◌}
 use Rattle.std.specs.List.{list_any}
@@ -19,7 +19,7 @@ use Rattle.asgi_pipes.specs.Disconnects.{has_disconnect}
 use Rattle.asgi_apps.specs.WsEcho.{accept_events, messages_of, session_echo}
 use Rattle.asgi_apps.specs.WsEchoing.{is_connect, reply}
 
--- what one more event adds, behind "Connect"
+-- what one more event adds, after "Connect"
 messages-append : (heard : List Incoming) (event : Incoming) → has_disconnect heard ≡ false → messages_of (heard ++ event ∷ []) ≡ messages_of heard ++ reply true event
 messages-append [] (HttpRequest b m) h = refl
 messages-append [] HttpDisconnect h = refl
@@ -36,7 +36,7 @@ messages-append (WsDisconnect c r ∷ heard) event h = absurd (cc)
 messages-append (LifespanStartup ∷ heard) event h = messages-append heard event h
 messages-append (LifespanShutdown ∷ heard) event h = messages-append heard event h
 
--- and behind any events that are no disconnect
+-- and after any events that are no disconnect
 pub session-append : (heard : List Incoming) (event : Incoming) → has_disconnect heard ≡ false
     → session_echo (heard ++ event ∷ []) ≡ session_echo heard ++ reply (list_any is_connect heard) event
 session-append [] (HttpRequest b m) h = refl
@@ -144,7 +144,7 @@ silence_is_lawful facts = record {
   each = nothing_is_split facts;
 }
 
--- The echo of a session is lawful, whatever was heard.
+-- The echo of a session is lawful, whatever was received.
 session_is_lawful : (facts : Facts) (heard : List Incoming) → IsLawful WebSocket facts (session_echo heard)
 session_is_lawful facts [] = silence_is_lawful facts
 session_is_lawful facts (WsConnect ∷ heard) =

@@ -29,7 +29,7 @@ module _ (session : Session) (kind : Kind) (heard : List Incoming) (said : List 
   waiting_passes facts event is =
       next_passes kind facts heard said event stands.kind_is stands.connected (ap (λ w. said ++ option_to_list w) (sym is) ∙ stands.in_order)
 
-  -- an event was heard, where nothing waited
+  -- an event was received while nothing waited
   module _ (event : Incoming) (hears : List Incoming) (says : List Outgoing) (goes_on : Bool) (nothing : session.waiting ≡ None) (came : hears ≡ heard ++ event ∷ [])
       (same : says ≡ said) (goes : goes_on ≡ not (is_disconnect event)) where
     echoed : says ≡ session_echo heard

@@ -1,4 +1,4 @@
--- Where a task that echoes stands: words of private functions alone.
+-- The invariant of a task of `Echo`, its `stands`.
 use Rattle.std.specs.Prelude.{◌≡◌, ℕ, Bool, true, false, not, List, [], ◌∷◌, ◌++◌, Option, Some}
 use Rattle.std.specs.List.{list_any}
 use Rattle.std.specs.Option.{option_to_list}
@@ -16,7 +16,7 @@ use Rattle.asgi_apps.specs.declared.echo.Reaction.{Reaction}
 use Rattle.asgi_apps.specs.declared.echo.Reaction.TheVariants.{Says, Returns, Listens}
 use Rattle.asgi_apps.specs.Echo.{bodies_of, echo_answer, ends_request, HeardAll}
 
--- Where it stands that has this to say, and listens on or not: it has said all of its answer so far but what waits.
+-- The invariant, by what waits to be sent and whether the task receives on: all of its answer so far was sent but what waits.
 pub record StandsAt (own : Kind) (waiting : Option Outgoing) (listens : Bool) (kind : Kind) (heard : List Incoming) (said : List Outgoing) : Type 0 where
   pub kind_is : own ≡ kind
   pub connected : has_disconnect heard ≡ false
@@ -28,7 +28,7 @@ pub record StandsAt (own : Kind) (waiting : Option Outgoing) (listens : Bool) (k
 abbrev pub Stands : EchoTask → Kind → List Incoming → List Outgoing → Type 0
 Stands task kind heard said = StandsAt task.kind task.waiting task.listens kind heard said
 
--- what it does at an event
+-- how the task reacts to an event
 abbrev pub ReactsTo : Incoming → Reaction → Type 0
 ReactsTo event (Says answer listens) = (body : List ℕ) × (answer ≡ ResponseBody body listens)
     × (bodies_of (event ∷ []) ≡ answer ∷ []) × (is_disconnect event ≡ false) × (ends_request event ≡ not listens)

@@ -1,4 +1,4 @@
--- What a poll does to the end that a task was lent, and how a task ends.
+-- What a poll does to the end that a task borrows, and how a task ends.
 use Rattle.std.specs.Prelude.{◌≡◌, Bool, true, false, List, Option, Some, None, Result, Ok, Err}
 use mathlib.Core.List.{IsPrefix}
 use Rattle.futures.specs.declared.task.Poll.{Poll}
@@ -12,7 +12,7 @@ use Rattle.asgi_pipes.specs.declared.ends.AppEnd.{Ghosts}
 use Rattle.asgi_types.specs.declared.end_kind.EndKind.{EndKind}
 use Rattle.asgi_types.specs.declared.end_kind.EndKind.TheVariants.{Returned, Faulted, Idle}
 
--- An application's end went on: it may have heard and said more, it is ended like this, and nothing else of it changed.
+-- An application's end went on: more may have been received and sent, it is ended like this, and nothing else of it changed.
 pub record GoesOn {E : Type 0} (ends : Ghosts E) (ended : Option EndKind) (old new : E) : Type 0 where
   pub heard : IsPrefix (ends.heard old) (ends.heard new)
   pub pulled : IsPrefix (ends.pulled old) (ends.pulled new)
@@ -26,12 +26,12 @@ pub record GoesOn {E : Type 0} (ends : Ghosts E) (ended : Option EndKind) (old n
   pub arrivals : ends.arrivals new ≡ ends.arrivals old
   pub vacancies : ends.vacancies new ≡ ends.vacancies old
 
--- The task may be polled with this end: `finish` was not called, and the task stands for what was heard and said.
+-- The task may be polled with this end: `finish` was not called, and the task stands for what was received and sent.
 pub record MayGoOn {T E : Type 0} (stands : T → Kind → List Incoming → List Outgoing → Type 0) (ends : Ghosts E) (task : T) (app_end : E) : Type 0 where
   pub not_ended : ends.ended app_end ≡ None
   pub stands_for : stands task (ends.kind app_end) (ends.heard app_end) (ends.said app_end)
 
--- how the answer of a poll ends the task
+-- how the result of a poll ends the task
 abbrev pub end_of : {F : Type 0} → Poll (Result (Unit {0}) F) → Option EndKind
 end_of Pending = None
 end_of (Ready (Ok done)) = Some Returned
@@ -47,7 +47,7 @@ own_end Idle = None
 abbrev pub IsWithin : {T : Type 0} → (T → List Incoming → List Outgoing → Option EndKind → Type 0) → T → T → Type 0
 IsWithin answers now before = (heard : List Incoming) (said : List Outgoing) (ended : Option EndKind) → answers now heard said ended → answers before heard said ended
 
--- a poll is a turn, which is idle where no item went through a queue
+-- a poll is a turn, which is idle if no item went through a queue
 abbrev pub turn_of : Bool → Turn
 turn_of true = turn.Moved
 turn_of false = turn.Idle

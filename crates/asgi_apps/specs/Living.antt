@@ -1,4 +1,4 @@
--- Where a task of `Life` stands: words of private functions alone.
+-- The invariant of a task of `Life`, its `stands`.
 use Rattle.std.specs.Prelude.{◌≡◌, ◌⊎◌, Bool, true, false, is_none, List, [], ◌∷◌, ◌++◌, Option, Some, None, ⊤}
 use Rattle.std.specs.Option.{option_to_list}
 use Rattle.std.proofs.Common.{sym, ◌∙◌, ap, append-nil}
@@ -17,27 +17,27 @@ use Rattle.asgi_apps.specs.declared.life.Work.TheVariants as work
 use Rattle.asgi_apps.specs.Saying.{HasSaid, SaysList, left_of, script}
 use Rattle.asgi_apps.specs.Life.{HeardLast, ServiceAnswers, lifespan_events, shutdown_event, startup_event}
 
--- what an event is answered with, by what is left to say at the startup and at the shutdown
+-- what an event is answered with, by what is left to send at the startup and at the shutdown
 abbrev pub reply : Incoming → Option Outgoing → Option Outgoing → List Outgoing
 reply LifespanStartup startup shutdown = option_to_list startup
 reply LifespanShutdown (Some event) shutdown = []
 reply LifespanShutdown None shutdown = option_to_list shutdown
 reply _ startup shutdown = []
 
--- what is left at the startup behind an event
-abbrev pub startup_behind : Incoming → Option Outgoing → Option Outgoing
-startup_behind LifespanStartup startup = None
-startup_behind HttpDisconnect startup = None
-startup_behind (WsDisconnect code reason) startup = None
-startup_behind _ startup = startup
+-- what is left for the startup after an event
+abbrev pub startup_after : Incoming → Option Outgoing → Option Outgoing
+startup_after LifespanStartup startup = None
+startup_after HttpDisconnect startup = None
+startup_after (WsDisconnect code reason) startup = None
+startup_after _ startup = startup
 
--- and at the shutdown
-abbrev pub shutdown_behind : Incoming → Option Outgoing → Option Outgoing → Option Outgoing
-shutdown_behind LifespanShutdown (Some event) shutdown = shutdown
-shutdown_behind LifespanShutdown None shutdown = None
-shutdown_behind HttpDisconnect startup shutdown = None
-shutdown_behind (WsDisconnect code reason) startup shutdown = None
-shutdown_behind _ startup shutdown = shutdown
+-- and for the shutdown
+abbrev pub shutdown_after : Incoming → Option Outgoing → Option Outgoing → Option Outgoing
+shutdown_after LifespanShutdown (Some event) shutdown = shutdown
+shutdown_after LifespanShutdown None shutdown = None
+shutdown_after HttpDisconnect startup shutdown = None
+shutdown_after (WsDisconnect code reason) startup shutdown = None
+shutdown_after _ startup shutdown = shutdown
 
 -- the event is the last that is answered
 abbrev pub is_last : Incoming → Option Outgoing → Option Outgoing → Bool
@@ -48,18 +48,18 @@ is_last LifespanShutdown None None = false
 is_last LifespanShutdown (Some event) shutdown = false
 is_last _ startup shutdown = false
 
--- what is said of further events
+-- what is sent for further events
 abbrev pub later : Option Outgoing → Option Outgoing → List Incoming → List Outgoing
 later startup shutdown [] = []
-later startup shutdown (event ∷ more) = reply event startup shutdown ++ later (startup_behind event startup) (shutdown_behind event startup shutdown) more
+later startup shutdown (event ∷ more) = reply event startup shutdown ++ later (startup_after event startup) (shutdown_after event startup shutdown) more
 
--- what is left to say is of this form
+-- what is left to send is of this form
 abbrev pub IsLeft : Life → Option Outgoing → Option Outgoing → Type 0
 IsLeft life (Some event) shutdown = (event ≡ startup_event life) × (shutdown ≡ shutdown_event life)
 IsLeft life None (Some event) = Some event ≡ shutdown_event life
 IsLeft life None None = ⊤
 
--- a task that has heard nothing
+-- a task that has received nothing
 pub record Begins (life : Life) (service : Service) : Type 0 where
   pub life_is : service.life ≡ life
   pub waiting : service.waiting ≡ None
@@ -67,7 +67,7 @@ pub record Begins (life : Life) (service : Service) : Type 0 where
   pub shutdown : service.shutdown ≡ shutdown_event life
   pub is_over : service.is_over ≡ false
 
--- It has said all of its answer so far but what waits, and what is left answers further events.
+-- All of the answer so far was sent but what waits, and what is left answers further events.
 pub record ServiceStands (service : Service) (kind : Kind) (heard : List Incoming) (said : List Outgoing) : Type 0 where
   pub kind_is : kind ≡ Lifespan
   pub in_order : (more : List Incoming) → lifespan_events service.life (heard ++ more) ≡ (said ++ option_to_list service.waiting) ++ later service.startup service.shutdown more
@@ -89,7 +89,7 @@ WorkAnswers (work.Serves service) heard said ended = ServiceAnswers service.life
 abbrev pub TaskAnswers : LifeTask → List Incoming → List Outgoing → Option EndKind → Type 0
 TaskAnswers task heard said ended = WorkAnswers task.0 heard said ended
 
--- what was said is a beginning of the answer
+-- what was sent is a beginning of the answer
 pub service_keeps : (service : Service) (kind : Kind) (heard : List Incoming) (said : List Outgoing) → ServiceStands service kind heard said
     → ServiceAnswers service.life heard said None
 service_keeps service kind heard said stands = (

@@ -1,4 +1,4 @@
--- The search for a mount, and where a mounted task stands: words of private functions alone.
+-- The search for a mount, and the invariant of a mounted task, its `stands`.
 use Rattle.std.specs.Prelude.{◌≡◌, ℕ, List, [], length, Option, Some, None}
 use Rattle.asgi_types.specs.declared.scope.Kind.{Kind}
 use Rattle.asgi_types.specs.declared.scope.Scope.{Scope}

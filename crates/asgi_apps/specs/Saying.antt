@@ -1,4 +1,4 @@
--- A task that has a list of events to say: what it promises, and what is left of it.
+-- A task that has a list of events to send: what it promises, and what is left of it.
 use Rattle.std.specs.Prelude.{◌≡◌, List, [], ◌++◌, Option, Some, None}
 use Rattle.std.specs.Option.{option_to_list}
 use mathlib.Core.List.{IsPrefix}
@@ -12,29 +12,29 @@ use Rattle.asgi_types.specs.declared.end_kind.EndKind.TheVariants.{Returned, Fau
 use Rattle.asgi_apps.specs.declared.says.Says.{Says}
 use Rattle.asgi_apps.specs.Answers.{Answers}
 
--- What was said is a beginning of the list, and all of it where the task returned. It faults only where there is a
--- request, or a session, in which the list is not lawful.
+-- What was sent is a beginning of the list, and all of it if the task returned. The task faults only if there is a request, or a
+-- session, in which the list is not lawful.
 abbrev pub SaysList : Kind → List Outgoing → List Outgoing → Option EndKind → Type 0
 SaysList kind events said None = IsPrefix said events
 SaysList kind events said (Some Returned) = said ≡ events
 SaysList kind events said (Some Faulted) = ¬ ((facts : Facts) → IsLawful kind facts events)
 SaysList kind events said (Some Idle) = IsPrefix said events
 
--- all that it has to say
+-- all that the task has to send
 abbrev pub script : Says → List Outgoing
 script says = says.script.items
 
--- what is left to say
+-- what is left to send
 abbrev pub left_of : Says → List Outgoing
 left_of says = option_to_list says.waiting ++ says.events.items
 
--- It has heard nothing, and said all but what is left.
+-- Nothing was received, and all was sent but what is left.
 pub record HasSaid (says : Says) (kind : Kind) (heard : List Incoming) (said : List Outgoing) : Type 0 where
   pub kind_is : says.kind ≡ kind
   pub unheard : heard ≡ []
   pub in_order : said ++ left_of says ≡ script says
 
--- It has all of these events to say, in a scope of this kind.
+-- All of these events are to be sent, in a scope of this kind.
 pub record IsToSay (says : Says) (kind : Kind) (events : List Outgoing) : Type 0 where
   pub kind_is : says.kind ≡ kind
   pub all : script says ≡ events

@@ -16,7 +16,7 @@ use Rattle.asgi_apps.specs.Answers.{Answers, not_found_events}
 abbrev pub accept_events : List Outgoing
 accept_events = WsAccept None [] ∷ []
 
--- for each "Receive" a "Send" of the same payload; behind a disconnect nothing
+-- for each "Receive" a "Send" of the same payload; after a disconnect nothing
 abbrev pub messages_of : List Incoming → List Outgoing
 messages_of [] = []
 messages_of (WsReceive payload ∷ heard) = WsSend payload ∷ messages_of heard
@@ -24,7 +24,7 @@ messages_of (WsDisconnect code reason ∷ heard) = []
 messages_of (HttpDisconnect ∷ heard) = []
 messages_of (_ ∷ heard) = messages_of heard
 
--- at "Connect" an "Accept", and then each message is sent back; before it nothing is said
+-- at "Connect" an "Accept", and then each message is sent back; before "Connect" nothing is sent
 abbrev pub session_echo : List Incoming → List Outgoing
 session_echo [] = []
 session_echo (WsConnect ∷ heard) = accept_events ++ messages_of heard
@@ -32,7 +32,7 @@ session_echo (WsDisconnect code reason ∷ heard) = []
 session_echo (HttpDisconnect ∷ heard) = []
 session_echo (_ ∷ heard) = session_echo heard
 
--- a disconnect was heard, just now
+-- the last event received is the first disconnect
 pub record HeardDisconnect (heard : List Incoming) : Type 0 where
   pub before : List Incoming
   pub last : Incoming
@@ -40,18 +40,18 @@ pub record HeardDisconnect (heard : List Incoming) : Type 0 where
   pub ends : is_disconnect last ≡ true
   pub first : has_disconnect before ≡ false
 
--- it returns at the first disconnect, and nowhere else; until then it runs
+-- the task returns at the first disconnect, and nowhere else; until then it runs
 abbrev pub EndsAtDisconnect : Option EndKind → List Incoming → Type 0
 EndsAtDisconnect (Some Returned) heard = HeardDisconnect heard
 EndsAtDisconnect (Some Faulted) heard = ⊤
 EndsAtDisconnect (Some Idle) heard = has_disconnect heard ≡ false
 EndsAtDisconnect None heard = has_disconnect heard ≡ false
 
--- What was said in a session is a beginning of the echo, and all of it where the task returned.
+-- What was sent in a session is a beginning of the echo, and all of it if the task returned.
 abbrev pub SessionAnswers : List Incoming → List Outgoing → Option EndKind → Type 0
 SessionAnswers heard said ended = Answers (Some (session_echo heard)) heard said ended × EndsAtDisconnect ended heard
 
--- Over HTTP it answers as `NotFound`; in a lifespan scope its call faults.
+-- Over HTTP the answer is that of `NotFound`; in a lifespan scope the call faults.
 abbrev pub WsEchoAnswers : Kind → List Incoming → List Outgoing → Option EndKind → Type 0
 WsEchoAnswers Http heard said ended = Answers (Some not_found_events) heard said ended
 WsEchoAnswers WebSocket heard said ended = SessionAnswers heard said ended

@@ -1,4 +1,4 @@
--- Where a task of `WsEcho` stands: words of private functions alone.
+-- The invariant of a task of `WsEcho`, its `stands`.
 use Rattle.std.specs.Prelude.{◌≡◌, Bool, true, false, List, [], ◌∷◌, ◌++◌, Option, None}
 use Rattle.std.specs.List.{list_any}
 use Rattle.std.specs.Option.{option_to_list}
@@ -21,13 +21,13 @@ abbrev pub is_connect : Incoming → Bool
 is_connect WsConnect = true
 is_connect _ = false
 
--- what an event is answered with, where "Connect" was heard before it or not
+-- what an event is answered with, by whether "Connect" was received before it
 abbrev pub reply : Bool → Incoming → List Outgoing
 reply false WsConnect = accept_events
 reply true (WsReceive payload) = WsSend payload ∷ []
 reply _ _ = []
 
--- It has said all of its answer so far but what waits.
+-- All of the answer so far was sent but what waits.
 pub record SessionStands (session : Session) (kind : Kind) (heard : List Incoming) (said : List Outgoing) : Type 0 where
   pub kind_is : kind ≡ WebSocket
   pub connected : has_disconnect heard ≡ false

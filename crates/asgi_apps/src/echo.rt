@@ -1,4 +1,4 @@
-//! The application that says what it hears.
+//! The application that sends each request's body back.
 ghost use Rattle.std.specs.Prelude.{◌≡◌, ◌∷◌, [], None, Some, true, IfOk};
 ghost use Rattle.std.specs.Result.{IsErrOf};
 ghost use Rattle.asgi_types.specs.declared.scope.Kind.TheVariants as kind;
@@ -17,8 +17,8 @@ const CONTENT_TYPE: &[u8] = b"content-type";
 
 const OCTET_STREAM: &[u8] = b"application/octet-stream";
 
-/// Answers each request with 200 and its own body, event by event as it comes, and refuses each
-/// session. In a lifespan scope its call fails.
+/// Responds to each request with 200 and the request's own body, event by event as it comes, and
+/// refuses each session. In a lifespan scope its call fails.
 #[derive(Clone, Copy, Debug)]
 pub struct Echo;
 
@@ -26,16 +26,16 @@ pub struct Echo;
 #[derive(Drop)]
 pub struct EchoTask {
     kind: Kind,
-    /// What is to be said next.
+    /// The event to send next.
     waiting: Option<Outgoing>,
-    /// There may be more to hear.
+    /// There may be more to receive.
     listens: bool,
 }
 
-/// What an event makes of a task that echoes.
+/// How a task that echoes reacts to an event.
 #[derive(Drop)]
 enum Reaction {
-    /// It says this, and listens on or not.
+    /// Sends this event, and goes on receiving if the flag is set.
     Says(Outgoing, bool),
     Returns,
     Listens,
@@ -63,7 +63,7 @@ impl Application for Echo {
     }
 }
 
-/// A task that starts its answer, and listens.
+/// A task that sends its response's start next, and receives.
 fn echo_request(alloc: Global) -> Result<EchoTask, AppFault>
     ensures ok { IfOk result (λ task. (task.kind ≡ kind.Http) × (task.listens ≡ true)
         × (task.waiting ≡ Some (start_of 200 CONTENT_TYPE.now OCTET_STREAM.now))) }
@@ -118,7 +118,7 @@ impl AppTask for EchoTask {
 impl Reaction {
     ghost use Rattle.asgi_apps.specs.Echoing.{ReactsTo};
 
-    /// What the event makes of the task.
+    /// How the task reacts to the event.
     fn to(event: Incoming) -> Reaction
         ensures { ReactsTo event result }
     {

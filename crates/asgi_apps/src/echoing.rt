@@ -1,4 +1,4 @@
-//! What tasks do that say one event at a time.
+//! Sending and receiving, for tasks that send one event at a time.
 ghost use Rattle.std.specs.Prelude.{◌≡◌, [], ◌∷◌, ◌++◌, None};
 ghost use Rattle.std.specs.Option.{option_to_list};
 ghost use Rattle.futures.specs.Poll.{IfReady, OnPending};
@@ -12,7 +12,7 @@ use asgi_pipes::{AppEnd, Sent};
 use asgi_types::{Incoming, Outgoing};
 use futures::task::{Context, Poll};
 
-/// Says an event that passes. It comes back, unsaid, where no place is free for it.
+/// Sends an event that passes. If no place is free for it, it is returned, unsent.
 pub fn say<E: AppEnd>(cx: &mut Context<'_>, end: &mut E, event: Outgoing) -> Option<Outgoing>
     requires open { E.ended end.old ≡ None }
     requires passes { verdict_on (E.kind end.old) (E.facts end.old) (E.said end.old) (has_disconnect (E.heard end.old)) event ≡ Verdict.Pass }
@@ -33,7 +33,7 @@ pub fn say<E: AppEnd>(cx: &mut Context<'_>, end: &mut E, event: Outgoing) -> Opt
     }
 }
 
-/// The next event; pending until one is there.
+/// Receives the next event; pending until one is there.
 pub fn receive<E: AppEnd>(cx: &mut Context<'_>, end: &mut E) -> Poll<Incoming>
     requires { E.ended end.old ≡ None }
     ensures ready { IfReady result (λ event. E.heard end.new ≡ E.heard end.old ++ event ∷ []) }

@@ -12,8 +12,8 @@ use std::alloc::Global;
 
 const HELLO: &[u8] = b"hello";
 
-/// Answers each request with 200 and the line `hello`, as `text/plain`, and refuses each session.
-/// In a lifespan scope its call fails.
+/// Responds to each request with 200 and the line `hello`, as `text/plain`, and refuses each
+/// session. In a lifespan scope its call fails.
 #[derive(Clone, Copy, Debug)]
 pub struct Hello;
 

@@ -3,7 +3,7 @@ ghost use Rattle.std.specs.Prelude.{◌≡◌, false, Some, None, IfOk};
 ghost use Rattle.std.specs.Option.{option_to_list};
 ghost use Rattle.std.specs.Result.{IsErrOf};
 ghost use Rattle.asgi_apps.specs.Life.{LifeAnswers, number_line, shutdown_event, startup_event};
-ghost use Rattle.asgi_apps.specs.Living.{Begins, is_last, reply, shutdown_behind, startup_behind};
+ghost use Rattle.asgi_apps.specs.Living.{Begins, is_last, reply, shutdown_after, startup_after};
 
 use crate::echoing::{receive, say};
 use crate::responses::{refuse, respond_line};
@@ -27,16 +27,16 @@ const NO_TABLE: &str = "no table";
 
 const STILL_BUSY: &str = "still busy";
 
-/// Starts with the number 7 under the name `n` in the state, answers each request with the line
-/// `n=7`, or `n=?` where its state does not hold that, and refuses each session (ASGI lifespan
+/// Starts with the number 7 under the name `n` in the state, responds to each request with the line
+/// `n=7`, or `n=?` if its state does not hold that, and refuses each session (ASGI lifespan
 /// protocol 2.0).
 #[derive(Clone, Copy, Debug, PartialEq, Eq)]
 pub enum Life {
-    /// It starts and stops.
+    /// Starts and stops.
     Works,
-    /// Its start fails, with the message `no table` ("Startup Failed").
+    /// The start fails, with the message `no table` ("Startup Failed").
     NoStart,
-    /// It starts, and its stop fails, with the message `still busy` ("Shutdown Failed").
+    /// Starts, and the stop fails, with the message `still busy` ("Shutdown Failed").
     NoStop,
 }
 
@@ -52,17 +52,17 @@ enum Work {
     Serves(Service),
 }
 
-/// What is said from the start to the stop. All of it is made before anything is heard.
+/// What is sent from the start to the stop. All of it is made before anything is received.
 #[derive(Drop)]
 struct Service {
     life: Life,
-    /// What is said next.
+    /// The event to send next.
     waiting: Option<Outgoing>,
-    /// What is said at the startup.
+    /// The event to send at the startup.
     startup: Option<Outgoing>,
-    /// What is said at the shutdown behind it.
+    /// The event to send at the shutdown after the startup.
     shutdown: Option<Outgoing>,
-    /// The last event was heard.
+    /// The last event was received.
     is_over: bool,
 }
 
@@ -85,7 +85,7 @@ impl Application for Life {
     }
 }
 
-/// What a request is answered with.
+/// The line that a request is answered with.
 fn line_of(state: &State) -> &'static [u8]
     ensures { result.now ≡ number_line state.now }
 {
@@ -102,7 +102,7 @@ fn line_of(state: &State) -> &'static [u8]
     }
 }
 
-/// A task that has heard nothing.
+/// A task that has received nothing.
 fn begin(alloc: Global, life: Life) -> Result<Service, AppFault>
     ensures begins { IfOk result (λ service. Begins life service) }
     ensures failed { ¬ (IsErrOf result AppFault.Failed) }
@@ -127,7 +127,7 @@ fn service_of(alloc: Global, life: Life) -> Result<Service, AllocError>
     })
 }
 
-/// What is said at the startup.
+/// The event to send at the startup.
 fn startup(alloc: Global, life: Life) -> Result<Outgoing, AllocError>
     ensures { IfOk result (λ event. event ≡ startup_event life) }
 {
@@ -153,7 +153,7 @@ fn started(alloc: Global) -> Result<Outgoing, AllocError>
     }
 }
 
-/// What is said at the shutdown. Where the start fails there is none.
+/// The event to send at the shutdown; none if the start fails.
 fn shutdown(alloc: Global, life: Life) -> Result<Option<Outgoing>, AllocError>
     ensures { IfOk result (λ event. event ≡ shutdown_event life) }
 {
@@ -218,14 +218,14 @@ impl AppTask for Service {
 }
 
 impl Service {
-    /// Makes the event's answer the next to be said. Behind a disconnect, which a lifespan scope
-    /// does not have, nothing may be said.
+    /// Makes the event's answer the next to be sent. After a disconnect, which a lifespan scope
+    /// does not have, nothing may be sent.
     fn hear(&mut self, event: Incoming)
         requires waiting { self.old.waiting ≡ None }
         requires not_over { self.old.is_over ≡ false }
         ensures says { option_to_list self.new.waiting ≡ reply event self.old.startup self.old.shutdown }
-        ensures startup { self.new.startup ≡ startup_behind event self.old.startup }
-        ensures shutdown { self.new.shutdown ≡ shutdown_behind event self.old.startup self.old.shutdown }
+        ensures startup { self.new.startup ≡ startup_after event self.old.startup }
+        ensures shutdown { self.new.shutdown ≡ shutdown_after event self.old.startup self.old.shutdown }
         ensures over { self.new.is_over ≡ is_last event self.old.startup self.old.shutdown }
         ensures life { self.new.life ≡ self.old.life }
     {
@@ -243,13 +243,13 @@ impl Service {
         }
     }
 
-    /// At the first startup its answer is said. Where nothing is to be said behind it, it was the last event.
+    /// At the first startup its answer is sent. If nothing is to be sent at a shutdown, that was the last event.
     fn start(&mut self)
         requires waiting { self.old.waiting ≡ None }
         requires not_over { self.old.is_over ≡ false }
         ensures says { option_to_list self.new.waiting ≡ reply Incoming.LifespanStartup self.old.startup self.old.shutdown }
-        ensures startup { self.new.startup ≡ startup_behind Incoming.LifespanStartup self.old.startup }
-        ensures shutdown { self.new.shutdown ≡ shutdown_behind Incoming.LifespanStartup self.old.startup self.old.shutdown }
+        ensures startup { self.new.startup ≡ startup_after Incoming.LifespanStartup self.old.startup }
+        ensures shutdown { self.new.shutdown ≡ shutdown_after Incoming.LifespanStartup self.old.startup self.old.shutdown }
         ensures over { self.new.is_over ≡ is_last Incoming.LifespanStartup self.old.startup self.old.shutdown }
         ensures life { self.new.life ≡ self.old.life }
     {
@@ -259,13 +259,13 @@ impl Service {
         }
     }
 
-    /// At the first shutdown behind the startup its answer is said, the last.
+    /// At the first shutdown after the startup its answer is sent, the last one.
     fn stop(&mut self)
         requires waiting { self.old.waiting ≡ None }
         requires not_over { self.old.is_over ≡ false }
         ensures says { option_to_list self.new.waiting ≡ reply Incoming.LifespanShutdown self.old.startup self.old.shutdown }
-        ensures startup { self.new.startup ≡ startup_behind Incoming.LifespanShutdown self.old.startup }
-        ensures shutdown { self.new.shutdown ≡ shutdown_behind Incoming.LifespanShutdown self.old.startup self.old.shutdown }
+        ensures startup { self.new.startup ≡ startup_after Incoming.LifespanShutdown self.old.startup }
+        ensures shutdown { self.new.shutdown ≡ shutdown_after Incoming.LifespanShutdown self.old.startup self.old.shutdown }
         ensures over { self.new.is_over ≡ is_last Incoming.LifespanShutdown self.old.startup self.old.shutdown }
         ensures life { self.new.life ≡ self.old.life }
     {
@@ -278,7 +278,7 @@ impl Service {
         }
     }
 
-    /// Nothing is said any more.
+    /// Nothing more is sent at a startup or a shutdown.
     fn silence(&mut self)
         ensures startup { self.new.startup ≡ None }
         ensures shutdown { self.new.shutdown ≡ None }

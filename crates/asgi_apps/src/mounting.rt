@@ -17,7 +17,7 @@ const SLASH: &[u8] = b"/";
 /// An application under its prefix.
 #[derive(Debug, Drop)]
 pub struct Mount<A> {
-    /// The front of the paths that go to it, without a `/` at its end.
+    /// The beginning of the paths that go to it, without a `/` at its end.
     pub prefix: Chars,
     /// The application.
     pub app: A,
@@ -32,8 +32,8 @@ pub struct Found {
     pub length: usize,
 }
 
-/// Whether it is refused as a prefix: it is not empty, and has no `/` at its front, or one at its
-/// end.
+/// Whether the prefix is refused: it is not empty, and either does not begin with a `/` or ends
+/// with one.
 pub fn is_bad_prefix(prefix: &[u8]) -> bool
     ensures { IsTrue result ↔ IsBadPrefix prefix.now }
 {
@@ -43,7 +43,7 @@ pub fn is_bad_prefix(prefix: &[u8]) -> bool
     !prefix.starts_with(SLASH) || prefix.ends_with(SLASH)
 }
 
-/// Whether an application is mounted under just this prefix.
+/// Whether an application is mounted under exactly this prefix.
 pub fn is_mounted<A>(mounts: &[Mount<A>], prefix: &[u8]) -> bool
     ensures { IsTrue result ↔ IsMounted (prefixes_of mounts.now) prefix.now }
 {
@@ -55,8 +55,8 @@ pub fn is_mounted<A>(mounts: &[Mount<A>], prefix: &[u8]) -> bool
     false
 }
 
-/// The path without the root path in front, or the whole path where that is not in front (ASGI HTTP
-/// and WebSocket connection scope, `root_path`).
+/// The path without the root path at its start, or the whole path if it does not start with that
+/// (ASGI HTTP and WebSocket connection scope, `root_path`).
 pub fn local_of<'a>(path: &'a [u8], root_path: &[u8]) -> &'a [u8]
     ensures { result.now ≡ local_path path.now root_path.now }
 {
@@ -66,7 +66,7 @@ pub fn local_of<'a>(path: &'a [u8], root_path: &[u8]) -> &'a [u8]
     }
 }
 
-/// Whether the path is the prefix, or goes on behind it with a `/`.
+/// Whether the path is the prefix, or goes on after it with a `/`.
 fn is_under(prefix: &[u8], path: &[u8]) -> bool
     ensures { IsTrue result ↔ IsUnder prefix.now path.now }
 {
@@ -79,8 +79,8 @@ fn is_under(prefix: &[u8], path: &[u8]) -> bool
     rest.starts_with(SLASH)
 }
 
-/// The longest prefix that the path is under: the path is the prefix, or goes on behind it with a
-/// `/`. None where it is under none.
+/// The longest prefix that the path is under: the path is the prefix, or goes on after it with a
+/// `/`. None if the path is under none.
 pub fn longest<A>(mounts: &[Mount<A>], path: &[u8]) -> Option<Found>
     ensures { IsLongest (prefixes_of mounts.now) path.now result }
 {
@@ -91,7 +91,7 @@ pub fn longest<A>(mounts: &[Mount<A>], path: &[u8]) -> Option<Found>
     found
 }
 
-/// The longest prefix, with one more behind those before it.
+/// The longest prefix, after one more was looked at.
 fn longer(found: Option<Found>, at: usize, prefix: &[u8], path: &[u8]) -> Option<Found>
     ensures { (prefixes : List (List ℕ)) → length prefixes ≡ at → IsLongest prefixes path.now found → IsLongest (prefixes ++ prefix.now ∷ []) path.now result }
 {
@@ -111,8 +111,8 @@ fn longer(found: Option<Found>, at: usize, prefix: &[u8], path: &[u8]) -> Option
 
 impl<A: Application> Mount<A> {
     /// Calls the application in the scope with the prefix added to `root_path` (ASGI HTTP and
-    /// WebSocket connection scope, `root_path`). A lifespan scope goes to it as it is. The fault is
-    /// the application's, or `NoMemory` where memory for the scope is refused.
+    /// WebSocket connection scope, `root_path`). A lifespan scope is passed on as it is. The fault
+    /// is the application's, or `NoMemory` if memory for the scope is refused.
     pub fn call(&self, alloc: Global, scope: &Scope) -> Result<A::Task, AppFault>
         ensures stands { IfOk result (λ task. A.Task.AppTask.stands task (kind_of scope.now) [] []) }
         ensures answers { IfOk result (λ task. (heard : List Incoming) (said : List Outgoing) (ended : Option EndKind) → A.Task.AppTask.answers task heard said ended → A.answers self.now.app (mounted_scope self.now.prefix scope.now) heard said ended) }
@@ -156,11 +156,11 @@ fn root_path(scope: &Scope) -> &str
     }
 }
 
-fn joined(alloc: Global, front: &str, behind: &str) -> Result<Chars, AllocError>
-    ensures { IfOk result (λ text. text ≡ front.now ++ behind.now) }
+fn joined(alloc: Global, front: &str, after: &str) -> Result<Chars, AllocError>
+    ensures { IfOk result (λ text. text ≡ front.now ++ after.now) }
 {
     let mut text = String::from_str(alloc, front)?;
-    text.push_str(behind)?;
+    text.push_str(after)?;
     Ok(Chars::new(text))
 }
 

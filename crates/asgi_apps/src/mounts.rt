@@ -16,7 +16,7 @@ use thiserror::Error;
 /// Why an application was not mounted.
 #[derive(Clone, Copy, Debug, PartialEq, Eq, Error)]
 pub enum MountError {
-    /// The prefix is not empty, and has no `/` at its front, or one at its end.
+    /// The prefix is not empty, and either does not begin with a `/` or ends with one.
     #[error("the prefix does not begin with a slash, or ends with one")]
     BadPrefix,
     /// An application is mounted under the same prefix.
@@ -29,7 +29,7 @@ pub enum MountError {
 
 /// Applications of one type, each under a prefix of the path (ASGI HTTP and WebSocket connection
 /// scope, `path` and `root_path`). `path` is percent-decoded, so `/a%2fb` is under the prefix `/a`.
-/// A lifespan scope goes to the first one. Where a scope goes to none, `NotFound` is called.
+/// A lifespan scope goes to the first one. If a scope goes to none, `NotFound` is called.
 #[derive(Debug, Drop)]
 pub struct Mounts<A> {
     mounts: Vec<Mount<A>>,
@@ -39,14 +39,14 @@ pub struct Mounts<A> {
 /// The task of an application that is mounted.
 #[derive(Drop)]
 pub enum MountTask<T> {
-    /// That of the application that the scope went to.
+    /// The task of the application that the scope went to.
     Taken(T),
-    /// Where it went to none, that of `NotFound`.
+    /// The task of `NotFound`, if the scope went to none.
     Missing(Says),
 }
 
 impl<A> Mounts<A> {
-    /// Nothing is mounted. It takes no memory.
+    /// Nothing is mounted. Takes no memory.
     pub fn new(alloc: Global) -> Self
         ensures { result.mounts.items ≡ [] }
     {
@@ -55,9 +55,9 @@ impl<A> Mounts<A> {
         }
     }
 
-    /// The number of the application that a path goes to, from 0 on in the order of mounting: that
-    /// under the longest prefix x where the path, without `root_path` in front, is x or goes on
-    /// behind x with a `/`. None where there is no such prefix. It takes no memory.
+    /// The number of the application that a path goes to, from 0 on in the order of mounting: the
+    /// one under the longest prefix x such that the path, without `root_path` at its start, is x or
+    /// goes on after x with a `/`. None if there is no such prefix. Takes no memory.
     pub fn find(&self, path: &str, root_path: &str) -> Option<usize>
         ensures some { IfSome result (λ at. MountedAt (prefixes_of self.now.mounts.items) (local_path path.now root_path.now) at) }
         ensures none { IfNone result (IsUnmounted (prefixes_of self.now.mounts.items) (local_path path.now root_path.now)) }
@@ -87,8 +87,8 @@ impl<A> Mounts<A> {
 }
 
 impl<A: Drop> Mounts<A> {
-    /// Mounts an application behind those before it. The prefix is empty, or has a `/` at its
-    /// front and none at its end. On an error nothing changes. The errors, in this order:
+    /// Mounts an application after those mounted before. The prefix is empty, or begins with a `/`
+    /// and does not end with one. On an error nothing changes. The errors, in this order:
     /// BadPrefix, Taken, NoMemory.
     pub fn mount(&mut self, prefix: Chars, app: A) -> Result<(), MountError>
         ensures ok { OnOk result (self.new.mounts.items ≡ self.old.mounts.items ++ record { prefix = prefix; app = app } ∷ []) }

@@ -10,8 +10,8 @@ use crate::task::{AppFault, Application};
 use asgi_types::Scope;
 use std::alloc::Global;
 
-/// Answers each request with 404 and no content, and refuses each session. In a lifespan scope its
-/// call fails.
+/// Responds to each request with 404 and no content, and refuses each session. In a lifespan scope
+/// its call fails.
 #[derive(Clone, Copy, Debug)]
 pub struct NotFound;
 

@@ -1,4 +1,4 @@
-//! Tasks that say one whole answer.
+//! Tasks that send one whole answer.
 ghost use Rattle.std.specs.Prelude.{◌≡◌, [], ◌∷◌, ◌++◌, Ok, IfOk};
 ghost use Rattle.std.specs.Result.{IsErrOf};
 ghost use Rattle.http_header.specs.FieldName.{IsFieldName};
@@ -20,8 +20,8 @@ const CONTENT_LENGTH: &[u8] = b"content-length";
 
 const ZERO: &[u8] = b"0";
 
-/// Answers a request with 200 and a line of text, these bytes and a line feed, as `text/plain`.
-/// `NoMemory` where memory is refused; there is no other fault.
+/// Responds to a request with 200 and a line of text, these bytes and a line feed, as `text/plain`.
+/// `NoMemory` if memory is refused; there is no other fault.
 pub fn respond_line(alloc: Global, text: &[u8]) -> Result<Says, AppFault>
     ensures gives { IfOk result (λ says. Gives says kind.Http (text_events (text.now ++ line_feed ∷ []))) }
     ensures failed { ¬ (IsErrOf result AppFault.Failed) }
@@ -29,8 +29,8 @@ pub fn respond_line(alloc: Global, text: &[u8]) -> Result<Says, AppFault>
     granted(line_response(alloc, text))
 }
 
-/// Answers a request with 404 and no content. `NoMemory` where memory is refused; there is no other
-/// fault.
+/// Responds to a request with 404 and no content. `NoMemory` if memory is refused; there is no
+/// other fault.
 pub fn respond_not_found(alloc: Global) -> Result<Says, AppFault>
     ensures gives { IfOk result (λ says. Gives says kind.Http not_found_events) }
     ensures failed { ¬ (IsErrOf result AppFault.Failed) }
@@ -39,7 +39,7 @@ pub fn respond_not_found(alloc: Global) -> Result<Says, AppFault>
 }
 
 /// Refuses a session, whose handshake the server then answers with 403 (ASGI HTTP and WebSocket
-/// message format 2.4, "Close"). `NoMemory` where memory is refused; there is no other fault.
+/// message format 2.4, "Close"). `NoMemory` if memory is refused; there is no other fault.
 pub fn refuse(alloc: Global) -> Result<Says, AppFault>
     ensures gives { IfOk result (λ says. Gives says kind.WebSocket close_events) }
     ensures failed { ¬ (IsErrOf result AppFault.Failed) }
@@ -89,7 +89,7 @@ fn response_of(
 }
 
 /// A "Response Start" of this status with one field (ASGI HTTP and WebSocket message format 2.4).
-/// `AllocError` where memory is refused.
+/// `AllocError` if memory is refused.
 pub fn start(alloc: Global, status: u16, name: &[u8], value: &[u8]) -> Result<Outgoing, AllocError>
     requires name { IsFieldName name.now }
     requires value { IsFieldValue value.now }

@@ -1,4 +1,4 @@
-//! The application that says where it is mounted.
+//! The application that responds with where it is mounted.
 ghost use Rattle.std.specs.Prelude.{◌≡◌};
 ghost use Rattle.asgi_types.specs.declared.scope.Kind.TheVariants as kind;
 ghost use Rattle.asgi_apps.specs.Answers.{Answers, root_path_answer};
@@ -10,8 +10,8 @@ use crate::task::{AppFault, Application};
 use asgi_types::Scope;
 use std::alloc::Global;
 
-/// Answers each request with 200 and the scope's `root_path`, as a line, and refuses each session.
-/// In a lifespan scope its call fails.
+/// Responds to each request with 200 and the scope's `root_path`, as a line, and refuses each
+/// session. In a lifespan scope its call fails.
 #[derive(Clone, Copy, Debug)]
 pub struct RootPath;
 

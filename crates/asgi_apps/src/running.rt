@@ -1,4 +1,4 @@
-//! A task with the end that it is lent: as a future, and driven by hand.
+//! A task with the end that it borrows: as a future, and driven by hand.
 ghost use Rattle.std.specs.Prelude.{◌≡◌, ◌≢◌, ◌≤◌, ◌⊎◌, ◌+◌, ℕ, List, Option, Some, None, IsSome, IsSomeAnd};
 ghost use Rattle.futures.specs.Poll.{IfReady, OnPending};
 ghost use Rattle.futures.specs.Task.{IsArmed, Keeps};
@@ -15,21 +15,21 @@ use asgi_pipes::{AppEnd, EndKind};
 use futures::Future;
 use futures::task::{Context, Poll};
 
-/// A task, and the end that it is lent.
+/// A task, and the end that it borrows.
 #[derive(Drop)]
 pub struct Lent<T, E> {
     /// The task.
     pub task: T,
-    /// The end that it is lent.
+    /// The end that the task borrows.
     pub app_end: E,
 }
 
-/// A task that runs, as a future that gives it back when it ended.
+/// A running task, as a future that returns the task once it has ended.
 #[derive(Drop)]
 pub struct Running<T, E> {
-    /// None once the task has ended and was given back.
+    /// None once the task has ended and was returned.
     pub lent: Option<Lent<T, E>>,
-    /// The polls that were made.
+    /// How many polls were made.
     pub turns: u64,
 }
 
@@ -38,16 +38,16 @@ pub struct Running<T, E> {
 pub struct Ended<T, E> {
     /// The task.
     pub task: T,
-    /// The end that it was lent.
+    /// The end that the task borrowed.
     pub app_end: E,
     /// How the task ended.
     pub kind: EndKind,
-    /// The polls that were made.
+    /// How many polls were made.
     pub turns: u64,
 }
 
 impl<T: AppTask, E: AppEnd> Lent<T, E> {
-    /// Polls the task once. Where it ended, its end is put behind all that it said.
+    /// Polls the task once. If the task ended, its end is put after all that it sent.
     fn turn(&mut self, cx: &mut Context<'_>) -> Poll<EndKind>
         requires { MayGoOn T.stands E.AppEnd self.old.task self.old.app_end }
         ensures ready { IfReady result (λ kind. GoesOn E.AppEnd (Some kind) self.old.app_end self.new.app_end) }
@@ -67,7 +67,7 @@ impl<T: AppTask, E: AppEnd> Lent<T, E> {
         Poll::Ready(kind)
     }
 
-    /// What the polls since this was last asked did.
+    /// What the polls since the last call of this did.
     fn moved(&mut self) -> Turn
         requires { MayGoOn T.stands E.AppEnd self.old.task self.old.app_end }
         ensures turn { result ≡ turn_of (E.has_moved self.old.app_end) }
@@ -82,7 +82,7 @@ impl<T: AppTask, E: AppEnd> Lent<T, E> {
 }
 
 impl<T: AppTask, E: AppEnd> Running<T, E> {
-    /// Lends the end to the task. No poll was made yet.
+    /// The task borrows the end. No poll was made yet.
     pub fn new(task: T, end: E) -> Self
         requires open { E.ended end ≡ None }
         requires stands { T.stands task (E.kind end) (E.heard end) (E.said end) }
@@ -95,8 +95,8 @@ impl<T: AppTask, E: AppEnd> Running<T, E> {
         }
     }
 
-    /// Polls the task once. Ready, it gives how the task ended, never as `Idle`: then `finish` was
-    /// called on its end, and it may be polled no more.
+    /// Polls the task once. When ready, returns how the task ended, never `Idle`: `finish` was
+    /// called on its end, and the task must not be polled again.
     pub fn turn(&mut self, cx: &mut Context<'_>) -> Poll<EndKind>
         requires { IsSomeAnd self.old.lent (λ was. MayGoOn T.stands E.AppEnd was.task was.app_end) }
         ensures ready { IfReady result (λ kind. IsSomeAnd self.old.lent (λ was. IsSomeAnd self.new.lent (λ is. GoesOn E.AppEnd (Some kind) was.app_end is.app_end))) }
@@ -116,7 +116,7 @@ impl<T: AppTask, E: AppEnd> Running<T, E> {
         lent.turn(cx)
     }
 
-    /// What the polls since this was last asked did: `Moved` or `Idle`.
+    /// What the polls since the last call of this did: `Moved` or `Idle`.
     pub fn moved(&mut self) -> Turn
         requires { IsSomeAnd self.old.lent (λ was. MayGoOn T.stands E.AppEnd was.task was.app_end) }
         ensures turn { IsSomeAnd self.old.lent (λ was. result ≡ turn_of (E.has_moved was.app_end)) }
@@ -130,7 +130,7 @@ impl<T: AppTask, E: AppEnd> Running<T, E> {
         lent.moved()
     }
 
-    /// Gives back the task and its end, behind so many polls.
+    /// Returns the task and its end, after `turns` polls.
     fn give_back(&mut self, kind: EndKind, turns: u64) -> Ended<T, E>
         requires { IsSome self.old.lent }
         ensures task { IsSomeAnd self.old.lent (λ was. result.task ≡ was.task) }
@@ -163,7 +163,7 @@ impl<T: AppTask, E: AppEnd> Running<T, E> {
     }
 }
 
-/// How the answer of a poll ends a task.
+/// How the result of a poll ends a task.
 fn kind_of(answer: Result<(), AppFault>) -> EndKind
     ensures kind { own_end result ≡ end_of (Poll.Ready answer) }
     ensures not_idle { result ≢ EndKind.Idle }
@@ -174,7 +174,7 @@ fn kind_of(answer: Result<(), AppFault>) -> EndKind
     }
 }
 
-/// Puts the end of the task behind all that it said.
+/// Puts the end of the task after all that it sent.
 fn finish<E: AppEnd>(end: &mut E, kind: EndKind)
     requires { E.ended end.old ≡ None }
     ensures end { GoesOn E.AppEnd (Some kind) end.old end.new }
@@ -198,9 +198,9 @@ impl<T: AppTask, E: AppEnd> Future for Running<T, E> {
     }
 }
 
-/// Polls the task until it ends, or until `turns` polls were made or `idle_turns` polls in a row
-/// moved nothing, where it is ended as `Idle`. Behind each poll that moved nothing it pauses.
-/// `turns` of the result counts the polls of this call.
+/// Polls the task until it ends. Once `turns` polls were made, or `idle_turns` polls in a row moved
+/// nothing, the task is ended as `Idle`. Pauses after each poll that moved nothing. `turns` of the
+/// result counts the polls of this call.
 pub fn drive<T: AppTask, E: AppEnd, P: Pause>(
     cx: &mut Context<'_>,
     running: Running<T, E>,

@@ -1,4 +1,4 @@
-//! A task that has a list of events to say.
+//! A task that has a list of events to send.
 ghost use Rattle.std.specs.Prelude.{◌≡◌, List, [], ◌∷◌, ◌++◌, None, OnOk, OnErr, IfOk, IfSome, IfNone};
 
 use crate::task::{AppFault, AppTask};
@@ -9,12 +9,12 @@ use futures::task::{Context, Poll};
 use std::alloc::{AllocError, Global};
 use std::collections::VecDeque;
 
-/// Says a list of events, one a poll, and returns. It hears nothing. Where an event is refused or
-/// ignored, it fails.
+/// Sends a list of events, one a poll, and returns. Receives nothing. If an event is refused or
+/// ignored, the task fails.
 #[derive(Drop)]
 pub struct Says {
     kind: Kind,
-    /// What found no place when it was said.
+    /// An event that found no free place when it was sent.
     waiting: Option<Outgoing>,
     events: VecDeque<Outgoing>,
     script: History<Outgoing>,
@@ -24,8 +24,8 @@ impl Says {
     ghost use Rattle.asgi_types.specs.declared.outgoing.Outgoing.{Outgoing};
     ghost use Rattle.asgi_apps.specs.Saying.{IsToSay, left_of, script};
 
-    /// Nothing to say yet, in a scope of this kind, with room for so many events. `AllocError`
-    /// where memory for them is refused.
+    /// Nothing to send yet, in a scope of this kind, with room for `events` events. `AllocError` if
+    /// memory for them is refused.
     pub fn with_room(alloc: Global, kind: Kind, events: usize) -> Result<Self, AllocError>
         ensures { IfOk result (λ says. IsToSay says kind []) }
     {
@@ -38,8 +38,8 @@ impl Says {
         })
     }
 
-    /// One more event to say, behind the others. `AllocError` where memory is refused; then what is
-    /// to be said is as before.
+    /// Adds an event to send, after the others. `AllocError` if memory is refused; then what is to
+    /// be sent is as before.
     pub fn add(&mut self, event: Outgoing) -> Result<(), AllocError>
         ensures ok { OnOk result ((script self.new ≡ script self.old ++ event ∷ []) × (left_of self.new ≡ left_of self.old ++ event ∷ [])) }
         ensures err { OnErr result ((script self.new ≡ script self.old) × (left_of self.new ≡ left_of self.old)) }
@@ -51,7 +51,7 @@ impl Says {
         Ok(())
     }
 
-    /// The event that is to be said next.
+    /// The event to send next.
     fn next(&mut self) -> Option<Outgoing>
         ensures some { IfSome result (λ event. left_of self.old ≡ event ∷ self.new.events.items) }
         ensures none { IfNone result ((left_of self.old ≡ []) × (self.new.events.items ≡ [])) }

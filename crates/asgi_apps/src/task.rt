@@ -1,4 +1,4 @@
-//! An application and its tasks, by what they promise of what is heard and said.
+//! An application and its tasks, by what they promise of what is received and sent.
 ghost use Rattle.std.specs.Prelude.{◌≡◌, List, [], Option, Some, None, IfOk, OnErr, ⊤};
 ghost use Rattle.std.specs.Result.{IsErrOf};
 ghost use Rattle.futures.specs.Poll.{OnPending};
@@ -31,16 +31,16 @@ pub enum AppFault {
 
 /// What an application does in one scope.
 ///
-/// A poll does what it can at once. Where it must wait, it is pending and has registered with the
+/// A poll does what it can at once. If it must wait, it is pending and has registered with the
 /// end's source, or has asked for another poll. Only what runs the task calls `finish`.
 pub trait AppTask: Drop {
-    // The task may be polled in a scope of this kind, where this was heard and said so far.
+    // The task may be polled in a scope of this kind in which this was received and sent so far.
     ghost stands: { Self → Kind → List Incoming → List Outgoing → Type 0 } = { λ _ _ _ _. ⊤ };
 
-    // The promise: that this was heard and said, and that the task ended so; while it runs, None.
+    // The promise: that this was received and sent, and that the task ended like this; None while it runs.
     ghost answers: { Self → List Incoming → List Outgoing → Option EndKind → Type 0 } = { λ _ _ _ _. ⊤ };
 
-    /// Goes on with the work, with the end that it is lent. Ready, the task has returned, or has
+    /// Goes on with the work, with the borrowed end. When ready, the task has returned, or has
     /// faulted.
     fn poll<E: AppEnd>(&mut self, cx: &mut Context<'_>, end: &mut E) -> Poll<Result<(), AppFault>>
         requires open { E.ended end.old ≡ None }
@@ -62,14 +62,14 @@ pub trait Application {
     /// What it does in one scope.
     type Task: AppTask;
 
-    // The promise: that this was heard and said in the scope, and that the task ended so; while it runs, None.
+    // The promise: that this was received and sent in the scope, and that the task ended like this; None while it runs.
     ghost answers: { Self → Scope → List Incoming → List Outgoing → Option EndKind → Type 0 } = { λ _ _ _ _ _. ⊤ };
 
-    // The scopes whose call may fail by its own judgement.
+    // The scopes in which a call may fail by the application's own judgement.
     ghost refuses: { Self → Scope → Type 0 } = { λ _ _. ⊤ };
 
-    /// A task for the scope. It keeps the allocator, where it needs one later. `Failed` by the
-    /// application's own judgement, `NoMemory` where memory is refused.
+    /// A task for the scope. The task keeps the allocator if it needs one later. `Failed` by the
+    /// application's own judgement, `NoMemory` if memory is refused.
     fn call(&self, alloc: Global, scope: &Scope) -> Result<Self::Task, AppFault>
         ensures stands { IfOk result (λ task. Self.Task.stands task (kind_of scope.now) [] []) }
         ensures answers { IfOk result (λ task. (heard : List Incoming) (said : List Outgoing) (ended : Option EndKind) → Self.Task.answers task heard said ended → answers self.now scope.now heard said ended) }

@@ -16,8 +16,8 @@ use asgi_types::{Headers, Incoming, Outgoing, Scope};
 use futures::task::{Context, Poll};
 use std::alloc::Global;
 
-/// Accepts each session and sends each of its messages back, and answers each request with 404. In
-/// a lifespan scope its call fails.
+/// Accepts each session and sends each of its messages back, and responds to each request with 404.
+/// In a lifespan scope its call fails.
 #[derive(Clone, Copy, Debug)]
 pub struct WsEcho;
 
@@ -33,13 +33,13 @@ enum Work {
     Echoes(Session),
 }
 
-/// A session in which no disconnect was heard.
+/// A session in which no disconnect was received.
 #[derive(Drop)]
 struct Session {
     alloc: Global,
-    /// The handshake was heard, and so it was accepted, or that is to be said next.
+    /// "Connect" was received: the session was accepted, or its "Accept" is to be sent next.
     is_connected: bool,
-    /// What is to be said next.
+    /// The event to send next.
     waiting: Option<Outgoing>,
 }
 
@@ -106,7 +106,7 @@ impl AppTask for Session {
 }
 
 impl Session {
-    /// Makes the event's answer the next to be said, and says whether the session goes on.
+    /// Makes the event's answer the next to be sent. Returns whether the session goes on.
     fn hear(&mut self, event: Incoming) -> bool
         requires { self.old.waiting ≡ None }
         ensures goes_on { result ≡ not (is_disconnect event) }

@@ -1,4 +1,4 @@
-//! `Life` in each of its forms: what it says from the start to the stop, and of a state.
+//! `Life` in each of its forms: what it sends from the start to the stop, and for a state.
 use crate::rows::Offered::{Close, Connect, Disconnect, Last, Shutdown, Startup};
 use crate::rows::{Asked, CLOSED, Held, Row, SILENCE, USUAL, check, check_memory, run};
 use asgi_apps::Life;
@@ -30,7 +30,7 @@ const WORKS: &[Row] = &[
         &[Startup, Startup, Shutdown, Shutdown],
         "started n=7|stopped|returned",
     ),
-    // A lifespan scope has no other events: one is passed over, and nothing is said behind a disconnect.
+    // A lifespan scope has no other events: one is passed over, and nothing is sent after a disconnect.
     (
         Kind::Lifespan,
         &[Last("abc"), Startup, Connect, Shutdown],
@@ -79,7 +79,7 @@ const SEVEN: Row = (
     "start 200 content-type=text/plain|last n=7\n|returned",
 );
 
-/// What a state holds under `n`, and what is said of it.
+/// What a state holds under `n`, and what is sent for it.
 const STATES: &[(Held, Row)] = &[
     (Held::Number(7), SEVEN),
     (Held::Nothing, NUMBERLESS),
@@ -87,7 +87,7 @@ const STATES: &[(Held, Row)] = &[
     (Held::Text("7"), NUMBERLESS),
 ];
 
-/// The number of the first state of which something else is said.
+/// The number of the first state for which something else is sent.
 fn first_unsaid<R: RandomSource + AllocGlobal>(rt: &R) -> Option<usize> {
     for (place, (held, row)) in STATES.iter().enumerate() {
         let asked = Asked {

@@ -25,7 +25,7 @@ fn mount_all(
     Ok(())
 }
 
-/// Whether these applications say what the row holds, or their fault.
+/// Whether these applications send what the row holds, or their fault.
 fn mounted_run<R: RandomSource + AllocGlobal>(
     rt: &R,
     prefixes: &[&str],
@@ -38,7 +38,7 @@ fn mounted_run<R: RandomSource + AllocGlobal>(
     }
 }
 
-/// The prefixes that are mounted, `root_path`, the path, and what is said over HTTP.
+/// The prefixes that are mounted, `root_path`, the path, and what is sent over HTTP.
 type Path = (
     &'static [&'static str],
     &'static str,
@@ -46,7 +46,7 @@ type Path = (
     &'static str,
 );
 
-/// What is said where the application gets this root path.
+/// What is sent if the application gets this root path.
 const EMPTY: &str = "start 200 content-type=text/plain|last \n|returned";
 
 const A: &str = "start 200 content-type=text/plain|last /a\n|returned";
@@ -59,7 +59,7 @@ const R: &str = "start 200 content-type=text/plain|last /r\n|returned";
 
 const R_A: &str = "start 200 content-type=text/plain|last /r/a\n|returned";
 
-/// What is said where there is no application.
+/// What is sent if there is no application.
 const MISSED: &str = "start 404 content-length=0|last |returned";
 
 const TWO: &[&str] = &["/a", "/a/b"];
@@ -103,7 +103,7 @@ fn run_path<R: RandomSource + AllocGlobal>(rt: &R, given: &Path) -> Result<bool,
     mounted_run(rt, prefixes, asked, (Kind::Http, SILENCE, expected))
 }
 
-/// The number of the first path at which something else is said.
+/// The number of the first path at which something else is sent.
 fn first_unsaid<R: RandomSource + AllocGlobal>(rt: &R) -> Option<usize> {
     for (place, given) in PATHS.iter().enumerate() {
         if !run_path(rt, given).unwrap_or(false) {
@@ -158,7 +158,7 @@ fn paths_are_found_by_number(rt: HostRuntime) -> Result<(), Fail> {
     Ok(())
 }
 
-/// A prefix, and what mounting it behind those before it answers.
+/// A prefix, and what mounting it after those before it returns.
 const PREFIXES: &[(&str, Result<(), MountError>)] = &[
     ("a", Err(MountError::BadPrefix)),
     ("/a/", Err(MountError::BadPrefix)),
@@ -172,7 +172,7 @@ const PREFIXES: &[(&str, Result<(), MountError>)] = &[
     ("//a", Ok(())),
 ];
 
-/// The number of the first prefix that is answered otherwise.
+/// The number of the first prefix for which something else is returned.
 fn first_unlike(alloc: Global, mounts: &mut Mounts<RootPath>) -> Option<usize> {
     for (place, (prefix, expected)) in PREFIXES.iter().enumerate() {
         if mounts.mount(chars(alloc, prefix), RootPath) != *expected {
@@ -242,7 +242,7 @@ fn with_no_application_there_is_no_lifespan(rt: HostRuntime) -> Result<(), Fail>
     Ok(())
 }
 
-/// Where an allocation is refused, the fault says so, and the next call answers whole.
+/// If an allocation is refused, the fault reports it, and the next call answers whole.
 fn run_path_at_last<R: RandomSource + AllocGlobal>(rt: &R, given: &Path) -> Result<bool, AppFault> {
     match run_path(rt, given) {
         Err(AppFault::NoMemory(_)) => run_path(rt, given),
@@ -257,7 +257,7 @@ fn memory_for_mounts(rt: HostRuntime) -> Result<(), Fail> {
     Ok(())
 }
 
-/// Where the table does not grow, the mount is refused, and what was mounted stays: whether that is
+/// If the table does not grow, the mount is refused, and what was mounted stays: whether that is
 /// so, and the prefix is mounted then, or at once.
 fn is_mounted_at_last(alloc: Global, mounts: &mut Mounts<RootPath>) -> bool {
     match mounts.mount(chars(alloc, "/a"), RootPath) {

@@ -7,7 +7,7 @@ use futures::task::{Context, Poll};
 use std::alloc::Global;
 use std::test::Fail;
 
-/// Answers each request with its method, and with its path behind it, a body each.
+/// Responds to each request with its method, and with its path after it, a body each.
 #[derive(Clone, Copy, Debug)]
 struct Repeats;
 
@@ -40,7 +40,7 @@ fn body(alloc: Global, text: &str, more_body: bool) -> Outgoing {
     }
 }
 
-/// Answers each request with as many letters, one a body.
+/// Responds to each request with this many letters, one a body.
 #[derive(Clone, Copy, Debug)]
 struct Counts(u8);
 

@@ -1,4 +1,4 @@
-//! Each ready application over a plain pair, driven to its end: what it says, as a text of one line an event.
+//! Each ready application over a plain pair, driven to its end: what it sends, as a text of one line an event.
 ghost use Rattle.std.specs.Prelude.{◌≡◌, [], None, IfOk};
 ghost use Rattle.futures.specs.Task.{Keeps};
 ghost use Rattle.asgi_apps.specs.Scopes.{kind_of};
@@ -37,7 +37,7 @@ pub enum Offered {
 
 use Offered::{Bytes, Close, Connect, Disconnect, Last, Part, Text};
 
-/// What stands under the name `n` of a state.
+/// The value under the name `n` of a state.
 #[derive(Clone, Copy)]
 pub enum Held {
     Nothing,
@@ -45,7 +45,7 @@ pub enum Held {
     Text(&'static str),
 }
 
-/// What a scope says of its request.
+/// What a scope holds of its request.
 #[derive(Clone, Copy)]
 pub struct Asked {
     pub path: &'static str,
@@ -59,7 +59,7 @@ pub const USUAL: Asked = Asked {
     held: Held::Nothing,
 };
 
-/// A kind of scope, what is offered, and what is said.
+/// A kind of scope, what is offered, and what is sent.
 pub type Row = (Kind, &'static [Offered], &'static str);
 
 /// A task that is driven within one poll, which is where a context comes from.
@@ -79,7 +79,7 @@ impl<A: Application + Drop> Future for Served<A> {
     }
 }
 
-// What a task is given is made, and asked for again where memory was refused.
+// What a task is given is made, and asked for again if memory was refused.
 
 pub fn chars(alloc: Global, text: &str) -> Chars {
     if let Ok(made) = String::from_str(alloc, text) {
@@ -101,7 +101,7 @@ pub fn octets(alloc: Global, text: &str) -> Octets {
     }
 }
 
-/// What is said of a value. It stands for a value of any type, so its proof sees no field of one.
+/// What `says` makes of a value. The value is of any type, so the proof sees no field of it.
 fn of<T: Drop, S, F: FnOnce(&T) -> S>(value: T, says: F) -> S
     requires { F.IsAlwaysCallable says }
 {
@@ -132,7 +132,7 @@ fn state_of(alloc: Global, held: Held) -> State {
         Held::Number(number) => StateValue::Number(number),
         Held::Text(text) => StateValue::Text(chars(alloc, text)),
     };
-    // A refused value is not held, and the row fails but where memory was refused.
+    // A refused value is not held, and the row fails unless memory was refused.
     let _set = state.set("n", value);
     state
 }
@@ -266,7 +266,7 @@ fn task_of<A: Application>(
     app.call(alloc, &scope)
 }
 
-/// Calls the application, drives its task, and says whether the connection takes what the row holds.
+/// Calls the application, drives its task, and returns whether the connection takes what the row holds.
 fn serve<A: Application>(
     alloc: Global,
     cx: &mut Context<'_>,
@@ -301,7 +301,7 @@ fn is_told<T: AppTask>(
     is_taken(alloc, &mut conn, expected)
 }
 
-/// Takes all, and says whether it is told so.
+/// Takes all, and returns whether it is the expected text.
 fn is_taken(alloc: Global, conn: &mut PlainConn, expected: &str) -> Result<bool, AllocError> {
     let mut text = Vec::new(alloc);
     tell_all(alloc, &mut text, conn)?;
@@ -317,7 +317,7 @@ fn tell_all(alloc: Global, text: &mut Vec<u8>, conn: &mut PlainConn) -> Result<(
     Ok(())
 }
 
-/// Tells what was taken, and says whether it was anything.
+/// Adds what was taken to the text, and returns whether it was anything.
 fn tell_item(
     alloc: Global,
     text: &mut Vec<u8>,
@@ -429,7 +429,7 @@ fn add(text: &mut Vec<u8>, parts: &[&[u8]]) -> Result<(), AllocError> {
     Ok(())
 }
 
-/// Whether the application says what the row holds, or its fault.
+/// Whether the application sends what the row holds, or its fault.
 pub fn run<R: RandomSource + AllocGlobal, A: Application + Drop>(
     rt: &R,
     app: A,
@@ -451,7 +451,7 @@ pub fn run<R: RandomSource + AllocGlobal, A: Application + Drop>(
 
 pub const SILENCE: &[Offered] = &[];
 
-/// Whether the application says what the row holds. Of a fault the row says `faulted`.
+/// Whether the application sends what the row holds. For a fault the row holds `faulted`.
 fn is_said<R: RandomSource + AllocGlobal, A: Application + Copy + Drop>(
     rt: &R,
     app: A,
@@ -463,7 +463,7 @@ fn is_said<R: RandomSource + AllocGlobal, A: Application + Copy + Drop>(
     }
 }
 
-/// What the first row holds that the application does not say.
+/// What the first row holds that the application does not send.
 fn first_unsaid<R: RandomSource + AllocGlobal, A: Application + Copy + Drop>(
     rt: &R,
     app: A,
@@ -606,7 +606,7 @@ fn ws_echo_sends_each_message_back(rt: HostRuntime) -> Result<(), Fail> {
     check(&rt, WsEcho, WS_ECHO)
 }
 
-/// Where an allocation is refused, the fault says so, and the next call answers whole.
+/// If an allocation is refused, the fault reports it, and the next call answers whole.
 fn is_said_at_last<R: RandomSource + AllocGlobal, A: Application + Copy + Drop>(
     rt: &R,
     app: A,

@@ -18,14 +18,14 @@ use std::test::Fail;
 use std::time::{Clock, Duration};
 use std::{io, thread};
 
-/// What `Hello` says.
+/// What `Hello` sends.
 const GREETS: Scripted = Scripted(&[
     Step::Says(Said::Start(200, &[("content-type", "text/plain")])),
     Step::Says(Said::Last("hello\n")),
 ]);
 
-/// Answers as `Hello` once it has heard the whole body, for whose events it asks within one poll, so often at the most and
-/// about a millisecond apart.
+/// Responds as `Hello` once it has received the whole body, for whose events it asks within one poll, `tries` times at
+/// the most and about a millisecond apart.
 #[derive(Clone, Copy)]
 struct Asks<R> {
     clock: R,
@@ -61,7 +61,7 @@ fn is_last(event: &Incoming) -> bool {
     )
 }
 
-/// Whether the last event of the body is there. Where none is, a millisecond is waited.
+/// Whether the last event of the body is there. If none is, waits a millisecond.
 fn ask<R: Clock, E: AppEnd>(clock: &R, cx: &mut Context<'_>, end: &mut E) -> bool
     requires { E.ended end.old ≡ None }
     ensures end { GoesOn E.AppEnd None end.old end.new }
@@ -76,7 +76,7 @@ fn ask<R: Clock, E: AppEnd>(clock: &R, cx: &mut Context<'_>, end: &mut E) -> boo
     }
 }
 
-/// Whether it comes within so many tries.
+/// Whether the last event comes within `tries` tries.
 fn hears_all<R: Clock, E: AppEnd>(asks: &Asks<R>, cx: &mut Context<'_>, end: &mut E) -> bool
     requires { E.ended end.old ≡ None }
     ensures end { GoesOn E.AppEnd None end.old end.new }
@@ -112,7 +112,7 @@ fn narrow() -> Result<Limits, BadLimit> {
     Limits::new(16_384, 64, 1_048_576, 1, 2, 30_000, 1_000_000)
 }
 
-/// The request, so often.
+/// The request, this many times.
 fn requests(alloc: Global, times: usize) -> Result<Vec<u8>, AllocError> {
     let mut input = Vec::new(alloc);
     for _time in 0..times {
@@ -121,7 +121,7 @@ fn requests(alloc: Global, times: usize) -> Result<Vec<u8>, AllocError> {
     Ok(input)
 }
 
-/// Whether so many requests on one connection are answered beside a thread.
+/// Whether this many requests on one connection are answered beside a thread.
 fn are_answered<H: Host + Clock + Drop>(rt: &H, limits: &Limits, times: usize) -> io::Result<bool> {
     let input = requests(rt.alloc(), times)?;
     let app = Asks {

@@ -12,14 +12,14 @@ use std::sync::Arc;
 use std::sync::atomic::{AtomicU64, Ordering};
 use std::thread;
 
-/// So often a half that is held lets other threads go first, before it goes on out of its turn: the other one may have nothing
-/// to do, or have ended.
+/// A half that is held lets other threads go first this many times, before it goes on out of its turn: the other one
+/// may have nothing to do, or have ended.
 const PATIENCE: u32 = 200;
 
 /// In which order the halves make their calls.
 #[derive(Clone, Copy, Debug)]
 pub enum Order {
-    /// So many of the connection's, and then so many of the application's.
+    /// This many of the connection's, and then this many of the application's.
     Turns(u64),
     /// By chance, from this seed.
     Chance(u64),

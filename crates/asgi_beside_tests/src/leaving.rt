@@ -1,4 +1,4 @@
-//! What a task says leaves while it works on, though its client sends nothing more.
+//! What a task sends leaves while it works on, though its client sends nothing more.
 use crate::serving::serve;
 use asgi_apps::{AppFault, AppTask, Application};
 use asgi_conn::{Host, Outcome};
@@ -15,7 +15,7 @@ use std::test::Fail;
 use std::thread;
 use std::time::{Clock, Duration};
 
-/// So often a task looks for its last event, about a millisecond apart.
+/// How often a task looks for its last event, about a millisecond apart.
 const LOOKS: u32 = 5_000;
 
 /// How many writes were made, for all that look.
@@ -27,7 +27,7 @@ impl Writes {
         Ok(Writes(Arc::try_clone(&self.0)?))
     }
 
-    /// Whether so many are made before long.
+    /// Whether this many are made before long.
     fn reach<R: Clock>(&self, clock: &R, wanted: u64) -> bool {
         for _look in 0..LOOKS {
             if self.0.load(Ordering::SeqCst) >= wanted {
@@ -53,7 +53,7 @@ const TEN_PARTS: Scripted = Scripted(&[
     Step::Says(Said::Last("x")),
 ]);
 
-/// Says ten parts of a body, each only once the one before has left; else it faults.
+/// Sends ten parts of a body, each only once the one before has left; else it faults.
 #[derive(Drop)]
 struct Ticks<R> {
     clock: R,

@@ -6,6 +6,8 @@ mod at_once;
 #[cfg(test)]
 mod gates;
 #[cfg(test)]
+mod gives_up;
+#[cfg(test)]
 mod leaving;
 #[cfg(test)]
 mod memory;

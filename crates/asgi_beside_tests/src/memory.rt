@@ -23,7 +23,7 @@ const ECHOED: Row = (POST, ECHO_HEAD, BODY);
 /// What came of a connection.
 #[derive(Clone, Copy, Debug, PartialEq, Eq)]
 enum Came {
-    /// It was served as the row has it.
+    /// The connection was served as the row has it.
     Whole,
     /// Memory or a thread was refused, and nothing was done that is not due.
     CutOff,
@@ -38,7 +38,7 @@ fn is_beginning(bytes: &[u8], row: &Row) -> bool {
     }
 }
 
-/// Whether the bytes are what a connection may have that ends so for want of memory.
+/// Whether the bytes are what a connection may have that ends like this for want of memory.
 fn is_cut_off(bytes: &[u8], outcome: Outcome, row: &Row) -> bool {
     match outcome {
         Outcome::NoMemory => is_beginning(bytes, row),

@@ -52,14 +52,14 @@ fn are_parts(bytes: &[u8], parts: &[&[u8]]) -> bool {
     let mut rest = bytes;
     for part in parts {
         match rest.strip_prefix(*part) {
-            Some(behind) => rest = behind,
+            Some(after) => rest = after,
             None => return false,
         }
     }
     rest.is_empty()
 }
 
-/// Whether the line is served as the row says.
+/// Whether the line is served as the row holds.
 fn is_served<H: Host, T: AppTask + Send + 'static, A: Application<Task = T>>(
     rt: &H,
     app: &A,
@@ -96,7 +96,7 @@ fn is_row<H: Host, T: AppTask + Send + 'static, A: Application<Task = T> + Drop>
     is_served(rt, &Held { gate, app }, &mut line, limits, row)
 }
 
-/// Whether each row is served so in this order of calls.
+/// Whether each row is served like this in this order of calls.
 fn are_rows<H: Host>(rt: &H, limits: &Limits, order: Order) -> io::Result<bool> {
     Ok(
         is_row(rt, Hello, limits, &GREETED, order)?

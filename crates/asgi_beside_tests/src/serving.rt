@@ -8,7 +8,7 @@ use std::io;
 /// The outcome, the exchanges, the tasks that faulted, and the exchanges whose ends did not meet.
 pub type End = (Outcome, u64, u64, u64);
 
-/// Serves the line beside a thread, which is asked for where `asks` says so.
+/// Serves the line beside a thread, which is asked for if `asks` is true.
 pub fn serve<H: Host, T: AppTask + Send + 'static, A: Application<Task = T>, L: Line>(
     rt: &H,
     limits: &Limits,
@@ -37,7 +37,7 @@ pub fn serve<H: Host, T: AppTask + Send + 'static, A: Application<Task = T>, L: 
     Ok((report.outcome, report.exchanges, report.faults, unmet))
 }
 
-/// Whether the text comes so often and nothing else, as the answer on a line that ends so.
+/// Whether the text comes this many times and nothing else, as the answer on a line that ends like this.
 pub fn is_answered<H: Host, T: AppTask + Send + 'static, A: Application<Task = T>>(
     rt: &H,
     limits: &Limits,
@@ -50,12 +50,12 @@ pub fn is_answered<H: Host, T: AppTask + Send + 'static, A: Application<Task = T
     Ok(ended == end && is_repeated(text_of(line), text, times))
 }
 
-/// Whether the bytes are this text, so often.
+/// Whether the bytes are this text, this many times.
 pub fn is_repeated(bytes: &[u8], text: &[u8], times: usize) -> bool {
     let mut rest = bytes;
     for _time in 0..times {
         match rest.strip_prefix(text) {
-            Some(behind) => rest = behind,
+            Some(after) => rest = after,
             None => return false,
         }
     }

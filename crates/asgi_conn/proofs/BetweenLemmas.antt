@@ -20,7 +20,7 @@ use Rattle.asgi_request.specs.Reading.{Reading, StandsFor, AllGiven, EndsWhole, 
 use Rattle.asgi_request.specs.Results.{AreRequests, GivesResults, Opens}
 use Rattle.asgi_request.specs.Scopes.{scope_of, facts_of}
 use Rattle.asgi_request.proofs.BodyGrowthLemmas.{Further}
-use Rattle.asgi_request.proofs.DueLemmas.{ClosesAt, runs_compare, same_behind}
+use Rattle.asgi_request.proofs.DueLemmas.{ClosesAt, runs_compare, same_after}
 use Rattle.asgi_request.proofs.FirstLemmas.{first_of}
 use Rattle.asgi_request.proofs.HeldLemmas.{between}
 use Rattle.asgi_request.proofs.NextLemmas.{begins_with_handshake, next_head}
@@ -33,18 +33,19 @@ use Rattle.asgi_conversation.specs.declared.input.InputEnd.TheVariants.{AtEnd, F
 use Rattle.asgi_conversation.specs.declared.report.Outcome.{Outcome}
 use Rattle.asgi_conversation.specs.declared.report.Outcome.TheVariants.{Finished, Refused, InputBroke, WriteFailed, Idle, NoMemory}
 use Rattle.asgi_conversation.specs.OutcomeClasses.{Lacking, class_of}
-use Rattle.asgi_conversation.specs.Behind.{IsBlank}
-use Rattle.asgi_conversation.specs.Exchanges.{Exchanged, requests_of}
+use Rattle.asgi_conversation.specs.After.{IsBlank}
+use Rattle.asgi_conversation.specs.Exchanges.{requests_of}
+use Rattle.asgi_conversation.specs.ExchangeRecord.{ExchangeRecord}
 use Rattle.asgi_conversation.specs.SoFar.{Between}
 use Rattle.asgi_conversation.specs.TaskEnds.{has_ended}
 use Rattle.asgi_conversation.proofs.LoopLemmas as loop
-use Rattle.asgi_conn.specs.declared.wire.Wire.{Wire}
-use Rattle.asgi_conn.specs.Lines.{LineState, HasMoved, piece_size}
-use Rattle.asgi_conn.specs.Loop.{Rests, EndsSo}
-use Rattle.asgi_conn.specs.ReadAhead.{ReadsAhead}
+use Rattle.asgi_halves.specs.declared.wire.Wire.{Wire}
+use Rattle.asgi_run.specs.Lines.{LineState, Transferred, piece_size}
+use Rattle.asgi_conn.specs.private.Loop.{BetweenRequests, EndsSo}
+use Rattle.asgi_halves.specs.ReadAhead.{ReadsAhead}
 use Rattle.asgi_conn.proofs.HttpEndLemmas.{http_ends}
-use Rattle.asgi_conn.proofs.LineLemmas.{moved_by_write, tries_front}
-use Rattle.asgi_conn.proofs.ReadAheadLemmas.{reads_at_need}
+use Rattle.asgi_run.proofs.LineLemmas.{moved_by_write, tries_front}
+use Rattle.asgi_halves.proofs.ReadAheadLemmas.{reads_at_need}
 
 -- ---- what the reader gives there
 
@@ -64,84 +65,84 @@ all_whole limits bytes (results ∷ requests) rest are = by (all_whole limits ar
         )
     by (inr some) = inr (results ++ some.0, ap (λ (l : List Next). results ++ l) some.1 ∙ sym (append_assoc results some.0 (Whole ∷ [])))
 
-pub ends_whole : (limits : Limits) (bytes : List ℕ) (given : List Next) (behind : List ℕ) → HasClosed limits bytes given behind → EndsWhole given
-ends_whole limits bytes given behind x = subst EndsWhole (sym x.2) (all_whole limits bytes x.0 behind x.1)
+pub ends_whole : (limits : Limits) (bytes : List ℕ) (given : List Next) (after : List ℕ) → HasClosed limits bytes given after → EndsWhole given
+ends_whole limits bytes given after x = subst EndsWhole (sym x.2) (all_whole limits bytes x.0 after x.1)
 
 no_memory : (outcome : Outcome) → outcome ≡ NoMemory → class_of outcome ≡ Lacking
 no_memory outcome is = ap class_of is
 
-module _ (reader : Reading) (bytes : List ℕ) (given : List Next) (behind : List ℕ) (x : HasClosed reader.limits bytes given behind) (stands : StandsFor reader bytes given) where
+module _ (reader : Reading) (bytes : List ℕ) (given : List Next) (after : List ℕ) (x : HasClosed reader.limits bytes given after) (stands : StandsFor reader bytes given) where
   at_start : reader.place ≡ Start
-  at_start = by (between reader.limits bytes given reader.place reader.held stands (ends_whole reader.limits bytes given behind x))
+  at_start = by (between reader.limits bytes given reader.place reader.held stands (ends_whole reader.limits bytes given after x))
     where
       by : (reader.place ≡ Start) ⊎ (reader.place ≡ Upgraded) → reader.place ≡ Start
       by (inl s) = s
       by (inr s) =
           let P : Place → Type 0 = λ p. Reaches reader.limits bytes given p reader.held in
-          absurd (closed_not_upgraded reader.limits bytes given behind reader.held x (subst P s stands))
+          absurd (closed_not_upgraded reader.limits bytes given after reader.held x (subst P s stands))
 
   pub unrefused : (status : ℕ) → IsRefused reader status → ⊥
   unrefused status refused = let never : Start ≡ Stopped refused.0 = sym at_start ∙ refused.1 in cc
 
-  -- the bytes that it holds stand behind the requests
-  pub behind_is : (held : List ℕ) → WholeGiven reader bytes given held → behind ≡ held
-  behind_is held whole = closed_is_one reader.limits bytes given behind held x (whole_is_closed reader bytes given behind held x whole)
+  -- the bytes that the reader holds come after the requests
+  pub after_is : (held : List ℕ) → WholeGiven reader bytes given held → after ≡ held
+  after_is held whole = closed_is_one reader.limits bytes given after held x (whole_is_closed reader bytes given after held x whole)
 
 -- it is a head or a refusal
-pub opens_next : (limits : Limits) (bytes : List ℕ) (closed : List Next) (behind : List ℕ) (place : Place) (held : List ℕ) (item : Next)
-    → HasClosed limits bytes closed behind → Reaches limits bytes (closed ++ item ∷ []) place held → Opens item
-opens_next limits bytes closed behind place held item closes r = by (runs_compare limits Start bytes x.steps Start behind r.steps place held x.reads r.reads)
+pub opens_next : (limits : Limits) (bytes : List ℕ) (closed : List Next) (after : List ℕ) (place : Place) (held : List ℕ) (item : Next)
+    → HasClosed limits bytes closed after → Reaches limits bytes (closed ++ item ∷ []) place held → Opens item
+opens_next limits bytes closed after place held item closes r = by (runs_compare limits Start bytes x.steps Start after r.steps place held x.reads r.reads)
   where
-    x : ClosesAt limits bytes closed behind
-    x = closed_at limits bytes closed behind closes
+    x : ClosesAt limits bytes closed after
+    x = closed_at limits bytes closed after closes
 
-    on : (items : List (Option Next)) → Reads limits Start behind items place held → item ∷ [] ≡ shown items → Opens item
-    on items q e = first_opens limits behind item [] (first_of limits behind (item ∷ []) place held (record { steps = items; reads = q; shows = sym e }))
+    on : (items : List (Option Next)) → Reads limits Start after items place held → item ∷ [] ≡ shown items → Opens item
+    on items q e = first_opens limits after item [] (first_of limits after (item ∷ []) place held (record { steps = items; reads = q; shows = sym e }))
 
-    by : Further limits x.steps Start behind r.steps place held ⊎ Further limits r.steps place held x.steps Start behind → Opens item
+    by : Further limits x.steps Start after r.steps place held ⊎ Further limits r.steps place held x.steps Start after → Opens item
     by (inl f) =
-        on f.items_behind f.reads (same_behind closed (item ∷ []) (shown f.items_behind)
-        (sym r.shows ∙ ap shown f.splits ∙ shown-append x.steps f.items_behind ∙ ap (λ (l : List Next). l ++ shown f.items_behind) x.shows))
+        on f.items_after f.reads (same_after closed (item ∷ []) (shown f.items_after)
+        (sym r.shows ∙ ap shown f.splits ∙ shown-append x.steps f.items_after ∙ ap (λ (l : List Next). l ++ shown f.items_after) x.shows))
     by (inr f) = absurd (
-        let e : [] ≡ item ∷ ([] ++ shown f.items_behind) =
-        same_behind closed [] (item ∷ ([] ++ shown f.items_behind))
-        (append-nil closed ∙ sym x.shows ∙ ap shown f.splits ∙ shown-append r.steps f.items_behind ∙ ap (λ (l : List Next). l ++ shown f.items_behind) r.shows
-        ∙ append_assoc closed (item ∷ []) (shown f.items_behind)) in
+        let e : [] ≡ item ∷ ([] ++ shown f.items_after) =
+        same_after closed [] (item ∷ ([] ++ shown f.items_after))
+        (append-nil closed ∙ sym x.shows ∙ ap shown f.splits ∙ shown-append r.steps f.items_after ∙ ap (λ (l : List Next). l ++ shown f.items_after) r.shows
+        ∙ append_assoc closed (item ∷ []) (shown f.items_after)) in
         cc)
 
 -- ---- with what the connection keeps
 
 -- nothing more was read
-pub as_read : (limits : Limits) (start now : LineState) (read : List ℕ) (exchanges : List Exchanged) (written : List ℕ) (outcome : Outcome)
+pub as_read : (limits : Limits) (start now : LineState) (read : List ℕ) (exchanges : List ExchangeRecord) (written : List ℕ) (outcome : Outcome)
     → EndsSo limits start now read exchanges written outcome → (more : List ℕ) × EndsSo limits start now (read ++ more) exchanges written outcome
 as_read limits start now read exchanges written outcome x = ([], subst (λ (l : List ℕ). EndsSo limits start now l exchanges written outcome) (sym (append-nil read)) x)
 
-module _ (limits : Limits) (start now : LineState) (wire : Wire) (read : List ℕ) (given : List Next) (exchanges : List Exchanged) (behind written : List ℕ)
-    (x : Rests limits start now wire read given exchanges behind written) where
-  closes : HasClosed wire.requests.limits read given behind
-  closes = subst (λ (l : Limits). HasClosed l read given behind) (sym x.limits_are.1) x.between.closed
+module _ (limits : Limits) (start now : LineState) (wire : Wire) (read : List ℕ) (given : List Next) (exchanges : List ExchangeRecord) (after written : List ℕ)
+    (x : BetweenRequests limits start now wire read given exchanges after written) where
+  closes : HasClosed wire.requests.limits read given after
+  closes = subst (λ (l : Limits). HasClosed l read given after) (sym x.limits_are.1) x.between.closed
 
   pub no_refusal : (status : ℕ) → IsRefused wire.requests status → ⊥
-  no_refusal = unrefused wire.requests read given behind closes x.stands
+  no_refusal = unrefused wire.requests read given after closes x.stands
 
   reaches : (reader : Reading) (given : List Next) → reader.limits ≡ limits → StandsFor reader read given → Reaches limits read given reader.place reader.held
   reaches reader list same stands = subst (λ (l : Limits). Reaches l read list reader.place reader.held) same stands
 
   pub no_event : (reader : Reading) (item : Next) → reader.limits ≡ limits → StandsFor reader read (given ++ item ∷ []) → Opens item
-  no_event reader item same stands = opens_next limits read given behind reader.place reader.held item x.between.closed (reaches reader (given ++ item ∷ []) same stands)
+  no_event reader item same stands = opens_next limits read given after reader.place reader.held item x.between.closed (reaches reader (given ++ item ∷ []) same stands)
 
-  -- the bytes that the reader holds stand behind the requests
+  -- the bytes that the reader holds come after the requests
   pub rests_whole : EndsWhole given
-  rests_whole = ends_whole wire.requests.limits read given behind closes
+  rests_whole = ends_whole wire.requests.limits read given after closes
 
-  pub rests_blank : (held : List ℕ) → WholeGiven wire.requests read given held → IsBlank held → IsBlank behind
-  rests_blank held whole blank = subst IsBlank (sym (behind_is wire.requests read given behind closes x.stands held whole)) blank
+  pub rests_blank : (held : List ℕ) → WholeGiven wire.requests read given held → IsBlank held → IsBlank after
+  rests_blank held whole blank = subst IsBlank (sym (after_is wire.requests read given after closes x.stands held whole)) blank
 
-  pub rests_unblank : (held : List ℕ) → WholeGiven wire.requests read given held → (IsBlank held → ⊥) → IsBlank behind → ⊥
-  rests_unblank held whole unblank blank = unblank (subst IsBlank (behind_is wire.requests read given behind closes x.stands held whole) blank)
+  pub rests_unblank : (held : List ℕ) → WholeGiven wire.requests read given held → (IsBlank held → ⊥) → IsBlank after → ⊥
+  rests_unblank held whole unblank blank = unblank (subst IsBlank (after_is wire.requests read given after closes x.stands held whole) blank)
 
   -- another reader that gave no more
-  pub asked : (later : Reading) → later.limits ≡ limits → StandsFor later read given → Rests limits start now (record wire { requests = later }) read given exchanges behind written
+  pub asked : (later : Reading) → later.limits ≡ limits → StandsFor later read given → BetweenRequests limits start now (record wire { requests = later }) read given exchanges after written
   asked later same stands = record { moved = x.moved; limits_are = (x.limits_are.0, same); between = x.between; stands = stands; empty = x.empty; heads = x.heads; ahead = x.ahead }
 
   -- ---- the end without a text
@@ -153,35 +154,35 @@ module _ (limits : Limits) (start now : LineState) (wire : Wire) (read : List �
   pub ends_idle : AllGiven wire.requests read given → EndsSo limits start now read exchanges written Idle
   ends_idle all =
       let g = subst (λ (l : Limits). AllOf l) x.limits_are.1 all in
-      http_ends limits start now wire.input read exchanges written Idle x.moved (λ report o c. loop.idle limits wire.input read given exchanges behind written report x.between c g.0 g.1 o) x.ahead
+      http_ends limits start now wire.input read exchanges written Idle x.moved (λ report o c. loop.idle limits wire.input read given exchanges after written report x.between c g.0 g.1 o) x.ahead
 
   pub ends_short : EndsSo limits start now read exchanges written NoMemory
-  ends_short = http_ends limits start now wire.input read exchanges written NoMemory x.moved (λ report o c. loop.lacking limits wire.input read given exchanges behind written report x.between c (no_memory report.outcome o)) x.ahead
+  ends_short = http_ends limits start now wire.input read exchanges written NoMemory x.moved (λ report o c. loop.lacking limits wire.input read given exchanges after written report x.between c (no_memory report.outcome o)) x.ahead
 
-  pub ends_finished : AllGiven wire.requests read given → wire.input ≡ AtEnd → IsBlank behind → EndsSo limits start now read exchanges written Finished
+  pub ends_finished : AllGiven wire.requests read given → wire.input ≡ AtEnd → IsBlank after → EndsSo limits start now read exchanges written Finished
   ends_finished all at blank =
       let g = subst (λ (l : Limits). AllOf l) x.limits_are.1 all in
-      http_ends limits start now wire.input read exchanges written Finished x.moved (λ report o c. loop.finished limits wire.input read given exchanges behind written report x.between c g.0 g.1 at blank o) x.ahead
+      http_ends limits start now wire.input read exchanges written Finished x.moved (λ report o c. loop.finished limits wire.input read given exchanges after written report x.between c g.0 g.1 at blank o) x.ahead
 
-  pub ends_broken : AllGiven wire.requests read given → (wire.input ≡ Failed) ⊎ ((wire.input ≡ AtEnd) × (IsBlank behind → ⊥)) → EndsSo limits start now read exchanges written InputBroke
+  pub ends_broken : AllGiven wire.requests read given → (wire.input ≡ Failed) ⊎ ((wire.input ≡ AtEnd) × (IsBlank after → ⊥)) → EndsSo limits start now read exchanges written InputBroke
   ends_broken all why =
       let g = subst (λ (l : Limits). AllOf l) x.limits_are.1 all in
-      http_ends limits start now wire.input read exchanges written InputBroke x.moved (λ report o c. loop.input_broke limits wire.input read given exchanges behind written report x.between c g.0 g.1 why o) x.ahead
+      http_ends limits start now wire.input read exchanges written InputBroke x.moved (λ report o c. loop.input_broke limits wire.input read given exchanges after written report x.between c g.0 g.1 why o) x.ahead
 
   -- ---- the end with the text of a refusal
 
-  pub refused_due : (reader : Reading) (status : ℕ) → reader.limits ≡ limits → StandsFor reader read (given ++ Bad status ∷ []) → RefusesWith limits behind status
+  pub refused_due : (reader : Reading) (status : ℕ) → reader.limits ≡ limits → StandsFor reader read (given ++ Bad status ∷ []) → RefusesWith limits after status
   refused_due reader status same stands =
-      loop.refusal_due limits wire.input read given exchanges behind written reader.place reader.held status x.between (reaches reader (given ++ Bad status ∷ []) same stands)
+      loop.refusal_due limits wire.input read given exchanges after written reader.place reader.held status x.between (reaches reader (given ++ Bad status ∷ []) same stands)
 
   -- an opening handshake that the reader gave
   pub handshake_here : (reader : Reading) (scope : Scope) (facts : Facts) → reader.limits ≡ limits → StandsFor reader read (given ++ Head scope facts ∷ []) → facts.framing ≡ Upgrade
-      → (frames : List ℕ) × BeginsWithHandshake limits behind scope facts frames
+      → (frames : List ℕ) × BeginsWithHandshake limits after scope facts frames
   handshake_here reader scope facts same stands e =
-      let n = next_head limits read given behind reader.place reader.held scope facts [] (closed_at limits read given behind x.between.closed) (reaches reader (given ++ Head scope facts ∷ []) same stands) in
-      (n.0, begins_with_handshake limits behind scope facts n.0 n.1 e)
+      let n = next_head limits read given after reader.place reader.held scope facts [] (closed_at limits read given after x.between.closed) (reaches reader (given ++ Head scope facts ∷ []) same stands) in
+      (n.0, begins_with_handshake limits after scope facts n.0 n.1 e)
 
-  module _ (next : LineState) (status : ℕ) (due : RefusesWith limits behind status)
+  module _ (next : LineState) (status : ℕ) (due : RefusesWith limits after status)
       (text : List ℕ) (text_is : text ≡ refusal_text status) (left : next.left ≡ now.left) (reads : next.reads ≡ now.reads) (session : next.session ≡ now.session) where
     pub ends_refused : Appends now.written next.written text → RoseBy 0 now.failed next.failed → TriesWrites now.writes next.writes (length text) wrote.Done
         → (more : List ℕ) × EndsSo limits start next read exchanges (written ++ more) (Refused status)
@@ -191,7 +192,7 @@ module _ (limits : Limits) (start now : LineState) (wire : Wire) (read : List �
           (moved_by_write start now next wire.input read written (refusal_text status) 0 x.moved left reads session
           (subst (λ (l : List ℕ). Appends now.written next.written l) text_is appends) rose
           (subst (λ (l : List ℕ). TriesWrites now.writes next.writes (length l) wrote.Done) text_is tries))
-          (λ report o c. loop.refused limits wire.input read given exchanges behind written report x.between c status due o) x.ahead,
+          (λ report o c. loop.refused limits wire.input read given exchanges after written report x.between c status due o) x.ahead,
     )
 
     pub ends_unwritten : (n : ℕ) → n < length text → Appends now.written next.written (take n text) → RoseBy 1 now.failed next.failed → TriesWrites now.writes next.writes n (wrote.Failed n)
@@ -202,28 +203,28 @@ module _ (limits : Limits) (start now : LineState) (wire : Wire) (read : List �
           (moved_by_write start now next wire.input read written (take n (refusal_text status)) 1 x.moved left reads session
           (subst (λ (l : List ℕ). Appends now.written next.written (take n l)) text_is appends) rose
           (tries_front now.writes next.writes n (refusal_text status) (subst (λ (l : List ℕ). n < length l) text_is within) tries))
-          (λ report o c. loop.refusal_failed limits wire.input read given exchanges behind written report x.between c status n due
+          (λ report o c. loop.refusal_failed limits wire.input read given exchanges after written report x.between c status n due
           (subst (λ (l : List ℕ). n < length l) text_is within) o) x.ahead,
     )
 
   -- ---- more is read
 
   module _ (next : LineState) (later : Wire) (more : List ℕ)
-      (moves : (start : LineState) (read written : List ℕ) (failures : ℕ) → HasMoved start now wire.input read written failures → HasMoved start next later.input (read ++ more) written failures)
+      (moves : (start : LineState) (read written : List ℕ) (failures : ℕ) → Transferred start now wire.input read written failures → Transferred start next later.input (read ++ more) written failures)
       (on : has_ended wire.input ≡ true → has_ended later.input ≡ true) (all : AllGiven wire.requests read given) (short : length more ≤ piece_size) where
-    moved : HasMoved start next later.input (read ++ more) written 0
+    moved : Transferred start next later.input (read ++ more) written 0
     moved = moves start read written 0 x.moved
 
-    further : Between limits later.input (read ++ more) given exchanges (behind ++ more) written
-    further = loop.end_seen limits wire.input later.input (read ++ more) given exchanges (behind ++ more) written on
-        (loop.reads_more limits wire.input read more given exchanges behind written x.between)
+    further : Between limits later.input (read ++ more) given exchanges (after ++ more) written
+    further = loop.end_seen limits wire.input later.input (read ++ more) given exchanges (after ++ more) written on
+        (loop.reads_more limits wire.input read more given exchanges after written x.between)
 
     ahead_of : ReadsAhead limits (read ++ more) (requests_of exchanges)
     ahead_of = let g = subst (λ (l : Limits). AllOf l) x.limits_are.1 all in reads_at_need limits read more given (requests_of exchanges) g.0 g.1 x.heads short
 
     pub rests_on : later ≡ record wire { requests = later.requests; input = later.input } → later.requests.limits ≡ wire.requests.limits
         → ((bytes : List ℕ) (given : List Next) → StandsFor wire.requests bytes given → StandsFor later.requests (bytes ++ more) given)
-        → Rests limits start next later (read ++ more) given exchanges (behind ++ more) written
+        → BetweenRequests limits start next later (read ++ more) given exchanges (after ++ more) written
     rests_on same reader fed = record {
       moved = moved;
       limits_are = (ap (λ (w : Wire). w.limits) same ∙ x.limits_are.0, reader ∙ x.limits_are.1);
@@ -237,4 +238,4 @@ module _ (limits : Limits) (start now : LineState) (wire : Wire) (read : List �
     pub ends_fed_short : EndsSo limits start next (read ++ more) exchanges written NoMemory
     ends_fed_short =
         http_ends limits start next later.input (read ++ more) exchanges written NoMemory moved
-        (λ report o c. loop.lacking limits later.input (read ++ more) given exchanges (behind ++ more) written report further c (no_memory report.outcome o)) ahead_of
+        (λ report o c. loop.lacking limits later.input (read ++ more) given exchanges (after ++ more) written report further c (no_memory report.outcome o)) ahead_of

@@ -15,49 +15,52 @@ use Rattle.asgi_response.specs.declared.refusal.Input.{Input}
 use Rattle.asgi_response.specs.Exchange.{added_by_end}
 use Rattle.asgi_response.specs.Progress.{progress_of}
 use Rattle.asgi_response.specs.Response.{response_text}
-use Rattle.asgi_exchange.specs.Http.{input_of}
+use Rattle.asgi_exchange.specs.ExchangeTexts.{input_of}
 use Rattle.asgi_exchange.specs.HttpExchange.{IsHttpExchange}
 use Rattle.asgi_exchange.specs.Items.{end_of}
 use Rattle.asgi_exchange.specs.Steps.{is_by_input, is_by_cut}
 use Rattle.asgi_exchange.specs.Views.{World, taken_of}
-use Rattle.asgi_conversation.specs.declared.following.Following.TheVariants.{NextRequest, ConnectionEnds}
+use Rattle.asgi_conversation.specs.declared.following.NextStep.TheVariants.{NextRequest, ConnectionEnds}
 use Rattle.asgi_conversation.specs.declared.report.Outcome.{Outcome}
 use Rattle.asgi_conversation.specs.declared.report.Report.{Report}
-use Rattle.asgi_conversation.specs.Exchanges.{Exchanged, IsFollowed, requests_of}
-use Rattle.asgi_conversation.specs.Persistence.{CountsExchanges, Converses, InHand, Beginning, Saying, Ending, StopsWithin}
+use Rattle.asgi_conversation.specs.Exchanges.{IsFollowed, requests_of}
+use Rattle.asgi_conversation.specs.ExchangeRecord.{ExchangeRecord}
+use Rattle.asgi_conversation.specs.Persistence.{CountsExchanges, InHand, StopsWithin}
+use Rattle.asgi_conversation.specs.ExchangeRecord.{Beginning, Saying, Ending}
+use Rattle.asgi_conversation.specs.Kinds.{Converses}
 use Rattle.asgi_conversation.specs.SoFar.{exchanged, Between, TaskIsOver, IsCutBy}
 use Rattle.asgi_conversation.specs.OutcomeClasses.{is_cut, cuts_exchange}
 use Rattle.asgi_conversation.specs.TaskEnds.{after_task}
 use Rattle.asgi_conversation.proofs.LoopLemmas.{keeps_on}
 use Rattle.asgi_conversation.proofs.RequestLemmas.{requests_join}
 use Rattle.asgi_conversation.proofs.SoFarLemmas.{taken_whole, end_put, ends_by_task, ends_cut}
-use Rattle.asgi_conn.specs.declared.half.ConnHalf.{ConnHalf}
-use Rattle.asgi_conn.specs.declared.half.Stage.{Stage}
-use Rattle.asgi_conn.specs.declared.half.Stage.TheVariants.{Over}
-use Rattle.asgi_conn.specs.Half.{Scene, Stands, IsAt, KeepsOn, EndsByTask, IsCutShort, known, requests_in, state_in, failures_at}
-use Rattle.asgi_conn.specs.Lines.{LineState, HasMoved}
-use Rattle.asgi_conn.specs.Loop.{Rests, EndsSo}
-use Rattle.asgi_conn.specs.ReadAhead.{ReadsAhead}
+use Rattle.asgi_halves.specs.declared.half.HttpHalf.{HttpHalf}
+use Rattle.asgi_halves.specs.declared.stage.Stage.{Stage}
+use Rattle.asgi_halves.specs.declared.stage.Stage.TheVariants.{Over}
+use Rattle.asgi_halves.specs.Half.{Scene, Invariant, IsAt, KeepsOn, EndsByTask, IsCutShort, known, requests_in, state_in, failures_at}
+use Rattle.asgi_run.specs.Lines.{LineState, Transferred}
+use Rattle.asgi_conn.specs.private.Loop.{BetweenRequests, EndsSo}
+use Rattle.asgi_halves.specs.ReadAhead.{ReadsAhead}
 use Rattle.asgi_conn.proofs.HttpEndLemmas.{http_ends}
-use Rattle.asgi_conn.proofs.ReadAheadLemmas.{heads_behind, within_of}
+use Rattle.asgi_halves.proofs.ReadAheadLemmas.{heads_after, within_of}
 
 -- ---- the next request follows
 
-module _ (limits : Limits) (scene : Scene) (now : LineState) (half : ConnHalf) (read : List ℕ) (w : World ℕ ℕ) (s : Stands scene now half read w.conn)
+module _ (limits : Limits) (scene : Scene) (now : LineState) (half : HttpHalf) (read : List ℕ) (w : World ℕ ℕ) (s : Invariant scene now half read w.conn)
     (i : IsHttpExchange half.wire.limits scene.facts w) (lim : half.wire.limits ≡ limits) where
-  abbrev pub after : List Exchanged
-  after = scene.exchanges ++ exchanged scene.scope scene.facts w ∷ []
+  abbrev pub exchanges_then : List ExchangeRecord
+  exchanges_then = scene.exchanges ++ exchanged scene.scope scene.facts w ∷ []
 
   abbrev pub out : List ℕ
   out = scene.before ++ w.conn.written
 
-  all_requests : requests_of after ≡ requests_in scene
+  all_requests : requests_of exchanges_then ≡ requests_in scene
   all_requests = requests_join scene.exchanges (exchanged scene.scope scene.facts w ∷ [])
 
-  all_ahead : ReadsAhead limits read (requests_of after)
+  all_ahead : ReadsAhead limits read (requests_of exchanges_then)
   all_ahead = subst (λ (l : List (Scope × Facts)). ReadsAhead limits read l) (sym all_requests) (subst (λ (l : Limits). ReadsAhead l read (requests_in scene)) lim s.within.ahead)
 
-  pub left_resting : half.stage ≡ Over NextRequest → (given : List Next) × (behind : List ℕ) × Rests limits scene.start now half.wire read given after behind out
+  pub left_resting : half.stage ≡ Over NextRequest → (given : List Next) × (after : List ℕ) × BetweenRequests limits scene.start now half.wire read given exchanges_then after out
   left_resting e =
       let k : KeepsOn scene half read w.conn = subst (λ (st : Stage). IsAt st scene half read w.conn) e s.stage in
       let given = scene.opened ++ (map next.Event k.events ++ next.Whole ∷ []) in
@@ -65,16 +68,16 @@ module _ (limits : Limits) (scene : Scene) (now : LineState) (half : ConnHalf) (
       let r = half.wire.requests in
       let reaches = subst (λ (l : Limits). Reaches l read given r.place r.held) s.limits k.given in
       let on = keeps_on half.wire.limits half.wire.input read scene.opened scene.exchanges scene.before scene.scope scene.facts w k.kind k.events r.place r.held
-      (within_of scene half.wire.limits half.wire.input read w.conn.arrived s.within) i over k.complete k.broke k.written reaches in (
+      (within_of scene half.wire.limits half.wire.input read w.conn.arrived s.within) i over k.complete k.input_broke k.written reaches in (
         given,
         on.0,
         record {
-          moved = subst (λ (st : Stage). HasMoved scene.start now half.wire.input read out (failures_at st)) e s.moved;
+          moved = subst (λ (st : Stage). Transferred scene.start now half.wire.input read out (failures_at st)) e s.moved;
           limits_are = (lim, s.limits ∙ lim);
-          between = subst (λ (l : Limits). Between l half.wire.input read given after on.0 out) lim on.1;
+          between = subst (λ (l : Limits). Between l half.wire.input read given exchanges_then on.0 out) lim on.1;
           stands = k.given;
           empty = k.empty;
-          heads = heads_behind scene.opened k.events ∙ s.within.heads ∙ sym all_requests;
+          heads = heads_after scene.opened k.events ∙ s.within.heads ∙ sym all_requests;
           ahead = all_ahead;
         },
       )
@@ -97,8 +100,8 @@ module _ (limits : Limits) (scene : Scene) (now : LineState) (half : ConnHalf) (
         (taken_whole half.wire.limits scene.facts w kind i taken) follows,
   )
 
-  by_task : (outcome : Outcome) → EndsByTask scene half w.conn outcome → (report : Report) → report.outcome ≡ outcome → CountsExchanges report after
-      → Converses half.wire.limits half.wire.input read after out report
+  by_task : (outcome : Outcome) → EndsByTask scene half w.conn outcome → (report : Report) → report.outcome ≡ outcome → CountsExchanges report exchanges_then
+      → Converses half.wire.limits half.wire.input read exchanges_then out report
   by_task outcome t report o c =
       let back = sym o in
       ends_by_task half.wire.limits half.wire.input read scene.exchanges scene.before scene.scope scene.facts w t.kind
@@ -107,22 +110,22 @@ module _ (limits : Limits) (scene : Scene) (now : LineState) (half : ConnHalf) (
       (subst (λ (q : Outcome). IsFollowed (exchanged scene.scope scene.facts w) state (ConnectionEnds q)) back (followed t.kind outcome t.taken t.follows))
       t.out (subst (λ (q : Outcome). is_cut q ≡ false) back t.whole) (λ b. t.input_broke (back ∙ b)) c
 
-  -- the text in hand is one of the exchange, whatever else the task said
+  -- the text in hand is one of the exchange, whatever else the task sent
   hand : (input : Input) (written text : List ℕ) → InHand (known scene w.conn) input written text → InHand (exchanged scene.scope scene.facts w) input written text
   hand input written text (Beginning none is) = Beginning none is
-  hand input written text (Saying before behind event said is grows) =
+  hand input written text (Saying before after event said is grows) =
       let p = i.taken in
-      Saying before (behind ++ p.0) event (sym p.1 ∙ ap (λ (l : List Outgoing). l ++ p.0) said ∙ append_assoc before (event ∷ behind) p.0) is grows
+      Saying before (after ++ p.0) event (sym p.1 ∙ ap (λ (l : List Outgoing). l ++ p.0) said ∙ append_assoc before (event ∷ after) p.0) is grows
   hand input written text (Ending kind ended is adds) =
       let all = taken_whole half.wire.limits scene.facts w kind i ended in
       Ending kind (end_put half.wire.limits scene.facts w kind i ended) (is ∙ ap (response_text scene.facts) all)
       (adds ∙ ap (λ (l : List Outgoing). added_by_end scene.facts l kind input) all)
 
   stops_within : (n : ℕ) (input : Input) (written : List ℕ) → StopsWithin n (known scene w.conn) input written → StopsWithin n (exchanged scene.scope scene.facts w) input written
-  stops_within n input written x = record { out = x.out; text = x.text; in_hand = hand input x.out x.text x.in_hand; within = x.within; written_is = x.written_is }
+  stops_within n input written x = record { out = x.out; more = x.more; is_next = hand input x.out x.more x.is_next; within = x.within; written_is = x.written_is }
 
-  by_cut : (outcome : Outcome) → IsCutShort scene half w.conn outcome → (report : Report) → report.outcome ≡ outcome → CountsExchanges report after
-      → Converses half.wire.limits half.wire.input read after out report
+  by_cut : (outcome : Outcome) → IsCutShort scene half w.conn outcome → (report : Report) → report.outcome ≡ outcome → CountsExchanges report exchanges_then
+      → Converses half.wire.limits half.wire.input read exchanges_then out report
   by_cut outcome t report o c =
       let back = sym o in
       ends_cut half.wire.limits half.wire.input read scene.exchanges scene.before scene.scope scene.facts w
@@ -130,15 +133,15 @@ module _ (limits : Limits) (scene : Scene) (now : LineState) (half : ConnHalf) (
       (body_is_read half.wire.limits scene.facts.framing w.conn.arrived) s.breaks (subst (λ (q : Outcome). cuts_exchange q ≡ true) back t.cut)
       (λ n e. stops_within n (input_of state) w.conn.written (t.stops n (back ∙ e))) c
 
-  ended : (outcome : Outcome) → EndsByTask scene half w.conn outcome ⊎ IsCutShort scene half w.conn outcome → (report : Report) → report.outcome ≡ outcome → CountsExchanges report after
-      → Converses half.wire.limits half.wire.input read after out report
+  ended : (outcome : Outcome) → EndsByTask scene half w.conn outcome ⊎ IsCutShort scene half w.conn outcome → (report : Report) → report.outcome ≡ outcome → CountsExchanges report exchanges_then
+      → Converses half.wire.limits half.wire.input read exchanges_then out report
   ended outcome (inl t) = by_task outcome t
   ended outcome (inr t) = by_cut outcome t
 
-  pub left_ended : (outcome : Outcome) → half.stage ≡ Over (ConnectionEnds outcome) → EndsSo limits scene.start now read after out outcome
+  pub left_ended : (outcome : Outcome) → half.stage ≡ Over (ConnectionEnds outcome) → EndsSo limits scene.start now read exchanges_then out outcome
   left_ended outcome e =
-      http_ends limits scene.start now half.wire.input read after out outcome
-      (subst (λ (st : Stage). HasMoved scene.start now half.wire.input read out (failures_at st)) e s.moved)
+      http_ends limits scene.start now half.wire.input read exchanges_then out outcome
+      (subst (λ (st : Stage). Transferred scene.start now half.wire.input read out (failures_at st)) e s.moved)
       (λ report o c.
-      subst (λ (l : Limits). Converses l half.wire.input read after out report) lim
+      subst (λ (l : Limits). Converses l half.wire.input read exchanges_then out report) lim
       (ended outcome (subst (λ (st : Stage). IsAt st scene half read w.conn) e s.stage) report o c)) all_ahead

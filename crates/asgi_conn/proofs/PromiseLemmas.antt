@@ -14,10 +14,11 @@ use Rattle.asgi_exchange.specs.Items.{end_of, events_of}
 use Rattle.asgi_exchange.specs.Views.{AppView, said_of}
 use Rattle.asgi_exchange.proofs.EventLemmas.{events_are}
 use Rattle.asgi_exchange.proofs.CallLemmas.{end_is}
-use Rattle.asgi_conversation.specs.Exchanges.{Exchanged, fault_of, fault_count}
-use Rattle.asgi_conn.specs.declared.runner.AppSide.{AppSide}
-use Rattle.asgi_conn.specs.declared.runner.AppSide.TheVariants.{Runs, HasEnded}
-use Rattle.asgi_conn.specs.Running.{Answers, IsOpened}
+use Rattle.asgi_conversation.specs.Exchanges.{fault_of, fault_count}
+use Rattle.asgi_conversation.specs.ExchangeRecord.{ExchangeRecord}
+use Rattle.asgi_run.specs.declared.runner.AppSide.{AppSide}
+use Rattle.asgi_run.specs.declared.runner.AppSide.TheVariants.{Runs, HasEnded}
+use Rattle.asgi_run.specs.Running.{Answers, IsOpened}
 
 -- ---- the promise
 
@@ -45,13 +46,13 @@ module _ {T E : Type 0} (promise : List Incoming → List Outgoing → Option En
 
 -- ---- one more
 
-pub all_more : (P : Exchanged → Type 0) (exchanges : List Exchanged) (x : Exchanged) → All P exchanges → P x → All P (exchanges ++ x ∷ [])
+pub all_more : (P : ExchangeRecord → Type 0) (exchanges : List ExchangeRecord) (x : ExchangeRecord) → All P exchanges → P x → All P (exchanges ++ x ∷ [])
 all_more P exchanges x all p = All-append P exchanges (x ∷ []) all (All-cons P x [] p (All-nil P))
 
-pub length_more : (exchanges : List Exchanged) (x : Exchanged) → length (exchanges ++ x ∷ []) ≡ length exchanges + 1
+pub length_more : (exchanges : List ExchangeRecord) (x : ExchangeRecord) → length (exchanges ++ x ∷ []) ≡ length exchanges + 1
 length_more [] x = refl
 length_more (e ∷ exchanges) x = let one = length_more exchanges x in omega (arith, one)
 
-pub faults_more : (exchanges : List Exchanged) (x : Exchanged) → fault_count (exchanges ++ x ∷ []) ≡ fault_count exchanges + fault_of x.ended
+pub faults_more : (exchanges : List ExchangeRecord) (x : ExchangeRecord) → fault_count (exchanges ++ x ∷ []) ≡ fault_count exchanges + fault_of x.ended
 faults_more [] x = omega arith
 faults_more (e ∷ exchanges) x = let one = faults_more exchanges x in omega (arith, one)

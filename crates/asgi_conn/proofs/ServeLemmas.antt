@@ -30,33 +30,34 @@ use Rattle.asgi_request.specs.Results.{Opens}
 use Rattle.asgi_request.specs.Scopes.{scope_of}
 use Rattle.asgi_conversation.specs.Persistence.{RefusesWith}
 use Rattle.asgi_conversation.specs.declared.input.InputEnd.{InputEnd}
-use Rattle.asgi_conversation.specs.declared.input.InputEnd.TheVariants.{OpenStill}
+use Rattle.asgi_conversation.specs.declared.input.InputEnd.TheVariants.{Open}
 use Rattle.asgi_conversation.specs.declared.report.Outcome.{Outcome}
 use Rattle.asgi_conversation.specs.declared.report.Outcome.TheVariants.{NoMemory, Idle}
 use Rattle.asgi_conversation.specs.declared.report.Report.{Report}
-use Rattle.asgi_conversation.specs.Exchanges.{Exchanged, requests_of}
+use Rattle.asgi_conversation.specs.Exchanges.{requests_of}
+use Rattle.asgi_conversation.specs.ExchangeRecord.{ExchangeRecord}
 use Rattle.asgi_conversation.specs.Promised.{IsPromised, ArePromised}
 use Rattle.asgi_conversation.specs.SoFar.{Within}
 use Rattle.asgi_conversation.proofs.LoopLemmas as loop
-use Rattle.asgi_conn.specs.declared.connection.Place.{Place}
-use Rattle.asgi_conn.specs.declared.connection.Place.TheVariants as place
+use Rattle.asgi_conn.specs.declared.connection.ConnState.{ConnState}
+use Rattle.asgi_conn.specs.declared.connection.ConnState.TheVariants as place
 use Rattle.asgi_conn.specs.declared.tally.Tally.{Tally}
-use Rattle.asgi_conn.specs.declared.wire.Wire.{Wire}
-use Rattle.asgi_conn.specs.Half.{Scene, WithinScene}
-use Rattle.asgi_conn.specs.HalfSteps as half
-use Rattle.asgi_conn.specs.Limits.{IsAtLimit}
-use Rattle.asgi_conn.specs.Lines as lines
-use Rattle.asgi_conn.specs.Lines.{LineState, HasMoved}
-use Rattle.asgi_conn.specs.Loop.{Rests, IsAt, IsTallied, Serving}
-use Rattle.asgi_conn.specs.ReadAhead.{ReadsAhead}
+use Rattle.asgi_halves.specs.declared.wire.Wire.{Wire}
+use Rattle.asgi_halves.specs.Half.{Scene, WithinScene}
+use Rattle.asgi_halves.specs.Half as half
+use Rattle.asgi_run.specs.Limits.{IsAtLimit}
+use Rattle.asgi_run.specs.Lines as lines
+use Rattle.asgi_run.specs.Lines.{LineState, Transferred}
+use Rattle.asgi_conn.specs.private.Loop.{BetweenRequests, IsAt, IsTallied, ConnInvariant}
+use Rattle.asgi_halves.specs.ReadAhead.{ReadsAhead}
 use Rattle.asgi_conn.specs.Serving.{Serves}
-use Rattle.asgi_conn.specs.SessionHalf.{SessionScene, OpensHandshake}
+use Rattle.asgi_halves.specs.WebSocketHalf.{SessionScene, OpensHandshake}
 use Rattle.asgi_conn.proofs.BetweenLemmas as between
-use Rattle.asgi_conn.proofs.ReadAheadLemmas.{nothing_ahead, more_requests, heads_more}
+use Rattle.asgi_halves.proofs.ReadAheadLemmas.{nothing_ahead, more_requests, heads_more}
 
 -- ---- the turns that are left
 
-abbrev pub turns_left : Place → Tally → ℕ
+abbrev pub turns_left : ConnState → Tally → ℕ
 turns_left (place.Between wire) tally = tally.turns.turn_limit - tally.turns.turns + 1
 turns_left (place.Ended outcome) tally = 0
 
@@ -97,8 +98,8 @@ plain_is_http client server state head Upgrade plain = absurd (plain refl)
 -- ---- the beginning
 
 -- nothing was read or written yet
-pub moved_nothing : (start : LineState) (end : InputEnd) → end ≡ OpenStill → HasMoved start start end [] [] 0
-moved_nothing start end still = subst (λ (e : InputEnd). HasMoved start start e [] [] 0) (sym still) (record {
+pub moved_nothing : (start : LineState) (end : InputEnd) → end ≡ Open → Transferred start start end [] [] 0
+moved_nothing start end still = subst (λ (e : InputEnd). Transferred start start e [] [] 0) (sym still) (record {
   consumes = Consumes-nothing start.left start.left (Keeps-same start.left);
   appends = Appends-nothing start.written start.written (Keeps-same start.written);
   answers = [];
@@ -111,8 +112,8 @@ moved_nothing start end still = subst (λ (e : InputEnd). HasMoved start start e
 })
 
 module _ (answers : Scope → List Incoming → List Outgoing → Option EndKind → Type 0) (limits : Limits) (client server : Option Peer) (state : List (List ℕ × StateValue)) where
-  pub begins : (start : LineState) (wire : Wire) (tally : Tally) → (wire.limits ≡ limits) × (wire.requests.limits ≡ limits) → StandsFor wire.requests [] [] × (wire.input ≡ OpenStill)
-      → wire.out.items ≡ [] → tally.exchanges ≡ 0 → tally.faults ≡ 0 → Serving answers limits client server state start start tally (place.Between wire)
+  pub begins : (start : LineState) (wire : Wire) (tally : Tally) → (wire.limits ≡ limits) × (wire.requests.limits ≡ limits) → StandsFor wire.requests [] [] × (wire.input ≡ Open)
+      → wire.out.items ≡ [] → tally.exchanges ≡ 0 → tally.faults ≡ 0 → ConnInvariant answers limits client server state start start tally (place.Between wire)
   begins start wire tally limits_are unread empty none no_faults = record {
     read = [];
     written = [];
@@ -136,16 +137,16 @@ module _ (answers : Scope → List Incoming → List Outgoing → Option EndKind
 
   -- ---- one step
 
-  pub rested : (start now : LineState) (tally : Tally) (at : Place) (wire : Wire) → at ≡ place.Between wire → Serving answers limits client server state start now tally at
-      → Serving answers limits client server state start now tally (place.Between wire)
-  rested start now tally at wire is s = subst (λ (p : Place). Serving answers limits client server state start now tally p) is s
+  pub rested : (start now : LineState) (tally : Tally) (at : ConnState) (wire : Wire) → at ≡ place.Between wire → ConnInvariant answers limits client server state start now tally at
+      → ConnInvariant answers limits client server state start now tally (place.Between wire)
+  rested start now tally at wire is s = subst (λ (p : ConnState). ConnInvariant answers limits client server state start now tally p) is s
 
-  module _ (start now : LineState) (tally : Tally) (wire : Wire) (s : Serving answers limits client server state start now tally (place.Between wire)) where
-    x : Rests limits start now wire s.read s.stands.0 s.exchanges s.stands.1 s.written
+  module _ (start now : LineState) (tally : Tally) (wire : Wire) (s : ConnInvariant answers limits client server state start now tally (place.Between wire)) where
+    x : BetweenRequests limits start now wire s.read s.stands.0 s.exchanges s.stands.1 s.written
     x = s.stands.2
 
     -- memory was refused
-    pub short : Serving answers limits client server state start now tally (place.Ended NoMemory)
+    pub short : ConnInvariant answers limits client server state start now tally (place.Ended NoMemory)
     short = record {
       read = s.read;
       written = s.written;
@@ -160,12 +161,12 @@ module _ (answers : Scope → List Incoming → List Outgoing → Option EndKind
       limits_stay = same ∙ x.limits_are.1
 
       -- no result is there
-      pub waited : (next : LineState) (is : Tally) (result : Place) → is.exchanges ≡ tally.exchanges → is.faults ≡ tally.faults
+      pub waited : (next : LineState) (is : Tally) (result : ConnState) → is.exchanges ≡ tally.exchanges → is.faults ≡ tally.faults
           → ((bytes : List ℕ) (given : List Next) → StandsFor wire.requests bytes given → StandsFor later bytes given × AllGiven later bytes given)
-          → ((limits : Limits) (start : LineState) (read : List ℕ) (given : List Next) (exchanges : List Exchanged) (behind written : List ℕ)
-          → Rests limits start now (record wire { requests = later }) read given exchanges behind written → AllGiven later read given
+          → ((limits : Limits) (start : LineState) (read : List ℕ) (given : List Next) (exchanges : List ExchangeRecord) (after written : List ℕ)
+          → BetweenRequests limits start now (record wire { requests = later }) read given exchanges after written → AllGiven later read given
           → (more : List ℕ) × IsAt result limits start next (read ++ more) exchanges written)
-          → Serving answers limits client server state start next is result
+          → ConnInvariant answers limits client server state start next is result
       waited next is result exchanges faults need waits =
           let n = need s.read s.stands.0 x.stands in
           let y = waits limits start s.read s.stands.0 s.exchanges s.stands.1 s.written
@@ -188,8 +189,8 @@ module _ (answers : Scope → List Incoming → List Outgoing → Option EndKind
         opens = between.no_event limits start now wire s.read s.stands.0 s.exchanges s.stands.1 s.written x later item limits_stay gave
 
       -- a text was written with no exchange
-      answered_so : (next : LineState) (result : Place) → (text : List ℕ) × IsAt result limits start next s.read s.exchanges (s.written ++ text)
-          → Serving answers limits client server state start next tally result
+      answered_so : (next : LineState) (result : ConnState) → (text : List ℕ) × IsAt result limits start next s.read s.exchanges (s.written ++ text)
+          → ConnInvariant answers limits client server state start next tally result
       answered_so next result y = record {
         read = s.read;
         written = s.written ++ y.0;
@@ -200,11 +201,11 @@ module _ (answers : Scope → List Incoming → List Outgoing → Option EndKind
       }
 
       -- a refusal
-      pub refused : (next : LineState) (result : Place) (status : ℕ) → (((status : ℕ) → IsRefused wire.requests status → ⊥) → GoesOn wire.requests later (Bad status))
-          → ((limits : Limits) (start : LineState) (wire : Wire) (read : List ℕ) (given : List Next) (exchanges : List Exchanged) (behind written : List ℕ)
-          → Rests limits start now wire read given exchanges behind written → RefusesWith limits behind status
+      pub refused : (next : LineState) (result : ConnState) (status : ℕ) → (((status : ℕ) → IsRefused wire.requests status → ⊥) → GoesOn wire.requests later (Bad status))
+          → ((limits : Limits) (start : LineState) (wire : Wire) (read : List ℕ) (given : List Next) (exchanges : List ExchangeRecord) (after written : List ℕ)
+          → BetweenRequests limits start now wire read given exchanges after written → RefusesWith limits after status
           → (text : List ℕ) × IsAt result limits start next read exchanges (written ++ text))
-          → Serving answers limits client server state start next tally result
+          → ConnInvariant answers limits client server state start next tally result
       refused next result status goes_on refuses =
           answered_so next result (refuses limits start wire s.read s.stands.0 s.exchanges s.stands.1 s.written x
           (between.refused_due limits start now wire s.read s.stands.0 s.exchanges s.stands.1 s.written x later status limits_stay (gave (Bad status) goes_on)))
@@ -229,7 +230,7 @@ module _ (answers : Scope → List Incoming → List Outgoing → Option EndKind
           reader_limits = limits_stay;
           moved = x.moved;
           given = s.stands.0;
-          behind = s.stands.1;
+          after = s.stands.1;
           between = x.between;
           stands = gave (Head scope facts) goes_on;
           head = here.1;
@@ -237,11 +238,11 @@ module _ (answers : Scope → List Incoming → List Outgoing → Option EndKind
           empty = x.empty;
         }
 
-        pub opened : (whole : Scope) (next : LineState) (is : Tally) (result : Place) → whole ≡ scope_with scope client server state
+        pub opened : (whole : Scope) (next : LineState) (is : Tally) (result : ConnState) → whole ≡ scope_with scope client server state
             → ((scene : SessionScene) (client server : Option Peer) (state : List (List ℕ × StateValue)) (read : List ℕ) → whole ≡ scope_with scene.scope client server state
             → OpensHandshake scene now (record wire { requests = later }) facts read → ArePromised answers client server state scene.exchanges → IsTallied tally scene.exchanges
-            → Serving answers scene.limits client server state scene.start next is result)
-            → Serving answers limits client server state start next is result
+            → ConnInvariant answers scene.limits client server state scene.start next is result)
+            → ConnInvariant answers limits client server state start next is result
         opened whole next is result whole_is serves = serves handshake_scene client server state s.read whole_is opens_handshake s.promised s.counted
 
       -- a head
@@ -275,14 +276,14 @@ module _ (answers : Scope → List Incoming → List Outgoing → Option EndKind
           ahead = more_requests limits s.read (requests_of s.exchanges) ((scope, facts) ∷ []) x.ahead;
         }
 
-        pub answered : (whole : Scope) (next : LineState) (is : Tally) (result : Place) → whole ≡ scope_with scope client server state
+        pub answered : (whole : Scope) (next : LineState) (is : Tally) (result : ConnState) → whole ≡ scope_with scope client server state
             → ((scene : Scene) (client server : Option Peer) (state : List (List ℕ × StateValue)) (read arrived : List ℕ) → whole ≡ scope_with scene.scope client server state
             → half.Opens scene now (record wire { requests = later }) facts read arrived → ArePromised answers client server state scene.exchanges → IsTallied tally scene.exchanges
-            → Serving answers wire.limits client server state scene.start next is result)
-            → Serving answers limits client server state start next is result
+            → ConnInvariant answers wire.limits client server state scene.start next is result)
+            → ConnInvariant answers limits client server state start next is result
         unfolding scene
         answered whole next is result whole_is serves =
-            subst (λ (l : Limits). Serving answers l client server state start next is result) x.limits_are.0
+            subst (λ (l : Limits). ConnInvariant answers l client server state start next is result) x.limits_are.0
             (serves scene client server state s.read in_one.0 whole_is (record {
               facts_are = refl;
               moved = x.moved;
@@ -295,24 +296,24 @@ module _ (answers : Scope → List Incoming → List Outgoing → Option EndKind
 
 -- ---- the end
 
--- the connection ended so: the report tells what was counted
+-- the connection ended with this outcome: the report holds what was counted
 abbrev pub told_of : Tally → Outcome → Report
 told_of tally outcome = record { exchanges = tally.exchanges; faults = tally.faults; turns = tally.turns.turns; idle = tally.turns.idle; outcome = outcome }
 
 pub serves : (answers : Scope → List Incoming → List Outgoing → Option EndKind → Type 0) (limits : Limits) (client server : Option Peer) (state : List (List ℕ × StateValue))
-    (start now : LineState) (tally : Tally) (at : Place) (outcome : Outcome) (pauses_old pauses_new : ℕ)
-    → at ≡ place.Ended outcome → Serving answers limits client server state start now tally at
+    (start now : LineState) (tally : Tally) (at : ConnState) (outcome : Outcome) (pauses_old pauses_new : ℕ)
+    → at ≡ place.Ended outcome → ConnInvariant answers limits client server state start now tally at
     → (turned : List Turn) → CountsTurns limits.turns limits.idle_turns turned pauses_old pauses_new tally.turns.turns tally.turns.idle
     → tally.turns.turn_limit ≡ limits.turns → tally.turns.idle_limit ≡ limits.idle_turns → (at ≡ place.Ended Idle → IsAtLimit tally.turns)
     → Serves answers limits client server state start now pauses_old pauses_new (told_of tally outcome)
 serves answers limits client server state start now tally at outcome pauses_old pauses_new is s turned counts turn_limit idle_limit at_limit =
-    let e = subst (λ (p : Place). IsAt p limits start now s.read s.exchanges s.written) is s.stands in
+    let e = subst (λ (p : ConnState). IsAt p limits start now s.read s.exchanges s.written) is s.stands in
     record {
       read = s.read;
       end = e.end;
       written = s.written;
-      talk = e.talk;
-      talked = e.talked;
+      traffic = e.traffic;
+      carried = e.carried;
       exchanges = s.exchanges;
       converses = e.converses (told_of tally outcome) refl (record { exchanges_are = s.counted.0; faults_are = s.counted.1 });
       ahead = e.ahead;

@@ -1,4 +1,4 @@
--- Where a session leaves its connection: at its end.
+-- How a session leaves its connection: at its end.
 use Rattle.std.specs.Prelude.{if◌then◌else◌}
 use Rattle.std.proofs.Common.{◌≡◌, ◌≢◌, ℕ, Bool, true, false, List, [], ◌∷◌, ◌++◌, ◌⊎◌, inl, inr, refl, sym, ap, ◌∙◌, append_assoc, append-nil, subst, Option, Some, None}
 use mathlib.Core.List.{IsPrefix}
@@ -15,38 +15,41 @@ use Rattle.asgi_protocol.proofs.PassingLemmas.{fronts_are_lawful}
 use Rattle.asgi_exchange.specs.Items.{end_of}
 use Rattle.asgi_exchange.specs.Messages.{has_close}
 use Rattle.asgi_exchange.specs.Session.{Output, session_output, session_ending}
-use Rattle.asgi_exchange.specs.SessionExchange.{HasSessionCause, IsSessionExchange, session_text}
+use Rattle.asgi_exchange.specs.SessionExchange.{HasSessionCause, IsSessionExchange}
+use Rattle.asgi_exchange.specs.ExchangeTexts.{session_text}
 use Rattle.asgi_exchange.specs.Steps.{is_by_input}
 use Rattle.asgi_exchange.specs.Views.{ByCut, World, said_of, taken_of}
 use Rattle.asgi_exchange.proofs.ListLemmas.{prefix_same, prefix_trans}
 use Rattle.asgi_exchange.proofs.SessionLemmas.{lawful_is_accepted, web_socket_is_steady}
-use Rattle.asgi_ws.specs.declared.messages.Handed.{Handed}
+use Rattle.asgi_ws.specs.declared.messages.SentMessage.{SentMessage}
 use Rattle.asgi_ws.specs.declared.messages.Msg.{Msg}
-use Rattle.asgi_conversation.specs.declared.following.Following.TheVariants.{ConnectionEnds}
+use Rattle.asgi_conversation.specs.declared.following.NextStep.TheVariants.{ConnectionEnds}
 use Rattle.asgi_conversation.specs.declared.report.Outcome.{Outcome}
 use Rattle.asgi_conversation.specs.declared.report.Outcome.TheVariants.{Finished, Refused, InputBroke, Idle}
 use Rattle.asgi_conversation.specs.declared.report.Report.{Report}
-use Rattle.asgi_conversation.specs.Exchanges.{Exchanged}
+use Rattle.asgi_conversation.specs.ExchangeRecord.{ExchangeRecord, Beginning}
 use Rattle.asgi_conversation.specs.Persistence.{CountsExchanges}
-use Rattle.asgi_conversation.specs.Sessions.{Talk, silence, handshake_of, IsLeft, ByApplication, ByClient, ByCut as left_by_cut, IsDoneTalking, IsNext, Saying, Ending, Opens, Accepted, Silent, ServesHandshake, EndsInSession, EndsInSessionAs, ConversesInSession, after_session, session_outcome, open_outcome, said_out, spoken}
+use Rattle.asgi_conversation.specs.Sessions.{SessionTraffic, no_traffic, handshake_of, IsLeft, ByApplication, ByClient, ByCut as left_by_cut, IsSessionDone, IsNextOutput, Opens, Accepted, Silent, ServesHandshake, EndsInSession, EndsInSessionAs, after_session, session_outcome, open_outcome, said_out, spoken}
+use Rattle.asgi_conversation.specs.ExchangeRecord.{Saying, Ending}
+use Rattle.asgi_conversation.specs.Kinds.{ConversesInSession}
 use Rattle.asgi_conversation.specs.OutcomeClasses.{OutcomeClass, Uncut, ByWrite, GivenUp, Lacking, Unbegun, class_of, is_cut, is_cut_class}
-use Rattle.asgi_conn.specs.declared.half.Stage.{Stage}
-use Rattle.asgi_conn.specs.declared.half.Stage.TheVariants.{Over}
-use Rattle.asgi_conn.specs.declared.session_half.Answered.{Answered}
-use Rattle.asgi_conn.specs.declared.session_half.Answered.TheVariants as answered
-use Rattle.asgi_conn.specs.declared.session_half.SessionHalf.{SessionHalf}
-use Rattle.asgi_conn.specs.SessionHalf.{SessionScene, Stands, IsAt, IsCarried, IsCarrying, IsCutShort, IsCutShortAs, IsSilent, EndsByTask, known, output_in, said_in, session_of, talk_in}
-use Rattle.asgi_conn.specs.Lines.{LineState}
+use Rattle.asgi_halves.specs.declared.stage.Stage.{Stage}
+use Rattle.asgi_halves.specs.declared.stage.Stage.TheVariants.{Over}
+use Rattle.asgi_halves.specs.declared.session_half.Answered.{Answered}
+use Rattle.asgi_halves.specs.declared.session_half.Answered.TheVariants as answered
+use Rattle.asgi_halves.specs.declared.session_half.WebSocketHalf.{WebSocketHalf}
+use Rattle.asgi_halves.specs.WebSocketHalf.{SessionScene, Invariant, IsAt, IsCarried, IsCarrying, IsCutShort, IsCutShortAs, IsSilent, EndsByTask, known, output_in, said_in, session_of, talk_in}
+use Rattle.asgi_run.specs.Lines.{LineState}
 
 -- ---- how an exchange may end that was not cut short
 
 -- the ways in which a task that ended by itself ends the connection
-data Ways (said : List Outgoing) (broke : Bool) (received : List Msg) : Type 0 where
-  IsFinished : session_outcome said broke received ≡ Finished → Ways said broke received
-  IsRefused : session_outcome said broke received ≡ Refused 500 → Ways said broke received
-  IsBroken : session_outcome said broke received ≡ InputBroke → broke ≡ true → has_close received ≡ false → Ways said broke received
+data Ways (said : List Outgoing) (input_broke : Bool) (received : List Msg) : Type 0 where
+  IsFinished : session_outcome said input_broke received ≡ Finished → Ways said input_broke received
+  IsRefused : session_outcome said input_broke received ≡ Refused 500 → Ways said input_broke received
+  IsBroken : session_outcome said input_broke received ≡ InputBroke → input_broke ≡ true → has_close received ≡ false → Ways said input_broke received
 
-open_ways : (said : List Outgoing) (broke : Bool) (received : List Msg) → session_outcome said broke received ≡ open_outcome broke received → Ways said broke received
+open_ways : (said : List Outgoing) (input_broke : Bool) (received : List Msg) → session_outcome said input_broke received ≡ open_outcome input_broke received → Ways said input_broke received
 open_ways said false received is = IsFinished is
 open_ways said true received is = by (has_close received) refl
   where
@@ -54,58 +57,58 @@ open_ways said true received is = by (has_close received) refl
     by true h = IsFinished (is ∙ ap (λ (c : Bool). if c then Finished else InputBroke) h)
     by false h = IsBroken (is ∙ ap (λ (c : Bool). if c then Finished else InputBroke) h) refl h
 
-session_ways : (said : List Outgoing) (broke : Bool) (received : List Msg) → Ways said broke received
-session_ways [] broke received = IsRefused refl
-session_ways (DenialStart status headers ∷ []) broke received = IsRefused refl
-session_ways (DenialStart status headers ∷ event ∷ events) broke received = IsFinished refl
-session_ways (WsAccept subprotocol headers ∷ events) broke received = by (is_closed WebSocket (WsAccept subprotocol headers ∷ events)) refl
+session_ways : (said : List Outgoing) (input_broke : Bool) (received : List Msg) → Ways said input_broke received
+session_ways [] input_broke received = IsRefused refl
+session_ways (DenialStart status headers ∷ []) input_broke received = IsRefused refl
+session_ways (DenialStart status headers ∷ event ∷ events) input_broke received = IsFinished refl
+session_ways (WsAccept subprotocol headers ∷ events) input_broke received = by (is_closed WebSocket (WsAccept subprotocol headers ∷ events)) refl
   where
-    by : (b : Bool) → is_closed WebSocket (WsAccept subprotocol headers ∷ events) ≡ b → Ways (WsAccept subprotocol headers ∷ events) broke received
-    by true h = IsFinished (ap (λ (c : Bool). if c then Finished else open_outcome broke received) h)
-    by false h = open_ways (WsAccept subprotocol headers ∷ events) broke received (ap (λ (c : Bool). if c then Finished else open_outcome broke received) h)
-session_ways (WsClose code reason ∷ events) broke received = IsFinished refl
-session_ways (WsSend payload ∷ events) broke received = IsFinished refl
-session_ways (DenialBody body more_body ∷ events) broke received = IsFinished refl
-session_ways (ResponseStart status headers ∷ events) broke received = IsFinished refl
-session_ways (ResponseBody body more_body ∷ events) broke received = IsFinished refl
-session_ways (StartupComplete state ∷ events) broke received = IsFinished refl
-session_ways (StartupFailed message ∷ events) broke received = IsFinished refl
-session_ways (ShutdownComplete ∷ events) broke received = IsFinished refl
-session_ways (ShutdownFailed message ∷ events) broke received = IsFinished refl
+    by : (b : Bool) → is_closed WebSocket (WsAccept subprotocol headers ∷ events) ≡ b → Ways (WsAccept subprotocol headers ∷ events) input_broke received
+    by true h = IsFinished (ap (λ (c : Bool). if c then Finished else open_outcome input_broke received) h)
+    by false h = open_ways (WsAccept subprotocol headers ∷ events) input_broke received (ap (λ (c : Bool). if c then Finished else open_outcome input_broke received) h)
+session_ways (WsClose code reason ∷ events) input_broke received = IsFinished refl
+session_ways (WsSend payload ∷ events) input_broke received = IsFinished refl
+session_ways (DenialBody body more_body ∷ events) input_broke received = IsFinished refl
+session_ways (ResponseStart status headers ∷ events) input_broke received = IsFinished refl
+session_ways (ResponseBody body more_body ∷ events) input_broke received = IsFinished refl
+session_ways (StartupComplete state ∷ events) input_broke received = IsFinished refl
+session_ways (StartupFailed message ∷ events) input_broke received = IsFinished refl
+session_ways (ShutdownComplete ∷ events) input_broke received = IsFinished refl
+session_ways (ShutdownFailed message ∷ events) input_broke received = IsFinished refl
 
-broken_off : (said : List Outgoing) (broke : Bool) (received : List Msg) → Ways said broke received → session_outcome said broke received ≡ InputBroke
-    → (broke ≡ true) × (has_close received ≡ false)
-broken_off said broke received (IsFinished is) e = cc (is, e)
-broken_off said broke received (IsRefused is) e = cc (is, e)
-broken_off said broke received (IsBroken is by none) e = (by, none)
+broken_off : (said : List Outgoing) (input_broke : Bool) (received : List Msg) → Ways said input_broke received → session_outcome said input_broke received ≡ InputBroke
+    → (input_broke ≡ true) × (has_close received ≡ false)
+broken_off said input_broke received (IsFinished is) e = cc (is, e)
+broken_off said input_broke received (IsRefused is) e = cc (is, e)
+broken_off said input_broke received (IsBroken is by none) e = (by, none)
 
-why_broken : (ended : EndKind) (said : List Outgoing) (broke : Bool) (received : List Msg) → after_session ended said broke received ≡ InputBroke → (broke ≡ true) × (has_close received ≡ false)
-why_broken kind.Returned said broke received e = broken_off said broke received (session_ways said broke received) e
-why_broken kind.Faulted said broke received e = broken_off said broke received (session_ways said broke received) e
-why_broken kind.Idle said broke received e = cc e
+why_broken : (ended : EndKind) (said : List Outgoing) (input_broke : Bool) (received : List Msg) → after_session ended said input_broke received ≡ InputBroke → (input_broke ≡ true) × (has_close received ≡ false)
+why_broken kind.Returned said input_broke received e = broken_off said input_broke received (session_ways said input_broke received) e
+why_broken kind.Faulted said input_broke received e = broken_off said input_broke received (session_ways said input_broke received) e
+why_broken kind.Idle said input_broke received e = cc e
 
--- what the end of a task makes of the connection does not cut it short, but where a limit stopped the task
-never_cut : (said : List Outgoing) (broke : Bool) (received : List Msg) → Ways said broke received → class_of (session_outcome said broke received) ≡ Uncut
-never_cut said broke received (IsFinished is) = ap class_of is
-never_cut said broke received (IsRefused is) = ap class_of is
-never_cut said broke received (IsBroken is by none) = ap class_of is
+-- the outcome of a task's end does not cut the connection short, unless a limit stopped the task
+never_cut : (said : List Outgoing) (input_broke : Bool) (received : List Msg) → Ways said input_broke received → class_of (session_outcome said input_broke received) ≡ Uncut
+never_cut said input_broke received (IsFinished is) = ap class_of is
+never_cut said input_broke received (IsRefused is) = ap class_of is
+never_cut said input_broke received (IsBroken is by none) = ap class_of is
 
-after_class : (ended : EndKind) (said : List Outgoing) (broke : Bool) (received : List Msg)
-    → (class_of (after_session ended said broke received) ≡ Uncut) ⊎ (after_session ended said broke received ≡ Idle)
-after_class kind.Returned said broke received = inl (never_cut said broke received (session_ways said broke received))
-after_class kind.Faulted said broke received = inl (never_cut said broke received (session_ways said broke received))
-after_class kind.Idle said broke received = inr refl
+after_class : (ended : EndKind) (said : List Outgoing) (input_broke : Bool) (received : List Msg)
+    → (class_of (after_session ended said input_broke received) ≡ Uncut) ⊎ (after_session ended said input_broke received ≡ Idle)
+after_class kind.Returned said input_broke received = inl (never_cut said input_broke received (session_ways said input_broke received))
+after_class kind.Faulted said input_broke received = inl (never_cut said input_broke received (session_ways said input_broke received))
+after_class kind.Idle said input_broke received = inr refl
 
-no_idle : (said : List Outgoing) (broke : Bool) (received : List Msg) → Ways said broke received → session_outcome said broke received ≡ Idle → ⊥
-no_idle said broke received (IsFinished is) e = cc (is, e)
-no_idle said broke received (IsRefused is) e = cc (is, e)
-no_idle said broke received (IsBroken is by none) e = cc (is, e)
+no_idle : (said : List Outgoing) (input_broke : Bool) (received : List Msg) → Ways said input_broke received → session_outcome said input_broke received ≡ Idle → ⊥
+no_idle said input_broke received (IsFinished is) e = cc (is, e)
+no_idle said input_broke received (IsRefused is) e = cc (is, e)
+no_idle said input_broke received (IsBroken is by none) e = cc (is, e)
 
 -- a task that was given up adds nothing
-given_up : (facts : Facts) (ended : EndKind) (said all : List Outgoing) (broke : Bool) (received : List Msg) → after_session ended said broke received ≡ Idle → session_ending facts all ended broke ≡ []
-given_up facts kind.Returned said all broke received e = absurd (no_idle said broke received (session_ways said broke received) e)
-given_up facts kind.Faulted said all broke received e = absurd (no_idle said broke received (session_ways said broke received) e)
-given_up facts kind.Idle said all broke received e = refl
+given_up : (facts : Facts) (ended : EndKind) (said all : List Outgoing) (input_broke : Bool) (received : List Msg) → after_session ended said input_broke received ≡ Idle → session_ending facts all ended input_broke ≡ []
+given_up facts kind.Returned said all input_broke received e = absurd (no_idle said input_broke received (session_ways said input_broke received) e)
+given_up facts kind.Faulted said all input_broke received e = absurd (no_idle said input_broke received (session_ways said input_broke received) e)
+given_up facts kind.Idle said all input_broke received e = refl
 
 -- ---- the text of more
 
@@ -119,21 +122,21 @@ output_grows facts ring said (event ∷ more) =
 
 -- ---- nothing passed by
 
-is_silence : (leftover : Option (List ℕ)) (received : List Msg) (is_over : Bool) (handed : List Handed) → leftover ≡ None → received ≡ [] → is_over ≡ false → handed ≡ []
-    → (let talk : Talk = record { leftover = leftover; received = received; is_over = is_over; handed = handed } in talk) ≡ silence
+is_silence : (leftover : Option (List ℕ)) (received : List Msg) (is_over : Bool) (handed : List SentMessage) → leftover ≡ None → received ≡ [] → is_over ≡ false → handed ≡ []
+    → (let traffic : SessionTraffic = record { leftover = leftover; received = received; is_over = is_over; handed = handed } in traffic) ≡ no_traffic
 is_silence leftover received is_over handed l r o h =
-    ap (λ (a : Option (List ℕ)). let talk : Talk = record { leftover = a; received = received; is_over = is_over; handed = handed } in talk) l
-    ∙ ap (λ (a : List Msg). let talk : Talk = record { leftover = None; received = a; is_over = is_over; handed = handed } in talk) r
-    ∙ ap (λ (a : Bool). let talk : Talk = record { leftover = None; received = []; is_over = a; handed = handed } in talk) o
-    ∙ ap (λ (a : List Handed). let talk : Talk = record { leftover = None; received = []; is_over = false; handed = a } in talk) h
+    ap (λ (a : Option (List ℕ)). let traffic : SessionTraffic = record { leftover = a; received = received; is_over = is_over; handed = handed } in traffic) l
+    ∙ ap (λ (a : List Msg). let traffic : SessionTraffic = record { leftover = None; received = a; is_over = is_over; handed = handed } in traffic) r
+    ∙ ap (λ (a : Bool). let traffic : SessionTraffic = record { leftover = None; received = []; is_over = a; handed = handed } in traffic) o
+    ∙ ap (λ (a : List SentMessage). let traffic : SessionTraffic = record { leftover = None; received = []; is_over = false; handed = a } in traffic) h
 
-module _ (scene : SessionScene) (now : LineState) (half : SessionHalf) (read : List ℕ) (w : World Msg Output) (outcome : Outcome) (s : Stands scene now half read w.conn)
+module _ (scene : SessionScene) (now : LineState) (half : WebSocketHalf) (read : List ℕ) (w : World Msg Output) (outcome : Outcome) (s : Invariant scene now half read w.conn)
     (i : IsSessionExchange (handshake_of scene.facts) scene.facts w) (over : half.stage ≡ Over (ConnectionEnds outcome)) where
-  abbrev pub one : Exchanged
+  abbrev pub one : ExchangeRecord
   one = session_of scene w
 
-  abbrev pub talk : Talk
-  talk = talk_in half w.conn s.leftover s.handed
+  abbrev pub traffic : SessionTraffic
+  traffic = talk_in half w.conn s.leftover s.handed
 
   ends_so : EndsByTask scene w.conn outcome ⊎ IsCutShort scene w.conn outcome
   ends_so = subst (λ (st : Stage). IsAt st scene half w.conn) over s.stage
@@ -145,14 +148,14 @@ module _ (scene : SessionScene) (now : LineState) (half : SessionHalf) (read : L
 
   -- ---- the exchange serves the handshake
 
-  opens_accepted : IsCarrying scene w.conn s.text s.leftover → Opens scene.frames one talk s.text
+  opens_accepted : IsCarrying scene w.conn s.text s.leftover → Opens scene.frames one traffic s.text
   opens_accepted c =
       Accepted c.subprotocol c.headers (c.events ++ i.taken.0) (sym i.taken.1 ∙ ap (λ (l : List Outgoing). l ++ i.taken.0) (sym all_lawful ∙ c.said)) c.text_is c.kept
 
-  opens_silent : IsSilent half w.conn s.leftover s.handed → Opens scene.frames one talk s.text
+  opens_silent : IsSilent half w.conn s.leftover s.handed → Opens scene.frames one traffic s.text
   opens_silent c = Silent (is_silence s.leftover w.conn.arrived half.is_over s.handed c.kept c.received c.over c.sent)
 
-  opens : (a : Answered) → IsCarried a scene half w.conn s.text s.leftover s.handed → Opens scene.frames one talk s.text
+  opens : (a : Answered) → IsCarried a scene half w.conn s.text s.leftover s.handed → Opens scene.frames one traffic s.text
   opens answered.Unanswered c = opens_silent c.0
   opens answered.Refused c = opens_silent c
   opens answered.Open c = opens_accepted c
@@ -177,12 +180,13 @@ module _ (scene : SessionScene) (now : LineState) (half : SessionHalf) (read : L
   cause times events it (inl none) = inl none
   cause times events it (inr c) = inr (left events it c)
 
-  pub serves : ServesHandshake scene.limits (is_cut outcome) s.fixed.behind one talk s.text
+  pub serves : ServesHandshake scene.limits (is_cut outcome) s.fixed.after one traffic s.text
   serves = record {
     frames = scene.frames;
     head = s.fixed.head;
     opens = opens half.answered s.carried;
-    hears = record { first = i.events; times = i.times; disconnect = i.disconnect; in_order = i.heard; due = i.due; cause = cause i.times i.events i.disconnect i.cause };
+    disconnect = i.disconnect;
+    hears = record { first = i.events; times = i.times; in_order = i.heard; due = i.due; cause = cause i.times i.events i.disconnect i.cause };
     lawful = i.lawful;
     breaks = s.breaks;
   }
@@ -196,7 +200,7 @@ module _ (scene : SessionScene) (now : LineState) (half : SessionHalf) (read : L
   ended_put : (ended : EndKind) → end_of w.conn.got ≡ Some ended → end_of w.app.put ≡ Some ended
   ended_put ended is = sym (i.end_is (taken_end ended is)) ∙ is
 
-  done : (t : EndsByTask scene w.conn outcome) → IsDoneTalking outcome one talk s.text
+  done : (t : EndsByTask scene w.conn outcome) → IsSessionDone outcome one traffic s.text
   done t =
       let all = i.ended (taken_end t.kind t.taken) in (
         t.kind,
@@ -211,55 +215,56 @@ module _ (scene : SessionScene) (now : LineState) (half : SessionHalf) (read : L
       let why = why_broken t.kind (said_in scene w.conn) (is_by_input w.conn.broken) w.conn.arrived (t.follows ∙ is) in
       elim (s.breaks why.0) [ inl closed ↦ cc (closed, why.1) | inr ends ↦ ends ]
 
-  ends_by_task : (t : EndsByTask scene w.conn outcome) → IsDoneTalking outcome one talk s.text → EndsInSession outcome one talk s.text
+  ends_by_task : (t : EndsByTask scene w.conn outcome) → IsSessionDone outcome one traffic s.text → EndsInSession outcome one traffic s.text
   ends_by_task t d = elim (after_class t.kind (said_in scene w.conn) (is_by_input w.conn.broken) w.conn.arrived) [
     | inl uncut ↦
         let of : Uncut ≡ class_of outcome = sym uncut ∙ ap class_of t.follows in
-        subst (λ (k : OutcomeClass). EndsInSessionAs k outcome one talk s.text) of (d, no_more t)
+        subst (λ (k : OutcomeClass). EndsInSessionAs k outcome one traffic s.text) of (d, no_more t)
     | inr idle ↦
         let of : GivenUp ≡ class_of outcome = ap class_of (sym idle ∙ t.follows) in
-        subst (λ (k : OutcomeClass). EndsInSessionAs k outcome one talk s.text) of
-        (prefix_same (spoken s.text talk) (said_out one)
+        subst (λ (k : OutcomeClass). EndsInSessionAs k outcome one traffic s.text) of
+        (prefix_same (spoken s.text traffic) (said_out one)
         (d.3 ∙ ap (λ (o : Option EndKind). session_text (handshake_of scene.facts) scene.facts (said_of w.app) o (is_by_input w.conn.broken)) (ended_put t.kind t.taken)
         ∙ ap (λ (l : List Output). said_out one ++ l) (given_up scene.facts t.kind (said_in scene w.conn) (said_of w.app) (is_by_input w.conn.broken) w.conn.arrived idle)
         ∙ append-nil (said_out one)))
   ]
 
-  -- what was next of what was taken is next of what was said
-  next : (out more : List Output) → IsNext (known scene w.conn) out more → IsNext one out more
+  -- what was next of what was taken is next of what was sent
+  next : (out more : List Output) → IsNextOutput (known scene w.conn) out more → IsNextOutput one out more
+  next out more (Beginning none is) = Beginning none is
   next out more (Saying before after event said is adds) =
       Saying before (after ++ i.taken.0) event (sym i.taken.1 ∙ ap (λ (l : List Outgoing). l ++ i.taken.0) said ∙ append_assoc before (event ∷ after) i.taken.0) is adds
   next out more (Ending ended put is adds) =
       let all = i.ended (taken_end ended put) in
       Ending ended (ended_put ended put) (is ∙ ap (session_output (handshake_of scene.facts) scene.facts) all) (adds ∙ ap (λ (l : List Outgoing). session_ending scene.facts l ended (is_by_input w.conn.broken)) all)
 
-  front : IsPrefix w.conn.written (output_in scene w.conn) → IsPrefix (spoken s.text talk) (said_out one)
+  front : IsPrefix w.conn.written (output_in scene w.conn) → IsPrefix (spoken s.text traffic) (said_out one)
   front p =
       let taken = output_in scene w.conn in
       let grown : IsPrefix taken (said_out one) = subst (λ (l : List Outgoing). IsPrefix taken (session_output (handshake_of scene.facts) scene.facts l)) i.taken.1 (output_grows scene.facts scene.limits.ring (taken_of w.conn) i.taken.0) in
       subst (λ (l : List Output). IsPrefix l (said_out one)) s.written (prefix_trans w.conn.written taken (said_out one) p grown)
 
-  ends_cut : (k : OutcomeClass) → IsCutShortAs k scene w.conn → EndsInSessionAs k outcome one talk s.text
+  ends_cut : (k : OutcomeClass) → IsCutShortAs k scene w.conn → EndsInSessionAs k outcome one traffic s.text
   ends_cut Uncut c = absurd c
   ends_cut (ByWrite n) c = record { out = c.out; more = c.more; is_next = next c.out c.more c.is_next; within = c.within; written_is = sym s.written ∙ c.written_is }
   ends_cut GivenUp c = front c
   ends_cut Lacking c = front c
   ends_cut Unbegun c = absurd c
 
-  ends : EndsInSession outcome one talk s.text
+  ends : EndsInSession outcome one traffic s.text
   ends = elim ends_so [ inl t ↦ ends_by_task t (done t) | inr c ↦ ends_cut (class_of outcome) c ]
 
   pub converses : (report : Report) → report.outcome ≡ outcome → CountsExchanges report (scene.exchanges ++ one ∷ [])
-      → ConversesInSession scene.limits half.wire.input read (scene.exchanges ++ one ∷ []) talk (scene.before ++ s.text) report
+      → ConversesInSession scene.limits half.wire.input read (scene.exchanges ++ one ∷ []) traffic (scene.before ++ s.text) report
   converses report o c = record {
     answered = scene.exchanges;
     session = one;
     in_order = refl;
-    behind = s.fixed.behind;
+    after = s.fixed.after;
     each = s.fixed.answered;
     text = s.text;
-    serves = subst (λ (q : Outcome). ServesHandshake scene.limits (is_cut q) s.fixed.behind one talk s.text) (sym o) serves;
-    ends = subst (λ (q : Outcome). EndsInSession q one talk s.text) (sym o) ends;
+    serves = subst (λ (q : Outcome). ServesHandshake scene.limits (is_cut q) s.fixed.after one traffic s.text) (sym o) serves;
+    ends = subst (λ (q : Outcome). EndsInSession q one traffic s.text) (sym o) ends;
     written_is = ap (λ (l : List ℕ). l ++ s.text) s.fixed.before_is;
     counts = c;
   }

@@ -1,5 +1,5 @@
--- An opening handshake is served: its exchange is behind those before it, and the connection has ended in it.
-use Rattle.std.proofs.Common.{◌≡◌, ℕ, ◌+◌, List, [], ◌∷◌, ◌++◌, sym, ap, ◌∙◌, inr, subst, Option, Some}
+-- An opening handshake is served: its exchange comes after those before it, and the connection has ended in it.
+use Rattle.std.proofs.Common.{◌≡◌, ℕ, ◌+◌, List, [], ◌∷◌, ◌++◌, sym, ap, ◌∙◌, subst, Option, Some}
 use Rattle.asgi_types.specs.declared.end_kind.EndKind.{EndKind}
 use Rattle.asgi_types.specs.declared.facts.Facts.{Facts}
 use Rattle.asgi_types.specs.declared.facts.Framing.TheVariants.{Upgrade}
@@ -23,46 +23,49 @@ use Rattle.asgi_exchange.specs.Views.{said_of}
 use Rattle.asgi_exchange.proofs.SessionExchangeLemmas.{in_words}
 use Rattle.asgi_conversation.specs.declared.report.Outcome.{Outcome}
 use Rattle.asgi_conversation.specs.OutcomeClasses.{IsLacking}
-use Rattle.asgi_conversation.specs.Exchanges.{Exchanged, fault_of, fault_count, requests_of}
+use Rattle.asgi_conversation.specs.Exchanges.{fault_of, fault_count, requests_of}
+use Rattle.asgi_conversation.specs.ExchangeRecord.{ExchangeRecord}
 use Rattle.asgi_conversation.specs.Promised.{IsPromised, ArePromised, task_end}
 use Rattle.asgi_conversation.specs.Sessions.{handshake_of}
+use Rattle.asgi_conversation.proofs.ConversationLemmas as conversation
 use Rattle.asgi_conversation.proofs.LoopLemmas as loop
 use Rattle.asgi_conversation.proofs.RequestLemmas.{requests_join}
-use Rattle.asgi_conn.specs.declared.connection.Place.TheVariants.{Ended}
-use Rattle.asgi_conn.specs.declared.half.Stage.{Stage}
-use Rattle.asgi_conn.specs.declared.half.Stage.TheVariants.{Over}
-use Rattle.asgi_conn.specs.declared.runner.AppSide.{AppSide}
-use Rattle.asgi_conn.specs.declared.session_half.Answered.{Answered}
-use Rattle.asgi_conn.specs.declared.session_half.Answered.TheVariants as answered
-use Rattle.asgi_conn.specs.declared.session_half.SessionHalf.{SessionHalf}
+use Rattle.asgi_conn.specs.declared.connection.ConnState.TheVariants.{Ended}
+use Rattle.asgi_halves.specs.declared.stage.Stage.{Stage}
+use Rattle.asgi_halves.specs.declared.stage.Stage.TheVariants.{Over}
+use Rattle.asgi_run.specs.declared.runner.AppSide.{AppSide}
+use Rattle.asgi_halves.specs.declared.session_half.Answered.{Answered}
+use Rattle.asgi_halves.specs.declared.session_half.Answered.TheVariants as answered
+use Rattle.asgi_halves.specs.declared.session_half.WebSocketHalf.{WebSocketHalf}
 use Rattle.asgi_conn.specs.declared.tally.Tally.{Tally}
-use Rattle.asgi_conn.specs.declared.wire.Wire.{Wire}
-use Rattle.asgi_conn.specs.contracts.exchange_half.SessionHalfHalf.TheImpl as session_half
-use Rattle.asgi_conn.specs.Lines.{LineState}
-use Rattle.asgi_conn.specs.Loop.{EndsSo, IsTallied, Serving}
-use Rattle.asgi_conn.specs.ReadAhead.{ReadsAhead}
-use Rattle.asgi_conn.specs.Running.{IsOpened, HasRun}
-use Rattle.asgi_conn.specs.SessionHalf.{SessionScene, Stands, IsAt, IsCarried, OpensHandshake, OpensSession, session_of, talk_in, text_failures}
-use Rattle.asgi_conn.specs.Talking.{TalksOn, failures_in}
+use Rattle.asgi_halves.specs.declared.wire.Wire.{Wire}
+use Rattle.asgi_halves.specs.contracts.impls.WebSocketHalfHalf.TheImpl as session_half
+use Rattle.asgi_run.specs.Lines.{LineState}
+use Rattle.asgi_conn.specs.private.Loop.{EndsSo, IsTallied, ConnInvariant}
+use Rattle.asgi_halves.specs.ReadAhead.{ReadsAhead}
+use Rattle.asgi_run.specs.Running.{IsOpened, HasRun}
+use Rattle.asgi_halves.specs.WebSocketHalf.{SessionScene, Invariant, IsAt, IsCarried, OpensHandshake, OpensSession, session_of, talk_in, text_failures}
+use Rattle.asgi_halves.specs.Traffic.{failures_in}
+use Rattle.asgi_halves.specs.WebSocketHalf.{CarriesOn}
 use Rattle.asgi_conn.proofs.AnswerLemmas.{lacks_moved}
 use Rattle.asgi_conn.proofs.HttpEndLemmas.{http_ends}
 use Rattle.asgi_conn.proofs.PromiseLemmas.{is_kept, all_more, length_more, faults_more}
-use Rattle.asgi_conn.proofs.ReadAheadLemmas.{more_requests}
+use Rattle.asgi_halves.proofs.ReadAheadLemmas.{more_requests}
 use Rattle.asgi_conn.proofs.SessionLeaveLemmas as leave
-use Rattle.asgi_conversation.specs.declared.following.Following.TheVariants.{NextRequest, ConnectionEnds}
-use Rattle.asgi_conversation.specs.declared.following.Following.{Following}
+use Rattle.asgi_conversation.specs.declared.following.NextStep.TheVariants.{NextRequest, ConnectionEnds}
+use Rattle.asgi_conversation.specs.declared.following.NextStep.{NextStep}
 
 -- ---- the exchange begins
 
 module _ (scene : SessionScene) (now : LineState) (wire : Wire) (facts : Facts) (read : List ℕ) (o : OpensHandshake scene now wire facts read) where
   -- what the reader holds are the frames
   pub frames_are : (taken : List ℕ)
-      → ((bytes : List ℕ) (given : List Next) (behind : List ℕ) (scope : Scope) (facts : Facts) (frames : List ℕ) → HasClosed wire.requests.limits bytes given behind
-      → BeginsWithHandshake wire.requests.limits behind scope facts frames → StandsFor wire.requests bytes (given ++ Head scope facts ∷ []) → taken ≡ frames)
+      → ((bytes : List ℕ) (given : List Next) (after : List ℕ) (scope : Scope) (facts : Facts) (frames : List ℕ) → HasClosed wire.requests.limits bytes given after
+      → BeginsWithHandshake wire.requests.limits after scope facts frames → StandsFor wire.requests bytes (given ++ Head scope facts ∷ []) → taken ≡ frames)
       → taken ≡ scene.frames
   frames_are taken frames =
-      frames read o.given o.behind scene.scope scene.facts scene.frames (subst (λ (l : Limits). HasClosed l read o.given o.behind) (sym o.reader_limits) o.between.closed)
-      (subst (λ (l : Limits). BeginsWithHandshake l o.behind scene.scope scene.facts scene.frames) (sym o.reader_limits) o.head) o.stands
+      frames read o.given o.after scene.scope scene.facts scene.frames (subst (λ (l : Limits). HasClosed l read o.given o.after) (sym o.reader_limits) o.between.closed)
+      (subst (λ (l : Limits). BeginsWithHandshake l o.after scene.scope scene.facts scene.frames) (sym o.reader_limits) o.head) o.stands
 
   pub opens_session : (later : Wire) (own : Facts) (text : ResponseText) (taken : List ℕ) → later ≡ record wire { requests = later.requests } → own ≡ facts → taken ≡ scene.frames
       → (own.framing ≡ Upgrade → standing.StandsForSession text own []) → facts.framing ≡ Upgrade → OpensSession scene now later own text taken read
@@ -72,7 +75,7 @@ module _ (scene : SessionScene) (now : LineState) (wire : Wire) (facts : Facts) 
         fixed = record {
           facts_are = copied ∙ o.facts_are;
           limits_are = o.limits_are;
-          behind = o.behind;
+          after = o.after;
           answered = o.between.so_far.each;
           head = o.head;
           before_is = o.between.so_far.written_is;
@@ -87,7 +90,7 @@ module _ (scene : SessionScene) (now : LineState) (wire : Wire) (facts : Facts) 
   -- memory or a thread is refused, before the application is called
   pub opens_short : (promise : Scope → List Incoming → List Outgoing → Option EndKind → Type 0) (client server : Option Peer) (state : List (List ℕ × StateValue)) (tally : Tally)
       → ArePromised promise client server state scene.exchanges → IsTallied tally scene.exchanges → (outcome : Outcome) → IsLacking outcome
-      → Serving promise scene.limits client server state scene.start now tally (Ended outcome)
+      → ConnInvariant promise scene.limits client server state scene.start now tally (Ended outcome)
   opens_short promise client server state tally promised tallied outcome lacks = record {
     read = read;
     written = scene.before;
@@ -96,29 +99,29 @@ module _ (scene : SessionScene) (now : LineState) (wire : Wire) (facts : Facts) 
     counted = tallied;
     stands = http_ends scene.limits scene.start now wire.input read scene.exchanges scene.before outcome (lacks_moved scene.start now wire.input read scene.before outcome lacks o.moved)
         (λ report is c.
-        loop.unbegun scene.limits wire.input read o.given scene.exchanges o.behind scene.before report o.between c (subst (λ (q : Outcome). IsLacking q) (sym is) lacks)
+        loop.unbegun scene.limits wire.input read o.given scene.exchanges o.after scene.before report o.between c (subst (λ (q : Outcome). IsLacking q) (sym is) lacks)
         (o.head.head, Upgrade, scene.frames, o.head.reads)) o.ahead;
   }
 
 -- ---- and is over
 
--- so many writes of text failed
-failed_so : (a : Answered) (outcome : Outcome) (scene : SessionScene) (now : LineState) (half : SessionHalf) (read : List ℕ) (view : _) (s : Stands scene now half read view)
+-- the number of writes of text that failed
+failed_so : (a : Answered) (outcome : Outcome) (scene : SessionScene) (now : LineState) (half : WebSocketHalf) (read : List ℕ) (view : _) (s : Invariant scene now half read view)
     → IsCarried a scene half view s.text s.leftover s.handed → text_failures a (Over (ConnectionEnds outcome)) ≡ failures_in outcome (talk_in half view s.leftover s.handed)
 failed_so answered.Unanswered outcome scene now half read view s c = ap (λ (l : Option (List ℕ)). failures_in outcome (talk_in half view l s.handed)) (sym c.0.kept)
 failed_so answered.Refused outcome scene now half read view s c = ap (λ (l : Option (List ℕ)). failures_in outcome (talk_in half view l s.handed)) (sym c.kept)
 failed_so answered.Open outcome scene now half read view s c = ap (λ (l : Option (List ℕ)). failures_in outcome (talk_in half view l s.handed)) (sym c.kept)
 failed_so answered.Closed outcome scene now half read view s c = ap (λ (l : Option (List ℕ)). failures_in outcome (talk_in half view l s.handed)) (sym c.kept)
 
--- it does not lead to a next request
-pub ends_connection : (scene : SessionScene) (half : SessionHalf) (view : _) → IsAt half.stage scene half view → (following : Following) → half.stage ≡ Over following → (outcome : Outcome) × (half.stage ≡ Over (ConnectionEnds outcome))
+-- a session is not followed by a next request
+pub ends_connection : (scene : SessionScene) (half : WebSocketHalf) (view : _) → IsAt half.stage scene half view → (following : NextStep) → half.stage ≡ Over following → (outcome : Outcome) × (half.stage ≡ Over (ConnectionEnds outcome))
 ends_connection scene half view at NextRequest is = absurd (subst (λ (s : Stage). IsAt s scene half view) is at)
 ends_connection scene half view at (ConnectionEnds outcome) is = (outcome, is)
 
 module _ {T E : Type 0} (promise : Scope → List Incoming → List Outgoing → Option EndKind → Type 0) (answers : T → List Incoming → List Outgoing → Option EndKind → Type 0) (ends : Ghosts E)
-    (client server : Option Peer) (state : List (List ℕ × StateValue)) (scene : SessionScene) (now : LineState) (half : SessionHalf) (read : List ℕ)
+    (client server : Option Peer) (state : List (List ℕ × StateValue)) (scene : SessionScene) (now : LineState) (half : WebSocketHalf) (read : List ℕ)
     (side : AppSide T E) (kind : EndKind) (run : HasRun session_half.ghosts answers ends scene now half read side kind) where
-  abbrev one : Exchanged
+  abbrev one : ExchangeRecord
   one = session_of scene run.world
 
   abbrev out : List ℕ
@@ -148,16 +151,17 @@ module _ {T E : Type 0} (promise : Scope → List Incoming → List Outgoing →
       let failures = ap (text_failures half.answered) over ∙ failed_so half.answered outcome scene now half read run.world.conn s s.carried in
       record {
         end = half.wire.input;
-        talk = talk_in half run.world.conn s.leftover s.handed;
-        talked = (subst (λ (n : ℕ). TalksOn scene.start now half.wire.input read out n (talk_in half run.world.conn s.leftover s.handed) half.spare_reads) failures s.line).talked;
-        converses = λ report o c. inr (leave.converses scene now half read run.world outcome s in_session over report o c);
+        traffic = talk_in half run.world.conn s.leftover s.handed;
+        carried = (subst (λ (n : ℕ). CarriesOn scene.start now half.wire.input read out n (talk_in half run.world.conn s.leftover s.handed) half.spare_reads) failures s.line).carried;
+        converses = λ report o c. conversation.in_session scene.limits half.wire.input read (scene.exchanges ++ one ∷ []) (talk_in half run.world.conn s.leftover s.handed) out report
+            (leave.converses scene now half read run.world outcome s in_session over report o c);
         ahead = subst (λ (l : List (Scope × Facts)). ReadsAhead scene.limits read l) (sym (requests_join scene.exchanges (one ∷ []))) (more_requests scene.limits read (requests_of scene.exchanges) ((scene.scope, scene.facts) ∷ []) ahead);
       }
 
   pub serves_session : (scope : Scope) (was : E) (old new : Tally) (outcome : Outcome) → ReadsAhead scene.limits scene.read (requests_of scene.exchanges)
       → scope ≡ scope_with scene.scope client server state → IsOpened (promise scope) answers ends was side → ends.heard was ≡ [] → ends.said was ≡ []
       → ArePromised promise client server state scene.exchanges → IsTallied old scene.exchanges → new.exchanges ≡ old.exchanges + 1 → new.faults ≡ old.faults + fault_of (Some kind)
-      → half.stage ≡ Over (ConnectionEnds outcome) → Serving promise scene.limits client server state scene.start now new (Ended outcome)
+      → half.stage ≡ Over (ConnectionEnds outcome) → ConnInvariant promise scene.limits client server state scene.start now new (Ended outcome)
   serves_session scope was old new outcome ahead is opened none silent promised tallied exchanges faults over = record {
     read = read;
     written = out;

@@ -1,5 +1,5 @@
--- What `serve_connection` promises, whole: what was read, the exchanges, what was written and the report make a conversation,
--- and the turns and pauses are counted.
+-- What `serve_connection` promises, whole: the bytes read, the exchanges, what was written and the report make a
+-- conversation, and the turns and pauses are counted.
 use Rattle.std.specs.Prelude.{◌≡◌, ◌⊎◌, ℕ, List, Option}
 use Rattle.asgi_types.specs.declared.end_kind.EndKind.{EndKind}
 use Rattle.asgi_types.specs.declared.incoming.Incoming.{Incoming}
@@ -13,12 +13,14 @@ use Rattle.asgi_io.specs.Turns.{CountsTurns}
 use Rattle.asgi_conversation.specs.declared.input.InputEnd.{InputEnd}
 use Rattle.asgi_conversation.specs.declared.report.Outcome.TheVariants.{Idle}
 use Rattle.asgi_conversation.specs.declared.report.Report.{Report}
-use Rattle.asgi_conversation.specs.Exchanges.{Exchanged, requests_of}
+use Rattle.asgi_conversation.specs.Conversation.{Conversation}
+use Rattle.asgi_conversation.specs.Exchanges.{requests_of}
+use Rattle.asgi_conversation.specs.ExchangeRecord.{ExchangeRecord}
 use Rattle.asgi_conversation.specs.Promised.{ArePromised}
-use Rattle.asgi_conversation.specs.Sessions.{Talk, Conversation}
-use Rattle.asgi_conn.specs.Lines.{LineState}
-use Rattle.asgi_conn.specs.ReadAhead.{ReadsAhead}
-use Rattle.asgi_conn.specs.Talking.{HasTalked, failures_in}
+use Rattle.asgi_conversation.specs.Sessions.{SessionTraffic}
+use Rattle.asgi_run.specs.Lines.{LineState}
+use Rattle.asgi_halves.specs.ReadAhead.{ReadsAhead}
+use Rattle.asgi_halves.specs.Traffic.{HasCarried, failures_in}
 
 -- One connection was served.
 pub record Serves (answers : Scope → List Incoming → List Outgoing → Option EndKind → Type 0) (limits : Limits) (client server : Option Peer) (state : List (List ℕ × StateValue))
@@ -28,18 +30,18 @@ pub record Serves (answers : Scope → List Incoming → List Outgoing → Optio
   pub end : InputEnd
   pub written : List ℕ
   -- what passed over the line once an opening handshake was accepted
-  pub talk : Talk
-  pub talked : HasTalked old new end read written (failures_in report.outcome talk) talk
-  -- they, the exchanges and the report are a conversation
-  pub exchanges : List Exchanged
-  pub converses : Conversation limits end read exchanges talk written report
-  -- so much of what left the line is ahead of their requests, and no more
+  pub traffic : SessionTraffic
+  pub carried : HasCarried old new end read written (failures_in report.outcome traffic) traffic
+  -- these, the exchanges and the report are a conversation
+  pub exchanges : List ExchangeRecord
+  pub converses : Conversation limits end read exchanges traffic written report
+  -- how far the bytes read are ahead of their requests, at most
   pub ahead : ReadsAhead limits read (requests_of exchanges)
-  -- what was heard and said in each of them is as the application promises it, of a scope with this client, this server and a
+  -- what the application got and sent in each of them is as it promises, for a scope with this client, this server and a
   -- state equal to this one
   pub promised : ArePromised answers client server state exchanges
-  -- the turns that the report tells, and a pause for each idle one
+  -- the turns that the report records, and a pause for each idle one
   pub turned : List Turn
   pub counts : CountsTurns limits.turns limits.idle_turns turned pauses_old pauses_new report.turns report.idle
-  -- it is given up as idle only where a limit on turns was reached
+  -- the connection is given up as idle only if a limit on turns was reached
   pub idle : report.outcome ≡ Idle → (report.turns ≡ limits.turns) ⊎ (report.idle ≡ limits.idle_turns)

@@ -16,65 +16,63 @@ ghost use Rattle.asgi_request.specs.Reading.{AllGiven};
 ghost use Rattle.asgi_response.specs.Exchange.{refusal_text};
 ghost use Rattle.asgi_response.specs.Refusals.{is_refusal};
 ghost use Rattle.asgi_apps.specs.Scopes.{kind_of};
-ghost use Rattle.asgi_conversation.specs.declared.following.Following.{Following};
+ghost use Rattle.asgi_conversation.specs.declared.following.NextStep.{NextStep};
 ghost use Rattle.asgi_conversation.specs.OutcomeClasses.{IsLacking};
-ghost use Rattle.asgi_conversation.specs.Behind.{IsBlank};
-ghost use Rattle.asgi_conversation.specs.Exchanges.{Exchanged};
+ghost use Rattle.asgi_conversation.specs.After.{IsBlank};
+ghost use Rattle.asgi_conversation.specs.ExchangeRecord.{ExchangeRecord};
 ghost use Rattle.asgi_conversation.specs.Persistence.{RefusesWith};
 ghost use Rattle.asgi_conversation.specs.Promised.{ArePromised};
 ghost use Rattle.asgi_conversation.specs.TaskEnds.{has_ended};
-ghost use Rattle.asgi_conn.specs.Half.{Scene};
-ghost use Rattle.asgi_conn.specs.HalfSteps.{Opens};
-ghost use Rattle.asgi_conn.specs.Limits.{IsAtLimit};
-ghost use Rattle.asgi_conn.specs.Lines.{LineState, state_of};
-ghost use Rattle.asgi_conn.specs.Loop.{Rests, EndsSo, IsAt, IsTallied, Serving, IsBetween, IsLeft, HasRoom};
-ghost use Rattle.asgi_conn.specs.Running.{OfEnd, MayRun, IsOpened};
+ghost use Rattle.asgi_halves.specs.Half.{Scene};
+ghost use Rattle.asgi_halves.specs.Half.{Opens};
+ghost use Rattle.asgi_run.specs.Limits.{IsAtLimit};
+ghost use Rattle.asgi_run.specs.Lines.{LineState, state_of};
+ghost use Rattle.asgi_conn.specs.private.Loop.{BetweenRequests, EndsSo, IsAt, IsTallied, ConnInvariant, IsBetween, IsLeft, HasRoom};
+ghost use Rattle.asgi_run.specs.Running.{OfEnd, MayRun, IsOpened};
 ghost use Rattle.asgi_conn.specs.Serving.{Serves};
-ghost use Rattle.asgi_conn.specs.SessionHalf.{SessionScene, OpensHandshake};
+ghost use Rattle.asgi_halves.specs.WebSocketHalf.{SessionScene, OpensHandshake};
 
-use crate::half::{ConnHalf, Stage};
-use crate::runner::{AppSide, NoEnds, Runner};
-use crate::session_half::SessionHalf;
 use crate::tally::Tally;
-use crate::wire::{Wire, write};
 use asgi_apps::{AppTask, Application, Running};
-use asgi_conversation::{Following, InputEnd, Outcome, Report};
+use asgi_conversation::{InputEnd, NextStep, Outcome, Report};
+use asgi_halves::{HttpHalf, Stage, WebSocketHalf, Wire, write};
 use asgi_io::{Pause, Turns};
 use asgi_pipes::{AppEnd, EndKind, Pipes};
 use asgi_request::Next;
 use asgi_response::{ResponseText, refusal_text};
+use asgi_run::{AppSide, NoEnds, Runner};
 use asgi_types::{Facts, Framing, Kind, Limits, Peer, Scope, State};
 use asgi_ws::Line;
 use std::alloc::{AllocError, Global};
 
-/// Where a connection stands from request to request.
+/// The state of a connection from request to request.
 #[derive(Drop)]
-enum Place {
+enum ConnState {
     /// Between two requests, or before the first one.
     Between(Wire),
-    /// It has ended.
+    /// The connection has ended.
     Ended(Outcome),
 }
 
-impl Place {
+impl ConnState {
     /// Whether the connection goes on.
     fn goes_on(&self) -> bool
         ensures { IsTrue result ↔ IsBetween self.now }
     {
         match self {
-            Place::Between(_) => true,
-            Place::Ended(_) => false,
+            ConnState::Between(_) => true,
+            ConnState::Ended(_) => false,
         }
     }
 
     /// How the connection has ended.
     fn outcome(&self) -> Outcome
         requires { ¬ (IsBetween self.now) }
-        ensures { self.now ≡ Place.Ended result }
+        ensures { self.now ≡ ConnState.Ended result }
     {
         match self {
-            Place::Between(_) => unreachable!(),
-            Place::Ended(outcome) => *outcome,
+            ConnState::Between(_) => unreachable!(),
+            ConnState::Ended(outcome) => *outcome,
         }
     }
 }
@@ -82,8 +80,8 @@ impl Place {
 /// Serves one connection to its end, request by request, and reports how it went (RFC 9112, section
 /// 9.3). An opening handshake is its last request (RFC 6455, section 4.2).
 ///
-/// Each scope has this client and server, and a state equal to this one. The runner runs each
-/// exchange; where nothing moves in a turn the pause is called. The caller closes the line.
+/// Each scope has this client and server, and a state equal to this one. The runner runs each exchange;
+/// if nothing moves in a turn, the pause is called. The caller closes the line.
 pub fn serve_connection<H: AllocGlobal, A: Application, L: Line, U: Runner<A::Task>, P: Pause>(
     rt: &H,
     limits: &Limits,
@@ -103,7 +101,7 @@ pub fn serve_connection<H: AllocGlobal, A: Application, L: Line, U: Runner<A::Ta
         faults: 0,
         turns: Turns::new(limits.turns, limits.idle_turns),
     };
-    let mut place = Place::Between(Wire::new(rt.alloc(), *limits));
+    let mut place = ConnState::Between(Wire::new(rt.alloc(), *limits));
     while place.goes_on() {
         place = step(
             place, client, server, state, app, line, runner, pause, &mut tally,
@@ -118,9 +116,9 @@ pub fn serve_connection<H: AllocGlobal, A: Application, L: Line, U: Runner<A::Ta
     }
 }
 
-/// Asks the reader what comes next, and does what is due to it.
+/// Asks the reader for its next result, and does what that calls for.
 fn step<A: Application, L: Line, U: Runner<A::Task>, P: Pause>(
-    place: Place,
+    place: ConnState,
     client: &Option<Peer>,
     server: &Option<Peer>,
     state: &State,
@@ -129,29 +127,29 @@ fn step<A: Application, L: Line, U: Runner<A::Task>, P: Pause>(
     runner: &mut U,
     pause: &mut P,
     tally: &mut Tally,
-) -> Place
+) -> ConnState
     requires between { IsBetween place }
-    requires stands { (limits : Limits) × (start : LineState) × Serving (A.answers app.now) limits client.now server.now state.now start (state_of L.Reads L.Counts L.Messages.own line.old) tally.old place }
+    requires stands { (limits : Limits) × (start : LineState) × ConnInvariant (A.answers app.now) limits client.now server.now state.now start (state_of L.Reads L.Counts L.Messages.own line.old) tally.old place }
     requires room { HasRoom tally.old }
-    ensures serves { (limits : Limits) (start : LineState) → Serving (A.answers app.now) limits client.now server.now state.now start (state_of L.Reads L.Counts L.Messages.own line.old) tally.old place
-        → Serving (A.answers app.now) limits client.now server.now state.now start (state_of L.Reads L.Counts L.Messages.own line.new) tally.new result }
+    ensures serves { (limits : Limits) (start : LineState) → ConnInvariant (A.answers app.now) limits client.now server.now state.now start (state_of L.Reads L.Counts L.Messages.own line.old) tally.old place
+        → ConnInvariant (A.answers app.now) limits client.now server.now state.now start (state_of L.Reads L.Counts L.Messages.own line.new) tally.new result }
     ensures room { IsBetween result → HasRoom tally.new }
     ensures takes { IsBetween result → tally.old.turns.turns < tally.new.turns.turns }
-    ensures idle { result ≡ Place.Ended Outcome.Idle → IsAtLimit tally.new.turns }
+    ensures idle { result ≡ ConnState.Ended Outcome.Idle → IsAtLimit tally.new.turns }
     ensures counts { (turned : List Turn) (pauses : ℕ) → CountsTurns tally.old.turns.turn_limit tally.old.turns.idle_limit turned pauses (P.count pause.old) tally.old.turns.turns tally.old.turns.idle
         → (more : List Turn) × CountsTurns tally.old.turns.turn_limit tally.old.turns.idle_limit (turned ++ more) pauses (P.count pause.new) tally.new.turns.turns tally.new.turns.idle }
     ensures turn_limits { (tally.new.turns.turn_limit ≡ tally.old.turns.turn_limit) × (tally.new.turns.idle_limit ≡ tally.old.turns.idle_limit) }
 {
-    let Place::Between(mut wire) = place else {
+    let ConnState::Between(mut wire) = place else {
         unreachable!()
     };
     match wire.requests.next() {
-        Err(_) => Place::Ended(Outcome::NoMemory),
+        Err(_) => ConnState::Ended(Outcome::NoMemory),
         Ok(Next::Need) => wait(wire, line, pause, &mut tally.turns),
         Ok(Next::Bad(status)) => refuse(status, line),
         Ok(Next::Head(scope, facts)) => {
             let Ok(scope) = scope_of(wire.alloc, scope, client, server, state) else {
-                return Place::Ended(Outcome::NoMemory);
+                return ConnState::Ended(Outcome::NoMemory);
             };
             if let Framing::Upgrade = facts.framing {
                 return open(wire, &scope, facts, app, line, runner, pause, tally);
@@ -173,7 +171,7 @@ fn scope_of(
 ) -> Result<Scope, AllocError>
     ensures { IfOk result (λ whole. whole ≡ scope_with scope client.now server.now state.now) }
 {
-    let Known {
+    let ConnInfo {
         client,
         server,
         state,
@@ -181,27 +179,27 @@ fn scope_of(
     Ok(scope.with(client, server, state))
 }
 
-/// What the connection knows beside a request.
+/// What the connection knows besides a request.
 #[derive(Drop)]
-struct Known {
+struct ConnInfo {
     client: Option<Peer>,
     server: Option<Peer>,
     state: State,
 }
 
-/// Copies of it, made apart from the scope, which only one refusal of memory then drops.
+/// Copies what the connection knows, apart from the scope, so that only one refusal of memory drops the scope.
 fn known_of(
     alloc: Global,
     client: &Option<Peer>,
     server: &Option<Peer>,
     state: &State,
-) -> Result<Known, AllocError>
+) -> Result<ConnInfo, AllocError>
     ensures { IfOk result (λ known. (known.client ≡ client.now) × (known.server ≡ server.now) × (known.state ≡ state.now)) }
 {
     let client = copy_of(client, alloc)?;
     let server = copy_of(server, alloc)?;
     let state = state.copy(alloc)?;
-    Ok(Known {
+    Ok(ConnInfo {
         client,
         server,
         state,
@@ -219,13 +217,13 @@ fn copy_of(peer: &Option<Peer>, alloc: Global) -> Result<Option<Peer>, AllocErro
 
 // ---- between two requests
 
-/// Reads on where no result is there, or ends the connection at the end of the input or at a limit.
-fn wait<L: Line, P: Pause>(wire: Wire, line: &mut L, pause: &mut P, turns: &mut Turns) -> Place
-    ensures waits { (limits : Limits) (start : LineState) (read : List ℕ) (given : List Next) (exchanges : List Exchanged) (behind written : List ℕ)
-        → Rests limits start (state_of L.Reads L.Counts L.Messages.own line.old) wire read given exchanges behind written → AllGiven wire.requests read given
+/// Reads until the reader may have a result, or ends the connection at the end of the input or at a limit.
+fn wait<L: Line, P: Pause>(wire: Wire, line: &mut L, pause: &mut P, turns: &mut Turns) -> ConnState
+    ensures waits { (limits : Limits) (start : LineState) (read : List ℕ) (given : List Next) (exchanges : List ExchangeRecord) (after written : List ℕ)
+        → BetweenRequests limits start (state_of L.Reads L.Counts L.Messages.own line.old) wire read given exchanges after written → AllGiven wire.requests read given
         → (more : List ℕ) × IsAt result limits start (state_of L.Reads L.Counts L.Messages.own line.new) (read ++ more) exchanges written }
     ensures takes { IsBetween result → turns.old.turns < turns.new.turns }
-    ensures idle { result ≡ Place.Ended Outcome.Idle → IsAtLimit turns.new }
+    ensures idle { result ≡ ConnState.Ended Outcome.Idle → IsAtLimit turns.new }
     ensures counts { (turned : List Turn) (pauses : ℕ) → CountsTurns turns.old.turn_limit turns.old.idle_limit turned pauses (P.count pause.old) turns.old.turns turns.old.idle
         → (more : List Turn) × CountsTurns turns.old.turn_limit turns.old.idle_limit (turned ++ more) pauses (P.count pause.new) turns.new.turns turns.new.idle }
     ensures turn_limits { (turns.new.turn_limit ≡ turns.old.turn_limit) × (turns.new.idle_limit ≡ turns.old.idle_limit) }
@@ -233,31 +231,31 @@ fn wait<L: Line, P: Pause>(wire: Wire, line: &mut L, pause: &mut P, turns: &mut 
     let mut wire = wire;
     loop {
         if wire.input.has_ended() {
-            return Place::Ended(at_end(&wire));
+            return ConnState::Ended(at_end(&wire));
         }
         if turns.is_over() {
-            return Place::Ended(Outcome::Idle);
+            return ConnState::Ended(Outcome::Idle);
         }
         let Ok(turn) = wire.read(line) else {
-            return Place::Ended(Outcome::NoMemory);
+            return ConnState::Ended(Outcome::NoMemory);
         };
         turns.take(turn, pause);
         if !wire.requests.is_waiting() {
-            return Place::Between(wire);
+            return ConnState::Between(wire);
         }
     }
 }
 
-/// How the connection ends at the end of the input, where nothing is due.
+/// How the connection ends at the end of the input, if nothing is due.
 fn at_end(wire: &Wire) -> Outcome
     requires { has_ended wire.now.input ≡ true }
-    ensures ends { (limits : Limits) (start now : LineState) (read : List ℕ) (given : List Next) (exchanges : List Exchanged) (behind written : List ℕ)
-        → Rests limits start now wire.now read given exchanges behind written → AllGiven wire.now.requests read given
+    ensures ends { (limits : Limits) (start now : LineState) (read : List ℕ) (given : List Next) (exchanges : List ExchangeRecord) (after written : List ℕ)
+        → BetweenRequests limits start now wire.now read given exchanges after written → AllGiven wire.now.requests read given
         → EndsSo limits start now read exchanges written result }
     ensures not_idle { result ≢ Outcome.Idle }
 {
     match wire.input {
-        InputEnd::OpenStill => unreachable!(),
+        InputEnd::Open => unreachable!(),
         InputEnd::Failed => Outcome::InputBroke,
         InputEnd::AtEnd => {
             if is_blank(wire.requests.held()) {
@@ -276,18 +274,18 @@ fn is_blank(bytes: &[u8]) -> bool
     bytes.iter().all(|b| *b == b'\r' || *b == b'\n')
 }
 
-/// Writes the text of a refusal, behind which the connection ends.
-fn refuse<L: Line>(status: u16, line: &mut L) -> Place
+/// Writes the text of a refusal, after which the connection ends.
+fn refuse<L: Line>(status: u16, line: &mut L) -> ConnState
     requires { IsTrue (is_refusal status) }
-    ensures refuses { (limits : Limits) (start : LineState) (wire : Wire) (read : List ℕ) (given : List Next) (exchanges : List Exchanged) (behind written : List ℕ)
-        → Rests limits start (state_of L.Reads L.Counts L.Messages.own line.old) wire read given exchanges behind written → RefusesWith limits behind status
+    ensures refuses { (limits : Limits) (start : LineState) (wire : Wire) (read : List ℕ) (given : List Next) (exchanges : List ExchangeRecord) (after written : List ℕ)
+        → BetweenRequests limits start (state_of L.Reads L.Counts L.Messages.own line.old) wire read given exchanges after written → RefusesWith limits after status
         → (text : List ℕ) × IsAt result limits start (state_of L.Reads L.Counts L.Messages.own line.new) read exchanges (written ++ text) }
     ensures ends { ¬ (IsBetween result) }
-    ensures not_idle { result ≢ Place.Ended Outcome.Idle }
+    ensures not_idle { result ≢ ConnState.Ended Outcome.Idle }
 {
     match write(line, refusal_text(status)) {
-        None => Place::Ended(Outcome::Refused(status)),
-        Some(n) => Place::Ended(Outcome::WriteFailed(n)),
+        None => ConnState::Ended(Outcome::Refused(status)),
+        Some(n) => ConnState::Ended(Outcome::WriteFailed(n)),
     }
 }
 
@@ -303,34 +301,34 @@ fn answer<A: Application, L: Line, U: Runner<A::Task>, P: Pause>(
     runner: &mut U,
     pause: &mut P,
     tally: &mut Tally,
-) -> Place
+) -> ConnState
     requires room { HasRoom tally.old }
     requires http { kind_of scope.now ≡ Http }
     requires plain { facts.framing ≢ Framing.Upgrade }
     ensures serves { (scene : Scene) (client server : Option Peer) (state : List (List ℕ × StateValue)) (read arrived : List ℕ)
         → scope.now ≡ scope_with scene.scope client server state → Opens scene (state_of L.Reads L.Counts L.Messages.own line.old) wire facts read arrived
         → ArePromised (A.answers app.now) client server state scene.exchanges → IsTallied tally.old scene.exchanges
-        → Serving (A.answers app.now) wire.limits client server state scene.start (state_of L.Reads L.Counts L.Messages.own line.new) tally.new result }
+        → ConnInvariant (A.answers app.now) wire.limits client server state scene.start (state_of L.Reads L.Counts L.Messages.own line.new) tally.new result }
     ensures room { IsBetween result → HasRoom tally.new }
     ensures takes { IsBetween result → tally.old.turns.turns < tally.new.turns.turns }
-    ensures idle { result ≡ Place.Ended Outcome.Idle → IsAtLimit tally.new.turns }
+    ensures idle { result ≡ ConnState.Ended Outcome.Idle → IsAtLimit tally.new.turns }
     ensures counts { (turned : List Turn) (pauses : ℕ) → CountsTurns tally.old.turns.turn_limit tally.old.turns.idle_limit turned pauses (P.count pause.old) tally.old.turns.turns tally.old.turns.idle
         → (more : List Turn) × CountsTurns tally.old.turns.turn_limit tally.old.turns.idle_limit (turned ++ more) pauses (P.count pause.new) tally.new.turns.turns tally.new.turns.idle }
     ensures turn_limits { (tally.new.turns.turn_limit ≡ tally.old.turns.turn_limit) × (tally.new.turns.idle_limit ≡ tally.old.turns.idle_limit) }
 {
     let text = ResponseText::new(wire.alloc, &facts);
     let (end, app_end) = match runner.make(wire.alloc, Kind::Http, facts, wire.limits.ring) {
-        Err(why) => return Place::Ended(without_ends(why)),
+        Err(why) => return ConnState::Ended(without_ends(why)),
         Ok(ends) => ends,
     };
     let side = call(wire.alloc, app, scope, app_end);
-    let mut half = ConnHalf::begin(wire, text, line);
+    let mut half = HttpHalf::begin(wire, text, line);
     let kind = runner.run(&mut half, line, pause, &mut tally.turns, end, side);
     tally.count(kind);
     leave(half)
 }
 
-/// How a connection ends whose next exchange has no ends.
+/// How a connection ends if its next exchange got no ends.
 fn without_ends(why: NoEnds) -> Outcome
     ensures lacking { IsLacking result }
     ensures reason { (why ≡ NoEnds.NoMemory → result ≡ Outcome.NoMemory) × (why ≡ NoEnds.NoThread → result ≡ Outcome.NoThread) }
@@ -341,7 +339,7 @@ fn without_ends(why: NoEnds) -> Outcome
     }
 }
 
-/// Calls the application. Where the call faults, that is the end of its task.
+/// Calls the application. If the call faults, that is the end of its task.
 fn call<A: Application, E: AppEnd>(
     alloc: Global,
     app: &A,
@@ -366,14 +364,14 @@ fn call<A: Application, E: AppEnd>(
     }
 }
 
-/// Where the half of an exchange that is over leaves the connection.
-fn leave(half: ConnHalf) -> Place
-    requires { (following : Following) × (half.stage ≡ Stage.Over following) }
+/// The state of the connection after the half of an exchange that is over.
+fn leave(half: HttpHalf) -> ConnState
+    requires { (following : NextStep) × (half.stage ≡ Stage.Over following) }
     ensures { IsLeft half result }
 {
     match half.stage {
-        Stage::Over(Following::NextRequest) => Place::Between(half.wire),
-        Stage::Over(Following::ConnectionEnds(outcome)) => Place::Ended(outcome),
+        Stage::Over(NextStep::NextRequest) => ConnState::Between(half.wire),
+        Stage::Over(NextStep::ConnectionEnds(outcome)) => ConnState::Ended(outcome),
         Stage::Running => unreachable!(),
         Stage::Ending(_) => unreachable!(),
         Stage::Cut(_) => unreachable!(),
@@ -382,7 +380,7 @@ fn leave(half: ConnHalf) -> Place
 
 // ---- a session
 
-/// Serves the exchange of an opening handshake, in which the connection ends.
+/// Serves the exchange of an opening handshake; the connection ends with it.
 fn open<A: Application, L: Line, U: Runner<A::Task>, P: Pause>(
     wire: Wire,
     scope: &Scope,
@@ -392,7 +390,7 @@ fn open<A: Application, L: Line, U: Runner<A::Task>, P: Pause>(
     runner: &mut U,
     pause: &mut P,
     tally: &mut Tally,
-) -> Place
+) -> ConnState
     requires room { HasRoom tally.old }
     requires websocket { kind_of scope.now ≡ WebSocket }
     requires upgrade { facts.framing ≡ Framing.Upgrade }
@@ -400,39 +398,39 @@ fn open<A: Application, L: Line, U: Runner<A::Task>, P: Pause>(
     ensures serves { (scene : SessionScene) (client server : Option Peer) (state : List (List ℕ × StateValue)) (read : List ℕ)
         → scope.now ≡ scope_with scene.scope client server state → OpensHandshake scene (state_of L.Reads L.Counts L.Messages.own line.old) wire facts read
         → ArePromised (A.answers app.now) client server state scene.exchanges → IsTallied tally.old scene.exchanges
-        → Serving (A.answers app.now) scene.limits client server state scene.start (state_of L.Reads L.Counts L.Messages.own line.new) tally.new result }
+        → ConnInvariant (A.answers app.now) scene.limits client server state scene.start (state_of L.Reads L.Counts L.Messages.own line.new) tally.new result }
     ensures ends { ¬ (IsBetween result) }
-    ensures idle { result ≡ Place.Ended Outcome.Idle → IsAtLimit tally.new.turns }
+    ensures idle { result ≡ ConnState.Ended Outcome.Idle → IsAtLimit tally.new.turns }
     ensures counts { (turned : List Turn) (pauses : ℕ) → CountsTurns tally.old.turns.turn_limit tally.old.turns.idle_limit turned pauses (P.count pause.old) tally.old.turns.turns tally.old.turns.idle
         → (more : List Turn) × CountsTurns tally.old.turns.turn_limit tally.old.turns.idle_limit (turned ++ more) pauses (P.count pause.new) tally.new.turns.turns tally.new.turns.idle }
     ensures turn_limits { (tally.new.turns.turn_limit ≡ tally.old.turns.turn_limit) × (tally.new.turns.idle_limit ≡ tally.old.turns.idle_limit) }
 {
     let mut wire = wire;
     let Ok(frames) = wire.take_frames() else {
-        return Place::Ended(Outcome::NoMemory);
+        return ConnState::Ended(Outcome::NoMemory);
     };
     let Ok(own) = facts.copy(wire.alloc) else {
-        return Place::Ended(Outcome::NoMemory);
+        return ConnState::Ended(Outcome::NoMemory);
     };
     let text = ResponseText::new(wire.alloc, &own);
     let (end, app_end) = match runner.make(wire.alloc, Kind::WebSocket, facts, wire.limits.ring) {
-        Err(why) => return Place::Ended(without_ends(why)),
+        Err(why) => return ConnState::Ended(without_ends(why)),
         Ok(ends) => ends,
     };
     let side = call(wire.alloc, app, scope, app_end);
-    let mut half = SessionHalf::begin(wire, own, text, frames);
+    let mut half = WebSocketHalf::begin(wire, own, text, frames);
     let ended = runner.run(&mut half, line, pause, &mut tally.turns, end, side);
     tally.count(ended);
-    Place::Ended(outcome_of(half))
+    ConnState::Ended(outcome_of(half))
 }
 
 /// How a session that is over ends its connection.
-fn outcome_of(half: SessionHalf) -> Outcome
-    requires { (outcome : Outcome) × (half.stage ≡ Stage.Over (Following.ConnectionEnds outcome)) }
-    ensures { half.stage ≡ Stage.Over (Following.ConnectionEnds result) }
+fn outcome_of(half: WebSocketHalf) -> Outcome
+    requires { (outcome : Outcome) × (half.stage ≡ Stage.Over (NextStep.ConnectionEnds outcome)) }
+    ensures { half.stage ≡ Stage.Over (NextStep.ConnectionEnds result) }
 {
     match half.stage {
-        Stage::Over(Following::ConnectionEnds(outcome)) => outcome,
+        Stage::Over(NextStep::ConnectionEnds(outcome)) => outcome,
         _ => unreachable!(),
     }
 }

@@ -1,11 +1,11 @@
-//! What is counted of a connection.
+//! The counts of a connection.
 ghost use Rattle.std.specs.Prelude.{◌≡◌, ◌+◌, ◌≤◌, ◌^◌, Some};
 ghost use Rattle.asgi_conversation.specs.Exchanges.{fault_of};
 
 use asgi_io::Turns;
 use asgi_types::EndKind;
 
-/// What is counted of a connection.
+/// The counts of a connection.
 #[derive(Clone, Copy, Debug, PartialEq, Eq)]
 pub struct Tally {
     /// Exchanges that were run.
@@ -18,7 +18,7 @@ pub struct Tally {
 }
 
 impl Tally {
-    /// Counts an exchange whose task ended so.
+    /// Counts an exchange whose task ended with this kind.
     pub fn count(&mut self, kind: EndKind)
         requires { self.old.exchanges ≤ 2 ^ 48 }
         ensures exchanges { self.new.exchanges ≡ self.old.exchanges + 1 }

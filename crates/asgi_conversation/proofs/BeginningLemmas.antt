@@ -1,21 +1,23 @@
--- However a connection ends in an exchange, what is written there is a beginning of the text of the exchange.
+-- However a connection ends in an exchange, what is written there is a prefix of the text of the exchange.
 use Rattle.std.proofs.Common.{◌≡◌, ℕ, List, [], ◌∷◌, ◌++◌, take, drop, refl, sym, ap, ◌∙◌, append_assoc, subst, Option, take-append-drop}
 use mathlib.Core.List.{IsPrefix}
 use Rattle.asgi_types.specs.declared.end_kind.EndKind.{EndKind}
 use Rattle.asgi_types.specs.declared.outgoing.Outgoing.{Outgoing}
 use Rattle.asgi_request.specs.ChunkedBody.{BodyState}
 use Rattle.asgi_response.specs.Response.{response_text}
-use Rattle.asgi_exchange.specs.Http.{input_of}
-use Rattle.asgi_exchange.specs.HttpExchange.{text_of}
-use Rattle.asgi_exchange.proofs.ListLemmas.{prefix_trans, prefix_same, prefix_behind}
+use Rattle.asgi_exchange.specs.ExchangeTexts.{input_of}
+use Rattle.asgi_exchange.specs.ExchangeTexts.{text_of}
+use Rattle.asgi_exchange.proofs.ListLemmas.{prefix_trans, prefix_same, prefix_after}
 use Rattle.asgi_conversation.specs.declared.report.Outcome.{Outcome}
 use Rattle.asgi_conversation.specs.OutcomeClasses.{OutcomeClass, Uncut, ByWrite, GivenUp, Lacking, Unbegun, class_of}
 use Rattle.asgi_conversation.specs.declared.input.InputEnd.{InputEnd}
-use Rattle.asgi_conversation.specs.Exchanges.{Exchanged, out_text}
-use Rattle.asgi_conversation.specs.Persistence.{InHand, Beginning, Saying, Ending, StopsWithin, EndsWithin, EndsWithinAs}
+use Rattle.asgi_conversation.specs.Exchanges.{out_text}
+use Rattle.asgi_conversation.specs.ExchangeRecord.{ExchangeRecord}
+use Rattle.asgi_conversation.specs.Persistence.{InHand, StopsWithin, EndsWithin, EndsWithinAs}
+use Rattle.asgi_conversation.specs.ExchangeRecord.{Beginning, Saying, Ending}
 use Rattle.asgi_conversation.proofs.SoFarLemmas.{text_front, response_first}
 
-module _ (x : Exchanged) (state : BodyState) where
+module _ (x : ExchangeRecord) (state : BodyState) where
   -- the text of some of the events comes first
   events_first : (taken : List Outgoing) → IsPrefix taken x.said → IsPrefix (response_text x.facts taken) (out_text x (input_of state))
   events_first taken p =
@@ -37,9 +39,9 @@ module _ (x : Exchanged) (state : BodyState) where
 
   stopped_first : (n : ℕ) (written : List ℕ) → StopsWithin n x (input_of state) written → IsPrefix written (out_text x (input_of state))
   stopped_first n written s =
-      let part : IsPrefix (s.out ++ take n s.text) (s.out ++ s.text) = prefix_behind s.out (take n s.text) s.text (drop n s.text, take-append-drop n s.text) in
+      let part : IsPrefix (s.out ++ take n s.more) (s.out ++ s.more) = prefix_after s.out (take n s.more) s.more (drop n s.more, take-append-drop n s.more) in
       subst (λ (l : List ℕ). IsPrefix l (out_text x (input_of state))) (sym s.written_is)
-      (prefix_trans (s.out ++ take n s.text) (s.out ++ s.text) (out_text x (input_of state)) part (in_hand_first s.out s.text s.in_hand))
+      (prefix_trans (s.out ++ take n s.more) (s.out ++ s.more) (out_text x (input_of state)) part (in_hand_first s.out s.more s.is_next))
 
   pub written_first : (outcome : Outcome) (end : InputEnd) (text : List ℕ) → EndsWithin outcome end x state text → IsPrefix text (out_text x (input_of state))
   written_first outcome end text e = by (class_of outcome) e

@@ -1,4 +1,4 @@
--- The events of a body are parts, and then the last one where the body is whole: so a beginning of them is all, or has parts alone.
+-- The events of a body are parts, and then the last one if the body is whole: so a prefix of them is all, or has parts alone.
 use Rattle.std.proofs.Common.{◌≡◌, ℕ, Bool, true, false, List, [], ◌∷◌, ◌++◌, ◌⊎◌, inl, inr, map, refl, sym, ap, ◌∙◌, subst, append-nil, flat_map}
 use Rattle.std.specs.Prelude.{◌*◌, length, take, drop, nat_le, if◌then◌else◌}
 use mathlib.Core.List.{IsPrefix}
@@ -12,7 +12,7 @@ use Rattle.asgi_exchange.proofs.ListLemmas.{prefix_one_more}
 
 pub data Shape (events : List Incoming) (state : BodyState) : Type 0 where
   Parts : (parts : List (List ℕ)) → events ≡ map more_event parts → Shape events state
-  Whole : (parts : List (List ℕ)) (end behind : List ℕ) → events ≡ map more_event parts ++ last_event end ∷ [] → state ≡ complete behind → Shape events state
+  Whole : (parts : List (List ℕ)) (end after : List ℕ) → events ≡ map more_event parts ++ last_event end ∷ [] → state ≡ complete after → Shape events state
 
 length_shape : (block n : ℕ) (bytes : List ℕ) → Shape (length_events block n bytes) (length_state n bytes)
 length_shape block n bytes = by (nat_le n (length bytes))
@@ -25,7 +25,7 @@ length_shape block n bytes = by (nat_le n (length bytes))
 
 closing_shape : (parts : List (List ℕ)) (state : BodyState) → Shape (map more_event parts ++ closing_event state) state
 closing_shape parts partial = Parts parts (append-nil (map more_event parts))
-closing_shape parts (complete behind) = Whole parts [] behind refl refl
+closing_shape parts (complete after) = Whole parts [] after refl refl
 closing_shape parts (faulty why) = Parts parts (append-nil (map more_event parts))
 
 pub body_shape : (limits : Limits) (framing : Framing) (bytes : List ℕ) (events : List Incoming) (state : BodyState) → ReadsBody limits framing bytes events state → Shape events state
@@ -49,13 +49,13 @@ front_of_parts (x ∷ first) (p ∷ parts) rest e =
 
 pub front_or_all : (events first : List Incoming) (state : BodyState) → Shape events state → IsPrefix first events → AreParts first ⊎ (first ≡ events)
 front_or_all events first state (Parts parts e) p = inl (front_of_parts first parts p.0 (p.1 ∙ e))
-front_or_all events first state (Whole parts end behind e s) p = by (prefix_one_more first (map more_event parts) (last_event end) (subst (λ (l : List Incoming). IsPrefix first l) e p))
+front_or_all events first state (Whole parts end after e s) p = by (prefix_one_more first (map more_event parts) (last_event end) (subst (λ (l : List Incoming). IsPrefix first l) e p))
   where
     by : IsPrefix first (map more_event parts) ⊎ (first ≡ map more_event parts ++ last_event end ∷ []) → AreParts first ⊎ (first ≡ events)
     by (inl q) = inl (front_of_parts first parts q.0 q.1)
     by (inr q) = inr (q ∙ sym e)
 
 -- a body that is not whole has parts alone
-pub open_parts : (events : List Incoming) (state : BodyState) → Shape events state → ((behind : List ℕ) → state ≡ complete behind → ⊥) → AreParts events
+pub open_parts : (events : List Incoming) (state : BodyState) → Shape events state → ((after : List ℕ) → state ≡ complete after → ⊥) → AreParts events
 open_parts events state (Parts parts e) n = (parts, e)
-open_parts events state (Whole parts end behind e s) n = absurd (n behind s)
+open_parts events state (Whole parts end after e s) n = absurd (n after s)

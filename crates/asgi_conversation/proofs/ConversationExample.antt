@@ -1,4 +1,4 @@
--- Two requests, one behind the other, and an empty line are a conversation: the first waits for `100 Continue` and has a body,
+-- Two requests, one after another, and an empty line are a conversation: the first waits for `100 Continue` and has a body,
 -- the second has none, each is greeted, and the input ends.
 use Rattle.std.proofs.Common.{◌≡◌, ℕ, false, List, [], ◌∷◌, ◌++◌, inl, inr, refl, codes, Some, None}
 use Rattle.std.specs.Fmt.{digits}
@@ -18,10 +18,11 @@ use Rattle.asgi_request.proofs.TextLemmas.{tells, head_search_for}
 use Rattle.asgi_apps.specs.Answers.{hello_events}
 use Rattle.asgi_conversation.specs.declared.report.Outcome.TheVariants.{Finished}
 use Rattle.asgi_conversation.specs.declared.report.Report.{Report}
-use Rattle.asgi_conversation.specs.Behind.{NothingIsDue, IsBlank}
-use Rattle.asgi_conversation.specs.Exchanges.{Exchanged, ServesFirst, IsFollowed, answer_texts}
-use Rattle.asgi_conversation.specs.Persistence.{Converses}
-use Rattle.asgi_conversation.specs.declared.following.Following.TheVariants.{NextRequest}
+use Rattle.asgi_conversation.specs.After.{NothingIsDue, IsBlank}
+use Rattle.asgi_conversation.specs.Exchanges.{ServesFirst, IsFollowed, answer_texts}
+use Rattle.asgi_conversation.specs.ExchangeRecord.{ExchangeRecord}
+use Rattle.asgi_conversation.specs.Kinds.{Converses}
+use Rattle.asgi_conversation.specs.declared.following.NextStep.TheVariants.{NextRequest}
 use Rattle.asgi_conversation.specs.declared.input.InputEnd.TheVariants.{AtEnd}
 use Rattle.asgi_conversation.proofs.RequestLemmas.{nothing_due}
 
@@ -29,27 +30,27 @@ use Rattle.asgi_conversation.proofs.RequestLemmas.{nothing_due}
 empty_line : List ℕ
 empty_line = 13 ∷ 10 ∷ []
 
--- behind the body, and all
-behind_post : List ℕ
-behind_post = get_text ++ empty_line
+-- after the body, and all
+after_post : List ℕ
+after_post = get_text ++ empty_line
 
 read : List ℕ
-read = post_text ++ (codes "abc" ++ behind_post)
+read = post_text ++ (codes "abc" ++ after_post)
 
--- the first heard its body, and a disconnect behind the complete response
-posted : Exchanged
+-- the first received its body, and a disconnect after the complete response
+posted : ExchangeRecord
 posted = record {
   scope = post_scope;
   facts = post_facts;
   heard = last_event (codes "abc") ∷ HttpDisconnect ∷ [];
   said = hello_events;
   ended = Some Returned;
-  broke = false;
+  input_broke = false;
 }
 
--- the second heard nothing
-got : Exchanged
-got = record { scope = get_scope; facts = get_facts; heard = []; said = hello_events; ended = Some Returned; broke = false }
+-- the second received nothing
+got : ExchangeRecord
+got = record { scope = get_scope; facts = get_facts; heard = []; said = hello_events; ended = Some Returned; input_broke = false }
 
 -- RFC 9112, section 7.1: six bytes, and the last chunk
 greeting : List ℕ
@@ -81,20 +82,20 @@ greeting_is_closed = record {
   in_order = refl;
 }
 
-post_is_served : ServesFirst example_limits AtEnd false read posted (complete behind_post)
-unfolding read posted post_facts behind_post example_limits get_text empty_line
+post_is_served : ServesFirst example_limits AtEnd false read posted (complete after_post)
+unfolding read posted post_facts after_post example_limits get_text empty_line
 post_is_served = record {
-  arrived = codes "abc" ++ behind_post;
+  arrived = codes "abc" ++ after_post;
   events = last_event (codes "abc") ∷ [];
-  head = post_begins (codes "abc" ++ behind_post);
+  head = post_begins (codes "abc" ++ after_post);
   body = (refl, refl);
   hears = record { first = last_event (codes "abc") ∷ []; times = 1; in_order = refl; due = ([], refl); cause = inr (inl greeting_is_closed) };
   lawful = post_is_lawful;
   breaks = λ b. cc b;
 }
 
-get_is_served : ServesFirst example_limits AtEnd false behind_post got (complete empty_line)
-unfolding got get_facts behind_post example_limits empty_line
+get_is_served : ServesFirst example_limits AtEnd false after_post got (complete empty_line)
+unfolding got get_facts after_post example_limits empty_line
 get_is_served = record {
   arrived = empty_line;
   events = last_event [] ∷ [];
@@ -105,7 +106,7 @@ get_is_served = record {
   breaks = λ b. cc b;
 }
 
-post_is_followed : IsFollowed posted (complete behind_post) NextRequest
+post_is_followed : IsFollowed posted (complete after_post) NextRequest
 unfolding posted post_facts
 post_is_followed = (Returned, refl, refl)
 
@@ -131,8 +132,8 @@ two_requests_are_a_conversation = record {
   answered = posted ∷ got ∷ [];
   last = None;
   in_order = refl;
-  behind = empty_line;
-  each = (behind_post, post_is_served, post_is_followed, (empty_line, get_is_served, get_is_followed, refl));
+  after = empty_line;
+  each = (after_post, post_is_served, post_is_followed, (empty_line, get_is_served, get_is_followed, refl));
   text = [];
   ends = (refl, nothing_more, refl, blank);
   written_is = texts;

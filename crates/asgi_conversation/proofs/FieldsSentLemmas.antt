@@ -1,4 +1,4 @@
--- What the fields that were sent say of the content: that it is chunked, that the connection closes, and its length.
+-- What the fields that were sent mean for the content: that it is chunked, that the connection closes, and its length.
 use Rattle.std.proofs.Common.{◌≡◌, ℕ, Bool, true, false, List, [], ◌∷◌, ◌++◌, refl, sym, ap, ◌∙◌, append-nil, append_assoc}
 use Rattle.std.proofs.lemmas.Slice.Eq.{bytes_eq-Decides}
 use Rattle.std.proofs.lemmas.List.Folds.{list_any-append}

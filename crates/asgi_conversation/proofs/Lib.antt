@@ -17,8 +17,11 @@ pub mod TakenLemmas
 pub mod LoopLemmas
 pub mod TaskEndLemmas
 pub mod ConversationExample
+pub mod NextLemmas
 pub mod BeginningLemmas
 pub mod SessionExample
 pub mod SessionEchoLemmas
 pub mod SessionEchoExample
 pub mod SessionAnswerLemmas
+pub mod ConversationLemmas
+pub mod OneKindLemmas

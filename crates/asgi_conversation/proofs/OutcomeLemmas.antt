@@ -1,10 +1,10 @@
--- What the class of an outcome tells of it: no other proof lists all outcomes.
+-- What the class of an outcome shows about it: no other proof lists all outcomes.
 use Rattle.std.proofs.Common.{◌≡◌, ℕ, true, false, List, refl}
 use Rattle.asgi_conversation.specs.declared.report.Outcome.{Outcome}
 use Rattle.asgi_conversation.specs.declared.report.Outcome.TheVariants.{Finished, Refused, InputBroke, WriteFailed, Idle, NoMemory, NoThread}
 use Rattle.asgi_request.specs.ChunkedBody.{BodyState}
 use Rattle.asgi_conversation.specs.declared.input.InputEnd.{InputEnd}
-use Rattle.asgi_conversation.specs.Exchanges.{Exchanged}
+use Rattle.asgi_conversation.specs.ExchangeRecord.{ExchangeRecord}
 use Rattle.asgi_conversation.specs.Persistence.{IsDone, EndsWithin, EndsWithinAs}
 use Rattle.asgi_conversation.specs.OutcomeClasses.{OutcomeClass, Uncut, ByWrite, GivenUp, Lacking, Unbegun, class_of, is_cut, is_cut_class, cuts_exchange, cuts_exchange_class}
 
@@ -43,7 +43,7 @@ pub cut_short : (o : Outcome) → cuts_exchange o ≡ true → is_cut o ≡ true
 cut_short o c = cut_class (class_of o) c
 
 -- an exchange in which nothing was cut short is done
-pub is_done : (o : Outcome) (end : InputEnd) (x : Exchanged) (state : BodyState) (text : List ℕ) → is_cut o ≡ false → EndsWithin o end x state text → IsDone o x state text
+pub is_done : (o : Outcome) (end : InputEnd) (x : ExchangeRecord) (state : BodyState) (text : List ℕ) → is_cut o ≡ false → EndsWithin o end x state text → IsDone o x state text
 is_done o end x state text c e = by (class_of o) c e
   where
     by : (k : OutcomeClass) → is_cut_class k ≡ false → EndsWithinAs k o end x state text → IsDone o x state text

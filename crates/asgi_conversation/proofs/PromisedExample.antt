@@ -26,12 +26,14 @@ use Rattle.asgi_apps.specs.Answers.{start_of}
 use Rattle.asgi_apps.specs.Echo.{echo_events}
 use Rattle.asgi_conversation.specs.declared.report.Outcome.TheVariants.{Finished}
 use Rattle.asgi_conversation.specs.declared.report.Report.{Report}
-use Rattle.asgi_conversation.specs.Behind.{NothingIsDue, IsBlank}
-use Rattle.asgi_conversation.specs.Exchanges.{Exchanged, ServesFirst, IsFollowed, answer_texts}
-use Rattle.asgi_conversation.specs.Persistence.{Converses}
-use Rattle.asgi_conversation.specs.Promised.{IsPromised, ConversesWith, echo_promise}
+use Rattle.asgi_conversation.specs.After.{NothingIsDue, IsBlank}
+use Rattle.asgi_conversation.specs.Exchanges.{ServesFirst, IsFollowed, answer_texts}
+use Rattle.asgi_conversation.specs.ExchangeRecord.{ExchangeRecord}
+use Rattle.asgi_conversation.specs.Kinds.{Converses}
+use Rattle.asgi_conversation.specs.Promised.{IsPromised}
+use Rattle.asgi_conversation.specs.PromisedWhole.{ConversesWith, echo_promise}
 use Rattle.asgi_conversation.specs.ReadResponses.{CanBeSent, AllCanBeSent}
-use Rattle.asgi_conversation.specs.declared.following.Following.TheVariants.{NextRequest}
+use Rattle.asgi_conversation.specs.declared.following.NextStep.TheVariants.{NextRequest}
 use Rattle.asgi_conversation.specs.declared.input.InputEnd.TheVariants.{AtEnd}
 use Rattle.asgi_conversation.proofs.RequestLemmas.{nothing_due}
 
@@ -42,14 +44,14 @@ line_end = 13 ∷ 10 ∷ []
 read : List ℕ
 read = post_text ++ (codes "abc" ++ [])
 
-posted : Exchanged
+posted : ExchangeRecord
 posted = record {
   scope = post_scope;
   facts = post_facts;
   heard = last_event (codes "abc") ∷ [];
   said = echo_events (last_event (codes "abc") ∷ []);
   ended = Some Returned;
-  broke = false;
+  input_broke = false;
 }
 
 -- RFC 9112, section 7.1: three bytes, and the last chunk
@@ -99,7 +101,7 @@ is_a_conversation = record {
   answered = posted ∷ [];
   last = None;
   in_order = refl;
-  behind = [];
+  after = [];
   each = ([], is_served, is_followed, refl);
   text = [];
   ends = (refl, nothing_more, refl, blank);
@@ -113,7 +115,7 @@ is_promised =
     subst (λ (s : Scope). echo_promise (scope_with s None None []) (last_event (codes "abc") ∷ []) (echo_events (last_event (codes "abc") ∷ [])) (Some Returned)) (sym (http_scope example_limits _ post_scope post_facts [] (post_begins [])))
     (refl, λ e. record { before = []; last = last_event (codes "abc"); in_order = refl; ends = refl })
 
--- the premises of the laws hold of it
+-- the premises of the laws hold for it
 a_body_is_echoed : ConversesWith echo_promise example_limits AtEnd read (posted ∷ []) written reported
 unfolding reported
 a_body_is_echoed = record {
@@ -136,6 +138,6 @@ fields_sendable = All-cons IsSendable _ [] (own_sendable (codes "content-type") 
 it_can_be_sent : AllCanBeSent (posted ∷ [])
 unfolding posted octets
 it_can_be_sent =
-    All-cons (λ (x : Exchanged). All CanBeSent x.said) posted []
+    All-cons (λ (x : ExchangeRecord). All CanBeSent x.said) posted []
     (All-cons CanBeSent octets (ResponseBody (codes "abc") false ∷ []) fields_sendable (All-cons CanBeSent (ResponseBody (codes "abc") false) [] (omega arith) (All-nil CanBeSent)))
-    (All-nil (λ (x : Exchanged). All CanBeSent x.said))
+    (All-nil (λ (x : ExchangeRecord). All CanBeSent x.said))

@@ -1,4 +1,4 @@
--- A complete response is read back, whatever stands behind it.
+-- A complete response is read back, whatever comes after it.
 use Rattle.std.proofs.Common.{◌≡◌, ℕ, Bool, true, false, List, [], ◌∷◌, ◌++◌, length, map, flat_map, refl, sym, ap, ◌∙◌, subst, append_assoc, append-nil, arith, All, Option, Some, None}
 use Rattle.std.proofs.lemmas.List.Elements.{All-nil, All-cons, All-head, All-tail}
 use Rattle.std.specs.Prelude.{◌&&◌, ◌||◌, not, codes}
@@ -32,11 +32,11 @@ use Rattle.asgi_response.proofs.LawfulLemmas.{lawful_is_accepted}
 use Rattle.asgi_response.proofs.ReadBackBodyLemmas.{response_is_read_back}
 use Rattle.asgi_response.proofs.ReadBackLemmas.{all_pass, fields_are_read_back, head_is_read_back}
 use Rattle.asgi_response.proofs.StartLemmas.{final_status}
-use Rattle.asgi_conversation.specs.Exchanges.{Exchanged}
+use Rattle.asgi_conversation.specs.ExchangeRecord.{ExchangeRecord}
 use Rattle.asgi_conversation.specs.ReadResponses.{ReadsChunked, IsDelimited, ReadsContent, ReadsContinue, ReadsAnswer, CanBeSent, says_close}
 use Rattle.asgi_conversation.proofs.FieldsSentLemmas.{chunked_said, close_said, length_said}
 
--- ---- more bytes behind what is read
+-- ---- more bytes after what is read
 
 read_as_more : (bytes more : List ℕ) (status : ℕ) (fields : List HeaderField) (rest : List ℕ) → IsReadAs bytes status fields rest → IsReadAs (bytes ++ more) status fields (rest ++ more)
 read_as_more bytes more status fields rest a =
@@ -46,7 +46,7 @@ read_as_more bytes more status fields rest a =
       reads = reads;
       code = a.code;
       named = a.named;
-      only = λ other behind found. response_unique (bytes ++ more) other a.head behind (rest ++ more) found reads;
+      only = λ other after found. response_unique (bytes ++ more) other a.head after (rest ++ more) found reads;
     }
 
 chunked_more : (bytes sent more : List ℕ) → IsChunked bytes sent → ReadsChunked (bytes ++ more) sent more
@@ -56,12 +56,12 @@ chunked_more bytes sent more c =
       chunks = c.chunks;
       reads = (c.well_formed, text);
       carried = c.carried;
-      only = λ limit other behind found.
+      only = λ limit other after found.
           let ours : ReadsChunks limit (bytes ++ more) c.chunks (crlf_bytes ++ more) = (
             record { full = c.well_formed.full; last = c.well_formed.last; ends = c.well_formed.ends; within_limit = omega (arith, c.well_formed.within_limit) },
             text,
           ) in
-          let same = sym (run_chunks limit (bytes ++ more) other behind found) ∙ run_chunks limit (bytes ++ more) c.chunks (crlf_bytes ++ more) ours in
+          let same = sym (run_chunks limit (bytes ++ more) other after found) ∙ run_chunks limit (bytes ++ more) c.chunks (crlf_bytes ++ more) ours in
           (ap (λ (r : Run). r.body) same ∙ c.carried, ap (λ (r : Run). r.rest) same);
     }
 
@@ -135,7 +135,7 @@ bodies_sized (p ∷ parts) last h =
 
 -- ---- a complete response
 
-module _ (x : Exchanged) (r : IsResponse x.said) (lawful : IsLawful Http x.facts x.said) (sent : All CanBeSent x.said)
+module _ (x : ExchangeRecord) (r : IsResponse x.said) (lawful : IsLawful Http x.facts x.said) (sent : All CanBeSent x.said)
     (keeps : x.facts.close ≡ false → is_v11 x.facts.version ≡ true) (more : List ℕ) (ends : closes x.facts.close r.headers ≡ true → more ≡ []) where
   bodies : List Outgoing
   bodies = map (λ (part : List ℕ). ResponseBody part true) r.parts ++ ResponseBody r.last false ∷ []
@@ -176,7 +176,7 @@ module _ (x : Exchanged) (r : IsResponse x.said) (lawful : IsLawful Http x.facts
       let nothing = none closed in
       (closed, ap (λ (l : List ℕ). body ++ l) nothing ∙ append-nil body ∙ c, nothing)
 
-  -- the recipient is told so by the fields
+  -- the recipient learns that by the fields
   fields : List HeaderField
   fields = fields_sent (is_chunked x.facts.version r.status r.headers) (closes x.facts.close r.headers) r.status r.headers
 
@@ -214,7 +214,7 @@ module _ (x : Exchanged) (r : IsResponse x.said) (lawful : IsLawful Http x.facts
         fields_are = refl;
         final = message ++ more;
         interim = first;
-        behind = back.body ++ more;
+        after = back.body ++ more;
         head = read_as_more message more r.status fields back.body back.head;
         body = told (back.body ++ more) has
             (carried (is_chunked x.facts.version r.status r.headers) (closes x.facts.close r.headers) (given_length (content_length r.headers)) back.body back.carries
@@ -238,7 +238,7 @@ module _ (x : Exchanged) (r : IsResponse x.said) (lawful : IsLawful Http x.facts
         fields_are = refl;
         final = message ++ more;
         interim = first;
-        behind = more;
+        after = more;
         head = subst (λ (l : List ℕ). IsReadAs (l ++ more) r.status fields more) (sym (bare none))
             (head_is_read_back r.headers fields_sendable (is_chunked x.facts.version r.status r.headers) (closes x.facts.close r.headers) r.status more range.0 range.1);
         body = subst (λ (b : Bool). ReadsContent b fields more (concat (r.parts ++ r.last ∷ [])) more) (sym none) refl;

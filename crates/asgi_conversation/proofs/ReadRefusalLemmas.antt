@@ -16,7 +16,7 @@ use Rattle.asgi_conversation.specs.ReadResponses.{refusal_fields}
 
 -- ---- its fields can be sent
 
--- a field in front of others
+-- a field before others
 in_front : (name value : List ℕ) (fields : List HeaderField) → IsSendable (field_of name value) → All IsSendable fields → All IsSendable (field_of name value ∷ fields)
 in_front name value fields h rest = All-cons IsSendable (field_of name value) fields h rest
 

@@ -1,4 +1,4 @@
--- Of one exchange whose task returned: the bytes say what it says and what follows, and more bytes take its text further.
+-- One exchange whose task returned: the bytes determine what it sends and what comes next, and more bytes take its text further.
 use Rattle.std.proofs.Common.{◌≡◌, ℕ, false, List, ◌++◌, sym, ap, ◌∙◌, subst, append-nil, Option, Some}
 use mathlib.Core.List.{IsPrefix}
 use Rattle.asgi_types.specs.declared.end_kind.EndKind.{EndKind}
@@ -21,17 +21,18 @@ use Rattle.asgi_response.specs.declared.refusal.Input.TheVariants as input
 use Rattle.asgi_response.specs.Exchange.{added_by_end, exchange_text}
 use Rattle.asgi_response.specs.Response.{response_text}
 use Rattle.asgi_response.proofs.EndLemmas.{added_text_only_grows}
-use Rattle.asgi_exchange.specs.Http.{input_of}
-use Rattle.asgi_exchange.specs.HttpExchange.{text_of}
+use Rattle.asgi_exchange.specs.ExchangeTexts.{input_of}
+use Rattle.asgi_exchange.specs.ExchangeTexts.{text_of}
 use Rattle.asgi_exchange.proofs.ListLemmas.{prefix_trans, prefix_same, prefix_front}
 use Rattle.asgi_conversation.specs.declared.input.InputEnd.{InputEnd}
-use Rattle.asgi_conversation.specs.Exchanges.{Exchanged, ServesFirst, out_text}
+use Rattle.asgi_conversation.specs.Exchanges.{ServesFirst, out_text}
+use Rattle.asgi_conversation.specs.ExchangeRecord.{ExchangeRecord}
 use Rattle.asgi_conversation.specs.Promised.{IsPromised}
 use Rattle.asgi_conversation.proofs.SoFarLemmas.{text_front}
 use Rattle.asgi_conversation.proofs.ToldLemmas.{next_for, Told, SaysOf}
 
--- the bytes begin with its request, and it said what the events of the body ask for
-pub record Served (say : List Incoming → List Outgoing) (limits : Limits) (bytes : List ℕ) (x : Exchanged) (state : BodyState) : Type 0 where
+-- the bytes begin with its request, and the task sent what the events of the body ask for
+pub record Served (say : List Incoming → List Outgoing) (limits : Limits) (bytes : List ℕ) (x : ExchangeRecord) (state : BodyState) : Type 0 where
   pub arrived : List ℕ
   pub events : List Incoming
   pub head : BeginsWith limits bytes x.scope x.facts arrived
@@ -40,7 +41,7 @@ pub record Served (say : List Incoming → List Outgoing) (limits : Limits) (byt
   pub told : Told x (say events) state
 
 pub served : (answers : Scope → List Incoming → List Outgoing → Option EndKind → Type 0) (say : List Incoming → List Outgoing) → SaysOf answers say
-    → (limits : Limits) (end : InputEnd) (bytes : List ℕ) (x : Exchanged) (state : BodyState) (client server : Option Peer) (values : List (List ℕ × StateValue))
+    → (limits : Limits) (end : InputEnd) (bytes : List ℕ) (x : ExchangeRecord) (state : BodyState) (client server : Option Peer) (values : List (List ℕ × StateValue))
     → ServesFirst limits end false bytes x state → x.ended ≡ Some Returned → IsPromised answers client server values x → Served say limits bytes x state
 served answers say law limits end bytes x state client server values s r p = record {
   arrived = s.arrived;
@@ -52,18 +53,18 @@ served answers say law limits end bytes x state client server values s r p = rec
 }
 
 -- its text
-told_text : (x : Exchanged) (said : List Outgoing) (state : BodyState) (input : Input) → x.ended ≡ Some Returned → Told x said state → out_text x input ≡ exchange_text x.facts said Returned input
+told_text : (x : ExchangeRecord) (said : List Outgoing) (state : BodyState) (input : Input) → x.ended ≡ Some Returned → Told x said state → out_text x input ≡ exchange_text x.facts said Returned input
 told_text x said state input r t =
     ap (λ (o : Option EndKind). text_of x.facts x.said o input) r ∙ ap (λ (l : List Outgoing). exchange_text x.facts l Returned input) t.said_is
 
 -- ---- the same bytes
 
-pub record AreSame (say : List Incoming → List Outgoing) (x y : Exchanged) (events others : List Incoming) (state other : BodyState) : Type 0 where
+pub record AreSame (say : List Incoming → List Outgoing) (x y : ExchangeRecord) (events others : List Incoming) (state other : BodyState) : Type 0 where
   pub states : state ≡ other
   pub text : out_text x (input_of state) ≡ out_text y (input_of other)
   pub next : next_for x.facts (say events) state ≡ next_for y.facts (say others) other
 
-pub same_served : (say : List Incoming → List Outgoing) (limits : Limits) (bytes : List ℕ) (x y : Exchanged) (state other : BodyState)
+pub same_served : (say : List Incoming → List Outgoing) (limits : Limits) (bytes : List ℕ) (x y : ExchangeRecord) (state other : BodyState)
     → (s : Served say limits bytes x state) (t : Served say limits bytes y other) → AreSame say x y s.events t.events state other
 same_served say limits bytes x y state other s t =
     let heads = begins_is_one limits bytes x.scope y.scope x.facts y.facts s.arrived t.arrived s.head t.head in
@@ -86,12 +87,12 @@ same_served say limits bytes x y state other s t =
 -- ---- more bytes
 
 -- what the request of more bytes has in common with that of fewer
-pub record GoesOn (say : List Incoming → List Outgoing) (more : List ℕ) (x y : Exchanged) (events others : List Incoming) (state other : BodyState) : Type 0 where
+pub record GoesOn (say : List Incoming → List Outgoing) (more : List ℕ) (x y : ExchangeRecord) (events others : List Incoming) (state other : BodyState) : Type 0 where
   pub facts : x.facts ≡ y.facts
   pub first : IsPrefix events others
   pub stays : StaysAs state more events others other
 
-goes_on : (say : List Incoming → List Outgoing) (limits : Limits) (bytes more : List ℕ) (x y : Exchanged) (state other : BodyState)
+goes_on : (say : List Incoming → List Outgoing) (limits : Limits) (bytes more : List ℕ) (x y : ExchangeRecord) (state other : BodyState)
     → (s : Served say limits bytes x state) (t : Served say limits (bytes ++ more) y other) → GoesOn say more x y s.events t.events state other
 goes_on say limits bytes more x y state other s t =
     let heads = begins_is_one limits (bytes ++ more) x.scope y.scope x.facts y.facts (s.arrived ++ more) t.arrived (begins_grows limits bytes more x.scope x.facts s.arrived s.head) t.head in
@@ -101,7 +102,7 @@ goes_on say limits bytes more x y state other s t =
     (subst (λ (l : List ℕ). ReadsBody limits x.facts.framing l t.events other) (sym heads.2) body) in
     record { facts = facts; first = grown.first; stays = grown.stays }
 
-module _ (say : List Incoming → List Outgoing) (limits : Limits) (bytes more : List ℕ) (x y : Exchanged) where
+module _ (say : List Incoming → List Outgoing) (limits : Limits) (bytes more : List ℕ) (x y : ExchangeRecord) where
   same_text : (state : BodyState) (other : BodyState) (s : Served say limits bytes x state) (t : Served say limits (bytes ++ more) y other) (i : Input)
       → x.facts ≡ y.facts → t.events ≡ s.events → out_text x i ≡ out_text y i
   same_text state other s t i facts events =
@@ -110,7 +111,7 @@ module _ (say : List Incoming → List Outgoing) (limits : Limits) (bytes more :
       ∙ ap (λ (l : List Incoming). exchange_text y.facts (say l) Returned i) (sym events)
       ∙ sym (told_text y (say t.events) other i t.ended t.told)
 
-  -- a request that is whole stays so, with its text and what follows
+  -- a request that is whole stays so, with its text and what comes next
   pub whole_stays : (rest : List ℕ) (other : BodyState) (s : Served say limits bytes x (complete rest)) (t : Served say limits (bytes ++ more) y other)
       → (other ≡ complete (rest ++ more)) × (out_text x input.Whole ≡ out_text y input.Whole)
       × (next_for x.facts (say s.events) (complete rest) ≡ next_for y.facts (say t.events) (complete rest))
@@ -122,7 +123,7 @@ module _ (say : List Incoming → List Outgoing) (limits : Limits) (bytes more :
             ∙ ap (λ (l : List Incoming). next_for y.facts (say l) (complete rest)) (sym g.stays.0),
       )
 
-  -- the text of a request, as far as it has come, is a beginning of that of more of it
+  -- the text of a request, as far as it has come, is a prefix of that of more of it
   pub text_goes_on : ((events others : List Incoming) → IsPrefix events others → IsPrefix (say events) (say others)) → (state other : BodyState)
       → Served say limits bytes x state → Served say limits (bytes ++ more) y other → IsPrefix (out_text x (input_of state)) (out_text y (input_of other))
   text_goes_on grows (complete rest) other s t =
@@ -146,10 +147,10 @@ module _ (say : List Incoming → List Outgoing) (limits : Limits) (bytes more :
       let Q : List ℕ → Type 0 = λ l. IsPrefix (response_text y.facts (say s.events)) l in
       subst P (sym here) (subst Q (sym (told_text y (say t.events) other (input_of other) t.ended t.told)) there)
 
--- ---- the events of its body, whatever is told of them
+-- ---- the events of its body, whatever else is known of them
 
 pub said_of_body : (answers : Scope → List Incoming → List Outgoing → Option EndKind → Type 0) (say : List Incoming → List Outgoing) → SaysOf answers say
-    → (limits : Limits) (end : InputEnd) (bytes : List ℕ) (x : Exchanged) (state : BodyState) (client server : Option Peer) (values : List (List ℕ × StateValue))
+    → (limits : Limits) (end : InputEnd) (bytes : List ℕ) (x : ExchangeRecord) (state : BodyState) (client server : Option Peer) (values : List (List ℕ × StateValue))
     (arrived : List ℕ) (events : List Incoming)
     → ServesFirst limits end false bytes x state → IsPromised answers client server values x → x.ended ≡ Some Returned
     → BeginsWith limits bytes x.scope x.facts arrived → ReadsBody limits x.facts.framing arrived events state → x.said ≡ say events

@@ -9,60 +9,63 @@ use Rattle.asgi_types.specs.declared.outgoing.Outgoing.TheVariants.{WsAccept, Ws
 use Rattle.asgi_request.specs.Key.{base64}
 use Rattle.base64.specs.Rfc4648.{encode_symbols}
 use Rattle.sha1.specs.Sha1.{digest_bytes, sha1}
-use Rattle.asgi_ws.specs.declared.messages.Handed.TheVariants.{Payload}
+use Rattle.asgi_ws.specs.declared.messages.SentMessage.TheVariants.{Payload}
 use Rattle.asgi_ws.specs.declared.messages.Msg.{Msg}
 use Rattle.asgi_ws.specs.declared.messages.Msg.TheVariants.{Text, Ping, Close}
 use Rattle.asgi_exchange.specs.Session.{Byte, Message}
-use Rattle.asgi_conversation.specs.declared.input.InputEnd.TheVariants.{OpenStill}
+use Rattle.asgi_conversation.specs.declared.input.InputEnd.TheVariants.{Open}
 use Rattle.asgi_conversation.specs.declared.report.Outcome.TheVariants.{Finished}
 use Rattle.asgi_conversation.specs.declared.report.Report.{Report}
-use Rattle.asgi_conversation.specs.Exchanges.{Exchanged}
-use Rattle.asgi_conversation.specs.Promised.{IsPromised, ConversesInSessionWith, ws_echo_promise}
+use Rattle.asgi_conversation.specs.ExchangeRecord.{ExchangeRecord}
+use Rattle.asgi_conversation.specs.Promised.{IsPromised}
+use Rattle.asgi_conversation.specs.PromisedWhole.{ConversesInSessionWith, ConversationWith, ws_echo_promise}
 use Rattle.asgi_conversation.specs.SessionEcho.{payloads_in}
-use Rattle.asgi_conversation.specs.Sessions.{Talk, Accepted, ByClient, ServesHandshake, ConversesInSession, spoken, session_out}
+use Rattle.asgi_conversation.specs.Sessions.{SessionTraffic, Accepted, ByClient, ServesHandshake, spoken, session_out}
+use Rattle.asgi_conversation.specs.Kinds.{ConversesInSession}
+use Rattle.asgi_conversation.proofs.ConversationLemmas.{in_session}
 use Rattle.asgi_conversation.proofs.SessionExample.{limits, asked_text, facts, scope, asked_begins, hello, frame, accepted_text, said_is_lawful, text_is}
 
 messages : List Msg
 messages = Text hello ∷ Close (Some (1000, [])) ∷ []
 
--- the one payload is to be handed over, and nothing behind the close
+-- the one payload is to be handed over, and nothing after the close
 one_is_due : payloads_in messages ≡ Payload (payload.Text hello) ∷ []
 unfolding messages
 one_is_due = refl
 
-none_behind_a_close : payloads_in (Ping ∷ Close None ∷ Text hello ∷ []) ≡ []
-none_behind_a_close = refl
+none_after_a_close : payloads_in (Ping ∷ Close None ∷ Text hello ∷ []) ≡ []
+none_after_a_close = refl
 
--- section 7.1.6: the masked close behind the masked text
+-- section 7.1.6: the masked close after the masked text
 frames : List ℕ
 frames = frame ++ 136 ∷ 130 ∷ 55 ∷ 250 ∷ 33 ∷ 61 ∷ 52 ∷ 18 ∷ []
 
-closed : Exchanged
+closed : ExchangeRecord
 closed = record {
   scope = scope;
   facts = facts;
   heard = WsConnect ∷ WsReceive (payload.Text hello) ∷ WsDisconnect 1000 [] ∷ [];
   said = WsAccept None [] ∷ WsSend (payload.Text hello) ∷ [];
   ended = Some Returned;
-  broke = true;
+  input_broke = true;
 }
 
-talk : Talk
-talk = record { leftover = Some frames; received = messages; is_over = true; handed = Payload (payload.Text hello) ∷ [] }
+traffic : SessionTraffic
+traffic = record { leftover = Some frames; received = messages; is_over = true; handed = Payload (payload.Text hello) ∷ [] }
 
 reported : Report
 reported = record { exchanges = 1; faults = 0; turns = 5; idle = 0; outcome = Finished }
 
-is_served : ServesHandshake limits false (asked_text ++ frames) closed talk accepted_text
-unfolding closed talk messages
+is_served : ServesHandshake limits false (asked_text ++ frames) closed traffic accepted_text
+unfolding closed traffic messages
 is_served = record {
   frames = frames;
   head = asked_begins frames;
   opens = Accepted None [] (WsSend (payload.Text hello) ∷ []) refl text_is refl;
+  disconnect = WsDisconnect 1000 [];
   hears = record {
     first = WsConnect ∷ WsReceive (payload.Text hello) ∷ [];
     times = 1;
-    disconnect = WsDisconnect 1000 [];
     in_order = refl;
     due = ([], refl);
     cause = inr (ByClient refl refl refl);
@@ -71,21 +74,21 @@ is_served = record {
   breaks = λ b. inl refl;
 }
 
-all_is_written : spoken accepted_text talk ≡ session_out closed
-unfolding closed talk hello facts digits base64 encode_symbols sha1 digest_bytes
+all_is_written : spoken accepted_text traffic ≡ session_out closed
+unfolding closed traffic hello facts digits base64 encode_symbols sha1 digest_bytes
 all_is_written = ap (λ text. map Byte text ++ Message (Payload (payload.Text hello)) ∷ []) text_is
 
-it_is_a_session : ConversesInSession limits OpenStill (asked_text ++ frames) (closed ∷ []) talk accepted_text reported
-unfolding reported closed talk messages
+it_is_a_session : ConversesInSession limits Open (asked_text ++ frames) (closed ∷ []) traffic accepted_text reported
+unfolding reported closed traffic messages
 it_is_a_session = record {
   answered = [];
   session = closed;
   in_order = refl;
-  behind = asked_text ++ frames;
+  after = asked_text ++ frames;
   each = refl;
   text = accepted_text;
   serves = is_served;
-  ends = ((Returned, refl, refl, all_is_written), λ broke. absurd (cc (broke)));
+  ends = ((Returned, refl, refl, all_is_written), λ input_broke. absurd (cc (input_broke)));
   written_is = refl;
   counts = record { exchanges_are = refl; faults_are = refl };
 }
@@ -98,12 +101,24 @@ is_promised = (
 )
 
 -- the premises of the laws hold of it
-a_message_is_sent_back : ConversesInSessionWith ws_echo_promise limits OpenStill (asked_text ++ frames) (closed ∷ []) talk accepted_text reported
+a_message_is_sent_back : ConversesInSessionWith ws_echo_promise limits Open (asked_text ++ frames) (closed ∷ []) traffic accepted_text reported
 unfolding reported
 a_message_is_sent_back = record {
   converses = it_is_a_session;
   uncut = refl;
   no_faults = refl;
+  client = None;
+  server = None;
+  state = [];
+  promised = All-cons (IsPromised ws_echo_promise None None []) closed [] is_promised (All-nil (IsPromised ws_echo_promise None None []));
+}
+
+-- and so do those of the laws of any conversation
+it_is_a_conversation : ConversationWith ws_echo_promise limits Open (asked_text ++ frames) (closed ∷ []) traffic accepted_text reported
+it_is_a_conversation = record {
+  converses = in_session limits Open (asked_text ++ frames) (closed ∷ []) traffic accepted_text reported it_is_a_session;
+  uncut = a_message_is_sent_back.uncut;
+  no_faults = a_message_is_sent_back.no_faults;
   client = None;
   server = None;
   state = [];

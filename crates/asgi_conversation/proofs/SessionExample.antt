@@ -39,13 +39,14 @@ use Rattle.asgi_request.proofs.HeadExamples.{example_limits}
 use Rattle.asgi_request.proofs.TextLemmas.{tells, head_search_for}
 use Rattle.asgi_ws.specs.declared.messages.Msg.TheVariants.{Text}
 use Rattle.asgi_ws.specs.declared.messages.Msg.TheVariants as messages
-use Rattle.asgi_ws.specs.declared.messages.Handed.TheVariants.{Payload, Close}
+use Rattle.asgi_ws.specs.declared.messages.SentMessage.TheVariants.{Payload, Close}
 use Rattle.asgi_exchange.specs.Session.{Output, Byte, Message}
-use Rattle.asgi_conversation.specs.declared.input.InputEnd.TheVariants.{OpenStill}
+use Rattle.asgi_conversation.specs.declared.input.InputEnd.TheVariants.{Open}
 use Rattle.asgi_conversation.specs.declared.report.Outcome.TheVariants.{Finished, Refused, InputBroke}
 use Rattle.asgi_conversation.specs.declared.report.Report.{Report}
-use Rattle.asgi_conversation.specs.Exchanges.{Exchanged}
-use Rattle.asgi_conversation.specs.Sessions.{Talk, Accepted, ByClient, ServesHandshake, ConversesInSession, handshake_of, spoken, session_out, after_session}
+use Rattle.asgi_conversation.specs.ExchangeRecord.{ExchangeRecord}
+use Rattle.asgi_conversation.specs.Sessions.{SessionTraffic, Accepted, ByClient, ServesHandshake, handshake_of, spoken, session_out, after_session}
+use Rattle.asgi_conversation.specs.Kinds.{ConversesInSession}
 
 -- room for five fields
 pub limits : Limits
@@ -146,15 +147,15 @@ asked_begins frames = record {
 unfoldable pub hello : List ℕ
 hello = codes "Hello"
 
--- the application accepted it, sent the message back, and returned where it heard that the client was gone
-echoed : Exchanged
+-- the application accepted it, sent the message back, and returned once it received that the client was gone
+echoed : ExchangeRecord
 echoed = record {
   scope = scope;
   facts = facts;
   heard = WsConnect ∷ WsReceive (payload.Text hello) ∷ WsDisconnect 1006 [] ∷ [];
   said = WsAccept None [] ∷ WsSend (payload.Text hello) ∷ [];
   ended = Some Returned;
-  broke = true;
+  input_broke = true;
 }
 
 -- section 5.7: a masked text
@@ -162,8 +163,8 @@ pub frame : List ℕ
 frame = 129 ∷ 133 ∷ 55 ∷ 250 ∷ 33 ∷ 61 ∷ 127 ∷ 159 ∷ 77 ∷ 81 ∷ 88 ∷ []
 
 -- the line was given the frame, gave the message, and took it back
-talk : Talk
-talk = record { leftover = Some frame; received = Text hello ∷ []; is_over = true; handed = Payload (payload.Text hello) ∷ [] }
+traffic : SessionTraffic
+traffic = record { leftover = Some frame; received = Text hello ∷ []; is_over = true; handed = Payload (payload.Text hello) ∷ [] }
 
 -- section 1.3
 pub accepted_text : List ℕ
@@ -182,16 +183,16 @@ pub text_is : accepted_text ≡ handshake_of facts None []
 unfolding facts key accepted_text digits base64 encode_symbols first_words schedule rounds compress hash_after digest_bytes sha1
 text_is = refl
 
-is_served : ServesHandshake limits false (asked_text ++ frame) echoed talk accepted_text
-unfolding echoed talk hello
+is_served : ServesHandshake limits false (asked_text ++ frame) echoed traffic accepted_text
+unfolding echoed traffic hello
 is_served = record {
   frames = frame;
   head = asked_begins frame;
   opens = Accepted None [] (WsSend (payload.Text hello) ∷ []) refl text_is refl;
+  disconnect = WsDisconnect 1006 [];
   hears = record {
     first = WsConnect ∷ WsReceive (payload.Text hello) ∷ [];
     times = 1;
-    disconnect = WsDisconnect 1006 [];
     in_order = refl;
     due = ([], refl);
     cause = inr (ByClient refl refl refl);
@@ -200,40 +201,40 @@ is_served = record {
   breaks = λ b. inr refl;
 }
 
-all_is_written : spoken accepted_text talk ≡ session_out echoed
-unfolding echoed talk hello facts digits base64 encode_symbols sha1 digest_bytes
+all_is_written : spoken accepted_text traffic ≡ session_out echoed
+unfolding echoed traffic hello facts digits base64 encode_symbols sha1 digest_bytes
 all_is_written = ap (λ text. map Byte text ++ Message (Payload (payload.Text hello)) ∷ []) text_is
 
-a_message_is_sent_back : ConversesInSession limits OpenStill (asked_text ++ frame) (echoed ∷ []) talk accepted_text reported
-unfolding reported echoed talk hello
+a_message_is_sent_back : ConversesInSession limits Open (asked_text ++ frame) (echoed ∷ []) traffic accepted_text reported
+unfolding reported echoed traffic hello
 a_message_is_sent_back = record {
   answered = [];
   session = echoed;
   in_order = refl;
-  behind = asked_text ++ frame;
+  after = asked_text ++ frame;
   each = refl;
   text = accepted_text;
   serves = is_served;
-  ends = ((Returned, refl, refl, all_is_written), λ broke. refl);
+  ends = ((Returned, refl, refl, all_is_written), λ input_broke. refl);
   written_is = refl;
   counts = record { exchanges_are = refl; faults_are = refl };
 }
 
 -- ---- each way in which a session ends with its task (RFC 6455, section 7.4.1)
 
--- the same, where nobody has closed when the task ends
-left_open : EndKind → Exchanged
-left_open kind = record echoed { heard = WsConnect ∷ WsReceive (payload.Text hello) ∷ []; ended = Some kind; broke = false }
+-- the same, if nobody has closed when the task ends
+left_open : EndKind → ExchangeRecord
+left_open kind = record echoed { heard = WsConnect ∷ WsReceive (payload.Text hello) ∷ []; ended = Some kind; input_broke = false }
 
 handed_back : List Output
 handed_back = map Byte accepted_text ++ Message (Payload (payload.Text hello)) ∷ []
 
-returned_closes : (session_out (left_open Returned) ≡ handed_back ++ Message (Close 1000 []) ∷ []) × (after_session Returned echoed.said false talk.received ≡ Finished)
-unfolding left_open handed_back echoed talk hello facts accepted_text key digits base64 encode_symbols first_words schedule rounds compress hash_after sha1 digest_bytes
+returned_closes : (session_out (left_open Returned) ≡ handed_back ++ Message (Close 1000 []) ∷ []) × (after_session Returned echoed.said false traffic.received ≡ Finished)
+unfolding left_open handed_back echoed traffic hello facts accepted_text key digits base64 encode_symbols first_words schedule rounds compress hash_after sha1 digest_bytes
 returned_closes = (refl, refl)
 
-faulted_closes : (session_out (left_open Faulted) ≡ handed_back ++ Message (Close 1011 []) ∷ []) × (after_session Faulted echoed.said false talk.received ≡ Finished)
-unfolding left_open handed_back echoed talk hello facts accepted_text key digits base64 encode_symbols first_words schedule rounds compress hash_after sha1 digest_bytes
+faulted_closes : (session_out (left_open Faulted) ≡ handed_back ++ Message (Close 1011 []) ∷ []) × (after_session Faulted echoed.said false traffic.received ≡ Finished)
+unfolding left_open handed_back echoed traffic hello facts accepted_text key digits base64 encode_symbols first_words schedule rounds compress hash_after sha1 digest_bytes
 faulted_closes = (refl, refl)
 
 -- the client's close, and the end of the input, end it as they are
@@ -241,8 +242,8 @@ client_closes : after_session Returned echoed.said true (messages.Close (Some (1
 unfolding echoed
 client_closes = refl
 
-input_breaks : after_session Faulted echoed.said true talk.received ≡ InputBroke
-unfolding echoed talk
+input_breaks : after_session Faulted echoed.said true traffic.received ≡ InputBroke
+unfolding echoed traffic
 input_breaks = refl
 
 -- no answer, and a denial that only began

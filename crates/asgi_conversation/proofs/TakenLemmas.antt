@@ -1,4 +1,4 @@
--- What follows the end of a task, and its text, by how far the response was that was taken.
+-- What comes after the end of a task, and its text, by how far the response was that was taken.
 use Rattle.std.proofs.Common.{◌≡◌, ℕ, Bool, List, ◌++◌, refl, sym, ap, ◌∙◌, append-nil, Option}
 use Rattle.std.specs.Prelude.{◌≢◌}
 use Rattle.asgi_types.specs.declared.end_kind.EndKind.{EndKind}
@@ -13,24 +13,25 @@ use Rattle.asgi_response.specs.Exchange.{replacement_text}
 use Rattle.asgi_response.specs.Progress.{progress_of}
 use Rattle.asgi_response.specs.Response.{response_text}
 use Rattle.asgi_response.proofs.EndLemmas.{nothing_added, unbegun_are_replaced}
-use Rattle.asgi_exchange.specs.Http.{input_of}
-use Rattle.asgi_exchange.specs.HttpExchange.{text_of, IsHttpExchange}
+use Rattle.asgi_exchange.specs.ExchangeTexts.{input_of}
+use Rattle.asgi_exchange.specs.HttpExchange.{IsHttpExchange}
+use Rattle.asgi_exchange.specs.ExchangeTexts.{text_of}
 use Rattle.asgi_exchange.specs.Steps.{is_by_input}
 use Rattle.asgi_exchange.specs.Views.{World, said_of, taken_of}
-use Rattle.asgi_conversation.specs.declared.following.Following.{Following}
+use Rattle.asgi_conversation.specs.declared.following.NextStep.{NextStep}
 use Rattle.asgi_conversation.specs.TaskEnds.{after_response, after_task}
 use Rattle.asgi_conversation.specs.Exchanges.{IsFollowed}
 use Rattle.asgi_conversation.specs.SoFar.{exchanged, TaskIsOver, IsOut}
 use Rattle.asgi_conversation.proofs.SoFarLemmas.{taken_whole, end_put}
 
-by_response : (k : EndKind) (progress : Progress) (state : BodyState) (broke : Bool) → k ≢ kind.Idle → after_task k progress state broke ≡ after_response progress state broke
-by_response kind.Returned progress state broke n = refl
-by_response kind.Faulted progress state broke n = refl
-by_response kind.Idle progress state broke n = absurd (n refl)
+by_response : (k : EndKind) (progress : Progress) (state : BodyState) (input_broke : Bool) → k ≢ kind.Idle → after_task k progress state input_broke ≡ after_response progress state input_broke
+by_response kind.Returned progress state input_broke n = refl
+by_response kind.Faulted progress state input_broke n = refl
+by_response kind.Idle progress state input_broke n = absurd (n refl)
 
 module _ (limits : Limits) (scope : Scope) (facts : Facts) (w : World ℕ ℕ) (k : EndKind) (state : BodyState) (t : TaskIsOver w k) where
-  -- what follows, by the response that was taken
-  pub follows : (progress : Progress) (next : Following) → IsHttpExchange limits facts w → progress_of facts (taken_of w.conn) ≡ progress
+  -- what comes next, by the response that was taken
+  pub follows : (progress : Progress) (next : NextStep) → IsHttpExchange limits facts w → progress_of facts (taken_of w.conn) ≡ progress
       → after_response progress state (is_by_input w.conn.broken) ≡ next → IsFollowed (exchanged scope facts w) state next
   follows progress next i p row = (
     k,

@@ -27,24 +27,26 @@ use Rattle.asgi_response.specs.Response.{response_text}
 use Rattle.asgi_response.specs.declared.progress.Progress.{Progress}
 use Rattle.asgi_response.specs.declared.progress.Progress.TheVariants.{Nothing, Begun, Complete}
 use Rattle.asgi_response.proofs.EndLemmas.{unbegun_are_replaced}
-use Rattle.asgi_exchange.specs.Http.{input_of}
+use Rattle.asgi_exchange.specs.ExchangeTexts.{input_of}
 use Rattle.asgi_exchange.specs.HttpExchange.{IsHttpExchange}
 use Rattle.asgi_exchange.specs.Steps.{is_by_input}
 use Rattle.asgi_exchange.specs.Views.{World, said_of, taken_of}
 use Rattle.asgi_conversation.specs.declared.report.Outcome.{Outcome}
 use Rattle.asgi_conversation.specs.declared.report.Outcome.TheVariants.{Finished, Refused, InputBroke, WriteFailed, Idle, NoMemory}
 use Rattle.asgi_conversation.specs.declared.report.Report.{Report}
-use Rattle.asgi_conversation.specs.declared.following.Following.TheVariants.{ConnectionEnds}
+use Rattle.asgi_conversation.specs.declared.following.NextStep.TheVariants.{ConnectionEnds}
 use Rattle.asgi_conversation.specs.declared.input.InputEnd.{InputEnd}
 use Rattle.asgi_conversation.specs.OutcomeClasses.{is_cut, cuts_exchange}
 use Rattle.asgi_conversation.specs.TaskEnds.{has_ended, is_faulty, after_response, incomplete}
-use Rattle.asgi_conversation.specs.Exchanges.{Exchanged}
-use Rattle.asgi_conversation.specs.Persistence.{Beginning, Saying, Ending, StopsWithin, CountsExchanges, Converses}
+use Rattle.asgi_conversation.specs.ExchangeRecord.{ExchangeRecord}
+use Rattle.asgi_conversation.specs.Persistence.{StopsWithin, CountsExchanges}
+use Rattle.asgi_conversation.specs.ExchangeRecord.{Beginning, Saying, Ending}
+use Rattle.asgi_conversation.specs.Kinds.{Converses}
 use Rattle.asgi_conversation.specs.SoFar.{exchanged, Within, TaskIsOver, HasBroken, HasBrokenIn, IsOut}
 use Rattle.asgi_conversation.proofs.SoFarLemmas.{ends_by_task, ends_cut, taken_whole, end_put}
 use Rattle.asgi_conversation.proofs.TakenLemmas.{follows, begun_is_out, replaced_is_out}
 
-module _ (limits : Limits) (end : InputEnd) (read : List ℕ) (opened : List Next) (exchanges : List Exchanged) (written : List ℕ) (scope : Scope) (facts : Facts) (w : World ℕ ℕ) (report : Report)
+module _ (limits : Limits) (end : InputEnd) (read : List ℕ) (opened : List Next) (exchanges : List ExchangeRecord) (written : List ℕ) (scope : Scope) (facts : Facts) (w : World ℕ ℕ) (report : Report)
     (x : Within limits end read opened exchanges written scope facts w.conn.arrived) (i : IsHttpExchange limits facts w)
     (c : CountsExchanges report (exchanges ++ exchanged scope facts w ∷ [])) where
   -- ---- by the table
@@ -53,57 +55,57 @@ module _ (limits : Limits) (end : InputEnd) (read : List ℕ) (opened : List Nex
       → progress_of facts (taken_of w.conn) ≡ progress → after_response progress known (is_by_input w.conn.broken) ≡ ConnectionEnds outcome → IsOut facts w known
       → report.outcome ≡ outcome → is_cut outcome ≡ false → (outcome ≡ InputBroke → (has_ended end ≡ true) ⊎ (is_faulty known ≡ true))
       → Converses limits end read (exchanges ++ exchanged scope facts w ∷ []) (written ++ w.conn.written) report
-  ends_as k known progress outcome t same broke p row out o uncut why =
+  ends_as k known progress outcome t same input_broke p row out o uncut why =
       let S : BodyState → Type 0 = λ s. ReadsBody limits facts.framing w.conn.arrived (body_events limits facts.framing w.conn.arrived) s in
       ends_by_task limits end read exchanges written scope facts w k (body_events limits facts.framing w.conn.arrived) known report x.one i t.taken
-      (subst S same (body_is_read limits facts.framing w.conn.arrived)) broke (λ b. absurd (t.uncut b))
+      (subst S same (body_is_read limits facts.framing w.conn.arrived)) input_broke (λ b. absurd (t.uncut b))
       (follows limits scope facts w k known t progress (ConnectionEnds report.outcome) i p (row ∙ ap ConnectionEnds (sym o))) out
       (ap is_cut o ∙ uncut) (λ q. why (sym o ∙ q)) c
 
   intact : (s : BodyState) → incomplete s false ≡ Finished
-  intact (complete behind) = refl
+  intact (complete after) = refl
   intact (faulty why) = refl
   intact partial = refl
 
-  -- a complete response that closes, with no look at the body
+  -- a complete response that closes, whatever the body is
   pub closes : (k : EndKind) → TaskIsOver w k → HasBrokenIn limits end facts w → progress_of facts (taken_of w.conn) ≡ Complete true
       → w.conn.written ≡ response_text facts (taken_of w.conn) → report.outcome ≡ Finished
       → Converses limits end read (exchanges ++ exchanged scope facts w ∷ []) (written ++ w.conn.written) report
-  closes k t broke p out o =
+  closes k t input_broke p out o =
       let s = body_state limits facts.framing w.conn.arrived in
-      ends_as k s (Complete true) Finished t refl broke p refl (begun_is_out limits scope facts w k s t (λ n. cc (sym p ∙ n)) out) o refl (λ e. cc)
+      ends_as k s (Complete true) Finished t refl input_broke p refl (begun_is_out limits scope facts w k s t (λ n. cc (sym p ∙ n)) out) o refl (λ e. cc)
 
-  -- one that has begun, where the input did not break before
+  -- a response that has begun, if the input did not break before
   pub leaves_off : (k : EndKind) → TaskIsOver w k → is_by_input w.conn.broken ≡ false → progress_of facts (taken_of w.conn) ≡ Begun
       → w.conn.written ≡ response_text facts (taken_of w.conn) → report.outcome ≡ Finished
       → Converses limits end read (exchanges ++ exchanged scope facts w ∷ []) (written ++ w.conn.written) report
-  leaves_off k t broke p out o =
+  leaves_off k t input_broke p out o =
       let s = body_state limits facts.framing w.conn.arrived in
-      ends_as k s Begun Finished t refl (λ b. cc (sym broke ∙ b)) p (ap (λ (b : Bool). ConnectionEnds (incomplete s b)) broke ∙ ap ConnectionEnds (intact s))
+      ends_as k s Begun Finished t refl (λ b. cc (sym input_broke ∙ b)) p (ap (λ (b : Bool). ConnectionEnds (incomplete s b)) input_broke ∙ ap ConnectionEnds (intact s))
       (begun_is_out limits scope facts w k s t (λ n. cc (sym p ∙ n)) out) o refl (λ e. cc)
 
   module _ (k : EndKind) (t : TaskIsOver w k) (events : List Incoming) (place : Place) (held : List ℕ) where
     -- ---- the request is whole
 
-    known_whole : Reaches limits read (opened ++ (map Event events ++ Whole ∷ [])) place held → (behind : List ℕ) × (body_state limits facts.framing w.conn.arrived ≡ complete behind)
+    known_whole : Reaches limits read (opened ++ (map Event events ++ Whole ∷ [])) place held → (after : List ℕ) × (body_state limits facts.framing w.conn.arrived ≡ complete after)
     known_whole r =
         (whole_is_complete limits read opened facts.framing w.conn.arrived (body_events limits facts.framing w.conn.arrived) (body_state limits facts.framing w.conn.arrived) place held
         (opened_at limits read opened facts.framing w.conn.arrived x.opens) (opened_plain limits read opened facts.framing w.conn.arrived x.opens) (body_is_read limits facts.framing w.conn.arrived) events r).1
 
-    pub leaves_off_behind : Reaches limits read (opened ++ (map Event events ++ Whole ∷ [])) place held → (is_by_input w.conn.broken ≡ true → has_ended end ≡ true)
+    pub leaves_off_after : Reaches limits read (opened ++ (map Event events ++ Whole ∷ [])) place held → (is_by_input w.conn.broken ≡ true → has_ended end ≡ true)
         → progress_of facts (taken_of w.conn) ≡ Begun → w.conn.written ≡ response_text facts (taken_of w.conn) → report.outcome ≡ Finished
         → Converses limits end read (exchanges ++ exchanged scope facts w ∷ []) (written ++ w.conn.written) report
-    leaves_off_behind r broke p out o =
+    leaves_off_after r input_broke p out o =
         let known = known_whole r in
-        ends_as k (complete known.0) Begun Finished t known.1 (λ b. inl (broke b)) p refl
+        ends_as k (complete known.0) Begun Finished t known.1 (λ b. inl (input_broke b)) p refl
         (begun_is_out limits scope facts w k (complete known.0) t (λ n. cc (sym p ∙ n)) out) o refl (λ e. cc)
 
     pub fails : Reaches limits read (opened ++ (map Event events ++ Whole ∷ [])) place held → (is_by_input w.conn.broken ≡ true → has_ended end ≡ true)
         → progress_of facts (taken_of w.conn) ≡ Nothing → w.conn.written ≡ response_text facts (taken_of w.conn) ++ refusal_text 500 → report.outcome ≡ Refused 500
         → Converses limits end read (exchanges ++ exchanged scope facts w ∷ []) (written ++ w.conn.written) report
-    fails r broke p out o =
+    fails r input_broke p out o =
         let known = known_whole r in
-        ends_as k (complete known.0) Nothing (Refused 500) t known.1 (λ b. inl (broke b)) p refl
+        ends_as k (complete known.0) Nothing (Refused 500) t known.1 (λ b. inl (input_broke b)) p refl
         (replaced_is_out limits scope facts w k (complete known.0) t p out) o refl (λ e. cc)
 
     -- ---- the body is refused
@@ -174,28 +176,28 @@ module _ (limits : Limits) (end : InputEnd) (read : List ℕ) (opened : List Nex
         → progress_of facts (taken_of w.conn) ≡ Nothing → n < length (refusal_text status)
         → w.conn.written ≡ response_text facts (taken_of w.conn) ++ take n (refusal_text status) → report.outcome ≡ WriteFailed n
         → Converses limits end read (exchanges ++ exchanged scope facts w ∷ []) (written ++ w.conn.written) report
-    stops_in_answer n status known same broke text p h out o =
+    stops_in_answer n status known same input_broke text p h out o =
         let S : BodyState → Type 0 = λ s. ReadsBody limits facts.framing w.conn.arrived (body_events limits facts.framing w.conn.arrived) s in
         let whole = taken_whole limits facts w k i t.taken in
         let none : progress_of facts (said_of w.app) ≡ Nothing = ap (progress_of facts) (sym whole) ∙ p in
         let stops : StopsWithin n (exchanged scope facts w) (input_of known) w.conn.written = record {
           out = response_text facts (said_of w.app);
-          text = refusal_text status;
-          in_hand = Ending k (end_put limits facts w k i t.taken) refl (sym text ∙ sym (unbegun_are_replaced facts (said_of w.app) k (input_of known) t.no_limit none));
+          more = refusal_text status;
+          is_next = Ending k (end_put limits facts w k i t.taken) refl (sym text ∙ sym (unbegun_are_replaced facts (said_of w.app) k (input_of known) t.no_limit none));
           within = h;
           written_is = out ∙ ap (λ (l : List Outgoing). response_text facts l ++ take n (refusal_text status)) whole;
         } in
         ends_cut limits end read exchanges written scope facts w (body_events limits facts.framing w.conn.arrived) known report x.one i
-        (subst S same (body_is_read limits facts.framing w.conn.arrived)) broke (ap cuts_exchange o)
+        (subst S same (body_is_read limits facts.framing w.conn.arrived)) input_broke (ap cuts_exchange o)
         (λ m e. subst (λ (j : ℕ). StopsWithin j (exchanged scope facts w) (input_of known) w.conn.written) (cc (sym o ∙ e)) stops) c
 
     pub failure_unsent : (n : ℕ) → Reaches limits read (opened ++ (map Event events ++ Whole ∷ [])) place held → (is_by_input w.conn.broken ≡ true → has_ended end ≡ true)
         → progress_of facts (taken_of w.conn) ≡ Nothing → n < length (refusal_text 500)
         → w.conn.written ≡ response_text facts (taken_of w.conn) ++ take n (refusal_text 500) → report.outcome ≡ WriteFailed n
         → Converses limits end read (exchanges ++ exchanged scope facts w ∷ []) (written ++ w.conn.written) report
-    failure_unsent n r broke p h out o =
+    failure_unsent n r input_broke p h out o =
         let known = known_whole r in
-        stops_in_answer n 500 (complete known.0) known.1 (λ b. inl (broke b)) refl p h out o
+        stops_in_answer n 500 (complete known.0) known.1 (λ b. inl (input_broke b)) refl p h out o
 
     pub refusal_unsent : (n status : ℕ) → Reaches limits read (opened ++ (map Event events ++ Bad status ∷ [])) place held
         → progress_of facts (taken_of w.conn) ≡ Nothing → n < length (refusal_text status)
@@ -209,26 +211,26 @@ module _ (limits : Limits) (end : InputEnd) (read : List ℕ) (opened : List Nex
 
   stops_as : (n : ℕ) → HasBrokenIn limits end facts w → StopsWithin n (exchanged scope facts w) (input_of (body_state limits facts.framing w.conn.arrived)) w.conn.written
       → report.outcome ≡ WriteFailed n → Converses limits end read (exchanges ++ exchanged scope facts w ∷ []) (written ++ w.conn.written) report
-  stops_as n broke stops o =
+  stops_as n input_broke stops o =
       let s = body_state limits facts.framing w.conn.arrived in
       ends_cut limits end read exchanges written scope facts w (body_events limits facts.framing w.conn.arrived) s report x.one i
-      (body_is_read limits facts.framing w.conn.arrived) broke (ap cuts_exchange o)
+      (body_is_read limits facts.framing w.conn.arrived) input_broke (ap cuts_exchange o)
       (λ m e. subst (λ (j : ℕ). StopsWithin j (exchanged scope facts w) (input_of s) w.conn.written) (cc (sym o ∙ e)) stops) c
 
   pub beginning_unsent : (n : ℕ) → HasBrokenIn limits end facts w → n < length (response_text facts []) → w.conn.written ≡ take n (response_text facts [])
       → report.outcome ≡ WriteFailed n → Converses limits end read (exchanges ++ exchanged scope facts w ∷ []) (written ++ w.conn.written) report
-  beginning_unsent n broke h out o =
-      stops_as n broke (record { out = []; text = response_text facts []; in_hand = Beginning refl refl; within = h; written_is = out }) o
+  beginning_unsent n input_broke h out o =
+      stops_as n input_broke (record { out = []; more = response_text facts []; is_next = Beginning refl refl; within = h; written_is = out }) o
 
   pub event_unsent : (n : ℕ) (before : List Outgoing) (event : Outgoing) (text : List ℕ) → HasBrokenIn limits end facts w → taken_of w.conn ≡ before ++ event ∷ []
       → response_text facts (before ++ event ∷ []) ≡ response_text facts before ++ text → n < length text → w.conn.written ≡ response_text facts before ++ take n text
       → report.outcome ≡ WriteFailed n → Converses limits end read (exchanges ++ exchanged scope facts w ∷ []) (written ++ w.conn.written) report
-  event_unsent n before event text broke e adds h out o =
+  event_unsent n before event text input_broke e adds h out o =
       let p : IsPrefix (before ++ event ∷ []) (said_of w.app) = subst (λ (l : List Outgoing). IsPrefix l (said_of w.app)) e i.taken in
-      stops_as n broke (record {
+      stops_as n input_broke (record {
         out = response_text facts before;
-        text = text;
-        in_hand = Saying before p.0 event (splits before event p.0 (said_of w.app) p.1) refl adds;
+        more = text;
+        is_next = Saying before p.0 event (splits before event p.0 (said_of w.app) p.1) refl adds;
         within = h;
         written_is = out;
       }) o
@@ -241,9 +243,9 @@ module _ (limits : Limits) (end : InputEnd) (read : List ℕ) (opened : List Nex
   -- a limit, or want of memory
   pub gives_up : HasBrokenIn limits end facts w → (report.outcome ≡ Idle) ⊎ (report.outcome ≡ NoMemory)
       → Converses limits end read (exchanges ++ exchanged scope facts w ∷ []) (written ++ w.conn.written) report
-  gives_up broke o =
+  gives_up input_broke o =
       ends_cut limits end read exchanges written scope facts w (body_events limits facts.framing w.conn.arrived) (body_state limits facts.framing w.conn.arrived) report x.one i
-      (body_is_read limits facts.framing w.conn.arrived) broke (cut o) (λ n e. absurd (other n o e)) c
+      (body_is_read limits facts.framing w.conn.arrived) input_broke (cut o) (λ n e. absurd (other n o e)) c
     where
       cut : (report.outcome ≡ Idle) ⊎ (report.outcome ≡ NoMemory) → cuts_exchange report.outcome ≡ true
       cut (inl e) = ap cuts_exchange e

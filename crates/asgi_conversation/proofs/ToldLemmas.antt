@@ -1,5 +1,5 @@
--- Where a task of `Echo`, `Hello` or `WsEcho` returned and the connection was not cut short, what it said is a function of the events of
--- the body, and so is what follows.
+-- If a task of `Echo`, `Hello` or `WsEcho` returned and the connection was not cut short, what it sent is a function of the
+-- events of the body, and so is what comes next.
 use Rattle.std.proofs.Common.{◌≡◌, ℕ, Bool, true, false, List, [], ◌∷◌, ◌++◌, ◌⊎◌, inl, inr, map, refl, sym, ap, ◌∙◌, subst, append-nil, Option, Some, zero, suc}
 use Rattle.std.specs.Prelude.{replicate, codes}
 use mathlib.Core.List.{IsPrefix}
@@ -20,7 +20,7 @@ use Rattle.asgi_protocol.specs.Lawful.{IsClosed}
 use Rattle.asgi_request.specs.ChunkedBody.{BodyState, partial, complete, faulty}
 use Rattle.asgi_request.specs.RequestEvents.{more_event}
 use Rattle.asgi_request.proofs.OpenedLemmas.{http_scope}
-use Rattle.asgi_response.specs.Progress.{closes_behind, progress_in, progress_of}
+use Rattle.asgi_response.specs.Progress.{closes_after, progress_in, progress_of}
 use Rattle.asgi_response.specs.declared.progress.Progress.{Progress}
 use Rattle.asgi_response.specs.declared.progress.Progress.TheVariants.{Nothing, Begun, Complete}
 use Rattle.asgi_response.proofs.LawfulLemmas.{lawful_is_accepted}
@@ -29,66 +29,68 @@ use Rattle.asgi_apps.specs.Answers.{start_of, hello_events, not_found_events}
 use Rattle.asgi_apps.specs.Echo.{bodies_of, echo_events, ends_request, HeardAll}
 use Rattle.asgi_apps.proofs.AnswerLemmas.{text_is_lawful, not_found_is_lawful}
 use Rattle.asgi_apps.proofs.EchoLemmas.{bodies-append}
-use Rattle.asgi_conversation.specs.declared.following.Following.{Following}
+use Rattle.asgi_conversation.specs.declared.following.NextStep.{NextStep}
 use Rattle.asgi_conversation.specs.declared.input.InputEnd.{InputEnd}
 use Rattle.asgi_conversation.specs.TaskEnds.{after_response, after_task}
-use Rattle.asgi_conversation.specs.Exchanges.{Exchanged, ServesFirst, IsFollowed}
-use Rattle.asgi_conversation.specs.Promised.{task_end, IsPromised, echo_promise, hello_promise, ws_echo_promise}
+use Rattle.asgi_conversation.specs.Exchanges.{ServesFirst, IsFollowed}
+use Rattle.asgi_conversation.specs.ExchangeRecord.{ExchangeRecord}
+use Rattle.asgi_conversation.specs.Promised.{task_end, IsPromised}
+use Rattle.asgi_conversation.specs.PromisedWhole.{echo_promise, hello_promise, ws_echo_promise}
 use Rattle.asgi_conversation.proofs.BodyShapeLemmas.{AreParts, body_shape, front_or_all, open_parts}
 
 -- ---- what is to be shown of an application
 
--- what follows a task that returned and said this
-abbrev pub next_for : Facts → List Outgoing → BodyState → Following
+-- what comes after a task that returned and sent this
+abbrev pub next_for : Facts → List Outgoing → BodyState → NextStep
 next_for facts said state = after_response (progress_of facts said) state true
 
--- the exchange said this, and what follows is a function of it
-pub record Told (x : Exchanged) (said : List Outgoing) (state : BodyState) : Type 0 where
+-- the exchange sent this, and what comes next is a function of it
+pub record Told (x : ExchangeRecord) (said : List Outgoing) (state : BodyState) : Type 0 where
   pub said_is : x.said ≡ said
-  pub next : (next : Following) → IsFollowed x state next → next ≡ next_for x.facts said state
+  pub next : (next : NextStep) → IsFollowed x state next → next ≡ next_for x.facts said state
 
--- what is said is a function of the events of the body, and goes on where these go on
+-- what is sent is a function of the events of the body, and goes on if these go on
 pub record SaysOf (answers : Scope → List Incoming → List Outgoing → Option EndKind → Type 0) (say : List Incoming → List Outgoing) : Type 0 where
-  pub tells : (limits : Limits) (end : InputEnd) (bytes : List ℕ) (x : Exchanged) (state : BodyState) (client server : Option Peer) (values : List (List ℕ × StateValue))
+  pub tells : (limits : Limits) (end : InputEnd) (bytes : List ℕ) (x : ExchangeRecord) (state : BodyState) (client server : Option Peer) (values : List (List ℕ × StateValue))
       → (s : ServesFirst limits end false bytes x state) → x.ended ≡ Some Returned → IsPromised answers client server values x → Told x (say s.events) state
   pub grows : (events others : List Incoming) → IsPrefix events others → IsPrefix (say events) (say others)
 
--- the promise, where the task returned: the scope is that of a request
-returned : (answers : Scope → List Incoming → List Outgoing → Option EndKind → Type 0) (client server : Option Peer) (values : List (List ℕ × StateValue)) (x : Exchanged) (scope : Scope)
+-- the promise, if the task returned: the scope is that of a request
+returned : (answers : Scope → List Incoming → List Outgoing → Option EndKind → Type 0) (client server : Option Peer) (values : List (List ℕ × StateValue)) (x : ExchangeRecord) (scope : Scope)
     → x.scope ≡ scope → x.ended ≡ Some Returned → IsPromised answers client server values x → answers (scope_with scope client server values) x.heard x.said (Some Returned)
 returned answers client server values x scope e r p =
     let A : Scope → Type 0 = λ s. answers (scope_with s client server values) x.heard x.said (Some Returned) in
     let E : Option EndKind → Type 0 = λ k. answers (scope_with x.scope client server values) x.heard x.said (task_end k) in
     subst A e (subst E r p)
 
-followed : (x : Exchanged) (state : BodyState) (next : Following) → x.ended ≡ Some Returned → IsFollowed x state next → after_response (progress_of x.facts x.said) state x.broke ≡ next
+followed : (x : ExchangeRecord) (state : BodyState) (next : NextStep) → x.ended ≡ Some Returned → IsFollowed x state next → after_response (progress_of x.facts x.said) state x.input_broke ≡ next
 followed x state next r f =
     let kinds : f.0 ≡ Returned = cc (sym f.1 ∙ r) in
-    sym (ap (λ (k : EndKind). after_task k (progress_of x.facts x.said) state x.broke) kinds) ∙ f.2
+    sym (ap (λ (k : EndKind). after_task k (progress_of x.facts x.said) state x.input_broke) kinds) ∙ f.2
 
 -- ---- one whole response, whatever the request is: Hello, and WsEcho over HTTP
 
-complete_needs_no_break : (close : Bool) (state : BodyState) (broke : Bool) → after_response (Complete close) state broke ≡ after_response (Complete close) state true
-complete_needs_no_break true state broke = refl
-complete_needs_no_break false state broke = refl
+complete_needs_no_break : (close : Bool) (state : BodyState) (input_broke : Bool) → after_response (Complete close) state input_broke ≡ after_response (Complete close) state true
+complete_needs_no_break true state input_broke = refl
+complete_needs_no_break false state input_broke = refl
 
-told_whole : (response : List Outgoing) → ((facts : Facts) → progress_of facts response ≡ Complete (closes_behind facts response))
-    → (x : Exchanged) (state : BodyState) → x.ended ≡ Some Returned → x.said ≡ response → Told x response state
+told_whole : (response : List Outgoing) → ((facts : Facts) → progress_of facts response ≡ Complete (closes_after facts response))
+    → (x : ExchangeRecord) (state : BodyState) → x.ended ≡ Some Returned → x.said ≡ response → Told x response state
 told_whole response completes x state r said = record {
   said_is = said;
   next = λ next f.
       let done = ap (progress_of x.facts) said ∙ completes x.facts in
-      let closing = closes_behind x.facts response in
+      let closing = closes_after x.facts response in
       sym (followed x state next r f)
-      ∙ ap (λ (q : Progress). after_response q state x.broke) done
-      ∙ complete_needs_no_break closing state x.broke
+      ∙ ap (λ (q : Progress). after_response q state x.input_broke) done
+      ∙ complete_needs_no_break closing state x.input_broke
       ∙ sym (ap (λ (q : Progress). after_response q state true) (completes x.facts));
 }
 
-hello_completes : (facts : Facts) → progress_of facts hello_events ≡ Complete (closes_behind facts hello_events)
+hello_completes : (facts : Facts) → progress_of facts hello_events ≡ Complete (closes_after facts hello_events)
 hello_completes facts = ap (progress_in facts) (lawful_is_accepted facts hello_events (text_is_lawful _ facts))
 
-hello_tells : (limits : Limits) (end : InputEnd) (bytes : List ℕ) (x : Exchanged) (state : BodyState) (client server : Option Peer) (values : List (List ℕ × StateValue))
+hello_tells : (limits : Limits) (end : InputEnd) (bytes : List ℕ) (x : ExchangeRecord) (state : BodyState) (client server : Option Peer) (values : List (List ℕ × StateValue))
     → (s : ServesFirst limits end false bytes x state) → x.ended ≡ Some Returned → IsPromised hello_promise client server values x → Told x hello_events state
 hello_tells limits end bytes x state client server values s r p =
     told_whole hello_events hello_completes x state r (returned hello_promise client server values x _ (http_scope limits bytes x.scope x.facts s.arrived s.head) r p)
@@ -96,10 +98,10 @@ hello_tells limits end bytes x state client server values s r p =
 pub hello_says : SaysOf hello_promise (λ events. hello_events)
 hello_says = record { tells = hello_tells; grows = λ events others p. prefix_self hello_events }
 
-not_found_completes : (facts : Facts) → progress_of facts not_found_events ≡ Complete (closes_behind facts not_found_events)
+not_found_completes : (facts : Facts) → progress_of facts not_found_events ≡ Complete (closes_after facts not_found_events)
 not_found_completes facts = ap (progress_in facts) (lawful_is_accepted facts not_found_events (not_found_is_lawful facts))
 
-ws_echo_tells : (limits : Limits) (end : InputEnd) (bytes : List ℕ) (x : Exchanged) (state : BodyState) (client server : Option Peer) (values : List (List ℕ × StateValue))
+ws_echo_tells : (limits : Limits) (end : InputEnd) (bytes : List ℕ) (x : ExchangeRecord) (state : BodyState) (client server : Option Peer) (values : List (List ℕ × StateValue))
     → (s : ServesFirst limits end false bytes x state) → x.ended ≡ Some Returned → IsPromised ws_echo_promise client server values x → Told x not_found_events state
 ws_echo_tells limits end bytes x state client server values s r p =
     told_whole not_found_events not_found_completes x state r (returned ws_echo_promise client server values x _ (http_scope limits bytes x.scope x.facts s.arrived s.head) r p)
@@ -107,7 +109,7 @@ ws_echo_tells limits end bytes x state client server values s r p =
 pub ws_echo_says : SaysOf ws_echo_promise (λ events. not_found_events)
 ws_echo_says = record { tells = ws_echo_tells; grows = λ events others p. prefix_self not_found_events }
 
--- ---- Echo: what it says to parts and disconnects
+-- ---- Echo: what it sends for parts and disconnects
 
 abbrev echo_start : Outgoing
 echo_start = start_of 200 (codes "content-type") (codes "application/octet-stream")
@@ -151,23 +153,23 @@ open_is_not_all heard parts h = no_end parts.0 h.before h.last (sym parts.1 ∙ 
 
 -- ---- Echo
 
-whole_needs_no_break : (progress : Progress) (behind : List ℕ) (broke : Bool) → after_response progress (complete behind) broke ≡ after_response progress (complete behind) true
-whole_needs_no_break Nothing behind broke = refl
-whole_needs_no_break Begun behind broke = refl
-whole_needs_no_break (Complete true) behind broke = refl
-whole_needs_no_break (Complete false) behind broke = refl
+whole_needs_no_break : (progress : Progress) (after : List ℕ) (input_broke : Bool) → after_response progress (complete after) input_broke ≡ after_response progress (complete after) true
+whole_needs_no_break Nothing after input_broke = refl
+whole_needs_no_break Begun after input_broke = refl
+whole_needs_no_break (Complete true) after input_broke = refl
+whole_needs_no_break (Complete false) after input_broke = refl
 
-module _ (limits : Limits) (end : InputEnd) (bytes : List ℕ) (x : Exchanged) (state : BodyState) (s : ServesFirst limits end false bytes x state)
+module _ (limits : Limits) (end : InputEnd) (bytes : List ℕ) (x : ExchangeRecord) (state : BodyState) (s : ServesFirst limits end false bytes x state)
     (r : x.ended ≡ Some Returned) (answered : x.said ≡ echo_events x.heard) (all : HeardAll x.heard) where
   said_first : x.said ≡ echo_events s.hears.first
   said_first =
       answered ∙ ap echo_events s.hears.in_order ∙ ap (λ (l : List Outgoing). echo_start ∷ l) (heard_bodies s.hears.first s.hears.times)
 
-  -- where parts alone were heard, the input broke behind all events
-  broken_behind : AreParts s.hears.first → (x.broke ≡ true) × (s.hears.first ≡ s.events)
-  broken_behind parts = by s.hears.cause
+  -- if parts alone were received, the input broke after all events
+  broken_after : AreParts s.hears.first → (x.input_broke ≡ true) × (s.hears.first ≡ s.events)
+  broken_after parts = by s.hears.cause
     where
-      by : (s.hears.times ≡ 0) ⊎ (IsClosed scope_kind.Http x.said ⊎ (((x.broke ≡ true) × (s.hears.first ≡ s.events)) ⊎ (false ≡ true))) → (x.broke ≡ true) × (s.hears.first ≡ s.events)
+      by : (s.hears.times ≡ 0) ⊎ (IsClosed scope_kind.Http x.said ⊎ (((x.input_broke ≡ true) × (s.hears.first ≡ s.events)) ⊎ (false ≡ true))) → (x.input_broke ≡ true) × (s.hears.first ≡ s.events)
       by (inl none) =
           let alone : x.heard ≡ s.hears.first = s.hears.in_order ∙ ap (λ (n : ℕ). s.hears.first ++ replicate n HttpDisconnect) none ∙ append-nil s.hears.first in
           absurd (open_is_not_all s.hears.first parts (subst HeardAll alone all))
@@ -179,31 +181,31 @@ module _ (limits : Limits) (end : InputEnd) (bytes : List ℕ) (x : Exchanged) (
   all_first = by (front_or_all s.events s.hears.first state (body_shape limits x.facts.framing s.arrived s.events state s.body) s.hears.due)
     where
       by : AreParts s.hears.first ⊎ (s.hears.first ≡ s.events) → s.hears.first ≡ s.events
-      by (inl parts) = (broken_behind parts).1
+      by (inl parts) = (broken_after parts).1
       by (inr e) = e
 
-  open_broke : ((behind : List ℕ) → state ≡ complete behind → ⊥) → x.broke ≡ true
+  open_broke : ((after : List ℕ) → state ≡ complete after → ⊥) → x.input_broke ≡ true
   open_broke n =
       let parts = open_parts s.events state (body_shape limits x.facts.framing s.arrived s.events state s.body) n in
-      (broken_behind (subst AreParts (sym all_first) parts)).0
+      (broken_after (subst AreParts (sym all_first) parts)).0
 
   said_all : x.said ≡ echo_events s.events
   said_all = said_first ∙ ap echo_events all_first
 
-  echo_next : (next : Following) → IsFollowed x state next → next ≡ next_for x.facts (echo_events s.events) state
+  echo_next : (next : NextStep) → IsFollowed x state next → next ≡ next_for x.facts (echo_events s.events) state
   echo_next next f =
-      sym (followed x state next r f) ∙ ap (λ (l : List Outgoing). after_response (progress_of x.facts l) state x.broke) said_all
+      sym (followed x state next r f) ∙ ap (λ (l : List Outgoing). after_response (progress_of x.facts l) state x.input_broke) said_all
       ∙ by state refl
     where
-      by : (k : BodyState) → k ≡ state → after_response (progress_of x.facts (echo_events s.events)) k x.broke ≡ after_response (progress_of x.facts (echo_events s.events)) k true
-      by (complete behind) e = whole_needs_no_break (progress_of x.facts (echo_events s.events)) behind x.broke
-      by partial e = ap (λ (b : Bool). after_response (progress_of x.facts (echo_events s.events)) partial b) (open_broke (λ behind c. cc (e ∙ c)))
-      by (faulty why) e = ap (λ (b : Bool). after_response (progress_of x.facts (echo_events s.events)) (faulty why) b) (open_broke (λ behind c. cc (e ∙ c)))
+      by : (k : BodyState) → k ≡ state → after_response (progress_of x.facts (echo_events s.events)) k x.input_broke ≡ after_response (progress_of x.facts (echo_events s.events)) k true
+      by (complete after) e = whole_needs_no_break (progress_of x.facts (echo_events s.events)) after x.input_broke
+      by partial e = ap (λ (b : Bool). after_response (progress_of x.facts (echo_events s.events)) partial b) (open_broke (λ after c. cc (e ∙ c)))
+      by (faulty why) e = ap (λ (b : Bool). after_response (progress_of x.facts (echo_events s.events)) (faulty why) b) (open_broke (λ after c. cc (e ∙ c)))
 
   echo_told : Told x (echo_events s.events) state
   echo_told = record { said_is = said_all; next = echo_next }
 
-echo_tells : (limits : Limits) (end : InputEnd) (bytes : List ℕ) (x : Exchanged) (state : BodyState) (client server : Option Peer) (values : List (List ℕ × StateValue))
+echo_tells : (limits : Limits) (end : InputEnd) (bytes : List ℕ) (x : ExchangeRecord) (state : BodyState) (client server : Option Peer) (values : List (List ℕ × StateValue))
     → (s : ServesFirst limits end false bytes x state) → x.ended ≡ Some Returned → IsPromised echo_promise client server values x → Told x (echo_events s.events) state
 echo_tells limits end bytes x state client server values s r p =
     let kept : (x.said ≡ echo_events x.heard) × (scope_kind.Http ≡ scope_kind.Http → HeardAll x.heard) = returned echo_promise client server values x _ (http_scope limits bytes x.scope x.facts s.arrived s.head) r p in

@@ -1,11 +1,15 @@
-pub mod Behind
+pub mod After
 pub mod OutcomeClasses
 pub mod OutcomeWords
 pub mod TaskEnds
+pub mod ExchangeRecord
 pub mod Exchanges
 pub mod Persistence
+pub mod Sessions
+pub mod Kinds
 pub mod SoFar
 pub mod Promised
-pub mod Sessions
+pub mod Conversation
+pub mod PromisedWhole
 pub mod ReadResponses
 pub mod SessionEcho

@@ -3,7 +3,7 @@ use Rattle.std.specs.Prelude.{◌≡◌, ◌⊎◌, ℕ, Bool, true, false}
 use Rattle.asgi_conversation.specs.declared.report.Outcome.{Outcome}
 use Rattle.asgi_conversation.specs.declared.report.Outcome.TheVariants.{Finished, Refused, InputBroke, WriteFailed, Idle, NoMemory, NoThread}
 
--- Nothing cut it short; a write failed, with so many bytes of the text in hand out; it was given up at a limit; memory was refused;
+-- Nothing cut it short; a write failed, with n bytes of the text in hand out; it was given up at a limit; memory was refused;
 -- or a thread was, and no task was begun.
 pub data OutcomeClass : Type 0 where
   Uncut : OutcomeClass

@@ -15,22 +15,22 @@ use Rattle.asgi_response.specs.Content.{has_content}
 use Rattle.asgi_response.specs.Fields.{is_chunked, closes}
 use Rattle.asgi_response.specs.ReadBack.{IsReadAs, IsSendable, fields_sent}
 use Rattle.asgi_response.specs.ReadBackBody.{IsSized}
-use Rattle.asgi_conversation.specs.Exchanges.{Exchanged}
+use Rattle.asgi_conversation.specs.ExchangeRecord.{ExchangeRecord}
 
 -- ---- the content of a response
 
--- The bytes begin with chunks that carry just this content, then with an empty trailer section, and the rest follows. There is
--- no other reading: whatever chunks are read of the bytes carry this and end there.
+-- The bytes begin with chunks that carry exactly this content, then an empty trailer section, then the rest. There is no
+-- other reading: whatever chunks are read of the bytes carry this and end there.
 pub record ReadsChunked (bytes sent rest : List ℕ) : Type 0 where
   pub chunks : Chunks
   pub reads : ReadsChunks 0 bytes chunks (crlf_bytes ++ rest)
   pub carried : content chunks ≡ sent
-  pub only : (limit : ℕ) (other : Chunks) (behind : List ℕ) → ReadsChunks limit bytes other behind → (content other ≡ sent) × (behind ≡ crlf_bytes ++ rest)
+  pub only : (limit : ℕ) (other : Chunks) (after : List ℕ) → ReadsChunks limit bytes other after → (content other ≡ sent) × (after ≡ crlf_bytes ++ rest)
 
--- Where the content ends (section 6.3), by whether there is any, whether it is chunked, whether the connection closes, and the
--- length that is given.
+-- Where the content ends (section 6.3), by whether there is any, whether it is chunked, whether the connection closes, and
+-- the length that is given.
 abbrev pub IsDelimited : (has_any chunked closing : Bool) → Option ℕ → List ℕ → List ℕ → List ℕ → Type 0
--- rule 1: an answer to HEAD, 204 and 304 end with the head, whatever its fields say
+-- rule 1: an answer to HEAD, 204 and 304 end with the head, whatever its fields are
 IsDelimited false chunked closing given bytes sent rest = bytes ≡ rest
 -- rule 4
 IsDelimited true true closing given bytes sent rest = ReadsChunked bytes sent rest
@@ -46,40 +46,40 @@ says_chunked fields = has_token fields (codes "transfer-encoding") (codes "chunk
 abbrev pub says_close : List HeaderField → Bool
 says_close fields = has_token fields (codes "connection") (codes "close")
 
--- The bytes begin with this content, and the rest follows: where it ends is told by the fields that were read, and by whether
--- there is any.
+-- The bytes begin with this content, and then the rest: the end of the content depends on the fields that were read, and on
+-- whether there is any.
 abbrev pub ReadsContent : (has_any : Bool) → List HeaderField → List ℕ → List ℕ → List ℕ → Type 0
 ReadsContent has_any fields bytes sent rest = IsDelimited has_any (says_chunked fields) (says_close fields) (given_length (content_length fields)) bytes sent rest
 
 -- ---- one response
 
--- the interim response, where the client waits for it: the status 100, and no fields (RFC 9110, section 15.2.1)
+-- the interim response, if the client waits for it: the status 100, and no fields (RFC 9110, section 15.2.1)
 abbrev pub ReadsContinue : Bool → List ℕ → List ℕ → Type 0
 ReadsContinue true bytes rest = IsReadAs bytes 100 [] rest
 ReadsContinue false bytes rest = bytes ≡ rest
 
--- The bytes begin with the response of this exchange, and the rest follows: what is read is its status, its fields and the
--- bytes of its bodies, and nothing else can be.
-pub record ReadsAnswer (bytes : List ℕ) (x : Exchanged) (rest : List ℕ) : Type 0 where
+-- The bytes begin with the response of this exchange, and then the rest: what is read is its status, its fields and the bytes
+-- of its bodies, and nothing else can be.
+pub record ReadsAnswer (bytes : List ℕ) (x : ExchangeRecord) (rest : List ℕ) : Type 0 where
   pub response : IsResponse x.said
   -- the application's fields, and those that the server adds
   pub fields : List HeaderField
   pub fields_are : fields ≡ fields_sent (is_chunked x.facts.version response.status response.headers) (closes x.facts.close response.headers) response.status response.headers
   pub final : List ℕ
   pub interim : ReadsContinue x.facts.expect bytes final
-  pub behind : List ℕ
-  pub head : IsReadAs final response.status fields behind
+  pub after : List ℕ
+  pub head : IsReadAs final response.status fields after
   -- the recipient knows whether the request was HEAD
-  pub body : ReadsContent (has_content x.facts.head_only response.status) fields behind (concat (response.parts ++ response.last ∷ [])) rest
+  pub body : ReadsContent (has_content x.facts.head_only response.status) fields after (concat (response.parts ++ response.last ∷ [])) rest
 
--- ---- one behind the other
+-- ---- one after another
 
--- The bytes are the responses of these exchanges, in order, and the rest follows.
-abbrev pub AreRead : List ℕ → List Exchanged → List ℕ → Type 0
+-- The bytes are the responses of these exchanges, in order, and then the rest.
+abbrev pub AreRead : List ℕ → List ExchangeRecord → List ℕ → Type 0
 AreRead bytes [] rest = bytes ≡ rest
-AreRead bytes (x ∷ exchanges) rest = (behind : List ℕ) × ReadsAnswer bytes x behind × AreRead behind exchanges rest
+AreRead bytes (x ∷ exchanges) rest = (after : List ℕ) × ReadsAnswer bytes x after × AreRead after exchanges rest
 
--- the fields of a refusal; 426 also says what is served (RFC 9110, section 15.5.22; RFC 6455, section 4.4)
+-- the fields of a refusal; 426 also names what is served (RFC 9110, section 15.5.22; RFC 6455, section 4.4)
 abbrev pub refusal_fields : ℕ → List HeaderField
 refusal_fields status =
     if status == 426
@@ -95,6 +95,6 @@ CanBeSent (ResponseStart status headers) = All IsSendable headers
 CanBeSent (ResponseBody body more_body) = IsSized body
 CanBeSent _ = Unit {0}
 
--- all that was said can be
-abbrev pub AllCanBeSent : List Exchanged → Type 0
+-- all events that were sent can be
+abbrev pub AllCanBeSent : List ExchangeRecord → Type 0
 AllCanBeSent exchanges = All (λ x. All CanBeSent x.said) exchanges

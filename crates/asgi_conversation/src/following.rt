@@ -1,43 +1,42 @@
-//! What the end of a task makes of its HTTP exchange and of the connection.
+//! What the end of a task means for its HTTP exchange and for the connection.
 ghost use Rattle.std.specs.Prelude.{◌≡◌, Bool};
 ghost use Rattle.asgi_request.specs.ChunkedBody.{BodyState};
-ghost use Rattle.asgi_exchange.specs.Http.{input_of};
+ghost use Rattle.asgi_exchange.specs.ExchangeTexts.{input_of};
 ghost use Rattle.asgi_conversation.specs.TaskEnds as spec;
 
 use crate::report::Outcome;
 use asgi_response::{Input, Progress};
 use asgi_types::EndKind;
 
-/// What follows the end of a task.
+/// What comes after the end of a task.
 #[derive(Clone, Copy, Debug, PartialEq, Eq)]
-pub enum Following {
+pub enum NextStep {
     /// The next request of the connection.
     NextRequest,
     /// Nothing: the connection ends like this.
     ConnectionEnds(Outcome),
 }
 
-/// What follows the end of a task, by how it ended, how far the response and the body of the
-/// request are, and whether the input broke before that end was taken (RFC 9112, sections 9.3 to
-/// 9.6).
-pub fn after_task(kind: EndKind, progress: Progress, body: Input, broke: bool) -> Following
-    ensures { (state : BodyState) → input_of state ≡ body → result ≡ spec.after_task kind progress state broke }
+/// What comes after the end of a task, by how it ended, how far the response and the body of the request
+/// are, and whether the input broke before that end was taken (RFC 9112, sections 9.3 to 9.6).
+pub fn after_task(kind: EndKind, progress: Progress, body: Input, input_broke: bool) -> NextStep
+    ensures { (state : BodyState) → input_of state ≡ body → result ≡ spec.after_task kind progress state input_broke }
 {
     match kind {
-        EndKind::Returned => after_response(progress, body, broke),
-        EndKind::Faulted => after_response(progress, body, broke),
-        EndKind::Idle => Following::ConnectionEnds(Outcome::Idle),
+        EndKind::Returned => after_response(progress, body, input_broke),
+        EndKind::Faulted => after_response(progress, body, input_broke),
+        EndKind::Idle => NextStep::ConnectionEnds(Outcome::Idle),
     }
 }
 
-/// By how far the response is: a complete one that closes needs no look at the body.
-fn after_response(progress: Progress, body: Input, broke: bool) -> Following
-    ensures { (state : BodyState) → input_of state ≡ body → result ≡ spec.after_response progress state broke }
+/// By how far the response is: a complete one that closes the connection does not depend on the body.
+fn after_response(progress: Progress, body: Input, input_broke: bool) -> NextStep
+    ensures { (state : BodyState) → input_of state ≡ body → result ≡ spec.after_response progress state input_broke }
 {
     match progress {
-        Progress::Nothing => Following::ConnectionEnds(unanswered(body)),
-        Progress::Begun => Following::ConnectionEnds(incomplete(body, broke)),
-        Progress::Complete { closes: true } => Following::ConnectionEnds(Outcome::Finished),
+        Progress::Nothing => NextStep::ConnectionEnds(unanswered(body)),
+        Progress::Begun => NextStep::ConnectionEnds(incomplete(body, input_broke)),
+        Progress::Complete { closes: true } => NextStep::ConnectionEnds(Outcome::Finished),
         Progress::Complete { closes: false } => kept(body),
     }
 }
@@ -54,10 +53,10 @@ fn unanswered(body: Input) -> Outcome
 }
 
 /// The response has begun and is not complete: nothing more is written.
-fn incomplete(body: Input, broke: bool) -> Outcome
-    ensures { (state : BodyState) → input_of state ≡ body → result ≡ spec.incomplete state broke }
+fn incomplete(body: Input, input_broke: bool) -> Outcome
+    ensures { (state : BodyState) → input_of state ≡ body → result ≡ spec.incomplete state input_broke }
 {
-    if !broke {
+    if !input_broke {
         return Outcome::Finished;
     }
     match body {
@@ -68,12 +67,12 @@ fn incomplete(body: Input, broke: bool) -> Outcome
 }
 
 /// The response is complete and keeps the connection.
-fn kept(body: Input) -> Following
+fn kept(body: Input) -> NextStep
     ensures { (state : BodyState) → input_of state ≡ body → result ≡ spec.kept state }
 {
     match body {
-        Input::Whole => Following::NextRequest,
-        Input::Faulty(_) => Following::ConnectionEnds(Outcome::InputBroke),
-        Input::Broken => Following::ConnectionEnds(Outcome::InputBroke),
+        Input::Whole => NextStep::NextRequest,
+        Input::Faulty(_) => NextStep::ConnectionEnds(Outcome::InputBroke),
+        Input::Broken => NextStep::ConnectionEnds(Outcome::InputBroke),
     }
 }

@@ -6,8 +6,8 @@ ghost use Rattle.asgi_conversation.specs.TaskEnds.{has_ended};
 #[derive(Clone, Copy, Debug, PartialEq, Eq)]
 pub enum InputEnd {
     /// More may come.
-    OpenStill,
-    /// A read found its end.
+    Open,
+    /// A read found the end of the input.
     AtEnd,
     /// A read failed with a fault that does not pass.
     Failed,
@@ -19,7 +19,7 @@ impl InputEnd {
         ensures { result ≡ has_ended self }
     {
         match self {
-            InputEnd::OpenStill => false,
+            InputEnd::Open => false,
             InputEnd::AtEnd => true,
             InputEnd::Failed => true,
         }

@@ -15,11 +15,10 @@ pub enum Outcome {
     Finished,
     /// The text of a refusal of this status was written.
     Refused(u16),
-    /// The input failed, or ended inside of a request or of a session, or a body was faulty when it
-    /// was too late for a refusal.
+    /// The input failed, or ended inside a request or a session, or a body was faulty when it was too
+    /// late for a refusal.
     InputBroke,
-    /// A write failed once this many bytes of the text in hand were out: 0 where it was a message
-    /// or a close of a session.
+    /// A write failed once this many bytes of the text in hand were out: 0 for a message or a close of a session.
     WriteFailed(usize),
     /// A limit on turns was reached.
     Idle,
@@ -30,8 +29,8 @@ pub enum Outcome {
 }
 
 impl Outcome {
-    /// The words of the outcome, as a program prints them: `write-failed 9`. They are ASCII, of at
-    /// most 33 bytes. It takes no memory.
+    /// The words of the outcome, as a program prints them: `write-failed 9`. They are ASCII, of at most
+    /// 33 bytes. No memory is taken.
     pub fn words(self) -> ArrayString<40>
         ensures words { result.bytes ≡ outcome_words self }
         ensures short { length result.bytes ≤ 33 }
@@ -68,7 +67,7 @@ fn word(text: &str) -> ArrayString<40>
     words
 }
 
-/// A word and a number behind it, in decimal.
+/// A word and a number after it, in decimal.
 fn numbered(text: &str, number: u64) -> ArrayString<40>
     requires { length text.now ≤ 13 }
     ensures words { result.bytes ≡ text.now ++ decimal number }
@@ -88,7 +87,7 @@ impl fmt::Display for Outcome {
     }
 }
 
-/// What is reported of a connection.
+/// The report on a connection.
 #[derive(Clone, Copy, Debug, PartialEq, Eq)]
 pub struct Report {
     /// How many requests the application was asked to answer.

@@ -16,11 +16,11 @@ use std::test::Fail;
 #[derive(Clone, Copy)]
 enum Under {
     Usual,
-    /// Blocks of so many bytes.
+    /// Blocks of this many bytes.
     Blocks(usize),
-    /// Heads of at most so many bytes.
+    /// Heads of at most this many bytes.
     Heads(usize),
-    /// Bodies of at most so many bytes.
+    /// Bodies of at most this many bytes.
     Bodies(u64),
 }
 
@@ -46,7 +46,7 @@ fn joined(alloc: Global, parts: &[&[u8]]) -> Result<Vec<u8>, AllocError> {
     Ok(bytes)
 }
 
-/// Serves the input in such pieces, and compares.
+/// Serves the input in these pieces, and compares.
 fn is_row<H: Host>(rt: &H, row: &Row, pieces: Pieces, wanted: &[u8]) -> Result<bool, Fail> {
     let (under, app, _, _, end) = *row;
     let limits = limits_of(under)?;
@@ -103,7 +103,7 @@ const EXPECT: &[u8] = b"Expect: 100-continue\r\n";
 
 const TWO_CHUNKS: &[u8] = b"4\r\nabcd\r\n5\r\nefghi\r\n0\r\nx: y\r\n\r\n";
 
-/// The answer `ok` to a request that was heard as it should be.
+/// The response `ok` to a request that was received as it should be.
 const OK: &[u8] = b"2\r\nok\r\n0\r\n\r\n";
 
 const SAYS_START: Step = Step::Says(Said::Start(200, &[]));
@@ -360,7 +360,7 @@ const BROKEN: &[Row] = &[
         &[BAD_REQUEST],
         (Outcome::Refused(400), 1, 0),
     ),
-    // The answer was whole before the rest of the body was known: nothing is written behind it.
+    // The response was whole before the rest of the body was known: nothing is written after it.
     (
         Under::Usual,
         App::Hello,
@@ -383,7 +383,7 @@ fn a_body_that_breaks(rt: HostRuntime) -> Result<(), Fail> {
     check_halves(&rt, BROKEN)
 }
 
-/// One request behind another.
+/// One request after another.
 const PIPELINED: &[Row] = &[
     (
         Under::Usual,
@@ -465,14 +465,14 @@ const PIPELINED: &[Row] = &[
 ];
 
 #[test]
-fn one_request_behind_another(rt: HostRuntime) -> Result<(), Fail> {
+fn one_request_after_another(rt: HostRuntime) -> Result<(), Fail> {
     check(&rt, PIPELINED)?;
     check_halves(&rt, PIPELINED)
 }
 
 const PART_AND_FAULT: &[Step] = &[SAYS_START, Step::Says(Said::Part("x")), Step::Faults];
 
-/// Applications that fault, or end before their answer is whole.
+/// Applications that fault, or end before their response is whole.
 const FAULTS: &[Row] = &[
     (
         Under::Usual,
@@ -516,7 +516,7 @@ const FAULTS: &[Row] = &[
         &[PLAIN_HEAD, OK, PLAIN_HEAD, OK],
         (Outcome::Finished, 2, 2),
     ),
-    // The rest of the body is read first, and what is behind it is not answered.
+    // The rest of the body is read first, and what is after it is not answered.
     (
         Under::Usual,
         App::Refuses,
@@ -531,7 +531,7 @@ const FAULTS: &[Row] = &[
         &[CONTINUE, SERVER_ERROR],
         (Outcome::Refused(500), 1, 1),
     ),
-    // A body that breaks off, or is refused, is told in place of the fault.
+    // A body that breaks off, or is refused, is reported in place of the fault.
     (
         Under::Usual,
         App::Refuses,

@@ -12,7 +12,7 @@ type Counts = (u64, u64, u32);
 /// The input, the bytes of a read, whether each read would block first, and the counts.
 type Row = (&'static [u8], usize, bool, Counts);
 
-/// The greeting takes two turns: in the first its request is offered, and its task says all that it has to say and
+/// The greeting takes two turns: in the first its request is offered, and its task sends all that it has to send and
 /// returns; in the second all of that is taken, and the exchange ends. The last turn finds the end of the input: it is
 /// not idle, nor does it end the row of those that are.
 const ROWS: &[Row] = &[
@@ -33,7 +33,7 @@ fn pieces_of(row: &Row) -> Pieces<'static> {
     pieces
 }
 
-/// Whether the connection over the row's pieces is counted so.
+/// Whether the connection over the row's pieces has these counts.
 fn is_counted<H: Host>(rt: &H, row: &Row) -> io::Result<bool> {
     let mut line = line_of(rt, pieces_of(row))?;
     is_line_counted(rt, &mut line, row.3)
@@ -52,7 +52,7 @@ fn turns_are_counted(rt: HostRuntime) -> Result<(), Fail> {
     Ok(())
 }
 
-/// Whether a connection reaches a limit, so that nothing is written, and is counted so.
+/// Whether a connection reaches a limit, so that nothing is written, and has these counts.
 fn idles<H: Host, R: Read + Drop>(
     rt: &H,
     limits: &Limits,
@@ -105,7 +105,7 @@ fn a_task_that_goes_no_further_is_given_up(rt: HostRuntime) -> Result<(), Fail> 
 type Limited = (&'static [u8], u64, &'static [u8], Outcome, u64);
 
 const LIMITED: &[Limited] = &[
-    // The end of the input, at the last turn and behind it.
+    // The end of the input, at the last turn and after it.
     (b"", 1, b"", Outcome::Finished, 0),
     (b"GE", 2, b"", Outcome::InputBroke, 0),
     (b"GE", 1, b"", Outcome::Idle, 0),

@@ -5,7 +5,7 @@ use lib.ListN.{get_elem?}
 use Rattle.std.specs.List.Sorted.{IsPermutation}
 use Rattle.std.proofs.lemmas.List.Sorted.{IsPermutation-refl, IsPermutation-trans, IsPermutation-append_left, IsPermutation-append_right, IsPermutation-append_comm}
 use Rattle.asgi_crew.specs.declared.channel.Hand.{Hand}
-use Rattle.asgi_crew.specs.Channel.{total}
+use Rattle.asgi_crew.specs.private.Channel.{total}
 
 pub some_same : {A : Type 0} (a b : A) → some a ≡ some b → a ≡ b
 some_same a b e = cc
@@ -91,7 +91,7 @@ module _ {C : Type 0} (f : Hand C → ℕ) where
   at_le (x ∷ xs) zero v at = let e = ap f (some_same x v at) in omega arith
   at_le (x ∷ xs) (suc j) v at = let e = at_le xs j v at in omega arith
 
--- where one pass has all of k, it has all of what a pass with nothing of k has not
+-- if one pass has all of k, it has all of what a pass with nothing of k has not
 module _ {C A : Type 0} (k : Hand C → ℕ) (f : Hand C → List A) where
   no_flat : (views : List (Hand C)) → total k views ≡ 0 → ((j : ℕ) (u : Hand C) → get_elem? views j ≡ some u → k u ≡ 0 → f u ≡ []) → flat_map f views ≡ []
   no_flat [] e idle = refl

@@ -10,7 +10,7 @@ use Rattle.asgi_crew.specs.declared.channel.Mark.{Mark}
 use Rattle.asgi_crew.specs.declared.channel.Mark.TheVariants.{Item, Stop}
 use Rattle.asgi_crew.specs.declared.channel.Task.{Task}
 use Rattle.asgi_crew.specs.declared.channel.Hand.{Hand}
-use Rattle.asgi_crew.specs.Channel.{hand, gave, took, tasks, stops, is_ended, is_ordered, total, IsIdle, IsFair, Adds}
+use Rattle.asgi_crew.specs.private.Channel.{hand, gave, took, tasks, stops, is_ended, is_ordered, total, IsIdle, IsFair, Adds}
 use Rattle.asgi_crew.proofs.Flat.{some_same, flat_more, flat_same, flat_both, flat_snoc, total_set, total_snoc, sole_flat, sole}
 
 module _ {C N : Type 0} where
@@ -24,7 +24,7 @@ module _ {C N : Type 0} where
   stops_append (Item t ∷ xs) ys = stops_append xs ys
   stops_append (Stop ∷ xs) ys = let e = stops_append xs ys in omega arith
 
-  -- where there is no stop, none stands before what comes next
+  -- if there is no stop, none stands before what comes next
   no_stop : (xs : List (Mark C N)) → stops xs ≡ 0 → (x : Mark C N) → is_ordered (xs ++ x ∷ []) ≡ true
   no_stop [] e (Item t) = refl
   no_stop [] e Stop = refl

@@ -24,7 +24,7 @@ all_ended Given workers ended begun is = is
 all_ended NoMemory workers ended begun is = is
 all_ended NoThread workers ended begun is = absurd (begun refl)
 
--- where there are workers, one ended
+-- if there are workers, one ended
 pub some_ended : (e : End) (workers ended : ℕ) → HaveEnded e workers ended → 0 < workers → 0 < ended
 some_ended Given workers ended is some = omega arith
 some_ended NoMemory workers ended is some = omega arith
@@ -143,7 +143,7 @@ module _ {W C N : Type 0} (serves : W → W → C → N → Type 0) where
         in_order = up ∙ ap one_to same ∙ sym (numbered_to 0 given);
       }
 
-  -- each worker as it was, where no item was asked for
+  -- each worker as it was, if no item was asked for
   still : List W → List (Turn W C N)
   still [] = []
   still (w ∷ ws) = record { before = w; after = w; items = []; reports = [] } ∷ still ws

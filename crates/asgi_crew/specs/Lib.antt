@@ -1,3 +1,3 @@
-pub mod Channel
+pub mod private
 pub mod Ran
 pub mod Shared

@@ -9,19 +9,20 @@ use Rattle.asgi_crew.specs.Shared.{numbered, Turn, InTurn}
 abbrev pub items_of : {C : Type 0} → List (ℕ × C) → List C
 items_of xs = map (λ x. x.1) xs
 
--- the giver's last answer, where it was asked once more
+-- the giver's last answer, if it was asked once more
 abbrev pub last_of : {C : Type 0} → End → List (Option C)
 last_of Given = None ∷ []
 last_of NoMemory = []
 last_of NoThread = []
 
--- of so many workers so many took their stop: all, or, where a thread was refused, at least one
+-- of `workers` workers, `ended` took their stop: all, or, if a thread was refused, at least one
 abbrev pub HaveEnded : End → ℕ → ℕ → Type 0
 HaveEnded Given workers ended = ended ≡ workers
 HaveEnded NoMemory workers ended = ended ≡ workers
 HaveEnded NoThread workers ended = 0 < ended
 
--- The workers that have ended, where `v` is what was given to all workers and taken by these, and `put` are the reports that these handed in
+-- The workers that have ended: `v` is what was given to all workers and taken by these, and `put` are the reports that these
+-- handed in
 pub record Ran {W C N : Type 0} (serves : W → W → C → N → Type 0) (old new last : List (Option C)) (was is : List W) (put : List (ℕ × N)) (v : Hand C) : Type 0 where
   pub turns : List (Turn W C N)
   pub before : map (λ t. t.before) turns ≡ was

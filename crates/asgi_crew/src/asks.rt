@@ -4,10 +4,10 @@
 pub trait Asks<G, C> {
     ghost use Rattle.std.specs.Prelude.{◌≡◌, List, [], ◌∷◌, ◌++◌, Option};
 
-    // Each answer that the giver gave, in order.
+    // Each answer of the giver, in order.
     ghost answers: { G → List (Option C) };
 
-    /// Asks for the next item. `None` says that there is no more.
+    /// Asks for the next item. `None` means that there is no more.
     fn ask(&self, giver: &mut G) -> Option<C>
         ensures told { answers giver.new ≡ answers giver.old ++ result ∷ [] };
 }

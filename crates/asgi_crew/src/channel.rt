@@ -17,7 +17,7 @@ pub struct Task<C: Drop, N: Drop> {
 pub enum Mark<C: Drop, N: Drop> {
     /// An item that is to be served.
     Item(Task<C, N>),
-    /// Who takes it takes no more.
+    /// The worker that takes it takes no more.
     Stop,
 }
 
@@ -42,7 +42,7 @@ pub type Knows<C, N> = Pass<Mark<C, N>, Hand<C>>;
 
 impl<C: Drop, N: Drop> Protocol<Mark<C, N>, Hand<C>> for Fair {
     ghost use Rattle.std.specs.Prelude.{[]};
-    ghost use Rattle.asgi_crew.specs.Channel.{hand, IsFair};
+    ghost use Rattle.asgi_crew.specs.private.Channel.{hand, IsFair};
 
     ghost holds = { IsFair };
 
@@ -54,7 +54,7 @@ pub struct Cut;
 
 impl<C> Split<Hand<C>> for Cut {
     ghost use Rattle.std.specs.Prelude.{◌-◌, []};
-    ghost use Rattle.asgi_crew.specs.Channel.{hand};
+    ghost use Rattle.asgi_crew.specs.private.Channel.{hand};
 
     ghost left = { λ v. hand (v.parts - 1) v.gives v.given v.taken v.shut v.ended };
 
@@ -63,7 +63,7 @@ impl<C> Split<Hand<C>> for Cut {
 
 impl<C> Join<Hand<C>> for Cut {
     ghost use Rattle.std.specs.Prelude.{◌+◌, ◌++◌, []};
-    ghost use Rattle.asgi_crew.specs.Channel.{hand};
+    ghost use Rattle.asgi_crew.specs.private.Channel.{hand};
 
     ghost both = { λ v w. hand (v.parts + w.parts) v.gives v.given (v.taken ++ w.taken) v.shut (v.ended + w.ended) };
 
@@ -74,7 +74,7 @@ pub struct Gives;
 
 impl<C: Drop, N: Drop> Outcome<Mark<C, N>, Hand<C>> for Gives {
     ghost use Rattle.std.specs.Prelude.{◌≡◌};
-    ghost use Rattle.asgi_crew.specs.Channel.{gave};
+    ghost use Rattle.asgi_crew.specs.private.Channel.{gave};
 
     ghost then = { λ v x w. w ≡ gave v x };
 }
@@ -87,7 +87,7 @@ pub struct Takes;
 
 impl<C: Drop, N: Drop> Outcome<Mark<C, N>, Hand<C>> for Takes {
     ghost use Rattle.std.specs.Prelude.{◌≡◌};
-    ghost use Rattle.asgi_crew.specs.Channel.{took};
+    ghost use Rattle.asgi_crew.specs.private.Channel.{took};
 
     ghost then = { λ v x w. w ≡ took v x };
 }
@@ -108,7 +108,7 @@ impl<C: Drop, N: Drop> Lesson<Mark<C, N>, Hand<C>> for Bound {
 pub struct Total;
 
 impl<C: Drop, N: Drop> Lesson<Mark<C, N>, Hand<C>> for Total {
-    ghost use Rattle.asgi_crew.specs.Channel.{Adds};
+    ghost use Rattle.asgi_crew.specs.private.Channel.{Adds};
 
     ghost fact = { Adds };
 }

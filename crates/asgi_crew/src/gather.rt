@@ -3,7 +3,7 @@ ghost use Rattle.std.specs.Prelude.{◌≡◌, ◌+◌, ◌-◌, ◌<◌, ◌≤
 ghost use Rattle.std.specs.List.Sorted.{IsPermutation};
 ghost use Rattle.crossbeam_channel.specs.Claims.{view, IsSeatAt};
 ghost use Rattle.crossbeam_channel.specs.Ends.{sends_on};
-ghost use Rattle.asgi_crew.specs.Channel.{hand};
+ghost use Rattle.asgi_crew.specs.private.Channel.{hand};
 
 use crate::channel::{Bound, Cut, Knows, To, Total};
 

@@ -2,7 +2,7 @@
 ghost use Rattle.std.specs.Prelude.{◌≡◌, ◌+◌, ◌<◌, ◌≤◌, [], ◌∷◌, ◌++◌, Some, map, length, vec_len, vec_capacity, IfSome};
 ghost use Rattle.crossbeam_channel.specs.Claims.{view, IsSeatAt};
 ghost use Rattle.crossbeam_channel.specs.Ends.{sends_on};
-ghost use Rattle.asgi_crew.specs.Channel.{hand, gave};
+ghost use Rattle.asgi_crew.specs.private.Channel.{hand, gave};
 ghost use Rattle.asgi_crew.specs.Ran.{items_of, last_of};
 ghost use Rattle.asgi_crew.specs.Shared.{numbered};
 ghost use Rattle.asgi_crew.specs.declared.give.End.TheVariants.{NoThread};
@@ -24,7 +24,7 @@ pub enum End {
     NoThread,
 }
 
-/// Waits until the item, with its number and its place, stands in the channel.
+/// Waits until the item, with its number and its place, is in the channel.
 fn give<C: Drop, N: Drop, R: Wait>(rt: &R, to: &To<C, N>, pass: &mut Knows<C, N>, task: Task<C, N>)
     requires seat { IsSeatAt (sends_on to.now) pass.old }
     requires may { ((view pass.old).gives ≡ 1) × (0 < (view pass.old).parts) × ((view pass.old).shut ≡ 0) }
@@ -41,7 +41,7 @@ fn give<C: Drop, N: Drop, R: Wait>(rt: &R, to: &To<C, N>, pass: &mut Knows<C, N>
     unreachable!()
 }
 
-/// The same of one stop.
+/// The same for one stop.
 fn give_stop<C: Drop, N: Drop, R: Wait>(rt: &R, to: &To<C, N>, pass: &mut Knows<C, N>)
     requires seat { IsSeatAt (sends_on to.now) pass.old }
     requires may { ((view pass.old).gives ≡ 1) × (0 < (view pass.old).parts) }
@@ -58,7 +58,7 @@ fn give_stop<C: Drop, N: Drop, R: Wait>(rt: &R, to: &To<C, N>, pass: &mut Knows<
     unreachable!()
 }
 
-/// A stop for each of so many workers.
+/// Gives a stop for each of `count` workers.
 pub fn give_stops<C: Drop, N: Drop, R: Wait>(
     rt: &R,
     to: &To<C, N>,
@@ -75,8 +75,8 @@ pub fn give_stops<C: Drop, N: Drop, R: Wait>(
     }
 }
 
-/// A place for the report of the next item behind so many, and room for it among all reports. `None` where memory is
-/// refused.
+/// A place for the report of the item with the number `next`, and room for it among all reports. `None` if memory
+/// is refused.
 fn place_for<N: Drop>(alloc: Global, all: &mut Vec<(u64, N)>, next: u64) -> Option<Place<N>>
     requires { all.old.items ≡ [] }
     ensures same { all.new.items ≡ [] }
@@ -115,7 +115,7 @@ pub fn give_all<C: Drop, N: Drop, G, E: Asks<G, C>, R: Wait>(
         let Some(number) = given.checked_add(1) else {
             return End::NoMemory;
         };
-        // Memory for its report is had before an item is asked for.
+        // Memory for its report is reserved before an item is asked for.
         let Some(place) = place_for(alloc, all, number) else {
             return End::NoMemory;
         };

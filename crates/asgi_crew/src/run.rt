@@ -2,9 +2,9 @@
 ghost use Rattle.std.specs.Prelude.{◌≡◌, ◌+◌, ◌<◌, ◌≤◌, [], ◌∷◌, ◌++◌, length, vec_len, vec_capacity};
 ghost use Rattle.crossbeam_channel.specs.Claims.{view, IsSeatAt};
 ghost use Rattle.crossbeam_channel.specs.Ends.{sends_on, receives_on};
-ghost use Rattle.asgi_desk.specs.Channel.{seated};
+ghost use Rattle.asgi_desk.specs.Hands.{seated};
 ghost use Rattle.asgi_desk.specs.Seat.{knows, IsSeatOf};
-ghost use Rattle.asgi_crew.specs.Channel.{hand};
+ghost use Rattle.asgi_crew.specs.private.Channel.{hand};
 ghost use Rattle.asgi_crew.specs.Ran.{last_of, HaveEnded, Ran};
 ghost use Rattle.asgi_crew.specs.Shared.{InTurn};
 ghost use Rattle.asgi_crew.specs.declared.give.End.TheVariants.{NoThread};
@@ -36,9 +36,9 @@ impl<C: Drop, N: Drop, W: Drop, T: Teller<N> + Drop, E: Serves<W, C, Report = N>
     ghost use Rattle.std.specs.Prelude.{◌≡◌, []};
     ghost use Rattle.crossbeam_channel.specs.Claims.{view, IsSeatAt};
     ghost use Rattle.crossbeam_channel.specs.Ends.{receives_on};
-    ghost use Rattle.asgi_desk.specs.Channel.{seated};
+    ghost use Rattle.asgi_desk.specs.Hands.{seated};
     ghost use Rattle.asgi_desk.specs.Seat.{knows, IsSeatOf};
-    ghost use Rattle.asgi_crew.specs.Channel.{hand};
+    ghost use Rattle.asgi_crew.specs.private.Channel.{hand};
     ghost use Rattle.asgi_crew.specs.Shared.{InTurn};
 
     ghost kept_by = { λ p r. (IsSeatAt (receives_on p.from.value) r.pass × IsSeatOf p.desk.value r.seat)
@@ -101,9 +101,9 @@ fn joined<C: Drop, N: Drop, W: Drop, T: Teller<N> + Drop>(
     }
 }
 
-/// Starts each worker in a thread of its own, behind so many that were started, gives all items in this one, and a stop
-/// for each worker. Where a thread is refused no item is asked for: those that run are stopped, and its worker takes its
-/// stop in this thread.
+/// Starts each worker in a thread of its own, after `started` that were started before, gives all items in this one,
+/// and a stop for each worker. If a thread is refused, no item is asked for: the workers that run are stopped, and the
+/// refused one takes its stop in this thread.
 pub fn run<
     's,
     'e,

@@ -2,7 +2,7 @@
 
 /// Serves an item, by a worker.
 pub trait Serves<W, C> {
-    /// What is told of an item that was served.
+    /// What is reported of an item that was served.
     type Report;
 
     // From the worker as it was to the worker as it is, it served this item, and this is the report.

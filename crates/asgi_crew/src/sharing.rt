@@ -2,10 +2,10 @@
 ghost use Rattle.std.specs.Prelude.{◌≡◌, ◌<◌, ◌≤◌, [], length, vec_len, vec_capacity};
 ghost use Rattle.crossbeam_channel.specs.Claims.{view, IsSeatAt};
 ghost use Rattle.crossbeam_channel.specs.Ends.{sends_on, receives_on};
-ghost use Rattle.asgi_desk.specs.Channel.{seated};
+ghost use Rattle.asgi_desk.specs.Hands.{seated};
 ghost use Rattle.asgi_desk.specs.Seat.{knows, IsSeatOf};
 ghost use Rattle.asgi_desk.specs.Told.{Told};
-ghost use Rattle.asgi_crew.specs.Channel.{hand};
+ghost use Rattle.asgi_crew.specs.private.Channel.{hand};
 ghost use Rattle.asgi_crew.specs.Ran.{last_of, HaveEnded, Ran};
 ghost use Rattle.asgi_crew.specs.Shared.{IsShared};
 ghost use Rattle.asgi_crew.specs.declared.give.End.TheVariants.{NoThread};
@@ -33,20 +33,20 @@ pub struct Shared<N: Drop, W: Drop, T: Drop> {
     pub reports: Vec<(u64, N)>,
     /// The workers, in their order.
     pub workers: Vec<W>,
-    /// The teller, which was told each report.
+    /// The teller, which got each report.
     pub teller: T,
     /// Why no more items were asked for.
     pub end: End,
 }
 
-/// What was lent stays as it is. A `&mut` that came back in a result is known again behind a call of it.
+/// What was borrowed stays as it is. A `&mut` that came back in a result is known again after a call of this.
 fn keep<T>(lent: &mut T)
     ensures { lent.new ≡ lent.old }
 {
     let _ = lent;
 }
 
-/// Starts the workers, which end before it returns, and gives all items.
+/// Starts the workers, which end before this returns, and gives all items.
 fn run_scoped<
     C: Drop + Send,
     N: Drop + Send,
@@ -121,11 +121,11 @@ fn not_begun<N: Drop, W: Drop, T: Drop>(
     }
 }
 
-/// Hands each item that the giver gives to one of the workers, each in a thread of its own. The teller is told each report
+/// Hands each item that the giver gives to one of the workers, each in a thread of its own. The teller gets each report
 /// once, in the order in which the items were given, and each as soon as all those before it are there.
 ///
-/// Memory for a report is had before its item is asked for, and where it is refused no more is asked for (`NoMemory`).
-/// Where a worker is refused its thread none is asked for (`NoThread`).
+/// Memory for a report is reserved before its item is asked for; if it is refused, no more is asked for (`NoMemory`).
+/// If a worker is refused its thread, none is asked for (`NoThread`).
 pub fn share<
     C: Drop + Send,
     N: Drop + Send,

@@ -2,9 +2,9 @@
 ghost use Rattle.std.specs.Prelude.{◌≡◌, ◌<◌, []};
 ghost use Rattle.crossbeam_channel.specs.Claims.{view, IsSeatAt};
 ghost use Rattle.crossbeam_channel.specs.Ends.{receives_on};
-ghost use Rattle.asgi_desk.specs.Channel.{seated};
+ghost use Rattle.asgi_desk.specs.Hands.{seated};
 ghost use Rattle.asgi_desk.specs.Seat.{knows, IsSeatOf};
-ghost use Rattle.asgi_crew.specs.Channel.{hand, took};
+ghost use Rattle.asgi_crew.specs.private.Channel.{hand, took};
 ghost use Rattle.asgi_crew.specs.Shared.{InTurn};
 
 use crate::channel::{From, Knows, Mark, Takes, Task};
@@ -20,7 +20,7 @@ pub struct Worked<C: Drop, N: Drop, W: Drop, T: Drop> {
     pub worker: W,
 }
 
-/// Waits for what stands first in the channel.
+/// Waits for what is first in the channel.
 fn take<C: Drop, N: Drop, R: Wait>(rt: &R, from: &From<C, N>, pass: &mut Knows<C, N>) -> Mark<C, N>
     requires seat { IsSeatAt (receives_on from.now) pass.old }
     requires may { (0 < (view pass.old).parts) × ((view pass.old).gives ≡ 0) }

@@ -13,7 +13,7 @@ pub struct Workers {
 }
 
 impl Workers {
-    /// So many workers, where that is a number from 1 to 8.
+    /// This many workers, if that is a number from 1 to 8.
     pub fn new(count: u64) -> Option<Workers>
         ensures { MatchOption result (¬ ((0 < count) × (count ≤ 8))) (λ w. (w.count ≡ count) × (0 < count) × (count ≤ 8)) }
     {

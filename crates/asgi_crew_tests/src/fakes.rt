@@ -1,4 +1,4 @@
-//! A giver of numbers, workers that count what they served, and a teller that counts what it was told.
+//! A giver of numbers, workers that count what they served, and a teller that counts what it got.
 ghost use Rattle.std.specs.Prelude.{◌≡◌, min};
 
 use asgi_crew::{Asks, Serves, Teller};
@@ -42,7 +42,7 @@ pub struct Counter {
     pub served: u64,
 }
 
-/// Asks for numbers, and has them counted, up to a highest one, which is lent to all workers.
+/// Asks for numbers, and has them counted, up to a highest one, which all workers borrow.
 #[derive(Drop)]
 pub struct Counting {
     pub highest: u64,
@@ -69,7 +69,7 @@ impl Serves<Counter, u64> for Counting {
     }
 }
 
-/// The same, but a worker lets other threads go first, as often as hangs on this seed and on the number.
+/// The same, but a worker lets other threads go first, as often as this seed and the number make it.
 #[derive(Drop)]
 pub struct Dawdling {
     pub seed: u64,
@@ -99,7 +99,7 @@ impl Serves<Counter, u64> for Dawdling {
     }
 }
 
-/// A number that looks as if it hung on neither.
+/// A number that looks as if it depended on neither.
 fn mixed(seed: u64, item: u64) -> u64 {
     let one = item
         .wrapping_add(seed.wrapping_mul(0x9E37_79B9_7F4A_7C15))
@@ -107,7 +107,7 @@ fn mixed(seed: u64, item: u64) -> u64 {
     (one ^ (one >> 31)).wrapping_mul(0x94D0_49BB_1331_11EB) >> 40
 }
 
-/// Is told reports, and keeps whether each came under the next number.
+/// Gets reports, and keeps whether each came under the next number.
 #[derive(Drop)]
 pub struct Heard {
     pub count: u64,
@@ -115,7 +115,7 @@ pub struct Heard {
 }
 
 impl Heard {
-    /// Was told none.
+    /// Got none yet.
     pub fn none() -> Heard {
         Heard {
             count: 0,

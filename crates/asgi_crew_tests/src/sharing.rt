@@ -1,4 +1,4 @@
-//! Each number is served once, whoever serves it, and the reports are told, and stand, in the order of the numbers.
+//! Each number is served once, whoever serves it, and the reports come, and stand, in the order of the numbers.
 use crate::fakes::{Counter, Counting, Dawdling, Heard, Numbers};
 use asgi_crew::{Asks, End, Serves, Shared, share};
 use std::alloc::{AllocError, AllocGlobal, Global};
@@ -7,13 +7,13 @@ use std::sync::Wait;
 use std::test::Fail;
 use std::thread::Threads;
 
-/// So many items, and so many workers.
+/// How many items, and how many workers.
 const ROWS: [(u64, u64); 7] = [(0, 1), (0, 2), (1, 8), (3, 3), (17, 5), (40, 1), (300, 8)];
 
 /// Counts all numbers as they are.
 const ALL: Counting = Counting { highest: u64::MAX };
 
-/// Shares so many numbers out among so many workers.
+/// Shares `items` numbers out among `workers` workers.
 fn shares<
     R: Threads + Wait + Sync + Abort + AllocGlobal,
     E: Asks<Numbers, u64> + Serves<Counter, u64, Report = (u64, u64)> + Sync,

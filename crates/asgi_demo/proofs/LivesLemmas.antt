@@ -1,4 +1,4 @@
--- What followed the answer to the start is what the program promises.
+-- What came after the answer to the start is what the program promises.
 use Rattle.std.proofs.Common.{◌≡◌, ◌⊎◌, inl, inr, ℕ, Bool, List, [], Option, Some, None, subst, sym}
 use Rattle.asgi_io.specs.declared.counts.Counts as counts
 use Rattle.asgi_io.specs.declared.reads.Reads as reads
@@ -23,7 +23,7 @@ use Rattle.asgi_demo.specs.declared.ending.Ending.{Ending}
 use Rattle.asgi_demo.specs.declared.ending.Ending.TheVariants.{StartupFailed, NoStartup}
 use Rattle.asgi_demo.specs.Serving.{Around, LivesOrNot, Follows, ServesEach, ending_of}
 
--- what holds beside the one case is left aside
+-- what holds besides the one case is left aside
 pub aside : {A B C : Type 0} → (A × B) ⊎ C → A ⊎ C
 aside (inl (a, b)) = inl a
 aside (inr c) = inr c
@@ -46,7 +46,7 @@ kept_within one other limits heard said before after answer within x = record {
 
 module _ {L T : Type 0} (R : reads.Ghosts L) (W : counts.Ghosts L) (M : messages.Ghosts L) (answers : Promise) (limits : Limits) (workers : ℕ) (has_failed : Bool) (g : tasks.Ghosts T)
     (old new : Around L) (before between after : ℕ) (ending : Ending) where
-  -- an application that was started so, and what followed
+  -- an application that was started like this, and what came next
   lives_by : (answer : Start T g) (x : Starts (answers lifespan_scope) limits before between answer)
       → Follows R W M answers limits workers has_failed (start_answer x.said x.ended) x.heard x.said old new between after ending → LivesOrNot R W M answers limits workers has_failed old new before after ending
   lives_by answer x follows = inl record {
@@ -62,7 +62,7 @@ module _ {L T : Type 0} (R : reads.Ghosts L) (W : counts.Ghosts L) (M : messages
     follows = follows;
   }
 
-  -- the same by what follows the answer that it gave
+  -- the same by what came after its answer
   follows_by : (answer : Start T g) (told : Option StartAnswer) (x : Starts (answers lifespan_scope) limits before between answer) → start_answer x.said x.ended ≡ told
       → Follows R W M answers limits workers has_failed told x.heard x.said old new between after ending → LivesOrNot R W M answers limits workers has_failed old new before after ending
   follows_by answer told x is follows =

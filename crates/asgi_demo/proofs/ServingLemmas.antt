@@ -7,7 +7,7 @@ use Rattle.asgi_types.specs.declared.state.StateValue.{StateValue}
 use Rattle.asgi_types.specs.Ranges.{AreLimits}
 use Rattle.asgi_ws.specs.declared.messages.Messages as messages
 use Rattle.asgi_conversation.specs.declared.report.Report.{Report}
-use Rattle.asgi_conn.specs.Lines.{LineState}
+use Rattle.asgi_run.specs.Lines.{LineState}
 use Rattle.asgi_conn.specs.Serving.{Serves}
 use Rattle.asgi_apps.specs.declared.mounting.Mount.{Mount}
 use Rattle.asgi_apps.specs.declared.root_path.RootPath.{RootPath}
@@ -33,7 +33,7 @@ served_whole answers limits state old new paused pauses report usual empty no_pa
     let P : ℕ → Type 0 = λ k. Serves answers limits None None [] old new k pauses report in
     record { limits = limits; usual = usual; pauses = pauses; serves = subst P no_pause (subst S empty x) }
 
--- what is served by an application is served by the one that is named so
+-- what is served by an application is served by the one of this name
 pub as_named : (a b : App) (before after : Streams) (status : ℕ) → a ≡ b → ServesOnce (promise b) before after status ⊎ BeginsNone before after status
     → ServesOnce (promise a) before after status ⊎ BeginsNone before after status
 as_named a b before after status same served = subst (λ x. ServesOnce (promise x) before after status ⊎ BeginsNone before after status) (sym same) served
@@ -53,7 +53,7 @@ mounted mounts = MountsAnswer (λ _ taken. Answers (root_path_answer taken)) mou
 abbrev mount_at : List ℕ → Mount RootPath
 mount_at prefix = record { prefix = prefix; app = record {} }
 
--- two applications were mounted, one behind the other
+-- two applications were mounted, one after the other
 pub two_by : (none one two : List (Mount RootPath)) (p q : List ℕ) → none ≡ [] → one ≡ none ++ record { prefix = p; app = record {} } ∷ []
     → two ≡ one ++ record { prefix = q; app = record {} } ∷ [] → p ≡ codes "/a" → q ≡ codes "/a/b" → two ≡ two_mounts
 two_by none one two p q empty first second is other =
@@ -73,12 +73,12 @@ module _ {L : Type 0} (R : reads.Ghosts L) (W : counts.Ghosts L) (M : messages.G
       port_as_named R W M a app.Mounts limits workers has_failed old new errors_old errors_new status usual same
       (subst (λ m. ServesOn R W M (mounted m) limits workers has_failed old new errors_old errors_new status) is serves)
 
-  -- what is to be served can't be had, and the listener was not asked
+  -- what is to be served is not available, and the listener was not asked
   pub port_unserved : (answers : Promise) → AreLimits limits 16384 64 1048576 16384 16 30000 1099511627776 → new ≡ old → Tells device_fault errors_old errors_new → status ≡ 5
       → ServesPort R W M answers workers has_failed old new errors_old errors_new status
   port_unserved answers usual kept told is = record { limits = limits; usual = usual; serves = inr (kept, told, is) }
 
--- what was served by the application and the workers that the words name, from where the listener was told its port
+-- what was served by the application and the workers that the words name, once the port of the listener was set
 pub port_asked : {L : Type 0} (R : reads.Ghosts L) (W : counts.Ghosts L) (M : messages.Ghosts L) (words : List (List ℕ)) (a b : App) (port count n : ℕ) (w : Workers) (has_failed : Bool)
     (asked told : List (Option (Given L))) (output : Writer) (new : Around L) (errors_old errors_new : Writer) (status : ℕ)
     (found : Command) → IsServing words a n → Asks words found → found ≡ Serve port count b w → told ≡ asked

@@ -1,4 +1,4 @@
--- What is told of an outcome, by its status.
+-- What is written about an outcome, by its status.
 use Rattle.std.proofs.Common.{◌≡◌, ℕ, Bool, true, false, List, ◌++◌, Some, None, codes, subst, sym, refl}
 use Rattle.std.specs.Prelude.{if◌then◌else◌}
 use Rattle.asgi_conversation.specs.declared.report.Outcome.{Outcome}
@@ -9,7 +9,7 @@ use Rattle.asgi_demo.specs.Command.{exit_status}
 use Rattle.asgi_demo.specs.Serving.{of_ending}
 use Rattle.asgi_demo.specs.Telling.{Writer, Tells, TellsOf, of_outcome, stopped}
 
--- another status than 0: the connection stopped, and so it was told
+-- another status than 0: the connection stopped, and this was written
 pub stopped_is_told : (o : Outcome) (text : List ℕ) (old new : Writer) → ¬ (exit_status o ≡ 0) → text ≡ stopped o → Tells text old new
     → TellsOf (of_outcome o) old new
 stopped_is_told o text old new fails is told = by (is_cut o) fails
@@ -18,7 +18,7 @@ stopped_is_told o text old new fails is told = by (is_cut o) fails
     by true fails = subst (λ t. Tells t old new) is told
     by false fails = absurd (fails refl)
 
--- status 0: nothing is told
+-- status 0: nothing is written
 pub nothing_is_told : (o : Outcome) (old : Writer) → exit_status o ≡ 0 → TellsOf (of_outcome o) old old
 nothing_is_told o old well = by (is_cut o) well
   where

@@ -22,7 +22,7 @@ not_not : (b : Bool) → false ≡ not b → b ≡ true
 not_not true e = refl
 not_not false e = cc
 
--- the first word has its text, so where the second has one of these texts, both have theirs
+-- the first word has its text, so if the second has one of these texts, both have theirs
 pub both_have : {A B : Type 0} (f : A → List ℕ) (words : List A) (a b : A) (first : List ℕ) (text_of : B → List ℕ) (found : Option B)
     → length words ≡ 2 → a ≡ get_or words 0 a → b ≡ get_or words 1 b → false ≡ not (bytes_eq (f a) first)
     → IfSome found (λ it. f b ≡ text_of it) → IfSome found (λ it. map f words ≡ first ∷ text_of it ∷ [])
@@ -79,7 +79,7 @@ serve_have all first port count name rest workers (Some it) is e many named =
     let one = (bytes_eq-Decides first (codes "serve")).0 (not_not (bytes_eq first (codes "serve")) e) in
     (port, count, name, rest, workers, is ∙ ap (λ word. word ∷ port ∷ count ∷ name ∷ rest) one, many, named)
 
--- where the three others ask for nothing, neither do all
+-- if the three others ask for nothing, neither do all
 serve_none : (all : List (List ℕ)) (first port count name : List ℕ) (rest : List (List ℕ)) (workers : ℕ) → all ≡ first ∷ port ∷ count ∷ name ∷ rest
     → workers_of rest ≡ Some workers → ((it : Command) → ¬ (IsServeWith port count name workers it)) → (it : Command) → ¬ (IsServe all it)
 serve_none all first port count name rest workers is many none it (port', count', name', rest', workers', is', many', with_these) =

@@ -1,4 +1,4 @@
--- What the program does with its words.
+-- What the program does, by the words after its name.
 use Rattle.std.specs.Prelude.{◌≡◌, ℕ, Bool, List, [], ◌∷◌, codes, None, if◌then◌else◌}
 use Rattle.asgi_io.specs.declared.counts.Counts as counts
 use Rattle.asgi_io.specs.declared.reads.Reads as reads
@@ -16,8 +16,8 @@ use Rattle.asgi_apps.specs.WsEcho.{WsEchoAnswers}
 use Rattle.asgi_conversation.specs.declared.report.Outcome.{Outcome}
 use Rattle.asgi_conversation.specs.declared.report.Report.{Report}
 use Rattle.asgi_conversation.specs.OutcomeClasses.{is_cut}
-use Rattle.asgi_conversation.specs.Promised.{echo_promise, hello_promise}
-use Rattle.asgi_conn.specs.Lines.{LineState}
+use Rattle.asgi_conversation.specs.PromisedWhole.{echo_promise, hello_promise}
+use Rattle.asgi_run.specs.Lines.{LineState}
 use Rattle.asgi_conn.specs.Serving.{Serves}
 use Rattle.asgi_server.specs.Connections.{Promise}
 use Rattle.asgi_demo.specs.declared.words.App.{App}
@@ -29,7 +29,7 @@ use Rattle.asgi_demo.specs.Telling.{Writer, Tells, TellsOf, device_fault, of_out
 abbrev pub two_mounts : List (Mount RootPath)
 two_mounts = record { prefix = codes "/a"; app = record {} } ∷ record { prefix = codes "/a/b"; app = record {} } ∷ []
 
--- the promise of the application that is named
+-- the promise of the named application
 abbrev pub promise : App → Promise
 promise app.Hello = hello_promise
 promise app.Echo = echo_promise
@@ -52,28 +52,28 @@ pub record Streams : Type 0 where
 abbrev pub streams : LineState → Writer → Streams
 streams line errors = record { line = line; errors = errors }
 
--- One connection was served with the usual limits, with no client, no server and an empty state, as `serve_connection` promises:
--- by an application of this promise, and with a pause of the program's own.
+-- One connection was served with the usual limits, with no client, no server and an empty state, as `serve_connection`
+-- promises: by an application of this promise, and with the program's own pause.
 pub record ServesWhole (answers : Promise) (old new : LineState) (report : Report) : Type 0 where
   pub limits : Limits
   pub usual : AreLimits limits 16384 64 1048576 16384 16 30000 1099511627776
   pub pauses : ℕ
   pub serves : Serves answers limits None None [] old new 0 pauses report
 
--- One connection was served; its outcome was told, and the status is that of it.
+-- One connection was served; its outcome was written to standard error, and the status is that of the outcome.
 pub record ServesOnce (answers : Promise) (old new : Streams) (status : ℕ) : Type 0 where
   pub report : Report
   pub serves : ServesWhole answers old.line new.line report
   pub tells : TellsOf (of_outcome report.outcome) old.errors new.errors
   pub status_is : status ≡ exit_status report.outcome
 
--- Nothing can run a task, so that no connection was begun; this was told, and the status is that of it.
+-- Nothing can run a task, so no connection was begun; this was written to standard error, and the status is that of it.
 pub record BeginsNone (old new : Streams) (status : ℕ) : Type 0 where
   pub line_is : new.line ≡ old.line
   pub tells : Tells device_fault old.errors new.errors
   pub status_is : status ≡ 5
 
--- The connections of a port were served with the usual limits, by an application of this promise and so many workers.
+-- The connections of a port were served with the usual limits, by an application of this promise and this many workers.
 pub record ServesPort {L : Type 0} (R : reads.Ghosts L) (W : counts.Ghosts L) (M : messages.Ghosts L) (answers : Promise) (workers : ℕ) (has_failed : Bool)
     (old new : Around L) (errors_old errors_new : Writer) (status : ℕ) : Type 0 where
   pub limits : Limits

@@ -1,5 +1,5 @@
--- How the program serves the connections of a listener: the application is started, each connection is served and reported, and the
--- application is stopped, whatever happened in between (ASGI lifespan protocol 2.0).
+-- How the program serves the connections of a listener: the application is started, each connection is served and reported,
+-- and the application is stopped, whatever happened in between (ASGI lifespan protocol 2.0).
 use Rattle.std.specs.Prelude.{◌≡◌, ◌⊎◌, ◌&&◌, ◌++◌, ℕ, Bool, true, false, not, List, [], ◌∷◌, codes, replicate, Option, Some, None}
 use mathlib.Core.List.{IsPrefix}
 use Rattle.asgi_io.specs.declared.counts.Counts as counts
@@ -40,7 +40,7 @@ status_of (ShutdownFailed message) = 4
 status_of NoShutdown = 4
 status_of DeviceFault = 5
 
--- what is told on standard error: nothing where all went well
+-- what is written to standard error: nothing if all went well
 abbrev pub of_ending : Ending → Option (List ℕ)
 of_ending Done = None
 of_ending (StartupFailed message) = Some (codes "startup failed: " ++ message ++ codes "\n")
@@ -55,14 +55,14 @@ end_by_stop stop.Stopped = Done
 end_by_stop (stop.Failed message) = ShutdownFailed message
 end_by_stop (stop.Idle turns) = NoShutdown
 
--- the end, where all went well with the connections and their reports, and where not
+-- the end, by whether all went well with the connections and their reports
 abbrev pub ending_of : Bool → Stop → Ending
 ending_of true answer = end_by_stop answer
 ending_of false answer = DeviceFault
 
 -- ---- the connections and their reports
 
--- What is known of the listener and of standard output at one time: how each call for a connection was answered, and what was
+-- What is known of the listener and of standard output at one time: the result of each call for a connection, and what was
 -- written.
 pub record Around (L : Type 0) : Type 0 where
   pub asked : List (Option (Given L))
@@ -78,10 +78,11 @@ gave_all end.NoMemory = false
 gave_all end.NoThread = false
 
 module _ {L : Type 0} (R : reads.Ghosts L) (W : counts.Ghosts L) (M : messages.Ghosts L) (answers : Promise) (limits : Limits) (workers : ℕ) (has_failed : Bool) where
-  -- The connections of the listener were served with this state, each by one of so many workers, and of each a line was told, in the
-  -- order in which they came. All went well where the listener gave all that it had and has not failed, and each line went out.
+  -- The connections of the listener were served with this state, each by one of `workers` workers, and a line was written for
+  -- each, in the order in which they came. All went well if the listener gave all that it had and has not failed, and each
+  -- line went out.
   pub record ServesEach (state : List (List ℕ × StateValue)) (old new : Around L) (well : Bool) : Type 0 where
-    -- why no more was asked for
+    -- why no more connections were asked for
     pub ended : End
     -- the count of each worker's pauses began at none, and is this
     pub pauses : List ℕ
@@ -94,8 +95,8 @@ module _ {L : Type 0} (R : reads.Ghosts L) (W : counts.Ghosts L) (M : messages.G
 
   -- ---- the life of the application
 
-  -- What follows the answer to "Startup", behind what was heard and said up to it: where the start failed, or there was no answer,
-  -- the listener is not asked.
+  -- What comes after the answer to "Startup", and after what was received and sent up to it: if the start failed, or there
+  -- was no answer, the listener is not asked.
   abbrev pub Follows : Option StartAnswer → List Incoming → List Outgoing → Around L → Around L → ℕ → ℕ → Ending → Type 0
   Follows (Some (started state)) heard said old new before after ending =
       (well : Bool) × (answer : Stop) × ServesEach state old new well × Stops (answers lifespan_scope) limits heard said before after answer × (ending ≡ ending_of well answer)
@@ -104,16 +105,16 @@ module _ {L : Type 0} (R : reads.Ghosts L) (W : counts.Ghosts L) (M : messages.G
   Follows (Some (failed message)) heard said old new before after ending = (new ≡ old) × (after ≡ before) × (ending ≡ StartupFailed message)
   Follows None heard said old new before after ending = (new ≡ old) × (after ≡ before) × (ending ≡ NoStartup)
 
-  -- The application was started, and what followed is that of the answer.
+  -- The application was started, and what came next is by its answer.
   pub record Lives (old new : Around L) (before after : ℕ) (ending : Ending) : Type 0 where
-    -- It was offered "Startup", and all that it said by then is lawful, and as it promises.
+    -- The application was offered "Startup"; all that it sent by then is lawful, and as it promises.
     pub heard : List Incoming
     pub said : List Outgoing
     pub ended : Option EndKind
     pub hears : IsPrefix heard (LifespanStartup ∷ [])
     pub lawful : IsLawful kind.Lifespan no_request said
     pub promised : answers lifespan_scope heard said ended
-    -- the start took turns within the limits; it gave up behind so many, where it did
+    -- the start took turns within the limits; if it gave up, after this many
     pub gave_up : Option ℕ
     pub between : ℕ
     pub turns : TakesTurns limits.turns limits.idle_turns before between gave_up
@@ -125,8 +126,8 @@ module _ {L : Type 0} (R : reads.Ghosts L) (W : counts.Ghosts L) (M : messages.G
 
   -- ---- the program
 
-  -- The server ran to such an end, which was told; the status is that of it. Or nothing can run a task: this was told, and the
-  -- listener was not asked.
+  -- The server ran to this end, which was written to standard error; the status is that of it. Or nothing can run a task:
+  -- this was written there, and the listener was not asked.
   abbrev pub ServesOn : Around L → Around L → Writer → Writer → ℕ → Type 0
   ServesOn old new errors_old errors_new status =
       ((ending : Ending) × (pauses : ℕ) × LivesOrNot old new 0 pauses ending × TellsOf (of_ending ending) errors_old errors_new × (status ≡ status_of ending))

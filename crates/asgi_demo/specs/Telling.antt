@@ -1,4 +1,4 @@
--- What is told on standard error and standard output: which text for which case, and how much of it goes out.
+-- What is written to standard error and standard output: which text for which case, and how much of it goes out.
 use Rattle.std.specs.Prelude.{◌≡◌, ℕ, Bool, true, false, List, ◌++◌, codes, Option, Some, None, if◌then◌else◌}
 use Rattle.std.specs.Fmt.{decimal}
 use Rattle.std.specs.List.{flat_map}
@@ -21,18 +21,18 @@ device_fault = codes "device fault\n"
 abbrev pub stopped : Outcome → List ℕ
 stopped outcome = codes "stopped: " ++ outcome_words outcome ++ codes "\n"
 
--- what is told of an outcome: nothing where the connection was served to its end
+-- what is written about an outcome: nothing if the connection was served to its end
 abbrev pub of_outcome : Outcome → Option (List ℕ)
 of_outcome outcome = if is_cut outcome then Some (stopped outcome) else None
 
--- the line of a report: the number of the connection, that of its exchanges, and the words of its outcome
+-- the line of a report: the number of the connection, the number of its exchanges, and the words of its outcome
 abbrev pub report_line : ℕ × Report → List ℕ
 report_line (number, report) = decimal number ++ codes " " ++ decimal report.exchanges ++ codes " " ++ outcome_words report.outcome ++ codes "\n"
 
 abbrev pub report_lines : List (ℕ × Report) → List ℕ
 report_lines reports = flat_map report_line reports
 
--- what is known of a writer at one time: the bytes that it holds, how each write was answered, and how many failed
+-- what is known of a writer at one time: the bytes that it holds, the outcome of each write, and how many failed
 pub record Writer : Type 0 where
   pub written : Option (List ℕ)
   pub writes : List Answer
@@ -64,7 +64,7 @@ pub record Puts (text : List ℕ) (old new : Writer) (whole : Bool) : Type 0 whe
   pub tries : TriesWrites old.writes new.writes (out_of text wrote) wrote
   pub whole_is : whole ≡ is_whole wrote
 
--- a text behind others: it was written where all of those went out, and else the writer is as it was
+-- a text after others: it was written if all of those went out, and else the writer is as it was
 abbrev pub PutsNext : Bool → List ℕ → Writer → Writer → Bool → Type 0
 PutsNext true text old new whole = Puts text old new whole
 PutsNext false text old new whole = (new ≡ old) × (whole ≡ false)

@@ -1,4 +1,4 @@
--- The words behind the program's name, and what they ask for.
+-- The words after the program's name, and what they ask for.
 use Rattle.std.specs.Prelude.{◌≡◌, ℕ, ◌&&◌, nat_le, if◌then◌else◌, List, [], ◌∷◌, length, codes, Option, Some, None}
 use Rattle.std.specs.List.{list_all}
 use Rattle.asgi_types.specs.Lengths.{is_digit, number_of}
@@ -23,7 +23,7 @@ word_of app.NoStop = codes "nostop"
 abbrev pub number_of_word : List ℕ → Option ℕ
 number_of_word word = if nat_le 1 (length word) && nat_le (length word) 5 && list_all is_digit word then Some (number_of word) else None
 
--- the number, where it is within these bounds
+-- the number, if it is within these bounds
 abbrev pub within : ℕ → ℕ → Option ℕ → Option ℕ
 within least most None = None
 within least most (Some n) = if nat_le least n && nat_le n most then Some n else None
@@ -35,23 +35,23 @@ number_in least most word = within least most (number_of_word word)
 abbrev pub IsOnce : List (List ℕ) → App → Type 0
 IsOnce words named = words ≡ codes "once" ∷ word_of named ∷ []
 
--- the number of workers: two, or the one word that names it
+-- the number of workers: two, or the one that the one word gives
 abbrev pub workers_of : List (List ℕ) → Option ℕ
 workers_of [] = Some 2
 workers_of (word ∷ []) = number_in 1 8 word
 workers_of (word ∷ other ∷ words) = None
 
--- a port, a number of connections and the name of an application, in words, and so many workers
+-- a port, a number of connections and the name of an application, in words, and this many workers
 abbrev pub IsServeWith : (port count name : List ℕ) → ℕ → Command → Type 0
 IsServeWith port count name workers (Once named) = ⊥
 IsServeWith port count name workers (Serve p c named w) = (number_in 1 65535 port ≡ Some p) × (number_in 1 1000 count ≡ Some c) × (name ≡ word_of named) × (w.count ≡ workers)
 
--- the words are `serve`, these three, and the number of workers where it is named
+-- the words are `serve`, these three, and perhaps the number of workers
 abbrev pub IsServe : List (List ℕ) → Command → Type 0
 IsServe words command = (port count name : List ℕ) × (rest : List (List ℕ)) × (workers : ℕ) × (words ≡ codes "serve" ∷ port ∷ count ∷ name ∷ rest)
     × (workers_of rest ≡ Some workers) × IsServeWith port count name workers command
 
--- the words ask to serve some connections of some port by this application and so many workers
+-- the words ask to serve some connections of some port by this application and this many workers
 abbrev pub IsServing : List (List ℕ) → App → ℕ → Type 0
 IsServing words named workers = (port count : ℕ) × (w : Workers) × IsServe words (Serve port count named w) × (w.count ≡ workers)
 

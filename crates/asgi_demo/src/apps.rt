@@ -7,8 +7,7 @@ use asgi_apps::{MountError, Mounts, RootPath};
 use asgi_types::Chars;
 use std::alloc::{AllocError, Global};
 
-/// `RootPath` under `/a` and under `/a/b`. `AllocError` where memory is refused; there is no other
-/// error.
+/// `RootPath` under `/a` and under `/a/b`. `AllocError` if memory is refused; there is no other error.
 pub fn mounts(alloc: Global) -> Result<Mounts<RootPath>, AllocError>
     ensures { IfOk result (λ made. made.mounts.items ≡ two_mounts) }
 {

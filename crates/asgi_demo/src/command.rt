@@ -2,7 +2,7 @@
 ghost use Rattle.std.specs.Prelude.{◌≡◌, ℕ, ◌⊎◌, ◌++◌, map, string_bytes};
 ghost use Rattle.std.specs.IoError.{error_kind};
 ghost use Rattle.std.specs.declared.io.ErrorKind.TheVariants.{OutOfMemory};
-ghost use Rattle.asgi_conn.specs.Lines.{state_of};
+ghost use Rattle.asgi_run.specs.Lines.{state_of};
 ghost use Rattle.asgi_demo.specs.Command as spec;
 ghost use Rattle.asgi_demo.specs.Command.{ServesOnce, ServesWhole, ServesPort, BeginsNone, promise, streams};
 ghost use Rattle.asgi_demo.specs.Serving.{around};
@@ -30,13 +30,13 @@ use std::random::RandomSource;
 
 const USAGE: &[u8] = b"usage: asgi_demo once APP | asgi_demo serve PORT COUNT APP [WORKERS]\n";
 
-/// Runs the program on the words behind its name, and gives the exit status.
+/// Runs the program on the words after its name, and returns the exit status.
 ///
-/// `once APP` serves one connection over the line by that application, and tells on `errors` why the
-/// connection stopped, where it did. `serve PORT COUNT APP [WORKERS]` starts the application, serves so many
-/// connections of that port by 1 to 8 workers, 2 where it is not said, tells a line of each on `output`,
-/// stops the application, and tells on `errors` what went wrong. Any other words give the usage text on
-/// `errors`, and nothing else is done.
+/// `once APP` serves one connection over the line by that application, and writes on `errors` why the
+/// connection stopped, if it did. `serve PORT COUNT APP [WORKERS]` starts the application, serves COUNT
+/// connections of that port by 1 to 8 workers, 2 by default, writes a line for each on `output`, stops the
+/// application, and writes on `errors` what went wrong. Any other words write the usage text on `errors`,
+/// and nothing else is done.
 pub fn command<
     H: Host + Sync,
     L: Line,
@@ -78,7 +78,7 @@ pub fn command<
     }
 }
 
-/// Serves one connection over the line by the application that is named.
+/// Serves one connection over the line by the named application.
 fn once_by<H: RandomSource + AllocGlobal, L: Line, E: Counts>(
     rt: &H,
     app: App,
@@ -104,7 +104,7 @@ fn once_by<H: RandomSource + AllocGlobal, L: Line, E: Counts>(
     }
 }
 
-/// Serves the connections of the listener by the application that is named and so many workers, with the usual limits.
+/// Serves the connections of the listener by the named application and this many workers, with the usual limits.
 fn serve_by<
     H: Host + Sync,
     L: Line + Drop + Send,
@@ -150,7 +150,7 @@ fn serve_by<
     }
 }
 
-/// Tells why the words behind the program's name can't be had, and gives the status of that: want of memory is
+/// Writes why the words after the program's name are not available, and returns the status: want of memory is
 /// a fault of the system, and words that are not UTF-8 are wrong words.
 pub fn without_words<E: Counts>(e: &io::Error, errors: &mut E) -> u8
     ensures memory { (error_kind e.now ≡ OutOfMemory) → (result ≡ 5) × Tells telling.device_fault
@@ -168,7 +168,7 @@ pub fn without_words<E: Counts>(e: &io::Error, errors: &mut E) -> u8
 
 // ---- one connection
 
-/// Serves one connection over the line by this application, and gives the exit status.
+/// Serves one connection over the line by this application, and returns the exit status.
 fn once<H: RandomSource + AllocGlobal, A: Application, L: Line, E: Counts>(
     rt: &H,
     app: &A,
@@ -214,9 +214,9 @@ fn serve<H: AllocGlobal, A: Application, L: Line>(
     report
 }
 
-// ---- what is told
+// ---- what is written on `errors`
 
-/// Tells how the program is called, and gives the status of that.
+/// Writes how the program is called, and returns the status for that.
 fn usage<E: Counts>(errors: &mut E) -> u8
     ensures status { result ≡ 2 }
     ensures tells { Tells telling.usage
@@ -227,7 +227,7 @@ fn usage<E: Counts>(errors: &mut E) -> u8
     2
 }
 
-/// Tells why a connection stopped, where it did, and gives the exit status of `once`.
+/// Writes why a connection stopped, if it did, and returns the exit status of `once`.
 #[tactic(auto, using(crate::proofs::TellingLemmas::stopped_is_told, crate::proofs::TellingLemmas::nothing_is_told))]
 fn tell_end<E: Counts>(outcome: Outcome, errors: &mut E) -> u8
     ensures status { result ≡ spec.exit_status outcome }

@@ -26,12 +26,12 @@ pub enum Ending {
     ShutdownFailed(Chars),
     /// The application did not answer its stop.
     NoShutdown,
-    /// The system did not give what the server needs, or take what it told.
+    /// The system did not give what the server needs, or did not take what was written.
     DeviceFault,
 }
 
 impl Ending {
-    /// Tells what went wrong, where something did, and gives the exit status.
+    /// Writes what went wrong, if something did, and returns the exit status.
     pub fn tell<E: Counts>(self, errors: &mut E) -> u8
         ensures status { result ≡ status_of self }
         ensures tells { TellsOf (of_ending self)

@@ -5,9 +5,9 @@ use asgi_server::{Accepts, Sockets};
 use std::net::Net;
 use std::time::Clock;
 
-/// A listener that is told where to listen.
+/// A listener whose port can be set.
 pub trait Listens: Accepts {
-    /// Gives so many connections of this port from here on.
+    /// Gives `count` connections of this port from here on.
     fn listen_on(&mut self, port: u16, count: u64)
         ensures { Self.Listener.answers self.new ≡ Self.Listener.answers self.old };
 }

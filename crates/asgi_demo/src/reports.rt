@@ -1,4 +1,4 @@
-//! The lines that tell how connections ended.
+//! The lines that report how connections ended.
 ghost use Rattle.std.specs.Prelude.{◌≡◌};
 ghost use Rattle.asgi_demo.specs.Telling.{PutsNext, report_line, writer};
 
@@ -9,7 +9,7 @@ use asgi_io::Counts;
 use asgi_server::Teller;
 use itoa::Buffer;
 
-/// Writes a line of each report.
+/// Writes a line for each report.
 #[derive(Drop)]
 pub struct Printer<'a, W> {
     pub output: &'a mut W,
@@ -31,8 +31,8 @@ impl<'a, W: Counts> Teller<Report> for Printer<'a, W> {
     }
 }
 
-/// Writes the line of a report, where all lines before it were written whole: the number of the connection,
-/// that of its exchanges, and the words of its outcome. It says whether this one was, too.
+/// Writes the line of a report, if all lines before it were written whole: the number of the connection,
+/// the number of its exchanges, and the words of its outcome. Returns whether this one was, too.
 fn print_next<W: Counts>(told: bool, number: u64, report: &Report, output: &mut W) -> bool
     ensures { PutsNext told (report_line (number, report.now))
         (writer (W.written output.old) (W.answers output.old) (W.failed output.old))

@@ -19,10 +19,10 @@ use asgi_types::{Limits, State};
 use asgi_ws::Line;
 use futures::task::{Context, Doorbell, Solo};
 
-/// Serves the connections of the listener by this application and so many workers: starts it, serves each
-/// connection, tells a line of each on `output`, stops the application, and tells on `errors` what went
-/// wrong. It gives the exit status. Each worker and its tasks run in threads of their own, and the
-/// application's start and stop in this one.
+/// Serves the connections of the listener by this application and this many workers: starts it, serves
+/// each connection, writes a line for each on `output`, stops the application, and writes on `errors`
+/// what went wrong. Returns the exit status. Each worker and its tasks run in threads of their own, and
+/// the application's start and stop in this one.
 pub fn serve_on<
     H: Host + Sync,
     T: AppTask + Send + 'static,
@@ -115,16 +115,16 @@ fn live<
     }
 }
 
-/// What was lent stays as it is. A `&mut` that came back in a result is known again behind a call of it.
+/// What was borrowed stays as it is. A `&mut` that came back in a result is known again after a call of this.
 fn keep<T>(lent: &mut T)
     ensures { lent.new ≡ lent.old }
 {
     let _ = lent;
 }
 
-/// Serves the connections, and tells a line of each, in the order in which they came, once it and all before it have
-/// ended. It says whether all went well: a line that is not written whole is the last one, and the connections are served
-/// all the same.
+/// Serves the connections, and writes a line for each, in the order in which they came, once it and all before it have
+/// ended. Returns whether all went well: a line that is not written whole is the last one, and the connections are
+/// served all the same.
 fn serve_each<
     H: Host + Sync,
     T: AppTask + Send + 'static,
@@ -162,7 +162,7 @@ fn serve_each<
     well
 }
 
-/// The same by a printer of the lines, which comes back.
+/// The same with a printer of the lines, which is returned.
 fn serve_printing<
     'a,
     H: Host + Sync,
@@ -207,7 +207,7 @@ fn is_well(end: End, told: bool, failed: bool) -> bool
     end == End::Given && told && !failed
 }
 
-/// How the server ended, whose application was stopped with this answer.
+/// How the server ended, by how the application was stopped.
 fn ending_of(served: bool, stop: Stop) -> Ending
     ensures { result ≡ ending_of served stop }
 {

@@ -9,7 +9,7 @@ const DEVICE_FAULT: &[u8] = b"device fault\n";
 
 const LINE_FEED: &[u8] = b"\n";
 
-/// Writes the text, and says whether all of it went out.
+/// Writes the text, and returns whether all of it went out.
 pub fn put<W: Counts>(text: &[u8], output: &mut W) -> bool
     ensures { Puts text.now
         (writer (W.written output.old) (W.answers output.old) (W.failed output.old))
@@ -18,7 +18,7 @@ pub fn put<W: Counts>(text: &[u8], output: &mut W) -> bool
     write_out(output, text) == Wrote::Done
 }
 
-/// Tells that the system can't give what the program needs, and gives the status of that.
+/// Writes that the system can't give what the program needs, and returns the status for that.
 pub fn device_fault<E: Counts>(errors: &mut E) -> u8
     ensures status { result ≡ 5 }
     ensures tells { Tells telling.device_fault
@@ -29,7 +29,7 @@ pub fn device_fault<E: Counts>(errors: &mut E) -> u8
     5
 }
 
-/// Tells what failed, and why, in a line.
+/// Writes what failed, and why, in a line.
 pub fn tell_failure<E: Counts>(what: &[u8], why: &[u8], errors: &mut E)
     ensures { Tells (what.now ++ why.now ++ codes "\n")
         (writer (E.written errors.old) (E.answers errors.old) (E.failed errors.old))
@@ -44,7 +44,7 @@ pub fn tell_failure<E: Counts>(what: &[u8], why: &[u8], errors: &mut E)
     put(LINE_FEED, errors);
 }
 
-/// Writes a text, as far as the writer takes it: what can't be told does not change the status.
+/// Writes a text, as far as the writer takes it: what is not written does not change the status.
 pub fn tell<E: Counts>(text: &[u8], errors: &mut E)
     ensures { Tells text.now
         (writer (E.written errors.old) (E.answers errors.old) (E.failed errors.old))

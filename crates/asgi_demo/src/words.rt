@@ -1,4 +1,4 @@
-//! The words behind the program's name.
+//! The words after the program's name.
 ghost use Rattle.std.specs.Prelude.{◌≡◌, IfSome, IfNone, Some, None, ℕ, map, string_bytes, length};
 ghost use Rattle.asgi_demo.specs.Words as spec;
 ghost use Rattle.asgi_demo.specs.Words.{Asks, IsOnce, IsServe};
@@ -6,7 +6,7 @@ ghost use Rattle.asgi_demo.specs.Words.{Asks, IsOnce, IsServe};
 use asgi_server::Workers;
 use asgi_types::parse_length;
 
-/// How many workers there are where no word says it.
+/// How many workers there are if no word gives it.
 const USUAL: u64 = 2;
 
 /// The applications that a word names.
@@ -28,7 +28,7 @@ pub enum App {
 pub enum Command {
     /// `once APP`: serves one connection, standard input and standard output.
     Once(App),
-    /// `serve PORT COUNT APP [WORKERS]`: serves so many connections of this port by so many workers.
+    /// `serve PORT COUNT APP [WORKERS]`: serves COUNT connections of this port by WORKERS workers.
     Serve {
         port: u16,
         count: u64,
@@ -37,7 +37,7 @@ pub enum Command {
     },
 }
 
-/// What the words ask for; None where they are no command.
+/// What the words ask for; None if they are no command.
 pub fn command_of(words: &[String]) -> Option<Command>
     ensures some { IfSome result (λ command. Asks (map string_bytes words.now) command) }
     ensures none { IfNone result ((command : Command) → ¬ (Asks (map string_bytes words.now) command)) }
@@ -48,7 +48,7 @@ pub fn command_of(words: &[String]) -> Option<Command>
     serve_of(words)
 }
 
-/// The application that is to serve one connection, where the words are `once` and its name.
+/// The application that is to serve one connection, if the words are `once` and its name.
 fn once_of(words: &[String]) -> Option<App>
     ensures some { IfSome result (λ app. IsOnce (map string_bytes words.now) app) }
     ensures none { IfNone result ((app : App) → ¬ (IsOnce (map string_bytes words.now) app)) }
@@ -62,8 +62,8 @@ fn once_of(words: &[String]) -> Option<App>
     app_named(name.as_str())
 }
 
-/// What is to be served, where the words are `serve`, a port, a number of connections, a name, and a number of workers,
-/// which are two where it is not there.
+/// What is to be served, if the words are `serve`, a port, a number of connections, a name, and a number of workers,
+/// which are two by default.
 fn serve_of(words: &[String]) -> Option<Command>
     ensures some { IfSome result (λ command. IsServe (map string_bytes words.now) command) }
     ensures none { IfNone result ((command : Command) → ¬ (IsServe (map string_bytes words.now) command)) }
@@ -111,7 +111,7 @@ fn serve_by(words: &[String]) -> Option<Command>
     serve_with(port.as_str(), count.as_str(), name.as_str(), workers)
 }
 
-/// What these three words ask to serve, by so many workers.
+/// What these three words ask to serve, with these workers.
 fn serve_with(port: &str, count: &str, name: &str, workers: Workers) -> Option<Command>
     ensures some { IfSome result (λ command. spec.IsServeWith port.now count.now name.now workers.count command) }
     ensures none { IfNone result ((command : Command) → ¬ (spec.IsServeWith port.now count.now name.now workers.count command)) }
@@ -136,7 +136,7 @@ fn workers_in(word: &str) -> Option<Workers>
     Workers::new(number_in(1, 8, word)?)
 }
 
-/// The number that a word of 1 to 5 digits writes, where it is within these bounds.
+/// The number that a word of 1 to 5 digits writes, if it is within these bounds.
 fn number_in(least: u64, most: u64, word: &str) -> Option<u64>
     ensures { result ≡ spec.number_in least most word.now }
 {

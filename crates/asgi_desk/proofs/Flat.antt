@@ -5,7 +5,7 @@ use lib.ListN.{get_elem?}
 use Rattle.std.specs.List.Sorted.{IsPermutation}
 use Rattle.std.proofs.lemmas.List.Sorted.{IsPermutation-refl, IsPermutation-trans, IsPermutation-append_left, IsPermutation-append_right, IsPermutation-append_comm}
 use Rattle.atomic_table.proofs.Lists.{at_set, at_snoc}
-use Rattle.asgi_desk.specs.Channel.{total}
+use Rattle.asgi_desk.specs.private.Channel.{total}
 
 pub some_same : {A : Type 0} (a b : A) → some a ≡ some b → a ≡ b
 some_same a b e = cc
@@ -99,7 +99,7 @@ module _ {V : Type 0} (f : V → ℕ) where
   both_le (x ∷ xs) (suc j) zero v u two at at-2 = let e = ap f (some_same x u at-2) in let le = at_le xs j v at in omega arith
   both_le (x ∷ xs) (suc j) (suc k) v u two at at-2 = let le = both_le xs j k v u (λ e. two (ap suc e)) at at-2 in omega arith
 
--- where one view has all of k, it has all of what a view with nothing of k has not
+-- if one view has all of k, it has all of what a view with nothing of k has not
 module _ {V A : Type 0} (k : V → ℕ) (f : V → List A) where
   no_flat : (views : List V) → total k views ≡ 0 → ((j : ℕ) (u : V) → get_elem? views j ≡ some u → k u ≡ 0 → f u ≡ []) → flat_map f views ≡ []
   no_flat [] e idle = refl

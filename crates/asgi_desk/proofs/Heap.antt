@@ -5,8 +5,8 @@ use Rattle.std.proofs.lemmas.Bool.Decides.{nat_tests}
 use Rattle.std.proofs.lemmas.List.Sorted.{IsPermutation-trans, IsPermutation-append_right, IsPermutation-append_comm, IsPermutation-cons, length_permutation}
 use Rattle.asgi_desk.specs.declared.waiting.Waiting.{Waiting}
 use Rattle.asgi_desk.specs.declared.waiting.Waiting.TheVariants.{Empty, Top'}
-use Rattle.asgi_desk.specs.Book.{IsAbove}
-use Rattle.asgi_desk.specs.Heap.{least, is_before, IsOrdered}
+use Rattle.asgi_desk.specs.private.Book.{IsAbove}
+use Rattle.asgi_desk.specs.private.Heap.{least, is_before, IsOrdered}
 
 module _ {N : Type 0} where
   pub stays_first : (b : ℕ) (x y : Waiting N) → is_before (least y) (least x) ≡ false → IsAbove b x → IsAbove b y → IsOrdered b x y

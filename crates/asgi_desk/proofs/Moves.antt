@@ -8,8 +8,9 @@ use Rattle.std.proofs.lemmas.List.Sorted.{IsPermutation-refl, IsPermutation-sym,
 use Rattle.crossbeam_channel.specs.Fifo.{Pushes, Pops, Forks, Merges, Learns}
 use Rattle.asgi_desk.specs.declared.book.Book.{Book}
 use Rattle.asgi_desk.specs.declared.channel.Hand.{Hand}
-use Rattle.asgi_desk.specs.Book.{all_of, added, IsKept, IsKeptFrom}
-use Rattle.asgi_desk.specs.Channel.{hand, seated, took, gave, IsFree, IsIdle, StartsFrom, IsFair}
+use Rattle.asgi_desk.specs.private.Book.{all_of, added, IsKept, IsKeptFrom}
+use Rattle.asgi_desk.specs.private.Channel.{took, gave, IsIdle, StartsFrom, IsFair}
+use Rattle.asgi_desk.specs.Hands.{hand, seated, IsFree}
 use Rattle.asgi_desk.proofs.Flat.{same_elements, flat_more, flat_same, flat_less, flat_both, flat_snoc, total_set, total_snoc, at_le, both_le, sole_flat, each_set, each_snoc, each_one}
 
 module _ {N T : Type 0} (tells : T → T → ℕ → N → Type 0) where

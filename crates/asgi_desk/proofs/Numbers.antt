@@ -1,4 +1,4 @@
--- Where the numbers are 1 to n, and the reports of 1 to k were told, one that waits is the next one's, or there is none.
+-- If the numbers are 1 to n, and the teller got the reports of 1 to k, one that waits is the next one's, or there is none.
 use Rattle.std.proofs.Common.{◌≡◌, ◌≢◌, ℕ, zero, suc, ◌+◌, ◌<◌, ◌≤◌, true, false, List, [], ◌∷◌, ◌++◌, refl, sym, ap, ◌∙◌, ⊎_elim, eqb, if◌then◌else◌, ◌==◌, arith, lt_of_not-le}
 use Rattle.std.specs.List.{sum_by, range_with_len}
 use Rattle.std.specs.List.Sorted.{IsPermutation}
@@ -9,7 +9,7 @@ use Rattle.std.proofs.lemmas.Bool.Decides.{nat_tests, eqb_tells}
 use Rattle.asgi_desk.specs.declared.waiting.Waiting.{Waiting}
 use Rattle.asgi_desk.specs.declared.waiting.Waiting.TheVariants.{Empty, Top'}
 use Rattle.asgi_desk.specs.Told.{numbers_of, one_to}
-use Rattle.asgi_desk.specs.Book.{waiting_of, IsAbove, is_due}
+use Rattle.asgi_desk.specs.private.Book.{waiting_of, IsAbove, is_due}
 
 -- how often a number stands in a list
 abbrev times : ℕ → List ℕ → ℕ
@@ -34,9 +34,9 @@ none_below : (x a n : ℕ) → x < a → times x (range_with_len a n) ≡ 0
 none_below x a zero below = refl
 none_below x a (suc n) below = let e = none_below x (a + 1) n (omega arith) in grind (arith, nat_tests)
 
-none_behind : (x a n : ℕ) → a + n ≤ x → times x (range_with_len a n) ≡ 0
-none_behind x a zero behind = refl
-none_behind x a (suc n) behind = let e = none_behind x (a + 1) n (omega arith) in let ne : a < x = omega arith in grind (arith, nat_tests)
+none_after : (x a n : ℕ) → a + n ≤ x → times x (range_with_len a n) ≡ 0
+none_after x a zero after = refl
+none_after x a (suc n) after = let e = none_after x (a + 1) n (omega arith) in let ne : a < x = omega arith in grind (arith, nat_tests)
 
 once : (x a n : ℕ) → a ≤ x → x < a + n → times x (range_with_len a n) ≡ 1
 once x a zero from to = absurd (omega arith)
@@ -54,7 +54,7 @@ none_under x b (Top' e way p left q right) up below =
     let split = ap (times x) (map-append (λ (y : ℕ × _). y.0) (waiting_of left) (waiting_of right)) in grind (arith, nat_tests)
 
 module _ {N : Type 0} where
-  -- how often a number stands among 1 to n, of which 1 to k were told
+  -- how often a number stands among 1 to n, of which the teller got 1 to k
   split_numbers : (x n k : ℕ) (put told rest : List (ℕ × N)) → numbers_of told ≡ one_to k → IsPermutation put (told ++ rest) → IsPermutation (one_to n) (numbers_of put)
       → times x (one_to n) ≡ times x (one_to k) + times x (numbers_of rest)
   split_numbers x n k put told rest is all whole =
@@ -72,12 +72,12 @@ module _ {N : Type 0} where
       let at = split_numbers m n k put told (waiting_of w) is all whole in
       let here : 0 < times m (numbers_of (waiting_of w)) = one_here m (numbers_of (waiting_of left ++ waiting_of right)) in
       let from : 1 < suc m = lt_of_not-le {n = suc m} {m = 1} (λ lt. let none = none_below m 1 n lt in omega arith) in
-      let to : m < 1 + n = lt_of_not-le {n = 1 + n} {m = m} (λ le. let none = none_behind m 1 n le in omega arith) in
+      let to : m < 1 + n = lt_of_not-le {n = 1 + n} {m = m} (λ le. let none = none_after m 1 n le in omega arith) in
       let single = once m 1 n (omega arith) to in
       let later : k < m = lt_of_not-le {n = m} {m = k} (λ le. let told_once = once m 1 k (omega arith) (omega arith) in omega arith) in
       let gap : k + 1 < m = grind (arith, nat_tests) in
       let next = split_numbers (k + 1) n k put told (waiting_of w) is all whole in
       let due = once (k + 1) 1 n (omega arith) (omega arith) in
-      let not_told = none_behind (k + 1) 1 k (omega arith) in
+      let not_told = none_after (k + 1) 1 k (omega arith) in
       let under : IsAbove m w = ((omega arith), up.1, up.2) in
       let not_here = none_under (k + 1) m w under gap in absurd (omega arith)

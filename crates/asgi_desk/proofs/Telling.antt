@@ -1,4 +1,4 @@
--- What holds of a book as a report is told, and as the desk is closed.
+-- What holds of a book as the teller gets a report, and as the desk is closed.
 use Rattle.std.proofs.Common.{◌≡◌, ℕ, zero, suc, ◌+◌, List, [], ◌∷◌, ◌++◌, length, refl, sym, ap, ◌∙◌, subst, append_assoc, append-nil, Option, Some, arith}
 use Rattle.std.specs.List.{range_with_len}
 use Rattle.std.specs.List.Sorted.{IsPermutation}
@@ -8,9 +8,9 @@ use Rattle.std.proofs.lemmas.List.Sorted.{IsPermutation-trans, IsPermutation-app
 use Rattle.asgi_desk.specs.declared.book.Book.{Book}
 use Rattle.asgi_desk.specs.declared.waiting.Waiting.{Waiting}
 use Rattle.asgi_desk.specs.Told.{Told, numbers_of, one_to}
-use Rattle.asgi_desk.specs.Book.{told_of, waiting_of, all_of, IsAbove, Keeps, IsKeptFrom}
+use Rattle.asgi_desk.specs.private.Book.{told_of, waiting_of, all_of, IsAbove, Keeps, IsKeptFrom}
 use Rattle.asgi_desk.specs.declared.channel.Hand.{Hand}
-use Rattle.asgi_desk.specs.Channel.{took}
+use Rattle.asgi_desk.specs.private.Channel.{took}
 use Rattle.asgi_desk.proofs.Numbers.{none_waits}
 
 range_more : (a n : ℕ) → range_with_len a (suc n) ≡ range_with_len a n ++ (a + n) ∷ []
@@ -29,7 +29,7 @@ numbers_more rs k n r is next =
     ∙ ap (λ (m : ℕ). one_to k ++ m ∷ []) (sym e) ∙ sym (range_more 1 k) ∙ ap one_to f
 
 module _ {A : Type 0} where
-  -- one report goes from those that wait to those that were told
+  -- one report goes from those that wait to those that the teller got
   pub one_moves : (all told left rest : List A) (x : A) → IsPermutation all (told ++ left) → IsPermutation left (x ∷ rest) → IsPermutation all ((told ++ x ∷ []) ++ rest)
   one_moves all told left rest x one two =
       subst (λ (l : List A). IsPermutation all l) (sym (append_assoc told (x ∷ []) rest)) (IsPermutation-trans _ _ _ one (IsPermutation-append_right told left (x ∷ rest) two))
@@ -40,7 +40,7 @@ module _ {A : Type 0} where
       subst (λ (l : List A). IsPermutation l (told ++ more)) (sym (append_assoc told left (x ∷ []))) (IsPermutation-append_right told (left ++ x ∷ []) more grown)
 
 module _ {N T : Type 0} where
-  -- the next report is told
+  -- the teller gets the next report
   pub all_stay : (all : List (ℕ × N)) (b c : Book N T) (rest : Waiting N) (x : ℕ × N) → IsPermutation all (all_of b) → IsPermutation (waiting_of b.waiting) (x ∷ waiting_of rest)
       → told_of c.told ≡ told_of b.told ++ x ∷ [] → c.waiting ≡ rest → IsPermutation all (all_of c)
   all_stay all b c rest x one two told same =
@@ -53,7 +53,7 @@ module _ {N T : Type 0} (tells : T → T → ℕ → N → Type 0) where
   told_more was mid is [] n r so_far one = (is, subst (λ (t : T). tells t is n r) so_far one, refl)
   told_more was mid is (q ∷ rs) n r so_far one = (so_far.0, so_far.1, told_more so_far.0 mid is rs n r so_far.2 one)
 
-  -- the next report is told
+  -- the teller gets the next report
   pub keeps_more : (was : T) (b c : Book N T) (n : ℕ) (r : N) → Keeps tells was b → told_of c.told ≡ told_of b.told ++ (n, r) ∷ [] → tells b.teller c.teller n r
       → n ≡ b.count + 1 → c.count ≡ n → (IsAbove 0 b.waiting → IsAbove 0 c.waiting) → Keeps tells was c
   keeps_more was b c n r keeps told one next count order = record {

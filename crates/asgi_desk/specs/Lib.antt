@@ -1,5 +1,4 @@
-pub mod Book
-pub mod Channel
-pub mod Heap
+pub mod Hands
+pub mod private
 pub mod Seat
 pub mod Told

@@ -1,7 +1,7 @@
-//! The one book of a desk: who has it in hand may tell.
+//! The one book of a desk: the seat that has it in hand may call the teller.
 ghost use Rattle.std.specs.Prelude.{◌≡◌, ℕ, ◌≤◌, [], ◌∷◌, ◌++◌, length, vec_len, vec_capacity};
 ghost use Rattle.std.specs.List.Sorted.{IsPermutation};
-ghost use Rattle.asgi_desk.specs.Book.{told_of, waiting_of, all_of, added, Keeps, IsKept};
+ghost use Rattle.asgi_desk.specs.private.Book.{told_of, waiting_of, all_of, added, Keeps, IsKept};
 
 use crate::done::Done;
 use crate::place::Place;
@@ -10,7 +10,7 @@ use crate::waiting::{Entry, Waiting, merged};
 use std::mem;
 use std::snapshot::Snapshot;
 
-/// The report that was handed in last. It has no bytes of its own.
+/// The report that was handed in last. Has no bytes of its own.
 #[derive(Drop)]
 pub enum Last<N> {
     /// None was handed in.
@@ -19,7 +19,7 @@ pub enum Last<N> {
     Put(Snapshot<(u64, N)>),
 }
 
-/// How many reports were told, these, those that wait, and the teller.
+/// How many reports the teller got, these, those that wait, and the teller.
 #[derive(Drop)]
 pub struct Book<N: Drop, T: Drop> {
     pub(crate) count: u64,
@@ -58,7 +58,7 @@ impl<N: Drop, T: Teller<N> + Drop> Book<N, T> {
         self.waiting = merged(others, one);
     }
 
-    /// Tells one report, whose turn it is.
+    /// Passes one report, whose turn it is, to the teller.
     fn tell(&mut self, entry: Entry<N>)
         ensures told { told_of self.new.told ≡ told_of self.old.told ++ (entry.number, entry.report) ∷ [] }
         ensures tells { T.tells self.old.teller self.new.teller entry.number entry.report }
@@ -75,7 +75,7 @@ impl<N: Drop, T: Teller<N> + Drop> Book<N, T> {
         self.count = number;
     }
 
-    /// Tells each report whose turn it is, in order.
+    /// Passes each report whose turn it is to the teller, in order.
     fn tell_due(&mut self)
         ensures all { IsPermutation (all_of self.old) (all_of self.new) }
         ensures last { added self.new ≡ added self.old }
@@ -90,7 +90,7 @@ impl<N: Drop, T: Teller<N> + Drop> Book<N, T> {
         }
     }
 
-    /// Takes the report in, and tells each whose turn it is.
+    /// Takes the report in, and passes each whose turn it is to the teller.
     pub(crate) fn hand_in(&mut self, number: u64, report: N, place: Place<N>)
         ensures all { IsPermutation (all_of self.old ++ added self.new) (all_of self.new) }
         ensures last { added self.new ≡ (number, report) ∷ [] }
@@ -100,7 +100,7 @@ impl<N: Drop, T: Teller<N> + Drop> Book<N, T> {
         self.tell_due();
     }
 
-    /// The teller, and the reports that were told, in order.
+    /// The teller, and the reports that it got, in order.
     pub(crate) fn into_told(self, mut all: Vec<(u64, N)>) -> (T, Vec<(u64, N)>)
         requires { (all.items ≡ []) × (length (told_of self.told) ≤ vec_capacity all) }
         ensures { (result.0 ≡ self.teller) × (result.1.items ≡ told_of self.told) }

@@ -25,7 +25,8 @@ pub type From<N, T> = RuledReceiver<Book<N, T>, Hand<N, T>, Fair>;
 
 impl<N: Drop, T: Teller<N> + Drop> Protocol<Book<N, T>, Hand<N, T>> for Fair {
     ghost use Rattle.std.specs.Prelude.{[], None};
-    ghost use Rattle.asgi_desk.specs.Channel.{hand, IsFair};
+    ghost use Rattle.asgi_desk.specs.private.Channel.{IsFair};
+    ghost use Rattle.asgi_desk.specs.Hands.{hand};
 
     ghost holds = { IsFair T.tells };
 
@@ -37,7 +38,7 @@ pub struct Cut;
 
 impl<N, T> Split<Hand<N, T>> for Cut {
     ghost use Rattle.std.specs.Prelude.{◌-◌, []};
-    ghost use Rattle.asgi_desk.specs.Channel.{seated};
+    ghost use Rattle.asgi_desk.specs.Hands.{seated};
 
     ghost left = { λ v. seated (v.parts - 1) v.first v.put };
 
@@ -46,7 +47,7 @@ impl<N, T> Split<Hand<N, T>> for Cut {
 
 impl<N, T> Join<Hand<N, T>> for Cut {
     ghost use Rattle.std.specs.Prelude.{◌+◌, ◌++◌, [], None};
-    ghost use Rattle.asgi_desk.specs.Channel.{seated};
+    ghost use Rattle.asgi_desk.specs.Hands.{seated};
 
     ghost both = { λ v w. seated (v.parts + w.parts) v.first (v.put ++ w.put) };
 
@@ -58,7 +59,7 @@ pub struct Opens;
 
 impl<N: Drop, T: Teller<N> + Drop> Outcome<Book<N, T>, Hand<N, T>> for Opens {
     ghost use Rattle.std.specs.Prelude.{◌≡◌, Some};
-    ghost use Rattle.asgi_desk.specs.Channel.{seated};
+    ghost use Rattle.asgi_desk.specs.Hands.{seated};
 
     ghost then = { λ v b w. w ≡ seated v.parts (Some b.teller) v.put };
 }
@@ -72,7 +73,7 @@ pub struct Gives;
 
 impl<N: Drop, T: Teller<N> + Drop> Outcome<Book<N, T>, Hand<N, T>> for Gives {
     ghost use Rattle.std.specs.Prelude.{◌≡◌};
-    ghost use Rattle.asgi_desk.specs.Channel.{gave};
+    ghost use Rattle.asgi_desk.specs.private.Channel.{gave};
 
     ghost then = { λ v b w. w ≡ gave v b };
 }
@@ -86,8 +87,8 @@ pub struct Takes;
 
 impl<N: Drop, T: Teller<N> + Drop> Outcome<Book<N, T>, Hand<N, T>> for Takes {
     ghost use Rattle.std.specs.Prelude.{◌≡◌};
-    ghost use Rattle.asgi_desk.specs.Book.{IsKeptFrom};
-    ghost use Rattle.asgi_desk.specs.Channel.{took};
+    ghost use Rattle.asgi_desk.specs.private.Book.{IsKeptFrom};
+    ghost use Rattle.asgi_desk.specs.private.Channel.{took};
 
     ghost then = { λ v b w. (w ≡ took v b) × IsKeptFrom T.tells v.first b };
 }

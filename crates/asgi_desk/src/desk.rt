@@ -1,8 +1,8 @@
-//! Where reports are handed in, from many threads, and told.
+//! Where reports are handed in from many threads, and passed to the teller.
 ghost use Rattle.std.specs.Prelude.{◌≡◌, ◌+◌, ◌-◌, ◌<◌, ◌≤◌, [], ◌∷◌, ◌++◌, Some, length, vec_capacity, IfOk, IfErr};
 ghost use Rattle.std.specs.List.Sorted.{IsPermutation};
 ghost use Rattle.asgi_desk.specs.Told.{Told, numbers_of, one_to};
-ghost use Rattle.asgi_desk.specs.Channel.{seated, IsFree};
+ghost use Rattle.asgi_desk.specs.Hands.{seated, IsFree};
 ghost use Rattle.asgi_desk.specs.Seat.{knows, IsSeatOf};
 
 use crate::book::Book;
@@ -14,7 +14,7 @@ use crossbeam_channel::{Pass, bounded_with};
 use std::alloc::{AllocFailed, Global};
 use std::sync::Wait;
 
-/// What a thread hands reports in from, and what it knows of that. It has no bytes.
+/// What a thread hands reports in from, and what it knows of that. Has no bytes.
 pub type Seat<N, T> = Pass<Book<N, T>, Hand<N, T>>;
 
 /// The two ends of the channel that the book goes through.
@@ -24,12 +24,12 @@ pub struct Ends<S: Drop, R: Drop> {
     pub(crate) from: R,
 }
 
-/// Where reports are handed in. Its teller is told each once, in the order of the numbers.
+/// Where reports are handed in. Its teller gets each once, in the order of the numbers.
 // A struct of its own, with the bound of `Teller` on it, is not proved to be `Sync`.
 pub type Desk<N, T> = Ends<To<N, T>, From<N, T>>;
 
 impl<N: Drop, T: Teller<N> + Drop> Desk<N, T> {
-    /// A desk with this teller, and the first seat. Where memory is refused the teller comes back.
+    /// A desk with this teller, and the first seat. If memory is refused, the teller is returned.
     pub fn open<R: Wait>(
         rt: &R,
         alloc: Global,
@@ -59,7 +59,7 @@ impl<N: Drop, T: Teller<N> + Drop> Desk<N, T> {
         self.to.another::<Cut>(seat)
     }
 
-    /// Hands in the report of this number. It takes no memory.
+    /// Hands in the report of this number. Takes no memory.
     pub fn hand_in<R: Wait>(
         &self,
         rt: &R,

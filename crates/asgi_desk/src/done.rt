@@ -1,10 +1,10 @@
-//! The reports that were told.
+//! The reports that the teller got.
 ghost use Rattle.std.specs.Prelude.{◌≡◌, ◌+◌, ◌≤◌, [], ◌∷◌, ◌++◌, length, reverse, vec_len, vec_capacity};
-ghost use Rattle.asgi_desk.specs.Book.{told_of};
+ghost use Rattle.asgi_desk.specs.private.Book.{told_of};
 
 use std::mem;
 
-/// The reports that were told, the last one first.
+/// The reports that the teller got, the last one first.
 pub enum Done<N> {
     /// No report.
     Nothing,
@@ -25,7 +25,7 @@ impl<N: Drop> Drop for Done<N> {
 }
 
 impl<N: Drop> Done<N> {
-    /// One report more, for which the place is used.
+    /// Adds one report, for which the place is used.
     pub(crate) fn push(&mut self, number: u64, report: N, place: Box<Done<N>>)
         ensures { told_of self.new ≡ told_of self.old ++ (number, report) ∷ [] }
     {
@@ -34,7 +34,7 @@ impl<N: Drop> Done<N> {
         *self = Done::Report(number, report, place);
     }
 
-    /// Puts all reports behind those that are there, the last one first.
+    /// Puts all reports after those that are there, the last one first.
     pub(crate) fn put_into(mut self, all: &mut Vec<(u64, N)>)
         requires { vec_len all.old + length (told_of self) ≤ vec_capacity all.old }
         ensures { all.new.items ≡ all.old.items ++ reverse (told_of self) }

@@ -1,4 +1,4 @@
-//! Reports of numbered jobs, which end in any order and in many threads: a teller is told each once, in the order of the
+//! Reports of numbered jobs, which end in any order and in many threads: a teller gets each once, in the order of the
 //! numbers, and each as soon as all those before it are there.
 #![tactic(auto)]
 

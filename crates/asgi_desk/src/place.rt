@@ -4,7 +4,7 @@ use crate::done::Done;
 use crate::waiting::Waiting;
 use std::alloc::{AllocError, Global};
 
-/// Memory for one report. It is had before the job is begun, so that handing in the report takes none.
+/// Memory for one report, reserved before the job is begun, so that handing in the report takes none.
 #[derive(Drop)]
 pub struct Place<N: Drop> {
     pub(crate) told: Box<Done<N>>,

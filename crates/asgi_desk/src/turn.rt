@@ -3,8 +3,9 @@ ghost use Rattle.std.specs.Prelude.{◌≡◌, ◌<◌, [], ◌++◌, Some, None
 ghost use Rattle.std.specs.List.Sorted.{IsPermutation};
 ghost use Rattle.crossbeam_channel.specs.Claims.{view, IsSeatAt};
 ghost use Rattle.crossbeam_channel.specs.Ends.{sends_on, receives_on};
-ghost use Rattle.asgi_desk.specs.Book.{all_of, added, IsKept, IsKeptFrom};
-ghost use Rattle.asgi_desk.specs.Channel.{hand, seated, gave, took};
+ghost use Rattle.asgi_desk.specs.private.Book.{all_of, added, IsKept, IsKeptFrom};
+ghost use Rattle.asgi_desk.specs.private.Channel.{gave, took};
+ghost use Rattle.asgi_desk.specs.Hands.{hand, seated};
 
 use crate::book::Book;
 use crate::channel::{From, Gives, Hand, Opens, Takes, To};

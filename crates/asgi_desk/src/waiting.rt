@@ -2,14 +2,14 @@
 //! each place, so that a report is put in and taken out in few steps, however many wait.
 ghost use Rattle.std.specs.Prelude.{◌≡◌, ℕ, ◌+◌, ◌≤◌, false, [], ◌∷◌, ◌++◌, IfNone, IfSome};
 ghost use Rattle.std.specs.List.Sorted.{IsPermutation};
-ghost use Rattle.asgi_desk.specs.Book.{waiting_of, IsAbove, is_due};
-ghost use Rattle.asgi_desk.specs.Heap.{least, is_before, IsOrdered};
+ghost use Rattle.asgi_desk.specs.private.Book.{waiting_of, IsAbove, is_due};
+ghost use Rattle.asgi_desk.specs.private.Heap.{least, is_before, IsOrdered};
 
 use crate::done::Done;
 use crate::place::Place;
 use std::mem;
 
-/// A report under its number, with its place among those that were told.
+/// A report under its number, with its place among those that the teller got.
 #[derive(Drop)]
 pub struct Entry<N: Drop> {
     pub(crate) number: u64,
@@ -116,7 +116,7 @@ impl<N: Drop> Waiting<N> {
         }
     }
 
-    /// Whether the least number is the next one behind so many.
+    /// Whether the least number is `count + 1`.
     fn is_due(&self, count: u64) -> bool
         ensures { result ≡ is_due count self.now }
     {
@@ -126,7 +126,7 @@ impl<N: Drop> Waiting<N> {
         }
     }
 
-    /// The report whose number is the next one behind so many, if it is here.
+    /// The report with the number `count + 1`, if it is here.
     pub(crate) fn take_due(&mut self, count: u64) -> Option<Entry<N>>
         ensures none { IfNone result ((self.new ≡ self.old) × (is_due count self.new ≡ false)) }
         ensures number { IfSome result (λ e. e.number ≡ count + 1) }

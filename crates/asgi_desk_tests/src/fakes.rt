@@ -1,8 +1,8 @@
-//! A teller that keeps what it hears, and a desk with it.
+//! A teller that keeps what it gets, and a desk with it.
 ghost use Rattle.std.specs.Prelude.{◌≡◌, ◌+◌, ◌<◌, [], ◌∷◌, ◌++◌, true, IfOk, IfSome, length};
 ghost use Rattle.std.specs.List.Sorted.{IsPermutation};
 ghost use Rattle.asgi_desk.specs.Told.{numbers_of, one_to};
-ghost use Rattle.asgi_desk.specs.Channel.{seated, IsFree};
+ghost use Rattle.asgi_desk.specs.Hands.{seated, IsFree};
 ghost use Rattle.asgi_desk.specs.Seat.{knows, IsSeatOf};
 
 use asgi_desk::{Desk, Place, Seat, Teller};
@@ -10,7 +10,7 @@ use std::alloc::{AllocError, Global};
 use std::sync::Wait;
 use std::sync::atomic::{AtomicU64, Ordering};
 
-/// Keeps what it hears, and shows how often it was told.
+/// Keeps what it gets, and shows how many reports it got.
 #[derive(Drop)]
 pub struct Listener<'a> {
     heard: &'a AtomicU64,
@@ -18,7 +18,7 @@ pub struct Listener<'a> {
 }
 
 impl<'a> Listener<'a> {
-    /// Has heard nothing yet, and has room for so many.
+    /// Has got nothing yet, and has room for `most` reports.
     pub fn new(
         alloc: Global,
         heard: &'a AtomicU64,

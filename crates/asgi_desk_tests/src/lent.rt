@@ -6,7 +6,7 @@ use asgi_desk::{Desk, Teller};
 use std::alloc::{AllocError, Global};
 use std::test::Fail;
 
-/// Writes each number that it hears to what was lent.
+/// Writes each number that it gets to what it borrows.
 #[derive(Drop)]
 struct Clerk<'a> {
     lines: &'a mut Vec<u64>,

@@ -1,4 +1,4 @@
-//! Tests of `asgi_desk` on its public calls: reports that are handed in in many orders, and a teller that keeps what it hears.
+//! Tests of `asgi_desk` on its public calls: reports handed in in many orders, and a teller that keeps what it gets.
 #![tactic(auto)]
 
 #[cfg(test)]

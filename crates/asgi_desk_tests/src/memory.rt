@@ -4,7 +4,7 @@
 use crate::orders::tells;
 use std::test::Fail;
 
-/// Only one allocation is refused, so of two tries one is told.
+/// Only one allocation is refused, so of two tries one succeeds.
 #[test]
 fn memory_for_three_reports(rt: HostRuntime) -> Result<(), Fail> {
     let order = [2, 3, 1];

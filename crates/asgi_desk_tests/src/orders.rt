@@ -1,4 +1,4 @@
-//! One thread hands in reports in many orders: each is told as soon as all those before it are there.
+//! One thread hands in reports in many orders: the teller gets each as soon as all those before it are there.
 ghost use Rattle.std.specs.Prelude.{◌≡◌, ◌+◌, ◌<◌, [], ◌++◌};
 
 use crate::fakes::{Listener, hand_in, is_in_order, is_one_to, run_of};
@@ -25,7 +25,7 @@ const ORDERS: &[&[u64]] = &[
     &[3, 1, 2, 6, 4, 5],
 ];
 
-/// Hands in the reports of these numbers, and looks after each how many were told.
+/// Hands in the reports of these numbers, and looks after each how many the teller got.
 pub fn tells<R: Wait + Abort + AllocGlobal>(rt: &R, order: &[u64]) -> Result<(), AllocError> {
     let alloc: Global = rt.alloc();
     let heard = AtomicU64::new(0);
@@ -38,7 +38,7 @@ pub fn tells<R: Wait + Abort + AllocGlobal>(rt: &R, order: &[u64]) -> Result<(),
         assert_eq!(rt;
             heard.load(Ordering::SeqCst),
             run_of(&order[..index + 1]),
-            "told behind {index}"
+            "told after {index}"
         );
     }
     assert!(rt; is_one_to(alloc, order)?, "an order of 1, 2, 3 ..");

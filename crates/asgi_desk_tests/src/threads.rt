@@ -1,8 +1,8 @@
-//! Four threads hand in reports, and one teller is told each once, in order.
+//! Four threads hand in reports, and one teller gets each once, in order.
 ghost use Rattle.std.specs.Prelude.{◌≡◌, ◌+◌, ◌<◌, [], ◌++◌, IfOk};
 ghost use denote.Param.Send.{IsSync};
 ghost use Rattle.asgi_desk.specs.Told.{numbers_of};
-ghost use Rattle.asgi_desk.specs.Channel.{seated, IsFree};
+ghost use Rattle.asgi_desk.specs.Hands.{seated, IsFree};
 ghost use Rattle.asgi_desk.specs.Seat.{knows, IsSeatOf};
 
 use crate::fakes::{Listener, hand_in_all, is_in_order, is_one_to};

@@ -1,4 +1,4 @@
-//! An application that promises what it says.
+//! An application that promises what it sends.
 ghost use Rattle.std.specs.Prelude.{◌≡◌, Some};
 ghost use Rattle.asgi_types.specs.declared.end_kind.EndKind.TheVariants.{Returned};
 ghost use Rattle.asgi_example.specs.Answer.{no_content};
@@ -7,14 +7,14 @@ use asgi_apps::{AppFault, Application, Says};
 use asgi_types::{Headers, Kind, Octets, Outgoing, Scope};
 use std::alloc::Global;
 
-/// Answers each request with 204, and promises so.
+/// Responds to each request with 204, and promises so.
 #[derive(Clone, Copy, Debug)]
 pub struct NoContent;
 
 impl Application for NoContent {
     type Task = Says;
 
-    // Where its task returned, it has said just this.
+    // If its task returned, it has sent exactly this.
     ghost answers = { λ _ scope heard said ended. ended ≡ Some Returned → said ≡ no_content };
 
     fn call(&self, alloc: Global, scope: &Scope) -> Result<Says, AppFault> {

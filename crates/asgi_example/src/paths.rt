@@ -3,7 +3,7 @@ use asgi_apps::{AppFault, Application, Says};
 use asgi_types::{Headers, Kind, Octets, Outgoing, Scope};
 use std::alloc::Global;
 
-/// Answers each request with its own path.
+/// Responds to each request with its own path.
 #[derive(Clone, Copy, Debug)]
 pub struct Paths;
 

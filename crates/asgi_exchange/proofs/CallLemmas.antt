@@ -1,4 +1,4 @@
--- What the calls of an application's end answer are steps of its view.
+-- What the calls of an application's end return are steps of its view.
 use Rattle.std.proofs.Common.{◌≡◌, Bool, List, [], ◌∷◌, ◌++◌, Option, Some, None, if◌then◌else◌, refl, ap}
 use Rattle.std.specs.Prelude.{is_none, IsTrue, IsFalse}
 use Rattle.futures.specs.declared.task.Poll.{Poll}
@@ -42,7 +42,7 @@ pub where_pending : (result : Poll Incoming) (P Q : Type 0) → (P → Q) → On
 where_pending (Ready event) P Q goes h = tt
 where_pending Pending P Q goes h = goes h
 
--- a disconnect that is heard at once leaves the queue alone; else what comes through it is heard
+-- a disconnect that is received at once leaves the queue alone; else what comes through it is received
 hears : (pulled heard new_pulled new_heard : List Incoming) (put : List OutItem) (at_once : Option Incoming) (result : Poll Incoming)
     → ((event : Incoming) → at_once ≡ Some event → (result ≡ Ready event) × (new_pulled ≡ pulled))
     → (at_once ≡ None → IfReady result (λ event. new_pulled ≡ pulled ++ event ∷ []))
@@ -64,7 +64,7 @@ pub hears_step : {A W : Type 0} (x : Exchange A W) (kind : Kind) (said : List Ou
 hears_step x kind said ended pulled heard new_pulled new_heard result of at_once front ready pending =
     rw (events_are said ended, of) (hears pulled heard new_pulled new_heard (items_of said ended) (answer_at_once kind said heard) result at_once front ready pending)
 
--- an event that the judge passes goes in where a place is found, and nothing else does
+-- an event that the judge passes goes in if a place is found, and nothing else does
 says : (pulled heard : List Incoming) (said : List Outgoing) (event : Outgoing) (verdict : Verdict) (new : List Outgoing) (sent : Sent) → Answers verdict event said new sent
     → with_items pulled heard (items_of new None)
     ≡ (if finds_place sent then (if is_pass verdict then with_items pulled heard (items_of said None ++ Event event ∷ []) else with_items pulled heard (items_of said None))

@@ -14,7 +14,7 @@ use Rattle.asgi_exchange.specs.Items.{events_of, end_of}
 use Rattle.asgi_exchange.specs.Schedules.{ConnStep, Arrives, Offers, Breaks, Takes, Writes, conn_after, conn_run}
 use Rattle.asgi_exchange.specs.Steps.{next_of, is_by_input, is_by_cut, arrive, offer_this, offer, break_this, break_off, take_this, take_next, write}
 use Rattle.asgi_exchange.specs.Views.{Break, ByInput, ByCut, ConnView, empty_conn, added_by, output}
-use Rattle.asgi_exchange.proofs.ListLemmas.{if_holds, prefix_trans, prefix_front, prefix_behind, prefix_whole, prefix_next, prefix_further}
+use Rattle.asgi_exchange.proofs.ListLemmas.{if_holds, prefix_trans, prefix_front, prefix_after, prefix_whole, prefix_next, prefix_further}
 use Rattle.asgi_exchange.proofs.EventLemmas.{none_is, events_append, end_event, end_ended}
 
 -- all that is to be written of these events and this end
@@ -41,7 +41,7 @@ module _ {A W : Type 0} (x : Exchange A W) (s : IsSteady x) where
   more_arrived conn more k o = record {
     offered = o;
     written = prefix_trans conn.written (output x conn) (output x (record conn { arrived = conn.arrived ++ more })) k.written
-        (prefix_behind (x.text (events_of conn.got)) (added_by x (events_of conn.got) (end_of conn.got) conn.broken_first conn.arrived)
+        (prefix_after (x.text (events_of conn.got)) (added_by x (events_of conn.got) (end_of conn.got) conn.broken_first conn.arrived)
         (added_by x (events_of conn.got) (end_of conn.got) conn.broken_first (conn.arrived ++ more))
         (added_by_grows (events_of conn.got) (end_of conn.got) conn.broken_first conn.arrived more));
   }

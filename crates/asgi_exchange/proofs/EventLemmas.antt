@@ -32,7 +32,7 @@ end_ended [] k h = refl
 end_ended (Event x ∷ xs) k h = end_ended xs k h
 end_ended (Ended j ∷ xs) k h = absurd (cc (h))
 
--- more goes in where no end stands
+-- more goes in if there is no end yet
 pub ordered_event : (xs : List OutItem) (e : Outgoing) → end_of xs ≡ None → IsOrdered xs → IsOrdered (xs ++ Event e ∷ [])
 ordered_event [] e h o = tt
 ordered_event (Event x ∷ xs) e h o = ordered_event xs e h o
@@ -43,7 +43,7 @@ ordered_ended [] k h o = refl
 ordered_ended (Event x ∷ xs) k h o = ordered_ended xs k h o
 ordered_ended (Ended j ∷ xs) k h o = absurd (cc (h))
 
--- nothing is taken behind an end
+-- nothing is taken after an end
 pub none_taken : (got put : List OutItem) (i : OutItem) → IsOrdered put → IsPrefix (got ++ i ∷ []) put → end_of got ≡ None
 none_taken [] put i o p = refl
 none_taken (Event e ∷ got) [] i o p = absurd (cc (p.1))
@@ -65,7 +65,7 @@ all_taken (Ended k ∷ got) (Event f ∷ put) o p h = absurd (cc (p.1))
 all_taken (Ended k ∷ []) (Ended j ∷ put) o p h = cc (p.1, o)
 all_taken (Ended k ∷ (g ∷ got)) (Ended j ∷ put) o p h = absurd (cc (p.1, o))
 
--- ---- what an end of a queue says was put
+-- ---- what an end of a queue records as put
 
 pub events_are : (said : List Outgoing) (ended : Option EndKind) → events_of (items_of said ended) ≡ said
 events_are [] None = refl

@@ -1,4 +1,4 @@
--- Steps behind steps are steps.
+-- Steps after steps are steps.
 use Rattle.std.proofs.Common.{◌≡◌, List, [], ◌∷◌, ◌++◌, refl, sym, ap, ◌∙◌}
 use Rattle.asgi_exchange.specs.Exchange.{Exchange}
 use Rattle.asgi_exchange.specs.Schedules.{ConnStep, conn_after, conn_run, ConnGoesOn, AppStep, app_after, app_run, AppGoesOn}

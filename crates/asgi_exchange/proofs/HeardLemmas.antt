@@ -1,4 +1,4 @@
--- What was heard is a beginning of what was due, and then equal disconnects with their cause.
+-- What was received is a beginning of what was due, and then equal disconnects with their cause.
 use Rattle.std.proofs.Common.{◌≡◌, ◌<◌, ◌⊎◌, true, inl, inr, List, [], ◌∷◌, ◌++◌, Option, Some, None, replicate, refl, ap, sym, ◌∙◌, subst, append-nil}
 use mathlib.Core.List.{IsPrefix}
 use Rattle.asgi_types.specs.declared.scope.Kind.{Kind}
@@ -41,7 +41,7 @@ cut_is_one Lifespan = refl
 
 module _ {A W : Type 0} (x : Exchange A W) (s : IsSteady x) (w : World A W) where
   -- what came off the queue is a beginning of what was due, or such a beginning and the disconnect of the break
-  record Behind (pulled : List Incoming) : Type 0 where
+  record After (pulled : List Incoming) : Type 0 where
     pub events : List Incoming
     pub disconnect : Incoming
     pub is_one : is_disconnect disconnect ≡ true
@@ -50,7 +50,7 @@ module _ {A W : Type 0} (x : Exchange A W) (s : IsSteady x) (w : World A W) wher
     pub cause : Cause x w events disconnect
 
   splits : (pulled : List Incoming) (broken : Option Break) → w.conn.broken ≡ broken → IsOffered x w.conn.arrived w.conn.offered broken
-      → IsPrefix pulled w.conn.offered → IsPrefix pulled (x.due w.conn.arrived) ⊎ Behind pulled
+      → IsPrefix pulled w.conn.offered → IsPrefix pulled (x.due w.conn.arrived) ⊎ After pulled
   splits pulled None b o p = inl (prefix_trans pulled w.conn.offered (x.due w.conn.arrived) p o)
   splits pulled (Some ByInput) b o p =
       let disconnect : Incoming = x.input_disconnect w.conn.arrived in
@@ -75,18 +75,18 @@ module _ {A W : Type 0} (x : Exchange A W) (s : IsSteady x) (w : World A W) wher
             )
       ]
 
-  -- nothing was heard but what came off the queue
-  all_came : (pulled : List Incoming) → w.app.heard ≡ pulled → IsPrefix pulled (x.due w.conn.arrived) ⊎ Behind pulled → HearsDue x w
+  -- nothing was received but what came off the queue
+  all_came : (pulled : List Incoming) → w.app.heard ≡ pulled → IsPrefix pulled (x.due w.conn.arrived) ⊎ After pulled → HearsDue x w
   all_came pulled e (inl p) =
       record { events = pulled; times = 0; disconnect = cut_disconnect x.kind; in_order = e ∙ sym (append-nil pulled); due = p; cause = inl refl }
   all_came pulled e (inr b) =
       record { events = b.events; times = 1; disconnect = b.disconnect; in_order = e ∙ b.in_order; due = b.due; cause = inr b.cause }
 
-  until : (pulled : List Incoming) → HearsUntil x.kind (said_of w.app) pulled w.app.heard → IsPrefix pulled (x.due w.conn.arrived) ⊎ Behind pulled → HearsDue x w
+  until : (pulled : List Incoming) → HearsUntil x.kind (said_of w.app) pulled w.app.heard → IsPrefix pulled (x.due w.conn.arrived) ⊎ After pulled → HearsDue x w
   until pulled h split = by h.cause split
     where
       by : ((h.times ≡ 0) × (pulled ≡ h.events)) ⊎ ((0 < h.times) × pipes.Cause x.kind (said_of w.app) h.events pulled h.disconnect)
-          → IsPrefix pulled (x.due w.conn.arrived) ⊎ Behind pulled → HearsDue x w
+          → IsPrefix pulled (x.due w.conn.arrived) ⊎ After pulled → HearsDue x w
       by (inl came) split = all_came pulled (none_heard h.events w.app.heard h.times h.disconnect h.in_order came.0 ∙ sym came.1) split
       by (inr (some_, inl own)) (inl p) = record {
         events = h.events;

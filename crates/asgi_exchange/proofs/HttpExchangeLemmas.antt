@@ -10,8 +10,10 @@ use Rattle.asgi_request.proofs.BodyOfLemmas.{body_is_read}
 use Rattle.asgi_response.specs.Response.{response_text}
 use Rattle.asgi_types.specs.declared.end_kind.EndKind.{EndKind}
 use Rattle.asgi_exchange.specs.Heard.{Cause, Closed, Input, Cut, HearsDue}
-use Rattle.asgi_exchange.specs.Http.{input_of, http}
-use Rattle.asgi_exchange.specs.HttpExchange.{HasCause, text_of, IsHttpExchange}
+use Rattle.asgi_exchange.specs.Http.{http}
+use Rattle.asgi_exchange.specs.ExchangeTexts.{input_of}
+use Rattle.asgi_exchange.specs.HttpExchange.{HasCause, IsHttpExchange}
+use Rattle.asgi_exchange.specs.ExchangeTexts.{text_of}
 use Rattle.asgi_exchange.specs.Items.{end_of}
 use Rattle.asgi_exchange.specs.Keeps.{IsExchange}
 use Rattle.asgi_exchange.specs.Views.{World, taken_of, output}

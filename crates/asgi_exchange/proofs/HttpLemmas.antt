@@ -20,7 +20,8 @@ use Rattle.asgi_types.specs.declared.end_kind.EndKind.{EndKind}
 use Rattle.asgi_types.specs.declared.end_kind.EndKind.TheVariants.{Returned, Faulted, Idle}
 use Rattle.asgi_pipes.specs.Disconnects.{disconnect_in, or_else, first_disconnect}
 use Rattle.asgi_exchange.specs.Exchange.{IsSteady}
-use Rattle.asgi_exchange.specs.Http.{is_over, input_of, http}
+use Rattle.asgi_exchange.specs.Http.{is_over, http}
+use Rattle.asgi_exchange.specs.ExchangeTexts.{input_of}
 use Rattle.asgi_exchange.proofs.ListLemmas.{prefix_same}
 
 -- ---- what is due
@@ -34,7 +35,7 @@ parts_only (e ∷ events) all =
 
 over_stays : (more : List ℕ) (events others : List Incoming) (state other : BodyState) → StaysAs state more events others other → is_over state ≡ true → others ≡ events
 over_stays more events others partial other s h = cc
-over_stays more events others (complete behind) other s h = s.0
+over_stays more events others (complete after) other s h = s.0
 over_stays more events others (faulty why) other s h = s.0
 
 -- ---- the text
@@ -42,8 +43,8 @@ over_stays more events others (faulty why) other s h = s.0
 answer_grows : (more : List ℕ) (events others : List Incoming) (state other : BodyState) → StaysAs state more events others other
     → IsPrefix (replacement_text (input_of state)) (replacement_text (input_of other))
 answer_grows more events others partial other s = (replacement_text (input_of other), refl)
-answer_grows more events others (complete behind) other s =
-    prefix_same (replacement_text (input_of (complete behind))) (replacement_text (input_of other)) (ap (λ (b : BodyState). replacement_text (input_of b)) (sym s.1))
+answer_grows more events others (complete after) other s =
+    prefix_same (replacement_text (input_of (complete after))) (replacement_text (input_of other)) (ap (λ (b : BodyState). replacement_text (input_of b)) (sym s.1))
 answer_grows more events others (faulty why) other s =
     prefix_same (replacement_text (input_of (faulty why))) (replacement_text (input_of other)) (ap (λ (b : BodyState). replacement_text (input_of b)) (sym s.1))
 

@@ -1,11 +1,11 @@
--- One disconnect behind another, and an event behind a disconnect, are not what an exchange keeps.
+-- One disconnect after another, and an event after a disconnect, are not what an exchange keeps.
 use Rattle.std.proofs.Common.{◌≡◌, ℕ, zero, suc, List, [], ◌∷◌, ◌++◌, ◌⊎◌, inl, inr, replicate, ap, arith}
 use mathlib.Core.List.{IsPrefix}
 use Rattle.asgi_types.specs.declared.incoming.Incoming.{Incoming}
 use Rattle.asgi_types.specs.declared.incoming.Incoming.TheVariants.{WsConnect, WsReceive, WsDisconnect}
 use Rattle.asgi_types.specs.declared.incoming.Payload.{Payload}
 
--- ---- the codes that were heard
+-- ---- the codes that were received
 
 abbrev code : Incoming → ℕ
 code (WsDisconnect number reason) = number
@@ -21,7 +21,7 @@ third_code _ = 0
 
 -- ---- what is not kept
 
--- the disconnect of a cut, where the client's close was heard
+-- the disconnect of a cut, when the client's close was received
 pub another_heard : (events : List Incoming) (times : ℕ) (one : Incoming) → WsConnect ∷ WsDisconnect 1000 [] ∷ [] ≡ events ++ replicate times one
     → IsPrefix events (WsConnect ∷ []) → (times ≡ 0) ⊎ (one ≡ WsDisconnect 1006 []) → ⊥
 another_heard [] zero one e p why = absurd (cc (e))
@@ -49,9 +49,9 @@ two_heard (x ∷ []) (suc (suc n)) one e p =
     absurd (omega (arith, second, third))
 two_heard (x ∷ y ∷ events) times one e p = absurd (cc (p.1))
 
--- an event that is offered behind the disconnect of a cut
-pub offered_behind : (payload : Payload) (events : List Incoming) → WsDisconnect 1006 [] ∷ WsReceive payload ∷ [] ≡ events ++ WsDisconnect 1006 [] ∷ [] → ⊥
-offered_behind payload [] e = absurd (cc (e))
-offered_behind payload (x ∷ []) e = absurd (cc (e))
-offered_behind payload (x ∷ y ∷ []) e = absurd (cc (e))
-offered_behind payload (x ∷ y ∷ z ∷ events) e = absurd (cc (e))
+-- an event that is offered after the disconnect of a cut
+pub offered_after : (payload : Payload) (events : List Incoming) → WsDisconnect 1006 [] ∷ WsReceive payload ∷ [] ≡ events ++ WsDisconnect 1006 [] ∷ [] → ⊥
+offered_after payload [] e = absurd (cc (e))
+offered_after payload (x ∷ []) e = absurd (cc (e))
+offered_after payload (x ∷ y ∷ []) e = absurd (cc (e))
+offered_after payload (x ∷ y ∷ z ∷ events) e = absurd (cc (e))

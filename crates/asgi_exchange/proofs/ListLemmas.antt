@@ -20,8 +20,8 @@ prefix_front xs ys = (ys, refl)
 pub prefix_same : {A : Type 0} (xs ys : List A) → xs ≡ ys → IsPrefix xs ys
 prefix_same xs ys e = let r = prefix_self xs in (r.0, r.1 ∙ e)
 
-pub prefix_behind : {A : Type 0} (t xs ys : List A) → IsPrefix xs ys → IsPrefix (t ++ xs) (t ++ ys)
-prefix_behind t xs ys p = (p.0, append_assoc t xs p.0 ∙ ap (λ w. t ++ w) p.1)
+pub prefix_after : {A : Type 0} (t xs ys : List A) → IsPrefix xs ys → IsPrefix (t ++ xs) (t ++ ys)
+prefix_after t xs ys p = (p.0, append_assoc t xs p.0 ∙ ap (λ w. t ++ w) p.1)
 
 -- a beginning as long as the whole is the whole
 pub prefix_whole : {A : Type 0} (xs ys : List A) → IsPrefix xs ys → length ys ≤ length xs → xs ≡ ys
@@ -31,7 +31,7 @@ prefix_whole (x ∷ xs) [] p le = absurd (cc (p.1))
 prefix_whole (x ∷ xs) (y ∷ ys) p le =
     let rest = prefix_whole xs ys (p.0, cc (p.1)) (omega arith) in cc (p.1, rest)
 
--- the next item behind a beginning
+-- the next item after a beginning
 pub prefix_next : {A : Type 0} (xs ys : List A) (e : A) → IsPrefix xs ys → slice_get ys (length xs) ≡ Some e → IsPrefix (xs ++ e ∷ []) ys
 prefix_next [] [] e p h = absurd (cc (h))
 prefix_next [] (y ∷ ys) e p h = (ys, cc (h))
@@ -56,7 +56,7 @@ last_same (x ∷ z ∷ p) [] a b h = absurd (cc (h))
 last_same (x ∷ p) (y ∷ q) a b h =
     let rest = last_same p q a b (cc (h)) in (cc (h, rest.0), rest.1)
 
--- more of a list behind a beginning of it
+-- more of a list after a beginning of it
 pub prefix_further : {A : Type 0} (xs ys : List A) (k : ℕ) → IsPrefix xs ys → IsPrefix (xs ++ take k (drop (length xs) ys)) ys
 prefix_further xs ys k p =
     let e : drop (length xs) ys ≡ p.0 = ap (λ w. drop (length xs) w) (sym p.1) ∙ drop-append_seam xs p.0 in (

@@ -1,4 +1,4 @@
--- What the ends of a pair say where they meet, and what the connection kept, make an exchange.
+-- What the ends of a pair record when they meet, and what the connection kept, make an exchange.
 use Rattle.std.proofs.Common.{◌≡◌, ℕ, List, Option, Some, None, sym, subst}
 use Rattle.std.specs.Prelude.{IsSome, IfSome}
 use Rattle.asgi_types.specs.declared.incoming.Incoming.{Incoming}

@@ -1,4 +1,4 @@
--- What a message that the message layer gives makes of a session: the event that is due, or the end of the input.
+-- What a message of the message layer means for a session: the event that is due, or the end of the input.
 use Rattle.std.proofs.Common.{◌≡◌, ℕ, true, false, List, [], ◌∷◌, ◌++◌, Option, Some, None, refl, ap, sym, ◌∙◌, append-nil}
 use Rattle.std.specs.List.{flat_map}
 use Rattle.std.proofs.lemmas.List.Concat.{flat_map-append}

@@ -1,4 +1,4 @@
--- What a reader gives moves the connection's view by its steps.
+-- What a reader returns moves the connection's view by its steps.
 use Rattle.std.proofs.Common.{◌≡◌, ℕ, Bool, true, false, List, [], ◌∷◌, ◌++◌, map, length, refl, sym, ap, ◌∙◌, append_assoc, arith, Some, None}
 use Rattle.std.specs.Prelude.{if◌then◌else◌, is_none, nat_lt, slice_get}
 use Rattle.std.proofs.lemmas.Bool.Decides.{nat_tests}
@@ -35,7 +35,7 @@ next_is xs e more ys h = ap (λ (l : List Incoming). next_of l xs) (sym h ∙ ap
 not_less : (n : ℕ) → nat_lt n n ≡ false
 not_less n = grind (arith, nat_tests)
 
--- behind all that is due the input may break
+-- after all that is due the input may break
 pub break_is_offered : {A W : Type 0} (x : Exchange A W) (conn : ConnView A W) → conn.broken ≡ None → end_of conn.got ≡ None → conn.offered ≡ x.due conn.arrived
     → break_off x conn ByInput ≡ record conn { offered = conn.offered ++ x.input_disconnect conn.arrived ∷ []; broken = Some ByInput }
 break_is_offered {A} {W} x conn b e all =

@@ -27,7 +27,7 @@ front_of : {B : Type 0} (places : ℕ) (put got : List B) (count : ℕ) → Keep
 front_of places put got count k = (k.0, sym k.1)
 
 module _ {A W : Type 0} (x : Exchange A W) (s : IsSteady x) where
-  -- once a closing event was taken, all that was said was taken
+  -- once a closing event was taken, all that was sent was taken
   closed_taken : (events said : List Outgoing) → IsPrefix events said → IsLawful x.kind x.facts said → IsClosed x.kind events → events ≡ said
   closed_taken events said ([], e) lawful closed = sym (append-nil events) ∙ e
   closed_taken events said (i ∷ more, e) lawful closed =
@@ -57,7 +57,7 @@ module _ {A W : Type 0} (x : Exchange A W) (s : IsSteady x) where
       (app_run_keeps x app_steps empty_app (empty_app_keeps x))
       (record { inward = front_of places_in conn.offered app.pulled left_in inward; outward = front_of places_out app.put conn.got left_out outward })
 
-  -- what the ends of a pair say where they meet is all that is needed of the application's half
+  -- what the ends of a pair record when they meet is all that is needed of the application's half
   pub met_makes : (conn : ConnView A W) (said : List Outgoing) (ended : Option EndKind) (pulled heard : List Incoming) (places_in places_out left_in left_out : ℕ)
       → ConnKeeps x conn → KeepsOrder places_in conn.offered pulled left_in → KeepsOrder places_out (items_of said ended) conn.got left_out
       → Hears x.kind said pulled heard → IsLawful x.kind x.facts said

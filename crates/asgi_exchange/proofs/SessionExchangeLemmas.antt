@@ -8,7 +8,8 @@ use Rattle.asgi_exchange.specs.Heard.{Cause, Closed, Input, Cut}
 use Rattle.asgi_exchange.specs.Keeps.{IsExchange}
 use Rattle.asgi_ws.specs.declared.messages.Msg.{Msg}
 use Rattle.asgi_exchange.specs.Session.{Output, Handshake, session_output}
-use Rattle.asgi_exchange.specs.SessionExchange.{HasSessionCause, ending_behind, IsSessionExchange}
+use Rattle.asgi_exchange.specs.SessionExchange.{HasSessionCause, IsSessionExchange}
+use Rattle.asgi_exchange.specs.ExchangeTexts.{ending_after}
 use Rattle.asgi_exchange.specs.Views.{World, added_by, taken_of}
 use Rattle.asgi_exchange.specs.Items.{end_of}
 use Rattle.asgi_exchange.specs.WebSocket.{web_socket}
@@ -25,7 +26,7 @@ cause_of handshake facts ring w events times heard (inl none) = inl none
 cause_of handshake facts ring w events times heard (inr c) = inr (has_cause handshake facts ring w events heard c)
 
 ending_is : (handshake : Handshake) (facts : Facts) (ring : ℕ) (events : List Outgoing) (ended : Option EndKind) (broken : Bool) (messages : List Msg)
-    → added_by (web_socket handshake facts ring) events ended broken messages ≡ ending_behind facts events ended broken
+    → added_by (web_socket handshake facts ring) events ended broken messages ≡ ending_after facts events ended broken
 ending_is handshake facts ring events None broken messages = refl
 ending_is handshake facts ring events (Some kind) broken messages = refl
 

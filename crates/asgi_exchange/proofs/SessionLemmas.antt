@@ -18,7 +18,7 @@ use Rattle.asgi_protocol.proofs.PassingLemmas.{test_of_lawful}
 use Rattle.asgi_response.specs.Denial.{closing_facts, as_response, denial_text}
 use Rattle.asgi_response.specs.Exchange.{refusal_text}
 use Rattle.asgi_response.specs.Response.{message_text, event_text}
-use Rattle.asgi_response.proofs.LawLemmas.{message_behind}
+use Rattle.asgi_response.proofs.LawLemmas.{message_after}
 use Rattle.asgi_pipes.specs.Disconnects.{first_disconnect}
 use Rattle.asgi_exchange.specs.Exchange.{IsSteady}
 use Rattle.asgi_ws.specs.declared.messages.Msg.{Msg}
@@ -27,16 +27,16 @@ use Rattle.asgi_exchange.specs.Messages.{events_in, before_close, first_close, h
 use Rattle.asgi_exchange.specs.Session as session
 use Rattle.asgi_exchange.specs.Session.{Output, Byte, Handshake, with_session_event, accepted_session, message_of, output_of, event_output, session_output}
 use Rattle.asgi_exchange.specs.WebSocket.{web_socket}
-use Rattle.asgi_exchange.proofs.ListLemmas.{prefix_self, prefix_same, prefix_behind}
+use Rattle.asgi_exchange.proofs.ListLemmas.{prefix_self, prefix_same, prefix_after}
 
 -- ---- what is due
 
 heard_grow : (messages more : List Msg) → IsPrefix (flat_map events_in (before_close messages)) (flat_map events_in (before_close (messages ++ more)))
 heard_grow [] more = (flat_map events_in (before_close more), refl)
 heard_grow (Text text ∷ messages) more =
-    prefix_behind (WsReceive (payload.Text text) ∷ []) (flat_map events_in (before_close messages)) (flat_map events_in (before_close (messages ++ more))) (heard_grow messages more)
+    prefix_after (WsReceive (payload.Text text) ∷ []) (flat_map events_in (before_close messages)) (flat_map events_in (before_close (messages ++ more))) (heard_grow messages more)
 heard_grow (Bytes bytes ∷ messages) more =
-    prefix_behind (WsReceive (payload.Bytes bytes) ∷ []) (flat_map events_in (before_close messages)) (flat_map events_in (before_close (messages ++ more))) (heard_grow messages more)
+    prefix_after (WsReceive (payload.Bytes bytes) ∷ []) (flat_map events_in (before_close messages)) (flat_map events_in (before_close (messages ++ more))) (heard_grow messages more)
 heard_grow (Ping ∷ messages) more = heard_grow messages more
 heard_grow (Pong ∷ messages) more = heard_grow messages more
 heard_grow (Close close ∷ messages) more = ([], refl)
@@ -49,7 +49,7 @@ no_disconnect (Ping ∷ messages) = no_disconnect messages
 no_disconnect (Pong ∷ messages) = no_disconnect messages
 no_disconnect (Close close ∷ messages) = refl
 
--- behind a close nothing changes
+-- after a close nothing changes
 before_stays : (messages more : List Msg) → has_close messages ≡ true → before_close (messages ++ more) ≡ before_close messages
 before_stays [] more h = cc
 before_stays (Text text ∷ messages) more h = ap (λ w. Text text ∷ w) (before_stays messages more h)
@@ -77,43 +77,43 @@ pub map_append : {A B : Type 0} (f : A → B) (xs ys : List A) → map f (xs ++ 
 map_append f [] ys = refl
 map_append f (x ∷ xs) ys = ap (λ w. f x ∷ w) (map_append f xs ys)
 
-denial_behind : (facts : Facts) (said : List Outgoing) (event : Outgoing)
+denial_after : (facts : Facts) (said : List Outgoing) (event : Outgoing)
     → denial_text facts (said ++ event ∷ []) ≡ denial_text facts said ++ event_text (closing_facts facts) (map as_response said) (as_response event)
-denial_behind facts said event =
+denial_after facts said event =
     ap (message_text (closing_facts facts)) (map_append as_response said (event ∷ []))
-    ∙ message_behind (closing_facts facts) (map as_response said) (as_response event)
+    ∙ message_after (closing_facts facts) (map as_response said) (as_response event)
 
 -- one more event adds its part
-output_behind : (handshake : Handshake) (facts : Facts) (said : List Outgoing) (event : Outgoing)
+output_after : (handshake : Handshake) (facts : Facts) (said : List Outgoing) (event : Outgoing)
     → output_of handshake facts (said ++ event ∷ []) ≡ output_of handshake facts said ++ event_output handshake facts said event
-output_behind handshake facts [] (WsAccept a b) = append-nil (map Byte (handshake a b))
-output_behind handshake facts [] (WsClose a b) = refl
-output_behind handshake facts [] (DenialStart a b) = refl
-output_behind handshake facts [] (ResponseStart a b) = refl
-output_behind handshake facts [] (ResponseBody a b) = refl
-output_behind handshake facts [] (WsSend a) = refl
-output_behind handshake facts [] (DenialBody a b) = refl
-output_behind handshake facts [] (StartupComplete a) = refl
-output_behind handshake facts [] (StartupFailed a) = refl
-output_behind handshake facts [] ShutdownComplete = refl
-output_behind handshake facts [] (ShutdownFailed a) = refl
-output_behind handshake facts (WsAccept subprotocol headers ∷ said) event =
+output_after handshake facts [] (WsAccept a b) = append-nil (map Byte (handshake a b))
+output_after handshake facts [] (WsClose a b) = refl
+output_after handshake facts [] (DenialStart a b) = refl
+output_after handshake facts [] (ResponseStart a b) = refl
+output_after handshake facts [] (ResponseBody a b) = refl
+output_after handshake facts [] (WsSend a) = refl
+output_after handshake facts [] (DenialBody a b) = refl
+output_after handshake facts [] (StartupComplete a) = refl
+output_after handshake facts [] (StartupFailed a) = refl
+output_after handshake facts [] ShutdownComplete = refl
+output_after handshake facts [] (ShutdownFailed a) = refl
+output_after handshake facts (WsAccept subprotocol headers ∷ said) event =
     ap (λ w. map Byte (handshake subprotocol headers) ++ w)
     (flat_map-append message_of said (event ∷ []) ∙ ap (λ w. flat_map message_of said ++ w) (append-nil (message_of event)))
     ∙ sym (append_assoc (map Byte (handshake subprotocol headers)) (flat_map message_of said) (message_of event))
-output_behind handshake facts (WsClose code reason ∷ said) event = sym (append-nil (map Byte (refusal_text 403)))
-output_behind handshake facts (DenialStart status headers ∷ said) event =
+output_after handshake facts (WsClose code reason ∷ said) event = sym (append-nil (map Byte (refusal_text 403)))
+output_after handshake facts (DenialStart status headers ∷ said) event =
     let start : List Outgoing = DenialStart status headers ∷ said in
-    ap (map Byte) (denial_behind facts start event)
+    ap (map Byte) (denial_after facts start event)
     ∙ map_append Byte (denial_text facts start) (event_text (closing_facts facts) (map as_response start) (as_response event))
-output_behind handshake facts (ResponseStart a b ∷ said) event = refl
-output_behind handshake facts (ResponseBody a b ∷ said) event = refl
-output_behind handshake facts (WsSend a ∷ said) event = refl
-output_behind handshake facts (DenialBody a b ∷ said) event = refl
-output_behind handshake facts (StartupComplete a ∷ said) event = refl
-output_behind handshake facts (StartupFailed a ∷ said) event = refl
-output_behind handshake facts (ShutdownComplete ∷ said) event = refl
-output_behind handshake facts (ShutdownFailed a ∷ said) event = refl
+output_after handshake facts (ResponseStart a b ∷ said) event = refl
+output_after handshake facts (ResponseBody a b ∷ said) event = refl
+output_after handshake facts (WsSend a ∷ said) event = refl
+output_after handshake facts (DenialBody a b ∷ said) event = refl
+output_after handshake facts (StartupComplete a ∷ said) event = refl
+output_after handshake facts (StartupFailed a ∷ said) event = refl
+output_after handshake facts (ShutdownComplete ∷ said) event = refl
+output_after handshake facts (ShutdownFailed a ∷ said) event = refl
 
 -- the events that have a text, with one more
 accepted_more : (facts : Facts) (events : List Outgoing) (event : Outgoing) (b : Bool) → passes WebSocket facts (accepted_session facts events) event ≡ b
@@ -125,7 +125,7 @@ accepted_more facts events event b h =
 pub event_adds : (handshake : Handshake) (facts : Facts) (events : List Outgoing) (event : Outgoing) → passes WebSocket facts (accepted_session facts events) event ≡ true
     → session_output handshake facts (events ++ event ∷ []) ≡ session_output handshake facts events ++ event_output handshake facts (accepted_session facts events) event
 event_adds handshake facts events event h =
-    ap (output_of handshake facts) (accepted_more facts events event true h) ∙ output_behind handshake facts (accepted_session facts events) event
+    ap (output_of handshake facts) (accepted_more facts events event true h) ∙ output_after handshake facts (accepted_session facts events) event
 
 pub other_adds_nothing : (handshake : Handshake) (facts : Facts) (events : List Outgoing) (event : Outgoing) → passes WebSocket facts (accepted_session facts events) event ≡ false
     → session_output handshake facts (events ++ event ∷ []) ≡ session_output handshake facts events
@@ -139,7 +139,7 @@ session_grows handshake facts events event = by (passes WebSocket facts (accepte
     by true h = (event_output handshake facts (accepted_session facts events) event, sym (event_adds handshake facts events event h))
     by false h = prefix_same (session_output handshake facts events) (session_output handshake facts (events ++ event ∷ [])) (sym (other_adds_nothing handshake facts events event h))
 
--- where each event passes behind those said, all are accepted
+-- if each event passes after those sent, all are accepted
 all_accepted : (facts : Facts) (said events : List Outgoing) → each_passes (passes WebSocket facts) said events ≡ true → fold (with_session_event facts) said events ≡ said ++ events
 all_accepted facts said [] h = sym (append-nil said)
 all_accepted facts said (e ∷ events) h =
@@ -157,7 +157,7 @@ lawful_is_accepted facts events lawful = all_accepted facts [] events (test_of_l
 pub web_socket_is_steady : (handshake : Handshake) (facts : Facts) (ring : ℕ) → IsSteady (web_socket handshake facts ring)
 web_socket_is_steady handshake facts ring = record {
   due_grows = λ messages more.
-      prefix_behind (WsConnect ∷ []) (flat_map events_in (before_close messages)) (flat_map events_in (before_close (messages ++ more))) (heard_grow messages more);
+      prefix_after (WsConnect ∷ []) (flat_map events_in (before_close messages)) (flat_map events_in (before_close (messages ++ more))) (heard_grow messages more);
   due_is_no_disconnect = no_disconnect;
   over_due = λ messages more h. ap (λ w. WsConnect ∷ flat_map events_in w) (before_stays messages more h);
   over_disconnect = λ messages more h. ap disconnect_of (first_stays messages more h);

@@ -14,31 +14,31 @@ use Rattle.asgi_exchange.specs.Views.{Break, ByInput, ByCut, ConnView, AppView}
 
 -- ---- the connection's end
 
--- the lists of the end are those of the view; what arrived, what was written and the kind of the break are the loop's
+-- the view has the lists of the end; what arrived, what was written and the kind of the break are the loop's
 abbrev pub IsViewOf : {A W C : Type 0} → conn_end.Ghosts C → C → ConnView A W → Type 0
 IsViewOf E conn view = (view.offered ≡ E.offered conn) × (is_some view.broken ≡ E.is_broken conn) × (view.got ≡ E.got conn)
 
--- the disconnect of a break is due: by the input behind all events that are due, and before the end was taken
+-- the disconnect of a break is due: by the input after all events that are due, and before the end was taken
 abbrev pub IsDueTo : {A W : Type 0} → Exchange A W → ConnView A W → Break → Incoming → Type 0
 IsDueTo x view ByInput event = (event ≡ x.input_disconnect view.arrived) × (length (x.due view.arrived) ≤ length view.offered) × (end_of view.got ≡ None)
 IsDueTo x view ByCut event = event ≡ cut_disconnect x.kind
 
 -- ---- the application's end
 
--- all that an application's half knows stands in its end
+-- all that an application's half knows is in its end
 abbrev pub view_of : {C : Type 0} → app_end.Ghosts C → C → AppView
 view_of E app = record { pulled = E.pulled app; heard = E.heard app; put = items_of (E.said app) (E.ended app) }
 
--- the exchange is one of the end's kind of scope, and of its request
+-- the exchange has the end's kind of scope, and its request
 abbrev pub IsExchangeOf : {A W C : Type 0} → app_end.Ghosts C → C → Exchange A W → Type 0
 IsExchangeOf E app x = (x.kind ≡ E.kind app) × (x.facts ≡ E.facts app)
 
--- the event that a receive gave
+-- the event that a receive returned
 abbrev pub event_in : Poll Incoming → Option Incoming
 event_in (Ready event) = Some event
 event_in Pending = None
 
--- no place is found where the answer says so; what is turned away looks for none
+-- no place is found if the result is `Full`; an event that is turned away looks for none
 abbrev pub finds_place : Sent → Bool
 finds_place (Full back) = false
 finds_place _ = true

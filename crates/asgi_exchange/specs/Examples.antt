@@ -22,7 +22,7 @@ use Rattle.asgi_exchange.specs.Views.{ByInput, ByCut, World, said_of, taken_of}
 
 -- ---- what is computed
 
--- what the world's lists are
+-- the lists of the world
 pub record Shows {A W : Type 0} (w : World A W) (heard : List Incoming) (said taken : List Outgoing) (written : List W) : Type 0 where
   pub heard_is : w.app.heard ≡ heard
   pub said_is : said_of w.app ≡ said
@@ -31,7 +31,7 @@ pub record Shows {A W : Type 0} (w : World A W) (heard : List Incoming) (said ta
 
 -- ---- limits and requests
 
--- the limits that a server takes unless told otherwise
+-- the limits that a server has unless configured otherwise
 abbrev pub usual_limits : Limits
 usual_limits = record {
   max_head = 16384;
@@ -50,11 +50,11 @@ usual_limits = record {
   turns_in_range = (leb-true 1 (2 ^ 40) refl, leb-true (2 ^ 40) (2 ^ 48) refl);
 }
 
--- the same, but for a body of at most 4 bytes
+-- the same, except for a body of at most 4 bytes
 abbrev pub limits_of_4_bytes : Limits
 limits_of_4_bytes = record usual_limits { max_body = 4; body_in_range = leb-true 4 (2 ^ 40) refl }
 
--- the same, but for events of at most 4 bytes
+-- the same, except for events of at most 4 bytes
 abbrev pub limits_of_blocks : Limits
 limits_of_blocks = record usual_limits { block = 4; block_in_range = (leb-true 1 4 refl, leb-true 4 65536 refl) }
 
@@ -62,7 +62,7 @@ limits_of_blocks = record usual_limits { block = 4; block_in_range = (leb-true 1
 abbrev pub facts_with : Framing → Facts
 facts_with framing = record { version = V11; head_only = false; close = false; expect = false; framing = framing; key = replicate 24 0; subprotocols = [] }
 
--- the opening handshake of RFC 6455, section 1.3, and its answer
+-- the opening handshake of RFC 6455, section 1.3, and its response
 abbrev pub session_facts : Facts
 session_facts = record (facts_with Upgrade) { key = codes "dGhlIHNhbXBsZSBub25jZQ==" }
 
@@ -77,14 +77,14 @@ answer_handshake = λ subprotocol headers. session_answer
 abbrev pub content_type : List ℕ → List HeaderField
 content_type value = record { name = codes "content-type"; value = value } ∷ []
 
--- a text, and its one body
+-- a text with a single body
 abbrev pub hello_start : Outgoing
 hello_start = ResponseStart 200 (content_type (codes "text/plain"))
 
 abbrev pub hello_body : Outgoing
 hello_body = ResponseBody (codes "hello\n") false
 
--- the start of an answer with the bytes of the request
+-- the start of a response with the bytes of the request
 abbrev pub echo_start : Outgoing
 echo_start = ResponseStart 200 (content_type (codes "application/octet-stream"))
 
@@ -104,7 +104,7 @@ at_last kind = End kind ∷ Take ∷ Write 1000 ∷ []
 abbrev pub body_broken_off : List (Step ℕ)
 body_broken_off = Say echo_start ∷ Take ∷ Arrive (codes "abcd") ∷ Offer ∷ BreakOff ByInput ∷ Hear ∷ at_last Returned
 
--- a chunk of five bytes, where four may come
+-- a chunk of five bytes, if four are allowed
 abbrev pub chunk_too_large : List (Step ℕ)
 chunk_too_large = Arrive (codes "5\r\nabcde\r\n0\r\n\r\n") ∷ Offer ∷ Say echo_start ∷ Take ∷ BreakOff ByInput ∷ Hear ∷ at_last Returned
 
@@ -114,7 +114,7 @@ chunks_arrive arrival =
     arrival ++ Say echo_start ∷ Offer ∷ Hear ∷ Say (ResponseBody (codes "abcd") true) ∷ Offer ∷ Hear ∷ Say (ResponseBody (codes "efgh") true) ∷ Offer ∷ Hear
     ∷ Say (ResponseBody (codes "i") true) ∷ Offer ∷ Hear ∷ Say (ResponseBody [] false) ∷ Take ∷ Take ∷ Take ∷ Take ∷ Take ∷ at_last Returned
 
--- what becomes of them
+-- the result of that schedule
 abbrev pub ShowsChunks : World ℕ ℕ → Type 0
 ShowsChunks w =
     Shows w (HttpRequest (codes "abcd") true ∷ HttpRequest (codes "efgh") true ∷ HttpRequest (codes "i") true ∷ HttpRequest [] false ∷ [])
@@ -125,15 +125,15 @@ ShowsChunks w =
 abbrev pub chunked_bytes : List ℕ
 chunked_bytes = codes "4\r\nabcd\r\n5\r\nefghi\r\n0\r\nx: y\r\n\r\n"
 
--- the writer takes nine bytes, and then it fails
+-- the writer takes nine bytes, and then fails
 abbrev pub answer_cut_off : List (Step ℕ)
 answer_cut_off = Say hello_start ∷ Say hello_body ∷ Take ∷ Take ∷ Write 9 ∷ BreakOff ByCut ∷ Hear ∷ at_last Returned
 
--- the same behind a body that is not the last
+-- the same after a body that is not the last
 abbrev pub body_cut_off : List (Step ℕ)
 body_cut_off = Say bare_start ∷ Say (ResponseBody (codes "x") true) ∷ Take ∷ Take ∷ Write 9 ∷ BreakOff ByCut ∷ Hear ∷ Say (ResponseBody (codes "y") false) ∷ at_last Returned
 
--- a fault in place of an answer, and one behind a first body
+-- a fault in place of a response, and one after a first body
 abbrev pub fault_at_once : List (Step ℕ)
 fault_at_once = at_last Faulted
 
@@ -142,16 +142,16 @@ fault_inside = Say bare_start ∷ Say (ResponseBody (codes "x") true) ∷ Take �
 
 -- ---- schedules of a session
 
--- the session is accepted, and its answer written
+-- the session is accepted, and the response written
 abbrev pub opened : List (Step Msg)
 opened = Offer ∷ Hear ∷ Say accept ∷ Take ∷ Write 1000 ∷ []
 
--- the client closes, with a code or with none: that is heard again and again, but nothing that follows it, and nothing more
--- is said
+-- the client closes, with a code or with none: that is received again and again, but nothing that follows it, and nothing
+-- more is sent
 abbrev pub client_closes : Option (ℕ × List ℕ) → List (Step Msg)
 client_closes close = opened ++ Arrive (Close close ∷ Text (codes "late") ∷ []) ∷ Offer ∷ BreakOff ByInput ∷ Hear ∷ Hear ∷ Say (WsSend (payload.Text (codes "late"))) ∷ at_last Returned
 
--- a message comes back, and then the input ends
+-- a message is sent back, and then the input ends
 abbrev pub message_echoed : List (Step Msg)
 message_echoed =
     opened ++ Arrive (Ping ∷ Text (codes "Hello") ∷ Pong ∷ []) ∷ Offer ∷ Hear ∷ Say (WsSend (payload.Text (codes "Hello"))) ∷ Take ∷ Write 1000 ∷ BreakOff ByInput ∷ Hear

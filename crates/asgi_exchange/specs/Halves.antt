@@ -1,5 +1,5 @@
--- What each half of an exchange keeps by itself, whatever its queue answers. `ConnKeeps` is what a connection owes where
--- the halves meet; all else here is words of proofs.
+-- What each half of an exchange keeps by itself, whatever its queue returns. `ConnKeeps` is what a connection owes when the
+-- halves meet; everything else here is for proofs.
 use Rattle.std.specs.Prelude.{◌≡◌, List, [], ◌∷◌, ◌++◌, Option, Some, None, ⊤}
 use mathlib.Core.List.{IsPrefix}
 use Rattle.asgi_types.specs.declared.incoming.Incoming.{Incoming}
@@ -10,7 +10,7 @@ use Rattle.asgi_pipes.specs.Disconnects.{Hears}
 use Rattle.asgi_exchange.specs.Exchange.{Exchange, cut_disconnect}
 use Rattle.asgi_exchange.specs.Views.{Break, ByInput, ByCut, ConnView, AppView, said_of, output}
 
--- what was offered is a beginning of what is due, or that and the disconnect of the break: by the input behind all of it
+-- what was offered is a beginning of what is due, or that and the disconnect of the break: by the input after all of it
 abbrev pub IsOffered : {A W : Type 0} → Exchange A W → List A → List Incoming → Option Break → Type 0
 IsOffered x arrived offered None = IsPrefix offered (x.due arrived)
 IsOffered x arrived offered (Some ByInput) = offered ≡ x.due arrived ++ x.input_disconnect arrived ∷ []
@@ -21,7 +21,7 @@ pub record ConnKeeps {A W : Type 0} (x : Exchange A W) (conn : ConnView A W) : T
   pub offered : IsOffered x conn.arrived conn.offered conn.broken
   pub written : IsPrefix conn.written (output x conn)
 
--- nothing stands behind an end
+-- nothing follows an end
 abbrev pub IsOrdered : List OutItem → Type 0
 IsOrdered [] = ⊤
 IsOrdered (Event event ∷ items) = IsOrdered items

@@ -1,50 +1,40 @@
--- What every schedule of an HTTP exchange keeps: of what was heard, said, taken and written (ASGI HTTP message format 2.4).
-use Rattle.std.specs.Prelude.{◌≡◌, ◌≢◌, ℕ, ◌⊎◌, List, ◌++◌, Option, Some, None, replicate}
+-- What every schedule of an HTTP exchange keeps: what was received, sent, taken and written (ASGI HTTP message format 2.4).
+use Rattle.std.specs.Prelude.{◌≡◌, ◌≢◌, ℕ, ◌⊎◌, List, ◌++◌, Some, None, replicate}
 use mathlib.Core.List.{IsPrefix}
 use Rattle.asgi_types.specs.declared.facts.Facts.{Facts}
 use Rattle.asgi_types.specs.declared.incoming.Incoming.{Incoming}
 use Rattle.asgi_types.specs.declared.incoming.Incoming.TheVariants.{HttpDisconnect}
 use Rattle.asgi_types.specs.declared.limits.Limits.{Limits}
-use Rattle.asgi_types.specs.declared.outgoing.Outgoing.{Outgoing}
 use Rattle.asgi_types.specs.declared.scope.Kind.TheVariants.{Http}
 use Rattle.asgi_protocol.specs.Lawful.{IsLawful, IsClosed}
 use Rattle.asgi_request.specs.ChunkedBody.{BodyState}
 use Rattle.asgi_request.specs.RequestEvents.{ReadsBody}
-use Rattle.asgi_response.specs.declared.refusal.Input.{Input}
-use Rattle.asgi_response.specs.Exchange.{exchange_text}
-use Rattle.asgi_response.specs.Response.{response_text}
-use Rattle.asgi_types.specs.declared.end_kind.EndKind.{EndKind}
-use Rattle.asgi_exchange.specs.Http.{input_of}
+use Rattle.asgi_exchange.specs.ExchangeTexts.{input_of, text_of}
 use Rattle.asgi_exchange.specs.Items.{end_of}
 use Rattle.asgi_exchange.specs.Views.{ByInput, ByCut, World, said_of, taken_of}
 
--- why a disconnect was heard behind the first of the events that are due ("Disconnect")
+-- why a disconnect was received after the first of the events that are due ("Disconnect")
 abbrev pub HasCause : World ℕ ℕ → (events first : List Incoming) → Type 0
 HasCause w events first =
     -- the response is complete
     IsClosed Http (said_of w.app)
-    -- the input ended, failed or was faulty, and all events were heard
+    -- the input ended, failed or was faulty, and all events were received
     ⊎ (((w.conn.broken ≡ Some ByInput) × (first ≡ events))
     -- the connection was cut short
     ⊎ (w.conn.broken ≡ Some ByCut))
 
--- the text of the events, and what the end adds, once it was taken
-abbrev pub text_of : Facts → List Outgoing → Option EndKind → Input → List ℕ
-text_of facts events None input = response_text facts events
-text_of facts events (Some kind) input = exchange_text facts events kind input
-
 pub record IsHttpExchange (limits : Limits) (facts : Facts) (w : World ℕ ℕ) : Type 0 where
-  -- what arrived is a body that far, of which these events are due
+  -- what arrived is a body up to this state, from which these events are due
   pub events : List Incoming
   pub state : BodyState
   pub body : ReadsBody limits facts.framing w.conn.arrived events state
-  -- the first of them were heard, and then disconnects, which have a cause where there are any
+  -- the first of them were received, and then disconnects, which have a cause if there are any
   pub first : List Incoming
   pub times : ℕ
   pub heard : w.app.heard ≡ first ++ replicate times HttpDisconnect
   pub due : IsPrefix first events
   pub cause : (times ≡ 0) ⊎ HasCause w events first
-  -- what was said is lawful, and what was taken is a beginning of it: all of it once the last event or the end was taken
+  -- what was sent is lawful, and what was taken is a beginning of it: all of it once the last event or the end was taken
   pub lawful : IsLawful Http facts (said_of w.app)
   pub taken : IsPrefix (taken_of w.conn) (said_of w.app)
   pub closed : IsClosed Http (taken_of w.conn) → taken_of w.conn ≡ said_of w.app

@@ -1,4 +1,4 @@
--- What an application put into its queue: events, and its end behind them.
+-- What an application put into its queue: events, and its end after them.
 use Rattle.std.specs.Prelude.{List, [], ◌∷◌, Option, Some, None}
 use Rattle.asgi_types.specs.declared.outgoing.Outgoing.{Outgoing}
 use Rattle.asgi_types.specs.declared.end_kind.EndKind.{EndKind}
@@ -11,7 +11,7 @@ events_of [] = []
 events_of (Event event ∷ items) = event ∷ events_of items
 events_of (Ended kind ∷ items) = events_of items
 
--- the end, where it is there
+-- the end, if it is there
 abbrev pub end_of : List OutItem → Option EndKind
 end_of [] = None
 end_of (Event event ∷ items) = end_of items

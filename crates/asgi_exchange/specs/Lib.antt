@@ -7,6 +7,7 @@ pub mod Heard
 pub mod Keeps
 pub mod Messages
 pub mod Session
+pub mod ExchangeTexts
 pub mod WebSocket
 pub mod SessionExchange
 pub mod Halves

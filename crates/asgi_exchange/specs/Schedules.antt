@@ -1,4 +1,4 @@
--- Every schedule of an exchange: steps of both halves in any order; and each half alone, whatever its queue answers.
+-- Every schedule of an exchange: steps of both halves in any order; and each half alone, whatever its queue returns.
 use Rattle.std.specs.Prelude.{◌≡◌, ℕ, ◌-◌, Bool, List, [], ◌∷◌, length, Option, nat_lt}
 use Rattle.asgi_types.specs.declared.incoming.Incoming.{Incoming}
 use Rattle.asgi_types.specs.declared.outgoing.Outgoing.{Outgoing}
@@ -20,7 +20,7 @@ pub data Step (A : Type 0) : Type 0 where
   Say : Outgoing → Step A
   End : EndKind → Step A
 
--- the world behind a step: an event has a place where fewer than the ring wait in its queue
+-- the world after a step: an event has a place if fewer than `ring` items wait in its queue
 abbrev pub after : {A W : Type 0} → Exchange A W → World A W → Step A → World A W
 after x w (Arrive piece) = record w { conn = arrive x w.conn piece }
 after x w Offer = record w { conn = offer x w.conn (nat_lt (length w.conn.offered - length w.app.pulled) x.ring) }
@@ -36,7 +36,7 @@ abbrev pub run : {A W : Type 0} → Exchange A W → List (Step A) → World A W
 run x [] w = w
 run x (step ∷ steps) w = run x steps (after x w step)
 
--- ---- each half alone: what its queue answers stands in the step
+-- ---- each half alone: what its queue returns is part of the step
 
 pub data ConnStep (A : Type 0) : Type 0 where
   Arrives : List A → ConnStep A

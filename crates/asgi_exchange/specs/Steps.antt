@@ -1,5 +1,5 @@
--- The steps of an exchange: each is a function of one half's view, and of what its queue answers. A step whose condition
--- fails changes nothing.
+-- The steps of an exchange: each is a function of one half's view, and of what its queue returns. A step whose condition fails
+-- changes nothing.
 use Rattle.std.specs.Prelude.{ℕ, Bool, true, false, not, List, [], ◌∷◌, ◌++◌, length, take, drop, slice_get, Option, Some, None, is_none, if◌then◌else◌, nat_lt}
 use Rattle.asgi_types.specs.declared.incoming.Incoming.{Incoming}
 use Rattle.asgi_types.specs.declared.outgoing.Outgoing.{Outgoing}
@@ -13,7 +13,7 @@ use Rattle.asgi_exchange.specs.Items.{end_of}
 use Rattle.asgi_exchange.specs.Exchange.{Exchange, cut_disconnect}
 use Rattle.asgi_exchange.specs.Views.{Break, ByInput, ByCut, ConnView, AppView, said_of, output}
 
--- the item behind as many as these, where it is there
+-- the item of `all` that comes after as many as `before` has, if there is one
 abbrev pub next_of : {B : Type 0} → List B → List B → Option B
 next_of all before = slice_get all (length before)
 
@@ -27,14 +27,14 @@ is_by_cut _ = false
 
 -- ---- the connection's steps
 
--- Arrive: more arrived; behind a break by the input only where the input was over.
+-- Arrive: more arrived; after a break by the input only if the input was over.
 abbrev pub arrive : {A W : Type 0} → Exchange A W → ConnView A W → List A → ConnView A W
 arrive x conn piece =
     if is_by_input conn.broken
     then (if x.is_over conn.arrived then record conn { arrived = conn.arrived ++ piece } else conn)
     else record conn { arrived = conn.arrived ++ piece }
 
--- Offer: the next event that is due is offered, where a place is free and there was no break.
+-- Offer: the next event that is due is offered, if a place is free and there was no break.
 abbrev pub offer_this : {A W : Type 0} → ConnView A W → Option Incoming → ConnView A W
 offer_this conn None = conn
 offer_this conn (Some event) = record conn { offered = conn.offered ++ event ∷ [] }
@@ -43,7 +43,7 @@ abbrev pub offer : {A W : Type 0} → Exchange A W → ConnView A W → (has_pla
 offer x conn has_place =
     if is_none conn.broken then (if has_place then offer_this conn (next_of (x.due conn.arrived) conn.offered) else conn) else conn
 
--- Break: one disconnect is offered, once; by the input only behind all that is due, and before the end was taken.
+-- Break: one disconnect is offered, once; by the input only after all that is due, and before the end was taken.
 abbrev pub break_this : {A W : Type 0} → Exchange A W → ConnView A W → Break → ConnView A W
 break_this x conn ByInput =
     if nat_lt (length conn.offered) (length (x.due conn.arrived)) then conn
@@ -53,7 +53,7 @@ break_this x conn ByCut = record conn { offered = conn.offered ++ cut_disconnect
 abbrev pub break_off : {A W : Type 0} → Exchange A W → ConnView A W → Break → ConnView A W
 break_off x conn cause = if is_none conn.broken then break_this x conn cause else conn
 
--- Take: what the queue has next is taken; nothing behind the end.
+-- Take: the next item of the queue is taken; nothing after the end.
 abbrev pub take_this : {A W : Type 0} → ConnView A W → Option OutItem → ConnView A W
 take_this conn None = conn
 take_this conn (Some (Event event)) = record conn { got = conn.got ++ Event event ∷ [] }
@@ -62,13 +62,13 @@ take_this conn (Some (Ended kind)) = record conn { got = conn.got ++ Ended kind 
 abbrev pub take_next : {A W : Type 0} → ConnView A W → (next : Option OutItem) → ConnView A W
 take_next conn next = if is_none (end_of conn.got) then take_this conn next else conn
 
--- Write: k more of the output were written, as far as there are so many; none once the connection was cut short.
+-- Write: k more of the output were written, or as many as there are; none once the connection was cut short.
 abbrev pub write : {A W : Type 0} → Exchange A W → ConnView A W → ℕ → ConnView A W
 write x conn k = if is_by_cut conn.broken then conn else record conn { written = conn.written ++ take k (drop (length conn.written) (output x conn)) }
 
 -- ---- the application's steps
 
--- Hear: behind the own closing event its disconnect, and a heard disconnect again; else what the queue has next.
+-- Hear: after the application's own closing event its disconnect, and a received disconnect again; else the next of the queue.
 abbrev pub pull_this : AppView → Option Incoming → AppView
 pull_this app None = app
 pull_this app (Some event) = record app { pulled = app.pulled ++ event ∷ []; heard = app.heard ++ event ∷ [] }
@@ -80,13 +80,13 @@ hear_this app None next = pull_this app next
 abbrev pub hear : {A W : Type 0} → Exchange A W → AppView → (next : Option Incoming) → AppView
 hear x app next = hear_this app (answer_at_once x.kind (said_of app) app.heard) next
 
--- Say: an event is said that passes, where a place is free and the task has not ended.
+-- Say: an event that passes is sent, if a place is free and the task has not ended.
 abbrev pub say : {A W : Type 0} → Exchange A W → AppView → Outgoing → (has_place : Bool) → AppView
 say x app event has_place =
     if is_none (end_of app.put)
     then (if has_place then (if is_pass (verdict_on x.kind x.facts (said_of app) (has_disconnect app.heard) event) then record app { put = app.put ++ Event event ∷ [] } else app) else app)
     else app
 
--- End: the end of the task stands behind all that was said, once.
+-- End: the end of the task follows all that was sent, once.
 abbrev pub finish : AppView → EndKind → AppView
 finish app kind = if is_none (end_of app.put) then record app { put = app.put ++ Ended kind ∷ [] } else app

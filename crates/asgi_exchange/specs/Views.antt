@@ -26,10 +26,10 @@ pub record ConnView (A W : Type 0) : Type 0 where
 
 -- what the application's half knows
 pub record AppView : Type 0 where
-  -- what came off the queue, and what was heard, which has further disconnects
+  -- what came off the queue, and what was received, which has further disconnects
   pub pulled : List Incoming
   pub heard : List Incoming
-  -- what was put: the events said, then the end
+  -- what was put: the events sent, then the end
   pub put : List OutItem
 
 pub record World (A W : Type 0) : Type 0 where
@@ -57,6 +57,6 @@ abbrev pub added_by : {A W : Type 0} → Exchange A W → List Outgoing → Opti
 added_by x events None broken arrived = []
 added_by x events (Some kind) broken arrived = x.added events kind broken arrived
 
--- all that is to be written of what was taken
+-- all that is to be written for what was taken
 abbrev pub output : {A W : Type 0} → Exchange A W → ConnView A W → List W
 output x conn = x.text (taken_of conn) ++ added_by x (taken_of conn) (end_of conn.got) conn.broken_first conn.arrived

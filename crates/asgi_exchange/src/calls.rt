@@ -1,6 +1,5 @@
-//! The calls of an end are steps of what its half knows: thin functions over any end, by the clauses
-//! of its trait alone, which stand below each step. A is what arrives on the connection, W what is
-//! written to it.
+//! The calls of an end are steps of what its half knows: thin functions over any end, by the clauses of its trait
+//! alone, listed below each step. A is what arrives on the connection, W what is written to it.
 ghost use Rattle.std.specs.Prelude.{◌≡◌, ◌+◌, ◌≤◌, ◌⊎◌, true, false, not, is_none, IsTrue, IsFalse, [], ◌∷◌, ◌++◌, Some, None, is_ok, IfSome, IfNone, IfOk, OnOk, IfErr};
 ghost use mathlib.Core.List.{IsPrefix};
 ghost use Rattle.futures.specs.Poll.{IfReady, OnPending};
@@ -22,7 +21,7 @@ use futures::task::{Context, Poll};
 use std::alloc::{AllocError, Global};
 
 /// Makes the ends of an exchange, with `ring` event places each way. Both halves begin with the
-/// empty view. `AllocError` where memory is refused.
+/// empty view. `AllocError` if memory is refused.
 pub fn make<A, W, P: Pipes>(
     pipes: &P,
     alloc: Global,
@@ -42,7 +41,7 @@ pub fn make<A, W, P: Pipes>(
 }
 
 /// Offers the event that is due next. The view takes the step of an offer, which finds a place or
-/// not as the answer says: the event comes back where none is free, or after the disconnect.
+/// not, by the result: the event is returned if no place is free, or after the disconnect.
 pub fn offer<A, W, C: ConnEnd>(conn: &mut C, event: Incoming) -> Result<(), Incoming>
     ensures step { (x : Exchange A W) (view : ConnView A W) → IsViewOf C.ConnEnd conn.old view → step.next_of (x.due view.arrived) view.offered ≡ Some event
         → IsViewOf C.ConnEnd conn.new (step.offer x view (is_ok result)) }
@@ -55,8 +54,8 @@ pub fn offer<A, W, C: ConnEnd>(conn: &mut C, event: Incoming) -> Result<(), Inco
     conn.offer(event)
 }
 
-/// Offers the disconnect of a break, which is due where there was none before. The view takes the
-/// step of that break. The answer is true the first time; after that nothing changes.
+/// Offers the disconnect of a break, which is due if there was none before. The view takes the step
+/// of that break. Returns true the first time; after that nothing changes.
 pub fn offer_disconnect<A, W, C: ConnEnd>(conn: &mut C, event: Incoming) -> bool
     ensures step { (x : Exchange A W) (view : ConnView A W) (cause : Break) → IsViewOf C.ConnEnd conn.old view → (C.is_broken conn.old ≡ false → IsDueTo x view cause event)
         → IsViewOf C.ConnEnd conn.new (step.break_off x view cause) }
@@ -72,7 +71,7 @@ pub fn offer_disconnect<A, W, C: ConnEnd>(conn: &mut C, event: Incoming) -> bool
 }
 
 /// Takes the oldest item, before the end was taken. The view takes the step of that item, or none
-/// where the answer is `None`.
+/// if the result is `None`.
 pub fn take<A, W, C: ConnEnd>(conn: &mut C) -> Option<OutItem>
     ensures step { (view : ConnView A W) → IsViewOf C.ConnEnd conn.old view → end_of view.got ≡ None → IsViewOf C.ConnEnd conn.new (step.take_next view result) }
     ensures some { IfSome result (λ item. (C.got conn.new ≡ C.got conn.old ++ item ∷ []) × IsPrefix (C.seen conn.old) (item ∷ C.seen conn.new)) }
@@ -84,8 +83,8 @@ pub fn take<A, W, C: ConnEnd>(conn: &mut C) -> Option<OutItem>
     conn.take()
 }
 
-/// The next event for the application, or pending where there is none. Its view takes the step of
-/// hearing it, or none.
+/// The next event for the application, or pending if there is none. The application's view takes
+/// the step of hearing it, or none.
 pub fn poll_receive<A, W, E: AppEnd>(app: &mut E, cx: &mut Context<'_>) -> Poll<Incoming>
     ensures step { (x : Exchange A W) → IsExchangeOf E.AppEnd app.old x → view_of E.AppEnd app.new ≡ step.hear x (view_of E.AppEnd app.old) (event_in result) }
     ensures ready { IfReady result (λ event. E.heard app.new ≡ E.heard app.old ++ event ∷ []) }
@@ -104,7 +103,7 @@ pub fn poll_receive<A, W, E: AppEnd>(app: &mut E, cx: &mut Context<'_>) -> Poll<
     app.poll_receive(cx)
 }
 
-/// Says an event, before the end; the answer is that of `AppEnd::poll_send`. The view takes the
+/// Sends an event, before the end; the result is that of `AppEnd::poll_send`. The view takes the
 /// step of saying it, or none.
 pub fn poll_send<A, W, E: AppEnd>(app: &mut E, cx: &mut Context<'_>, event: Outgoing) -> Sent
     requires { E.ended app.old ≡ None }
@@ -123,8 +122,8 @@ pub fn poll_send<A, W, E: AppEnd>(app: &mut E, cx: &mut Context<'_>, event: Outg
     app.poll_send(cx, event)
 }
 
-/// Ends the task. The view takes the step of that end, which changes nothing behind another one:
-/// the answer is true the first time.
+/// Ends the task. The view takes the step of that end, which changes nothing after another one.
+/// Returns true the first time.
 pub fn finish<E: AppEnd>(app: &mut E, end: EndKind) -> bool
     ensures step { view_of E.AppEnd app.new ≡ step.finish (view_of E.AppEnd app.old) end }
     ensures first { result ≡ is_none (E.ended app.old) }

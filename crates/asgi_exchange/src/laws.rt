@@ -33,9 +33,9 @@ ghost use Rattle.asgi_exchange.specs.WebSocket.{web_socket};
 // ---- one exchange
 
 /// However the bytes of a request or the messages of a session arrive, and however the turns of the
-/// connection and the application fall: what was heard is a beginning of what was due, and then
-/// only disconnects with their cause; what was said is lawful; what was taken is a beginning of it;
-/// and what was written is a beginning of the text of what was taken.
+/// connection and the application interleave: what was received is a beginning of what was due, and
+/// then only disconnects with their cause; what was sent is lawful; what was taken is a beginning
+/// of it; and what was written is a beginning of the text of what was taken.
 pub fn every_schedule()
     ensures http { (limits : Limits) (facts : Facts) (steps : List (Step ℕ)) → IsHttpExchange limits facts (run (http limits facts) steps empty_world) }
     ensures web_socket { (handshake : Handshake) (facts : Facts) (ring : ℕ) (steps : List (Step Msg))
@@ -43,7 +43,7 @@ pub fn every_schedule()
 {}
 
 /// Any run of the connection's half and any run of the application's half, whatever their queues
-/// answered in each step, make an exchange where both queues keep their order.
+/// returned in each step, make an exchange if both queues keep their order.
 pub fn halves_make_an_exchange()
     ensures http { (limits : Limits) (facts : Facts) (conn_steps : List (ConnStep ℕ)) (app_steps : List AppStep) (places_in places_out left_in left_out : ℕ)
         → (let conn = conn_run (http limits facts) conn_steps empty_conn in let app = app_run (http limits facts) app_steps empty_app in
@@ -55,9 +55,9 @@ pub fn halves_make_an_exchange()
         → IsSessionExchange handshake facts (record { conn = conn; app = app })) }
 {}
 
-/// The same from what `meet` says. Of the application's half no step is needed: what it heard and
-/// said, its end keeps by itself; of the connection's half is needed what each run of its steps
-/// keeps, from the start and from where it is.
+/// The same from the clauses of `meet`. No step of the application's half is needed: what it
+/// received and sent, its end keeps by itself. Of the connection's half the law needs what each run
+/// of its steps keeps, from the start and from where it is.
 pub fn met_halves_make_an_exchange()
     ensures met { (limits : Limits) (facts : Facts) (conn : ConnView ℕ ℕ) (said : List Outgoing) (ended : Option EndKind)
         (pulled heard : List Incoming) (places_in places_out left_in left_out : ℕ)
@@ -80,9 +80,9 @@ pub fn met_halves_make_an_exchange()
         → ConnKeeps (web_socket handshake facts ring) old → ConnGoesOn (web_socket handshake facts ring) old new → ConnKeeps (web_socket handshake facts ring) new }
 {}
 
-/// What is fed to a reader arrives. The event that it gives behind those offered is the next that
-/// is due; where it needs more, has given the request whole or has refused it, nothing more is due,
-/// so the input may break.
+/// What is fed to a reader arrives. The event that the reader returns after those offered is the
+/// next that is due. If the reader needs more, has returned the whole request or has refused it,
+/// nothing more is due, so the input may break.
 pub fn results_are_steps()
     ensures arrives { (limits : Limits) (bytes piece : List ℕ) (opened : List Next) (facts : Facts) (conn : ConnView ℕ ℕ)
         → HasOpened limits bytes opened facts.framing conn.arrived → is_by_input conn.broken ≡ false
@@ -105,9 +105,9 @@ pub fn results_are_steps()
         → break_off (http reader.limits facts) conn ByInput ≡ record conn { offered = conn.offered ++ Incoming.HttpDisconnect ∷ []; broken = Some ByInput } }
 {}
 
-/// A message that the message layer gives arrives. What is heard of it is the next event that is
-/// due, where no close came before it; and where all that is due was offered, the input may break:
-/// by the client's close, or with 1006 where there is none (RFC 6455, section 7.1.5).
+/// A message that the message layer returns arrives. Its event is the next that is due, if no close
+/// came before it; and if all that is due was offered, the input may break: by the client's close,
+/// or with 1006 if there is none (RFC 6455, section 7.1.5).
 pub fn messages_are_steps()
     ensures arrives { (handshake : Handshake) (facts : Facts) (ring : ℕ) (conn : ConnView Msg Output) (message : Msg) → is_by_input conn.broken ≡ false
         → arrive (web_socket handshake facts ring) conn (message ∷ []) ≡ record conn { arrived = conn.arrived ++ message ∷ [] } }
@@ -126,8 +126,8 @@ pub fn messages_are_steps()
 // ---- any exchange
 
 /// Whatever a steady exchange makes of its lists: each schedule of it is an exchange; so are any
-/// runs of its halves, where both queues keep their order; and so is what the connection kept, with
-/// what `meet` says of the application.
+/// runs of its halves, if both queues keep their order; and so is what the connection kept, with
+/// the clauses of `meet` on the application.
 pub fn schedules_of_steady_exchanges<A, W>()
     ensures schedules { (x : Exchange A W) → IsSteady x → (steps : List (Step A)) → IsExchange x (run x steps empty_world) }
     ensures halves { (x : Exchange A W) → IsSteady x → (conn_steps : List (ConnStep A)) (app_steps : List AppStep) (places_in places_out left_in left_out : ℕ)
@@ -149,15 +149,15 @@ pub fn http_is_steady()
     ensures { (limits : Limits) (facts : Facts) → IsSteady (http limits facts) }
 {}
 
-/// So is a WebSocket exchange, whatever the text of its handshake is.
+/// The same for a WebSocket exchange, whatever the text of its handshake is.
 pub fn web_socket_is_steady()
     ensures { (handshake : Handshake) (facts : Facts) (ring : ℕ) → IsSteady (web_socket handshake facts ring) }
 {}
 
-// ---- what is written of a session
+// ---- what is written for a session
 
-/// What is written of a session grows by the part of each event that is lawful in its place, and by
-/// nothing for any other.
+/// What is written for a session grows by the part of each event that is lawful in its place, and
+/// by nothing otherwise.
 pub fn session_events_add_their_output()
     ensures lawful { (handshake : Handshake) (facts : Facts) (events : List Outgoing) (event : Outgoing) → passes WebSocket facts (accepted_session facts events) event ≡ true
         → session_output handshake facts (events ++ event ∷ []) ≡ session_output handshake facts events ++ event_output handshake facts (accepted_session facts events) event }

@@ -17,9 +17,9 @@ ghost use Rattle.asgi_exchange.specs.WebSocket.{web_socket};
 
 use asgi_pipes::{Met, Pipes};
 
-/// Brings the ends of one exchange together, and counts what was left between them: it is never
-/// `None`. What the connection's half kept and what the ends say of their lists make an exchange,
-/// with no step of the application's half.
+/// Brings the ends of one exchange together, and returns how many items were left between them:
+/// never `None`. What the connection's half kept and the lists of the ends make an exchange, with
+/// no step of the application's half.
 pub fn join<P: Pipes>(conn: &mut P::Conn, app: &mut P::App) -> Option<Met>
     requires { P.is_pair conn.old app.old }
     ensures met { IsSome result }

@@ -6,8 +6,8 @@ use asgi_types::{Incoming, Kind};
 use std::alloc::{AllocError, Global};
 use std::test::Fail;
 
-/// Whether the connection offers a disconnect, whether the task ends, whether an item is taken, and what is left then in the
-/// two queues.
+/// Whether the connection offers a disconnect, whether the task ends, whether an item is taken, and what is then left
+/// in the two queues.
 type Row = ((bool, bool, bool), (usize, usize));
 
 const ROWS: &[Row] = &[

@@ -1,4 +1,4 @@
-//! The calls of a plain pair, each with its answer.
+//! The calls of a plain pair, each with its result.
 ghost use Rattle.std.specs.Prelude.{◌≡◌, ℕ, false, None};
 ghost use Rattle.asgi_pipes.specs.PlainPairs.{IsPlainPair};
 ghost use Rattle.asgi_exchange.specs.Calls.{IsViewOf};
@@ -28,7 +28,7 @@ enum Call {
     Carry,
 }
 
-/// What a call answers.
+/// What a call returns.
 #[derive(Clone, Copy, Debug, PartialEq, Eq)]
 pub(crate) enum Answer {
     Yes,
@@ -43,7 +43,7 @@ pub(crate) enum Answer {
     Refused(u8),
 }
 
-/// Two places each way, and what is put is carried only where a row says so.
+/// Two places each way, and what is put is carried only if a row does so.
 const CALLS: &[(Call, Answer)] = &[
     (Call::Receive, Answer::Nothing),
     (Call::Take, Answer::Nothing),
@@ -204,7 +204,7 @@ fn answer_at(
     }
 }
 
-/// The first row that answered otherwise, with its answer.
+/// The first row whose result differs, with that result.
 type Other = Option<(usize, Answer)>;
 
 fn run(alloc: Global, cx: &mut Context<'_>, pair: &mut Pair) -> Result<Other, AllocError> {
@@ -247,7 +247,7 @@ pub(crate) fn facts(alloc: Global) -> Facts {
     }
 }
 
-/// Takes the events that are there, up to the end. Such a loop leads its view on from call to call.
+/// Takes the waiting events, up to the end. Such a loop carries its view from call to call.
 fn take_events<C: ConnEnd>(conn: &mut C, most: u8) -> u8
     ensures tag { C.tag conn.new ≡ C.tag conn.old }
     ensures goes_on { (x : Exchange ℕ ℕ) (view : ConnView ℕ ℕ) → IsViewOf C.ConnEnd conn.old view → end_of view.got ≡ None

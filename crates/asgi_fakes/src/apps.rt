@@ -10,18 +10,18 @@ use asgi_types::{HeaderError, Headers, HttpScope, Incoming, Kind, Octets, Outgoi
 use futures::task::{Context, Poll};
 use std::alloc::{AllocError, Global};
 
-/// An event that is said.
+/// An event that is sent.
 #[derive(Clone, Copy)]
 pub enum Said {
     /// A start with this status and these fields.
     Start(u16, &'static [(&'static str, &'static str)]),
-    /// A part of a body, behind which more follows.
+    /// A part of a body, after which more follows.
     Part(&'static str),
     /// The last part of a body.
     Last(&'static str),
 }
 
-/// An event that is heard.
+/// An event that is received.
 #[derive(Clone, Copy)]
 pub enum Heard {
     Part(&'static str),
@@ -33,10 +33,10 @@ pub enum Heard {
 #[derive(Clone, Copy)]
 pub enum Step {
     Says(Said),
-    /// It hears this. Where it is anything else, the task faults, which the report of a connection counts.
+    /// The task receives this. If it is anything else, the task faults, which the report of a connection counts.
     Hears(Heard),
     Faults,
-    /// It goes no further.
+    /// The task goes no further.
     Waits,
 }
 
@@ -89,7 +89,7 @@ impl Heard {
     }
 }
 
-/// Takes these steps in each exchange, and returns behind the last one.
+/// Takes these steps in each exchange, and returns after the last one.
 #[derive(Clone, Copy)]
 pub struct Scripted(pub &'static [Step]);
 
@@ -117,7 +117,7 @@ impl ScriptedTask {
         Some(*self.steps.get(self.at)?)
     }
 
-    /// The next step is taken.
+    /// Goes on to the next step.
     fn pass(&mut self) {
         self.at = self.at.saturating_add(1);
     }
@@ -144,7 +144,7 @@ impl AppTask for ScriptedTask {
     ghost keeps = { λ _ _ _ _ _. tt };
 }
 
-/// Whether the step goes as it says; pending where it has to wait.
+/// Whether the step goes as it should; pending while it has to wait.
 fn goes<E: AppEnd>(alloc: Global, cx: &mut Context<'_>, end: &mut E, step: Step) -> Poll<bool>
     requires { E.ended end.old ≡ None }
     ensures end { GoesOn E.AppEnd None end.old end.new }
@@ -189,7 +189,7 @@ fn says<E: AppEnd>(alloc: Global, cx: &mut Context<'_>, end: &mut E, said: Said)
     }
 }
 
-/// Its call faults.
+/// An application whose call faults.
 #[derive(Clone, Copy)]
 pub struct Refuses;
 

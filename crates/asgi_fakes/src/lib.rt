@@ -1,5 +1,5 @@
-//! What the tests across crates share: readers and a writer whose every step a row sets, applications by the steps of their
-//! tasks, a connection over them, and the texts that rows name.
+//! What the tests across crates share: readers and a writer whose every step a row sets, applications by the steps of
+//! their tasks, a connection over them, and the texts that rows name.
 #![tactic(auto)]
 
 mod apps;

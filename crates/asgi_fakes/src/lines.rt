@@ -22,7 +22,7 @@ pub struct Pieces<'a> {
 }
 
 impl<'a> Pieces<'a> {
-    /// The bytes, at most `first` of them in the first read and at most `later` in each other.
+    /// A reader of the bytes, at most `first` of them in the first read and at most `later` in each other.
     pub fn new(bytes: &'a [u8], first: usize, later: usize) -> Self {
         Pieces {
             bytes,
@@ -57,7 +57,7 @@ impl Read for Pieces<'_> {
     }
 }
 
-/// Moves at most `most` bytes into the buffer, and says how many.
+/// Moves at most `most` bytes into the buffer, and returns how many.
 fn give(bytes: &mut &[u8], most: usize, buf: &mut [u8]) -> usize
     ensures { result ≤ length buf.new }
 {
@@ -86,9 +86,9 @@ pub struct Sink {
     pub most: usize,
     /// The call that fails, counted from 1, if any.
     pub fails_at: u64,
-    /// How many calls answer this fault before the next that takes.
+    /// How many calls return this fault before the next that takes.
     pub faults: u64,
-    /// How many do so again behind each call that takes.
+    /// How many do so again after each call that takes.
     pub again: u64,
     pub fault: ErrorKind,
     pub calls: u64,
@@ -118,7 +118,7 @@ impl Write for Sink {
 /// A line of a reader, and of a writer that keeps what it takes.
 pub type Memory<R> = Wired<Pair<R, Vec<u8>>>;
 
-/// Nothing was read or written yet.
+/// A line on which nothing was read or written yet.
 pub fn line_of<H: AllocGlobal, R: Read + Drop>(rt: &H, reader: R) -> Result<Memory<R>, AllocError> {
     let writer = Vec::with_capacity(rt.alloc(), 256)?;
     Ok(Wired::new(rt.alloc(), Pair { reader, writer }))

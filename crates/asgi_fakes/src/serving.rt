@@ -17,7 +17,7 @@ pub enum Way {
     Beside,
 }
 
-/// Serves one connection with no client, no server and an empty state, and gives the report and the pauses made.
+/// Serves one connection with no client, no server and an empty state, and returns the report and the pauses made.
 pub fn serve<H: Host, T: AppTask + Send + 'static, A: Application<Task = T>, L: Line>(
     rt: &H,
     way: Way,
@@ -93,7 +93,7 @@ pub fn serve_by<H: Host, L: Line>(
 /// The outcome, the exchanges and the tasks that faulted.
 pub type End = (Outcome, u64, u64);
 
-/// Whether a connection over this reader ends so, with this text written, in either way.
+/// Whether a connection over this reader ends like this, with this text written, in either way.
 pub fn is_served<H: Host, R: Read + Copy + Drop>(
     rt: &H,
     limits: &Limits,

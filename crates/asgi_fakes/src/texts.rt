@@ -1,10 +1,10 @@
-//! The requests and the answers that the tables name.
+//! The requests and the responses that the tables name.
 pub const GET: &[u8] = b"GET / HTTP/1.1\r\nHost: a\r\n\r\n";
 
 pub const TWO_REQUESTS: &[u8] =
     b"GET / HTTP/1.1\r\nHost: a\r\n\r\nGET / HTTP/1.1\r\nHost: a\r\n\r\n";
 
-/// The front of a request with more fields behind it.
+/// The beginning of a request with more fields after it.
 pub const POST: &[u8] = b"POST / HTTP/1.1\r\nHost: a\r\n";
 
 /// The end of a head.
@@ -27,14 +27,14 @@ pub const HELLO_HEAD: &[u8] =
 pub const OLD_HELLO_HEAD: &[u8] =
     b"HTTP/1.1 200 OK\r\ncontent-type: text/plain\r\nconnection: close\r\n\r\n";
 
-/// The head of what `Echo` answers.
+/// The head of the response of `Echo`.
 pub const ECHO_HEAD: &[u8] =
     b"HTTP/1.1 200 OK\r\ncontent-type: application/octet-stream\r\ntransfer-encoding: chunked\r\n\r\n";
 
 /// The chunk that ends a body.
 pub const LAST_CHUNK: &[u8] = b"0\r\n\r\n";
 
-/// The head of an answer with no fields of its own.
+/// The head of a response with no fields of its own.
 pub const PLAIN_HEAD: &[u8] = b"HTTP/1.1 200 OK\r\ntransfer-encoding: chunked\r\n\r\n";
 
 pub const CONTINUE: &[u8] = b"HTTP/1.1 100 Continue\r\n\r\n";

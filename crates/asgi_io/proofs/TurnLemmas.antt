@@ -7,11 +7,11 @@ use Rattle.std.proofs.lemmas.List.Sums.{sum_by-append}
 use Rattle.std.proofs.Math.Seq.{take-append_seam}
 use Rattle.asgi_io.specs.declared.turns.Turn.{Turn}
 use Rattle.asgi_io.specs.Counting.{RoseExactly}
-use Rattle.asgi_io.specs.Turns.{row_behind, idle_behind, idle_in_a_row, is_idle, CountsTurns}
+use Rattle.asgi_io.specs.Turns.{row_after, idle_after, idle_in_a_row, is_idle, CountsTurns}
 
-pub idle_behind-append : (row : ℕ) (xs : List Turn) (t : Turn) → idle_behind row (xs ++ t ∷ []) ≡ row_behind (idle_behind row xs) t
-idle_behind-append row [] t = refl
-idle_behind-append row (x ∷ xs) t = idle_behind-append (row_behind row x) xs t
+pub idle_after-append : (row : ℕ) (xs : List Turn) (t : Turn) → idle_after row (xs ++ t ∷ []) ≡ row_after (idle_after row xs) t
+idle_after-append row [] t = refl
+idle_after-append row (x ∷ xs) t = idle_after-append (row_after row x) xs t
 
 -- how many pauses a turn makes
 abbrev pub pauses_of : Turn → ℕ
@@ -27,11 +27,11 @@ rose_more m n a b c x y = omega (arith, x, y)
 -- one more turn within the limits
 pub one_more_turn : (turn_limit idle_limit : ℕ) (turned : List Turn) (t : Turn) (before now after turns idle : ℕ)
     → CountsTurns turn_limit idle_limit turned before now turns idle → turns < turn_limit → idle < idle_limit → RoseExactly (pauses_of t) now after
-    → row_behind idle t ≤ idle_limit
-    → CountsTurns turn_limit idle_limit (turned ++ t ∷ []) before after (turns + 1) (row_behind idle t)
+    → row_after idle t ≤ idle_limit
+    → CountsTurns turn_limit idle_limit (turned ++ t ∷ []) before after (turns + 1) (row_after idle t)
 one_more_turn turn_limit idle_limit turned t before now after turns idle x below short rose fits = record {
   turns_is = omega (arith, x.turns_is, length-append turned (t ∷ []));
-  idle_is = ap (λ k. row_behind k t) x.idle_is ∙ sym (idle_behind-append 0 turned t);
+  idle_is = ap (λ k. row_after k t) x.idle_is ∙ sym (idle_after-append 0 turned t);
   pauses = subst (λ n. RoseExactly n before after) (sym (pauses-append turned t)) (rose_more _ _ before now after x.pauses rose);
   in_turns = omega (arith, below);
   in_idle = fits;

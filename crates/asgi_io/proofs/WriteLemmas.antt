@@ -26,7 +26,7 @@ paused room e is = rw is refl
 pub failed : (room : ℕ) (e : Error) → passes (error_kind e) ≡ false → answer_of room (Err e) ≡ Failed
 failed room e is = rw is refl
 
--- one more answer behind pauses in a row
+-- one more answer after pauses in a row
 one_more : (before now new : List Answer) (k room : ℕ) (r : Result ℕ Error) (a : Answer) → now ≡ before ++ replicate k Paused
     → new ≡ now ++ answer_of room r ∷ [] → answer_of room r ≡ a → new ≡ before ++ replicate k Paused ++ a ∷ []
 one_more before now new k room r a was told is = told ∙ ap (λ (l : List Answer). l ++ answer_of room r ∷ []) was ∙ ap (λ (x : Answer). before ++ replicate k Paused ++ x ∷ []) is
@@ -63,7 +63,7 @@ part_failed before now new k room r e few was told is fails = record {
   told = one_more before now new k room r Failed was told (ap (answer_of room) is ∙ failed room e (sym fails));
 }
 
--- a write that fails behind all the pauses, or pauses once more
+-- a write that fails after all the pauses, or pauses once more
 pub part_ended : (before now new : List Answer) (k room : ℕ) (r : Result ℕ Error) (e : Error) → k ≡ retries → now ≡ before ++ replicate k Paused
     → new ≡ now ++ answer_of room r ∷ [] → r ≡ Err e → TriesPart before new 0
 part_ended before now new k room r e all was told is = record {
@@ -81,7 +81,7 @@ part_ended before now new k room r e all was told is = record {
 
 -- ---- the parts of a text
 
--- so many bytes went out in these parts
+-- this many bytes went out in these parts
 pub record PartsGone (before now : List Answer) (out : ℕ) : Type 0 where
   pub parts : List Part
   pub each : All IsPart parts

@@ -16,12 +16,12 @@ passes Interrupted = true
 passes WouldBlock = true
 passes _ = false
 
--- the answer to a call with so many bytes to move
+-- the answer to a call with room bytes to move
 abbrev pub answer_of : ℕ → Result ℕ Error → Answer
 answer_of room (Ok n) = if (n == 0) && not (room == 0) then Nothing else Moved n
 answer_of room (Err e) = if passes (error_kind e) then Paused else Failed
 
--- how many bytes it moved
+-- how many bytes the call moved
 abbrev pub bytes_of : Answer → ℕ
 bytes_of (Moved n) = n
 bytes_of Nothing = 0
@@ -37,7 +37,7 @@ abbrev pub is_failed : Answer → Bool
 is_failed Failed = true
 is_failed _ = false
 
--- how often a call failed so
+-- how many calls failed that way
 abbrev pub failed_in : List Answer → ℕ
 failed_in answers = count_by is_failed answers
 

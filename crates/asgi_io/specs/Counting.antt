@@ -1,11 +1,11 @@
 -- How a count rises. It stops at the greatest `u64`.
 use Rattle.std.specs.Prelude.{◌≡◌, ℕ, ◌+◌, ◌-◌, ◌^◌, ◌<◌, ◌≤◌, ◌⊎◌, min, List, length, Result, Ok, Err}
 
--- as far as a count goes
+-- n as a count, which stops at the greatest `u64`
 abbrev pub counted : ℕ → ℕ
 counted n = min n (2 ^ 64 - 1)
 
--- over several calls: the count rose by n, as far as a count goes
+-- over several calls: the count rose by n, or stopped at the greatest `u64`
 abbrev pub RoseExactly : ℕ → ℕ → ℕ → Type 0
 RoseExactly n old new = counted new ≡ counted (old + n)
 
@@ -14,7 +14,7 @@ abbrev pub IsFailure : {E : Type 0} → List ℕ → Result ℕ E → Type 0
 IsFailure bytes (Ok n) = (n ≡ 0) × (0 < length bytes)
 IsFailure bytes (Err e) = Unit {0}
 
--- over several calls: the count rose by n or more, and one that stopped counts as risen by any amount
+-- over several calls: the count rose by n or more, and a count that stopped is taken as risen by any amount
 abbrev pub RoseBy : ℕ → ℕ → ℕ → Type 0
 RoseBy n old new = (old + n ≤ new) ⊎ (2 ^ 64 - 1 ≤ new)
 

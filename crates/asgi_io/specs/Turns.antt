@@ -4,20 +4,20 @@ use Rattle.asgi_io.specs.declared.turns.Turn.{Turn}
 use Rattle.asgi_io.specs.declared.turns.Turn.TheVariants.{Moved, Idle, Last}
 use Rattle.asgi_io.specs.Counting.{RoseExactly}
 
--- the idle turns in a row behind one more turn: one that moved something ends the row, the last one does not
-abbrev pub row_behind : ℕ → Turn → ℕ
-row_behind row Moved = 0
-row_behind row Idle = row + 1
-row_behind row Last = row
+-- the idle turns in a row after one more turn: one that moved something ends the row, the last one does not
+abbrev pub row_after : ℕ → Turn → ℕ
+row_after row Moved = 0
+row_after row Idle = row + 1
+row_after row Last = row
 
--- the idle turns in a row at the end, where so many stood before
-abbrev pub idle_behind : ℕ → List Turn → ℕ
-idle_behind row [] = row
-idle_behind row (turn ∷ turns) = idle_behind (row_behind row turn) turns
+-- the idle turns in a row at the end, if row of them stand before
+abbrev pub idle_after : ℕ → List Turn → ℕ
+idle_after row [] = row
+idle_after row (turn ∷ turns) = idle_after (row_after row turn) turns
 
 -- the idle turns in a row at the end
 abbrev pub idle_in_a_row : List Turn → ℕ
-idle_in_a_row turned = idle_behind 0 turned
+idle_in_a_row turned = idle_after 0 turned
 
 abbrev pub is_idle : Turn → Bool
 is_idle Idle = true

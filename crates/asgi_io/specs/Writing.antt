@@ -18,7 +18,7 @@ WritesOut old new failed_before failed_after text (Failed n) =
 abbrev pub retries : ℕ
 retries = 1000
 
--- a part of a text went out: some bytes, behind pauses in a row
+-- a part of a text went out: some bytes, after pauses in a row
 pub record Part : Type 0 where
   pub pauses : ℕ
   pub bytes : ℕ
@@ -26,25 +26,25 @@ pub record Part : Type 0 where
 abbrev pub IsPart : Part → Type 0
 IsPart part = (part.pauses ≤ retries) × (0 < part.bytes)
 
--- the answers to the writes of the parts, each behind the one before
+-- the answers to the writes of the parts, in order
 abbrev pub part_answers : List Part → List Answer
 part_answers [] = []
 part_answers (part ∷ parts) = replicate part.pauses answer.Paused ++ answer.Moved part.bytes ∷ part_answers parts
 
--- no write follows this answer, so many pauses in a row behind the last bytes
+-- no write follows this answer, which comes after this many pauses in a row since the last bytes
 abbrev pub IsFatal : ℕ → Answer → Type 0
 IsFatal pauses answer.Failed = Unit {0}
 IsFatal pauses answer.Nothing = Unit {0}
 IsFatal pauses answer.Paused = pauses ≡ retries
 IsFatal pauses (answer.Moved n) = ⊥
 
--- the answers at the end of a text: none where all of it went out, else pauses, and one at which writing stopped
+-- the answers at the end of a text: none if all of it went out, else pauses, and one at which writing stopped
 abbrev pub IsEnd : Wrote → List Answer → Type 0
 IsEnd Done end = end ≡ []
 IsEnd (Failed n) end = (pauses : ℕ) × (last : Answer)
     × (pauses ≤ retries) × IsFatal pauses last × (end ≡ replicate pauses answer.Paused ++ last ∷ [])
 
--- A text was written of which so many bytes went out: its parts, and an end.
+-- A text was written of which out bytes went out: its parts, and an end.
 pub record TriesWrites (before after : List Answer) (out : ℕ) (wrote : Wrote) : Type 0 where
   pub parts : List Part
   pub end : List Answer
@@ -58,9 +58,9 @@ abbrev pub out_of : List ℕ → Wrote → ℕ
 out_of text Done = length text
 out_of text (Failed n) = n
 
--- ---- what the private functions of writing tell each other: no promise is stated by it
+-- ---- the words of the private functions of writing, which state no promise
 
--- a part was tried, and so many bytes of it went out: 0 where writing stopped
+-- a part was tried, and out bytes of it went out: 0 if writing stopped
 pub record TriesPart (before after : List Answer) (out : ℕ) : Type 0 where
   pub pauses : ℕ
   pub last : Answer

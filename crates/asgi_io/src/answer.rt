@@ -9,9 +9,10 @@ use std::io::{self, ErrorKind};
 /// How a reader or a writer answered one call.
 #[derive(Clone, Copy, Debug, PartialEq, Eq)]
 pub enum Answer {
-    /// So many bytes were moved; 0 where the call had none to move.
+    /// This many bytes were moved; 0 if the call had none to move.
     Moved(usize),
-    /// None were, where some could be: the end of what is read, or a writer that takes nothing.
+    /// No bytes were moved, but some could be: the end of what is read, or a writer that takes
+    /// nothing.
     Nothing,
     /// A fault that passes: the call was interrupted, or would block.
     Paused,
@@ -20,7 +21,7 @@ pub enum Answer {
 }
 
 impl Answer {
-    /// What a turn that made one such call did: a fault that passes is idle, and behind `Nothing`
+    /// What a turn that made one such call did: a fault that passes is idle, and after `Nothing`
     /// and `Failed` nothing will move any more.
     pub fn turn(self) -> Turn
         ensures { result ≡ turn_of self }
@@ -34,7 +35,7 @@ impl Answer {
     }
 }
 
-/// The answer to a call with so many bytes to move: the length of its buffer or of what it writes.
+/// The answer to a call with `room` bytes to move: the length of its buffer or of what it writes.
 pub fn answer_of(answered: &io::Result<usize>, room: usize) -> Answer
     ensures { result ≡ answer_of room answered.now }
 {

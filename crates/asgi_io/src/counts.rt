@@ -12,7 +12,7 @@ use std::io::{self, Write};
 
 /// A writer that counts its failures. The count stops at the greatest `u64`.
 pub trait Counts {
-    /// The bytes that the writer holds, where they are known.
+    /// The bytes that the writer holds, if they are known.
     ghost written: { Self → Option (List ℕ) };
 
     /// How many calls failed.
@@ -21,12 +21,12 @@ pub trait Counts {
     /// How each call was answered, the oldest first.
     ghost answers: { Self → List Answer };
 
-    /// What a write leaves as it is: where it also reads, its other side.
+    /// What a write leaves as it is: the read side, if the writer has one.
     ghost Beside: { Type 0 };
 
     ghost beside: { Self → Beside };
 
-    /// Writes some of the bytes, from the first on, and answers how many. A failure is an error,
+    /// Writes some of the bytes, from the first on, and returns how many. A failure is an error,
     /// also one that passes, or that none of some bytes were taken.
     fn write_some(&mut self, bytes: &[u8]) -> io::Result<usize>
         ensures bound { WritesAtMost result bytes.now }
@@ -43,7 +43,7 @@ pub trait Counts {
 /// Any writer, with a count of its failures.
 #[derive(Drop)]
 pub struct Counted<W> {
-    /// Each call is handed on to it.
+    /// The writer that each call is passed on to.
     pub writer: W,
     failures: u64,
     answers: History<Answer>,

@@ -1,4 +1,4 @@
-//! The outside, counted: what is read, written and paused, answer by answer, and the turns of a loop.
+//! Reads, writes and pauses, counted answer by answer, and the turns of a loop.
 //! Contracts see each call that was made, and how it was answered.
 #![tactic(auto)]
 

@@ -2,7 +2,7 @@
 ghost use Rattle.std.specs.Prelude.{◌≡◌, ◌+◌, ℕ};
 ghost use Rattle.asgi_io.specs.Counting.{counted};
 
-/// Waits a little, or not at all, and counts its calls. The count stays at 2^64 - 1.
+/// Waits a little, or not at all, and counts its calls. The count stops at 2^64 - 1.
 pub trait Pause {
     // How often `pause` was called.
     ghost count: { Self → ℕ };

@@ -1,4 +1,4 @@
-//! A reader that keeps how it answered.
+//! A reader that records its answers.
 ghost use Rattle.std.specs.Prelude.{◌≡◌, ◌∷◌, ◌++◌, [], List, Option, length, ℕ};
 ghost use Rattle.std.specs.Io.{ReadsAtMost};
 ghost use Rattle.std.specs.Io.KnownBytes.{ReadConsumes};
@@ -10,20 +10,20 @@ use crate::answer::{Answer, answer_of};
 use crate::history::History;
 use std::io::{self, Read};
 
-/// A reader that keeps how it answered, and counts its faults.
+/// A reader that records its answers, and counts its faults.
 pub trait Reads {
-    /// The bytes that are still to come, where they are known.
+    /// The bytes that are still to come, if they are known.
     ghost remaining: { Self → Option (List ℕ) };
 
     /// How each call was answered, the oldest first.
     ghost answers: { Self → List Answer };
 
-    /// What a read leaves as it is: where it also writes, its other side.
+    /// What a read leaves as it is: the write side, if the reader has one.
     ghost Beside: { Type 0 };
 
     ghost beside: { Self → Beside };
 
-    /// Reads some bytes to the front of the buffer, and answers how many: none at the end, or where
+    /// Reads some bytes to the front of the buffer, and returns how many: none at the end, or if
     /// the buffer is empty.
     fn read_some(&mut self, buf: &mut [u8]) -> io::Result<usize>
         ensures bound { ReadsAtMost result buf.new }
@@ -40,7 +40,7 @@ pub trait Reads {
 /// Any reader, with a count of its faults.
 #[derive(Drop)]
 pub struct CountedReader<R> {
-    /// Each call is handed on to it.
+    /// The reader that each call is passed on to.
     pub reader: R,
     faults: u64,
     answers: History<Answer>,

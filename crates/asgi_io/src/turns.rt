@@ -54,9 +54,9 @@ impl Turns {
         self.turns == self.turn_limit || self.idle == self.idle_limit
     }
 
-    /// Counts a turn, where no limit is reached yet, and makes a pause where it was idle. A turn
-    /// that moved something ends the row of idle ones, and the pause hears of it; the last turn does
-    /// neither.
+    /// Counts a turn while no limit is reached yet, and makes a pause if the turn was idle. A turn
+    /// that moved something ends the row of idle ones, and calls `moved` of the pause. The last turn
+    /// does neither.
     pub fn take<P: Pause>(&mut self, turn: Turn, pause: &mut P)
         requires turns { self.old.turns < self.old.turn_limit }
         requires idle { self.old.idle < self.old.idle_limit }

@@ -15,12 +15,12 @@ const RETRIES: u32 = 1_000;
 pub enum Wrote {
     /// All of the text went out.
     Done,
-    /// A write failed behind this many bytes of the text, and not all went out.
+    /// A write failed after this many bytes of the text, and not all went out.
     Failed(usize),
 }
 
-/// Writes the text, each part behind the one before, and says how much of it went out where a write
-/// failed: at a fault that does not pass, or where none of the bytes were taken.
+/// Writes the text, part by part in order, and returns how much of it went out if a write failed:
+/// at a fault that does not pass, or if none of the bytes were taken.
 ///
 /// A write that is interrupted or would block is tried again, at most 1,000 times in a row.
 pub fn write_out<W: Counts>(writer: &mut W, text: &[u8]) -> Wrote
@@ -39,7 +39,7 @@ pub fn write_out<W: Counts>(writer: &mut W, text: &[u8]) -> Wrote
     Wrote::Done
 }
 
-/// Writes some of the bytes, and answers how many: 0 where the writer failed.
+/// Writes some of the bytes, and returns how many: 0 if the writer failed.
 fn write_retrying<W: Counts>(writer: &mut W, bytes: &[u8]) -> usize
     requires { 0 < length bytes.now }
     ensures bound { result ≤ length bytes.now }

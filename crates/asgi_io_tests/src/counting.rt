@@ -2,7 +2,7 @@
 use asgi_io::{Answer, Counted, Counts, answer_of};
 use std::io::{self, ErrorKind, Write};
 
-/// Answers each write so.
+/// Answers each write that way.
 #[derive(Drop)]
 struct Always {
     kind: Option<ErrorKind>,

@@ -1,11 +1,11 @@
-//! Reading from a reader that answers as a row says.
+//! Reading from a reader that answers as in a row.
 ghost use Rattle.std.specs.Prelude.{◌≤◌, length};
 
 use asgi_io::{Answer, CountedReader, Reads, Turn, answer_of, is_passing};
 use std::io::{self, ErrorKind, Read};
 use std::test::Fail;
 
-/// What one call does: gives at most so many bytes, or fails so.
+/// What one call does: gives at most this many bytes, or fails with this error.
 #[derive(Clone, Copy)]
 enum Step {
     Give(usize),
@@ -32,7 +32,7 @@ impl Read for Script<'_> {
     }
 }
 
-/// Moves at most `most` bytes into the buffer, and says how many.
+/// Moves at most `most` bytes into the buffer, and returns how many.
 fn give(bytes: &mut &[u8], most: usize, buf: &mut [u8]) -> usize
     ensures { result ≤ length buf.new }
 {
@@ -64,7 +64,7 @@ const ROWS: [Row; 5] = [
         0,
     ),
     (
-        "a fault behind a piece",
+        "a fault after a piece",
         &[Step::Give(1), RESET],
         &[Answer::Moved(1), Answer::Failed],
         1,

@@ -17,7 +17,7 @@ const ROWS: [Row; 7] = [
         false,
     ),
     (
-        "idle ones behind one that moved",
+        "idle ones after one that moved",
         &[Turn::Moved, Turn::Idle, Turn::Idle],
         3,
         2,

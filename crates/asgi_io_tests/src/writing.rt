@@ -3,7 +3,7 @@
 use asgi_io::{Counted, Counts, Wrote, write_out};
 use std::io::{self, ErrorKind, Write};
 
-/// Would block so many times, then takes at most so many bytes a call, and fails once it holds so many.
+/// Would block `blocks` times, then takes at most `most` bytes a call, and fails once it holds `room`.
 #[derive(Drop)]
 struct Choppy {
     held: Vec<u8>,
@@ -32,7 +32,7 @@ impl Write for Choppy {
     }
 }
 
-/// Would block so many times in front of each byte that it takes.
+/// Would block `blocks` times before each byte that it takes.
 #[derive(Drop)]
 struct Slow {
     held: Vec<u8>,
@@ -140,7 +140,7 @@ const ROWS: [Row; 9] = [
         1,
     ),
     (
-        "a fault behind two bytes",
+        "a fault after two bytes",
         0,
         ErrorKind::WouldBlock,
         1,
@@ -161,7 +161,7 @@ const ROWS: [Row; 9] = [
     ),
 ];
 
-/// Whether `abc` is written with this outcome, so that the writer holds this and has counted so many failures.
+/// Whether `abc` is written with this outcome, so that the writer holds this and has counted this many failures.
 fn is_tried(mut writer: Counted<Choppy>, wrote: Wrote, held: &str, failures: u64) -> bool {
     write_out(&mut writer, b"abc") == wrote
         && writer.writer.held.as_slice() == held.as_bytes()
@@ -182,7 +182,7 @@ fn writes_are_tried_again(rt: HostRuntime) {
     }
 }
 
-/// The same of a writer that would block in front of each byte.
+/// The same of a writer that would block before each byte.
 fn is_tried_at_each(mut writer: Counted<Slow>, wrote: Wrote, held: &str, failures: u64) -> bool {
     write_out(&mut writer, b"abc") == wrote
         && writer.writer.held.as_slice() == held.as_bytes()

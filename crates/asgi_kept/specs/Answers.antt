@@ -20,8 +20,8 @@ last_of (x ∷ y ∷ ys) = last_of (y ∷ ys)
 abbrev pub MayDrive : {T E P : Type 0} → (T → Kind → List Incoming → List Outgoing → Type 0) → Ghosts E → Job T E P → Type 0
 MayDrive stands ends job = IsSomeAnd job.running.lent (λ was. MayGoOn stands ends was.task was.app_end)
 
--- The job was driven: its end went on and was ended so, what its application promises holds of what was heard and said there, and
--- so many polls were made within its limits while its pause counted.
+-- The job was driven: its end went on and was ended like this, what its application promises holds of what was received and sent
+-- there, and this many polls were made within its limits while its pause counted.
 pub record Answered {T E P : Type 0} (answers : T → List Incoming → List Outgoing → Option EndKind → Type 0) (ends : Ghosts E) (count : P → ℕ)
     (job : Job T E P) (ended : Ended T E) (pause : P) : Type 0 where
   pub end : IsSomeAnd job.running.lent (λ was. GoesOn ends (Some ended.kind) was.app_end ended.app_end)

@@ -49,8 +49,8 @@ impl<T: AppTask, E: AppEnd, P: Pause + Drop> Kept<T, E, P> {
         thread
     }
 
-    /// Ends the thread, and waits until it has let go of its ends of the rings, which it does last. One that is only
-    /// dropped leaves a thread behind that sleeps until the program ends.
+    /// Ends the thread, and waits until it has dropped its ends of the rings, which it does last. A `Kept` that is
+    /// only dropped leaves a thread that sleeps until the program ends.
     pub fn end<R: Wait>(self, rt: &R) {
         let Kept { thread, jobs: _ } = self;
         let Working {
@@ -90,8 +90,8 @@ impl<T: AppTask, E: AppEnd, P: Pause + Drop> Working<T, E, P> {
         self.resting.wake();
     }
 
-    /// What became of the last job that was given, and the other end of their ring, where the thread has ended it: the
-    /// promise of its task was kept.
+    /// What became of the last job that was given, and the other end of the ring of the jobs, if the thread has ended
+    /// the job: the promise of its task was kept.
     #[tactic(auto, using(crate::proofs::ListLemmas::still_home, crate::proofs::ListLemmas::same_home, crate::proofs::ListLemmas::last_all))]
     fn try_back(&mut self) -> Option<Back<T, E, P>>
         ensures answered { IfSome result (λ back. (job : Job T E P) → last_of (sent self.old.giver) ≡ Some job → Answered T.answers E.AppEnd P.count job back.returned.ended back.returned.pause) }
@@ -126,7 +126,7 @@ impl<T: AppTask, E: AppEnd, P: Pause + Drop> Working<T, E, P> {
         unreachable!()
     }
 
-    /// Waits until the thread has ended the job that was given last, and gives both back.
+    /// Waits until the thread has ended the job that was given last, and returns both.
     pub fn take_back<R: Wait>(self, rt: &R) -> (Kept<T, E, P>, Returned<T, E, P>)
         ensures { (job : Job T E P) → last_of (sent self.giver) ≡ Some job → Answered T.answers E.AppEnd P.count job result.1.ended result.1.pause }
     {

@@ -5,8 +5,8 @@ use crate::resting::Resting;
 use asgi_io::Pause;
 use std::sync::Wait;
 
-/// Waits for the other half behind each idle turn, and counts the idle ones. It may wake the other half behind each one
-/// in which something moved.
+/// Waits for the other half after each idle turn, and counts the idle ones. May wake the other half after each one in
+/// which something moved.
 #[derive(Drop)]
 pub struct Napping<R> {
     rt: R,
@@ -16,7 +16,7 @@ pub struct Napping<R> {
 }
 
 impl<R: Wait> Napping<R> {
-    /// No pause was made yet. It wakes nobody: what has something for the other half rings its bell.
+    /// No pause was made yet. Wakes nobody: what has something for the other half rings its bell.
     pub fn new(rt: R, resting: Resting) -> Self
         ensures { result.count ≡ 0 }
     {
@@ -28,7 +28,7 @@ impl<R: Wait> Napping<R> {
         }
     }
 
-    /// No pause was made yet. It wakes the other half behind each turn in which something moved.
+    /// No pause was made yet. Wakes the other half after each turn in which something moved.
     pub fn waking(rt: R, resting: Resting) -> Self
         ensures { result.count ≡ 0 }
     {

@@ -5,10 +5,10 @@ use std::thread;
 use std::thread::Parker;
 use std::time::Duration;
 
-/// So many waits behind one in which something moved only yield.
+/// This many waits, counted anew whenever something moved, only yield.
 const YIELDS: u32 = 100;
 
-/// So many more park for a short while, and those behind them for a longer one, at the most.
+/// This many more park for a short while, and those after them for a longer one, at the most.
 const SHORT_PARKS: u32 = 50;
 
 /// How long a short park takes at the most, and how long a longer one, in milliseconds.
@@ -21,12 +21,12 @@ const LONG: u64 = 5;
 pub struct Resting {
     me: Arc<Parker, Global>,
     other: Arc<Parker, Global>,
-    /// The waits behind the last one in which something moved.
+    /// The waits since something last moved.
     waits: u32,
 }
 
 impl Resting {
-    /// For two halves, which wake each other. `AllocError` where memory is refused.
+    /// For two halves, which wake each other. `AllocError` if memory is refused.
     pub fn pair(alloc: Global) -> Result<(Resting, Resting), AllocError> {
         let me = Arc::new(alloc, Parker::new())?;
         let other = Arc::new(alloc, Parker::new())?;
@@ -106,7 +106,7 @@ impl Bell {
     }
 }
 
-/// How long a park takes at the most behind so many waits.
+/// How long a park takes at the most after this many waits.
 fn longest(waits: u32) -> u64 {
     if waits <= YIELDS + SHORT_PARKS {
         return SHORT;

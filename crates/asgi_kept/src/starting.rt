@@ -40,7 +40,7 @@ fn name<T: AppTask, E: AppEnd, P: Pause, Q: Protocol<Token<T, E, P>>>(
     taker.pop_known()
 }
 
-/// Makes the thread, which is at rest, and waits as `there` does where it has nothing to do. Where there is none, no
+/// Makes the thread, which is at rest, and waits as `there` does when it has nothing to do. If there is none, no
 /// task was begun.
 pub fn start<
     T: AppTask + Send + 'static,
@@ -82,7 +82,7 @@ pub fn start<
             cx.cancel();
         },
     );
-    // What its thread is known by stays with no thread, so that the caller's side may go to any.
+    // No thread keeps the handle of this one, so that the caller's side may go to any.
     if child.is_err() {
         return Err(NoThread);
     }

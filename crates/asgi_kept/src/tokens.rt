@@ -23,7 +23,7 @@ pub struct Token<T: AppTask, E: AppEnd, P> {
     pub(crate) back: Option<Returned<T, E, P>>,
 }
 
-/// The rule of the tokens that go to the kept thread: behind the first, each has the same ring, in which one job is.
+/// The rule of the tokens that go to the kept thread: after the first, each has the same ring, in which one job is.
 #[derive(Clone, Copy)]
 pub struct HasOneJob;
 
@@ -36,7 +36,7 @@ impl<T: AppTask, E: AppEnd, P> Protocol<Token<T, E, P>> for HasOneJob {
     ghost allows = { λ before token. (ring : Ring) → home_of (λ t. ring_of t.jobs.end) before ≡ Some ring → (ring_of token.jobs.end ≡ ring) × (length (known_items token.jobs) ≡ 1) };
 }
 
-/// The rule of those that come back: behind the first, each has the same ring, and the promise of the job that was taken last was kept.
+/// The rule of those that come back: after the first, each has the same ring, and the promise of the job that was taken last was kept.
 #[derive(Clone, Copy)]
 pub struct KeptItsPromise;
 

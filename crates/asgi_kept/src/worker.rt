@@ -52,7 +52,7 @@ fn answer_one<T: AppTask, E: AppEnd, P: Pause + Drop>(
     }
 }
 
-/// Pushes it where there is room.
+/// Pushes the item if there is room.
 fn try_push<A, Q: Protocol<A>>(producer: &mut Producer<A, Global, Q>, item: A) -> Option<A>
     requires { Q.allows (sent producer.old) item }
     ensures full { IfSome result (λ same. (same ≡ item) × (sent producer.new ≡ sent producer.old)) }
@@ -64,7 +64,7 @@ fn try_push<A, Q: Protocol<A>>(producer: &mut Producer<A, Global, Q>, item: A) -
     }
 }
 
-/// Pushes it, as soon as there is room.
+/// Pushes the item, as soon as there is room.
 pub fn push_waiting<A, Q: Protocol<A>, R: Wait>(
     rt: &R,
     producer: &mut Producer<A, Global, Q>,
@@ -91,7 +91,7 @@ enum Look {
     Over,
 }
 
-/// Drives the task of the next job, where one has come.
+/// Drives the task of the next job, if one has come.
 fn turn<T: AppTask, E: AppEnd, P: Pause + Drop, R: Wait>(
     rt: &R,
     cx: &mut Context<'_>,

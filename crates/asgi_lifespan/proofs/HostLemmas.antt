@@ -30,14 +30,14 @@ use Rattle.asgi_lifespan.specs.Hosting.{Follows, IsCarried, IsHosted, IsLeft, Is
 use Rattle.asgi_lifespan.proofs.WordLemmas.{no_end}
 
 module _ {T : Type 0} (stands : T → Kind → List Incoming → List Outgoing → Type 0) (answers : T → List Incoming → List Outgoing → Option EndKind → Type 0) where
-  -- what was said is lawful
+  -- what was sent is lawful
   pub lawful : (hosted : Hosted T) → IsOpen stands hosted → IsLawful Lifespan no_request (said_by hosted)
   lawful hosted is =
       let app = hosted.app_end.state in
       subst (λ (k : Kind). IsLawful k no_request app.said.items) is.kind
       (subst (λ (f : Facts). IsLawful app.kind f app.said.items) is.facts (lawful_in app))
 
-  -- what was heard is a beginning of what was offered
+  -- what was received is a beginning of what was offered
   pub hears : (hosted : Hosted T) → IsHosted stands hosted → IsPrefix (heard_by hosted) (offered_to hosted)
   hears hosted is =
       let app = hosted.app_end.state in
@@ -161,7 +161,7 @@ module _ {T : Type 0} (stands : T → Kind → List Incoming → List Outgoing �
       subst (λ (e : Option EndKind). PromisesFrom answers old e heard said ended) (sym was)
       (within heard said ended (subst (λ (e : Option EndKind). PromisesFrom answers new e heard said ended) is p))
 
-  -- where it ended, the promise holds of what was heard and said
+  -- if it ended, the promise holds of what was received and sent
   pub ended_within : (old new : Hosted T) (kind : EndKind) → old.ended ≡ None → new.ended ≡ Some kind → answers old.task (heard_by new) (said_by new) (Some kind)
       → (heard : List Incoming) (said : List Outgoing) (ended : Option EndKind) → Promises answers new heard said ended → Promises answers old heard said ended
   ended_within old new kind was is kept heard said ended p =
@@ -215,7 +215,7 @@ module _ {T : Type 0} (stands : T → Kind → List Incoming → List Outgoing �
       no_end (said_by old) (got_of old) (conn_end.ghosts.seen conn) kind
       (said ∙ ap (λ (l : List OutItem). l ++ conn_end.ghosts.seen conn) got ∙ append_assoc (got_of old) (Ended kind ∷ []) (conn_end.ghosts.seen conn))
 
-  -- where nothing waits, all that was said was taken
+  -- if nothing waits, all that was sent was taken
   pub all_taken : (old new : Hosted T) → IsHosted stands new → conn_end.ghosts.seen new.conn ≡ [] → got_of new ≡ got_of old → items_of (said_by new) None ≡ got_of old
   all_taken old new is none got =
       subst (λ (e : Option EndKind). items_of (said_by new) e ≡ got_of old) is.0.open_app

@@ -1,4 +1,4 @@
--- How a start is answered, from what the task was heard to say.
+-- How a start is answered, by what the task sent.
 use Rattle.std.proofs.Common.{◌≡◌, ℕ, List, [], ◌∷◌, ◌++◌, Option, Some, None, refl, sym, ap, ◌∙◌, subst, arith}
 use mathlib.Core.List.{IsPrefix}
 use Rattle.asgi_types.specs.declared.end_kind.EndKind.{EndKind}
@@ -73,7 +73,7 @@ module _ {T : Type 0} {g : Ghosts T} where
     stands = tt;
   }
 
-  -- a task that was heard
+  -- a task that was called
   pub starts : (keeps : (task : T) (kind : Kind) (heard : List Incoming) (said : List Outgoing) → g.stands task kind heard said → g.answers task heard said None)
       → (promise : List Incoming → List Outgoing → Option EndKind → Type 0) (limits : Limits) (before after : ℕ) (hosted : Hosted T) (result : Start T g)
       → IsHosted g.stands hosted → offered_to hosted ≡ LifespanStartup ∷ []
@@ -119,7 +119,7 @@ module _ {T : Type 0} {g : Ghosts T} where
     stands = started_then result _ _ s.stands (λ life x. (x.0, λ heard said ended h. within heard said ended (x.1 heard said ended h)));
   }
 
-  -- behind "Startup" the task was heard
+  -- after "Startup" the task was polled
   pub begun : (keeps : (task : T) (kind : Kind) (heard : List Incoming) (said : List Outgoing) → g.stands task kind heard said → g.answers task heard said None)
       → (limits : Limits) (before after : ℕ) (first offered last : Hosted T) (result : Start T g)
       → IsLeft first offered → offered_to offered ≡ offered_to first ++ LifespanStartup ∷ [] → offered_to first ≡ [] → Follows g.stands g.answers offered last

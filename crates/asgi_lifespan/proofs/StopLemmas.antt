@@ -1,4 +1,4 @@
--- How a stop is answered, from what the task was heard to say behind "Startup Complete".
+-- How a stop is answered, by what the task sent after "Startup Complete".
 use Rattle.std.proofs.Common.{◌≡◌, ℕ, List, [], ◌∷◌, ◌++◌, Option, None, sym, ap, ◌∙◌, subst}
 use mathlib.Core.List.{IsPrefix}
 use Rattle.asgi_types.specs.declared.end_kind.EndKind.{EndKind}
@@ -26,7 +26,7 @@ use Rattle.asgi_lifespan.specs.Turning.{TakesTurns}
 use Rattle.asgi_lifespan.proofs.HostLemmas.{hears, keeps_promise, lawful, left_within}
 use Rattle.asgi_lifespan.proofs.WordLemmas.{first_said, said_none, start_event, stop_event}
 
--- all that was said begins with what was taken
+-- all that was sent begins with what was taken
 outward : {T : Type 0} (stands : _) (hosted : Hosted T) → IsHosted stands hosted → items_of (said_by hosted) None ≡ got_of hosted ++ conn_end.ghosts.seen hosted.conn
 outward stands hosted is = subst (λ (e : Option EndKind). items_of (said_by hosted) e ≡ got_of hosted ++ conn_end.ghosts.seen hosted.conn) is.0.open_app is.1.outward
 
@@ -41,7 +41,7 @@ said_two stands hosted a b is got =
     let second = first_said first.0 b (conn_end.ghosts.seen hosted.conn) first.2 in
     (second.0, first.1 ∙ ap (λ (l : List Outgoing). a ∷ l) second.1)
 
--- what was taken is all that was said
+-- what was taken is all that was sent
 pub said_just : (said : List Outgoing) (event : Outgoing) → items_of said None ≡ Event event ∷ [] → said ≡ event ∷ []
 said_just said event is = let first = first_said said event [] is in first.1 ∙ ap (λ (l : List Outgoing). event ∷ l) (said_none first.0 first.2)
 

@@ -13,7 +13,7 @@ use Rattle.asgi_pipes.specs.declared.items.OutItem.TheVariants.{Event, Ended}
 use Rattle.asgi_pipes.specs.Items.{items_of}
 use Rattle.asgi_lifespan.specs.Lifespan.{IsStartAnswer, IsStopAnswer}
 
--- the items of what was said are events
+-- the items of what was sent are events
 pub first_said : (said : List Outgoing) (event : Outgoing) (left : List OutItem) → items_of said None ≡ Event event ∷ left → (more : List Outgoing) × (said ≡ event ∷ more) × (items_of more None ≡ left)
 first_said [] event left is = absurd (cc)
 first_said (e ∷ said) event left is = (said, ap (λ (x : Outgoing). x ∷ said) cc, cc)

@@ -1,4 +1,4 @@
--- The scope of a lifespan task, and what stands for the facts of a request there.
+-- The scope of a lifespan task, and what takes the place of the facts of a request there.
 use Rattle.std.specs.Prelude.{false, [], replicate}
 use Rattle.asgi_types.specs.declared.facts.Facts.{Facts}
 use Rattle.asgi_types.specs.declared.facts.Framing.TheVariants.{Length}

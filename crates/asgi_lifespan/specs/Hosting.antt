@@ -23,7 +23,7 @@ use Rattle.asgi_lifespan.specs.declared.hosted.Word.TheVariants.{Said, Ended, Id
 use Rattle.asgi_lifespan.specs.Facts.{no_request}
 
 module _ {T : Type 0} where
-  -- what its task has heard and said, what it was offered, and what was taken of what it said
+  -- what its task has received and sent, what it was offered, and what was taken of what it sent
   abbrev pub heard_by : Hosted T → List Incoming
   heard_by hosted = app_end.ghosts.heard hosted.app_end
 
@@ -36,8 +36,8 @@ module _ {T : Type 0} where
   abbrev pub got_of : Hosted T → List OutItem
   got_of hosted = conn_end.ghosts.got hosted.conn
 
-  -- What is promised of all that will have been heard and said, and of the end: by a task that runs, its own promise; behind the
-  -- end of a task nothing more is heard or said.
+  -- What is promised of all that will have been received and sent, and of the end: by a task that runs, its own promise; after
+  -- the end of a task nothing more is received or sent.
   abbrev pub PromisesFrom : (T → List Incoming → List Outgoing → Option EndKind → Type 0) → Hosted T → Option EndKind → List Incoming → List Outgoing → Option EndKind → Type 0
   PromisesFrom answers hosted None heard said ended = answers hosted.task heard said ended
   PromisesFrom answers hosted (Some kind) heard said ended = (heard ≡ heard_by hosted) × (said ≡ said_by hosted) × (ended ≡ Some kind)
@@ -57,7 +57,7 @@ module _ {T : Type 0} where
     pub runs : hosted.ended ≡ None → stands hosted.task (app_end.ghosts.kind hosted.app_end) (heard_by hosted) (said_by hosted)
     pub own_end : hosted.ended ≢ Some end_kind.Idle
 
-  -- The ends are a pair, and all that was put at one is at the other: what that has taken, and what it sees to wait.
+  -- The ends are a pair, and all that was put at one is at the other: what that one has taken, and what it sees waiting.
   pub record IsCarried (hosted : Hosted T) : Type 0 where
     pub pair : IsPlainPair hosted.conn hosted.app_end
     pub inward : conn_end.ghosts.offered hosted.conn ≡ app_end.ghosts.pulled hosted.app_end ++ app_end.ghosts.seen hosted.app_end
@@ -97,14 +97,14 @@ module _ {T : Type 0} where
     pub offered : offered_to new ≡ offered_to old
     pub within : (heard : List Incoming) (said : List Outgoing) (ended : Option EndKind) → Promises answers new heard said ended → Promises answers old heard said ended
 
-  -- what was told is the next event that was said, or, where each was taken, how the task ended, or that it still runs
+  -- the word is the next event that was sent, or, once each was taken, how the task ended, or that it still runs
   abbrev pub Tells : Hosted T → Hosted T → Option Word → Type 0
   Tells old new (Some (Said event)) = got_of new ≡ got_of old ++ Event event ∷ []
   Tells old new (Some (Ended kind)) = (got_of new ≡ got_of old) × (items_of (said_by new) None ≡ got_of old) × (new.ended ≡ Some kind)
   Tells old new (Some (Idle turns)) = (got_of new ≡ got_of old) × (items_of (said_by new) None ≡ got_of old) × (new.ended ≡ None)
   Tells old new None = (got_of new ≡ got_of old) × (items_of (said_by new) None ≡ got_of old) × (new.ended ≡ None)
 
-  -- "Startup" was answered by this state, and no more than that was taken
+  -- "Startup" was answered with this state, and no more than that was taken
   pub record IsStarted (stands : T → Kind → List Incoming → List Outgoing → Type 0) (hosted : Hosted T) : Type 0 where
     pub hosts : IsHosted stands hosted
     pub offered : offered_to hosted ≡ LifespanStartup ∷ []

@@ -1,4 +1,4 @@
-pub mod Ends
+pub mod private
 pub mod Facts
 pub mod Hosting
 pub mod Lifespan

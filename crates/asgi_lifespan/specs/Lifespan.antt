@@ -14,7 +14,7 @@ pub data StartAnswer : Type 0 where
   failed : List ℕ → StartAnswer
   unsupported : StartAnswer
 
--- The answer to "Startup", by what the task has said and how it ended; there is none yet while it runs and is silent.
+-- The answer to "Startup", by what the task has sent and how it ended; there is none yet while it runs and is silent.
 abbrev pub start_answer : List Outgoing → Option EndKind → Option StartAnswer
 -- "Startup Complete"
 start_answer (StartupComplete state ∷ said) ended = Some (started state)
@@ -24,13 +24,13 @@ start_answer (StartupFailed message ∷ said) ended = Some (failed message)
 start_answer said (Some kind) = Some unsupported
 start_answer said None = None
 
--- The answer to "Shutdown", behind the answer to "Startup".
+-- The answer to "Shutdown", after the answer to "Startup".
 abbrev pub stop_answer : List Outgoing → Option EndKind → Option Stop
 -- "Shutdown Complete"
 stop_answer (startup ∷ ShutdownComplete ∷ said) ended = Some Stopped
 -- "Shutdown Failed"
 stop_answer (startup ∷ ShutdownFailed message ∷ said) ended = Some (Failed message)
--- a task that ends with no answer has stopped where it returned, and failed with no message where it faulted
+-- a task that ends with no answer has stopped if it returned, and failed with no message if it faulted
 stop_answer said (Some end_kind.Returned) = Some Stopped
 stop_answer said (Some end_kind.Faulted) = Some (Failed [])
 stop_answer said (Some end_kind.Idle) = None

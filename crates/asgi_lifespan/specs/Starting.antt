@@ -18,7 +18,7 @@ use Rattle.asgi_lifespan.specs.Lifespan.{StartAnswer, started, failed, unsupport
 use Rattle.asgi_lifespan.specs.Turning.{TakesTurns}
 
 module _ {T : Type 0} {g : Ghosts T} where
-  -- this is the answer that is told; while there is none the call gives up
+  -- this is the answer that is returned; while there is none the call gives up
   abbrev pub IsAnswer : Start T g → Option StartAnswer → Type 0
   IsAnswer (start.Started life state) answer = answer ≡ Some (started state)
   IsAnswer (start.Failed message) answer = answer ≡ Some (failed message)
@@ -26,7 +26,7 @@ module _ {T : Type 0} {g : Ghosts T} where
   IsAnswer (start.Idle turns) answer = answer ≡ None
   IsAnswer start.NoMemory answer = ⊥
 
-  -- how many turns were taken, where the call gave up
+  -- how many turns were taken, if the call gave up
   abbrev pub turns_in : Start T g → Option ℕ
   turns_in (start.Started life state) = None
   turns_in (start.Failed message) = None
@@ -48,7 +48,7 @@ module _ {T : Type 0} {g : Ghosts T} where
   IsNoMemory (start.Idle turns) = ⊥
   IsNoMemory start.NoMemory = ⊤
 
-  -- The value stands for an application that heard and said this so far, and whose task ended so, or runs; and for these limits.
+  -- The value stands for these limits and an application that has received and sent this, and whose task ended like this or runs.
   pub record StandsFor (limits : Limits) (life : Lifespan T g) (heard : List Incoming) (said : List Outgoing) (ended : Option EndKind) : Type 0 where
     pub heard_is : heard ≡ heard_by life.hosted
     pub said_is : said ≡ said_by life.hosted
@@ -56,21 +56,21 @@ module _ {T : Type 0} {g : Ghosts T} where
     pub turn_limit : life.turns ≡ limits.turns
     pub idle_limit : life.idle_turns ≡ limits.idle_turns
 
-  -- What is promised, in the end, of all that will have been heard and said by the application that the value stands for.
+  -- What is promised, in the end, of all that will have been received and sent by the application that the value stands for.
   abbrev pub PromiseOf : Lifespan T g → List Incoming → List Outgoing → Option EndKind → Type 0
   PromiseOf life heard said ended = Promises g.answers life.hosted heard said ended
 
   -- An application with this promise was started.
   pub record Starts (promise : List Incoming → List Outgoing → Option EndKind → Type 0) (limits : Limits) (pauses_before pauses_after : ℕ) (result : Start T g) : Type 0 where
-    -- It was offered "Startup", and all that it said is lawful. A call that faulted heard and said nothing.
+    -- The application was offered "Startup", and all that it sent is lawful. A call that faulted received and sent nothing.
     pub heard : List Incoming
     pub said : List Outgoing
     pub ended : Option EndKind
     pub hears : IsPrefix heard (LifespanStartup ∷ [])
     pub lawful : IsLawful kind.Lifespan no_request said
-    -- this is as it promises
+    -- this is as the application promises
     pub promised : promise heard said ended
-    -- the answer is that of what was said and of the end
+    -- the answer is that of what was sent and of the end
     pub answered : IsAnswer result (start_answer said ended)
     pub turns : TakesTurns limits.turns limits.idle_turns pauses_before pauses_after (turns_in result)
     -- a started one stands for all this, and what is promised of it is within the promise

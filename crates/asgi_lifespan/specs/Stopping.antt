@@ -14,22 +14,22 @@ use Rattle.asgi_lifespan.specs.Facts.{no_request}
 use Rattle.asgi_lifespan.specs.Lifespan.{stop_answer}
 use Rattle.asgi_lifespan.specs.Turning.{TakesTurns}
 
--- the answer that is told
+-- the answer that is returned
 abbrev pub answer_in : Stop → Option Stop
 answer_in Stopped = Some Stopped
 answer_in (Failed message) = Some (Failed message)
 answer_in (Idle turns) = None
 
--- how many turns were taken, where the call gave up
+-- how many turns were taken, if the call gave up
 abbrev pub turns_in : Stop → Option ℕ
 turns_in Stopped = None
 turns_in (Failed message) = None
 turns_in (Idle turns) = Some turns
 
--- An application was stopped that had heard and said this by then, and of which this is promised.
+-- An application was stopped that had received and sent this by then, and of which this is promised.
 pub record Stops (promise : List Incoming → List Outgoing → Option EndKind → Type 0) (limits : Limits) (heard_before : List Incoming) (said_before : List Outgoing)
     (pauses_before pauses_after : ℕ) (result : Stop) : Type 0 where
-  -- It was offered "Shutdown" behind "Startup", and all that it said is lawful.
+  -- The application was offered "Shutdown" after "Startup", and all that it sent is lawful.
   pub heard : List Incoming
   pub said : List Outgoing
   pub ended : Option EndKind
@@ -37,8 +37,8 @@ pub record Stops (promise : List Incoming → List Outgoing → Option EndKind �
   pub said_on : IsPrefix said_before said
   pub hears : IsPrefix heard (LifespanStartup ∷ LifespanShutdown ∷ [])
   pub lawful : IsLawful kind.Lifespan no_request said
-  -- this is as it promises
+  -- this is as the application promises
   pub promised : promise heard said ended
-  -- the answer is that of what was said and of the end
+  -- the answer is that of what was sent and of the end
   pub answered : answer_in result ≡ stop_answer said ended
   pub turns : TakesTurns limits.turns limits.idle_turns pauses_before pauses_after (turns_in result)

@@ -3,7 +3,7 @@ ghost use Rattle.std.specs.Prelude.{◌≡◌, ◌≢◌, ◌≤◌, ◌++◌, �
 ghost use Rattle.futures.specs.Task.{Keeps};
 ghost use Rattle.asgi_apps.specs.Ends.{end_of, turn_of};
 ghost use Rattle.asgi_pipes.specs.PlainPairs.{IsPlainPair};
-ghost use Rattle.asgi_lifespan.specs.Ends.{AreNew, IsSameEnd};
+ghost use Rattle.asgi_lifespan.specs.private.Ends.{AreNew, IsSameEnd};
 ghost use Rattle.asgi_types.specs.declared.end_kind.EndKind.{EndKind};
 ghost use Rattle.asgi_types.specs.declared.incoming.Incoming.{Incoming};
 ghost use Rattle.asgi_types.specs.declared.outgoing.Outgoing.{Outgoing};
@@ -32,18 +32,18 @@ pub struct Hosted<T> {
 /// What a server learns of the task.
 #[derive(Debug, Drop)]
 pub enum Word {
-    /// It said this.
+    /// The task sent this.
     Said(Outgoing),
-    /// It said nothing more, and ended so.
+    /// The task sent nothing more, and ended like this.
     Ended(EndKind),
-    /// It said nothing, and runs. So many turns were taken.
+    /// The task sent nothing, and runs. This many turns were taken.
     Idle(u64),
 }
 
 impl<T: AppTask> Hosted<T> {
     ghost use Rattle.asgi_lifespan.specs.Hosting.{Follows, IsCarried, IsHosted, IsLeft, IsPolled, Promises, Tells, got_of, offered_to, turns_in};
 
-    /// A task that has heard and said nothing yet, with the ends of a new pair.
+    /// A task that has received and sent nothing yet, with the ends of a new pair.
     pub fn new(task: T, conn: PlainConn, app_end: PlainApp) -> Self
         requires new { AreNew conn app_end }
         requires stands { T.stands task kind.Lifespan [] [] }
@@ -86,8 +86,8 @@ impl<T: AppTask> Hosted<T> {
         Plain::carry(&mut self.conn, &mut self.app_end);
     }
 
-    /// Takes turns until the task says something or has ended, or `turns` turns or `idle_turns`
-    /// idle ones in a row were taken. Behind each idle turn it pauses.
+    /// Takes turns until the task sends something or has ended, or `turns` turns or `idle_turns`
+    /// idle ones in a row were taken. Pauses after each idle turn.
     pub fn run<P: Pause>(
         &mut self,
         cx: &mut Context<'_>,
@@ -114,7 +114,7 @@ impl<T: AppTask> Hosted<T> {
         }
     }
 
-    /// The next event that the task said, or behind all of them how it ended.
+    /// The next event that the task sent, or after all of them how it ended.
     fn next(&mut self) -> Option<Word>
         requires { IsHosted T.stands self.old }
         ensures hosted { IsHosted T.stands self.new }
@@ -134,7 +134,7 @@ impl<T: AppTask> Hosted<T> {
         }
     }
 
-    /// Polls the task once, and carries what it said to the other end.
+    /// Polls the task once, and carries what it sent to the other end.
     fn turn(&mut self, cx: &mut Context<'_>) -> Turn
         requires hosted { IsHosted T.stands self.old }
         requires runs { self.old.ended ≡ None }
@@ -147,7 +147,7 @@ impl<T: AppTask> Hosted<T> {
         turn
     }
 
-    /// Polls the task once. Where it ended, nothing will move any more.
+    /// Polls the task once. If it ended, nothing will move any more.
     fn poll(&mut self, cx: &mut Context<'_>) -> Turn
         requires hosted { IsHosted T.stands self.old }
         requires runs { self.old.ended ≡ None }
@@ -162,7 +162,7 @@ impl<T: AppTask> Hosted<T> {
     }
 }
 
-/// What the polls since this was last asked did.
+/// What the polls since the last call of this did.
 fn moved(app_end: &mut PlainApp) -> Turn
     ensures turn { result ≡ turn_of (⟦<PlainApp as AppEnd>⟧.has_moved app_end.old) }
     ensures lists { IsSameEnd app_end.old app_end.new }
@@ -173,7 +173,7 @@ fn moved(app_end: &mut PlainApp) -> Turn
     Turn::Idle
 }
 
-/// How the answer of a poll ends a task.
+/// How the result of a poll ends a task.
 fn kind_of(answer: Result<(), AppFault>) -> EndKind
     ensures kind { Some result ≡ end_of (Poll.Ready answer) }
     ensures not_idle { result ≢ EndKind.Idle }

@@ -1,5 +1,5 @@
 //! The start and the stop of an application (ASGI lifespan protocol 2.0), in the caller's thread.
-//! Contracts speak of all that was heard and said in the lifespan scope.
+//! Contracts speak of all that was received and sent in the lifespan scope.
 #![tactic(auto)]
 
 mod hosted;

@@ -3,7 +3,7 @@ ghost use Rattle.std.specs.Prelude.{◌≡◌, ◌≢◌, ◌≤◌, ◌⊎◌, 
 ghost use Rattle.futures.specs.Task.{Keeps};
 ghost use Rattle.asgi_lifespan.specs.Facts.{lifespan_scope, no_request};
 ghost use Rattle.asgi_lifespan.specs.Hosting.{IsStarted, IsHosted, Promises, offered_to, got_of};
-ghost use Rattle.asgi_lifespan.specs.Ends.{AreNew};
+ghost use Rattle.asgi_lifespan.specs.private.Ends.{AreNew};
 ghost use Rattle.asgi_lifespan.specs.Lifespan.{IsStartAnswer, IsStopAnswer, start_answer, stop_answer};
 ghost use Rattle.asgi_lifespan.specs.Stopping as stop;
 ghost use Rattle.asgi_types.specs.declared.incoming.Incoming.{Incoming};
@@ -36,13 +36,13 @@ pub struct Lifespan<T: AppTask> {
 /// "Startup Failed").
 #[derive(Drop)]
 pub enum Start<T: AppTask> {
-    /// It started, with the state of which each later scope gets a copy ("Lifespan State").
+    /// The application started, with the state of which each later scope gets a copy ("Lifespan State").
     Started(Lifespan<T>, State),
-    /// It has no lifespan scope: its call faulted, or its task ended before it answered ("Scope").
+    /// There is no lifespan scope: the call faulted, or the task ended before it answered ("Scope").
     Unsupported,
-    /// It failed, with this message.
+    /// The start failed, with this message.
     Failed(Chars),
-    /// It did not answer within the limits. So many turns were taken.
+    /// There was no answer within the limits. This many turns were taken.
     Idle(u64),
     /// Memory for the two ends was refused, and the application was not called.
     NoMemory,
@@ -97,8 +97,8 @@ impl<T: AppTask> Lifespan<T> {
     }
 
     /// Stops the application: it is offered "Shutdown", and polled until it answers, within the
-    /// limits of its start, which are counted anew (ASGI lifespan protocol 2.0, "Shutdown"). It
-    /// takes no memory.
+    /// limits of its start, which are counted anew (ASGI lifespan protocol 2.0, "Shutdown"). Takes
+    /// no memory.
     pub fn stop<P: Pause>(self, cx: &mut Context<'_>, pause: &mut P) -> Stop
         ensures stops { (limits : _) (heard : _) (said : _) (ended : _) → StandsFor limits self heard said ended
             → Stops (PromiseOf self) limits heard said (P.count pause.old) (P.count pause.new) result }
@@ -125,7 +125,7 @@ impl<T: AppTask> Lifespan<T> {
         hosted
     }
 
-    /// What the first event that a task says answers. Where the application started, the task goes with it.
+    /// How the first event that a task sends answers the start. If the application started, the task goes with it.
     fn answered(alloc: Global, limits: &Limits, hosted: Hosted<T>, event: Outgoing) -> Start<T>
         requires hosted { IsHosted T.stands hosted }
         requires offered { offered_to hosted ≡ Incoming.LifespanStartup ∷ [] }
@@ -151,7 +151,7 @@ impl<T: AppTask> Lifespan<T> {
     }
 }
 
-/// The ends of a task in a lifespan scope, with so many places each way.
+/// The ends of a task in a lifespan scope, with `ring` places each way.
 fn ends(alloc: Global, ring: usize) -> Result<(PlainConn, PlainApp), AllocError>
     requires { 2 ≤ ring }
     ensures { IfOk result (λ ends. AreNew ends.0 ends.1) }
@@ -188,7 +188,7 @@ fn scope(alloc: Global) -> Scope
     })
 }
 
-/// What an answer to "Shutdown" says.
+/// How the stop was answered, by the answer to "Shutdown".
 fn answer_of(event: Outgoing) -> Stop
     requires { IsStopAnswer event }
     ensures answer { (startup : Outgoing) (more : List Outgoing) (ended : Option EndKind) → stop.answer_in result ≡ stop_answer (startup ∷ event ∷ more) ended }
@@ -201,7 +201,7 @@ fn answer_of(event: Outgoing) -> Stop
     }
 }
 
-/// What the end of a task says that did not answer "Shutdown".
+/// How the stop was answered, by the end of a task that did not answer "Shutdown".
 fn answer_of_end(alloc: Global, kind: EndKind) -> Stop
     requires { kind ≢ EndKind.Idle }
     ensures answer { (startup : Outgoing) → stop.answer_in result ≡ stop_answer (startup ∷ []) (Some kind) }

@@ -5,10 +5,10 @@ use asgi_types::Chars;
 /// "Shutdown Failed").
 #[derive(Debug, Drop)]
 pub enum Stop {
-    /// It stopped, or its task returned.
+    /// The application stopped, or its task returned.
     Stopped,
-    /// It failed, with this message; or its task faulted, with none.
+    /// The stop failed, with this message; or the task faulted, with none.
     Failed(Chars),
-    /// It did not answer within the limits. So many turns were taken.
+    /// There was no answer within the limits. This many turns were taken.
     Idle(u64),
 }

@@ -1,4 +1,4 @@
-//! Starts and stops of applications that answer, and of some that do not: what each call says, by a row.
+//! Starts and stops of applications that answer, and of some that do not: what each call returns, by a row.
 ghost use Rattle.std.specs.Prelude.{◌≡◌, None};
 ghost use Rattle.futures.specs.Poll.{OnPending};
 ghost use Rattle.futures.specs.Task.{IsArmed, Keeps};
@@ -18,18 +18,18 @@ use std::test::Fail;
 /// What a scripted task does in one poll.
 #[derive(Clone, Copy, Debug)]
 pub enum Step {
-    /// It hears an event, which is to be "Startup", or it waits for one.
+    /// Receives an event, which is to be "Startup", or waits for one.
     HearsStartup,
     HearsShutdown,
-    /// It says the event.
+    /// Sends the event.
     Started(u64),
     StartFailed,
     Stopped,
     StopFailed,
-    /// It says "Startup Complete" and returns, or faults.
+    /// Sends "Startup Complete" and returns, or faults.
     StartsAndReturns(u64),
     StartsAndFaults(u64),
-    /// It asks for another poll.
+    /// Asks for another poll.
     Waits,
     Returns,
     Faults,
@@ -86,7 +86,7 @@ impl ScriptedTask {
         }
     }
 
-    /// What the step says.
+    /// What the step sends.
     fn event(&self, step: Step) -> Result<Outgoing, AllocError> {
         match step {
             Started(number) | StartsAndReturns(number) | StartsAndFaults(number) => complete(
@@ -149,7 +149,7 @@ impl ScriptedTask {
     }
 }
 
-/// What a task does behind the event of a step.
+/// What a task does after the event of a step.
 fn go_on(cx: &mut Context<'_>, step: Step) -> Poll<Result<(), AppFault>>
     ensures armed { OnPending result (IsArmed cx.new) }
     ensures kept { Keeps cx.old cx.new }
@@ -199,7 +199,7 @@ impl Application for Refuses {
     }
 }
 
-/// An application that says all at once, and hears nothing.
+/// An application that sends all at once, and receives nothing.
 #[derive(Clone, Copy, Debug)]
 pub struct Silent;
 
@@ -298,7 +298,7 @@ fn limits(idle_turns: u32, turns: u64) -> Limits {
     }
 }
 
-/// A context comes from here. What takes memory is asked for again where it was refused.
+/// A context comes from here. What takes memory is asked for again if it was refused.
 pub fn solo_of<R: RandomSource + AllocGlobal>(rt: &R) -> Result<Solo, Fail> {
     match Solo::new(rt, Doorbell::spinning()) {
         Ok(solo) => Ok(solo),
@@ -309,7 +309,7 @@ pub fn solo_of<R: RandomSource + AllocGlobal>(rt: &R) -> Result<Solo, Fail> {
 /// The steps, the idle turns and turns that are allowed, and the answers.
 pub type Row = (&'static [Step], (u32, u64), Answers);
 
-/// Whether the row's application answers so.
+/// Whether the row's application answers like this.
 pub fn holds<R: RandomSource + AllocGlobal>(rt: &R, solo: &Solo, row: &Row) -> bool {
     let (steps, (idle_turns, turns), expected) = *row;
     run(rt, solo, &limits(idle_turns, turns), &Scripted(steps)) == expected
@@ -469,7 +469,7 @@ fn events_said_unheard_are_answers(rt: HostRuntime) -> Result<(), Fail> {
 
 // `tests/memory.py` runs these with each allocation refused in turn; with ample memory none is refused.
 
-/// Where an allocation is refused, the answers are some of these, and the next call answers whole.
+/// If an allocation is refused, the answers are some of these, and the next call answers whole.
 fn check_memory<R: Abort + RandomSource + AllocGlobal, A: Application>(
     rt: &R,
     app: &A,

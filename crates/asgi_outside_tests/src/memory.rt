@@ -30,7 +30,7 @@ const ROWS: &[Row] = &[
     (App::Echo, PIPELINED, ECHOED, Outcome::Finished, 2),
 ];
 
-/// Behind a beginning of what is due, either nothing more, or the refusal of a request whose application had no memory.
+/// After a beginning of what is due, either nothing more, or the refusal of a request whose application had no memory.
 fn is_cut_off(written: &[u8], wanted: &[u8], outcome: Outcome) -> bool {
     if outcome == Outcome::NoMemory {
         return wanted.starts_with(written);
@@ -48,7 +48,7 @@ fn is_end(report: &Report, row: &Row) -> bool {
     report.exchanges == row.4 && report.faults == 0
 }
 
-/// Serves a connection that comes in two pieces, and compares with its answer. False where memory was refused.
+/// Serves a connection that comes in two pieces, and compares with its response. False if memory was refused.
 fn is_served<H: Abort + Host>(rt: &H, row: &Row) -> bool {
     let Ok(mut line) = line_of(rt, Pieces::new(row.1, 9, 4_096)) else {
         return false;

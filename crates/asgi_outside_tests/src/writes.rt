@@ -14,10 +14,10 @@ const NINE_BYTES: &[u8] = b"HTTP/1.1 ";
 
 type SinkLine = Wired<Pair<Pieces<'static>, Sink>>;
 
-/// Each writer is met by both runners.
+/// Both runners meet each writer.
 const WAYS: [Way; 2] = [Way::Inline, Way::Beside];
 
-/// A writer that takes so many bytes at a time.
+/// A writer that takes `most` bytes at a time.
 fn sink<H: AllocGlobal>(rt: &H, most: usize) -> Result<Sink, AllocError> {
     let taken = Vec::with_capacity(rt.alloc(), 256)?;
     Ok(Sink {
@@ -31,7 +31,7 @@ fn sink<H: AllocGlobal>(rt: &H, most: usize) -> Result<Sink, AllocError> {
     })
 }
 
-/// One whose call of this number fails.
+/// A writer whose call of this number fails.
 fn failing_sink<H: AllocGlobal>(rt: &H, most: usize, fails_at: u64) -> Result<Sink, AllocError> {
     let mut writer = sink(rt, most)?;
     writer.fails_at = fails_at;
@@ -52,7 +52,7 @@ fn taken_by(line: &SinkLine) -> &[u8] {
     }
 }
 
-/// Whether the connection over the line ends so, and its writer took this.
+/// Whether the connection over the line ends like this, and its writer took this.
 fn is_line_served<H: Host>(
     rt: &H,
     way: Way,
@@ -66,7 +66,7 @@ fn is_line_served<H: Host>(
     Ok(ended == end && taken_by(line) == wanted)
 }
 
-/// Whether a connection to this writer, served by `Hello`, ends so.
+/// Whether a connection to this writer, served by `Hello`, ends like this.
 fn is_written<H: Host>(
     rt: &H,
     way: Way,
@@ -79,7 +79,7 @@ fn is_written<H: Host>(
     is_line_served(rt, way, App::Hello, &mut line, wanted, end)
 }
 
-/// Whether a request to a writer of three bytes, whose call of this number fails, ends so, with so many failures.
+/// Whether a request to a writer of three bytes, whose call of number `call` fails, ends like this with `failures`.
 fn is_failed_at<H: Host>(
     rt: &H,
     way: Way,
@@ -122,21 +122,21 @@ fn a_failed_write_says_how_far_it_came(rt: HostRuntime) -> Result<(), Fail> {
 }
 
 #[test]
-fn a_fault_behind_the_answer_is_not_met(rt: HostRuntime) -> Result<(), Fail> {
+fn a_fault_after_the_answer_is_not_met(rt: HostRuntime) -> Result<(), Fail> {
     for way in WAYS {
         assert!(rt; is_failed_at(&rt, way, 31, HELLO, Outcome::Finished, 0)?);
     }
     Ok(())
 }
 
-/// Answers as `Hello`, and then hears that the client is gone.
+/// Answers as `Hello`, and then receives that the client is gone.
 const GREETS_AND_HEARS: App = App::Scripted(&[
     Step::Says(Said::Start(200, &[("content-type", "text/plain")])),
     Step::Says(Said::Last("hello\n")),
     Step::Hears(Heard::Disconnect),
 ]);
 
-/// Says a part, and faults.
+/// Sends a part, and faults.
 const PART_AND_FAULT: App = App::Scripted(&[
     Step::Says(Said::Start(200, &[])),
     Step::Says(Said::Part("x")),
@@ -150,8 +150,8 @@ const BAD_BODY: &[u8] = b"POST / HTTP/1.1\r\nHost: a\r\nTransfer-Encoding: chunk
 /// The application, the input, the tasks that faulted, and the reads that did.
 type Nine = (App, &'static [u8], u64, u64);
 
-/// The second read would fail: it is not made, since nothing is read while the application goes on. It may be where the
-/// application has a thread of its own, once that was waited for.
+/// The second read would fail: it is not made, since nothing is read while the application goes on. It may be made if
+/// the application has a thread of its own, once that was waited for.
 const NINE: &[Nine] = &[
     (App::Hello, GET, 0, 0),
     (GREETS_AND_HEARS, GET, 0, 0),
@@ -226,7 +226,7 @@ fn a_writer_that_takes_nothing_has_failed(rt: HostRuntime) -> Result<(), Fail> {
     Ok(())
 }
 
-/// Whether this is taken, with this outcome, where so many calls answer the fault first.
+/// Whether this is taken, with this outcome, if this many calls return the fault first.
 fn is_retried<H: Host>(
     rt: &H,
     way: Way,
@@ -253,7 +253,7 @@ fn a_thousand_retries_and_no_more(rt: HostRuntime) -> Result<(), Fail> {
     Ok(())
 }
 
-/// Whether this is taken, with this outcome, nine bytes at a time, where so many calls answer a fault behind each.
+/// Whether this is taken, with this outcome, nine bytes at a time, if this many calls return a fault after each.
 fn is_retried_again<H: Host>(
     rt: &H,
     way: Way,

@@ -15,7 +15,7 @@ use Rattle.asgi_protocol.specs.Shapes.{is_of, is_closed, is_word, begins_word, i
 use Rattle.asgi_protocol.specs.Verdicts.{verdict_on, lines_on}
 use Rattle.asgi_protocol.proofs.PassLemmas.{no_line}
 use Rattle.asgi_pipes.specs.Disconnects.{first_disconnect, has_disconnect, is_accept, is_accepted, last_of, code_of, answer_at_once, event_of}
-use Rattle.asgi_pipes.specs.Closings.{closing_of, is_closing}
+use Rattle.asgi_pipes.specs.private.Closings.{closing_of, is_closing}
 use Rattle.asgi_pipes.specs.declared.disconnect.Disconnect.{Disconnect}
 use Rattle.std.specs.Option.{option_map}
 use Rattle.asgi_pipes.specs.Items.{items_of}
@@ -163,7 +163,7 @@ none_of : (o : Option Incoming) → is_some o ≡ false → o ≡ None
 none_of None h = refl
 none_of (Some x) h = absurd (cc)
 
--- what a passed event says of the list before it
+-- what a passed event implies of the list before it
 pub record Passed (kind : Kind) (said : List Outgoing) (heard : List Incoming) (e : Outgoing) : Type 0 where
   pub open_is : is_closed kind said ≡ false
   pub none : first_disconnect heard ≡ None
@@ -176,7 +176,7 @@ passed kind facts said heard e pass =
     let l = no_line kind (lines_on kind facts said (has_disconnect heard) e) pass in
     record { open_is = l.closed; none = none_of (first_disconnect heard) l.disconnected; of = not_not _ l.wrong_scope; begins = not_not _ l.out_of_order }
 
--- nothing is heard at once in front of a passed event
+-- nothing is received at once before a passed event
 pub nothing_at_once : (kind : Kind) (said : List Outgoing) (heard : List Incoming) (e : Outgoing) → Passed kind said heard e
     → answer_at_once kind said heard ≡ None
 nothing_at_once Http said heard e p = rw (p.open_is, p.none) refl
@@ -187,17 +187,17 @@ pub nothing_kept : (kept : Option Disconnect) → option_map event_of kept ≡ N
 nothing_kept None e = refl
 nothing_kept (Some disconnect) e = absurd (cc)
 
--- what is heard at once behind a passed event
-pub answer_behind : (kind : Kind) (said : List Outgoing) (heard : List Incoming) (e : Outgoing) → Passed kind said heard e
+-- what is received at once after a passed event
+pub answer_after : (kind : Kind) (said : List Outgoing) (heard : List Incoming) (e : Outgoing) → Passed kind said heard e
     → answer_at_once kind (said ++ e ∷ []) heard ≡ closing_of (is_accepted said) e
-answer_behind Http said heard e p =
+answer_after Http said heard e p =
     rw p.none (closes_where (is_closed Http (said ++ e ∷ [])) HttpDisconnect (closing_of (is_accepted said) e) e
     (http_closes said e p.of p.begins) (http_closing (is_accepted said) e p.of) (not_closing (is_accepted said) e))
-answer_behind WebSocket said heard e p =
+answer_after WebSocket said heard e p =
     rw (p.none, accepted-append said e, last-append said e)
     (closes_where (is_closed WebSocket (said ++ e ∷ [])) (WsDisconnect (code_of (is_accepted said || is_accept e) (Some e)) []) (closing_of (is_accepted said) e) e
     (session_word_closes said e p.begins) (code_closing (is_accepted said) e p.of) (not_closing (is_accepted said) e))
-answer_behind Lifespan said heard e p = lifespan_closing (is_accepted said) e p.of
+answer_after Lifespan said heard e p = lifespan_closing (is_accepted said) e p.of
 
 -- the items with one more
 pub items_event : (said : List Outgoing) (e : Outgoing) → items_of (said ++ e ∷ []) None ≡ items_of said None ++ Event e ∷ []

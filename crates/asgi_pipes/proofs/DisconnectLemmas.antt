@@ -1,4 +1,4 @@
--- One more event behind those that were heard.
+-- One more event after those that were received.
 use Rattle.std.proofs.Common.{◌≡◌, ℕ, ◌+◌, ◌<◌, Bool, true, false, ◌⊎◌, inl, inr, List, [], ◌∷◌, ◌++◌, Option, Some, None, replicate, suc, zero, refl, sym, ap, ◌∙◌, append_assoc, append-nil, arith}
 use Rattle.std.specs.Prelude.{◌||◌, if◌then◌else◌, is_some}
 use Rattle.std.proofs.lemmas.List.{replicate_more}
@@ -48,7 +48,7 @@ pub has-append : (xs : List Incoming) (e : Incoming) → has_disconnect (xs ++ e
 has-append xs e =
     ap is_some (first-append xs e) ∙ some_or_else (first_disconnect xs) (disconnect_in e) ∙ ap (λ (b : Bool). has_disconnect xs || b) (in_is e)
 
--- a disconnect behind events that have none
+-- a disconnect after events that have none
 pub first_until : (events : List Incoming) (n : ℕ) (d : Incoming) → first_disconnect events ≡ None → 0 < n → disconnect_in d ≡ Some d
     → first_disconnect (events ++ replicate n d) ≡ Some d
 first_until [] zero d none pos is = absurd (omega (arith, pos))
@@ -71,7 +71,7 @@ answer_again Http said heard e is = again_of (is_closed Http said) (own_disconne
 answer_again WebSocket said heard e is = again_of (is_closed WebSocket said) (own_disconnect WebSocket said) heard e is
 answer_again Lifespan said heard e is = absurd (cc)
 
--- and behind an event from the queue it is that event's
+-- and after an event from the queue it is that event's
 next_of : (closed : Bool) (own : Incoming) (heard : List Incoming) (e : Incoming)
     → (if closed then Some own else first_disconnect heard) ≡ None
     → (if closed then Some own else first_disconnect (heard ++ e ∷ [])) ≡ disconnect_in e
@@ -84,7 +84,7 @@ answer_next Http said heard e is = next_of (is_closed Http said) (own_disconnect
 answer_next WebSocket said heard e is = next_of (is_closed WebSocket said) (own_disconnect WebSocket said) heard e is
 answer_next Lifespan said heard e is = refl
 
--- the tests of a scope in which the answer is not that of a lifespan
+-- the tests of a scope in which the result is not that of a lifespan
 answer_open : (kind : Kind) (said : List Outgoing) (heard : List Incoming) (o : Option Incoming)
     → is_closed kind said ≡ false → (if is_closed kind said then Some (own_disconnect kind said) else first_disconnect heard) ≡ o → first_disconnect heard ≡ o
 answer_open kind said heard o open_is is = rw open_is at is
@@ -157,7 +157,7 @@ hears_again Http said pulled heard e is h = again_until Http said pulled heard e
 hears_again WebSocket said pulled heard e is h = again_until WebSocket said pulled heard e is h
 hears_again Lifespan said pulled heard e is h = absurd (cc)
 
--- where nothing is there at once, no disconnect was heard
+-- if nothing is there at once, no disconnect was received
 quiet : (kind : Kind) (said : List Outgoing) (heard : List Incoming)
     → (if is_closed kind said then Some (own_disconnect kind said) else first_disconnect heard) ≡ None
     → (is_closed kind said ≡ false) × (first_disconnect heard ≡ None)
@@ -168,7 +168,7 @@ quiet kind said heard is = elim (decide (is_closed kind said)) [
   | inr open_is ↦ (open_is, answer_open kind said heard None open_is is)
 ]
 
--- all that was heard came through the queue
+-- all that was received came through the queue
 pub came_through : (kind : Kind) (said : List Outgoing) (pulled heard : List Incoming) (h : HearsUntil kind said pulled heard)
     → is_closed kind said ≡ false → first_disconnect heard ≡ None → (h.times ≡ 0) × (pulled ≡ h.events)
 came_through kind said pulled heard h open_is none = elim h.cause [
@@ -219,7 +219,7 @@ hears_next Http said pulled heard e is h = let q = quiet Http said heard is in n
 hears_next WebSocket said pulled heard e is h = let q = quiet WebSocket said heard is in next_until WebSocket said pulled heard e q.0 q.1 h
 hears_next Lifespan said pulled heard e is h = ap (λ (l : List Incoming). l ++ e ∷ []) h
 
--- an event that passes closes no scope that has heard a disconnect
+-- an event that passes closes no scope that has received a disconnect
 said_until : (kind : Kind) (said more : List Outgoing) (pulled heard : List Incoming)
     → is_closed kind said ≡ false → first_disconnect heard ≡ None
     → HearsUntil kind said pulled heard → HearsUntil kind more pulled heard

@@ -1,4 +1,4 @@
--- What was heard has one reading, so that it is had where it merely exists.
+-- What was received has one reading, so that it is available even if it is known only to exist.
 use Rattle.std.proofs.Common.{◌≡◌, ℕ, ◌+◌, ◌-◌, ◌<◌, true, false, ◌⊎◌, inl, inr, List, [], ◌∷◌, ◌++◌, Option, Some, None, length, replicate, suc, zero, refl, sym, ap, ◌∙◌, append-nil, arith, length-append}
 use Rattle.std.proofs.Math.Logic.{∥∥₁_elim, ∥∥₁_map}
 use Rattle.std.proofs.lemmas.List.{length-replicate}

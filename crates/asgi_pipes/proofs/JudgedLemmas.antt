@@ -1,4 +1,4 @@
--- What a judge stands for behind an event that was heard, or said.
+-- What a judge stands for after an event that was received, or sent.
 use Rattle.std.proofs.Common.{◌≡◌, ◌≢◌, ℕ, Bool, List, [], ◌∷◌, ◌++◌, refl}
 use Rattle.std.specs.Prelude.{◌||◌}
 use Rattle.std.proofs.Math.Logic.{∥∥₁_map}

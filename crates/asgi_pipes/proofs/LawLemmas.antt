@@ -1,4 +1,4 @@
--- What was heard is a beginning of what was offered, and then equal disconnects.
+-- What was received is a beginning of what was offered, and then equal disconnects.
 use Rattle.std.proofs.Common.{◌≡◌, ℕ, true, false, inl, inr, List, [], ◌∷◌, ◌++◌, Some, None, replicate, suc, zero, refl, sym, ap, ◌∙◌, append_assoc, append-nil}
 use Rattle.std.specs.Prelude.{if◌then◌else◌}
 use Rattle.asgi_types.specs.declared.scope.Kind.{Kind}
@@ -88,29 +88,29 @@ heard_again Http said pulled heard d other h first = again_until Http said pulle
 heard_again WebSocket said pulled heard d other h first = again_until WebSocket said pulled heard d h first
 heard_again Lifespan said pulled heard d other h first = absurd (other refl)
 
-behind_equal : (before behind : List Incoming) (times : ℕ) (d event : Incoming) → before ++ event ∷ behind ≡ replicate times d
-    → (n : ℕ) × (behind ≡ replicate n event)
-behind_equal [] behind zero d event is = absurd (cc)
-behind_equal [] behind (suc m) d event is =
+after_equal : (before after : List Incoming) (times : ℕ) (d event : Incoming) → before ++ event ∷ after ≡ replicate times d
+    → (n : ℕ) × (after ≡ replicate n event)
+after_equal [] after zero d event is = absurd (cc)
+after_equal [] after (suc m) d event is =
     let head : event ≡ d = cc in
-    let tail : behind ≡ replicate m d = cc in
+    let tail : after ≡ replicate m d = cc in
     (m, tail ∙ ap (λ (x : Incoming). replicate m x) (sym head))
-behind_equal (x ∷ before) behind zero d event is = absurd (cc)
-behind_equal (x ∷ before) behind (suc m) d event is =
-    let tail : before ++ event ∷ behind ≡ replicate m d = cc in behind_equal before behind m d event tail
+after_equal (x ∷ before) after zero d event is = absurd (cc)
+after_equal (x ∷ before) after (suc m) d event is =
+    let tail : before ++ event ∷ after ≡ replicate m d = cc in after_equal before after m d event tail
 
-behind_events : (events before behind : List Incoming) (times : ℕ) (d event : Incoming) → first_disconnect events ≡ None → disconnect_in event ≡ Some event
-    → before ++ event ∷ behind ≡ events ++ replicate times d → (n : ℕ) × (behind ≡ replicate n event)
-behind_events [] before behind times d event none is same = behind_equal before behind times d event same
-behind_events (y ∷ events) [] behind times d event none is same =
+after_events : (events before after : List Incoming) (times : ℕ) (d event : Incoming) → first_disconnect events ≡ None → disconnect_in event ≡ Some event
+    → before ++ event ∷ after ≡ events ++ replicate times d → (n : ℕ) × (after ≡ replicate n event)
+after_events [] before after times d event none is same = after_equal before after times d event same
+after_events (y ∷ events) [] after times d event none is same =
     let head : event ≡ y = cc in
     let clash : Some event ≡ None = sym is ∙ ap disconnect_in head ∙ or_else_first_none (disconnect_in y) (first_disconnect events) none in
     absurd (cc)
-behind_events (y ∷ events) (x ∷ before) behind times d event none is same =
-    let tail : before ++ event ∷ behind ≡ events ++ replicate times d = cc in
-    behind_events events before behind times d event (or_else_second_none (disconnect_in y) (first_disconnect events) none) is tail
+after_events (y ∷ events) (x ∷ before) after times d event none is same =
+    let tail : before ++ event ∷ after ≡ events ++ replicate times d = cc in
+    after_events events before after times d event (or_else_second_none (disconnect_in y) (first_disconnect events) none) is tail
 
 pub only_equal : OnlyEqualDisconnectsFollow
-only_equal Http said pulled before behind event other is h = behind_events h.events before behind h.times h.disconnect event h.no_other is h.in_order
-only_equal WebSocket said pulled before behind event other is h = behind_events h.events before behind h.times h.disconnect event h.no_other is h.in_order
-only_equal Lifespan said pulled before behind event other is h = absurd (other refl)
+only_equal Http said pulled before after event other is h = after_events h.events before after h.times h.disconnect event h.no_other is h.in_order
+only_equal WebSocket said pulled before after event other is h = after_events h.events before after h.times h.disconnect event h.no_other is h.in_order
+only_equal Lifespan said pulled before after event other is h = absurd (other refl)

@@ -1,4 +1,4 @@
--- Nothing was said or heard yet.
+-- Nothing was sent or received yet.
 use Rattle.std.proofs.Common.{◌≡◌, [], None, inl, refl}
 use Rattle.asgi_types.specs.declared.scope.Kind.{Kind}
 use Rattle.asgi_types.specs.declared.scope.Kind.TheVariants.{Http, WebSocket, Lifespan}

@@ -1,4 +1,4 @@
--- What the state of an application's end keeps of what was heard and said, opened.
+-- What the state of an application's end keeps of what was received and sent, opened.
 use Rattle.std.proofs.Math.Logic.{∥∥₁_map}
 use Rattle.asgi_protocol.specs.Lawful.{IsLawful}
 use Rattle.asgi_pipes.specs.declared.app_state.AppState.{AppState}

@@ -1,4 +1,4 @@
--- What an application puts into its queue, and what its sends answer.
+-- What an application puts into its queue, and what its sends return.
 use Rattle.std.specs.Prelude.{◌≡◌, List, [], ◌∷◌, ◌++◌, map, Option, Some, None, ⊤}
 use Rattle.asgi_types.specs.declared.end_kind.EndKind.{EndKind}
 use Rattle.asgi_types.specs.declared.outgoing.Outgoing.{Outgoing}
@@ -13,11 +13,11 @@ abbrev pub end_items : Option EndKind → List OutItem
 end_items None = []
 end_items (Some kind) = Ended kind ∷ []
 
--- the events said, and then the end
+-- the events sent, and then the end
 abbrev pub items_of : List Outgoing → Option EndKind → List OutItem
 items_of said ended = map Event said ++ end_items ended
 
--- A send answers as the verdict says, and goes on with what was said where the event went in.
+-- The result of a send follows the verdict; what was sent gets longer only if the event went in.
 abbrev pub Answers : Verdict → Outgoing → List Outgoing → List Outgoing → Sent → Type 0
 Answers v event before after Done = (v ≡ verdict.Pass) × (after ≡ before ++ event ∷ [])
 Answers v event before after Ignored = (v ≡ verdict.Ignored) × (after ≡ before)
@@ -32,7 +32,7 @@ abbrev pub IfFull : Sent → Type 0 → Type 0
 IfFull (Full back) P = P
 IfFull _ P = ⊤
 
--- where the judge lets nothing through
+-- if the judge lets nothing through
 abbrev pub IfTurnedAway : Sent → Type 0 → Type 0
 IfTurnedAway Ignored P = P
 IfTurnedAway (Refused number back) P = P

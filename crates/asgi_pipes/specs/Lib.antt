@@ -1,6 +1,5 @@
-pub mod AppStates
 pub mod Boxes
-pub mod Closings
+pub mod private
 pub mod Disconnects
 pub mod Items
 pub mod Laws

@@ -1,4 +1,4 @@
--- What names a pair of plain ends: what was carried between them, in both directions.
+-- What identifies a pair of plain ends: what was carried between them, in both directions.
 use Rattle.asgi_types.specs.declared.incoming.Incoming.{Incoming}
 use Rattle.asgi_pipes.specs.declared.items.OutItem.{OutItem}
 use Rattle.asgi_pipes.specs.Boxes.{Carriage}

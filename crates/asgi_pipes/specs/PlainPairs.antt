@@ -1,4 +1,4 @@
--- The ends of one plain pair: what the one has passed on is what the other got, both ways.
+-- The ends of one plain pair: what each end passed on is what the other received.
 use Rattle.std.specs.Prelude.{◌≡◌}
 use Rattle.asgi_pipes.specs.declared.plain_conn.PlainConn.{PlainConn}
 use Rattle.asgi_pipes.specs.declared.plain_app.PlainApp.{PlainApp}

@@ -1,4 +1,4 @@
--- The ends of one pair over rings: each ring has one end at each.
+-- The ends of one pair over rings: each end has one side of each ring.
 use Rattle.std.specs.Prelude.{◌≡◌}
 use Rattle.asgi_pipes.specs.declared.ring_conn.RingConn.{RingConn}
 use Rattle.asgi_pipes.specs.declared.ring_app.RingApp.{RingApp}

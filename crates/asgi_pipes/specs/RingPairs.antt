@@ -1,4 +1,4 @@
--- What names the two rings of an exchange.
+-- What identifies the two rings of an exchange.
 use denote.RawPtr.{Ptr}
 use Rattle.std.specs.declared.alloc.Global.{Global}
 use Rattle.rtrb.specs.declared.end.End.{End}

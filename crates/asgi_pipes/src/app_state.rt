@@ -11,7 +11,7 @@ use asgi_io::History;
 use asgi_protocol::{Judge, Verdict};
 use asgi_types::{EndKind, Facts, Incoming, Kind, Outgoing};
 
-/// What was heard and said at the end of an application, as far as its next calls need it.
+/// What was received and sent at the end of an application, as far as its next calls need it.
 #[derive(Drop)]
 pub struct AppState {
     pub(crate) kind: Kind,
@@ -19,10 +19,10 @@ pub struct AppState {
     judge: Judge,
     /// A session was accepted.
     is_open: bool,
-    /// What each further receive gives.
+    /// What each further receive returns.
     disconnect: Option<Disconnect>,
     pub(crate) ended: Option<EndKind>,
-    /// An item went into a queue, or came out of one, since `moved` was asked.
+    /// An item went into a queue, or came out of one, since `moved` was last called.
     pub(crate) has_moved: bool,
     pub(crate) heard: History<Incoming>,
     /// What came through the queue.
@@ -35,9 +35,9 @@ pub struct AppState {
 }
 
 impl AppState {
-    ghost use Rattle.asgi_pipes.specs.AppStates.{IsFresh, SameScope};
+    ghost use Rattle.asgi_pipes.specs.private.AppStates.{IsFresh, SameScope};
 
-    /// That of a new end, at which nothing was heard or said.
+    /// The state of a new end, at which nothing was received or sent.
     pub fn new(kind: Kind, facts: Facts) -> AppState
         ensures { IsFresh kind facts result }
     {
@@ -55,8 +55,8 @@ impl AppState {
         }
     }
 
-    /// What is heard with no look at the queue: behind the own closing event its disconnect, and a
-    /// heard disconnect again; `None` where there is neither.
+    /// What is received without a look at the queue: after the application's own closing event its
+    /// disconnect, and a received disconnect again; `None` if there is neither.
     pub fn hear_at_once(&mut self) -> Option<Incoming>
         ensures some { IfSome result (λ event. (answer_at_once self.old.kind self.old.said.items self.old.heard.items ≡ Some event) × (self.new.heard.items ≡ self.old.heard.items ++ event ∷ [])) }
         ensures none { IfNone result ((answer_at_once self.old.kind self.old.said.items self.old.heard.items ≡ None) × (self.new ≡ self.old)) }
@@ -72,7 +72,7 @@ impl AppState {
         None
     }
 
-    /// Hears an event that came through the queue.
+    /// Records an event that came through the queue.
     pub fn hear(&mut self, event: &Incoming)
         requires { answer_at_once self.old.kind self.old.said.items self.old.heard.items ≡ None }
         ensures heard { (self.new.heard.items ≡ self.old.heard.items ++ event.now ∷ []) × (self.new.pulled.items ≡ self.old.pulled.items ++ event.now ∷ []) }
@@ -87,7 +87,7 @@ impl AppState {
         self.has_moved = true;
     }
 
-    /// The verdict on an event, and the judge who has let it pass.
+    /// The verdict on an event, and the judge that has passed it.
     pub fn look(&self, event: &Outgoing) -> (Verdict, Judge)
         ensures verdict { result.0 ≡ verdict_on self.now.kind self.now.facts self.now.said.items (has_disconnect self.now.heard.items) event.now }
         ensures passed { result.0 ≡ Verdict.Pass → ∥ StandsFor result.1 self.now.kind self.now.facts (self.now.said.items ++ event.now ∷ []) (has_disconnect self.now.heard.items) ∥₁ }
@@ -97,7 +97,7 @@ impl AppState {
         (verdict, judge)
     }
 
-    /// Says an event that passes, by the judge who has let it pass.
+    /// Records an event that passes, with the judge that has passed it.
     pub fn say(&mut self, judge: Judge, event: &Outgoing)
         requires passes { verdict_on self.old.kind self.old.facts self.old.said.items (has_disconnect self.old.heard.items) event.now ≡ Verdict.Pass }
         requires judge { ∥ StandsFor judge self.old.kind self.old.facts (self.old.said.items ++ event.now ∷ []) (has_disconnect self.old.heard.items) ∥₁ }
@@ -107,13 +107,13 @@ impl AppState {
         ensures scope { SameScope self.old self.new }
     {
         self.judge = judge;
-        Disconnect::keep_behind(&mut self.disconnect, self.is_open, event);
+        Disconnect::keep_after(&mut self.disconnect, self.is_open, event);
         self.is_open = opens(self.is_open, event);
         self.said = History::with(&self.said, event);
         self.has_moved = true;
     }
 
-    /// Notes how the task ended: true the first time, then false, and nothing changes.
+    /// Records how the task ended. Returns true the first time, then false, when nothing changes.
     pub fn finish(&mut self, end: EndKind) -> bool
         ensures first { result ≡ is_none self.old.ended }
         ensures yes { IsTrue result → (self.new.ended ≡ Some end) × (self.new.has_moved ≡ true) }
@@ -129,7 +129,7 @@ impl AppState {
         true
     }
 
-    /// Whether an item went into a queue, or came out of one, since this was last asked.
+    /// Whether an item went into a queue, or came out of one, since the last call.
     pub fn moved(&mut self) -> bool
         ensures said { result ≡ self.old.has_moved }
         ensures cleared { self.new.has_moved ≡ false }
@@ -142,7 +142,7 @@ impl AppState {
     }
 }
 
-/// The disconnect that is heard again behind the event.
+/// The disconnect that is received again after the event.
 fn repeated(kind: Kind, event: &Incoming) -> Option<Disconnect>
     ensures { option_map event_of result ≡ repeated_in kind event.now }
 {
@@ -152,7 +152,7 @@ fn repeated(kind: Kind, event: &Incoming) -> Option<Disconnect>
     Disconnect::of(event)
 }
 
-/// A session is accepted by the event, or was before.
+/// Whether a session is accepted by the event, or was before.
 fn opens(is_open: bool, event: &Outgoing) -> bool
     ensures { result ≡ (is_open || is_accept_event event.now) }
 {

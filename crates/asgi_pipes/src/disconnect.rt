@@ -1,13 +1,13 @@
-//! Disconnects, which an application hears again and again.
+//! Disconnects, which an application receives again and again.
 ghost use Rattle.std.specs.Prelude.{◌≡◌, [], None};
 ghost use Rattle.std.specs.Option.{option_map};
 ghost use Rattle.asgi_pipes.specs.Disconnects.{event_of, disconnect_in, is_accept as is_accept_event};
-ghost use Rattle.asgi_pipes.specs.Closings.{closing_of, is_closing as is_closing_event};
+ghost use Rattle.asgi_pipes.specs.private.Closings.{closing_of, is_closing as is_closing_event};
 
 use asgi_types::{Incoming, Outgoing, Reason};
 
-/// A disconnect (ASGI HTTP and WebSocket message format 2.4, "Disconnect"). It takes no memory, so
-/// that it can be heard at any time.
+/// A disconnect (ASGI HTTP and WebSocket message format 2.4, "Disconnect"). A disconnect takes no
+/// memory, so that it can be received at any time.
 #[derive(Clone, Copy, Debug)]
 pub enum Disconnect {
     /// Of a request.
@@ -17,7 +17,7 @@ pub enum Disconnect {
 }
 
 impl Disconnect {
-    /// The event that an application hears.
+    /// The event that an application receives.
     pub fn event(self) -> Incoming
         ensures { result ≡ event_of self }
     {
@@ -27,7 +27,7 @@ impl Disconnect {
         }
     }
 
-    /// The disconnect that the event is, or `None` where it is none.
+    /// The disconnect that the event is, or `None` for any other event.
     pub fn of(event: &Incoming) -> Option<Disconnect>
         ensures { option_map event_of result ≡ disconnect_in event.now }
     {
@@ -41,22 +41,22 @@ impl Disconnect {
         }
     }
 
-    /// Keeps what is heard from then on behind the event, which passed: before it nothing was kept.
-    /// Most events close nothing, and then nothing is moved.
+    /// Keeps what is received from then on after the event, which passed; before it nothing was
+    /// kept. Most events close nothing, and then nothing is moved.
     #[tactic(auto, using(crate::proofs::ClosingLemmas::not_closing))]
-    pub fn keep_behind(kept: &mut Option<Disconnect>, is_open: bool, event: &Outgoing)
+    pub fn keep_after(kept: &mut Option<Disconnect>, is_open: bool, event: &Outgoing)
         requires { kept.old ≡ None }
         ensures { option_map event_of kept.new ≡ closing_of is_open event.now }
     {
         if is_closing(event) {
-            *kept = Disconnect::behind(is_open, event);
+            *kept = Disconnect::after(is_open, event);
         }
     }
 
-    /// What is heard from then on where the event, which passed, closes the scope, or `None` where
-    /// it does not. A session that was refused or denied, and so never open, has the code 1006
-    /// (RFC 6455, section 7.4.1); no reason is heard.
-    pub fn behind(is_open: bool, event: &Outgoing) -> Option<Disconnect>
+    /// What is received from then on if the event, which passed, closes the scope, or `None` if it
+    /// does not. A session that was refused or denied, and so never open, has the code 1006
+    /// (RFC 6455, section 7.4.1); no reason is received.
+    pub fn after(is_open: bool, event: &Outgoing) -> Option<Disconnect>
         ensures { option_map event_of result ≡ closing_of is_open event.now }
     {
         match event {
@@ -98,7 +98,7 @@ fn of_session(code: u16) -> Disconnect
     }
 }
 
-/// The event is the last of its scope.
+/// Whether the event is the last of its scope.
 fn is_closing(event: &Outgoing) -> bool
     ensures { result ≡ is_closing_event event.now }
 {

@@ -1,4 +1,4 @@
-//! The two ends of an exchange, by the lists of what went through them. A contract speaks of the
+//! The two ends of an exchange, by the lists of what went through them. A contract is about the
 //! lists of its own end alone, since the other end may be in another thread.
 ghost use Rattle.std.specs.Prelude.{◌≡◌, ℕ, ◌+◌, ◌≤◌, ◌⊎◌, Bool, true, false, not, List, [], ◌∷◌, ◌++◌, Option, Some, None, is_none, IsTrue, IsFalse, IfSome, IfNone, IsOk, OnOk, IfErr};
 ghost use mathlib.Core.List.{IsPrefix};
@@ -20,10 +20,10 @@ use crate::items::{OutItem, Sent};
 use asgi_types::{EndKind, Incoming, Outgoing};
 use futures::task::{Context, Poll};
 
-/// The end of the connection, which offers events and takes what the application says. No call
-/// takes memory or waits.
+/// The end of the connection, which offers events and takes what the application sends. No call
+/// allocates memory or waits.
 pub trait ConnEnd: Drop {
-    // What names the pair that the end belongs to.
+    // What identifies the pair that the end belongs to.
     ghost Tag: { Type 0 };
 
     ghost tag: { Self → Tag };
@@ -31,10 +31,10 @@ pub trait ConnEnd: Drop {
     // The places of each direction, without the reserved one.
     ghost ring: { Self → ℕ };
 
-    // The places that memory is held for: in the queue of what the end puts, and in that of what it takes.
+    // The places that memory is reserved for: in the queue of what the end puts, and in that of what it takes.
     ghost capacity: { Self → ℕ × ℕ };
 
-    // What was offered, the disconnect last of all.
+    // What was offered, the disconnect last.
     ghost offered: { Self → List Incoming };
 
     // The disconnect was offered.
@@ -46,11 +46,11 @@ pub trait ConnEnd: Drop {
     // What was taken.
     ghost got: { Self → List OutItem };
 
-    // What the end knows to wait for a take, oldest first.
+    // The items that the end knows to be waiting for a take, oldest first.
     ghost seen: { Self → List OutItem };
 
-    /// Offers an event behind those before it, in one place. It comes back where no place is free,
-    /// and after the disconnect was offered; then nothing was offered.
+    /// Offers an event after those before it, in one place. The event is returned if no place is
+    /// free, and after the disconnect was offered; then nothing was offered.
     fn offer(&mut self, event: Incoming) -> Result<(), Incoming>
         ensures ok { OnOk result ((offered self.new ≡ offered self.old ++ event ∷ []) × (is_broken self.old ≡ false) × (room self.old ≤ room self.new + 1)) }
         ensures err { IfErr result (λ back. (back ≡ event) × (offered self.new ≡ offered self.old) × ((is_broken self.old ≡ true) ⊎ ((room self.old ≡ 0) × (room self.new ≡ 0)))) }
@@ -58,9 +58,8 @@ pub trait ConnEnd: Drop {
         ensures tag { (tag self.new ≡ tag self.old) × (ring self.new ≡ ring self.old) }
         ensures capacity { capacity self.new ≡ capacity self.old };
 
-    /// Offers the one disconnect, behind all events, in the reserved place (ASGI HTTP and WebSocket
-    /// message format 2.4, "Disconnect"). The answer is true the first time; after that nothing
-    /// changes.
+    /// Offers the one disconnect, after all events, in the reserved place (ASGI HTTP and WebSocket
+    /// message format 2.4, "Disconnect"). Returns true the first time; after that nothing changes.
     fn offer_disconnect(&mut self, event: Incoming) -> bool
         ensures first { result ≡ not (is_broken self.old) }
         ensures yes { IsTrue result → offered self.new ≡ offered self.old ++ event ∷ [] }
@@ -70,7 +69,7 @@ pub trait ConnEnd: Drop {
         ensures tag { (tag self.new ≡ tag self.old) × (ring self.new ≡ ring self.old) }
         ensures capacity { capacity self.new ≡ capacity self.old };
 
-    /// Takes the oldest item, or `None` where none is there.
+    /// Takes the oldest item, or `None` if there is none.
     fn take(&mut self) -> Option<OutItem>
         ensures some { IfSome result (λ item. (got self.new ≡ got self.old ++ item ∷ []) × IsPrefix (seen self.old) (item ∷ seen self.new)) }
         ensures none { IfNone result ((got self.new ≡ got self.old) × (seen self.old ≡ []) × (seen self.new ≡ [])) }
@@ -79,10 +78,10 @@ pub trait ConnEnd: Drop {
         ensures capacity { capacity self.new ≡ capacity self.old };
 }
 
-/// The end of the application, which hears events and says others. The polls take no memory of
-/// their own, and no call waits.
+/// The end of the application, which receives events and sends others. The polls allocate no memory
+/// of their own, and no call waits.
 pub trait AppEnd: Drop {
-    // What names the pair that the end belongs to.
+    // What identifies the pair that the end belongs to.
     ghost Tag: { Type 0 };
 
     ghost tag: { Self → Tag };
@@ -90,7 +89,7 @@ pub trait AppEnd: Drop {
     // The places of each direction, without the reserved one.
     ghost ring: { Self → ℕ };
 
-    // The places that memory is held for: in the queue of what the end puts, and in that of what it takes.
+    // The places that memory is reserved for: in the queue of what the end puts, and in that of what it takes.
     ghost capacity: { Self → ℕ × ℕ };
 
     // The kind of scope, and what is known of its request.
@@ -98,16 +97,16 @@ pub trait AppEnd: Drop {
 
     ghost facts: { Self → Facts };
 
-    // What the application heard.
+    // What the application received.
     ghost heard: { Self → List Incoming };
 
     // What came through the queue; `heard` has further disconnects.
     ghost pulled: { Self → List Incoming };
 
-    // What the end knows to wait for a receive, oldest first.
+    // The events that the end knows to be waiting for a receive, oldest first.
     ghost seen: { Self → List Incoming };
 
-    // What the application said, and how it ended.
+    // What the application sent, and how it ended.
     ghost said: { Self → List Outgoing };
 
     ghost ended: { Self → Option EndKind };
@@ -115,18 +114,18 @@ pub trait AppEnd: Drop {
     // The places that the end knows to be free, without the reserved one.
     ghost room: { Self → ℕ };
 
-    // A call of this end put an item into a queue or took one out since `moved` was asked.
+    // A call of this end put an item into a queue or took one out since `moved` was last called.
     ghost has_moved: { Self → Bool };
 
-    // The source that fires where an event came, and the one where a place got free. An end that
+    // The source that fires when an event came, and the one when a place became free. An end that
     // only asks for another poll may name any.
     ghost arrivals: { Self → ℕ };
 
     ghost vacancies: { Self → ℕ };
 
-    /// The next event. Behind the application's own closing event that is its disconnect, and
-    /// behind a heard disconnect an equal one, but not in a lifespan scope (ASGI HTTP and WebSocket
-    /// message format 2.4, "Disconnect"); else the front of the queue. Where the queue is empty the
+    /// The next event. After the application's own closing event that is its disconnect, and after
+    /// a received disconnect an equal one, but not in a lifespan scope (ASGI HTTP and WebSocket
+    /// message format 2.4, "Disconnect"); else the front of the queue. If the queue is empty the
     /// poll is pending, and has registered with the source of arrivals or asked for another poll.
     fn poll_receive(&mut self, cx: &mut Context<'_>) -> Poll<Incoming>
         ensures ready { IfReady result (λ event. heard self.new ≡ heard self.old ++ event ∷ []) }
@@ -142,9 +141,9 @@ pub trait AppEnd: Drop {
         ensures sources { (arrivals self.new ≡ arrivals self.old) × (vacancies self.new ≡ vacancies self.old) }
         ensures kept { Keeps cx.old cx.new };
 
-    /// Says an event, before `finish`. The judge looks first, whether it may follow what was said
+    /// Sends an event, before `finish`. The judge first decides whether it may follow what was sent
     /// (ASGI HTTP and WebSocket message format 2.4, lifespan protocol 2.0). `Full` comes only for
-    /// an event that would pass, which is then not said, and has registered with the source of
+    /// an event that would pass, which is then not sent, and has registered with the source of
     /// vacancies or asked for another poll; `Ignored` and `Refused` change nothing.
     fn poll_send(&mut self, cx: &mut Context<'_>, event: Outgoing) -> Sent
         requires { ended self.old ≡ None }
@@ -159,7 +158,7 @@ pub trait AppEnd: Drop {
         ensures sources { (arrivals self.new ≡ arrivals self.old) × (vacancies self.new ≡ vacancies self.old) }
         ensures kept { Keeps cx.old cx.new };
 
-    /// Puts the end behind all that was said, in the reserved place. The answer is true the first
+    /// Puts the end after everything that was sent, in the reserved place. Returns true the first
     /// time; after that nothing changes.
     fn finish(&mut self, end: EndKind) -> bool
         ensures first { result ≡ is_none (ended self.old) }
@@ -171,8 +170,8 @@ pub trait AppEnd: Drop {
         ensures capacity { capacity self.new ≡ capacity self.old }
         ensures sources { (arrivals self.new ≡ arrivals self.old) × (vacancies self.new ≡ vacancies self.old) };
 
-    /// Whether a call of this end put an item into a queue or took one out since this was last
-    /// asked.
+    /// Whether a call of this end put an item into a queue or took one out since the last call of
+    /// `moved`.
     fn moved(&mut self) -> bool
         ensures said { result ≡ has_moved self.old }
         ensures cleared { has_moved self.new ≡ false }
@@ -183,9 +182,9 @@ pub trait AppEnd: Drop {
         ensures capacity { capacity self.new ≡ capacity self.old }
         ensures sources { (arrivals self.new ≡ arrivals self.old) × (vacancies self.new ≡ vacancies self.old) };
 
-    // What was said is lawful.
+    // What was sent is lawful.
     ghost lawful: { (end : Self) → ∥ IsLawful (kind end) (facts end) (said end) ∥₁ };
 
-    // What was heard is what came through the queue, and then equal disconnects.
+    // What was received is what came through the queue, and then equal disconnects.
     ghost hears: { (end : Self) → ∥ Hears (kind end) (said end) (pulled end) (heard end) ∥₁ };
 }

@@ -1,4 +1,4 @@
-//! What was carried to one end, as far as it waits to be taken.
+//! What was carried to one end and waits to be taken.
 ghost use Rattle.std.specs.Prelude.{◌≡◌, ◌<◌, ◌≤◌, ◌+◌, [], ◌∷◌, ◌++◌, length, IfOk, IfSome, IfNone};
 ghost use Rattle.std.specs.VecDeque.{deque_capacity};
 
@@ -24,8 +24,8 @@ pub struct Inbox<T> {
 impl<T: Drop> Inbox<T> {
     ghost use Rattle.asgi_pipes.specs.Boxes.{IsNewInbox};
 
-    /// An empty one, for so many items. All its places are reserved here, and no later call takes
-    /// memory; `AllocError` where that memory is refused.
+    /// An empty one, for `places` items. All its places are reserved here, and no later call
+    /// allocates memory; `AllocError` if that memory is refused.
     pub fn with_places(alloc: Global, places: usize) -> Result<Inbox<T>, AllocError>
         ensures { IfOk result (λ made. IsNewInbox places made) }
     {
@@ -38,7 +38,7 @@ impl<T: Drop> Inbox<T> {
         })
     }
 
-    /// Makes a new one of it, in the same places. What waits here is dropped.
+    /// Empties the box for a new pair, with the same places. What waits here is dropped.
     pub fn clear(&mut self)
         ensures { IsNewInbox self.old.places self.new }
     {
@@ -47,7 +47,7 @@ impl<T: Drop> Inbox<T> {
         self.taken = History::new();
     }
 
-    /// Takes the oldest item, or `None` where none waits.
+    /// Takes the oldest item, or `None` if none waits.
     pub fn take(&mut self) -> Option<T>
         ensures some { IfSome result (λ item. (self.new.taken.items ≡ self.old.taken.items ++ item ∷ []) × (self.old.queue.items ≡ item ∷ self.new.queue.items)) }
         ensures none { IfNone result ((self.old.queue.items ≡ []) × (self.new.queue.items ≡ []) × (self.new.taken.items ≡ self.old.taken.items)) }
@@ -66,7 +66,7 @@ impl<T: Drop> Inbox<T> {
         self.queue.len()
     }
 
-    /// Puts an item that was carried here behind the others.
+    /// Puts an item that was carried here after the others.
     pub fn accept(&mut self, item: T)
         requires { self.old.arrived < self.old.places }
         ensures queue { self.new.queue.items ≡ self.old.queue.items ++ item ∷ [] }

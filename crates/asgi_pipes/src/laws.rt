@@ -1,29 +1,29 @@
-//! Laws of what is heard, over every list: contracts of functions with no code.
+//! Laws of what is received, over every list: contracts of functions with no code.
 ghost use Rattle.asgi_pipes.specs.Laws.{HeardIsOfferedInOrder, ClosedScopeHearsItsDisconnect, DisconnectIsHeardAgain, OnlyEqualDisconnectsFollow, HeardHasOneReading, PlainPairsKeepOrder};
 
-/// What is heard is a beginning of what was offered, and then equal disconnects.
+/// What is received is a beginning of what was offered, and then equal disconnects.
 pub fn heard_is_offered_in_order()
     ensures { HeardIsOfferedInOrder }
 {}
 
-/// Behind the application's own closing event its disconnect is heard at once (ASGI HTTP and
+/// After the application's own closing event its disconnect is received at once (ASGI HTTP and
 /// WebSocket message format 2.4, "Disconnect"). In a lifespan scope there is none.
 pub fn closed_scope_hears_its_disconnect()
     ensures { ClosedScopeHearsItsDisconnect }
 {}
 
-/// A heard disconnect is heard again, whatever waits in the queue. In a lifespan scope there is
-/// none.
+/// A received disconnect is received again, whatever waits in the queue. In a lifespan scope there
+/// is none.
 pub fn disconnect_is_heard_again()
     ensures { DisconnectIsHeardAgain }
 {}
 
-/// Behind a heard disconnect there are only equal ones.
+/// After a received disconnect only equal ones follow.
 pub fn only_equal_disconnects_follow()
     ensures { OnlyEqualDisconnectsFollow }
 {}
 
-/// What was heard can be read in one way only.
+/// What was received can be read in one way only.
 pub fn heard_has_one_reading()
     ensures { HeardHasOneReading }
 {}

@@ -1,5 +1,5 @@
 //! The two queues of an exchange: what a connection offers to an application, and what the
-//! application says back. Contracts speak of whole lists of events; an end keeps only what waits.
+//! application sends back. Contracts are about whole lists of events; an end keeps only what waits.
 #![tactic(auto)]
 
 mod app_state;

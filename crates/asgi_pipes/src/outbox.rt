@@ -1,4 +1,4 @@
-//! What one end has put, as far as it waits to be carried to the other end.
+//! What one end has put and waits to be carried to the other end.
 ghost use Rattle.std.specs.Prelude.{◌≡◌, ◌<◌, ◌≤◌, ◌+◌, [], ◌∷◌, ◌++◌, length, IsTrue, ◌↔◌, IfOk, IfSome, IfNone};
 ghost use Rattle.std.specs.VecDeque.{deque_capacity};
 
@@ -12,7 +12,7 @@ pub struct Outbox<T> {
     queue: VecDeque<T>,
     /// All places of this direction, here and at the other end.
     places: usize,
-    /// The places that items take at the other end, as far as this end was told.
+    /// The places that items take at the other end, as far as this end knows.
     away: usize,
     /// What was carried on.
     passed: History<T>,
@@ -23,8 +23,8 @@ pub struct Outbox<T> {
 impl<T: Drop> Outbox<T> {
     ghost use Rattle.asgi_pipes.specs.Boxes.{put_by, free_in, IsNewOutbox};
 
-    /// An empty one, for so many items. All its places are reserved here, and no later call takes
-    /// memory; `AllocError` where that memory is refused.
+    /// An empty one, for `places` items. All its places are reserved here, and no later call
+    /// allocates memory; `AllocError` if that memory is refused.
     pub fn with_places(alloc: Global, places: usize) -> Result<Outbox<T>, AllocError>
         ensures { IfOk result (λ made. IsNewOutbox places made) }
     {
@@ -37,7 +37,7 @@ impl<T: Drop> Outbox<T> {
         })
     }
 
-    /// Makes a new one of it, in the same places. What waits here is dropped.
+    /// Empties the box for a new pair, with the same places. What waits here is dropped.
     pub fn clear(&mut self)
         ensures { IsNewOutbox self.old.places self.new }
     {
@@ -46,7 +46,7 @@ impl<T: Drop> Outbox<T> {
         self.passed = History::new();
     }
 
-    /// Whether it has places for `ring` events, and the reserved one.
+    /// Whether there are places for `ring` events, and the reserved one.
     pub fn has_ring(&self, ring: usize) -> bool
         ensures { IsTrue result ↔ (self.now.places ≡ ring + 1) }
     {
@@ -56,14 +56,14 @@ impl<T: Drop> Outbox<T> {
         self.places - 1 == ring
     }
 
-    /// The places that are free, as far as this end was told.
+    /// The places that are free, as far as this end knows.
     pub fn free(&self) -> usize
         ensures { result ≡ free_in self.now }
     {
         self.places - (self.queue.len() + self.away)
     }
 
-    /// Puts one item behind the others.
+    /// Puts one item after the others.
     pub fn put(&mut self, item: T)
         requires { 0 < free_in self.old }
         ensures put { put_by self.new ≡ put_by self.old ++ item ∷ [] }
@@ -81,8 +81,8 @@ impl<T: Drop> Outbox<T> {
         self.queue.len()
     }
 
-    /// Lets the oldest item go to the other end, or `None` where none waits. Its place counts as
-    /// taken there.
+    /// Passes the oldest item on to the other end, or returns `None` if none waits. Its place
+    /// counts as taken there.
     pub fn pass(&mut self) -> Option<T>
         ensures some { IfSome result (λ item. (self.new.passed.items ≡ self.old.passed.items ++ item ∷ []) × (self.old.queue.items ≡ item ∷ self.new.queue.items) × (self.new.away ≡ self.old.away + 1)) }
         ensures none { IfNone result ((self.old.queue.items ≡ []) × (self.new.queue.items ≡ []) × (self.new.passed.items ≡ self.old.passed.items) × (self.new.away ≡ self.old.away)) }
@@ -95,7 +95,7 @@ impl<T: Drop> Outbox<T> {
         Some(item)
     }
 
-    /// Tells how many items wait at the other end, so that the places of all others are free.
+    /// Records how many items wait at the other end, so that the places of all others are free.
     pub fn hear_of(&mut self, away: usize)
         requires { length self.old.queue.items + away ≤ self.old.places }
         ensures away { self.new.away ≡ away }

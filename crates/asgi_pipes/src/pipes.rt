@@ -13,7 +13,7 @@ use std::alloc::{AllocError, Global};
 /// How many items were left in the two queues.
 #[derive(Clone, Copy, Debug, PartialEq, Eq)]
 pub struct Met {
-    /// Events that were offered and not heard, the disconnect among them.
+    /// Events that were offered and not received, the disconnect among them.
     pub left_in: usize,
     /// Items that were put and not taken, the end among them.
     pub left_out: usize,
@@ -27,15 +27,15 @@ pub trait Pipes {
     /// The end of the application.
     type App: AppEnd;
 
-    // They are the ends of one pair.
+    // The two are the ends of one pair.
     ghost is_pair: { Self.Conn → Self.App → Type 0 };
 
-    // The memory that they hold is enough for the ends of another exchange with so many event places.
+    // The memory that they hold is enough for the ends of another exchange with this many event places.
     ghost serves_again: { Self.Conn → Self.App → ℕ → Type 0 };
 
     /// The two ends of an exchange in a scope of this kind, whose request has these facts, with
-    /// `ring` event places each way. Every place of every queue is reserved here, the one for the
-    /// disconnect or the end too. `AllocError` where memory is refused.
+    /// `ring` event places each way. Every place of every queue is reserved here, also the one for
+    /// the disconnect or the end. `AllocError` if memory is refused.
     fn make(
         &self,
         alloc: Global,
@@ -50,9 +50,9 @@ pub trait Pipes {
         ensures scope { IfOk result (λ ends. (Self.App.kind ends.1 ≡ kind) × (Self.App.facts ends.1 ≡ facts) × (Self.App.has_moved ends.1 ≡ false)) }
         ensures pair { IfOk result (λ ends. is_pair ends.0 ends.1) };
 
-    /// The ends of a new exchange, as `make` gives them, out of those of one that is over: memory
-    /// that these hold may serve again. What was left between them is dropped. `AllocError` where
-    /// memory must be taken and is refused; then the old ends are gone too.
+    /// The ends of a new exchange, as `make` returns them, out of the ends of one that is over,
+    /// whose memory may be reused. What was left between them is dropped. `AllocError` if memory
+    /// must be allocated and is refused; then the old ends are gone too.
     fn renew(
         &self,
         alloc: Global,
@@ -67,12 +67,12 @@ pub trait Pipes {
         ensures places { IfOk result (λ ends. (Self.Conn.ring ends.0 ≡ ring) × (Self.Conn.room ends.0 ≡ ring) × (Self.App.ring ends.1 ≡ ring) × (Self.App.room ends.1 ≡ ring)) }
         ensures capacity { IfOk result (λ ends. (Self.Conn.capacity ends.0 ≡ (ring + 1, ring + 1)) × (Self.App.capacity ends.1 ≡ (ring + 1, ring + 1))) }
         ensures scope { IfOk result (λ ends. (Self.App.kind ends.1 ≡ kind) × (Self.App.facts ends.1 ≡ facts) × (Self.App.has_moved ends.1 ≡ false)) }
-        // It fails only where it must take memory.
+        // Renewing fails only if memory must be allocated.
         ensures again { serves_again conn app ring → IsOk result }
         ensures pair { IfOk result (λ ends. is_pair ends.0 ends.1) };
 
-    /// Brings the ends of one pair together, and counts what was left between them: it is never
-    /// `None`. Only the disconnect or the end is ever in a reserved place.
+    /// Brings the ends of one pair together, and returns how many items were left between them:
+    /// never `None`. Only the disconnect or the end is ever in a reserved place.
     fn meet(conn: &mut Self::Conn, app: &mut Self::App) -> Option<Met>
         requires { is_pair conn.old app.old }
         ensures met { IsSome result }

@@ -26,7 +26,7 @@ pub struct PlainApp {
 }
 
 impl PlainApp {
-    ghost use Rattle.asgi_pipes.specs.AppStates.{IsFresh};
+    ghost use Rattle.asgi_pipes.specs.private.AppStates.{IsFresh};
     ghost use Rattle.asgi_pipes.specs.Boxes.{IsNewOutbox, IsNewInbox};
 
     /// The end of a new pair, with these queues.
@@ -99,7 +99,7 @@ impl AppEnd for PlainApp {
 
     ghost has_moved = { λ s. s.state.has_moved };
 
-    // It has no sources: where it must wait, it asks for another poll.
+    // This end has no sources: when it must wait, it asks for another poll.
     ghost arrivals = { λ _. 0 };
 
     ghost vacancies = { λ _. 0 };

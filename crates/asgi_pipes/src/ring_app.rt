@@ -13,7 +13,7 @@ use asgi_types::{EndKind, Facts, Incoming, Kind, Outgoing};
 use futures::task::{Context, Poll};
 use rtrb::{Consumer, Producer};
 
-/// The end of the application, where the other one may be in another thread.
+/// The end of the application; the other end may be in another thread.
 #[derive(Drop)]
 pub struct RingApp {
     pub(crate) from_conn: Consumer<Incoming>,
@@ -26,7 +26,7 @@ pub struct RingApp {
 }
 
 impl RingApp {
-    ghost use Rattle.asgi_pipes.specs.AppStates.{IsFresh};
+    ghost use Rattle.asgi_pipes.specs.private.AppStates.{IsFresh};
 
     /// The end of a new pair, over these rings.
     pub(crate) fn new(
@@ -81,7 +81,7 @@ impl AppEnd for RingApp {
 
     ghost has_moved = { λ s. s.state.has_moved };
 
-    // It has no sources: where it must wait, it asks for another poll.
+    // This end has no sources: when it must wait, it asks for another poll.
     ghost arrivals = { λ _. 0 };
 
     ghost vacancies = { λ _. 0 };

@@ -1,5 +1,5 @@
-//! `make`, where one allocation is refused: it answers so, and can be called again. No call of an end takes memory, and
-//! `renew` takes none where the places are as many.
+//! `make`, when one allocation is refused: it returns that error, and can be called again. No call of an end allocates,
+//! and `renew` allocates nothing if the places are as many.
 //! `tests/memory.py` runs these with each allocation refused in turn; with ample memory none is refused.
 use crate::pairs::{Answer, Pair, PlainPair, Ran, RingPair, Row, Step, facts, run_table};
 use asgi_pipes::{AppEnd, ConnEnd, EndKind, Pipes, Plain, PlainApp, PlainConn};
@@ -8,7 +8,7 @@ use std::alloc::{AllocError, AllocGlobal, Global};
 use std::random::RandomSource;
 use std::test::Fail;
 
-/// The ends of a pair of two places. They are asked for again where memory was refused.
+/// The ends of a pair of two places, made again if memory was refused.
 fn made(alloc: Global) -> Result<(PlainConn, PlainApp), AllocError> {
     match Plain.make(alloc, Kind::WebSocket, facts(alloc), 2) {
         Ok(ends) => Ok(ends),
@@ -24,7 +24,7 @@ fn has_nothing(conn: &mut PlainConn) -> bool {
     conn.take().is_none()
 }
 
-/// Offers to a pair of two places until one comes back, and ends both ends.
+/// Offers to a pair of two places until one is returned, and ends both ends.
 fn fill(conn: &mut PlainConn, app: &mut PlainApp) -> [bool; 7] {
     [
         is_offered(conn),
@@ -49,8 +49,8 @@ fn memory_for_a_pair(rt: HostRuntime) -> Result<(), Fail> {
     Ok(())
 }
 
-/// What a pair answers, then the one that was made of its ends, and then the one that was made of these with other places.
-/// None of the second or of the third where memory was refused for the second.
+/// The results of a pair, then of the one that was made of its ends, and then of the one that was made of these with
+/// other places. None for the second or the third if memory was refused for the second.
 type Renewed = ([bool; 7], Option<([bool; 7], [bool; 2])>);
 
 fn fill_and_renew(alloc: Global) -> Result<Renewed, AllocError> {
@@ -70,7 +70,7 @@ fn fill_and_widen(
 ) -> Result<([bool; 7], [bool; 2]), AllocError> {
     let (mut conn, mut app) = (conn, app);
     let filled = fill(&mut conn, &mut app);
-    // For other places there is.
+    // For other places one is made.
     match Plain.renew(alloc, conn, app, Kind::WebSocket, facts(alloc), 3) {
         Ok((conn, app)) => Ok((filled, used(conn, app))),
         Err(_) => Ok((filled, used_anew(alloc)?)),
@@ -104,7 +104,7 @@ const ROWS: &[Row] = &[
     (Step::Receive, Answer::Event("disconnect", 1000)),
 ];
 
-/// What the rows give, which are run again where memory was refused.
+/// The results of the rows, which are run again if memory was refused.
 fn table_of<P: Pair, R: RandomSource + AllocGlobal>(rt: &R) -> Result<Ran, AllocError> {
     match run_table::<P, R>(rt, Kind::WebSocket, 1, true, ROWS) {
         Ok(ran) => Ok(ran),

@@ -1,4 +1,4 @@
-//! Pairs of ends on tables of calls, each with its answer.
+//! Pairs of ends on tables of calls, each with its result.
 mod ends;
 mod full_rings;
 mod http;
@@ -45,7 +45,7 @@ pub enum Step {
     Carry,
 }
 
-/// What a call answers.
+/// What a call returns.
 #[derive(Clone, Copy, Debug, PartialEq, Eq)]
 pub enum Answer {
     Taken,
@@ -62,19 +62,19 @@ pub enum Answer {
     Refused(u8),
 }
 
-/// A call, and what it is to answer.
+/// A call, and its expected result.
 pub type Row = (Step, Answer);
 
-/// The first row that answered otherwise, with its answer.
+/// The first row whose result differs, with that result.
 type Other = Option<(usize, Answer)>;
 
 /// The items that were left in the two queues: inward, and outward.
 type Left = (usize, usize);
 
-/// What a table gave, and what was left behind it.
+/// The result of a table, and what was left after it.
 pub type Ran = (Other, Left);
 
-/// Runs a table on the pair. Where `carries`, what was put is carried behind each call.
+/// Runs a table on the pair. With `carries`, what was put is carried after each call.
 fn run<P: Pair>(
     alloc: Global,
     cx: &mut Context<'_>,
@@ -90,7 +90,7 @@ fn run<P: Pair>(
     Ok(None)
 }
 
-/// What the call answers, where that is not what it is to answer.
+/// The result of the call, if that is not the expected one.
 fn other_at<P: Pair>(
     alloc: Global,
     cx: &mut Context<'_>,
@@ -163,7 +163,7 @@ fn offered(alloc: Global, step: Step) -> Result<Incoming, AllocError> {
     })
 }
 
-/// The event that the step says.
+/// The event that the step sends.
 fn said(alloc: Global, step: Step) -> Result<Outgoing, AllocError> {
     Ok(match step {
         Step::Start(status) => Outgoing::ResponseStart {
@@ -249,7 +249,7 @@ fn run_fresh<P: Pair>(
     run_on(alloc, solo, &mut pair, carries, rows)
 }
 
-/// Runs the table on a fresh pair. `Err` where memory was refused.
+/// Runs the table on a fresh pair. `Err` if memory was refused.
 pub fn run_table<P: Pair, R: RandomSource + AllocGlobal>(
     rt: &R,
     kind: Kind,
@@ -261,8 +261,8 @@ pub fn run_table<P: Pair, R: RandomSource + AllocGlobal>(
     run_fresh::<P>(rt.alloc(), &solo, (kind, ring), carries, rows)
 }
 
-/// Compares each answer of the table and what is left in the queues, over plain ends, and over rings where
-/// what was put is carried behind each call.
+/// Compares each result of the table and what is left in the queues, over plain ends, and over rings if what was put is
+/// carried after each call.
 pub fn check<R: Abort + RandomSource + AllocGlobal>(
     rt: &R,
     kind: Kind,

@@ -1,9 +1,9 @@
-//! An application that tells a client what it asked for.
+//! An application that responds to a client with what it asked for.
 use asgi_apps::{AppFault, Application, Says};
 use asgi_types::{Headers, HttpScope, Kind, Octets, Outgoing, Scope};
 use std::alloc::{AllocError, Global};
 
-/// Answers each request with its method and its path, a line of text.
+/// Responds to each request with its method and its path, a line of text.
 #[derive(Clone, Copy, Debug)]
 pub struct Asked;
 

@@ -57,7 +57,7 @@ fn words_of<H: Env + AllocGlobal>(rt: &H) -> Option<(u16, u64)> {
     Some((port, count))
 }
 
-/// Tells how the program is called.
+/// Prints how the program is called.
 fn usage<W: Write>(out: &mut W) -> ExitCode {
     match writeln!(out, "usage: asgi_port_example PORT COUNT") {
         Ok(()) => ExitCode::from(2),
@@ -65,7 +65,7 @@ fn usage<W: Write>(out: &mut W) -> ExitCode {
     }
 }
 
-/// Tells how a connection ended.
+/// Prints how a connection ended.
 fn show<W: Write>(report: &Report, out: &mut W) -> io::Result<()> {
     writeln!(
         out,

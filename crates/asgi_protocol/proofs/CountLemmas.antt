@@ -1,10 +1,10 @@
--- What is left of the promised bytes tells the same as the promised bytes and those that are there.
+-- What is left of the promised bytes decides the same as the promised bytes and those that are sent.
 use Rattle.std.proofs.Common.{◌≡◌, ℕ, ◌+◌, ◌≤◌, ◌<◌, false, true, refl, ap, sym, Option, Some, None, arith, zero-add}
 use Rattle.std.specs.Prelude.{nat_lt}
 use Rattle.std.proofs.lemmas.Bool.Decides.{Decides-ltb, not_from_Decides, same_from_decides}
-use Rattle.asgi_protocol.specs.BytesLeft.{is_above, is_below, left_behind, with_sent}
+use Rattle.asgi_protocol.specs.BytesLeft.{is_above, is_below, left_after, with_sent}
 
--- in front of every body all are left
+-- before every body all are left
 pub with_sent-zero : (left : Option ℕ) → left ≡ with_sent 0 left
 with_sent-zero None = refl
 with_sent-zero (Some n) = ap Some (sym (zero-add n))
@@ -26,8 +26,8 @@ pub below_agrees : (sent size : ℕ) (left promised : Option ℕ) → promised �
 below_agrees sent size None promised h = rw h refl
 below_agrees sent size (Some n) promised h = rw h (shift sent size n)
 
--- a body that fits moves its bytes from those that are left to those that are there
-pub counts_down : (sent size : ℕ) (left : Option ℕ) → is_above size left ≡ false → with_sent sent left ≡ with_sent (sent + size) (left_behind left size)
+-- a body that fits moves its bytes from those that are left to those that are sent
+pub counts_down : (sent size : ℕ) (left : Option ℕ) → is_above size left ≡ false → with_sent sent left ≡ with_sent (sent + size) (left_after left size)
 counts_down sent size None h = refl
 counts_down sent size (Some n) h =
     let fits = not_from_Decides (nat_lt n size) (Decides-ltb n size) h in

@@ -8,13 +8,13 @@ use Rattle.asgi_types.specs.declared.facts.Facts.{Facts}
 use Rattle.asgi_types.specs.declared.outgoing.Outgoing.{Outgoing}
 use Rattle.asgi_types.specs.declared.outgoing.Outgoing.TheVariants.{ResponseStart, ResponseBody, WsAccept, WsSend, WsClose, DenialStart, DenialBody, StartupComplete, StartupFailed, ShutdownComplete, ShutdownFailed}
 use Rattle.asgi_protocol.specs.declared.judge.Stage.{Stage}
-use Rattle.asgi_protocol.specs.declared.judge.Stage.TheVariants.{Fresh, Begun, Accepted, Started, Ended}
+use Rattle.asgi_protocol.specs.declared.judge.Stage.TheVariants.{Fresh, ResponseStarted, Accepted, LifespanStarted, Ended}
 use Rattle.asgi_protocol.specs.declared.judge.Judge.{Judge}
 use Rattle.asgi_protocol.specs.BytesLeft.{with_sent}
 use Rattle.asgi_protocol.specs.Rules.{promised_length, body_bytes, has_too_much_body, has_too_little_body}
 use Rattle.asgi_protocol.specs.Shapes.{is_of, is_word, is_closed}
 use Rattle.asgi_protocol.specs.Stages.{StandsFor, CountsBytes, is_rest, begins_rest}
-use Rattle.asgi_protocol.specs.Steps.{lines_at, bytes_left, has_place, is_ended, takes_too_much, leaves_too_much}
+use Rattle.asgi_protocol.specs.private.Steps.{lines_at, bytes_left, has_place, is_ended, takes_too_much, leaves_too_much}
 use Rattle.asgi_protocol.specs.Verdicts.{Lines, lines_on, first_line, verdict_on}
 use Rattle.asgi_protocol.proofs.CountLemmas.{above_agrees, below_agrees}
 use Rattle.asgi_protocol.proofs.WordLemmas.{word_from_beginning}
@@ -46,12 +46,12 @@ scope_alike : (kind : Kind) (l m : Lines) → l.closed ≡ m.closed → l.discon
     → first_line kind l ≡ first_line kind m
 scope_alike kind l m p q s t = rw (p, q, s, t) refl
 
--- where the stage has a place for an event, a word goes on with it
+-- if the stage has a place for an event, a word goes on with it
 place_agrees : (kind : Kind) (stage : Stage) (e : Outgoing) → is_of kind e ≡ true → has_place stage e ≡ begins_rest kind stage (e ∷ [])
 place_agrees Http Fresh (ResponseStart status headers) of = refl
 place_agrees Http _ (ResponseStart status headers) of = refl
-place_agrees Http (Begun left) (ResponseBody body true) of = refl
-place_agrees Http (Begun left) (ResponseBody body false) of = refl
+place_agrees Http (ResponseStarted left) (ResponseBody body true) of = refl
+place_agrees Http (ResponseStarted left) (ResponseBody body false) of = refl
 place_agrees Http _ (ResponseBody body more) of = refl
 place_agrees Http _ _ of = absurd (cc)
 place_agrees WebSocket Fresh (WsAccept subprotocol headers) of = refl
@@ -62,8 +62,8 @@ place_agrees WebSocket Fresh (WsClose code reason) of = refl
 place_agrees WebSocket _ (WsClose code reason) of = refl
 place_agrees WebSocket Fresh (DenialStart status headers) of = refl
 place_agrees WebSocket _ (DenialStart status headers) of = refl
-place_agrees WebSocket (Begun left) (DenialBody body true) of = refl
-place_agrees WebSocket (Begun left) (DenialBody body false) of = refl
+place_agrees WebSocket (ResponseStarted left) (DenialBody body true) of = refl
+place_agrees WebSocket (ResponseStarted left) (DenialBody body false) of = refl
 place_agrees WebSocket _ (DenialBody body more) of = refl
 place_agrees WebSocket _ _ of = absurd (cc)
 place_agrees Lifespan Fresh (StartupComplete state) of = refl
@@ -80,9 +80,9 @@ place_agrees Lifespan _ _ of = absurd (cc)
 left_agrees : (facts : Facts) (stage : Stage) (said : List Outgoing) → is_ended stage ≡ false → CountsBytes facts stage said
     → promised_length facts said ≡ with_sent (body_bytes said) (bytes_left stage)
 left_agrees facts Fresh said h none = ap (promised_length facts) none
-left_agrees facts (Begun left) said h counts = counts.3
+left_agrees facts (ResponseStarted left) said h counts = counts.3
 left_agrees facts Accepted said h counts = counts.3
-left_agrees facts Started said h counts = counts.3
+left_agrees facts LifespanStarted said h counts = counts.3
 left_agrees facts Ended said h counts = absurd (cc)
 
 too_much_agrees : (facts : Facts) (stage : Stage) (said : List Outgoing) (e : Outgoing) → promised_length facts said ≡ with_sent (body_bytes said) (bytes_left stage)
@@ -103,9 +103,9 @@ closed_agrees kind stage said rest = at_end stage ∙ sym (rest []) ∙ ap (is_w
   where
     at_end : (s : Stage) → is_ended s ≡ is_rest kind s []
     at_end Fresh = refl
-    at_end (Begun left) = refl
+    at_end (ResponseStarted left) = refl
     at_end Accepted = refl
-    at_end Started = refl
+    at_end LifespanStarted = refl
     at_end Ended = refl
 
 -- the lines that the judge reads

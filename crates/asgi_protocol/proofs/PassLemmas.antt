@@ -9,14 +9,14 @@ use Rattle.asgi_types.specs.declared.outgoing.Outgoing.TheVariants.{ResponseStar
 use Rattle.asgi_protocol.specs.declared.verdict.Verdict.{Verdict}
 use Rattle.asgi_protocol.specs.declared.verdict.Verdict.TheVariants.{Pass, Refused}
 use Rattle.asgi_protocol.specs.declared.judge.Stage.{Stage}
-use Rattle.asgi_protocol.specs.declared.judge.Stage.TheVariants.{Fresh, Begun, Accepted, Started}
+use Rattle.asgi_protocol.specs.declared.judge.Stage.TheVariants.{Fresh, ResponseStarted, Accepted, LifespanStarted}
 use Rattle.asgi_protocol.specs.declared.judge.Judge.{Judge}
-use Rattle.asgi_protocol.specs.BytesLeft.{is_above, left_behind, with_sent}
+use Rattle.asgi_protocol.specs.BytesLeft.{is_above, left_after, with_sent}
 use Rattle.asgi_protocol.specs.Lawful.{IsLawful}
 use Rattle.asgi_protocol.specs.Rules.{MeetsRules, promised_length, body_bytes}
 use Rattle.asgi_protocol.specs.Shapes.{is_of, is_word, begins_word, goes_on}
 use Rattle.asgi_protocol.specs.Stages.{StandsFor, CountsBytes, is_rest, begins_rest}
-use Rattle.asgi_protocol.specs.Steps.{lines_at, stage_behind, has_place, takes_too_much}
+use Rattle.asgi_protocol.specs.private.Steps.{lines_at, stage_after, has_place, takes_too_much}
 use Rattle.asgi_protocol.specs.Verdicts.{Lines, lines_on, first_line, verdict_on, verdict_on_closed}
 use Rattle.asgi_protocol.proofs.CountLemmas.{with_sent-zero, counts_down}
 use Rattle.asgi_protocol.proofs.WordLemmas.{word_from_beginning}
@@ -83,7 +83,7 @@ pub not_false : (b : Bool) → not b ≡ false → b ≡ true
 not_false true h = refl
 not_false false h = absurd (cc)
 
--- what a pass says of the list
+-- what a pass shows of the list
 pub record Passes (kind : Kind) (facts : Facts) (said : List Outgoing) (e : Outgoing) : Type 0 where
   pub of : is_of kind e ≡ true
   pub goes : goes_on kind said e ≡ true
@@ -130,74 +130,74 @@ lawful_more kind facts said e l p = record {
   ];
 }
 
--- the stage behind an event
+-- the stage after an event
 or_false : (b : Bool) → b ≡ (b || false)
 or_false true = refl
 or_false false = refl
 
-rest_behind : (kind : Kind) (facts : Facts) (stage : Stage) (e : Outgoing) (more : List Outgoing) → is_of kind e ≡ true → has_place stage e ≡ true
-    → is_rest kind stage (e ∷ more) ≡ is_rest kind (stage_behind facts stage e) more
-rest_behind Http facts Fresh (ResponseStart status headers) more of at = refl
-rest_behind Http facts _ (ResponseStart status headers) more of at = absurd (cc)
-rest_behind Http facts (Begun left) (ResponseBody body true) more of at = sym (or_false _)
-rest_behind Http facts (Begun left) (ResponseBody body false) more of at = refl
-rest_behind Http facts _ (ResponseBody body more_body) more of at = absurd (cc)
-rest_behind Http facts _ _ more of at = absurd (cc)
-rest_behind WebSocket facts Fresh (WsAccept subprotocol headers) more of at = refl
-rest_behind WebSocket facts _ (WsAccept subprotocol headers) more of at = absurd (cc)
-rest_behind WebSocket facts Accepted (WsSend payload) more of at = sym (or_false _)
-rest_behind WebSocket facts _ (WsSend payload) more of at = absurd (cc)
-rest_behind WebSocket facts Fresh (WsClose code reason) more of at = refl
-rest_behind WebSocket facts Accepted (WsClose code reason) more of at = refl
-rest_behind WebSocket facts _ (WsClose code reason) more of at = absurd (cc)
-rest_behind WebSocket facts Fresh (DenialStart status headers) more of at = refl
-rest_behind WebSocket facts _ (DenialStart status headers) more of at = absurd (cc)
-rest_behind WebSocket facts (Begun left) (DenialBody body true) more of at = sym (or_false _)
-rest_behind WebSocket facts (Begun left) (DenialBody body false) more of at = refl
-rest_behind WebSocket facts _ (DenialBody body more_body) more of at = absurd (cc)
-rest_behind WebSocket facts _ _ more of at = absurd (cc)
-rest_behind Lifespan facts Fresh (StartupComplete state) more of at = refl
-rest_behind Lifespan facts _ (StartupComplete state) more of at = absurd (cc)
-rest_behind Lifespan facts Fresh (StartupFailed message) more of at = refl
-rest_behind Lifespan facts _ (StartupFailed message) more of at = absurd (cc)
-rest_behind Lifespan facts Started ShutdownComplete more of at = refl
-rest_behind Lifespan facts _ ShutdownComplete more of at = absurd (cc)
-rest_behind Lifespan facts Started (ShutdownFailed message) more of at = refl
-rest_behind Lifespan facts _ (ShutdownFailed message) more of at = absurd (cc)
-rest_behind Lifespan facts _ _ more of at = absurd (cc)
+rest_after : (kind : Kind) (facts : Facts) (stage : Stage) (e : Outgoing) (more : List Outgoing) → is_of kind e ≡ true → has_place stage e ≡ true
+    → is_rest kind stage (e ∷ more) ≡ is_rest kind (stage_after facts stage e) more
+rest_after Http facts Fresh (ResponseStart status headers) more of at = refl
+rest_after Http facts _ (ResponseStart status headers) more of at = absurd (cc)
+rest_after Http facts (ResponseStarted left) (ResponseBody body true) more of at = sym (or_false _)
+rest_after Http facts (ResponseStarted left) (ResponseBody body false) more of at = refl
+rest_after Http facts _ (ResponseBody body more_body) more of at = absurd (cc)
+rest_after Http facts _ _ more of at = absurd (cc)
+rest_after WebSocket facts Fresh (WsAccept subprotocol headers) more of at = refl
+rest_after WebSocket facts _ (WsAccept subprotocol headers) more of at = absurd (cc)
+rest_after WebSocket facts Accepted (WsSend payload) more of at = sym (or_false _)
+rest_after WebSocket facts _ (WsSend payload) more of at = absurd (cc)
+rest_after WebSocket facts Fresh (WsClose code reason) more of at = refl
+rest_after WebSocket facts Accepted (WsClose code reason) more of at = refl
+rest_after WebSocket facts _ (WsClose code reason) more of at = absurd (cc)
+rest_after WebSocket facts Fresh (DenialStart status headers) more of at = refl
+rest_after WebSocket facts _ (DenialStart status headers) more of at = absurd (cc)
+rest_after WebSocket facts (ResponseStarted left) (DenialBody body true) more of at = sym (or_false _)
+rest_after WebSocket facts (ResponseStarted left) (DenialBody body false) more of at = refl
+rest_after WebSocket facts _ (DenialBody body more_body) more of at = absurd (cc)
+rest_after WebSocket facts _ _ more of at = absurd (cc)
+rest_after Lifespan facts Fresh (StartupComplete state) more of at = refl
+rest_after Lifespan facts _ (StartupComplete state) more of at = absurd (cc)
+rest_after Lifespan facts Fresh (StartupFailed message) more of at = refl
+rest_after Lifespan facts _ (StartupFailed message) more of at = absurd (cc)
+rest_after Lifespan facts LifespanStarted ShutdownComplete more of at = refl
+rest_after Lifespan facts _ ShutdownComplete more of at = absurd (cc)
+rest_after Lifespan facts LifespanStarted (ShutdownFailed message) more of at = refl
+rest_after Lifespan facts _ (ShutdownFailed message) more of at = absurd (cc)
+rest_after Lifespan facts _ _ more of at = absurd (cc)
 
-begins_behind : (kind : Kind) (facts : Facts) (stage : Stage) (e : Outgoing) (more : List Outgoing) → is_of kind e ≡ true → has_place stage e ≡ true
-    → begins_rest kind stage (e ∷ more) ≡ begins_rest kind (stage_behind facts stage e) more
-begins_behind Http facts Fresh (ResponseStart status headers) more of at = refl
-begins_behind Http facts _ (ResponseStart status headers) more of at = absurd (cc)
-begins_behind Http facts (Begun left) (ResponseBody body true) more of at = sym (or_false _)
-begins_behind Http facts (Begun left) (ResponseBody body false) more of at = refl
-begins_behind Http facts _ (ResponseBody body more_body) more of at = absurd (cc)
-begins_behind Http facts _ _ more of at = absurd (cc)
-begins_behind WebSocket facts Fresh (WsAccept subprotocol headers) more of at = refl
-begins_behind WebSocket facts _ (WsAccept subprotocol headers) more of at = absurd (cc)
-begins_behind WebSocket facts Accepted (WsSend payload) more of at = sym (or_false _)
-begins_behind WebSocket facts _ (WsSend payload) more of at = absurd (cc)
-begins_behind WebSocket facts Fresh (WsClose code reason) more of at = refl
-begins_behind WebSocket facts Accepted (WsClose code reason) more of at = refl
-begins_behind WebSocket facts _ (WsClose code reason) more of at = absurd (cc)
-begins_behind WebSocket facts Fresh (DenialStart status headers) more of at = refl
-begins_behind WebSocket facts _ (DenialStart status headers) more of at = absurd (cc)
-begins_behind WebSocket facts (Begun left) (DenialBody body true) more of at = sym (or_false _)
-begins_behind WebSocket facts (Begun left) (DenialBody body false) more of at = refl
-begins_behind WebSocket facts _ (DenialBody body more_body) more of at = absurd (cc)
-begins_behind WebSocket facts _ _ more of at = absurd (cc)
-begins_behind Lifespan facts Fresh (StartupComplete state) more of at = refl
-begins_behind Lifespan facts _ (StartupComplete state) more of at = absurd (cc)
-begins_behind Lifespan facts Fresh (StartupFailed message) more of at = refl
-begins_behind Lifespan facts _ (StartupFailed message) more of at = absurd (cc)
-begins_behind Lifespan facts Started ShutdownComplete more of at = refl
-begins_behind Lifespan facts _ ShutdownComplete more of at = absurd (cc)
-begins_behind Lifespan facts Started (ShutdownFailed message) more of at = refl
-begins_behind Lifespan facts _ (ShutdownFailed message) more of at = absurd (cc)
-begins_behind Lifespan facts _ _ more of at = absurd (cc)
+begins_after : (kind : Kind) (facts : Facts) (stage : Stage) (e : Outgoing) (more : List Outgoing) → is_of kind e ≡ true → has_place stage e ≡ true
+    → begins_rest kind stage (e ∷ more) ≡ begins_rest kind (stage_after facts stage e) more
+begins_after Http facts Fresh (ResponseStart status headers) more of at = refl
+begins_after Http facts _ (ResponseStart status headers) more of at = absurd (cc)
+begins_after Http facts (ResponseStarted left) (ResponseBody body true) more of at = sym (or_false _)
+begins_after Http facts (ResponseStarted left) (ResponseBody body false) more of at = refl
+begins_after Http facts _ (ResponseBody body more_body) more of at = absurd (cc)
+begins_after Http facts _ _ more of at = absurd (cc)
+begins_after WebSocket facts Fresh (WsAccept subprotocol headers) more of at = refl
+begins_after WebSocket facts _ (WsAccept subprotocol headers) more of at = absurd (cc)
+begins_after WebSocket facts Accepted (WsSend payload) more of at = sym (or_false _)
+begins_after WebSocket facts _ (WsSend payload) more of at = absurd (cc)
+begins_after WebSocket facts Fresh (WsClose code reason) more of at = refl
+begins_after WebSocket facts Accepted (WsClose code reason) more of at = refl
+begins_after WebSocket facts _ (WsClose code reason) more of at = absurd (cc)
+begins_after WebSocket facts Fresh (DenialStart status headers) more of at = refl
+begins_after WebSocket facts _ (DenialStart status headers) more of at = absurd (cc)
+begins_after WebSocket facts (ResponseStarted left) (DenialBody body true) more of at = sym (or_false _)
+begins_after WebSocket facts (ResponseStarted left) (DenialBody body false) more of at = refl
+begins_after WebSocket facts _ (DenialBody body more_body) more of at = absurd (cc)
+begins_after WebSocket facts _ _ more of at = absurd (cc)
+begins_after Lifespan facts Fresh (StartupComplete state) more of at = refl
+begins_after Lifespan facts _ (StartupComplete state) more of at = absurd (cc)
+begins_after Lifespan facts Fresh (StartupFailed message) more of at = refl
+begins_after Lifespan facts _ (StartupFailed message) more of at = absurd (cc)
+begins_after Lifespan facts LifespanStarted ShutdownComplete more of at = refl
+begins_after Lifespan facts _ ShutdownComplete more of at = absurd (cc)
+begins_after Lifespan facts LifespanStarted (ShutdownFailed message) more of at = refl
+begins_after Lifespan facts _ (ShutdownFailed message) more of at = absurd (cc)
+begins_after Lifespan facts _ _ more of at = absurd (cc)
 
--- the bytes behind an event
+-- the bytes after an event
 never : (b : Bool) → (if b then None else (let o : Option ℕ = None in o)) ≡ None
 never true = refl
 never false = refl
@@ -208,7 +208,7 @@ body_bytes-append (ResponseBody body more ∷ xs) ys = omega (arith, body_bytes-
 body_bytes-append (DenialBody body more ∷ xs) ys = omega (arith, body_bytes-append xs ys)
 body_bytes-append (_ ∷ xs) ys = body_bytes-append xs ys
 
-first_counts : (facts : Facts) (said : List Outgoing) (e : Outgoing) → said ≡ [] → body_bytes (e ∷ []) ≡ 0 → CountsBytes facts (Begun (promised_length facts (e ∷ []))) (said ++ e ∷ [])
+first_counts : (facts : Facts) (said : List Outgoing) (e : Outgoing) → said ≡ [] → body_bytes (e ∷ []) ≡ 0 → CountsBytes facts (ResponseStarted (promised_length facts (e ∷ []))) (said ++ e ∷ [])
 first_counts facts said e none no_bytes = (
   e,
   [],
@@ -217,60 +217,60 @@ first_counts facts said e none no_bytes = (
       ∙ ap (λ (sum : ℕ). with_sent sum (promised_length facts (e ∷ []))) (sym no_bytes ∙ ap (λ (s : List Outgoing). body_bytes (s ++ e ∷ [])) (sym none)),
 )
 
-body_counts : (facts : Facts) (said : List Outgoing) (e : Outgoing) (left : Option ℕ) (size : ℕ) → CountsBytes facts (Begun left) said → body_bytes (e ∷ []) ≡ size → is_above size left ≡ false
-    → CountsBytes facts (Begun (left_behind left size)) (said ++ e ∷ [])
+body_counts : (facts : Facts) (said : List Outgoing) (e : Outgoing) (left : Option ℕ) (size : ℕ) → CountsBytes facts (ResponseStarted left) said → body_bytes (e ∷ []) ≡ size → is_above size left ≡ false
+    → CountsBytes facts (ResponseStarted (left_after left size)) (said ++ e ∷ [])
 body_counts facts said e left size counts bytes fits = (
   counts.0,
   counts.1 ++ e ∷ [],
   ap (λ (s : List Outgoing). s ++ e ∷ []) counts.2,
   ap (λ (s : List Outgoing). promised_length facts (s ++ e ∷ [])) counts.2 ∙ ap (promised_length facts) (sym counts.2) ∙ counts.3
       ∙ counts_down (body_bytes said) size left fits
-      ∙ ap (λ (sum : ℕ). with_sent sum (left_behind left size)) (ap (λ (b : ℕ). body_bytes said + b) (sym bytes) ∙ sym (body_bytes-append said (e ∷ []))),
+      ∙ ap (λ (sum : ℕ). with_sent sum (left_after left size)) (ap (λ (b : ℕ). body_bytes said + b) (sym bytes) ∙ sym (body_bytes-append said (e ∷ []))),
 )
 
-counts_behind : (kind : Kind) (facts : Facts) (stage : Stage) (said : List Outgoing) (e : Outgoing) → is_of kind e ≡ true → has_place stage e ≡ true
-    → takes_too_much stage e ≡ false → CountsBytes facts stage said → CountsBytes facts (stage_behind facts stage e) (said ++ e ∷ [])
-counts_behind kind facts Fresh said (ResponseStart status headers) of at fits counts = first_counts facts said (ResponseStart status headers) counts refl
-counts_behind kind facts _ said (ResponseStart status headers) of at fits counts = absurd (cc)
-counts_behind kind facts (Begun left) said (ResponseBody body true) of at fits counts = body_counts facts said (ResponseBody body true) left (length body) counts (add-zero (length body)) fits
-counts_behind kind facts (Begun left) said (ResponseBody body false) of at fits counts = tt
-counts_behind kind facts _ said (ResponseBody body more) of at fits counts = absurd (cc)
-counts_behind kind facts Fresh said (WsAccept subprotocol headers) of at fits counts = (
+counts_after : (kind : Kind) (facts : Facts) (stage : Stage) (said : List Outgoing) (e : Outgoing) → is_of kind e ≡ true → has_place stage e ≡ true
+    → takes_too_much stage e ≡ false → CountsBytes facts stage said → CountsBytes facts (stage_after facts stage e) (said ++ e ∷ [])
+counts_after kind facts Fresh said (ResponseStart status headers) of at fits counts = first_counts facts said (ResponseStart status headers) counts refl
+counts_after kind facts _ said (ResponseStart status headers) of at fits counts = absurd (cc)
+counts_after kind facts (ResponseStarted left) said (ResponseBody body true) of at fits counts = body_counts facts said (ResponseBody body true) left (length body) counts (add-zero (length body)) fits
+counts_after kind facts (ResponseStarted left) said (ResponseBody body false) of at fits counts = tt
+counts_after kind facts _ said (ResponseBody body more) of at fits counts = absurd (cc)
+counts_after kind facts Fresh said (WsAccept subprotocol headers) of at fits counts = (
   WsAccept subprotocol headers,
   [],
   ap (λ (s : List Outgoing). s ++ WsAccept subprotocol headers ∷ []) counts,
   ap (λ (s : List Outgoing). promised_length facts (s ++ WsAccept subprotocol headers ∷ [])) counts ∙ never facts.head_only,
 )
-counts_behind kind facts _ said (WsAccept subprotocol headers) of at fits counts = absurd (cc)
-counts_behind kind facts Accepted said (WsSend payload) of at fits counts = (
+counts_after kind facts _ said (WsAccept subprotocol headers) of at fits counts = absurd (cc)
+counts_after kind facts Accepted said (WsSend payload) of at fits counts = (
   counts.0,
   counts.1 ++ WsSend payload ∷ [],
   ap (λ (s : List Outgoing). s ++ WsSend payload ∷ []) counts.2,
   ap (λ (s : List Outgoing). promised_length facts (s ++ WsSend payload ∷ [])) counts.2 ∙ ap (promised_length facts) (sym counts.2) ∙ counts.3,
 )
-counts_behind kind facts _ said (WsSend payload) of at fits counts = absurd (cc)
-counts_behind kind facts stage said (WsClose code reason) of at fits counts = tt
-counts_behind kind facts Fresh said (DenialStart status headers) of at fits counts = first_counts facts said (DenialStart status headers) counts refl
-counts_behind kind facts _ said (DenialStart status headers) of at fits counts = absurd (cc)
-counts_behind kind facts (Begun left) said (DenialBody body true) of at fits counts = body_counts facts said (DenialBody body true) left (length body) counts (add-zero (length body)) fits
-counts_behind kind facts (Begun left) said (DenialBody body false) of at fits counts = tt
-counts_behind kind facts _ said (DenialBody body more) of at fits counts = absurd (cc)
-counts_behind kind facts Fresh said (StartupComplete state) of at fits counts = (
+counts_after kind facts _ said (WsSend payload) of at fits counts = absurd (cc)
+counts_after kind facts stage said (WsClose code reason) of at fits counts = tt
+counts_after kind facts Fresh said (DenialStart status headers) of at fits counts = first_counts facts said (DenialStart status headers) counts refl
+counts_after kind facts _ said (DenialStart status headers) of at fits counts = absurd (cc)
+counts_after kind facts (ResponseStarted left) said (DenialBody body true) of at fits counts = body_counts facts said (DenialBody body true) left (length body) counts (add-zero (length body)) fits
+counts_after kind facts (ResponseStarted left) said (DenialBody body false) of at fits counts = tt
+counts_after kind facts _ said (DenialBody body more) of at fits counts = absurd (cc)
+counts_after kind facts Fresh said (StartupComplete state) of at fits counts = (
   StartupComplete state,
   [],
   ap (λ (s : List Outgoing). s ++ StartupComplete state ∷ []) counts,
   ap (λ (s : List Outgoing). promised_length facts (s ++ StartupComplete state ∷ [])) counts ∙ never facts.head_only,
 )
-counts_behind kind facts _ said (StartupComplete state) of at fits counts = absurd (cc)
-counts_behind kind facts stage said (StartupFailed message) of at fits counts = tt
-counts_behind kind facts stage said ShutdownComplete of at fits counts = tt
-counts_behind kind facts stage said (ShutdownFailed message) of at fits counts = tt
+counts_after kind facts _ said (StartupComplete state) of at fits counts = absurd (cc)
+counts_after kind facts stage said (StartupFailed message) of at fits counts = tt
+counts_after kind facts stage said ShutdownComplete of at fits counts = tt
+counts_after kind facts stage said (ShutdownFailed message) of at fits counts = tt
 
--- the judge behind an event that passed
-pub stands_behind : (judge : Judge) (kind : Kind) (facts : Facts) (said : List Outgoing) (heard : Bool) (e : Outgoing) → StandsFor judge kind facts said heard
+-- the judge after an event that passed
+pub stands_after : (judge : Judge) (kind : Kind) (facts : Facts) (said : List Outgoing) (heard : Bool) (e : Outgoing) → StandsFor judge kind facts said heard
     → first_line judge.kind (lines_at judge facts e) ≡ Pass
-    → StandsFor (record judge { stage = stage_behind facts judge.stage e }) kind facts (said ++ e ∷ []) heard
-stands_behind judge kind facts said heard e s pass =
+    → StandsFor (record judge { stage = stage_after facts judge.stage e }) kind facts (said ++ e ∷ []) heard
+stands_after judge kind facts said heard e s pass =
     let n = no_line judge.kind (lines_at judge facts e) pass in
     let p = passes kind facts said heard e (sym (verdict_agrees judge kind facts said heard e s) ∙ pass) in
     let place = not_false (has_place judge.stage e) n.out_of_order in
@@ -278,14 +278,14 @@ stands_behind judge kind facts said heard e s pass =
       kind_is = s.kind_is;
       heard_is = s.heard_is;
       lawful = lawful_more kind facts said e s.lawful p;
-      rest = λ more. ap (is_word kind) (append_assoc said (e ∷ []) more) ∙ s.rest (e ∷ more) ∙ rest_behind kind facts judge.stage e more p.of place;
-      begins = λ more. ap (begins_word kind) (append_assoc said (e ∷ []) more) ∙ s.begins (e ∷ more) ∙ begins_behind kind facts judge.stage e more p.of place;
-      counts = counts_behind kind facts judge.stage said e p.of place n.too_much_body s.counts;
+      rest = λ more. ap (is_word kind) (append_assoc said (e ∷ []) more) ∙ s.rest (e ∷ more) ∙ rest_after kind facts judge.stage e more p.of place;
+      begins = λ more. ap (begins_word kind) (append_assoc said (e ∷ []) more) ∙ s.begins (e ∷ more) ∙ begins_after kind facts judge.stage e more p.of place;
+      counts = counts_after kind facts judge.stage said e p.of place n.too_much_body s.counts;
     }
 
-pub stands_with : (judge : Judge) (stage : Stage) (kind : Kind) (facts : Facts) (said : List Outgoing) (heard : Bool) (e : Outgoing) (verdict : Verdict) → stage ≡ stage_behind facts judge.stage e
+pub stands_with : (judge : Judge) (stage : Stage) (kind : Kind) (facts : Facts) (said : List Outgoing) (heard : Bool) (e : Outgoing) (verdict : Verdict) → stage ≡ stage_after facts judge.stage e
     → verdict ≡ first_line judge.kind (lines_at judge facts e) → verdict ≡ Pass → StandsFor judge kind facts said heard
     → StandsFor (record judge { stage = stage }) kind facts (said ++ e ∷ []) heard
 stands_with judge stage kind facts said heard e verdict moved tested pass s =
     subst (λ (st : Stage). StandsFor (record judge { stage = st }) kind facts (said ++ e ∷ []) heard) (sym moved)
-    (stands_behind judge kind facts said heard e s (sym tested ∙ pass))
+    (stands_after judge kind facts said heard e s (sym tested ∙ pass))

@@ -1,4 +1,4 @@
--- A list is lawful exactly where each of its events passes in turn; so are its fronts, and nothing passes behind a closed one.
+-- A list is lawful exactly if each of its events passes in turn; so are its prefixes, and nothing passes after a closed one.
 use Rattle.std.proofs.Common.{◌≡◌, Bool, true, false, List, [], ◌∷◌, ◌++◌, refl, ap, sym, ◌∙◌, append_assoc, append-nil}
 use Rattle.asgi_types.specs.declared.scope.Kind.{Kind}
 use Rattle.asgi_types.specs.declared.scope.Kind.TheVariants.{Http, WebSocket, Lifespan}
@@ -7,7 +7,7 @@ use Rattle.asgi_types.specs.declared.outgoing.Outgoing.{Outgoing}
 use Rattle.asgi_protocol.specs.declared.verdict.Verdict.{Verdict}
 use Rattle.asgi_protocol.specs.declared.verdict.Verdict.TheVariants.{Pass, Ignored, Refused}
 use Rattle.asgi_protocol.specs.Lawful.{IsLawful, IsClosed}
-use Rattle.asgi_protocol.specs.Laws.{LawfulListsAreDecided, FrontsAreLawful, NothingPassesBehindClosed}
+use Rattle.asgi_protocol.specs.Laws.{LawfulListsAreDecided, FrontsAreLawful, NothingPassesAfterClosed}
 use Rattle.asgi_protocol.specs.Passing.{is_pass, passes, each_passes, is_lawful}
 use Rattle.asgi_protocol.specs.Verdicts.{verdict_on, verdict_on_closed}
 use Rattle.asgi_protocol.proofs.LawLemmas.{begins_front, lawful_where_each_passes}
@@ -22,7 +22,7 @@ is_passed (Refused n) h = absurd (cc)
 
 -- ---- lists of which each event passes
 
--- the event behind these passed
+-- the event after these passed
 pub each_next : (p : List Outgoing → Outgoing → Bool) (before front after : List Outgoing) (event : Outgoing)
     → each_passes p before (front ++ event ∷ after) ≡ true → p (before ++ front) event ≡ true
 each_next p before [] after event h =
@@ -40,7 +40,7 @@ each_more p before (x ∷ events) event h i =
     both_true (p before x) (each_passes p (before ++ x ∷ []) (events ++ event ∷ [])) q.0
     (each_more p (before ++ x ∷ []) events event q.1 (ap (λ (l : List Outgoing). p l event) (append_assoc before (x ∷ []) events) ∙ i))
 
--- where the event of each split passes, all pass in turn
+-- if the event of each split passes, all pass in turn
 pub each_of_splits : (p : List Outgoing → Outgoing → Bool) (before events : List Outgoing)
     → ((front after : List Outgoing) (event : Outgoing) → events ≡ front ++ event ∷ after → p (before ++ front) event ≡ true)
     → each_passes p before events ≡ true
@@ -69,25 +69,25 @@ pub lawful_lists_are_decided : LawfulListsAreDecided
 lawful_lists_are_decided kind facts events = (lawful_from_test kind facts events, test_of_lawful kind facts events)
 
 pub fronts_are_lawful : FrontsAreLawful
-fronts_are_lawful kind facts front behind lawful = record {
-  begins = begins_front kind front behind lawful.begins;
+fronts_are_lawful kind facts front later lawful = record {
+  begins = begins_front kind front later lawful.begins;
   each = λ before after event split.
-      lawful.each before (after ++ behind) event (ap (λ (l : List Outgoing). l ++ behind) split ∙ append_assoc before (event ∷ after) behind);
+      lawful.each before (after ++ later) event (ap (λ (l : List Outgoing). l ++ later) split ∙ append_assoc before (event ∷ after) later);
 }
 
--- ---- behind a closed list
+-- ---- after a closed list
 
-verdict_behind : (kind : Kind) (facts : Facts) (said : List Outgoing) (heard : Bool) (event : Outgoing) → IsClosed kind said
+verdict_after : (kind : Kind) (facts : Facts) (said : List Outgoing) (heard : Bool) (event : Outgoing) → IsClosed kind said
     → verdict_on kind facts said heard event ≡ verdict_on_closed kind
-verdict_behind kind facts said heard event closed = rw (test_of_word kind said closed) refl
+verdict_after kind facts said heard event closed = rw (test_of_word kind said closed) refl
 
 no_pass : (kind : Kind) → is_pass (verdict_on_closed kind) ≡ false
 no_pass Http = refl
 no_pass WebSocket = refl
 no_pass Lifespan = refl
 
-pub nothing_passes : NothingPassesBehindClosed
+pub nothing_passes : NothingPassesAfterClosed
 nothing_passes = record {
-  verdict = verdict_behind;
-  none = λ kind facts said event closed. ap is_pass (verdict_behind kind facts said false event closed) ∙ no_pass kind;
+  verdict = verdict_after;
+  none = λ kind facts said event closed. ap is_pass (verdict_after kind facts said false event closed) ∙ no_pass kind;
 }

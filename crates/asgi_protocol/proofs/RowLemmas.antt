@@ -1,4 +1,4 @@
--- A row has the shape that its test says: some of one sort, and one of another.
+-- A row has the shape that its test checks: some of one sort, and one of another.
 use Rattle.std.proofs.Common.{◌≡◌, Bool, true, false, ◌⊎◌, inl, inr, List, [], ◌∷◌, ◌++◌, refl}
 use Rattle.std.specs.Prelude.{map, ◌&&◌, ◌||◌}
 use Rattle.asgi_types.specs.declared.outgoing.Outgoing.{Outgoing}

@@ -67,7 +67,7 @@ stop_answer_test : (e : Outgoing) → (e ≡ ShutdownComplete) ⊎ ((message : L
 stop_answer_test e (inl p) = rw p refl
 stop_answer_test e (inr (message, p)) = rw p refl
 
--- what a test says of the first event's rest
+-- what a test checks of the first event's rest
 response_from : (status : ℕ) (es : List Outgoing) → (headers : _) → Row is_part is_last_part (λ (part : List ℕ). ResponseBody part true) (λ (last : List ℕ). ResponseBody last false) es → IsResponse (ResponseStart status headers ∷ es)
 response_from status es headers row = record {
   status = status;

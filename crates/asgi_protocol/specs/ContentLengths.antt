@@ -1,4 +1,4 @@
--- The length that a response gives of its content (RFC 9110, section 8.6).
+-- The length that a response gives for its content (RFC 9110, section 8.6).
 use Rattle.std.specs.Prelude.{ℕ, List, [], ◌∷◌, Option, Some, None, if◌then◌else◌, codes, bytes_eq}
 use Rattle.asgi_types.specs.Fields.{HeaderField}
 use Rattle.asgi_types.specs.Lengths.{length_of_text}

@@ -42,7 +42,7 @@ pub record IsDenial (events : List Outgoing) : Type 0 where
   pub last : List ℕ
   pub in_order : events ≡ DenialStart status headers ∷ map (λ part. DenialBody part true) parts ++ DenialBody last false ∷ []
 
--- Lifespan: "Startup Complete", and an answer to the shutdown
+-- Lifespan: "Startup Complete", and a reply to the shutdown
 pub record IsService (events : List Outgoing) : Type 0 where
   pub state : List (List ℕ × StateValue)
   pub answer : Outgoing
@@ -54,7 +54,7 @@ pub record IsFailedStart (events : List Outgoing) : Type 0 where
   pub message : List ℕ
   pub in_order : events ≡ StartupFailed message ∷ []
 
--- a whole word: all that an application says in a scope of this kind
+-- a whole word: all that an application sends in a scope of this kind
 abbrev pub IsWord : Kind → List Outgoing → Type 0
 IsWord Http events = IsResponse events
 IsWord WebSocket events = IsSession events ⊎ IsRejection events ⊎ IsDenial events

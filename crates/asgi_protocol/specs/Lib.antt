@@ -7,5 +7,5 @@ pub mod Passing
 pub mod Rules
 pub mod Shapes
 pub mod Stages
-pub mod Steps
+pub mod private
 pub mod Verdicts

@@ -1,4 +1,4 @@
--- Which events pass behind others, and which lists are lawful, as tests that compute. That `is_lawful` agrees with the
+-- Which events pass after others, and which lists are lawful, as tests that compute. That `is_lawful` agrees with the
 -- shapes of `Lawful` is a law of this crate.
 use Rattle.std.specs.Prelude.{Bool, true, false, ◌&&◌, List, [], ◌∷◌, ◌++◌}
 use Rattle.asgi_types.specs.declared.scope.Kind.{Kind}
@@ -13,14 +13,14 @@ is_pass Pass = true
 is_pass Ignored = false
 is_pass (Refused number) = false
 
--- the event passes behind these, with no disconnect heard
+-- the event passes after these, with no disconnect received
 abbrev pub passes : Kind → Facts → List Outgoing → Outgoing → Bool
 passes kind facts said event = is_pass (verdict_on kind facts said false event)
 
--- each of the events passes behind those before it
+-- each of the events passes after those before it
 abbrev pub each_passes : (List Outgoing → Outgoing → Bool) → (before : List Outgoing) → List Outgoing → Bool
-each_passes passes_behind before [] = true
-each_passes passes_behind before (event ∷ events) = passes_behind before event && each_passes passes_behind (before ++ event ∷ []) events
+each_passes passes_after before [] = true
+each_passes passes_after before (event ∷ events) = passes_after before event && each_passes passes_after (before ++ event ∷ []) events
 
 -- the list is lawful
 abbrev pub is_lawful : Kind → Facts → List Outgoing → Bool

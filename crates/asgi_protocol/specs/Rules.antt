@@ -1,4 +1,4 @@
--- What an event must meet at its place, its order aside.
+-- The rules that an event must meet at its place, apart from its order.
 use Rattle.std.specs.Prelude.{◌≡◌, ℕ, ◌+◌, Bool, true, false, not, ◌&&◌, ◌||◌, ◌==◌, nat_le, nat_lt, List, [], ◌∷◌, length, Option, Some, None, if◌then◌else◌, codes, bytes_eq}
 use Rattle.std.specs.List.{list_any}
 use Rattle.asgi_types.specs.Fields.{HeaderField}
@@ -18,8 +18,8 @@ is_status status = nat_le 200 status && nat_le status 599
 abbrev pub is_close_code : ℕ → Bool
 is_close_code code = (nat_le 1000 code && nat_le code 1003) || (nat_le 1007 code && nat_le code 1011) || (nat_le 3000 code && nat_le code 4999)
 
--- the fields of the opening handshake that the server writes itself (RFC 6455, section 4.2.2), and
--- those that delimit a content; names are in lower case, as `Headers` keeps them
+-- the fields of the opening handshake that the server writes itself (RFC 6455, section 4.2.2), and those that delimit content;
+-- names are in lower case, as `Headers` keeps them
 abbrev pub is_handshake_name : List ℕ → Bool
 is_handshake_name name =
     bytes_eq name (codes "sec-websocket-protocol") || bytes_eq name (codes "sec-websocket-accept")
@@ -73,11 +73,11 @@ given_length (Given n) = Some n
 given_length Faulty = None
 given_length Absent = None
 
--- a response of the status has no content (RFC 9110, sections 15.3.5 and 15.4.5)
+-- a response with the status has no content (RFC 9110, sections 15.3.5 and 15.4.5)
 abbrev pub has_no_content : ℕ → Bool
 has_no_content status = status == 204 || status == 304
 
--- the length that a start of the status promises, by what its content-length says
+-- the length that a start with the status promises, by its content-length
 abbrev pub promised_at : ℕ → ContentLength → Option ℕ
 promised_at status length = if has_no_content status then None else given_length length
 
@@ -89,8 +89,7 @@ length_given_by (ResponseStart status headers) = length_given_in status headers
 length_given_by (DenialStart status headers) = length_given_in status headers
 length_given_by _ = None
 
--- how many bytes the bodies behind these events must have; any number in an answer to HEAD
--- (RFC 9110, sections 8.6 and 9.3.2)
+-- how many bytes the bodies after these events must have; any number in a response to HEAD (RFC 9110, sections 8.6 and 9.3.2)
 abbrev pub promised_length : Facts → List Outgoing → Option ℕ
 promised_length facts [] = None
 promised_length facts (start ∷ bodies) = if facts.head_only then None else length_given_by start
@@ -114,7 +113,7 @@ has_too_little_body facts before (ResponseBody body more_body) = not more_body &
 has_too_little_body facts before (DenialBody body more_body) = not more_body && is_below (body_bytes before + length body) (promised_length facts before)
 has_too_little_body facts before _ = false
 
--- the event behind the events before it meets each rule
+-- the event, after those before it, meets each rule
 pub record MeetsRules (facts : Facts) (before : List Outgoing) (event : Outgoing) : Type 0 where
   pub status : has_bad_status event ≡ false
   pub header : has_bad_header event ≡ false

@@ -24,12 +24,12 @@ abbrev pub is_empty : List Outgoing → Bool
 is_empty [] = true
 is_empty (event ∷ events) = false
 
--- events of one sort, and then one of another
+-- events of one sort, and then one event of another
 abbrev pub is_row : (Outgoing → Bool) → (Outgoing → Bool) → List Outgoing → Bool
 is_row each last [] = false
 is_row each last (event ∷ events) = (each event && is_row each last events) || (last event && is_empty events)
 
--- the beginning of that
+-- the beginning of such a row
 abbrev pub begins_row : (Outgoing → Bool) → (Outgoing → Bool) → List Outgoing → Bool
 begins_row each last [] = true
 begins_row each last (event ∷ events) = (each event && begins_row each last events) || (last event && is_empty events)
@@ -92,6 +92,6 @@ begins_word _ _ = false
 abbrev pub is_closed : Kind → List Outgoing → Bool
 is_closed kind said = is_word kind said
 
--- a word has such an event here
+-- a word may go on with the event
 abbrev pub goes_on : Kind → List Outgoing → Outgoing → Bool
 goes_on kind said event = begins_word kind (said ++ event ∷ [])

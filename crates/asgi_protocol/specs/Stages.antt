@@ -1,12 +1,12 @@
--- Which lists of events a judge stands for: `StandsFor`, which the clauses of `Judge` name. The other words here say what
--- it keeps, and are those of private functions.
+-- Which lists of events a judge stands for: `StandsFor`, which the clauses of `Judge` name. The other words here are those of
+-- private functions, and describe what a judge keeps.
 use Rattle.std.specs.Prelude.{◌≡◌, Bool, false, List, [], ◌∷◌, ◌++◌, None}
 use Rattle.asgi_types.specs.declared.scope.Kind.{Kind}
 use Rattle.asgi_types.specs.declared.scope.Kind.TheVariants.{Http, WebSocket, Lifespan}
 use Rattle.asgi_types.specs.declared.facts.Facts.{Facts}
 use Rattle.asgi_types.specs.declared.outgoing.Outgoing.{Outgoing}
 use Rattle.asgi_protocol.specs.declared.judge.Stage.{Stage}
-use Rattle.asgi_protocol.specs.declared.judge.Stage.TheVariants.{Fresh, Begun, Accepted, Started, Ended}
+use Rattle.asgi_protocol.specs.declared.judge.Stage.TheVariants.{Fresh, ResponseStarted, Accepted, LifespanStarted, Ended}
 use Rattle.asgi_protocol.specs.declared.judge.Judge.{Judge}
 use Rattle.asgi_protocol.specs.BytesLeft.{with_sent}
 use Rattle.asgi_protocol.specs.Lawful.{IsLawful}
@@ -24,34 +24,34 @@ is_last_part_in Http event = is_last_part event
 is_last_part_in WebSocket event = is_last_denial_part event
 is_last_part_in Lifespan event = false
 
--- what makes a word whole from a stage on
+-- what completes a word from a stage on
 abbrev pub is_rest : Kind → Stage → List Outgoing → Bool
 is_rest kind Fresh events = is_word kind events
-is_rest kind (Begun left) events = is_row (is_part_in kind) (is_last_part_in kind) events
+is_rest kind (ResponseStarted left) events = is_row (is_part_in kind) (is_last_part_in kind) events
 is_rest kind Accepted events = is_row is_message is_close events
-is_rest kind Started events = is_row no_event is_stop_answer events
+is_rest kind LifespanStarted events = is_row no_event is_stop_answer events
 is_rest kind Ended events = is_empty events
 
 -- what may follow a stage
 abbrev pub begins_rest : Kind → Stage → List Outgoing → Bool
 begins_rest kind Fresh events = begins_word kind events
-begins_rest kind (Begun left) events = begins_row (is_part_in kind) (is_last_part_in kind) events
+begins_rest kind (ResponseStarted left) events = begins_row (is_part_in kind) (is_last_part_in kind) events
 begins_rest kind Accepted events = begins_row is_message is_close events
-begins_rest kind Started events = begins_row no_event is_stop_answer events
+begins_rest kind LifespanStarted events = begins_row no_event is_stop_answer events
 begins_rest kind Ended events = is_empty events
 
 -- the stage counts the bytes that are left of the promised ones
 abbrev pub CountsBytes : Facts → Stage → List Outgoing → Type 0
 CountsBytes facts Fresh said = said ≡ []
-CountsBytes facts (Begun left) said =
+CountsBytes facts (ResponseStarted left) said =
     (start : Outgoing) × (bodies : List Outgoing) × (said ≡ start ∷ bodies)
     × (promised_length facts said ≡ with_sent (body_bytes said) left)
 CountsBytes facts Accepted said = (start : Outgoing) × (sent : List Outgoing) × (said ≡ start ∷ sent) × (promised_length facts said ≡ None)
-CountsBytes facts Started said = (start : Outgoing) × (sent : List Outgoing) × (said ≡ start ∷ sent) × (promised_length facts said ≡ None)
+CountsBytes facts LifespanStarted said = (start : Outgoing) × (sent : List Outgoing) × (said ≡ start ∷ sent) × (promised_length facts said ≡ None)
 CountsBytes facts Ended said = Unit {0}
 
--- The judge stands for a lawful list of events that were said in a scope of this kind, whose
--- request has these facts, with or without a heard disconnect.
+-- The judge stands for a lawful list of events that were sent in a scope of this kind, whose request has these facts, with or
+-- without a received disconnect.
 pub record StandsFor (judge : Judge) (kind : Kind) (facts : Facts) (said : List Outgoing) (heard : Bool) : Type 0 where
   pub kind_is : judge.kind ≡ kind
   pub heard_is : judge.disconnected ≡ heard

@@ -1,4 +1,4 @@
--- The verdict on an event behind others: the first line of the table that holds.
+-- The verdict on an event after others: the first line of the table that holds.
 use Rattle.std.specs.Prelude.{Bool, true, false, not, List, if◌then◌else◌}
 use Rattle.asgi_types.specs.declared.scope.Kind.{Kind}
 use Rattle.asgi_types.specs.declared.scope.Kind.TheVariants.{Http, WebSocket, Lifespan}
@@ -28,7 +28,7 @@ pub record Lines : Type 0 where
   pub too_much_body : Bool
   pub too_little_body : Bool
 
--- what each line says of an event behind these, with or without a heard disconnect
+-- whether each line holds of an event after these, with or without a received disconnect
 abbrev pub lines_on : Kind → Facts → List Outgoing → Bool → Outgoing → Lines
 lines_on kind facts said heard event = record {
   closed = is_closed kind said;
@@ -47,7 +47,7 @@ lines_on kind facts said heard event = record {
 abbrev pub refused : Violation → Verdict
 refused reason = Refused (number_of reason)
 
--- behind a whole response a server ignores what is sent (ASGI, Response Body)
+-- after a whole response a server ignores what is sent (ASGI, Response Body)
 abbrev pub verdict_on_closed : Kind → Verdict
 verdict_on_closed Http = Ignored
 verdict_on_closed WebSocket = refused why.Closed

@@ -1,9 +1,9 @@
-//! The bytes that a response still owes of the length that it gave.
+//! The bytes that a response still has to send of its content-length.
 ghost use Rattle.std.specs.Prelude.{◌≡◌, ℕ, Option};
 
 use std::marker::Model;
 
-/// The bytes that content-length promises and that are not there yet, or any number of them
+/// The bytes that content-length promises and that are not sent yet, or any number of them
 /// (RFC 9110, section 8.6).
 #[derive(Clone, Copy, Debug, PartialEq, Eq)]
 pub struct BytesLeft {
@@ -19,7 +19,7 @@ impl Model for BytesLeft {
 }
 
 impl BytesLeft {
-    ghost use Rattle.asgi_protocol.specs.BytesLeft.{is_above, is_below, left_behind};
+    ghost use Rattle.asgi_protocol.specs.BytesLeft.{is_above, is_below, left_after};
 
     /// All of the promised bytes; `None` for any number.
     pub fn of(promised: Option<u64>) -> Self
@@ -28,7 +28,7 @@ impl BytesLeft {
         BytesLeft { count: promised }
     }
 
-    /// Whether a body of so many bytes goes past them.
+    /// Whether a body of this many bytes goes past them.
     pub fn is_exceeded_by(self, len: usize) -> bool
         ensures { result ≡ is_above len self }
     {
@@ -38,7 +38,7 @@ impl BytesLeft {
         }
     }
 
-    /// Whether a last body of so many bytes falls short of them.
+    /// Whether a last body of this many bytes falls short of them.
     pub fn exceeds(self, len: usize) -> bool
         ensures { result ≡ is_below len self }
     {
@@ -48,9 +48,9 @@ impl BytesLeft {
         }
     }
 
-    /// What is left behind a body of so many bytes; 0 where it goes past them.
-    pub fn behind(self, len: usize) -> Self
-        ensures { result ≡ left_behind self len }
+    /// What is left after a body of this many bytes; 0 if the body goes past them.
+    pub fn after(self, len: usize) -> Self
+        ensures { result ≡ left_after self len }
     {
         match self.count {
             Some(count) => BytesLeft::of(Some(count.saturating_sub(len as u64))),

@@ -1,4 +1,4 @@
-//! The length that a response gives of its content.
+//! The length that a response gives for its content.
 ghost use Rattle.std.specs.Prelude.{◌≡◌};
 
 use crate::rules::has_no_content;
@@ -6,14 +6,14 @@ use asgi_types::{Headers, parse_length};
 
 pub(crate) const CONTENT_LENGTH: &[u8] = b"content-length";
 
-/// What the content-length fields of a start say (RFC 9110, section 8.6).
+/// What the content-length fields of a start give (RFC 9110, section 8.6).
 #[derive(Clone, Copy, Debug, PartialEq, Eq)]
 pub enum ContentLength {
-    /// There is none.
+    /// There is no such field.
     Absent,
-    /// There is one, and it is a number of bytes in 1 to 19 digits.
+    /// There is one, and its value is a number of bytes in 1 to 19 digits.
     Given(u64),
-    /// There is more than one, or one that is no such number.
+    /// There is more than one, or one whose value is no such number.
     Faulty,
 }
 
@@ -21,7 +21,7 @@ impl ContentLength {
     ghost use Rattle.asgi_protocol.specs.ContentLengths.{content_length};
     ghost use Rattle.asgi_protocol.specs.Rules as rules;
 
-    /// What the fields say. Only those count whose name is `content-length`.
+    /// What the fields give. Only fields named `content-length` count.
     pub fn of(headers: &Headers) -> Self
         ensures { result ≡ content_length headers.now }
     {
@@ -63,8 +63,8 @@ impl ContentLength {
         }
     }
 
-    /// How many bytes the bodies behind a start of this status must have; `None` for any number, as
-    /// at 204 and 304 (RFC 9110, sections 15.3.5 and 15.4.5).
+    /// How many bytes the bodies after a start with this status must have; `None` for any number,
+    /// as for 204 and 304 (RFC 9110, sections 15.3.5 and 15.4.5).
     pub fn promised_at(self, status: u16) -> Option<u64>
         ensures { result ≡ rules.promised_at status self }
     {

@@ -4,7 +4,7 @@ ghost use Rattle.asgi_types.specs.declared.scope.Kind.{Kind};
 ghost use Rattle.asgi_types.specs.declared.facts.Facts.{Facts};
 ghost use Rattle.asgi_types.specs.declared.outgoing.Outgoing.{Outgoing};
 ghost use Rattle.asgi_protocol.specs.Stages.{StandsFor};
-ghost use Rattle.asgi_protocol.specs.Steps.{lines_at, stage_behind, behind_body as behind_body_of, bytes_left as left_of, has_place as has_place_for, takes_too_much as is_too_much, leaves_too_much as is_too_little};
+ghost use Rattle.asgi_protocol.specs.private.Steps.{lines_at, stage_after, after_body as after_body_of, bytes_left as left_of, has_place as has_place_for, takes_too_much as is_too_much, leaves_too_much as is_too_little};
 ghost use Rattle.asgi_protocol.specs.Shapes.{is_of as is_event_of};
 ghost use Rattle.asgi_protocol.specs.Verdicts.{verdict_on, first_line, verdict_on_closed, is_disconnect as is_disconnect_event};
 
@@ -15,23 +15,23 @@ use crate::rules::{
 use crate::{BytesLeft, Verdict, Violation};
 use asgi_types::{Facts, Incoming, Kind, Octets, Outgoing};
 
-/// How far the conversation is.
+/// How far the conversation has come.
 #[derive(Clone, Copy, Debug)]
 enum Stage {
-    /// Nothing was said.
+    /// Nothing was sent.
     Fresh,
-    /// A response or a denial has begun, and its bodies are counted.
-    Begun { left: BytesLeft },
+    /// A response or a denial has started, and its bodies are counted.
+    ResponseStarted { left: BytesLeft },
     /// The session was accepted.
     Accepted,
     /// The startup is complete.
-    Started,
-    /// All was said.
+    LifespanStarted,
+    /// All was sent.
     Ended,
 }
 
-/// Passes the events that go on lawfully with those that it passed before (ASGI HTTP and WebSocket
-/// message format 2.4, lifespan protocol 2.0). It takes no memory.
+/// Passes an event if it may lawfully follow those passed before (ASGI HTTP and WebSocket message
+/// format 2.4, lifespan protocol 2.0). It takes no memory.
 #[derive(Clone, Copy, Debug)]
 pub struct Judge {
     kind: Kind,
@@ -40,7 +40,8 @@ pub struct Judge {
 }
 
 impl Judge {
-    /// A judge for one scope of this kind, in which nothing was said and no disconnect was heard.
+    /// A judge for one scope of this kind, in which nothing was sent and no disconnect was
+    /// received.
     pub fn new(kind: Kind) -> Self
         ensures { (facts : Facts) → StandsFor result kind facts [] false }
     {
@@ -51,8 +52,8 @@ impl Judge {
         }
     }
 
-    /// The verdict on the event, which is not said by this. The facts are those of the request that
-    /// the scope is of, the same at each call.
+    /// The verdict on the event, which is not sent by this call. The facts are those of the request
+    /// of the scope, the same at each call.
     pub fn look(&self, facts: &Facts, event: &Outgoing) -> Verdict
         ensures { (kind : Kind) → (said : List Outgoing) → (disconnected : Bool)
             → StandsFor self.now kind facts.now said disconnected
@@ -61,7 +62,7 @@ impl Judge {
         self.verdict(facts, event)
     }
 
-    /// The verdict on the event, which is said where it passes; at any other verdict the judge
+    /// The verdict on the event, which counts as sent if it passes. At any other verdict the judge
     /// stays as it was. The facts are those of the request, the same at each call.
     pub fn judge(&mut self, facts: &Facts, event: &Outgoing) -> Verdict
         ensures verdict { (kind : Kind) → (said : List Outgoing) → (disconnected : Bool)
@@ -75,13 +76,14 @@ impl Judge {
     {
         let verdict = self.verdict(facts, event);
         if let Verdict::Pass = verdict {
-            self.stage = self.stage.behind(facts, event);
+            self.stage = self.stage.after(facts, event);
         }
         verdict
     }
 
-    /// The application has heard the event. Behind a disconnect nothing passes any more (ASGI HTTP
-    /// and WebSocket message format 2.4, "Disconnected Client"); any other event changes nothing.
+    /// Records that the application received the event. After a disconnect nothing passes any more
+    /// (ASGI HTTP and WebSocket message format 2.4, "Disconnected Client"); any other event changes
+    /// nothing.
     pub fn heard(&mut self, event: &Incoming)
         ensures { (kind : Kind) → (facts : Facts) → (said : List Outgoing) → (disconnected : Bool)
             → StandsFor self.old kind facts said disconnected
@@ -134,7 +136,7 @@ impl Judge {
 }
 
 impl Stage {
-    /// The stage has a place for the event, which is of its kind of scope.
+    /// Whether the stage has a place for the event, which is of its kind of scope.
     fn has_place(self, event: &Outgoing) -> bool
         ensures { result ≡ has_place_for self event.now }
     {
@@ -145,17 +147,17 @@ impl Stage {
             | Outgoing::StartupComplete { .. }
             | Outgoing::StartupFailed { .. } => matches!(self, Stage::Fresh),
             Outgoing::ResponseBody { .. } | Outgoing::DenialBody { .. } => {
-                matches!(self, Stage::Begun { .. })
+                matches!(self, Stage::ResponseStarted { .. })
             }
             Outgoing::WsSend { .. } => matches!(self, Stage::Accepted),
             Outgoing::WsClose { .. } => matches!(self, Stage::Fresh | Stage::Accepted),
             Outgoing::ShutdownComplete | Outgoing::ShutdownFailed { .. } => {
-                matches!(self, Stage::Started)
+                matches!(self, Stage::LifespanStarted)
             }
         }
     }
 
-    /// A body with more bytes than are left.
+    /// Whether the event is a body with more bytes than are left.
     fn takes_too_much(self, event: &Outgoing) -> bool
         ensures { result ≡ is_too_much self event.now }
     {
@@ -167,7 +169,7 @@ impl Stage {
         }
     }
 
-    /// A last body with fewer bytes than are left.
+    /// Whether the event is a last body with fewer bytes than are left.
     fn leaves_too_much(self, event: &Outgoing) -> bool
         ensures { result ≡ is_too_little self event.now }
     {
@@ -188,23 +190,26 @@ impl Stage {
         ensures { result ≡ left_of self }
     {
         match self {
-            Stage::Begun { left } => left,
-            Stage::Fresh | Stage::Accepted | Stage::Started | Stage::Ended => BytesLeft::of(None),
+            Stage::ResponseStarted { left } => left,
+            Stage::Fresh | Stage::Accepted | Stage::LifespanStarted | Stage::Ended => BytesLeft::of(
+                None,
+            ),
         }
     }
 
-    /// The stage behind an event that passed.
-    fn behind(self, facts: &Facts, event: &Outgoing) -> Stage
-        ensures { result ≡ stage_behind facts.now self event.now }
+    /// The stage after an event that passed.
+    fn after(self, facts: &Facts, event: &Outgoing) -> Stage
+        ensures { result ≡ stage_after facts.now self event.now }
     {
         match event {
-            Outgoing::ResponseStart { .. } | Outgoing::DenialStart { .. } => Stage::Begun {
-                left: BytesLeft::of(promised_length(facts, event)),
-            },
-            Outgoing::ResponseBody { body, more_body } => self.behind_body(body, *more_body),
-            Outgoing::DenialBody { body, more_body } => self.behind_body(body, *more_body),
+            Outgoing::ResponseStart { .. } | Outgoing::DenialStart { .. } =>
+                Stage::ResponseStarted {
+                    left: BytesLeft::of(promised_length(facts, event)),
+                },
+            Outgoing::ResponseBody { body, more_body } => self.after_body(body, *more_body),
+            Outgoing::DenialBody { body, more_body } => self.after_body(body, *more_body),
             Outgoing::WsAccept { .. } | Outgoing::WsSend { .. } => Stage::Accepted,
-            Outgoing::StartupComplete { .. } => Stage::Started,
+            Outgoing::StartupComplete { .. } => Stage::LifespanStarted,
             Outgoing::WsClose { .. }
             | Outgoing::StartupFailed { .. }
             | Outgoing::ShutdownComplete
@@ -212,19 +217,19 @@ impl Stage {
         }
     }
 
-    fn behind_body(self, body: &Octets, more_body: bool) -> Stage
-        ensures { result ≡ behind_body_of self body.now more_body }
+    fn after_body(self, body: &Octets, more_body: bool) -> Stage
+        ensures { result ≡ after_body_of self body.now more_body }
     {
         if !more_body {
             return Stage::Ended;
         }
-        Stage::Begun {
-            left: self.bytes_left().behind(body.bytes().len()),
+        Stage::ResponseStarted {
+            left: self.bytes_left().after(body.bytes().len()),
         }
     }
 }
 
-/// Behind a whole response a server ignores what is sent; elsewhere that is refused.
+/// After a whole response a server ignores what is sent; in other scopes that is refused.
 fn on_closed(kind: Kind) -> Verdict
     ensures { result ≡ verdict_on_closed kind }
 {
@@ -234,7 +239,7 @@ fn on_closed(kind: Kind) -> Verdict
     }
 }
 
-/// The event belongs to a scope of this kind.
+/// Whether the event belongs to a scope of this kind.
 fn is_of(kind: Kind, event: &Outgoing) -> bool
     ensures { result ≡ is_event_of kind event.now }
 {

@@ -1,4 +1,4 @@
-//! What an application may send in one scope, and a judge that passes just that.
+//! What an application may send in one scope, and a judge that passes exactly that.
 //! A judge keeps a few numbers; its contract speaks of the whole list of events.
 #![tactic(auto)]
 

@@ -1,4 +1,4 @@
-//! What an event must meet at its place, its order aside.
+//! The rules that an event must meet at its place, apart from its order.
 ghost use Rattle.std.specs.Prelude.{◌≡◌, ◌∷◌, [], IfSome, codes};
 ghost use Rattle.std.specs.List.{list_any};
 ghost use Rattle.asgi_protocol.specs.Rules.{is_status as is_status_code, is_close_code as is_code, is_offered as is_one_of, is_handshake_name as is_name, has_bad_status as bad_status, has_bad_header as bad_header, has_bad_code as bad_code, has_bad_reason as bad_reason, has_bad_subprotocol as bad_subprotocol, promised_length as promised_length_of, length_given_in, is_faulty, has_no_content as is_bare};
@@ -19,7 +19,7 @@ const CONNECTION: &[u8] = b"connection";
 
 const CODING: &[u8] = b"transfer-encoding";
 
-/// A start with a status outside 200 to 599.
+/// Whether the event is a start with a status outside 200 to 599.
 pub(crate) fn has_bad_status(event: &Outgoing) -> bool
     ensures { result ≡ bad_status event.now }
 {
@@ -30,7 +30,8 @@ pub(crate) fn has_bad_status(event: &Outgoing) -> bool
     }
 }
 
-/// A start with a faulty content-length, or an accept with a field of the handshake.
+/// Whether the event is a start with a faulty content-length, or an accept with a field of the
+/// handshake.
 pub(crate) fn has_bad_header(event: &Outgoing) -> bool
     ensures { result ≡ bad_header event.now }
 {
@@ -42,7 +43,7 @@ pub(crate) fn has_bad_header(event: &Outgoing) -> bool
     }
 }
 
-/// A close with a code that an application may not send.
+/// Whether the event is a close with a code that an application may not send.
 pub(crate) fn has_bad_code(event: &Outgoing) -> bool
     ensures { result ≡ bad_code event.now }
 {
@@ -52,7 +53,7 @@ pub(crate) fn has_bad_code(event: &Outgoing) -> bool
     }
 }
 
-/// A close with a reason of more than 123 bytes.
+/// Whether the event is a close with a reason of more than 123 bytes.
 pub(crate) fn has_bad_reason(event: &Outgoing) -> bool
     ensures { result ≡ bad_reason event.now }
 {
@@ -62,7 +63,7 @@ pub(crate) fn has_bad_reason(event: &Outgoing) -> bool
     }
 }
 
-/// An accept with a subprotocol that the client does not offer.
+/// Whether the event is an accept with a subprotocol that the client does not offer.
 pub(crate) fn has_bad_subprotocol(facts: &Facts, event: &Outgoing) -> bool
     ensures { result ≡ bad_subprotocol facts.now event.now }
 {
@@ -72,8 +73,8 @@ pub(crate) fn has_bad_subprotocol(facts: &Facts, event: &Outgoing) -> bool
     }
 }
 
-/// How many bytes the bodies behind this start must have; any number in an answer to HEAD, at
-/// 204, at 304 and where no length is given.
+/// How many bytes the bodies after this start must have; any number in a response to HEAD, for 204,
+/// for 304 and if no length is given.
 pub(crate) fn promised_length(facts: &Facts, start: &Outgoing) -> Option<u64>
     ensures { result ≡ promised_length_of facts.now (start.now ∷ []) }
 {

@@ -1,4 +1,4 @@
-//! The judge's answers.
+//! The judge's verdicts.
 ghost use Rattle.std.specs.Prelude.{◌≡◌};
 ghost use Rattle.asgi_protocol.specs.Numbers.{number_of};
 ghost use Rattle.asgi_protocol.specs.declared.verdict.Verdict.TheVariants.{Refused};
@@ -8,7 +8,7 @@ use thiserror::Error;
 /// What becomes of an event.
 #[derive(Clone, Copy, Debug, PartialEq, Eq)]
 pub enum Verdict {
-    /// The event goes on with what was said.
+    /// The event may follow what was sent.
     Pass,
     /// The response is complete, and the event has no effect (ASGI HTTP and WebSocket message
     /// format 2.4, "Response Body").
@@ -20,25 +20,25 @@ pub enum Verdict {
 /// Why an event is refused, in the order in which the reasons are looked at.
 #[derive(Clone, Copy, Debug, PartialEq, Eq, Error)]
 pub enum Violation {
-    /// All was said, and the scope is none of HTTP.
+    /// All was sent, and the scope is not HTTP.
     #[error("the conversation is closed")]
     Closed,
-    /// The application has heard that its client is gone (ASGI HTTP and WebSocket message format
-    /// 2.4, "Disconnected Client").
+    /// The application has received the disconnect of its client (ASGI HTTP and WebSocket message
+    /// format 2.4, "Disconnected Client").
     #[error("a disconnect was heard")]
     Disconnected,
-    /// A response belongs to HTTP, a session or a denial to WebSocket, the answers of a start and a
-    /// stop to lifespan.
+    /// A response belongs to HTTP, a session or a denial to WebSocket, the replies to startup and
+    /// shutdown to lifespan.
     #[error("the event belongs to another kind of scope")]
     WrongScope,
-    /// No event of this sort may follow what was said.
+    /// No event of this sort may follow what was sent.
     #[error("the event is out of order")]
     OutOfOrder,
     /// A start does not have the status of a final response, 200 to 599 (RFC 9110, section 15).
     #[error("the status is outside 200 to 599")]
     BadStatus,
     /// A start has a faulty content-length (RFC 9110, section 8.6), or an accept has a field of the
-    /// handshake (RFC 6455, section 4.2.2) or of a content.
+    /// handshake (RFC 6455, section 4.2.2) or one that delimits content.
     #[error("a field is not allowed here, or content-length is not one field of 1 to 19 digits")]
     BadHeader,
     /// A close has a code that is reserved or unknown (RFC 6455, section 7.4): one outside 1000 to
@@ -49,7 +49,7 @@ pub enum Violation {
     /// section 5.5).
     #[error("the close reason has more than 123 bytes")]
     BadReason,
-    /// An accept chooses a subprotocol that is none of the offers, byte for byte (RFC 6455,
+    /// An accept chooses a subprotocol that is none of those offered, byte for byte (RFC 6455,
     /// section 4.2.2).
     #[error("the client did not offer this subprotocol")]
     BadSubprotocol,

@@ -13,8 +13,8 @@ use std::alloc::{AllocError, Global};
 use std::process::Abort;
 use std::test::Fail;
 
-/// What happens in a row of a table. A text of fields is `name: value` or empty, and more than
-/// one with `, ` between them; a number of letters stands for a text of so many.
+/// What happens in a row of a table. A text of fields is `name: value` or empty, and more than one
+/// with `, ` between them; a number of letters means a text of that many.
 #[derive(Clone, Copy, Debug)]
 enum Step {
     Start(u16, &'static str),
@@ -32,7 +32,7 @@ enum Step {
     NotStopped,
 }
 
-/// What is heard.
+/// What is received.
 #[derive(Clone, Copy, Debug)]
 enum Heard {
     Request,
@@ -179,7 +179,7 @@ fn facts(alloc: Global, head_only: bool) -> Result<Facts, AllocError> {
     })
 }
 
-/// Says the steps in order, and looks at each before: that gives the same verdict.
+/// Sends the steps in order, and looks at each before: that gives the same verdict.
 fn says(
     rt: &(impl Abort + AllocGlobal),
     judge: &mut Judge,
@@ -194,7 +194,7 @@ fn says(
     Ok(())
 }
 
-/// The verdicts on the step: by a look, and then as it is said.
+/// The verdicts on the step: by a look, and then as it is sent.
 fn verdicts(
     alloc: Global,
     judge: &mut Judge,
@@ -221,7 +221,7 @@ fn judges(
     says(rt, &mut Judge::new(kind), &facts, row, steps)
 }
 
-/// What is heard, and what is said behind it.
+/// What is received, and what is sent after it.
 type Part = (&'static str, &'static [Heard], &'static [(Step, Verdict)]);
 
 fn hears(
@@ -239,7 +239,7 @@ fn hears(
     Ok(())
 }
 
-/// The same as `judges`, where events are heard too.
+/// The same as `judges`, if events are received too.
 fn judges_hearing(rt: &(impl Abort + AllocGlobal), kind: Kind, parts: &[Part]) -> Result<(), Fail> {
     let facts = facts(rt.alloc(), false)?;
     hears(rt, &mut Judge::new(kind), &facts, parts)

@@ -275,41 +275,41 @@ not_zero n h = grind (arith, nat_tests)
 is_zero : (n : ℕ) → n ≡ 0 → (n == 0) ≡ true
 is_zero n h = grind (arith, nat_tests)
 
-line_takes : (limits : Limits) (sum : ℕ) (bytes behind : List ℕ) (line : ChunkLine) (turn : Judged) → IsSizeLine line
-    → bytes ≡ print_chunk_line line ++ behind → turn ≡ after_size limits.max_body sum (Some (chunk_size line)) → Takes limits (SizeLine sum) bytes turn behind
-line_takes limits sum bytes behind line turn is split e =
+line_takes : (limits : Limits) (sum : ℕ) (bytes after : List ℕ) (line : ChunkLine) (turn : Judged) → IsSizeLine line
+    → bytes ≡ print_chunk_line line ++ after → turn ≡ after_size limits.max_body sum (Some (chunk_size line)) → Takes limits (SizeLine sum) bytes turn after
+line_takes limits sum bytes after line turn is split e =
     let text = print_chunk_line line in
-    let f : front limits (SizeLine sum) bytes ≡ found text = ap (front limits (SizeLine sum)) split ∙ size_front limits sum line behind is.valid is.short in
-    takes_found limits (SizeLine sum) bytes text behind turn f split (Some (chunk_size line), (line, (is.valid, sym (append-nil text)), refl), e)
+    let f : front limits (SizeLine sum) bytes ≡ found text = ap (front limits (SizeLine sum)) split ∙ size_front limits sum line after is.valid is.short in
+    takes_found limits (SizeLine sum) bytes text after turn f split (Some (chunk_size line), (line, (is.valid, sym (append-nil text)), refl), e)
 
-to_chunk : (limits : Limits) (sum : ℕ) (bytes behind : List ℕ) (line : ChunkLine) → IsSizeLine line → bytes ≡ print_chunk_line line ++ behind
+to_chunk : (limits : Limits) (sum : ℕ) (bytes after : List ℕ) (line : ChunkLine) → IsSizeLine line → bytes ≡ print_chunk_line line ++ after
     → 0 < chunk_size line → sum + chunk_size line ≤ limits.max_body
-    → Goes limits (SizeLine sum) bytes [] (Chunk (chunk_size line) (sum + chunk_size line)) behind
+    → Goes limits (SizeLine sum) bytes [] (Chunk (chunk_size line) (sum + chunk_size line)) after
 unfolding after_size_by
-to_chunk limits sum bytes behind line is split some fits =
+to_chunk limits sum bytes after line is split some fits =
     let n = chunk_size line in
-    one limits (SizeLine sum) bytes None (Chunk n (sum + n)) behind
-    (line_takes limits sum bytes behind line (silent (Chunk n (sum + n))) is split
+    one limits (SizeLine sum) bytes None (Chunk n (sum + n)) after
+    (line_takes limits sum bytes after line (silent (Chunk n (sum + n))) is split
     (sym (ap (λ (a : Bool). after_size_by sum n a (n == 0)) (lt_no limits.max_body (sum + n) fits) ∙ ap (after_size_by sum n false) (not_zero n some))))
 
-to_trailers : (limits : Limits) (sum : ℕ) (bytes behind : List ℕ) (line : ChunkLine) → IsSizeLine line → bytes ≡ print_chunk_line line ++ behind
-    → chunk_size line ≡ 0 → sum ≤ limits.max_body → Goes limits (SizeLine sum) bytes [] Trailers behind
+to_trailers : (limits : Limits) (sum : ℕ) (bytes after : List ℕ) (line : ChunkLine) → IsSizeLine line → bytes ≡ print_chunk_line line ++ after
+    → chunk_size line ≡ 0 → sum ≤ limits.max_body → Goes limits (SizeLine sum) bytes [] Trailers after
 unfolding after_size_by
-to_trailers limits sum bytes behind line is split z fits =
+to_trailers limits sum bytes after line is split z fits =
     let n = chunk_size line in
-    one limits (SizeLine sum) bytes None Trailers behind
-    (line_takes limits sum bytes behind line (silent Trailers) is split
+    one limits (SizeLine sum) bytes None Trailers after
+    (line_takes limits sum bytes after line (silent Trailers) is split
     (sym (ap (λ (a : Bool). after_size_by sum n a (n == 0)) (lt_no limits.max_body (sum + n) (omega (arith, fits, z))) ∙ ap (after_size_by sum n false) (is_zero n z))))
 
-too_large : (limits : Limits) (sum : ℕ) (bytes behind : List ℕ) (line : ChunkLine) → IsSizeLine line → bytes ≡ print_chunk_line line ++ behind
+too_large : (limits : Limits) (sum : ℕ) (bytes after : List ℕ) (line : ChunkLine) → IsSizeLine line → bytes ≡ print_chunk_line line ++ after
     → limits.max_body < sum + chunk_size line → Ends limits (SizeLine sum) bytes (Bad (status_of ContentTooLarge) ∷ [])
 unfolding after_size_by
-too_large limits sum bytes behind line is split far =
+too_large limits sum bytes after line is split far =
     let n = chunk_size line in
-    refusal limits (SizeLine sum) bytes behind ContentTooLarge
-    (line_takes limits sum bytes behind line (bad ContentTooLarge) is split (sym (ap (λ (a : Bool). after_size_by sum n a (n == 0)) (lt_yes limits.max_body (sum + n) far))))
+    refusal limits (SizeLine sum) bytes after ContentTooLarge
+    (line_takes limits sum bytes after line (bad ContentTooLarge) is split (sym (ap (λ (a : Bool). after_size_by sum n a (n == 0)) (lt_yes limits.max_body (sum + n) far))))
 
--- ---- the two bytes behind a chunk
+-- ---- the two bytes after a chunk
 
 eq_true : (a b : List ℕ) → a ≡ b → bytes_eq a b ≡ true
 eq_true a b e = (bytes_eq-Decides a b).1 e
@@ -368,28 +368,28 @@ pub chunk_goes : (limits : Limits) → 0 < limits.block → (sum : ℕ) (c : bod
 unfolding events_of piece_events
 chunk_goes limits h sum c rest x fits =
     let n = chunk_size c.line in
-    let behind = c.data_bytes ++ (crlf_bytes ++ rest) in
-    let split : print_chunk c ++ rest ≡ print_chunk_line c.line ++ behind =
+    let after = c.data_bytes ++ (crlf_bytes ++ rest) in
+    let split : print_chunk c ++ rest ≡ print_chunk_line c.line ++ after =
     append_assoc (print_chunk_line c.line) (c.data_bytes ++ crlf_bytes) rest ∙ ap (λ (l : List ℕ). print_chunk_line c.line ++ l) (append_assoc c.data_bytes crlf_bytes rest) in
     let size = x.size in
-    let data_is : take n behind ≡ c.data_bytes = ap (λ k. take k behind) (sym size) ∙ take-append_seam c.data_bytes (crlf_bytes ++ rest) in
-    let left_is : drop n behind ≡ crlf_bytes ++ rest = ap (λ k. drop k behind) (sym size) ∙ drop_seam c.data_bytes (crlf_bytes ++ rest) in
-    let first_part = to_chunk limits sum (print_chunk c ++ rest) behind c.line x.line split x.some_data fits in
-    let whole = chunk_whole limits h n n (sum + n) behind (omega arith) x.some_data (omega (arith, size, length-append c.data_bytes (crlf_bytes ++ rest))) in
-    let blocks_are : rest_blocks limits.block n behind ≡ piece_blocks limits.block (chunk_piece c) =
+    let data_is : take n after ≡ c.data_bytes = ap (λ k. take k after) (sym size) ∙ take-append_seam c.data_bytes (crlf_bytes ++ rest) in
+    let left_is : drop n after ≡ crlf_bytes ++ rest = ap (λ k. drop k after) (sym size) ∙ drop_seam c.data_bytes (crlf_bytes ++ rest) in
+    let first_part = to_chunk limits sum (print_chunk c ++ rest) after c.line x.line split x.some_data fits in
+    let whole = chunk_whole limits h n n (sum + n) after (omega arith) x.some_data (omega (arith, size, length-append c.data_bytes (crlf_bytes ++ rest))) in
+    let blocks_are : rest_blocks limits.block n after ≡ piece_blocks limits.block (chunk_piece c) =
     ap (λ (d : List ℕ). piece_blocks limits.block (let p : Piece = record { size = n; data_bytes = d } in p)) data_is in
-    let moved = subst (λ (l : List ℕ). Goes limits (Chunk n (sum + n)) behind (events_of (rest_blocks limits.block n behind)) (ChunkEnd (sum + n)) l) left_is whole in
-    let events = events_of (rest_blocks limits.block n behind) in
+    let moved = subst (λ (l : List ℕ). Goes limits (Chunk n (sum + n)) after (events_of (rest_blocks limits.block n after)) (ChunkEnd (sum + n)) l) left_is whole in
+    let events = events_of (rest_blocks limits.block n after) in
     goes_as limits (SizeLine sum) (print_chunk c ++ rest) (events ++ []) (map Event (piece_events limits (chunk_piece c))) (SizeLine (sum + n)) rest
     (append-nil events ∙ ap events_of blocks_are)
-    (goes_on limits (SizeLine sum) (print_chunk c ++ rest) [] (Chunk n (sum + n)) behind (events ++ []) (SizeLine (sum + n)) rest first_part
-    (goes_on limits (Chunk n (sum + n)) behind events (ChunkEnd (sum + n)) (crlf_bytes ++ rest) [] (SizeLine (sum + n)) rest moved (pair_goes limits (sum + n) rest)))
+    (goes_on limits (SizeLine sum) (print_chunk c ++ rest) [] (Chunk n (sum + n)) after (events ++ []) (SizeLine (sum + n)) rest first_part
+    (goes_on limits (Chunk n (sum + n)) after events (ChunkEnd (sum + n)) (crlf_bytes ++ rest) [] (SizeLine (sum + n)) rest moved (pair_goes limits (sum + n) rest)))
   where
     drop_seam : (a b : List ℕ) → drop (length a) (a ++ b) ≡ b
     drop_seam [] b = refl
     drop_seam (x ∷ a) b = drop_seam a b
 
--- ---- what stands behind the whole chunks
+-- ---- what stands after the whole chunks
 
 unfoldable pub tail_events : Limits → body.Tail → List Incoming
 tail_events limits t = map more_event (flat_map (piece_blocks limits.block) (tail_pieces t)) ++ closing_event (tail_state t)
@@ -399,38 +399,38 @@ one_piece : (limits : Limits) (p : Piece) → map more_event (flat_map (piece_bl
 unfolding piece_events
 one_piece limits p = append-nil (map more_event (piece_blocks limits.block p ++ [])) ∙ ap (map more_event) (append-nil (piece_blocks limits.block p))
 
-open_chunk_goes : (limits : Limits) → 0 < limits.block → (sum : ℕ) (bytes behind : List ℕ) (line : ChunkLine) → body.BeginsChunk limits sum bytes line behind
-    → length behind < chunk_size line + 2 → Ends limits (SizeLine sum) bytes (events_of (rest_blocks limits.block (chunk_size line) behind))
+open_chunk_goes : (limits : Limits) → 0 < limits.block → (sum : ℕ) (bytes after : List ℕ) (line : ChunkLine) → body.BeginsChunk limits sum bytes line after
+    → length after < chunk_size line + 2 → Ends limits (SizeLine sum) bytes (events_of (rest_blocks limits.block (chunk_size line) after))
 unfolding events_of
-open_chunk_goes limits h sum bytes behind line x below = by (nat_le (chunk_size line) (length behind)) refl
+open_chunk_goes limits h sum bytes after line x below = by (nat_le (chunk_size line) (length after)) refl
   where
-    by : (b : Bool) → nat_le (chunk_size line) (length behind) ≡ b → Ends limits (SizeLine sum) bytes (events_of (rest_blocks limits.block (chunk_size line) behind))
+    by : (b : Bool) → nat_le (chunk_size line) (length after) ≡ b → Ends limits (SizeLine sum) bytes (events_of (rest_blocks limits.block (chunk_size line) after))
     by true e =
         let n = chunk_size line in
-        let events = events_of (rest_blocks limits.block n behind) in
-        let there = yes_le n (length behind) e in
+        let events = events_of (rest_blocks limits.block n after) in
+        let there = yes_le n (length after) e in
         ends_as limits (SizeLine sum) bytes (events ++ []) events (append-nil events)
-        (then_ends limits (SizeLine sum) bytes [] (Chunk n (sum + n)) behind (events ++ []) (to_chunk limits sum bytes behind line x.line_is x.splits x.some_data x.fits)
-        (then_ends limits (Chunk n (sum + n)) behind events (ChunkEnd (sum + n)) (drop n behind) []
-        (chunk_whole limits h n n (sum + n) behind (omega arith) x.some_data there)
-        (waiting limits (ChunkEnd (sum + n)) (drop n behind) (first_open 2 (drop n behind) (omega (arith, below, length-drop n behind))))))
+        (then_ends limits (SizeLine sum) bytes [] (Chunk n (sum + n)) after (events ++ []) (to_chunk limits sum bytes after line x.line_is x.splits x.some_data x.fits)
+        (then_ends limits (Chunk n (sum + n)) after events (ChunkEnd (sum + n)) (drop n after) []
+        (chunk_whole limits h n n (sum + n) after (omega arith) x.some_data there)
+        (waiting limits (ChunkEnd (sum + n)) (drop n after) (first_open 2 (drop n after) (omega (arith, below, length-drop n after))))))
     by false e =
         let n = chunk_size line in
-        let events = events_of (rest_blocks limits.block n behind) in
-        then_ends limits (SizeLine sum) bytes [] (Chunk n (sum + n)) behind events (to_chunk limits sum bytes behind line x.line_is x.splits x.some_data x.fits)
-        (chunk_open limits h (length behind) n (sum + n) behind (omega arith) (no_le n (length behind) e))
+        let events = events_of (rest_blocks limits.block n after) in
+        then_ends limits (SizeLine sum) bytes [] (Chunk n (sum + n)) after events (to_chunk limits sum bytes after line x.line_is x.splits x.some_data x.fits)
+        (chunk_open limits h (length after) n (sum + n) after (omega arith) (no_le n (length after) e))
 
-bad_chunk_goes : (limits : Limits) → 0 < limits.block → (sum : ℕ) (bytes behind : List ℕ) (line : ChunkLine) → body.BeginsChunk limits sum bytes line behind
-    → chunk_size line + 2 ≤ length behind → ((take 2 (drop (chunk_size line) behind) ≡ crlf_bytes) → ⊥)
-    → Ends limits (SizeLine sum) bytes (events_of (rest_blocks limits.block (chunk_size line) behind) ++ Bad (status_of BadRequest) ∷ [])
+bad_chunk_goes : (limits : Limits) → 0 < limits.block → (sum : ℕ) (bytes after : List ℕ) (line : ChunkLine) → body.BeginsChunk limits sum bytes line after
+    → chunk_size line + 2 ≤ length after → ((take 2 (drop (chunk_size line) after) ≡ crlf_bytes) → ⊥)
+    → Ends limits (SizeLine sum) bytes (events_of (rest_blocks limits.block (chunk_size line) after) ++ Bad (status_of BadRequest) ∷ [])
 unfolding events_of
-bad_chunk_goes limits h sum bytes behind line x there other =
+bad_chunk_goes limits h sum bytes after line x there other =
     let n = chunk_size line in
-    let events = events_of (rest_blocks limits.block n behind) in
-    then_ends limits (SizeLine sum) bytes [] (Chunk n (sum + n)) behind (events ++ Bad (status_of BadRequest) ∷ []) (to_chunk limits sum bytes behind line x.line_is x.splits x.some_data x.fits)
-    (then_ends limits (Chunk n (sum + n)) behind events (ChunkEnd (sum + n)) (drop n behind) (Bad (status_of BadRequest) ∷ [])
-    (chunk_whole limits h n n (sum + n) behind (omega arith) x.some_data (omega (arith, there)))
-    (pair_refused limits (sum + n) (drop n behind) (omega (arith, there, length-drop n behind)) other))
+    let events = events_of (rest_blocks limits.block n after) in
+    then_ends limits (SizeLine sum) bytes [] (Chunk n (sum + n)) after (events ++ Bad (status_of BadRequest) ∷ []) (to_chunk limits sum bytes after line x.line_is x.splits x.some_data x.fits)
+    (then_ends limits (Chunk n (sum + n)) after events (ChunkEnd (sum + n)) (drop n after) (Bad (status_of BadRequest) ∷ [])
+    (chunk_whole limits h n n (sum + n) after (omega arith) x.some_data (omega (arith, there)))
+    (pair_refused limits (sum + n) (drop n after) (omega (arith, there, length-drop n after)) other))
 
 bad_line_goes : (limits : Limits) (sum : ℕ) (bytes : List ℕ) → body.IsBadLine bytes → Ends limits (SizeLine sum) bytes (Bad (status_of BadRequest) ∷ [])
 bad_line_goes limits sum bytes (inl long) =
@@ -446,15 +446,15 @@ bad_section_goes limits bytes (inr x) =
     let f : front limits Trailers bytes ≡ found x.0 = found_front EndsAsSection trailer_len section_search_for limits.max_head bytes x.0 x.1 x.2 in
     refusal limits Trailers bytes x.1 BadRequest (takes_found limits Trailers bytes x.0 x.1 (bad BadRequest) f x.2.0.splits (false, x.3, refl))
 
-last_goes : (limits : Limits) (sum : ℕ) (bytes behind : List ℕ) (l : body.LastChunk) → sum ≤ limits.max_body → body.IsLastChunk limits l
-    → bytes ≡ body.print_last l ++ behind → Goes limits (SizeLine sum) bytes (Event (last_event []) ∷ []) BodyEnd behind
-last_goes limits sum bytes behind l fits x split =
+last_goes : (limits : Limits) (sum : ℕ) (bytes after : List ℕ) (l : body.LastChunk) → sum ≤ limits.max_body → body.IsLastChunk limits l
+    → bytes ≡ body.print_last l ++ after → Goes limits (SizeLine sum) bytes (Event (last_event []) ∷ []) BodyEnd after
+last_goes limits sum bytes after l fits x split =
     let section = print_section l.fields l.end in
-    let first_part = to_trailers limits sum bytes (section ++ behind) l.line x.line (split ∙ append_assoc (print_chunk_line l.line) section behind) x.zero_size fits in
-    goes_on limits (SizeLine sum) bytes [] Trailers (section ++ behind) (Event (last_event []) ∷ []) BodyEnd behind first_part
-    (one limits Trailers (section ++ behind) (Some (Event (last_event []))) BodyEnd behind
-    (takes_found limits Trailers (section ++ behind) section behind (after_trailers true)
-    (trailer_front limits l.fields l.end behind x.section.reads.0 x.short) refl (true, (l.fields, l.end, x.section), refl)))
+    let first_part = to_trailers limits sum bytes (section ++ after) l.line x.line (split ∙ append_assoc (print_chunk_line l.line) section after) x.zero_size fits in
+    goes_on limits (SizeLine sum) bytes [] Trailers (section ++ after) (Event (last_event []) ∷ []) BodyEnd after first_part
+    (one limits Trailers (section ++ after) (Some (Event (last_event []))) BodyEnd after
+    (takes_found limits Trailers (section ++ after) section after (after_trailers true)
+    (trailer_front limits l.fields l.end after x.section.reads.0 x.short) refl (true, (l.fields, l.end, x.section), refl)))
 
 pub tail_goes : (limits : Limits) → 0 < limits.block → (sum : ℕ) (bytes : List ℕ) (t : body.Tail) → sum ≤ limits.max_body → body.IsTail limits sum bytes t
     → BodyGoes limits (SizeLine sum) bytes (tail_events limits t) (tail_state t)
@@ -462,19 +462,19 @@ unfolding tail_events events_of piece_events
 tail_goes limits h sum bytes body.open_line fits x = waiting limits (SizeLine sum) bytes (open_front EndsAsLine line_len line_search_for size_line_limit bytes x)
 tail_goes limits h sum bytes body.bad_line fits x = bad_line_goes limits sum bytes x
 tail_goes limits h sum bytes (body.large_chunk line) fits x = too_large limits sum bytes x.0 line x.2 x.1 x.3
-tail_goes limits h sum bytes (body.open_chunk line behind) fits x =
-    ends_as limits (SizeLine sum) bytes (events_of (rest_blocks limits.block (chunk_size line) behind)) (map Event (tail_events limits (body.open_chunk line behind)))
-    (sym (ap (map Event) (one_piece limits (let p : Piece = record { size = chunk_size line; data_bytes = take (chunk_size line) behind } in p))))
-    (open_chunk_goes limits h sum bytes behind line x.0 x.1)
-tail_goes limits h sum bytes (body.bad_chunk line behind) fits x =
-    ends_as limits (SizeLine sum) bytes (events_of (rest_blocks limits.block (chunk_size line) behind) ++ Bad (status_of BadRequest) ∷ [])
-    (map Event (tail_events limits (body.bad_chunk line behind)) ++ Bad (status_of BadRequest) ∷ [])
-    (ap (λ (l : List Incoming). map Event l ++ Bad (status_of BadRequest) ∷ []) (sym (one_piece limits (let p : Piece = record { size = chunk_size line; data_bytes = take (chunk_size line) behind } in p))))
-    (bad_chunk_goes limits h sum bytes behind line x.0 x.1 x.2)
-tail_goes limits h sum bytes (body.open_trailers line behind) fits x =
-    then_ends limits (SizeLine sum) bytes [] Trailers behind [] (to_trailers limits sum bytes behind line x.0.line_is x.0.splits x.0.zero_size fits)
-    (waiting limits Trailers behind (open_front EndsAsSection trailer_len section_search_for limits.max_head behind x.1))
-tail_goes limits h sum bytes (body.bad_trailers line behind) fits x =
-    then_ends limits (SizeLine sum) bytes [] Trailers behind (Bad (status_of BadRequest) ∷ []) (to_trailers limits sum bytes behind line x.0.line_is x.0.splits x.0.zero_size fits)
-    (bad_section_goes limits behind x.1)
-tail_goes limits h sum bytes (body.last l behind) fits x = last_goes limits sum bytes behind l fits x.0 x.1
+tail_goes limits h sum bytes (body.open_chunk line after) fits x =
+    ends_as limits (SizeLine sum) bytes (events_of (rest_blocks limits.block (chunk_size line) after)) (map Event (tail_events limits (body.open_chunk line after)))
+    (sym (ap (map Event) (one_piece limits (let p : Piece = record { size = chunk_size line; data_bytes = take (chunk_size line) after } in p))))
+    (open_chunk_goes limits h sum bytes after line x.0 x.1)
+tail_goes limits h sum bytes (body.bad_chunk line after) fits x =
+    ends_as limits (SizeLine sum) bytes (events_of (rest_blocks limits.block (chunk_size line) after) ++ Bad (status_of BadRequest) ∷ [])
+    (map Event (tail_events limits (body.bad_chunk line after)) ++ Bad (status_of BadRequest) ∷ [])
+    (ap (λ (l : List Incoming). map Event l ++ Bad (status_of BadRequest) ∷ []) (sym (one_piece limits (let p : Piece = record { size = chunk_size line; data_bytes = take (chunk_size line) after } in p))))
+    (bad_chunk_goes limits h sum bytes after line x.0 x.1 x.2)
+tail_goes limits h sum bytes (body.open_trailers line after) fits x =
+    then_ends limits (SizeLine sum) bytes [] Trailers after [] (to_trailers limits sum bytes after line x.0.line_is x.0.splits x.0.zero_size fits)
+    (waiting limits Trailers after (open_front EndsAsSection trailer_len section_search_for limits.max_head after x.1))
+tail_goes limits h sum bytes (body.bad_trailers line after) fits x =
+    then_ends limits (SizeLine sum) bytes [] Trailers after (Bad (status_of BadRequest) ∷ []) (to_trailers limits sum bytes after line x.0.line_is x.0.splits x.0.zero_size fits)
+    (bad_section_goes limits after x.1)
+tail_goes limits h sum bytes (body.last l after) fits x = last_goes limits sum bytes after l fits x.0 x.1

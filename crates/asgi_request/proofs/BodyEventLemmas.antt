@@ -23,7 +23,7 @@ blocks_alone (b ∷ blocks) = All-cons IsRequestEvent (more_event b) (map more_e
 
 closing_is : (state : BodyState) → All IsRequestEvent (closing_event state)
 closing_is partial = All-nil IsRequestEvent
-closing_is (complete behind) = last_alone []
+closing_is (complete after) = last_alone []
 closing_is (faulty why) = All-nil IsRequestEvent
 
 length_is : (block n : ℕ) (bytes : List ℕ) → All IsRequestEvent (length_events block n bytes)

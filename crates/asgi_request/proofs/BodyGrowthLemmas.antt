@@ -1,4 +1,4 @@
--- More bytes behind a body: what was due stays due, and a body that is whole or faulty stays so.
+-- More bytes after a body: what was due stays due, and a body that is whole or faulty stays so.
 use Rattle.std.proofs.Common.{◌≡◌, ◌≢◌, ℕ, List, [], ◌∷◌, ◌++◌, map, refl, sym, ap, ◌∙◌, append_assoc, subst, Option, Some, None}
 use Rattle.std.specs.Prelude.{◌==◌, if◌then◌else◌}
 use Rattle.std.proofs.lemmas.List.{append-nil}
@@ -58,9 +58,9 @@ OnlyWhole limits place bytes = (item : Option Next) (mid : Place) (middle : List
 
 -- from there the bytes give these
 pub record Further (limits : Limits) (items : List (Option Next)) (end : Place) (rest : List ℕ) (others : List (Option Next)) (last : Place) (left : List ℕ) : Type 0 where
-  pub items_behind : List (Option Next)
-  pub splits : others ≡ items ++ items_behind
-  pub reads : Reads limits end rest items_behind last left
+  pub items_after : List (Option Next)
+  pub splits : others ≡ items ++ items_after
+  pub reads : Reads limits end rest items_after last left
 
 run_goes_on : (limits : Limits) (place : Place) (bytes more : List ℕ) (items : List (Option Next)) (end : Place) (rest : List ℕ)
     (others : List (Option Next)) (last : Place) (left : List ℕ)
@@ -69,7 +69,7 @@ run_goes_on : (limits : Limits) (place : Place) (bytes more : List ℕ) (items :
 run_goes_on limits place bytes more [] end rest others last left r q only none =
     let P : Place → Type 0 = λ p. Reads limits p (bytes ++ more) others last left in
     let R : List ℕ → Type 0 = λ l. Reads limits end (l ++ more) others last left in
-    record { items_behind = others; splits = refl; reads = subst R r.1 (subst P r.0 q) }
+    record { items_after = others; splits = refl; reads = subst R r.1 (subst P r.0 q) }
 run_goes_on limits place bytes more (item ∷ items) end rest [] last left r q only none =
     let grown = Takes-append limits place bytes (record { item = item; place = r.0 }) r.1 more r.2 in
     let P : Place → Type 0 = λ p. Takes limits p (bytes ++ more) (record { item = item; place = r.0 }) (r.1 ++ more) in
@@ -88,22 +88,22 @@ run_goes_on limits place bytes more (item ∷ items) end rest (other ∷ others)
     let on = subst R (sym rests) (subst P (sym places) q.3) in
     let tail = run_goes_on limits r.0 r.1 more items end rest others last left r.3 on only (tail_no_whole item items none) in
     record {
-      items_behind = tail.items_behind;
+      items_after = tail.items_after;
       splits = ap (λ (o : Option Next). o ∷ others) (sym items_same) ∙ ap (λ (l : List (Option Next)). item ∷ l) tail.splits;
       reads = tail.reads;
     }
 
 -- ---- the run of a body
 
--- what stands behind the events
+-- what stands after the events
 unfoldable pub mark : BodyState → List Next
 mark partial = []
-mark (complete behind) = []
+mark (complete after) = []
 mark (faulty why) = Bad (status_of why) ∷ []
 
 unfoldable pub ends_as : Limits → BodyState → Place → List ℕ → Type 0
 ends_as limits partial end rest = front limits end rest ≡ unfinished
-ends_as limits (complete behind) end rest = (end ≡ BodyEnd) × (rest ≡ behind)
+ends_as limits (complete after) end rest = (end ≡ BodyEnd) × (rest ≡ after)
 ends_as limits (faulty why) end rest = front limits end rest ≡ unfinished
 
 pub record BodyRun (limits : Limits) (place : Place) (bytes : List ℕ) (events : List Incoming) (state : BodyState) : Type 0 where
@@ -118,15 +118,15 @@ pub run_of_body : (limits : Limits) (place : Place) (bytes : List ℕ) (events :
 unfolding mark ends_as
 run_of_body limits place bytes events partial x =
     record { steps = x.goes.steps; end = x.end; rest = x.rest; reads = x.goes.reads; shows = x.goes.shows ∙ sym (append-nil (map Event events)); ends = x.waits }
-run_of_body limits place bytes events (complete behind) x =
-    record { steps = x.steps; end = BodyEnd; rest = behind; reads = x.reads; shows = x.shows ∙ sym (append-nil (map Event events)); ends = (refl, refl) }
+run_of_body limits place bytes events (complete after) x =
+    record { steps = x.steps; end = BodyEnd; rest = after; reads = x.reads; shows = x.shows ∙ sym (append-nil (map Event events)); ends = (refl, refl) }
 run_of_body limits place bytes events (faulty why) x =
     record { steps = x.goes.steps; end = x.end; rest = x.rest; reads = x.goes.reads; shows = x.goes.shows; ends = x.waits }
 
 pub marked_no_whole : (events : List Incoming) (state : BodyState) → no_whole (map Event events ++ mark state)
 unfolding no_whole mark
 marked_no_whole [] partial = tt
-marked_no_whole [] (complete behind) = tt
+marked_no_whole [] (complete after) = tt
 marked_no_whole [] (faulty why) = tt
 marked_no_whole (e ∷ events) state = marked_no_whole events state
 
@@ -138,12 +138,12 @@ pub only_whole : (limits : Limits) (state : BodyState) (end : Place) (rest : Lis
 unfolding ends_as
 only_whole limits partial end rest e = λ item mid middle t. absurd (judged_known limits end rest (record { item = item; place = mid }) middle t e)
 only_whole limits (faulty why) end rest e = λ item mid middle t. absurd (judged_known limits end rest (record { item = item; place = mid }) middle t e)
-only_whole limits (complete behind) end rest e = λ item mid middle t.
+only_whole limits (complete after) end rest e = λ item mid middle t.
     end_item limits rest item mid middle (subst (λ (p : Place). Takes limits p rest (record { item = item; place = mid }) middle) e.0 t)
 
--- ---- events and what stands behind them
+-- ---- events and what stands after them
 
--- the events are the first of the others, and what stands behind is the same
+-- the events are the first of the others, and what stands after is the same
 pub record Continues (events others : List Incoming) (tail : List Next) (state : BodyState) : Type 0 where
   pub more : List Incoming
   pub splits : events ++ more ≡ others
@@ -153,7 +153,7 @@ pub continues : (events others : List Incoming) (tail : List Next) (state : Body
 unfolding mark
 continues [] others tail state e = record { more = others; splits = refl; same = e }
 continues (x ∷ events) [] tail partial e = cc
-continues (x ∷ events) [] tail (complete behind) e = cc
+continues (x ∷ events) [] tail (complete after) e = cc
 continues (x ∷ events) [] tail (faulty why) e = cc
 continues (x ∷ events) (y ∷ others) tail state e =
     let on = continues events others tail state (cc e) in
@@ -175,7 +175,7 @@ whole_state : (limits : Limits) (state : BodyState) (end : Place) (rest bytes : 
 unfolding ends_as
 whole_state limits partial end rest bytes ends e f = absurd (no_front limits end rest (sym e) ends)
 whole_state limits (faulty why) end rest bytes ends e f = absurd (no_front limits end rest (sym e) ends)
-whole_state limits (complete behind) end rest bytes ends e f = ap complete (sym (f ∙ ends.1))
+whole_state limits (complete after) end rest bytes ends e f = ap complete (sym (f ∙ ends.1))
 
 whole_stays : (limits : Limits) (bytes : List ℕ) (steps : List (Option Next)) (end : Place) (rest : List ℕ) (more : List Incoming) (state : BodyState)
     → Reads limits BodyEnd bytes steps end rest → ends_as limits state end rest → map Event more ++ mark state ≡ shown steps
@@ -209,7 +209,7 @@ bad_stays : (more : List Incoming) (state : BodyState) (why : Refusal) (tail : L
 unfolding mark
 bad_stays (x ∷ more) state why tail e = cc
 bad_stays [] partial why tail e = cc
-bad_stays [] (complete behind) why tail e = cc
+bad_stays [] (complete after) why tail e = cc
 bad_stays [] (faulty other) why tail e =
     let first : Bad (status_of other) ≡ Bad (status_of why) = cc e in
     let same : status_of other ≡ status_of why = cc first in
@@ -225,10 +225,10 @@ state_stays : (limits : Limits) (more : List ℕ) (events others : List Incoming
     → Continues events others (mark state ++ shown steps) other → StaysAs state more events others other
 unfolding mark ends_as
 state_stays limits more events others partial other end last rest left steps e f r c = tt
-state_stays limits more events others (complete behind) other end last rest left steps e f r c =
+state_stays limits more events others (complete after) other end last rest left steps e f r c =
     let P : Place → Type 0 = λ p. Reads limits p (rest ++ more) steps last left in
     let R : List ℕ → Type 0 = λ l. Reads limits BodyEnd (l ++ more) steps last left in
-    let w = whole_stays limits (behind ++ more) steps last left c.more other (subst R e.1 (subst P e.0 r)) f c.same in
+    let w = whole_stays limits (after ++ more) steps last left c.more other (subst R e.1 (subst P e.0 r)) f c.same in
     (none_more events others c.more c.splits w.0, w.1)
 state_stays limits more events others (faulty why) other end last rest left steps e f r c =
     let b = bad_stays c.more other why (shown steps) c.same in
@@ -241,13 +241,13 @@ plain_grows limits framing bytes more events others state other plain x y =
     let b = run_of_body limits (body_place framing) (bytes ++ more) others other (body_goes limits limits.block_in_range.0 framing (bytes ++ more) others other plain y) in
     let f = run_goes_on limits (body_place framing) bytes more a.steps a.end a.rest b.steps b.end b.rest a.reads b.reads (only_whole limits other b.end b.rest b.ends)
     (subst no_whole (sym a.shows) (marked_no_whole events state)) in
-    let both : map Event others ++ mark other ≡ map Event events ++ (mark state ++ shown f.items_behind) =
-    sym b.shows ∙ ap shown f.splits ∙ shown-append a.steps f.items_behind ∙ ap (λ (l : List Next). l ++ shown f.items_behind) a.shows
-    ∙ append_assoc (map Event events) (mark state) (shown f.items_behind) in
-    let c = continues events others (mark state ++ shown f.items_behind) other both in
-    record { first = (c.more, c.splits); stays = state_stays limits more events others state other a.end b.end a.rest b.rest f.items_behind a.ends b.ends f.reads c }
+    let both : map Event others ++ mark other ≡ map Event events ++ (mark state ++ shown f.items_after) =
+    sym b.shows ∙ ap shown f.splits ∙ shown-append a.steps f.items_after ∙ ap (λ (l : List Next). l ++ shown f.items_after) a.shows
+    ∙ append_assoc (map Event events) (mark state) (shown f.items_after) in
+    let c = continues events others (mark state ++ shown f.items_after) other both in
+    record { first = (c.more, c.splits); stays = state_stays limits more events others state other a.end b.end a.rest b.rest f.items_after a.ends b.ends f.reads c }
 
--- behind an opening handshake nothing is due, and what stands behind it grows
+-- after an opening handshake nothing is due, and what stands after it grows
 frames_grow : (bytes more : List ℕ) (events others : List Incoming) (state other : BodyState) → (events ≡ []) × (state ≡ complete bytes)
     → (others ≡ []) × (other ≡ complete (bytes ++ more)) → Grows more events state others other
 frames_grow bytes more events others state other x y = record {
@@ -274,9 +274,9 @@ same_lists (x ∷ a) (y ∷ b) p q =
 
 same_states : (a b : BodyState) (x y : List Incoming) → StaysAs a [] x y b → StaysAs b [] y x a → a ≡ b
 same_states partial partial x y s t = refl
-same_states partial (complete behind) x y s t = t.1 ∙ ap complete (append-nil behind)
+same_states partial (complete after) x y s t = t.1 ∙ ap complete (append-nil after)
 same_states partial (faulty why) x y s t = t.1
-same_states (complete behind) b x y s t = sym (s.1 ∙ ap complete (append-nil behind))
+same_states (complete after) b x y s t = sym (s.1 ∙ ap complete (append-nil after))
 same_states (faulty why) b x y s t = sym s.1
 
 pub body_is_one : (limits : Limits) (framing : Framing) (bytes : List ℕ) (events others : List Incoming) (state other : BodyState)

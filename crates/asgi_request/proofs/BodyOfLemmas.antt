@@ -23,12 +23,12 @@ use Rattle.asgi_request.proofs.TextLemmas.{tells}
 use Rattle.asgi_request.proofs.LineLemmas.{line_search_for, section_search_for}
 use Rattle.asgi_request.proofs.ForwardLemmas.{yes_lt, no_lt, ended, SizeRead, size_read, chunk_first}
 use Rattle.asgi_request.specs.BodyTexts.{size_in, is_section}
-use Rattle.asgi_request.specs.BodyOf.{Decoded, no_piece, with_piece, trailers_at, trailers_of, chunk_of, behind_size, at_line, chunks_from, chunks_of, body_events, body_state}
+use Rattle.asgi_request.specs.BodyOf.{Decoded, no_piece, with_piece, trailers_at, trailers_of, chunk_of, after_size_line, at_line, chunks_from, chunks_of, body_events, body_state}
 use Rattle.asgi_request.proofs.BodyGrowthLemmas.{body_grows, body_is_one}
 use Rattle.asgi_request.proofs.SizeTestLemmas.{size_parses}
 use Rattle.asgi_request.proofs.TrailerTestLemmas.{trailers_parse}
 
--- ---- a text that is found stands in front
+-- ---- a text that is found stands at the front
 
 front_splits : (len : List ℕ → Option ℕ) → IsSearch len → (limit : ℕ) (bytes text : List ℕ) → front_at limit bytes (len bytes) ≡ found text
     → bytes ≡ text ++ drop (length text) bytes
@@ -132,10 +132,10 @@ chunk_sound limits sum bytes rest line h s some fits go goes = by (nat_lt (lengt
 size_sound : (limits : Limits) (sum : ℕ) (bytes text rest : List ℕ) → sum ≤ limits.max_body → IsFirstWithin EndsAsLine size_line_limit bytes text rest
     → length rest ≤ length bytes → (go : ℕ → List ℕ → Decoded)
     → ((n : ℕ) (more : List ℕ) → sum + n ≤ limits.max_body → length more < length bytes → Sound limits (sum + n) more (go (sum + n) more))
-    → (o : Option ℕ) → ParsesSize text o → Sound limits sum bytes (behind_size limits sum rest go o)
+    → (o : Option ℕ) → ParsesSize text o → Sound limits sum bytes (after_size_line limits sum rest go o)
 size_sound limits sum bytes text rest h x shorter go goes None p = ended limits sum bytes body.bad_line h (inr (text, rest, x, p))
 size_sound limits sum bytes text rest h x shorter go goes (Some n) p =
-    subst (λ (k : ℕ). Sound limits sum bytes (behind_size limits sum rest go (Some k))) (sym p.2)
+    subst (λ (k : ℕ). Sound limits sum bytes (after_size_line limits sum rest go (Some k))) (sym p.2)
     (by p.0 (size_read bytes text rest p.0 x p.1 x.0.splits) (nat_lt limits.max_body (sum + chunk_size p.0)) (chunk_size p.0 == 0) refl refl)
   where
     by : (line : ChunkLine) → SizeRead bytes rest line → (a b : Bool) → nat_lt limits.max_body (sum + chunk_size line) ≡ a → (chunk_size line == 0) ≡ b
@@ -183,18 +183,18 @@ body_is_computed limits framing bytes events state = (
       ),
 )
 
--- ---- more bytes behind a body that is whole or faulty
+-- ---- more bytes after a body that is whole or faulty
 
 grown : (limits : Limits) (framing : Framing) (bytes : List ℕ) (events : List Incoming) (state : BodyState)
     → body_events limits framing bytes ≡ events → body_state limits framing bytes ≡ state → ReadsBody limits framing bytes events state
 grown limits framing bytes events state e f = (body_is_computed limits framing bytes events state).1 (sym e, sym f)
 
-pub whole_grows : (limits : Limits) (framing : Framing) (bytes more : List ℕ) (events : List Incoming) (behind : List ℕ)
-    → ReadsBody limits framing bytes events (complete behind) → ReadsBody limits framing (bytes ++ more) events (complete (behind ++ more))
-whole_grows limits framing bytes more events behind x =
+pub whole_grows : (limits : Limits) (framing : Framing) (bytes more : List ℕ) (events : List Incoming) (after : List ℕ)
+    → ReadsBody limits framing bytes events (complete after) → ReadsBody limits framing (bytes ++ more) events (complete (after ++ more))
+whole_grows limits framing bytes more events after x =
     let all = bytes ++ more in
-    let g = body_grows limits framing bytes more events (body_events limits framing all) (complete behind) (body_state limits framing all) x (body_is_read limits framing all) in
-    grown limits framing all events (complete (behind ++ more)) g.stays.0 g.stays.1
+    let g = body_grows limits framing bytes more events (body_events limits framing all) (complete after) (body_state limits framing all) x (body_is_read limits framing all) in
+    grown limits framing all events (complete (after ++ more)) g.stays.0 g.stays.1
 
 pub faulty_grows : (limits : Limits) (framing : Framing) (bytes more : List ℕ) (events : List Incoming) (why : Refusal)
     → ReadsBody limits framing bytes events (faulty why) → ReadsBody limits framing (bytes ++ more) events (faulty why)

@@ -1,4 +1,4 @@
--- What a reader gave behind a head is what is due of the body.
+-- What a reader gave after a head is what is due of the body.
 use Rattle.std.proofs.Common.{◌≡◌, ◌≢◌, ℕ, List, [], ◌∷◌, ◌++◌, ◌⊎◌, inl, inr, map, refl, sym, ap, ◌∙◌, append_assoc, append-nil, subst, Option, Some}
 use mathlib.Core.List.{IsPrefix}
 use Rattle.asgi_types.specs.declared.facts.Facts.{Facts}
@@ -27,13 +27,13 @@ use Rattle.asgi_request.proofs.BodyGrowthLemmas.{no_whole, mark, ends_as, BodyRu
 
 -- ---- where the reader stands
 
--- behind these results a body framed that way is due
+-- after these results a body framed that way is due
 abbrev pub OpensAt : Limits → List ℕ → List Next → Framing → List ℕ → Type 0
 OpensAt limits bytes opened framing arrived = Reaches limits bytes opened (body_place framing) arrived
 
--- behind these results a head is due
+-- after these results a head is due
 abbrev pub ClosesAt : Limits → List ℕ → List Next → List ℕ → Type 0
-ClosesAt limits bytes closed behind = Reaches limits bytes closed Start behind
+ClosesAt limits bytes closed after = Reaches limits bytes closed Start after
 
 -- ---- two runs over the same bytes
 
@@ -43,11 +43,11 @@ pub runs_compare : (limits : Limits) (place : Place) (bytes : List ℕ) (a : Lis
 runs_compare limits place bytes [] end rest b last left r q =
     let P : Place → Type 0 = λ p. Reads limits p bytes b last left in
     let R : List ℕ → Type 0 = λ l. Reads limits end l b last left in
-    inl (record { items_behind = b; splits = refl; reads = subst R r.1 (subst P r.0 q) })
+    inl (record { items_after = b; splits = refl; reads = subst R r.1 (subst P r.0 q) })
 runs_compare limits place bytes (x ∷ a) end rest [] last left r q =
     let P : Place → Type 0 = λ p. Reads limits p bytes (x ∷ a) end rest in
     let R : List ℕ → Type 0 = λ l. Reads limits last l (x ∷ a) end rest in
-    inr (record { items_behind = x ∷ a; splits = refl; reads = subst R q.1 (subst P q.0 r) })
+    inr (record { items_after = x ∷ a; splits = refl; reads = subst R q.1 (subst P q.0 r) })
 runs_compare limits place bytes (x ∷ a) end rest (y ∷ b) last left r q =
     let s : Judged = record { item = x; place = r.0 } in
     let t : Judged = record { item = y; place = q.0 } in
@@ -62,26 +62,26 @@ runs_compare limits place bytes (x ∷ a) end rest (y ∷ b) last left r q =
     on : x ≡ y → Further limits a end rest b last left ⊎ Further limits b last left a end rest
         → Further limits (x ∷ a) end rest (y ∷ b) last left ⊎ Further limits (y ∷ b) last left (x ∷ a) end rest
     on e (inl f) = inl (record {
-      items_behind = f.items_behind;
+      items_after = f.items_after;
       splits = ap (λ (o : Option Next). o ∷ b) (sym e) ∙ ap (λ (l : List (Option Next)). x ∷ l) f.splits;
       reads = f.reads;
     })
     on e (inr f) = inr (record {
-      items_behind = f.items_behind;
+      items_after = f.items_after;
       splits = ap (λ (o : Option Next). o ∷ a) e ∙ ap (λ (l : List (Option Next)). y ∷ l) f.splits;
       reads = f.reads;
     })
 
--- ---- what was given behind the head
+-- ---- what was given after the head
 
-pub same_behind : (a b c : List Next) → a ++ b ≡ a ++ c → b ≡ c
-same_behind [] b c e = e
-same_behind (x ∷ a) b c e = same_behind a b c cc
+pub same_after : (a b c : List Next) → a ++ b ≡ a ++ c → b ≡ c
+same_after [] b c e = e
+same_after (x ∷ a) b c e = same_after a b c cc
 
 -- Of a body's events and their end some were given, or all of them and then that the request is whole.
 data IsGiven (due : List Incoming) (state : BodyState) (given : List Next) : Type 0 where
   within : (tail : List Next) → map Event due ++ mark state ≡ given ++ tail → IsGiven due state given
-  beyond : (behind : List ℕ) (tail : List Next) → state ≡ complete behind → given ≡ map Event due ++ Whole ∷ tail → IsGiven due state given
+  beyond : (after : List ℕ) (tail : List Next) → state ≡ complete after → given ≡ map Event due ++ Whole ∷ tail → IsGiven due state given
 
 pub not_further : (limits : Limits) (end : Place) (rest : List ℕ) (items : List (Option Next)) (last : Place) (left : List ℕ) → front limits end rest ≡ unfinished
     → Reads limits end rest items last left → items ≡ []
@@ -105,21 +105,21 @@ given_of limits bytes opened given framing arrived due state place held x plain 
     on partial end rest items e q g = within [] (sym (g ∙ ap (λ (l : List (Option Next)). (map Event due ++ []) ++ shown l) (not_further limits end rest items place held e q) ∙ append-nil (map Event due ++ [])) ∙ sym (append-nil given))
     on (faulty why) end rest items e q g =
         within [] (sym (g ∙ ap (λ (l : List (Option Next)). (map Event due ++ mark (faulty why)) ++ shown l) (not_further limits end rest items place held e q) ∙ append-nil (map Event due ++ mark (faulty why))) ∙ sym (append-nil given))
-    on (complete behind) end rest [] e q g = within [] (sym (g ∙ append-nil (map Event due ++ [])) ∙ sym (append-nil given))
-    on (complete behind) end rest (item ∷ items) e q g =
-        let w : item ≡ Some Whole = only_whole limits (complete behind) end rest e item q.0 q.1 q.2 in
-        beyond behind (shown items) refl
+    on (complete after) end rest [] e q g = within [] (sym (g ∙ append-nil (map Event due ++ [])) ∙ sym (append-nil given))
+    on (complete after) end rest (item ∷ items) e q g =
+        let w : item ≡ Some Whole = only_whole limits (complete after) end rest e item q.0 q.1 q.2 in
+        beyond after (shown items) refl
         (g ∙ ap (λ (l : List Next). l ++ shown (item ∷ items)) (append-nil (map Event due)) ∙ ap (λ (o : Option Next). map Event due ++ shown (o ∷ items)) w)
 
     by : Further limits r.steps place held c.steps b.end b.rest ⊎ Further limits c.steps b.end b.rest r.steps place held → IsGiven due state given
-    by (inl f) = within (shown f.items_behind)
-        (same_behind opened (map Event due ++ mark state) (given ++ shown f.items_behind)
-        (sym c.shows ∙ ap shown f.splits ∙ shown-append r.steps f.items_behind ∙ ap (λ (l : List Next). l ++ shown f.items_behind) r.shows
-        ∙ append_assoc opened given (shown f.items_behind)))
-    by (inr f) = on state b.end b.rest f.items_behind b.ends f.reads
-        (same_behind opened given ((map Event due ++ mark state) ++ shown f.items_behind)
-        (sym r.shows ∙ ap shown f.splits ∙ shown-append c.steps f.items_behind ∙ ap (λ (l : List Next). l ++ shown f.items_behind) c.shows
-        ∙ append_assoc opened (map Event due ++ mark state) (shown f.items_behind)))
+    by (inl f) = within (shown f.items_after)
+        (same_after opened (map Event due ++ mark state) (given ++ shown f.items_after)
+        (sym c.shows ∙ ap shown f.splits ∙ shown-append r.steps f.items_after ∙ ap (λ (l : List Next). l ++ shown f.items_after) r.shows
+        ∙ append_assoc opened given (shown f.items_after)))
+    by (inr f) = on state b.end b.rest f.items_after b.ends f.reads
+        (same_after opened given ((map Event due ++ mark state) ++ shown f.items_after)
+        (sym r.shows ∙ ap shown f.splits ∙ shown-append c.steps f.items_after ∙ ap (λ (l : List Next). l ++ shown f.items_after) c.shows
+        ∙ append_assoc opened (map Event due ++ mark state) (shown f.items_after)))
 
 -- ---- lists of results
 
@@ -161,7 +161,7 @@ bad_at : (more : List Incoming) (state : BodyState) (status : ℕ) (tail : List 
 unfolding mark
 bad_at (x ∷ more) state status tail e = cc
 bad_at [] partial status tail e = cc
-bad_at [] (complete behind) status tail e = cc
+bad_at [] (complete after) status tail e = cc
 bad_at [] (faulty why) status tail e =
     let first : Bad (status_of why) ≡ Bad status = cc e in
     (refl, (why, refl, cc first))
@@ -170,7 +170,7 @@ no_head_at : (more : List Incoming) (state : BodyState) (scope : Scope) (facts :
 unfolding mark
 no_head_at (x ∷ more) state scope facts tail e = cc
 no_head_at [] partial scope facts tail e = cc
-no_head_at [] (complete behind) scope facts tail e = cc
+no_head_at [] (complete after) scope facts tail e = cc
 no_head_at [] (faulty why) scope facts tail e = cc
 
 -- ---- what was given is due
@@ -182,15 +182,15 @@ module _ (limits : Limits) (bytes : List ℕ) (opened : List Next) (framing : Fr
     where
       by : IsGiven due state (map Event events) → IsPrefix events due
       by (within tail e) = let c = continues events due tail state e in (c.more, c.splits)
-      by (beyond behind tail e g) = absurd (whole_there due tail (subst no_whole g (events_no_whole events)))
+      by (beyond after tail e g) = absurd (whole_there due tail (subst no_whole g (events_no_whole events)))
 
   pub whole_is_complete : (events : List Incoming) → Reaches limits bytes (opened ++ (map Event events ++ Whole ∷ [])) place held
-      → (events ≡ due) × ((behind : List ℕ) × (state ≡ complete behind))
+      → (events ≡ due) × ((after : List ℕ) × (state ≡ complete after))
   whole_is_complete events r = by (given_of limits bytes opened (map Event events ++ Whole ∷ []) framing arrived due state place held x plain body r)
     where
-      by : IsGiven due state (map Event events ++ Whole ∷ []) → (events ≡ due) × ((behind : List ℕ) × (state ≡ complete behind))
+      by : IsGiven due state (map Event events ++ Whole ∷ []) → (events ≡ due) × ((after : List ℕ) × (state ≡ complete after))
       by (within tail e) = absurd (whole_there events tail (subst no_whole (e ∙ append_assoc (map Event events) (Whole ∷ []) tail) (marked_no_whole due state)))
-      by (beyond behind tail e g) = (whole_at events due tail g, (behind, e))
+      by (beyond after tail e g) = (whole_at events due tail g, (after, e))
 
   pub bad_is_faulty : (events : List Incoming) (status : ℕ) → Reaches limits bytes (opened ++ (map Event events ++ Bad status ∷ [])) place held
       → (events ≡ due) × IsFaultyBy status state
@@ -201,7 +201,7 @@ module _ (limits : Limits) (bytes : List ℕ) (opened : List Next) (framing : Fr
           let c = continues events due (Bad status ∷ tail) state (e ∙ append_assoc (map Event events) (Bad status ∷ []) tail) in
           let f = bad_at c.more state status tail c.same in
           (sym (none_more events due c.more c.splits f.0), f.1)
-      by (beyond behind tail e g) = absurd (whole_there due tail (subst no_whole g (refused_no_whole events status)))
+      by (beyond after tail e g) = absurd (whole_there due tail (subst no_whole g (refused_no_whole events status)))
 
   -- inside a body the reader gives no head
   pub no_head : (events : List Incoming) (scope : Scope) (facts : Facts) → Reaches limits bytes (opened ++ (map Event events ++ Head scope facts ∷ [])) place held → ⊥
@@ -211,16 +211,16 @@ module _ (limits : Limits) (bytes : List ℕ) (opened : List Next) (framing : Fr
       by (within tail e) =
           let c = continues events due (Head scope facts ∷ tail) state (e ∙ append_assoc (map Event events) (Head scope facts ∷ []) tail) in
           no_head_at c.more state scope facts tail c.same
-      by (beyond behind tail e g) = whole_there due tail (subst no_whole g (head_no_whole events scope facts))
+      by (beyond after tail e g) = whole_there due tail (subst no_whole g (head_no_whole events scope facts))
 
 marked_there : (l : List Incoming) (s : BodyState) (tail : List Next) → no_whole ((map Event l ++ mark s) ++ Whole ∷ tail) → ⊥
 unfolding no_whole mark
 marked_there [] partial tail n = n
-marked_there [] (complete behind) tail n = n
+marked_there [] (complete after) tail n = n
 marked_there [] (faulty why) tail n = n
 marked_there (z ∷ l) s tail n = marked_there l s tail n
 
--- where the reader needs more, all was given, and the body is partial
+-- if the reader needs more, all was given, and the body is partial
 waits_at : (limits : Limits) (bytes : List ℕ) (opened : List Next) (framing : Framing) (arrived : List ℕ) (due : List Incoming) (state : BodyState)
     (place : Place) (held : List ℕ) (events : List Incoming) → OpensAt limits bytes opened framing arrived → framing ≢ Upgrade → ReadsBody limits framing arrived due state
     → Reaches limits bytes (opened ++ map Event events) place held → front limits place held ≡ unfinished → (events ≡ due) × (state ≡ partial)
@@ -239,7 +239,7 @@ waits_at limits bytes opened framing arrived due state place held events x plain
     ends partial end rest e p h g =
         let k = continues events due [] partial (g ∙ sym (append-nil (map Event events))) in
         (sym (none_more events due k.more k.splits (nothing_more k.more partial k.same)), refl)
-    ends (complete behind) end rest e p h g = absurd (no_front limits place held (p ∙ e.0) waits)
+    ends (complete after) end rest e p h g = absurd (no_front limits place held (p ∙ e.0) waits)
     ends (faulty why) end rest e p h g = absurd (
         let k = continues events due [] (faulty why) (g ∙ sym (append-nil (map Event events))) in
         let n = nothing_more k.more (faulty why) k.same in
@@ -250,7 +250,7 @@ waits_at limits bytes opened framing arrived due state place held events x plain
     joined items e front_ = ap (λ (l : List (Option Next)). front_ ++ l) e ∙ append-nil front_
 
     shows_of : c.steps ≡ r.steps → map Event due ++ mark state ≡ map Event events
-    shows_of e = same_behind opened (map Event due ++ mark state) (map Event events) (sym c.shows ∙ ap shown e ∙ r.shows)
+    shows_of e = same_after opened (map Event due ++ mark state) (map Event events) (sym c.shows ∙ ap shown e ∙ r.shows)
 
     on : (s : BodyState) (end : Place) (rest : List ℕ) (items : List (Option Next)) → ends_as limits s end rest → Reads limits end rest items place held
         → map Event events ≡ (map Event due ++ mark s) ++ shown items → items ≡ []
@@ -261,18 +261,18 @@ waits_at limits bytes opened framing arrived due state place held events x plain
 
     by : Further limits c.steps b.end b.rest r.steps place held ⊎ Further limits r.steps place held c.steps b.end b.rest → (events ≡ due) × (state ≡ partial)
     by (inl f) =
-        let g = same_behind opened (map Event events) ((map Event due ++ mark state) ++ shown f.items_behind)
-        (sym r.shows ∙ ap shown f.splits ∙ shown-append c.steps f.items_behind ∙ ap (λ (l : List Next). l ++ shown f.items_behind) c.shows
-        ∙ append_assoc opened (map Event due ++ mark state) (shown f.items_behind)) in
-        let n = on state b.end b.rest f.items_behind b.ends f.reads g in
+        let g = same_after opened (map Event events) ((map Event due ++ mark state) ++ shown f.items_after)
+        (sym r.shows ∙ ap shown f.splits ∙ shown-append c.steps f.items_after ∙ ap (λ (l : List Next). l ++ shown f.items_after) c.shows
+        ∙ append_assoc opened (map Event due ++ mark state) (shown f.items_after)) in
+        let n = on state b.end b.rest f.items_after b.ends f.reads g in
         let P : List (Option Next) → Type 0 = λ l. Reads limits b.end b.rest l place held in
         let q : Reads limits b.end b.rest [] place held = subst P n f.reads in
-        ends state b.end b.rest b.ends (sym q.0) (sym q.1) (shows_of (sym (f.splits ∙ joined f.items_behind n c.steps)))
+        ends state b.end b.rest b.ends (sym q.0) (sym q.1) (shows_of (sym (f.splits ∙ joined f.items_after n c.steps)))
     by (inr f) =
-        let n = not_further limits place held f.items_behind b.end b.rest waits f.reads in
+        let n = not_further limits place held f.items_after b.end b.rest waits f.reads in
         let P : List (Option Next) → Type 0 = λ l. Reads limits place held l b.end b.rest in
         let q : Reads limits place held [] b.end b.rest = subst P n f.reads in
-        ends state b.end b.rest b.ends q.0 q.1 (shows_of (f.splits ∙ joined f.items_behind n r.steps))
+        ends state b.end b.rest b.ends q.0 q.1 (shows_of (f.splits ∙ joined f.items_after n r.steps))
 
 pub need_is_partial : (limits : Limits) (bytes : List ℕ) (opened : List Next) (framing : Framing) (arrived : List ℕ) (due : List Incoming) (state : BodyState) (events : List Incoming) (rest : List ℕ)
     → OpensAt limits bytes opened framing arrived → framing ≢ Upgrade → ReadsBody limits framing arrived due state → GivesResults limits bytes (opened ++ map Event events) rest → (events ≡ due) × (state ≡ partial)
@@ -280,12 +280,12 @@ need_is_partial limits bytes opened framing arrived due state events rest x plai
     let r = results_of limits limits.block_in_range.0 bytes (opened ++ map Event events) rest g in
     waits_at limits bytes opened framing arrived due state r.place r.rest events x plain body r.reaches r.waits
 
--- behind a whole body the request is whole, and what stands behind it is before the next head
-pub whole_goes_on : (limits : Limits) (bytes : List ℕ) (opened : List Next) (framing : Framing) (arrived : List ℕ) (events : List Incoming) (behind : List ℕ)
-    → OpensAt limits bytes opened framing arrived → framing ≢ Upgrade → ReadsBody limits framing arrived events (complete behind)
-    → Reaches limits bytes (opened ++ (map Event events ++ Whole ∷ [])) Start behind
-whole_goes_on limits bytes opened framing arrived events behind x plain body =
-    let last = one limits BodyEnd behind (Some Whole) Start behind (takes_found limits BodyEnd behind [] behind (gives Whole Start) refl refl refl) in
-    let on = goes_on limits (body_place framing) arrived (map Event events) BodyEnd behind (Whole ∷ []) Start behind (body_goes limits limits.block_in_range.0 framing arrived events (complete behind) plain body) last in
-    let all = goes_on limits Start bytes opened (body_place framing) arrived (map Event events ++ Whole ∷ []) Start behind (record { steps = x.steps; reads = x.reads; shows = x.shows }) on in
+-- after a whole body the request is whole, and the next head is due in what stands after it
+pub whole_goes_on : (limits : Limits) (bytes : List ℕ) (opened : List Next) (framing : Framing) (arrived : List ℕ) (events : List Incoming) (after : List ℕ)
+    → OpensAt limits bytes opened framing arrived → framing ≢ Upgrade → ReadsBody limits framing arrived events (complete after)
+    → Reaches limits bytes (opened ++ (map Event events ++ Whole ∷ [])) Start after
+whole_goes_on limits bytes opened framing arrived events after x plain body =
+    let last = one limits BodyEnd after (Some Whole) Start after (takes_found limits BodyEnd after [] after (gives Whole Start) refl refl refl) in
+    let on = goes_on limits (body_place framing) arrived (map Event events) BodyEnd after (Whole ∷ []) Start after (body_goes limits limits.block_in_range.0 framing arrived events (complete after) plain body) last in
+    let all = goes_on limits Start bytes opened (body_place framing) arrived (map Event events ++ Whole ∷ []) Start after (record { steps = x.steps; reads = x.reads; shows = x.shows }) on in
     record { steps = all.steps; reads = all.reads; shows = all.shows }

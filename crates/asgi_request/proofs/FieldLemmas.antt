@@ -12,7 +12,7 @@ use Rattle.httparse.specs.Grammar.{AllPass, Field, IsField, field_value}
 use Rattle.httparse.specs.declared.spans.HeaderSpan.{HeaderSpan}
 use Rattle.httparse.specs.Spans.{span_bytes, header_bytes, name_and_value}
 use Rattle.httparse.proofs.TrimLemmas.{AllPass-trim_ows}
-use Rattle.asgi_request.specs.Steps.{IsKeepable}
+use Rattle.asgi_request.specs.private.Steps.{IsKeepable}
 use Rattle.asgi_types.specs.declared.headers.HeaderError.{HeaderError}
 use Rattle.asgi_types.specs.declared.headers.HeaderError.TheVariants.{BadName, BadValue}
 

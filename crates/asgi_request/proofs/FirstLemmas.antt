@@ -1,4 +1,4 @@
--- What was given are the first results of a front of the bytes.
+-- What was given are the first results of a prefix of the bytes.
 use Rattle.std.proofs.Common.{◌≡◌, ℕ, zero, suc, ◌<◌, ◌≤◌, inl, inr, length, take, Bool, true, false, List, [], ◌∷◌, ◌++◌, refl, sym, ap, ◌∙◌, subst, append_assoc, arith, Option, Some, None}
 use Rattle.std.specs.Prelude.{◌⊎◌, nat_le, min, if◌then◌else◌}
 use Rattle.std.proofs.lemmas.List.{append-nil, length-take-le, take_all}
@@ -203,7 +203,7 @@ open_after limits (Stopped why) = ([], waiting limits (Stopped why) [] refl)
 all_of : (limits : Limits) (bytes : List ℕ) (given : List Next) (rest : List ℕ) → GivesResults limits bytes given rest → HasFirst limits bytes given
 all_of limits bytes given rest x = record {
   front = bytes;
-  behind = [];
+  after = [];
   further = [];
   rest = rest;
   splits = sym (append-nil bytes);
@@ -225,7 +225,7 @@ first_of limits bytes given place held x = by (cut_reads limits Start bytes x.st
         let all = then_ends limits Start p.passed given place [] on.0 (record { steps = x.steps; reads = p.reads; shows = x.shows }) on.1 in
         let results = all_results limits limits.block_in_range.0 p.passed (given ++ on.0) all.end all.rest
         (record { steps = all.goes.steps; reads = all.goes.reads; shows = all.goes.shows }) all.waits in
-        record { front = p.passed; behind = held; further = on.0; rest = results.0; splits = p.splits; gives = results.1 }
+        record { front = p.passed; after = held; further = on.0; rest = results.0; splits = p.splits; gives = results.1 }
 
 -- no bytes give no result
 pub none_gives : (limits : Limits) → (rest : List ℕ) × GivesResults limits [] [] rest
@@ -234,7 +234,7 @@ none_gives limits =
     all_results limits limits.block_in_range.0 [] [] all.end all.rest
     (record { steps = all.goes.steps; reads = all.goes.reads; shows = all.goes.shows }) all.waits
 
--- whole requests give the same results without the bytes behind them
+-- whole requests give the same results without the bytes after them
 pub whole_alone : (limits : Limits) (bytes : List ℕ) (given : List Next) (held : List ℕ) → Reaches limits bytes given Start held
     → (passed : List ℕ) × (bytes ≡ passed ++ held) × ((rest : List ℕ) × GivesResults limits passed given rest)
 unfolding IsStopped

@@ -32,10 +32,10 @@ use Rattle.asgi_request.proofs.BlockLemmas.{length_more, state_more, length_last
 
 -- ---- what is due from each place
 
--- what follows the events of a body, where E says what the bytes behind a request give
+-- what follows the events of a body; E states what the bytes after a request give
 abbrev pub Follows : (List ℕ → List Next → List ℕ → Type 0) → BodyState → List Next → Option (List ℕ) → Type 0
 Follows E partial tail r = (tail ≡ []) × (r ≡ None)
-Follows E (complete behind) tail r = (more : List Next) × (h : List ℕ) × E behind more h × (tail ≡ Whole ∷ more) × (r ≡ Some h)
+Follows E (complete after) tail r = (more : List Next) × (h : List ℕ) × E after more h × (tail ≡ Whole ∷ more) × (r ≡ Some h)
 Follows E (faulty why) tail r = (tail ≡ Bad (status_of why) ∷ []) × (r ≡ None)
 
 -- what follows within a chunk of which `left` bytes of data are due
@@ -47,8 +47,8 @@ RestOfChunk limits left sum bytes pieces state =
 
 abbrev pub TrailersAre : Limits → List ℕ → BodyState → Type 0
 TrailersAre limits bytes partial = IsUnfinished EndsAsSection limits.max_head bytes
-TrailersAre limits bytes (complete behind) =
-    (fields : List Field) × (end : LineEnd) × (bytes ≡ print_section fields end ++ behind)
+TrailersAre limits bytes (complete after) =
+    (fields : List Field) × (end : LineEnd) × (bytes ≡ print_section fields end ++ after)
     × IsTrailerSection limits.max_headers (print_section fields end) fields end × (length (print_section fields end) ≤ limits.max_head)
 TrailersAre limits bytes (faulty why) = IsBadSection limits bytes × (why ≡ BadRequest)
 
@@ -129,7 +129,7 @@ zero_is n h = grind (arith, nat_tests)
 above : (n : ℕ) → (n == 0) ≡ false → 0 < n
 above n h = grind (arith, nat_tests)
 
--- ---- so many bytes
+-- ---- n bytes
 
 abbrev pub FirstTells : ℕ → List ℕ → Front → Type 0
 FirstTells n bytes (found text) = (text ≡ take n bytes) × (n ≤ length bytes)
@@ -220,7 +220,7 @@ counted_good E limits h n bytes text rest turn t inside split e = by (nat_lt lim
 
 -- ---- a size line
 
--- no chunk in front
+-- no chunk at the front
 pub ended : (limits : Limits) (sum : ℕ) (bytes : List ℕ) (t : body.Tail) → sum ≤ limits.max_body → body.IsTail limits sum bytes t
     → ReadsChunks limits sum bytes (body.tail_pieces t) (tail_state t)
 ended limits sum bytes t h tail =
@@ -276,13 +276,13 @@ trailers_good E limits sum bytes rest line h s z = (tt, λ results r from. ([], 
     chunks (faulty why) x =
         subst (λ (w : Refusal). ReadsChunks limits sum bytes [] (faulty w)) (sym x.1)
         (ended limits sum bytes (body.bad_trailers line rest) h (record { splits = s.splits; line_is = s.line_is; zero_size = z }, x.0))
-    chunks (complete behind) x =
-        ended limits sum bytes (body.last (record { line = line; fields = x.0; end = x.1 }) behind) h (
+    chunks (complete after) x =
+        ended limits sum bytes (body.last (record { line = line; fields = x.0; end = x.1 }) after) h (
           record { line = s.line_is; zero_size = z; section = x.3; short = x.4 },
-          s.splits ∙ ap (λ (l : List ℕ). print_chunk_line line ++ l) x.2 ∙ sym (append_assoc (print_chunk_line line) (print_section x.0 x.1) behind),
+          s.splits ∙ ap (λ (l : List ℕ). print_chunk_line line ++ l) x.2 ∙ sym (append_assoc (print_chunk_line line) (print_section x.0 x.1) after),
         )
 
--- one chunk more in front
+-- one chunk more at the front
 pub chunk_first : (limits : Limits) (sum : ℕ) (bytes d more : List ℕ) (line : ChunkLine) (pieces : List Piece) (state : BodyState)
     → bytes ≡ print_chunk_line line ++ (d ++ (crlf_bytes ++ more)) → IsSizeLine line → 0 < chunk_size line → length d ≡ chunk_size line
     → ReadsChunks limits (sum + chunk_size line) more pieces state
@@ -371,7 +371,7 @@ line_good E limits sum bytes text rest turn h x split (Some size) parses e =
 
 -- ---- the data of a chunk
 
--- some of the data in front
+-- some of the data at the front
 rest_of_more : (limits : Limits) (left k sum : ℕ) (bytes text rest : List ℕ) (pieces : List Piece) (state : BodyState)
     → bytes ≡ text ++ rest → left ≡ length text + k → RestOfChunk limits k sum rest pieces state → RestOfChunk limits left sum bytes pieces state
 rest_of_more limits left k sum bytes text rest pieces state split e (inl x) =
@@ -419,10 +419,10 @@ chunk_good E limits h left sum bytes text rest turn some fits t inside split e =
         let text_is : text ≡ take b bytes = t ∙ ap (λ k. take k bytes) m in
         let there : b ≤ length bytes = omega (arith, inside, m) in
         let size : length text ≡ b = ap length text_is ∙ length-take-le b bytes there in
-        let behind : rest ≡ drop b bytes = rest_is b bytes text rest text_is there split in
+        let after : rest ≡ drop b bytes = rest_is b bytes text rest text_is there split in
         let cut = chunk_more b left bytes h (yes_lt b left far) there in
         let blocks_are : rest_blocks b left bytes ≡ text ∷ rest_blocks b (left - b) rest =
-        cut ∙ ap (λ (l : List ℕ). l ∷ rest_blocks b (left - b) (drop b bytes)) (sym text_is) ∙ ap (λ (l : List ℕ). text ∷ rest_blocks b (left - b) l) (sym behind) in
+        cut ∙ ap (λ (l : List ℕ). l ∷ rest_blocks b (left - b) (drop b bytes)) (sym text_is) ∙ ap (λ (l : List ℕ). text ∷ rest_blocks b (left - b) l) (sym after) in
         good E limits (Chunk left sum) bytes rest turn (gives (Event (HttpRequest text true)) (Chunk (left - b) sum)) (e ∙ chunk_turn_more left sum text b size (yes_lt b left far)) (
           (omega (arith, yes_lt b left far), fits),
           λ results r from. (
@@ -460,7 +460,7 @@ chunk_good E limits h left sum bytes text rest turn some fits t inside split e =
           ),
         )
 
--- ---- the two bytes behind a chunk
+-- ---- the two bytes after a chunk
 
 eq_yes : (a b : List ℕ) → bytes_eq a b ≡ true → a ≡ b
 eq_yes a b h = (bytes_eq-Decides a b).0 h
@@ -587,7 +587,7 @@ turn_good E limits h place bytes rest turn other fits takes = by (front limits p
     by too_long e split j = long_good E limits place bytes rest turn other fits e j
     by unfinished e split j = absurd j
 
--- where nothing is judged any more, nothing more is given
+-- if nothing is judged any more, nothing more is given
 pub open_from : (E : List ℕ → List Next → List ℕ → Type 0) (limits : Limits) → 0 < limits.block → (place : Place) (bytes : List ℕ)
     → (place ≡ Start → ⊥) → Fits limits place → front limits place bytes ≡ unfinished → From E limits place bytes [] None
 open_from E limits h Start bytes other fits f = absurd (other refl)

@@ -1,4 +1,4 @@
--- What the bytes begin with stays where more bytes follow.
+-- What the bytes begin with stays if more bytes follow.
 use Rattle.std.proofs.Common.{◌≡◌, ℕ, ◌+◌, ◌<◌, ◌≤◌, length, take, Bool, true, false, List, ◌++◌, refl, sym, ap, ◌∙◌, arith, Option, Some, None}
 use Rattle.std.specs.Prelude.{IfSome, nat_le, min, if◌then◌else◌}
 use Rattle.std.proofs.lemmas.Bool.Decides.{nat_tests}
@@ -11,7 +11,7 @@ use Rattle.asgi_request.specs.ChunkedBody.{size_line_limit}
 use Rattle.asgi_request.specs.Places.{front}
 use Rattle.asgi_request.proofs.Growth.{head_len-append, head_len-local, head_len-within, line_len-append, line_len-local, line_len-within, trailer_len-append, trailer_len-local, trailer_len-within}
 
--- a length that more bytes behind don't change
+-- a length that more bytes at the end don't change
 pub record IsSearch (len : List ℕ → Option ℕ) : Type 0 where
   pub append : (s t : List ℕ) (n : ℕ) → len s ≡ Some n → len (s ++ t) ≡ Some n
   pub local : (s t : List ℕ) (n : ℕ) → len (s ++ t) ≡ Some n → n ≤ length s → len s ≡ Some n

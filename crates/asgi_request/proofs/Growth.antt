@@ -1,4 +1,4 @@
--- A head text that was found stays where more bytes follow.
+-- A head text that was found stays if more bytes follow.
 use Rattle.std.proofs.Common.{◌≡◌, ℕ, zero, suc, ◌+◌, ◌≤◌, length, Bool, true, false, List, [], ◌∷◌, ◌++◌, refl, ap, ◌∙◌, arith, Option, Some, None}
 use Rattle.std.specs.Prelude.{nat_lt, ◌==◌, ◌&&◌, if◌then◌else◌, ◌-◌}
 use Rattle.std.specs.Option.{option_map}

@@ -1,4 +1,4 @@
--- Behind an opening handshake stand frames: which bytes they are, and that it stands behind whole requests.
+-- After an opening handshake stand frames: which bytes they are, and that it stands after whole requests.
 use Rattle.std.proofs.Common.{◌≡◌, ◌≢◌, ℕ, ◌⊎◌, inl, inr, Bool, true, false, List, [], ◌∷◌, ◌++◌, length, refl, sym, ap, ◌∙◌, append_assoc, subst, Option, Some, None, Result, Ok, Err, flat_map}
 use Rattle.std.specs.Prelude.{◌+◌, ◌-◌, ◌&&◌, ◌==◌, not, nat_lt, bytes_eq, codes, if◌then◌else◌}
 use Rattle.std.specs.Option.{unwrap_or}
@@ -119,7 +119,7 @@ turn_leads limits place unfinished turn j = absurd j
 
 -- ---- the head of an opening handshake
 
--- the turn gives the head of an opening handshake, behind which the frames stand
+-- the turn gives the head of an opening handshake, after which the frames stand
 abbrev GivesHandshake : Limits → List ℕ → List ℕ → Option Next → Type 0
 GivesHandshake limits bytes frames item =
     (head : RequestHead) × ReadsHead limits bytes head Upgrade frames × (item ≡ Some (Head (scope_of (record_of head) Upgrade) (facts_of (record_of head) Upgrade)))
@@ -151,18 +151,18 @@ start_upgrades limits bytes rest turn takes p = by (front limits Start bytes) re
     by too_long e split j = absurd (let o = off turn (after_too_long Start) j (long_off Start) in o.0 p)
     by unfinished e split j = absurd j
 
--- ---- a run to the frames behind an opening handshake
+-- ---- a run to the frames after an opening handshake
 
 -- the run up to its head, and the turn that gives it
 record ToHandshake (limits : Limits) (place : Place) (bytes : List ℕ) (items : List (Option Next)) (rest : List ℕ) : Type 0 where
   pub steps : List (Option Next)
-  pub behind : List ℕ
+  pub after : List ℕ
   pub item : Option Next
-  pub reads : Reads limits place bytes steps Start behind
-  pub turn : Takes limits Start behind (record { item = item; place = HandshakeEnd }) rest
+  pub reads : Reads limits place bytes steps Start after
+  pub turn : Takes limits Start after (record { item = item; place = HandshakeEnd }) rest
   pub splits : items ≡ steps ++ (item ∷ Some Whole ∷ [])
 
--- the run stands behind the handshake from the first, or behind its head, or goes there
+-- the run stands after the handshake from the first, or after its head, or goes there
 abbrev GoesUp : Limits → Place → List ℕ → List (Option Next) → List ℕ → Type 0
 GoesUp limits place bytes items rest =
     ((place ≡ Upgraded) × (items ≡ []) × (bytes ≡ rest))
@@ -190,7 +190,7 @@ step_up limits place bytes item items mid middle rest t (inr (inl x)) =
     let R : List ℕ → Type 0 = λ l. Takes limits Start bytes (record { item = item; place = HandshakeEnd }) l in
     inr (inr (record {
       steps = [];
-      behind = bytes;
+      after = bytes;
       item = item;
       reads = (start, refl);
       turn = subst R x.2 (subst M x.0 (subst P start t));
@@ -198,7 +198,7 @@ step_up limits place bytes item items mid middle rest t (inr (inl x)) =
     }))
 step_up limits place bytes item items mid middle rest t (inr (inr x)) = inr (inr (record {
   steps = item ∷ x.steps;
-  behind = x.behind;
+  after = x.after;
   item = x.item;
   reads = (mid, middle, t, x.reads);
   turn = x.turn;
@@ -210,16 +210,16 @@ goes_up : (limits : Limits) (place : Place) (bytes : List ℕ) (items : List (Op
 goes_up limits place bytes [] rest r = inl (r.0, refl, r.1)
 goes_up limits place bytes (item ∷ items) rest r = step_up limits place bytes item items r.0 r.1 rest r.2 (goes_up limits r.0 r.1 items rest r.3)
 
--- whole requests and then an opening handshake, and the frames behind it
+-- whole requests and then an opening handshake, and the frames after it
 pub record IsUpgraded (limits : Limits) (bytes : List ℕ) (given : List Next) (rest : List ℕ) : Type 0 where
   pub requests : List (List Next)
-  pub behind : List ℕ
+  pub after : List ℕ
   pub last : List Next
-  pub whole : AreRequests limits bytes requests behind
-  pub handshake : ReadsHandshake limits behind last rest
+  pub whole : AreRequests limits bytes requests after
+  pub handshake : ReadsHandshake limits after last rest
   pub given_are : given ≡ flat_map (λ request. request) requests ++ last
 
--- where the frames of an opening handshake are due, it was given behind whole requests
+-- if the frames of an opening handshake are due, the handshake was given after whole requests
 pub upgraded_at : (limits : Limits) (bytes : List ℕ) (given : List Next) (held : List ℕ) → Reaches limits bytes given Upgraded held → IsUpgraded limits bytes given held
 upgraded_at limits bytes given held x = by (goes_up limits Start bytes x.steps held x.reads)
   where
@@ -227,12 +227,12 @@ upgraded_at limits bytes given held x = by (goes_up limits Start bytes x.steps h
     by (inl y) = let never : Start ≡ Upgraded = y.0 in cc
     by (inr (inl y)) = let never : Start ≡ HandshakeEnd = y.0 in cc
     by (inr (inr y)) =
-        let whole = whole_requests limits limits.block_in_range.0 bytes (shown y.steps) y.behind (record { steps = y.steps; reads = y.reads; shows = refl }) in
-        let h = start_upgrades limits y.behind held (record { item = y.item; place = HandshakeEnd }) y.turn refl in
+        let whole = whole_requests limits limits.block_in_range.0 bytes (shown y.steps) y.after (record { steps = y.steps; reads = y.reads; shows = refl }) in
+        let h = start_upgrades limits y.after held (record { item = y.item; place = HandshakeEnd }) y.turn refl in
         let head = Head (scope_of (record_of h.0) Upgrade) (facts_of (record_of h.0) Upgrade) in
         record {
           requests = whole.0;
-          behind = y.behind;
+          after = y.after;
           last = head ∷ Whole ∷ [];
           whole = whole.1;
           handshake = record { head = h.0; head_is = h.1; results_are = refl };
@@ -247,7 +247,7 @@ pub handshake_alone : (limits : Limits) (bytes frames : List ℕ) (scope : Scope
     → GivesResults limits bytes (Head scope facts ∷ Whole ∷ []) frames
 handshake_alone limits bytes frames scope facts x = record {
   requests = [];
-  behind = bytes;
+  after = bytes;
   last = Head scope facts ∷ Whole ∷ [];
   whole = refl;
   goes_on = inr (record {
@@ -260,7 +260,7 @@ handshake_alone limits bytes frames scope facts x = record {
 
 -- ---- its key
 
--- the first case does not hold where it would say something else
+-- the first case does not hold if it would give something else
 pass_by : {A : Type 0} (wanted : A) (b : Bool) (x y : A) → (x ≡ wanted → ⊥) → (if b then x else y) ≡ wanted → (b ≡ false) × (y ≡ wanted)
 pass_by wanted true x y never e = absurd (never e)
 pass_by wanted false x y never e = (refl, e)

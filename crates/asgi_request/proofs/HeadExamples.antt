@@ -1,4 +1,4 @@
--- Two heads, computed: one that waits for `100 Continue` with a body of three bytes, and one with none behind it.
+-- Two heads, computed: one that waits for `100 Continue` with a body of three bytes, and one with none after it.
 use Rattle.std.proofs.Common.{◌≡◌, ℕ, true, false, List, [], ◌∷◌, ◌++◌, refl, codes, arith}
 use Rattle.std.specs.Prelude.{◌<◌, replicate}
 use Rattle.std.specs.List.{list_all}

@@ -8,7 +8,7 @@ use Rattle.httparse.specs.Grammar.{LineEnd, crlf, lf, print_end}
 use Rattle.asgi_request.specs.HeadText.{is_line_break, EndsAsHead}
 use Rattle.asgi_request.specs.Fronts.{empty_line_len, more, lines_len, head_len}
 
--- ---- what is behind a `more`
+-- ---- what a `more` was made of
 
 more-some : (k : ℕ) (o : Option ℕ) (n : ℕ) → more k o ≡ Some n → (m : ℕ) × (o ≡ Some m) × (n ≡ k + m)
 more-some k None n e = cc
@@ -81,7 +81,7 @@ head_found (b ∷ blank) first lines last rest all e =
     let size : 1 + k ≡ length (b ∷ blank) + (1 + (length lines + (1 + length (print_end last)))) = omega arith in
     subst (λ n. Finds (head_len (b ∷ s)) n) size (subst (λ (o : Option ℕ). Finds o (1 + k)) (sym there) on)
 
--- where a text in front of the bytes ends as a head does, a length is found, and it is at most the text's
+-- if a text that the bytes begin with ends as a head does, a length is found, and it is at most the text's
 pub text_found : (text rest : List ℕ) → EndsAsHead text → Finds (head_len (text ++ rest)) (length text)
 text_found text rest h =
     let found = head_found h.blank h.first h.lines h.last rest h.only_breaks h.no_break in
@@ -100,7 +100,7 @@ text_found text rest h =
 
 -- ---- what was found ends as a head does
 
--- the first n of the bytes are there, and end an empty line behind a line feed
+-- the first n of the bytes are there, and end an empty line after a line feed
 pub record EndsLines (s : List ℕ) (n : ℕ) : Type 0 where
   pub lines : List ℕ
   pub last : LineEnd
@@ -177,7 +177,7 @@ pub lines_sound : (s : List ℕ) (n : ℕ) → lines_len s ≡ Some n → EndsLi
 lines_sound [] n e = cc
 lines_sound (b ∷ s) n e = lines_by b s n (b == 10 && nat_lt 0 (empty_line_len s)) refl e (λ m f. lines_sound s m f)
 
--- the bytes have this length in front, and end there as a head does
+-- the bytes are at least this long, and up to this length end as a head does
 pub record Ends (bytes : List ℕ) (n : ℕ) : Type 0 where
   pub inside : n ≤ length bytes
   pub ends : EndsAsHead (take n bytes)

@@ -1,4 +1,4 @@
--- Behind the last result of a request, what is due next is a head.
+-- After the last result of a request, what is due next is a head.
 use Rattle.std.proofs.Common.{◌≡◌, ℕ, ◌-◌, ◌+◌, ◌⊎◌, Bool, true, false, List, [], ◌∷◌, ◌++◌, append-nil, flat_map, length, inl, inr, refl, sym, ap, ◌∙◌, subst, Option, Some, None, Result, Ok, Err}
 use Rattle.std.specs.Prelude.{nat_lt, ◌==◌, if◌then◌else◌, bytes_eq}
 use Rattle.httparse.specs.Ascii.{crlf_bytes}
@@ -20,7 +20,7 @@ use Rattle.asgi_request.proofs.HandshakeLemmas.{upgraded_at}
 use Rattle.asgi_request.proofs.StandardLemmas.{whole_requests}
 use Rattle.asgi_request.specs.Places.{front, bad, silent, gives, after_framing, after_head, after_counted, after_chunk, after_size, after_chunk_end, after_trailers, after_too_long, JudgesText, Judges, Takes, Reads, shown, Reaches}
 
--- behind `Whole` a head is due, or frames stand there
+-- after `Whole` a head is due, or frames stand there
 abbrev EndsRequest : Place → Type 0
 EndsRequest place = (place ≡ Start) ⊎ (place ≡ Upgraded)
 
@@ -110,7 +110,7 @@ silent_start limits bytes (None ∷ items) end rest r e =
     absurd (start_loud limits (front limits Start bytes) (record { item = None; place = r.0 }) r.2.judged refl)
 silent_start limits bytes (Some x ∷ items) end rest r e = cc
 
--- and behind an opening handshake there are no turns
+-- and after an opening handshake there are no turns
 no_turn : (limits : Limits) (bytes rest : List ℕ) (turn : Judged) → Takes limits Upgraded bytes turn rest → ⊥
 no_turn limits bytes rest turn t = t.judged
 
@@ -138,7 +138,7 @@ whole_start limits place bytes (Some x ∷ items) end rest [] r e =
 whole_start limits place bytes (Some x ∷ items) end rest (b ∷ before) r e =
     whole_start limits r.0 r.1 items end rest before r.3 (tail_of x b (shown items) (before ++ Whole ∷ []) e).1
 
--- where the last result is `Whole`, or none was given, a head is due, or frames stand there
+-- if the last result is `Whole`, or none was given, a head is due, or frames stand there
 pub between : (limits : Limits) (bytes : List ℕ) (given : List Next) (place : Place) (held : List ℕ) → Reaches limits bytes given place held
     → EndsWhole given → EndsRequest place
 between limits bytes given place held x (inl e) = inl (silent_start limits bytes x.steps place held x.reads (x.shows ∙ e))
@@ -155,7 +155,7 @@ held_is r bytes given held stands ends e =
     by : EndsRequest r.place → WholeGiven r bytes given r.held
     by (inl s) =
         let whole = whole_requests r.limits r.limits.block_in_range.0 bytes given r.held (reached Start s) in
-        record { requests = whole.0; behind = r.held; last = []; whole = whole.1; goes_on = inl (refl, refl); given_are = whole.2 ∙ sym (append-nil (flat_map (λ q. q) whole.0)) }
+        record { requests = whole.0; after = r.held; last = []; whole = whole.1; goes_on = inl (refl, refl); given_are = whole.2 ∙ sym (append-nil (flat_map (λ q. q) whole.0)) }
     by (inr s) =
         let h = upgraded_at r.limits bytes given r.held (reached Upgraded s) in
-        record { requests = h.requests; behind = h.behind; last = h.last; whole = h.whole; goes_on = inr h.handshake; given_are = h.given_are }
+        record { requests = h.requests; after = h.after; last = h.last; whole = h.whole; goes_on = inr h.handshake; given_are = h.given_are }

@@ -6,30 +6,30 @@ use Rattle.std.proofs.lemmas.Bool.Decides.{nat_tests}
 use Rattle.std.proofs.lemmas.List.{get_or-drop, length-drop}
 use Rattle.memchr.specs.Find.{IsFirst, IsFirstByte, NoneBefore, Nowhere, Passes, is_byte}
 use Rattle.asgi_request.specs.Fronts.{more, lines_len, line_len}
-use Rattle.asgi_request.specs.Searches.{GoesFrom}
+use Rattle.asgi_request.specs.private.Searches.{GoesFrom}
 use Rattle.asgi_request.proofs.SearchLemmas.{here, section_step, line_step}
 
--- ---- the answer of a search behind `from`, by the places of all bytes
+-- ---- the answer of a search after `from`, by the places of all bytes
 
-read_behind : (bytes : List ℕ) (from k : ℕ) → from ≤ k → get_or bytes k 0 ≡ get_or (drop from bytes) (k - from) 0
-read_behind bytes from k low =
+read_after : (bytes : List ℕ) (from k : ℕ) → from ≤ k → get_or bytes k 0 ≡ get_or (drop from bytes) (k - from) 0
+read_after bytes from k low =
     let same : k ≡ from + (k - from) = omega (arith, low) in
     ap (λ (i : ℕ). get_or bytes i 0) same ∙ sym (get_or-drop from bytes (k - from) 0)
 
-nowhere_behind : (test : ℕ → Bool) (bytes : List ℕ) (from n end : ℕ) → end ≤ from + n
+nowhere_after : (test : ℕ → Bool) (bytes : List ℕ) (from n end : ℕ) → end ≤ from + n
     → Nowhere (Passes test (drop from bytes)) 0 n → Nowhere (Passes test bytes) from end
-nowhere_behind test bytes from n end far none k low high p =
-    none (k - from) (omega arith) (omega arith) (subst (λ (b : ℕ). test b ≡ true) (read_behind bytes from k low) p)
+nowhere_after test bytes from n end far none k low high p =
+    none (k - from) (omega arith) (omega arith) (subst (λ (b : ℕ). test b ≡ true) (read_after bytes from k low) p)
 
-pub first_behind : (test : ℕ → Bool) (bytes : List ℕ) (from : ℕ) (r : Option ℕ) → from ≤ length bytes
+pub first_after : (test : ℕ → Bool) (bytes : List ℕ) (from : ℕ) (r : Option ℕ) → from ≤ length bytes
     → IsFirstByte test (drop from bytes) r → IsFirst (Passes test bytes) from (length bytes) (more from r)
-first_behind test bytes from None inside none =
-    nowhere_behind test bytes from (length (drop from bytes)) (length bytes) (omega (arith, length-drop from bytes)) none
-first_behind test bytes from (Some i) inside h = (
+first_after test bytes from None inside none =
+    nowhere_after test bytes from (length (drop from bytes)) (length bytes) (omega (arith, length-drop from bytes)) none
+first_after test bytes from (Some i) inside h = (
   record {
     low = omega arith;
     high = omega (arith, h.0.high, length-drop from bytes);
-    before = nowhere_behind test bytes from i (from + i) (omega arith) h.0.before;
+    before = nowhere_after test bytes from i (from + i) (omega arith) h.0.before;
   },
   subst (λ (b : ℕ). test b ≡ true) (get_or-drop from bytes i 0) h.1,
 )
@@ -59,7 +59,7 @@ line_feed_is b same = grind (arith, nat_tests)
 is_other : (b : ℕ) → ((b == 10) ≡ true → ⊥) → (b == 10) ≡ false
 is_other b differs = ⊎_elim (λ same. absurd (differs same)) (λ other. other) (cases_Bool (b == 10))
 
--- no empty line follows a line feed where there is none
+-- without a line feed no empty line follows one
 pub section_past : (bytes : List ℕ) (from at i : ℕ) → at ≤ i → i ≤ length bytes → Nowhere (Passes (is_byte 10) bytes) at i
     → GoesFrom lines_len lines_len from at bytes → GoesFrom lines_len lines_len from i bytes
 section_past bytes from at i low inside none g =

@@ -1,4 +1,4 @@
--- Behind a whole request stands the next head.
+-- After a whole request stands the next head.
 use Rattle.std.proofs.Common.{◌≡◌, ◌≢◌, ℕ, List, [], ◌∷◌, ◌++◌, ◌⊎◌, inl, inr, refl, sym, ap, ◌∙◌, append_assoc, append-nil, subst, Option, Some, None, Result, Ok, Err}
 use Rattle.asgi_types.specs.declared.facts.Facts.{Facts}
 use Rattle.asgi_types.specs.declared.facts.Framing.{Framing}
@@ -25,7 +25,7 @@ use Rattle.asgi_request.proofs.UniqueLemmas.{shown-append}
 use Rattle.asgi_request.specs.Opened.{BeginsWith, BeginsWithHandshake}
 use Rattle.asgi_request.specs.Results.{ReadsHead}
 use Rattle.asgi_request.proofs.BodyGrowthLemmas.{Further}
-use Rattle.asgi_request.proofs.DueLemmas.{OpensAt, runs_compare, same_behind}
+use Rattle.asgi_request.proofs.DueLemmas.{OpensAt, runs_compare, same_after}
 
 -- the bytes begin with a head that gives this scope and these facts, of a request or an opening handshake
 pub record BeginsWithHead (limits : Limits) (bytes : List ℕ) (scope : Scope) (facts : Facts) (rest : List ℕ) : Type 0 where
@@ -46,7 +46,7 @@ begins_with_handshake limits bytes scope facts rest x e =
     let F : Framing → Type 0 = λ f. facts ≡ facts_of (record_of x.head) f in
     record { head = x.head; reads = subst R e x.reads; scope_is = subst S e x.scope_is; facts_are = subst F e x.facts_are }
 
--- what a turn before a head says of the head that it gives
+-- what a turn before a head shows of the head that it gives
 abbrev Tells : Limits → List ℕ → List ℕ → Option Next → Place → Type 0
 Tells limits bytes rest item place = (scope : Scope) (facts : Facts) → item ≡ Some (Head scope facts) → BeginsWithHead limits bytes scope facts rest × (place ≡ body_place facts.framing)
 
@@ -105,19 +105,19 @@ some_item limits bytes rest mid takes = by (front limits Start bytes) takes.judg
     by too_long j = let never = ap (λ (t : Judged). t.item) j in cc
     by unfinished j = j
 
-pub next_head : (limits : Limits) (bytes : List ℕ) (given : List Next) (behind : List ℕ) (place : Place) (held : List ℕ) (scope : Scope) (facts : Facts) (more : List Next)
-    → Reaches limits bytes given Start behind → Reaches limits bytes (given ++ Head scope facts ∷ more) place held
-    → (arrived : List ℕ) × BeginsWithHead limits behind scope facts arrived × OpensAt limits bytes (given ++ Head scope facts ∷ []) facts.framing arrived
-next_head limits bytes given behind place held scope facts more x r = by (runs_compare limits Start bytes x.steps Start behind r.steps place held x.reads r.reads)
+pub next_head : (limits : Limits) (bytes : List ℕ) (given : List Next) (after : List ℕ) (place : Place) (held : List ℕ) (scope : Scope) (facts : Facts) (more : List Next)
+    → Reaches limits bytes given Start after → Reaches limits bytes (given ++ Head scope facts ∷ more) place held
+    → (arrived : List ℕ) × BeginsWithHead limits after scope facts arrived × OpensAt limits bytes (given ++ Head scope facts ∷ []) facts.framing arrived
+next_head limits bytes given after place held scope facts more x r = by (runs_compare limits Start bytes x.steps Start after r.steps place held x.reads r.reads)
   where
-    on : (items : List (Option Next)) → Reads limits Start behind items place held → Head scope facts ∷ more ≡ shown items
-        → (arrived : List ℕ) × BeginsWithHead limits behind scope facts arrived × Reads limits Start behind (Some (Head scope facts) ∷ []) (body_place facts.framing) arrived
+    on : (items : List (Option Next)) → Reads limits Start after items place held → Head scope facts ∷ more ≡ shown items
+        → (arrived : List ℕ) × BeginsWithHead limits after scope facts arrived × Reads limits Start after (Some (Head scope facts) ∷ []) (body_place facts.framing) arrived
     on [] q e = cc
-    on (None ∷ items) q e = absurd (some_item limits behind q.1 q.0 q.2)
+    on (None ∷ items) q e = absurd (some_item limits after q.1 q.0 q.2)
     on (Some item ∷ items) q e =
         let first : item ≡ Head scope facts = cc e in
-        let t = turn_tells limits behind q.1 (record { item = Some item; place = q.0 }) q.2 scope facts (ap (λ (i : Next). Some i) first) in
-        let P : Next → Type 0 = λ i. Takes limits Start behind (record { item = Some i; place = q.0 }) q.1 in
+        let t = turn_tells limits after q.1 (record { item = Some item; place = q.0 }) q.2 scope facts (ap (λ (i : Next). Some i) first) in
+        let P : Next → Type 0 = λ i. Takes limits Start after (record { item = Some i; place = q.0 }) q.1 in
         (q.1, t.0, (q.0, q.1, subst P first q.2, (t.1, refl)))
 
     then_reads : (p : Place) (b : List ℕ) (a : List (Option Next)) (mid : Place) (middle : List ℕ) (s : List (Option Next)) (end : Place) (rest : List ℕ)
@@ -128,23 +128,23 @@ next_head limits bytes given behind place held scope facts more x r = by (runs_c
         subst R (sym y.1) (subst P (sym y.0) z)
     then_reads p b (i ∷ a) mid middle s end rest y z = (y.0, y.1, y.2, then_reads y.0 y.1 a mid middle s end rest y.3 z)
 
-    by : Further limits x.steps Start behind r.steps place held ⊎ Further limits r.steps place held x.steps Start behind
-        → (arrived : List ℕ) × BeginsWithHead limits behind scope facts arrived × OpensAt limits bytes (given ++ Head scope facts ∷ []) facts.framing arrived
+    by : Further limits x.steps Start after r.steps place held ⊎ Further limits r.steps place held x.steps Start after
+        → (arrived : List ℕ) × BeginsWithHead limits after scope facts arrived × OpensAt limits bytes (given ++ Head scope facts ∷ []) facts.framing arrived
     by (inl f) =
-        let e = same_behind given (Head scope facts ∷ more) (shown f.items_behind)
-        (sym r.shows ∙ ap shown f.splits ∙ shown-append x.steps f.items_behind ∙ ap (λ (l : List Next). l ++ shown f.items_behind) x.shows) in
-        let o = on f.items_behind f.reads e in (
+        let e = same_after given (Head scope facts ∷ more) (shown f.items_after)
+        (sym r.shows ∙ ap shown f.splits ∙ shown-append x.steps f.items_after ∙ ap (λ (l : List Next). l ++ shown f.items_after) x.shows) in
+        let o = on f.items_after f.reads e in (
           o.0,
           o.1,
           record {
             steps = x.steps ++ Some (Head scope facts) ∷ [];
-            reads = then_reads Start bytes x.steps Start behind (Some (Head scope facts) ∷ []) (body_place facts.framing) o.0 x.reads o.2;
+            reads = then_reads Start bytes x.steps Start after (Some (Head scope facts) ∷ []) (body_place facts.framing) o.0 x.reads o.2;
             shows = shown-append x.steps (Some (Head scope facts) ∷ []) ∙ ap (λ (l : List Next). l ++ Head scope facts ∷ []) x.shows;
           },
         )
     by (inr f) = absurd (
-        let e : [] ≡ Head scope facts ∷ (more ++ shown f.items_behind) =
-        same_behind given [] (Head scope facts ∷ (more ++ shown f.items_behind))
-        (append-nil given ∙ sym x.shows ∙ ap shown f.splits ∙ shown-append r.steps f.items_behind ∙ ap (λ (l : List Next). l ++ shown f.items_behind) r.shows
-        ∙ append_assoc given (Head scope facts ∷ more) (shown f.items_behind)) in
+        let e : [] ≡ Head scope facts ∷ (more ++ shown f.items_after) =
+        same_after given [] (Head scope facts ∷ (more ++ shown f.items_after))
+        (append-nil given ∙ sym x.shows ∙ ap shown f.splits ∙ shown-append r.steps f.items_after ∙ ap (λ (l : List Next). l ++ shown f.items_after) r.shows
+        ∙ append_assoc given (Head scope facts ∷ more) (shown f.items_after)) in
         cc)

@@ -1,4 +1,4 @@
--- What a reader's results say of the bytes, at a head and behind it.
+-- What a reader's results show of the bytes, at a head and after it.
 use Rattle.std.proofs.Common.{◌≡◌, ◌≢◌, ℕ, ◌+◌, ◌-◌, length, Bool, true, false, List, [], ◌∷◌, ◌++◌, ◌⊎◌, inl, inr, append-nil, flat_map, map, refl, sym, ap, ◌∙◌, subst, Option, Some, None}
 use Rattle.std.specs.Prelude.{◌==◌, nat_lt, bytes_eq, if◌then◌else◌}
 use Rattle.httparse.specs.Ascii.{crlf_bytes}
@@ -23,7 +23,7 @@ use Rattle.asgi_request.specs.Fronts.{Front, found, too_long, unfinished}
 use Rattle.asgi_request.specs.Opened.{BeginsWith, HasClosed, HasOpened}
 use Rattle.asgi_request.specs.Places.{front, bad, gives, silent, after_counted, after_size, after_chunk, after_chunk_end, after_trailers, after_too_long, Judges, Takes, Reads, shown, Reaches}
 use Rattle.asgi_request.specs.RequestEvents.{ReadsBody}
-use Rattle.asgi_request.proofs.DueLemmas.{OpensAt, ClosesAt, runs_compare, same_behind, whole_goes_on}
+use Rattle.asgi_request.proofs.DueLemmas.{OpensAt, ClosesAt, runs_compare, same_after, whole_goes_on}
 use Rattle.asgi_request.proofs.NextLemmas.{begins_with, turn_tells, some_item, next_head}
 use Rattle.asgi_request.specs.Reading.{Reading, WholeGiven}
 use Rattle.asgi_request.specs.Results.{ReadsHandshake, AreRequests}
@@ -36,23 +36,23 @@ use Rattle.asgi_request.proofs.StartLemmas.{begins_is_one, begins_grows, closed_
 
 -- ---- the words of the laws, and where the reader stands
 
-pub closed_at : (limits : Limits) (bytes : List ℕ) (closed : List Next) (behind : List ℕ) → HasClosed limits bytes closed behind → ClosesAt limits bytes closed behind
-closed_at limits bytes closed behind x =
-    let go = requests_go limits limits.block_in_range.0 bytes x.0 behind x.1 in
+pub closed_at : (limits : Limits) (bytes : List ℕ) (closed : List Next) (after : List ℕ) → HasClosed limits bytes closed after → ClosesAt limits bytes closed after
+closed_at limits bytes closed after x =
+    let go = requests_go limits limits.block_in_range.0 bytes x.0 after x.1 in
     record { steps = go.steps; reads = go.reads; shows = go.shows ∙ sym x.2 }
 
-pub has_closed : (limits : Limits) (bytes : List ℕ) (closed : List Next) (behind : List ℕ) → ClosesAt limits bytes closed behind → HasClosed limits bytes closed behind
-has_closed limits bytes closed behind x = whole_requests limits limits.block_in_range.0 bytes closed behind x
+pub has_closed : (limits : Limits) (bytes : List ℕ) (closed : List Next) (after : List ℕ) → ClosesAt limits bytes closed after → HasClosed limits bytes closed after
+has_closed limits bytes closed after x = whole_requests limits limits.block_in_range.0 bytes closed after x
 
 pub opened_at : (limits : Limits) (bytes : List ℕ) (opened : List Next) (framing : Framing) (arrived : List ℕ) → HasOpened limits bytes opened framing arrived
     → OpensAt limits bytes opened framing arrived
 opened_at limits bytes opened framing arrived x =
-    let reached = head_reached limits bytes x.closed x.behind x.scope x.facts arrived (closed_at limits bytes x.closed x.behind x.before) x.head in
+    let reached = head_reached limits bytes x.closed x.after x.scope x.facts arrived (closed_at limits bytes x.closed x.after x.before) x.head in
     let R : List Next → Type 0 = λ l. OpensAt limits bytes l framing arrived in
     let F : Framing → Type 0 = λ f. OpensAt limits bytes (x.closed ++ Head x.scope x.facts ∷ []) f arrived in
     subst R (sym x.opened_is) (subst F (sym x.framing_is) reached)
 
--- a head with a body behind it is no opening handshake
+-- a head with a body after it is no opening handshake
 pub opened_plain : (limits : Limits) (bytes : List ℕ) (opened : List Next) (framing : Framing) (arrived : List ℕ) → HasOpened limits bytes opened framing arrived
     → framing ≢ Upgrade
 opened_plain limits bytes opened framing arrived x = λ e. x.head.plain (sym x.framing_is ∙ e)
@@ -67,14 +67,14 @@ pub http_scope : (limits : Limits) (bytes : List ℕ) (scope : Scope) (facts : F
     → scope ≡ http_scope_of (record_of b.head)
 http_scope limits bytes scope facts arrived b = b.scope_is ∙ plain_scope (record_of b.head) facts.framing b.plain
 
--- behind whole requests a head
-pub opens_behind : (limits : Limits) (bytes : List ℕ) (closed : List Next) (behind : List ℕ) (scope : Scope) (facts : Facts) (arrived : List ℕ)
-    → HasClosed limits bytes closed behind → BeginsWith limits behind scope facts arrived
+-- after whole requests a head
+pub opens_after : (limits : Limits) (bytes : List ℕ) (closed : List Next) (after : List ℕ) (scope : Scope) (facts : Facts) (arrived : List ℕ)
+    → HasClosed limits bytes closed after → BeginsWith limits after scope facts arrived
     → HasOpened limits bytes (closed ++ Head scope facts ∷ []) facts.framing arrived
-opens_behind limits bytes closed behind scope facts arrived x b =
-    record { closed = closed; behind = behind; scope = scope; facts = facts; before = x; head = b; framing_is = refl; opened_is = refl }
+opens_after limits bytes closed after scope facts arrived x b =
+    record { closed = closed; after = after; scope = scope; facts = facts; before = x; head = b; framing_is = refl; opened_is = refl }
 
--- ---- a head is given where one is due
+-- ---- a head is given when one is due
 
 abbrev NoHead : Option Next → Type 0
 NoHead None = Unit {0}
@@ -146,13 +146,13 @@ head_at_start limits (Stopped refusal) (found text) turn scope facts j e = absur
 
 -- the run up to a head, and the turn that gives it
 record ToHead (limits : Limits) (place : Place) (bytes : List ℕ) (before : List Next) (scope : Scope) (facts : Facts) : Type 0 where
-  pub behind : List ℕ
+  pub after : List ℕ
   pub steps : List (Option Next)
-  pub reads : Reads limits place bytes steps Start behind
+  pub reads : Reads limits place bytes steps Start after
   pub shows : shown steps ≡ before
   pub mid : Place
   pub arrived : List ℕ
-  pub turn : Takes limits Start behind (record { item = Some (Head scope facts); place = mid }) arrived
+  pub turn : Takes limits Start after (record { item = Some (Head scope facts); place = mid }) arrived
 
 run_to_head : (limits : Limits) (place : Place) (bytes : List ℕ) (steps : List (Option Next)) (end : Place) (rest : List ℕ) (before : List Next) (scope : Scope) (facts : Facts) (more : List Next)
     → Reads limits place bytes steps end rest → shown steps ≡ before ++ Head scope facts ∷ more → ToHead limits place bytes before scope facts
@@ -160,12 +160,12 @@ run_to_head limits place bytes [] end rest [] scope facts more r e = cc
 run_to_head limits place bytes [] end rest (b ∷ before) scope facts more r e = cc
 run_to_head limits place bytes (None ∷ steps) end rest before scope facts more r e =
     let o = run_to_head limits r.0 r.1 steps end rest before scope facts more r.3 e in
-    record { behind = o.behind; steps = None ∷ o.steps; reads = (r.0, r.1, r.2, o.reads); shows = o.shows; mid = o.mid; arrived = o.arrived; turn = o.turn }
+    record { after = o.after; steps = None ∷ o.steps; reads = (r.0, r.1, r.2, o.reads); shows = o.shows; mid = o.mid; arrived = o.arrived; turn = o.turn }
 run_to_head limits place bytes (Some item ∷ steps) end rest (b ∷ before) scope facts more r e =
     let o = run_to_head limits r.0 r.1 steps end rest before scope facts more r.3 (cc e) in
     let first : item ≡ b = cc e in
     record {
-      behind = o.behind;
+      after = o.after;
       steps = Some item ∷ o.steps;
       reads = (r.0, r.1, r.2, o.reads);
       shows = ap (λ (l : List Next). item ∷ l) o.shows ∙ ap (λ (i : Next). i ∷ before) first;
@@ -178,83 +178,83 @@ run_to_head limits place bytes (Some item ∷ steps) end rest [] scope facts mor
     let start = head_at_start limits place (front limits place bytes) (record { item = Some item; place = r.0 }) scope facts r.2.judged (ap (λ (i : Next). Some i) first) in
     let P : Place → Type 0 = λ p. Takes limits p bytes (record { item = Some item; place = r.0 }) r.1 in
     let Q : Next → Type 0 = λ i. Takes limits Start bytes (record { item = Some i; place = r.0 }) r.1 in
-    record { behind = bytes; steps = []; reads = (start, refl); shows = refl; mid = r.0; arrived = r.1; turn = subst Q first (subst P start r.2) }
+    record { after = bytes; steps = []; reads = (start, refl); shows = refl; mid = r.0; arrived = r.1; turn = subst Q first (subst P start r.2) }
 
 pub head_opens : (limits : Limits) (bytes : List ℕ) (place : Place) (held : List ℕ) (before : List Next) (scope : Scope) (facts : Facts) (more : List Next)
     → Reaches limits bytes (before ++ Head scope facts ∷ more) place held → facts.framing ≢ Upgrade
     → (arrived : List ℕ) × HasOpened limits bytes (before ++ Head scope facts ∷ []) facts.framing arrived
 head_opens limits bytes place held before scope facts more x plain =
     let o = run_to_head limits Start bytes x.steps place held before scope facts more x.reads x.shows in
-    let told = turn_tells limits o.behind o.arrived (record { item = Some (Head scope facts); place = o.mid }) o.turn scope facts refl in
-    let closed = has_closed limits bytes before o.behind (record { steps = o.steps; reads = o.reads; shows = o.shows }) in
-    (o.arrived, opens_behind limits bytes before o.behind scope facts o.arrived closed (begins_with limits o.behind scope facts o.arrived told.0 plain))
+    let told = turn_tells limits o.after o.arrived (record { item = Some (Head scope facts); place = o.mid }) o.turn scope facts refl in
+    let closed = has_closed limits bytes before o.after (record { steps = o.steps; reads = o.reads; shows = o.shows }) in
+    (o.arrived, opens_after limits bytes before o.after scope facts o.arrived closed (begins_with limits o.after scope facts o.arrived told.0 plain))
 
 -- ---- more bytes, the end of a body and the next head
 
-pub closed_stays : (limits : Limits) (bytes more : List ℕ) (closed : List Next) (behind : List ℕ)
-    → HasClosed limits bytes closed behind → HasClosed limits (bytes ++ more) closed (behind ++ more)
-closed_stays limits bytes more closed behind x =
-    has_closed limits (bytes ++ more) closed (behind ++ more) (closed_grows limits bytes more closed behind (closed_at limits bytes closed behind x))
+pub closed_stays : (limits : Limits) (bytes more : List ℕ) (closed : List Next) (after : List ℕ)
+    → HasClosed limits bytes closed after → HasClosed limits (bytes ++ more) closed (after ++ more)
+closed_stays limits bytes more closed after x =
+    has_closed limits (bytes ++ more) closed (after ++ more) (closed_grows limits bytes more closed after (closed_at limits bytes closed after x))
 
 pub opened_stays : (limits : Limits) (bytes more : List ℕ) (opened : List Next) (framing : Framing) (arrived : List ℕ)
     → HasOpened limits bytes opened framing arrived → HasOpened limits (bytes ++ more) opened framing (arrived ++ more)
 opened_stays limits bytes more opened framing arrived x = record {
   closed = x.closed;
-  behind = x.behind ++ more;
+  after = x.after ++ more;
   scope = x.scope;
   facts = x.facts;
-  before = closed_stays limits bytes more x.closed x.behind x.before;
-  head = begins_grows limits x.behind more x.scope x.facts arrived x.head;
+  before = closed_stays limits bytes more x.closed x.after x.before;
+  head = begins_grows limits x.after more x.scope x.facts arrived x.head;
   framing_is = x.framing_is;
   opened_is = x.opened_is;
 }
 
-pub whole_closes : (limits : Limits) (bytes : List ℕ) (opened : List Next) (framing : Framing) (arrived : List ℕ) (events : List Incoming) (behind : List ℕ)
-    → HasOpened limits bytes opened framing arrived → ReadsBody limits framing arrived events (complete behind)
-    → HasClosed limits bytes (opened ++ (map Event events ++ Whole ∷ [])) behind
-whole_closes limits bytes opened framing arrived events behind x body =
-    has_closed limits bytes (opened ++ (map Event events ++ Whole ∷ [])) behind
-    (whole_goes_on limits bytes opened framing arrived events behind (opened_at limits bytes opened framing arrived x) (opened_plain limits bytes opened framing arrived x) body)
+pub whole_closes : (limits : Limits) (bytes : List ℕ) (opened : List Next) (framing : Framing) (arrived : List ℕ) (events : List Incoming) (after : List ℕ)
+    → HasOpened limits bytes opened framing arrived → ReadsBody limits framing arrived events (complete after)
+    → HasClosed limits bytes (opened ++ (map Event events ++ Whole ∷ [])) after
+whole_closes limits bytes opened framing arrived events after x body =
+    has_closed limits bytes (opened ++ (map Event events ++ Whole ∷ [])) after
+    (whole_goes_on limits bytes opened framing arrived events after (opened_at limits bytes opened framing arrived x) (opened_plain limits bytes opened framing arrived x) body)
 
-pub next_opens : (limits : Limits) (bytes : List ℕ) (closed : List Next) (behind : List ℕ) (place : Place) (held : List ℕ) (scope : Scope) (facts : Facts) (more : List Next)
-    → HasClosed limits bytes closed behind → Reaches limits bytes (closed ++ Head scope facts ∷ more) place held → facts.framing ≢ Upgrade
-    → (arrived : List ℕ) × BeginsWith limits behind scope facts arrived × HasOpened limits bytes (closed ++ Head scope facts ∷ []) facts.framing arrived
-next_opens limits bytes closed behind place held scope facts more x r plain =
-    let n = next_head limits bytes closed behind place held scope facts more (closed_at limits bytes closed behind x) r in
-    let begins = begins_with limits behind scope facts n.0 n.1 plain in
-    (n.0, begins, opens_behind limits bytes closed behind scope facts n.0 x begins)
+pub next_opens : (limits : Limits) (bytes : List ℕ) (closed : List Next) (after : List ℕ) (place : Place) (held : List ℕ) (scope : Scope) (facts : Facts) (more : List Next)
+    → HasClosed limits bytes closed after → Reaches limits bytes (closed ++ Head scope facts ∷ more) place held → facts.framing ≢ Upgrade
+    → (arrived : List ℕ) × BeginsWith limits after scope facts arrived × HasOpened limits bytes (closed ++ Head scope facts ∷ []) facts.framing arrived
+next_opens limits bytes closed after place held scope facts more x r plain =
+    let n = next_head limits bytes closed after place held scope facts more (closed_at limits bytes closed after x) r in
+    let begins = begins_with limits after scope facts n.0 n.1 plain in
+    (n.0, begins, opens_after limits bytes closed after scope facts n.0 x begins)
 
--- ---- what stands behind is one
+-- ---- what stands after is unique
 
 silent_stays : (limits : Limits) (bytes : List ℕ) (items : List (Option Next)) (rest : List ℕ) → Reads limits Start bytes items Start rest → [] ≡ shown items → bytes ≡ rest
 silent_stays limits bytes [] rest r e = r.1
 silent_stays limits bytes (None ∷ items) rest r e = absurd (some_item limits bytes r.1 r.0 r.2)
 silent_stays limits bytes (Some item ∷ items) rest r e = cc
 
-nothing_behind : (a b : List Next) → a ≡ a ++ b → [] ≡ b
-nothing_behind a b e = same_behind a [] b (append-nil a ∙ e)
+nothing_after : (a b : List Next) → a ≡ a ++ b → [] ≡ b
+nothing_after a b e = same_after a [] b (append-nil a ∙ e)
 
-pub closed_is_one : (limits : Limits) (bytes : List ℕ) (closed : List Next) (behind others : List ℕ)
-    → HasClosed limits bytes closed behind → HasClosed limits bytes closed others → behind ≡ others
-closed_is_one limits bytes closed behind others x y = by (runs_compare limits Start bytes a.steps Start behind b.steps Start others a.reads b.reads)
+pub closed_is_one : (limits : Limits) (bytes : List ℕ) (closed : List Next) (after others : List ℕ)
+    → HasClosed limits bytes closed after → HasClosed limits bytes closed others → after ≡ others
+closed_is_one limits bytes closed after others x y = by (runs_compare limits Start bytes a.steps Start after b.steps Start others a.reads b.reads)
   where
-    a : ClosesAt limits bytes closed behind
-    a = closed_at limits bytes closed behind x
+    a : ClosesAt limits bytes closed after
+    a = closed_at limits bytes closed after x
 
     b : ClosesAt limits bytes closed others
     b = closed_at limits bytes closed others y
 
-    by : Further limits a.steps Start behind b.steps Start others ⊎ Further limits b.steps Start others a.steps Start behind → behind ≡ others
+    by : Further limits a.steps Start after b.steps Start others ⊎ Further limits b.steps Start others a.steps Start after → after ≡ others
     by (inl f) =
-        silent_stays limits behind f.items_behind others f.reads
-        (nothing_behind closed (shown f.items_behind)
-        (sym b.shows ∙ ap shown f.splits ∙ shown-append a.steps f.items_behind ∙ ap (λ (l : List Next). l ++ shown f.items_behind) a.shows))
+        silent_stays limits after f.items_after others f.reads
+        (nothing_after closed (shown f.items_after)
+        (sym b.shows ∙ ap shown f.splits ∙ shown-append a.steps f.items_after ∙ ap (λ (l : List Next). l ++ shown f.items_after) a.shows))
     by (inr f) =
-        sym (silent_stays limits others f.items_behind behind f.reads
-        (nothing_behind closed (shown f.items_behind)
-        (sym a.shows ∙ ap shown f.splits ∙ shown-append b.steps f.items_behind ∙ ap (λ (l : List Next). l ++ shown f.items_behind) b.shows)))
+        sym (silent_stays limits others f.items_after after f.reads
+        (nothing_after closed (shown f.items_after)
+        (sym a.shows ∙ ap shown f.splits ∙ shown-append b.steps f.items_after ∙ ap (λ (l : List Next). l ++ shown f.items_after) b.shows)))
 
--- ---- behind whole requests no frames stand
+-- ---- after whole requests no frames stand
 
 silent_here : (limits : Limits) (bytes : List ℕ) (items : List (Option Next)) (end : Place) (rest : List ℕ) → Reads limits Start bytes items end rest → [] ≡ shown items → Start ≡ end
 silent_here limits bytes [] end rest r e = r.0
@@ -268,38 +268,38 @@ up_here : (limits : Limits) (bytes : List ℕ) (items : List (Option Next)) (end
 up_here limits bytes [] end rest r = r.0
 up_here limits bytes (item ∷ items) end rest r = absurd (no_turn limits bytes r.1 (record { item = item; place = r.0 }) r.2)
 
-pub closed_not_upgraded : (limits : Limits) (bytes : List ℕ) (given : List Next) (behind held : List ℕ) → HasClosed limits bytes given behind → Reaches limits bytes given Upgraded held → ⊥
-closed_not_upgraded limits bytes given behind held x r = by (runs_compare limits Start bytes c.steps Start behind r.steps Upgraded held c.reads r.reads)
+pub closed_not_upgraded : (limits : Limits) (bytes : List ℕ) (given : List Next) (after held : List ℕ) → HasClosed limits bytes given after → Reaches limits bytes given Upgraded held → ⊥
+closed_not_upgraded limits bytes given after held x r = by (runs_compare limits Start bytes c.steps Start after r.steps Upgraded held c.reads r.reads)
   where
-    c : ClosesAt limits bytes given behind
-    c = closed_at limits bytes given behind x
+    c : ClosesAt limits bytes given after
+    c = closed_at limits bytes given after x
 
-    by : Further limits c.steps Start behind r.steps Upgraded held ⊎ Further limits r.steps Upgraded held c.steps Start behind → ⊥
+    by : Further limits c.steps Start after r.steps Upgraded held ⊎ Further limits r.steps Upgraded held c.steps Start after → ⊥
     by (inl f) =
-        let silent = nothing_behind given (shown f.items_behind)
-        (sym r.shows ∙ ap shown f.splits ∙ shown-append c.steps f.items_behind ∙ ap (λ (l : List Next). l ++ shown f.items_behind) c.shows) in
-        let never : Start ≡ Upgraded = silent_here limits behind f.items_behind Upgraded held f.reads silent in
+        let silent = nothing_after given (shown f.items_after)
+        (sym r.shows ∙ ap shown f.splits ∙ shown-append c.steps f.items_after ∙ ap (λ (l : List Next). l ++ shown f.items_after) c.shows) in
+        let never : Start ≡ Upgraded = silent_here limits after f.items_after Upgraded held f.reads silent in
         cc
-    by (inr f) = let never : Upgraded ≡ Start = up_here limits held f.items_behind Start behind f.reads in cc
+    by (inr f) = let never : Upgraded ≡ Start = up_here limits held f.items_after Start after f.reads in cc
 
--- the bytes behind them, told in the words of a reader
-pub whole_is_closed : (r : Reading) (bytes : List ℕ) (given : List Next) (behind held : List ℕ) → HasClosed r.limits bytes given behind → WholeGiven r bytes given held
+-- the bytes after them, in the words of a reader
+pub whole_is_closed : (r : Reading) (bytes : List ℕ) (given : List Next) (after held : List ℕ) → HasClosed r.limits bytes given after → WholeGiven r bytes given held
     → HasClosed r.limits bytes given held
-whole_is_closed r bytes given behind held x w = by w.goes_on
+whole_is_closed r bytes given after held x w = by w.goes_on
   where
     requests : List Next
     requests = flat_map (λ request. request) w.requests
 
-    by : ((w.last ≡ []) × (w.behind ≡ held)) ⊎ ReadsHandshake r.limits w.behind w.last held → HasClosed r.limits bytes given held
+    by : ((w.last ≡ []) × (w.after ≡ held)) ⊎ ReadsHandshake r.limits w.after w.last held → HasClosed r.limits bytes given held
     by (inl e) = (
       w.requests,
       subst (λ (l : List ℕ). AreRequests r.limits bytes w.requests l) e.1 w.whole,
       w.given_are ∙ ap (λ (l : List Next). requests ++ l) e.0 ∙ append-nil requests,
     )
     by (inr h) = absurd (
-        let up = goes_on r.limits Start bytes requests Start w.behind w.last Upgraded held
-        (requests_go r.limits r.limits.block_in_range.0 bytes w.requests w.behind w.whole) (handshake_goes r.limits w.behind w.last held h) in
-        closed_not_upgraded r.limits bytes given behind held x (record { steps = up.steps; reads = up.reads; shows = up.shows ∙ sym w.given_are }))
+        let up = goes_on r.limits Start bytes requests Start w.after w.last Upgraded held
+        (requests_go r.limits r.limits.block_in_range.0 bytes w.requests w.after w.whole) (handshake_goes r.limits w.after w.last held h) in
+        closed_not_upgraded r.limits bytes given after held x (record { steps = up.steps; reads = up.reads; shows = up.shows ∙ sym w.given_are }))
 
 last_same : (a b : List Next) (x y : Next) → a ++ x ∷ [] ≡ b ++ y ∷ [] → a ≡ b
 last_same [] [] x y e = refl
@@ -316,8 +316,8 @@ pub opened_is_one : (limits : Limits) (bytes : List ℕ) (opened : List Next) (f
     → HasOpened limits bytes opened framing arrived → HasOpened limits bytes opened other left → (framing ≡ other) × (arrived ≡ left)
 opened_is_one limits bytes opened framing other arrived left x y =
     let closeds = last_same x.closed y.closed (Head x.scope x.facts) (Head y.scope y.facts) (sym x.opened_is ∙ y.opened_is) in
-    let closed = subst (λ (l : List Next). HasClosed limits bytes l y.behind) (sym closeds) y.before in
-    let behinds = closed_is_one limits bytes x.closed x.behind y.behind x.before closed in
-    let head = subst (λ (l : List ℕ). BeginsWith limits l y.scope y.facts left) (sym behinds) y.head in
-    let one = begins_is_one limits x.behind x.scope y.scope x.facts y.facts arrived left x.head head in
+    let closed = subst (λ (l : List Next). HasClosed limits bytes l y.after) (sym closeds) y.before in
+    let afters = closed_is_one limits bytes x.closed x.after y.after x.before closed in
+    let head = subst (λ (l : List ℕ). BeginsWith limits l y.scope y.facts left) (sym afters) y.head in
+    let one = begins_is_one limits x.after x.scope y.scope x.facts y.facts arrived left x.head head in
     (x.framing_is ∙ ap (λ (f : Facts). f.framing) one.1 ∙ sym y.framing_is, one.2)

@@ -1,5 +1,5 @@
--- The first results of bytes: as many are the same, the first opens a request or refuses it, and they stay where more
--- bytes follow.
+-- The first results of bytes: equally many are the same, the first opens a request or refuses it, and they stay if more bytes
+-- follow.
 use Rattle.std.proofs.Common.{◌≡◌, ℕ, inl, inr, length, List, [], ◌∷◌, ◌++◌, refl, sym, ap, ◌∙◌, subst, append_assoc, arith, flat_map}
 use Rattle.std.specs.Prelude.{◌⊎◌}
 use Rattle.asgi_types.specs.declared.facts.Framing.TheVariants.{Upgrade}
@@ -42,11 +42,11 @@ last_opens limits bytes results rest first more (inr x) e =
     let is : head ≡ first = same_first head first (Whole ∷ []) more (sym x.results_are ∙ e) in
     subst Opens is tt
 
-whole_opens : (limits : Limits) (bytes : List ℕ) (requests : List (List Next)) (behind : List ℕ) (last : List Next) (rest : List ℕ) (first : Next) (more : List Next)
-    → AreRequests limits bytes requests behind → GivesLast limits behind last rest → flat_map (λ request. request) requests ++ last ≡ first ∷ more → Opens first
-whole_opens limits bytes [] behind last rest first more are goes e =
+whole_opens : (limits : Limits) (bytes : List ℕ) (requests : List (List Next)) (after : List ℕ) (last : List Next) (rest : List ℕ) (first : Next) (more : List Next)
+    → AreRequests limits bytes requests after → GivesLast limits after last rest → flat_map (λ request. request) requests ++ last ≡ first ∷ more → Opens first
+whole_opens limits bytes [] after last rest first more are goes e =
     last_opens limits bytes last rest first more (subst (λ (l : List ℕ). GivesLast limits l last rest) (sym are) goes) e
-whole_opens limits bytes (results ∷ requests) behind last rest first more are goes e =
+whole_opens limits bytes (results ∷ requests) after last rest first more are goes e =
     let x = are.1 in
     let head = Head (scope_of (record_of x.head) x.framing) (facts_of (record_of x.head) x.framing) in
     let tail : List Next = _ in
@@ -57,7 +57,7 @@ whole_opens limits bytes (results ∷ requests) behind last rest first more are 
     subst Opens is tt
 
 pub gives_opens : (limits : Limits) (bytes : List ℕ) (first : Next) (more : List Next) (rest : List ℕ) → GivesResults limits bytes (first ∷ more) rest → Opens first
-gives_opens limits bytes first more rest x = whole_opens limits bytes x.requests x.behind x.last rest first more x.whole x.goes_on (sym x.results_are)
+gives_opens limits bytes first more rest x = whole_opens limits bytes x.requests x.after x.last rest first more x.whole x.goes_on (sym x.results_are)
 
 pub first_opens : (limits : Limits) (bytes : List ℕ) (first : Next) (more : List Next) → HasFirst limits bytes (first ∷ more) → Opens first
 first_opens limits bytes first more x = gives_opens limits x.front first (more ++ x.further) x.rest x.gives
@@ -77,7 +77,7 @@ whole_is_some limits bytes (results ∷ requests) rest are e =
 
 -- ---- the first result is one
 
--- of two fronts one is a front of the other
+-- of two prefixes one is a prefix of the other
 fronts : (a b x y : List ℕ) → a ++ x ≡ b ++ y → ((more : List ℕ) × (b ≡ a ++ more)) ⊎ ((more : List ℕ) × (a ≡ b ++ more))
 fronts [] b x y e = inl (b, refl)
 fronts (n ∷ a) [] x y e = inr (n ∷ a, refl)
@@ -98,7 +98,7 @@ one_of limits front more a b x y rest other g h =
     sym (same_first b a y (x ++ on.0) on.1)
 
 pub one_first : (limits : Limits) (bytes : List ℕ) (a b : Next) (x y : List Next) → HasFirst limits bytes (a ∷ x) → HasFirst limits bytes (b ∷ y) → a ≡ b
-one_first limits bytes a b x y g h = by (fronts g.front h.front g.behind h.behind (sym g.splits ∙ h.splits))
+one_first limits bytes a b x y g h = by (fronts g.front h.front g.after h.after (sym g.splits ∙ h.splits))
   where
     by : ((more : List ℕ) × (h.front ≡ g.front ++ more)) ⊎ ((more : List ℕ) × (g.front ≡ h.front ++ more)) → a ≡ b
     by (inl z) =
@@ -108,7 +108,7 @@ one_first limits bytes a b x y g h = by (fronts g.front h.front g.behind h.behin
         sym (one_of limits h.front z.0 b a (y ++ h.further) (x ++ g.further) h.rest g.rest h.gives
         (subst (λ (l : List ℕ). GivesResults limits l (a ∷ (x ++ g.further)) g.rest) z.1 g.gives))
 
--- ---- as many of them are the same
+-- ---- equally many of them are the same
 
 same_fronts : (a b x y : List Next) → length a ≡ length b → a ++ x ≡ b ++ y → a ≡ b
 same_fronts [] [] x y n e = refl
@@ -126,7 +126,7 @@ as_many_of limits front more a b x y rest other n g h =
     same_fronts a b (x ++ on.0) y n (sym (append_assoc a x on.0) ∙ sym on.1)
 
 pub as_many : (limits : Limits) (bytes : List ℕ) (a b : List Next) → HasFirst limits bytes a → HasFirst limits bytes b → length a ≡ length b → a ≡ b
-as_many limits bytes a b g h n = by (fronts g.front h.front g.behind h.behind (sym g.splits ∙ h.splits))
+as_many limits bytes a b g h n = by (fronts g.front h.front g.after h.after (sym g.splits ∙ h.splits))
   where
     by : ((more : List ℕ) × (h.front ≡ g.front ++ more)) ⊎ ((more : List ℕ) × (g.front ≡ h.front ++ more)) → a ≡ b
     by (inl z) =
@@ -141,9 +141,9 @@ as_many limits bytes a b g h n = by (fronts g.front h.front g.behind h.behind (s
 pub first_stays : (limits : Limits) (bytes more : List ℕ) (results : List Next) → HasFirst limits bytes results → HasFirst limits (bytes ++ more) results
 first_stays limits bytes more results x = record {
   front = x.front;
-  behind = x.behind ++ more;
+  after = x.after ++ more;
   further = x.further;
   rest = x.rest;
-  splits = ap (λ (l : List ℕ). l ++ more) x.splits ∙ append_assoc x.front x.behind more;
+  splits = ap (λ (l : List ℕ). l ++ more) x.splits ∙ append_assoc x.front x.after more;
   gives = x.gives;
 }

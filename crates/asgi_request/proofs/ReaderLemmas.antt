@@ -19,13 +19,13 @@ use Rattle.asgi_request.specs.Fronts.{Front, found, too_long, unfinished, front_
 use Rattle.asgi_request.specs.RequestFraming.{request_framing}
 use Rattle.asgi_request.specs.Places.{front, bad, silent, gives, after_framing, after_head, after_counted, after_chunk, after_size, after_chunk_end, after_trailers, after_too_long, JudgesText, Judges, Takes, shown, Reaches}
 use Rattle.asgi_request.specs.Reading.{Reading, StandsFor, IsRefused}
-use Rattle.asgi_request.specs.Searches.{Stepped, IsResult, IsThere, TakesText, refusal_at, rank}
+use Rattle.asgi_request.specs.private.Searches.{Stepped, IsResult, IsThere, TakesText, refusal_at, rank}
 use Rattle.asgi_request.proofs.UniqueLemmas.{Reads-append, Reads-push, shown-append}
 
 pub held_grown : (bytes a new : List ℕ) (start : ℕ) → start ≤ length bytes → new ≡ bytes ++ a → drop start new ≡ drop start bytes ++ a
 held_grown bytes a new start h e = ap (drop start) e ∙ drop-append-le start bytes a h
 
--- also where the bytes before it had moved
+-- also if the bytes before it had moved
 pub held_fed : (bytes made a new : List ℕ) (start from : ℕ) → from ≤ length made → new ≡ made ++ a → drop from made ≡ drop start bytes
     → drop from new ≡ drop start bytes ++ a
 held_fed bytes made a new start from h e same = held_grown made a new from h e ∙ ap (λ (l : List ℕ). l ++ a) same
@@ -53,10 +53,10 @@ takes_text limits place held rest n turn e judged r = record {
 -- a text that gives a result
 pub text_stepped : (old new : Reading) (n : ℕ) (item : Next) → IsThere old n → TakesText old new old.place n item → Stepped old new (Some item)
 text_stepped old new n item there took = record {
-  limits = ap (λ (r : Reading). r.limits) took.is_behind;
-  capacity = ap (λ (r : Reading). r.capacity) took.is_behind;
+  limits = ap (λ (r : Reading). r.limits) took.is_after;
+  capacity = ap (λ (r : Reading). r.capacity) took.is_after;
   takes = takes_text old.limits old.place old.held new.held n (record { item = Some item; place = new.place }) there.is_front took.judged
-      (sym (ap (λ (r : Reading). r.held) took.is_behind));
+      (sym (ap (λ (r : Reading). r.held) took.is_after));
 }
 
 -- one turn more
@@ -151,7 +151,7 @@ silent_rank old new step = turn_falls old.limits old.place (front old.limits old
 
 -- ---- what a turn gives is a result
 
--- what a turn's item says of its place
+-- what a turn's item shows of its place
 abbrev pub Tells : Option Next → Place → Type 0
 Tells None place = Unit {0}
 Tells (Some Need) place = ⊥
@@ -266,7 +266,7 @@ refused_place HandshakeEnd why e = cc
 refused_place Upgraded why e = cc
 refused_place (Stopped refusal) why e = cc
 
--- ---- where a call may fail
+-- ---- when a call may fail
 
 pub when_ok : {A E : Type 0} (P Q : A → Type 0) (r : Result A E) → ((a : A) → P a → Q a) → IfOk r P → IfOk r Q
 when_ok P Q (Ok a) f p = f a p

@@ -10,7 +10,7 @@ use Rattle.asgi_types.specs.Fields.{HeaderField, field_of}
 use Rattle.asgi_types.specs.declared.outgoing.HttpVersion.TheVariants.{V10, V11}
 use Rattle.asgi_request.specs.declared.head.HeadRecord.{HeadRecord}
 use Rattle.asgi_request.specs.Head.{IsHeadOf, ParsesHead, field_of_line, version_of}
-use Rattle.asgi_request.specs.Steps.{field_at}
+use Rattle.asgi_request.specs.private.Steps.{field_at}
 
 pair_field : List ℕ × List ℕ → HeaderField
 pair_field p = field_of p.0 p.1

@@ -20,7 +20,7 @@ use Rattle.asgi_request.specs.RequestFraming.{request_framing}
 use Rattle.asgi_request.specs.Places.{front, bad, silent, gives, after_framing, after_head, after_counted, after_size, after_chunk, after_chunk_end, after_trailers, after_too_long, JudgesText, Judges, Takes, Reads, shown, Reaches}
 use Rattle.asgi_request.proofs.UniqueLemmas.{shown-append}
 
--- the place is a refusal's only where the refusal is given
+-- the place is a refusal's only if the refusal is given
 Stops : Option Next → Place → Type 0
 Stops item Start = Unit {0}
 Stops item (Counted n) = Unit {0}

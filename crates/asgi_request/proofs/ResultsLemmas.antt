@@ -1,4 +1,4 @@
--- The results of a byte list are one list, and begin with those of each front of it.
+-- The results of a byte list are one list, and begin with those of each prefix of it.
 use Rattle.std.proofs.Common.{◌≡◌, ◌≢◌, ℕ, ◌+◌, ◌<◌, ◌≤◌, inl, inr, Bool, true, false, List, [], ◌∷◌, ◌++◌, length, drop, map, refl, sym, ap, ◌∙◌, append_assoc, arith, subst, Some, None, flat_map, All}
 use Rattle.std.specs.Prelude.{nat_le, if◌then◌else◌}
 use Rattle.std.proofs.lemmas.List.{append-nil, map-append}
@@ -98,13 +98,13 @@ body_goes limits h Upgrade bytes events state plain x = absurd (plain refl)
 
 -- ---- a head
 
-head_goes : (limits : Limits) (bytes : List ℕ) (head : RequestHead) (framing : Framing) (behind : List ℕ) → ReadsHead limits bytes head framing behind
-    → Goes limits Start bytes (Head (scope_of (record_of head) framing) (facts_of (record_of head) framing) ∷ []) (body_place framing) behind
-head_goes limits bytes head framing behind x =
-    let f : front limits Start bytes ≡ found x.text = found_front EndsAsHead head_len head_search_for limits.max_head bytes x.text behind x.text_is in
+head_goes : (limits : Limits) (bytes : List ℕ) (head : RequestHead) (framing : Framing) (after : List ℕ) → ReadsHead limits bytes head framing after
+    → Goes limits Start bytes (Head (scope_of (record_of head) framing) (facts_of (record_of head) framing) ∷ []) (body_place framing) after
+head_goes limits bytes head framing after x =
+    let f : front limits Start bytes ≡ found x.text = found_front EndsAsHead head_len head_search_for limits.max_head bytes x.text after x.text_is in
     let turn = gives (Head (scope_of (record_of head) framing) (facts_of (record_of head) framing)) (body_place framing) in
-    one limits Start bytes (Some (Head (scope_of (record_of head) framing) (facts_of (record_of head) framing))) (body_place framing) behind
-    (takes_found limits Start bytes x.text behind turn f x.text_is.0.splits
+    one limits Start bytes (Some (Head (scope_of (record_of head) framing) (facts_of (record_of head) framing))) (body_place framing) after
+    (takes_found limits Start bytes x.text after turn f x.text_is.0.splits
     (Some (record_of head), (head, x.head_is, refl), sym (ap (after_framing (record_of head)) x.framing_is)))
 
 refused_goes : (limits : Limits) (bytes : List ℕ) (why : Refusal) → RefusesHead limits bytes why → Ends limits Start bytes (Bad (status_of why) ∷ [])
@@ -114,13 +114,13 @@ refused_goes limits bytes why (inl x) =
     (refusal limits Start bytes bytes HeaderFieldsTooLarge (takes_long limits Start bytes f))
 refused_goes limits bytes why (inr (inl x)) =
     let n = x.0 in
-    let f : front limits Start bytes ≡ found n.text = found_front EndsAsHead head_len head_search_for limits.max_head bytes n.text n.behind n.text_is in
+    let f : front limits Start bytes ≡ found n.text = found_front EndsAsHead head_len head_search_for limits.max_head bytes n.text n.after n.text_is in
     subst (λ (w : Refusal). Ends limits Start bytes (Bad (status_of w) ∷ [])) (sym x.1)
-    (refusal limits Start bytes n.behind BadRequest (takes_found limits Start bytes n.text n.behind (bad BadRequest) f n.text_is.0.splits (None, n.no_head, refl)))
+    (refusal limits Start bytes n.after BadRequest (takes_found limits Start bytes n.text n.after (bad BadRequest) f n.text_is.0.splits (None, n.no_head, refl)))
 refused_goes limits bytes why (inr (inr x)) =
-    let f : front limits Start bytes ≡ found x.text = found_front EndsAsHead head_len head_search_for limits.max_head bytes x.text x.behind x.text_is in
-    refusal limits Start bytes x.behind why
-    (takes_found limits Start bytes x.text x.behind (bad why) f x.text_is.0.splits
+    let f : front limits Start bytes ≡ found x.text = found_front EndsAsHead head_len head_search_for limits.max_head bytes x.text x.after x.text_is in
+    refusal limits Start bytes x.after why
+    (takes_found limits Start bytes x.text x.after (bad why) f x.text_is.0.splits
     (Some (record_of x.head), (x.head, x.head_is, refl), sym (ap (after_framing (record_of x.head)) x.refused)))
 
 -- ---- a request
@@ -131,25 +131,25 @@ RequestGoes limits bytes results partial = Ends limits Start bytes results
 RequestGoes limits bytes results (complete rest) = Goes limits Start bytes results Start rest
 RequestGoes limits bytes results (faulty why) = Ends limits Start bytes results
 
-request_by : (limits : Limits) (bytes behind : List ℕ) (head : Next) (framing : Framing) (events : List Incoming) (state : BodyState)
-    → Goes limits Start bytes (head ∷ []) (body_place framing) behind → BodyGoes limits (body_place framing) behind events state
+request_by : (limits : Limits) (bytes after : List ℕ) (head : Next) (framing : Framing) (events : List Incoming) (state : BodyState)
+    → Goes limits Start bytes (head ∷ []) (body_place framing) after → BodyGoes limits (body_place framing) after events state
     → RequestGoes limits bytes (head ∷ (map Event events ++ closing state)) state
-request_by limits bytes behind head framing events partial x y =
-    then_ends limits Start bytes (head ∷ []) (body_place framing) behind (map Event events ++ []) x
-    (ends_as limits (body_place framing) behind (map Event events) (map Event events ++ []) (sym (append-nil (map Event events))) y)
-request_by limits bytes behind head framing events (faulty why) x y =
-    then_ends limits Start bytes (head ∷ []) (body_place framing) behind (map Event events ++ Bad (status_of why) ∷ []) x y
-request_by limits bytes behind head framing events (complete rest) x y =
-    goes_on limits Start bytes (head ∷ []) (body_place framing) behind (map Event events ++ Whole ∷ []) Start rest x
-    (goes_on limits (body_place framing) behind (map Event events) BodyEnd rest (Whole ∷ []) Start rest y
+request_by limits bytes after head framing events partial x y =
+    then_ends limits Start bytes (head ∷ []) (body_place framing) after (map Event events ++ []) x
+    (ends_as limits (body_place framing) after (map Event events) (map Event events ++ []) (sym (append-nil (map Event events))) y)
+request_by limits bytes after head framing events (faulty why) x y =
+    then_ends limits Start bytes (head ∷ []) (body_place framing) after (map Event events ++ Bad (status_of why) ∷ []) x y
+request_by limits bytes after head framing events (complete rest) x y =
+    goes_on limits Start bytes (head ∷ []) (body_place framing) after (map Event events ++ Whole ∷ []) Start rest x
+    (goes_on limits (body_place framing) after (map Event events) BodyEnd rest (Whole ∷ []) Start rest y
     (one limits BodyEnd rest (Some Whole) Start rest (takes_found limits BodyEnd rest [] rest (gives Whole Start) refl refl refl)))
 
 request_goes : (limits : Limits) → 0 < limits.block → (bytes : List ℕ) (results : List Next) (state : BodyState) → ReadsRequest limits bytes results state
     → RequestGoes limits bytes results state
 request_goes limits h bytes results state x =
     subst (λ (l : List Next). RequestGoes limits bytes l state) (sym x.results_are)
-    (request_by limits bytes x.behind (Head (scope_of (record_of x.head) x.framing) (facts_of (record_of x.head) x.framing)) x.framing x.events state
-    (head_goes limits bytes x.head x.framing x.behind x.head_is) (body_goes limits h x.framing x.behind x.events state x.plain x.body_is))
+    (request_by limits bytes x.after (Head (scope_of (record_of x.head) x.framing) (facts_of (record_of x.head) x.framing)) x.framing x.events state
+    (head_goes limits bytes x.head x.framing x.after x.head_is) (body_goes limits h x.framing x.after x.events state x.plain x.body_is))
 
 begins_goes : (limits : Limits) → 0 < limits.block → (bytes : List ℕ) (results : List Next) → BeginsRequest limits bytes results → Ends limits Start bytes results
 begins_goes limits h bytes results (inl x) =
@@ -184,8 +184,8 @@ requests_go limits h bytes (results ∷ requests) rest x =
 pub results_of : (limits : Limits) → 0 < limits.block → (bytes : List ℕ) (results : List Next) (rest : List ℕ) → GivesResults limits bytes results rest
     → ResultsOf limits bytes results
 results_of limits h bytes results rest x =
-    let all = then_ends limits Start bytes (flat_map (λ q. q) x.requests) Start x.behind x.last
-    (requests_go limits h bytes x.requests x.behind x.whole) (last_goes limits h x.behind x.last rest x.goes_on) in
+    let all = then_ends limits Start bytes (flat_map (λ q. q) x.requests) Start x.after x.last
+    (requests_go limits h bytes x.requests x.after x.whole) (last_goes limits h x.after x.last rest x.goes_on) in
     record {
       place = all.end;
       rest = all.rest;

@@ -1,4 +1,4 @@
--- How a search goes on, by one byte or by more bytes behind.
+-- How a search goes on, by one byte or by more bytes at the end.
 use Rattle.std.proofs.Common.{◌≡◌, ℕ, ◌+◌, ◌<◌, ◌≤◌, true, false, Bool, List, [], ◌∷◌, ◌++◌, length, get_or, drop, refl, sym, ap, ◌∙◌, append_assoc, arith, Option, Some, None, zero-add}
 use Rattle.std.specs.Prelude.{◌==◌, ◌-◌}
 use Rattle.std.specs.Option.{option_map}
@@ -9,7 +9,7 @@ use Rattle.asgi_request.specs.declared.place.Place.TheVariants.{Start, Counted, 
 use Rattle.asgi_request.specs.declared.search.Search.{Search}
 use Rattle.asgi_request.specs.HeadText.{is_line_break}
 use Rattle.asgi_request.specs.Fronts.{empty_line_len, more, lines_len, head_len, line_len, trailer_len}
-use Rattle.asgi_request.specs.Searches.{Continues, GoesFrom, IsClosed, head_part, ResumesTrailer, Resumes}
+use Rattle.asgi_request.specs.private.Searches.{Continues, GoesFrom, IsClosed, head_part, ResumesTrailer, Resumes}
 use Rattle.asgi_request.proofs.HeadLemmas.{more-more, lines_len-cons, head_len-cons}
 
 pub more-zero : (o : Option ℕ) → more 0 o ≡ o

@@ -34,11 +34,11 @@ use Rattle.asgi_request.proofs.ForwardLemmas.{Follows, From, Fits, turn_good, op
 abbrev pub LastOf : Limits → List ℕ → List Next → Type 0
 LastOf limits bytes results = (rest : List ℕ) × GivesLast limits bytes results rest
 
--- what the bytes before a head give: a whole request, and what E says of the bytes behind it, or the last results
+-- what the bytes before a head give: a whole request, and what E states of the bytes after it, or the last results
 abbrev pub StartGives : (List ℕ → List Next → List ℕ → Type 0) → Limits → List ℕ → List Next → Option (List ℕ) → Type 0
 StartGives E limits bytes results r =
-    ((h : List ℕ) × (r ≡ Some h) × (behind : List ℕ) × (request : List Next) × (more : List Next)
-    × ReadsRequest limits bytes request (complete behind) × E behind more h × (results ≡ request ++ more))
+    ((h : List ℕ) × (r ≡ Some h) × (after : List ℕ) × (request : List Next) × (more : List Next)
+    × ReadsRequest limits bytes request (complete after) × E after more h × (results ≡ request ++ more))
     ⊎ ((r ≡ None) × LastOf limits bytes results)
 
 record BodyFrom (E : List ℕ → List Next → List ℕ → Type 0) (limits : Limits) (framing : Framing) (bytes : List ℕ) (results : List Next) (r : Option (List ℕ)) : Type 0 where
@@ -72,17 +72,17 @@ body_from E limits Upgrade bytes results r plain from = absurd (plain refl)
 head_item : RequestHead → Framing → Next
 head_item head framing = Head (scope_of (record_of head) framing) (facts_of (record_of head) framing)
 
-head_gives : (E : List ℕ → List Next → List ℕ → Type 0) (limits : Limits) (bytes behind : List ℕ) (head : RequestHead) (framing : Framing)
-    (results : List Next) (r : Option (List ℕ)) → ReadsHead limits bytes head framing behind → framing ≢ Upgrade → BodyFrom E limits framing behind results r
+head_gives : (E : List ℕ → List Next → List ℕ → Type 0) (limits : Limits) (bytes after : List ℕ) (head : RequestHead) (framing : Framing)
+    (results : List Next) (r : Option (List ℕ)) → ReadsHead limits bytes head framing after → framing ≢ Upgrade → BodyFrom E limits framing after results r
     → StartGives E limits bytes (head_item head framing ∷ results) r
 unfolding head_item
-head_gives E limits bytes behind head framing results r x plain b = by b.state b.body_is b.follows
+head_gives E limits bytes after head framing results r x plain b = by b.state b.body_is b.follows
   where
-    request : (state : BodyState) → ReadsBody limits framing behind b.events state
+    request : (state : BodyState) → ReadsBody limits framing after b.events state
         → ReadsRequest limits bytes (head_item head framing ∷ (map Event b.events ++ closing state)) state
-    request state body = record { head = head; framing = framing; behind = behind; events = b.events; head_is = x; plain = plain; body_is = body; results_are = refl }
+    request state body = record { head = head; framing = framing; after = after; events = b.events; head_is = x; plain = plain; body_is = body; results_are = refl }
 
-    by : (state : BodyState) → ReadsBody limits framing behind b.events state → Follows E state b.tail r
+    by : (state : BodyState) → ReadsBody limits framing after b.events state → Follows E state b.tail r
         → StartGives E limits bytes (head_item head framing ∷ results) r
     by partial body f =
         let same : head_item head framing ∷ (map Event b.events ++ []) ≡ head_item head framing ∷ results =
@@ -110,21 +110,21 @@ refusal_gives E limits bytes rest why results r x from =
     inr (from.1, (bytes, inl (inr (inl (why, x, ap (λ (l : List Next). Bad (status_of why) ∷ l) from.0)), refl)))
 
 -- an opening handshake gives its head and Whole
-handshake_gives : (E : List ℕ → List Next → List ℕ → Type 0) (limits : Limits) (bytes behind : List ℕ) (head : RequestHead) (results : List Next) (r : Option (List ℕ))
-    → ReadsHead limits bytes head Upgrade behind → (results ≡ Whole ∷ []) × (r ≡ None) → StartGives E limits bytes (head_item head Upgrade ∷ results) r
+handshake_gives : (E : List ℕ → List Next → List ℕ → Type 0) (limits : Limits) (bytes after : List ℕ) (head : RequestHead) (results : List Next) (r : Option (List ℕ))
+    → ReadsHead limits bytes head Upgrade after → (results ≡ Whole ∷ []) × (r ≡ None) → StartGives E limits bytes (head_item head Upgrade ∷ results) r
 unfolding head_item
-handshake_gives E limits bytes behind head results r x from =
-    inr (from.1, (behind, inr (record { head = head; head_is = x; results_are = ap (λ (l : List Next). head_item head Upgrade ∷ l) from.0 })))
+handshake_gives E limits bytes after head results r x from =
+    inr (from.1, (after, inr (record { head = head; head_is = x; results_are = ap (λ (l : List Next). head_item head Upgrade ∷ l) from.0 })))
 
--- what stands behind a head
-behind_gives : (E : List ℕ → List Next → List ℕ → Type 0) (limits : Limits) (bytes behind : List ℕ) (head : RequestHead) (framing : Framing)
-    (results : List Next) (r : Option (List ℕ)) → ReadsHead limits bytes head framing behind → From E limits (body_place framing) behind results r
+-- what stands after a head
+after_gives : (E : List ℕ → List Next → List ℕ → Type 0) (limits : Limits) (bytes after : List ℕ) (head : RequestHead) (framing : Framing)
+    (results : List Next) (r : Option (List ℕ)) → ReadsHead limits bytes head framing after → From E limits (body_place framing) after results r
     → StartGives E limits bytes (head_item head framing ∷ results) r
-behind_gives E limits bytes behind head (Length n) results r x from =
-    head_gives E limits bytes behind head (Length n) results r x (λ e. cc) (body_from E limits (Length n) behind results r (λ e. cc) from)
-behind_gives E limits bytes behind head Chunked results r x from =
-    head_gives E limits bytes behind head Chunked results r x (λ e. cc) (body_from E limits Chunked behind results r (λ e. cc) from)
-behind_gives E limits bytes behind head Upgrade results r x from = handshake_gives E limits bytes behind head results r x from
+after_gives E limits bytes after head (Length n) results r x from =
+    head_gives E limits bytes after head (Length n) results r x (λ e. cc) (body_from E limits (Length n) after results r (λ e. cc) from)
+after_gives E limits bytes after head Chunked results r x from =
+    head_gives E limits bytes after head Chunked results r x (λ e. cc) (body_from E limits Chunked after results r (λ e. cc) from)
+after_gives E limits bytes after head Upgrade results r x from = handshake_gives E limits bytes after head results r x from
 
 -- what a turn before a head has to keep
 abbrev StartGood : (List ℕ → List Next → List ℕ → Type 0) → Limits → List ℕ → List ℕ → Judged → Type 0
@@ -143,12 +143,12 @@ framing_good : (E : List ℕ → List Next → List ℕ → Type 0) (limits : Li
 unfolding head_item
 framing_good E limits bytes text rest head x is (Ok framing) e = (
   fits_body limits framing,
-  λ results r from. behind_gives E limits bytes rest head framing results r (record { text = text; text_is = x; head_is = is; framing_is = e }) from,
+  λ results r from. after_gives E limits bytes rest head framing results r (record { text = text; text_is = x; head_is = is; framing_is = e }) from,
 )
 framing_good E limits bytes text rest head x is (Err why) e = (
   tt,
   λ results r from. refusal_gives E limits bytes rest why results r
-      (inr (inr (record { text = text; behind = rest; head = head; text_is = x; head_is = is; refused = e }))) from,
+      (inr (inr (record { text = text; after = rest; head = head; text_is = x; head_is = is; refused = e }))) from,
 )
 
 head_good : (E : List ℕ → List Next → List ℕ → Type 0) (limits : Limits) (bytes text rest : List ℕ)
@@ -157,7 +157,7 @@ head_good : (E : List ℕ → List Next → List ℕ → Type 0) (limits : Limit
 head_good E limits bytes text rest x None parses = (
   tt,
   λ results r from. refusal_gives E limits bytes rest BadRequest results r
-      (inr (inl (record { text = text; behind = rest; text_is = x; no_head = parses }, refl))) from,
+      (inr (inl (record { text = text; after = rest; text_is = x; no_head = parses }, refl))) from,
 )
 head_good E limits bytes text rest x (Some record_) parses =
     subst (λ (h : HeadRecord). StartGood E limits bytes rest (after_head limits (Some h))) (sym parses.2)
@@ -191,24 +191,24 @@ is_start HandshakeEnd = inr (λ e. cc)
 is_start Upgraded = inr (λ e. cc)
 is_start (Stopped why) = inr (λ e. cc)
 
--- all results, and the bytes behind the last whole request
+-- all results, and the bytes after the last whole request
 abbrev All_of : Limits → List ℕ → List Next → List ℕ → Type 0
 All_of limits bytes results h = GivesResults limits bytes results h
 
--- one request more in front
-pub request_first : (limits : Limits) (bytes behind : List ℕ) (request more : List Next) (h : List ℕ)
-    → ReadsRequest limits bytes request (complete behind) → GivesResults limits behind more h → GivesResults limits bytes (request ++ more) h
-request_first limits bytes behind request more h x g = record {
+-- one request more at the front
+pub request_first : (limits : Limits) (bytes after : List ℕ) (request more : List Next) (h : List ℕ)
+    → ReadsRequest limits bytes request (complete after) → GivesResults limits after more h → GivesResults limits bytes (request ++ more) h
+request_first limits bytes after request more h x g = record {
   requests = request ∷ g.requests;
-  behind = g.behind;
+  after = g.after;
   last = g.last;
-  whole = (behind, x, g.whole);
+  whole = (after, x, g.whole);
   goes_on = g.goes_on;
   results_are = ap (λ (l : List Next). request ++ l) g.results_are ∙ sym (append_assoc request (flat_map (λ q. q) g.requests) g.last);
 }
 
 last_alone : (limits : Limits) (bytes : List ℕ) (results : List Next) (rest : List ℕ) → GivesLast limits bytes results rest → GivesResults limits bytes results rest
-last_alone limits bytes results rest x = record { requests = []; behind = bytes; last = results; whole = refl; goes_on = x; results_are = refl }
+last_alone limits bytes results rest x = record { requests = []; after = bytes; last = results; whole = refl; goes_on = x; results_are = refl }
 
 start_all : (limits : Limits) (bytes : List ℕ) (results : List Next) (r : Option (List ℕ)) → StartGives (All_of limits) limits bytes results r
     → (h : List ℕ) × GivesResults limits bytes results h
@@ -256,7 +256,7 @@ all_from limits h place bytes (item ∷ items) end rest fits reads e =
         let on = go good.0 in
         (on.0, subst (λ (l : List Next). From (All_of limits) limits place bytes l on.0) (sym same) (good.1 (shown items) on.0 on.1))
 
--- what was given where nothing more is due are all the results
+-- what was given when nothing more is due are all the results
 pub all_results : (limits : Limits) → 0 < limits.block → (bytes : List ℕ) (given : List Next) (place : Place) (held : List ℕ)
     → Reaches limits bytes given place held → front limits place held ≡ unfinished → (rest : List ℕ) × GivesResults limits bytes given rest
 all_results limits h bytes given place held x e =

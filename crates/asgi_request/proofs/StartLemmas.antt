@@ -1,4 +1,4 @@
--- Where a head is due: the one that the bytes begin with, why it is refused, and that it is not whole.
+-- When a head is due: the one that the bytes begin with, why it is refused, and that it is not whole.
 use Rattle.std.proofs.Common.{◌≡◌, ℕ, List, [], ◌∷◌, ◌++◌, ◌⊎◌, inl, inr, refl, sym, ap, ◌∙◌, append_assoc, append-nil, subst, Option, Some, None, Result, Ok, Err}
 use Rattle.asgi_types.specs.declared.facts.Facts.{Facts}
 use Rattle.asgi_types.specs.declared.facts.Framing.{Framing}
@@ -25,7 +25,7 @@ use Rattle.asgi_request.specs.Places.{front, gives, body_place, after_framing, a
 use Rattle.asgi_request.specs.Opened.{BeginsWith}
 use Rattle.asgi_request.proofs.BackwardLemmas.{goes_on, one, takes_found}
 use Rattle.asgi_request.proofs.BodyGrowthLemmas.{Further}
-use Rattle.asgi_request.proofs.DueLemmas.{OpensAt, ClosesAt, runs_compare, same_behind, not_further}
+use Rattle.asgi_request.proofs.DueLemmas.{OpensAt, ClosesAt, runs_compare, same_after, not_further}
 use Rattle.asgi_request.proofs.NextLemmas.{some_item}
 use Rattle.asgi_request.proofs.ResultsLemmas.{results_of}
 use Rattle.asgi_request.proofs.TextLemmas.{tells, found_front, head_search_for}
@@ -85,20 +85,20 @@ begins_grows limits bytes more scope facts arrived b =
       facts_are = b.facts_are;
     }
 
--- ---- behind a whole request
+-- ---- after a whole request
 
-pub closed_grows : (limits : Limits) (bytes more : List ℕ) (closed : List Next) (behind : List ℕ)
-    → ClosesAt limits bytes closed behind → ClosesAt limits (bytes ++ more) closed (behind ++ more)
-closed_grows limits bytes more closed behind x =
-    record { steps = x.steps; reads = Reads-append limits Start bytes x.steps Start behind more x.reads; shows = x.shows }
+pub closed_grows : (limits : Limits) (bytes more : List ℕ) (closed : List Next) (after : List ℕ)
+    → ClosesAt limits bytes closed after → ClosesAt limits (bytes ++ more) closed (after ++ more)
+closed_grows limits bytes more closed after x =
+    record { steps = x.steps; reads = Reads-append limits Start bytes x.steps Start after more x.reads; shows = x.shows }
 
-pub head_reached : (limits : Limits) (bytes : List ℕ) (closed : List Next) (behind : List ℕ) (scope : Scope) (facts : Facts) (arrived : List ℕ)
-    → ClosesAt limits bytes closed behind → BeginsWith limits behind scope facts arrived
+pub head_reached : (limits : Limits) (bytes : List ℕ) (closed : List Next) (after : List ℕ) (scope : Scope) (facts : Facts) (arrived : List ℕ)
+    → ClosesAt limits bytes closed after → BeginsWith limits after scope facts arrived
     → OpensAt limits bytes (closed ++ Head scope facts ∷ []) facts.framing arrived
 unfolding head_turn
-head_reached limits bytes closed behind scope facts arrived x b =
-    let goes = one limits Start behind (Some (Head scope facts)) (body_place facts.framing) arrived (head_takes limits behind scope facts arrived b) in
-    let all = goes_on limits Start bytes closed Start behind (Head scope facts ∷ []) (body_place facts.framing) arrived
+head_reached limits bytes closed after scope facts arrived x b =
+    let goes = one limits Start after (Some (Head scope facts)) (body_place facts.framing) arrived (head_takes limits after scope facts arrived b) in
+    let all = goes_on limits Start bytes closed Start after (Head scope facts ∷ []) (body_place facts.framing) arrived
     (record { steps = x.steps; reads = x.reads; shows = x.shows }) goes in
     record { steps = all.steps; reads = all.reads; shows = all.shows }
 
@@ -116,7 +116,7 @@ framing_tells : (limits : Limits) (bytes text rest : List ℕ) (head : RequestHe
 framing_tells limits bytes text rest head x is (Ok framing) e = λ status i. cc
 framing_tells limits bytes text rest head x is (Err why) e = λ status i. (
   why,
-  inr (inr (record { text = text; behind = rest; head = head; text_is = x; head_is = is; refused = e })),
+  inr (inr (record { text = text; after = rest; head = head; text_is = x; head_is = is; refused = e })),
   same_status (status_of why) status i,
 )
 
@@ -124,7 +124,7 @@ head_tells : (limits : Limits) (bytes text rest : List ℕ) → IsFirstWithin En
     → BadTells limits bytes (after_head limits o).item
 head_tells limits bytes text rest x None parses = λ status i. (
   BadRequest,
-  inr (inl (record { text = text; behind = rest; text_is = x; no_head = parses }, refl)),
+  inr (inl (record { text = text; after = rest; text_is = x; no_head = parses }, refl)),
   same_status (status_of BadRequest) status i,
 )
 head_tells limits bytes text rest x (Some r) parses =
@@ -144,38 +144,38 @@ turn_tells limits bytes rest turn takes = by (front limits Start bytes) refl tak
         (λ status i. (HeaderFieldsTooLarge, inl (t, refl), same_status (status_of HeaderFieldsTooLarge) status i))
     by unfinished e split j = absurd j
 
-pub next_refusal : (limits : Limits) (bytes : List ℕ) (closed : List Next) (behind : List ℕ) (place : Place) (held : List ℕ) (status : ℕ)
-    → ClosesAt limits bytes closed behind → Reaches limits bytes (closed ++ Bad status ∷ []) place held
-    → (why : Refusal) × RefusesHead limits behind why × (status ≡ status_of why)
-next_refusal limits bytes closed behind place held status x r = by (runs_compare limits Start bytes x.steps Start behind r.steps place held x.reads r.reads)
+pub next_refusal : (limits : Limits) (bytes : List ℕ) (closed : List Next) (after : List ℕ) (place : Place) (held : List ℕ) (status : ℕ)
+    → ClosesAt limits bytes closed after → Reaches limits bytes (closed ++ Bad status ∷ []) place held
+    → (why : Refusal) × RefusesHead limits after why × (status ≡ status_of why)
+next_refusal limits bytes closed after place held status x r = by (runs_compare limits Start bytes x.steps Start after r.steps place held x.reads r.reads)
   where
-    on : (items : List (Option Next)) → Reads limits Start behind items place held → Bad status ∷ [] ≡ shown items
-        → (why : Refusal) × RefusesHead limits behind why × (status ≡ status_of why)
+    on : (items : List (Option Next)) → Reads limits Start after items place held → Bad status ∷ [] ≡ shown items
+        → (why : Refusal) × RefusesHead limits after why × (status ≡ status_of why)
     on [] q e = cc
-    on (None ∷ items) q e = absurd (some_item limits behind q.1 q.0 q.2)
+    on (None ∷ items) q e = absurd (some_item limits after q.1 q.0 q.2)
     on (Some item ∷ items) q e =
         let first : item ≡ Bad status = cc e in
-        turn_tells limits behind q.1 (record { item = Some item; place = q.0 }) q.2 status (ap (λ (i : Next). Some i) first)
+        turn_tells limits after q.1 (record { item = Some item; place = q.0 }) q.2 status (ap (λ (i : Next). Some i) first)
 
-    by : Further limits x.steps Start behind r.steps place held ⊎ Further limits r.steps place held x.steps Start behind
-        → (why : Refusal) × RefusesHead limits behind why × (status ≡ status_of why)
+    by : Further limits x.steps Start after r.steps place held ⊎ Further limits r.steps place held x.steps Start after
+        → (why : Refusal) × RefusesHead limits after why × (status ≡ status_of why)
     by (inl f) =
-        on f.items_behind f.reads (same_behind closed (Bad status ∷ []) (shown f.items_behind)
-        (sym r.shows ∙ ap shown f.splits ∙ shown-append x.steps f.items_behind ∙ ap (λ (l : List Next). l ++ shown f.items_behind) x.shows))
+        on f.items_after f.reads (same_after closed (Bad status ∷ []) (shown f.items_after)
+        (sym r.shows ∙ ap shown f.splits ∙ shown-append x.steps f.items_after ∙ ap (λ (l : List Next). l ++ shown f.items_after) x.shows))
     by (inr f) = absurd (
-        let e : [] ≡ Bad status ∷ ([] ++ shown f.items_behind) =
-        same_behind closed [] (Bad status ∷ ([] ++ shown f.items_behind))
-        (append-nil closed ∙ sym x.shows ∙ ap shown f.splits ∙ shown-append r.steps f.items_behind ∙ ap (λ (l : List Next). l ++ shown f.items_behind) r.shows
-        ∙ append_assoc closed (Bad status ∷ []) (shown f.items_behind)) in
+        let e : [] ≡ Bad status ∷ ([] ++ shown f.items_after) =
+        same_after closed [] (Bad status ∷ ([] ++ shown f.items_after))
+        (append-nil closed ∙ sym x.shows ∙ ap shown f.splits ∙ shown-append r.steps f.items_after ∙ ap (λ (l : List Next). l ++ shown f.items_after) r.shows
+        ∙ append_assoc closed (Bad status ∷ []) (shown f.items_after)) in
         cc)
 
 -- ---- a head that is not whole
 
-pub head_is_open : (limits : Limits) (bytes : List ℕ) (closed : List Next) (behind rest : List ℕ) → ClosesAt limits bytes closed behind → GivesResults limits bytes closed rest
-    → IsUnfinished EndsAsHead limits.max_head behind
-head_is_open limits bytes closed behind rest x g =
-    tells EndsAsHead head_len head_search_for limits.max_head behind unfinished
-    (by (runs_compare limits Start bytes x.steps Start behind reached.steps r.place r.rest x.reads reached.reads))
+pub head_is_open : (limits : Limits) (bytes : List ℕ) (closed : List Next) (after rest : List ℕ) → ClosesAt limits bytes closed after → GivesResults limits bytes closed rest
+    → IsUnfinished EndsAsHead limits.max_head after
+head_is_open limits bytes closed after rest x g =
+    tells EndsAsHead head_len head_search_for limits.max_head after unfinished
+    (by (runs_compare limits Start bytes x.steps Start after reached.steps r.place r.rest x.reads reached.reads))
   where
     r : ResultsOf limits bytes closed
     r = results_of limits limits.block_in_range.0 bytes closed rest g
@@ -183,23 +183,23 @@ head_is_open limits bytes closed behind rest x g =
     reached : Reaches limits bytes closed r.place r.rest
     reached = r.reaches
 
-    on : (items : List (Option Next)) → Reads limits Start behind items r.place r.rest → [] ≡ shown items → front limits Start behind ≡ unfinished
+    on : (items : List (Option Next)) → Reads limits Start after items r.place r.rest → [] ≡ shown items → front limits Start after ≡ unfinished
     on [] q e =
         let P : Place → Type 0 = λ p. front limits p r.rest ≡ unfinished in
         let R : List ℕ → Type 0 = λ l. front limits Start l ≡ unfinished in
         subst R (sym q.1) (subst P (sym q.0) r.waits)
-    on (None ∷ items) q e = absurd (some_item limits behind q.1 q.0 q.2)
+    on (None ∷ items) q e = absurd (some_item limits after q.1 q.0 q.2)
     on (Some item ∷ items) q e = cc
 
-    waits_so : (items : List (Option Next)) → items ≡ [] → Reads limits r.place r.rest items Start behind → front limits Start behind ≡ unfinished
+    waits_so : (items : List (Option Next)) → items ≡ [] → Reads limits r.place r.rest items Start after → front limits Start after ≡ unfinished
     waits_so [] e q =
-        let P : Place → Type 0 = λ p. front limits p behind ≡ unfinished in
+        let P : Place → Type 0 = λ p. front limits p after ≡ unfinished in
         let R : List ℕ → Type 0 = λ l. front limits r.place l ≡ unfinished in
         subst P q.0 (subst R q.1 r.waits)
     waits_so (item ∷ items) e q = cc
 
-    by : Further limits x.steps Start behind reached.steps r.place r.rest ⊎ Further limits reached.steps r.place r.rest x.steps Start behind → front limits Start behind ≡ unfinished
+    by : Further limits x.steps Start after reached.steps r.place r.rest ⊎ Further limits reached.steps r.place r.rest x.steps Start after → front limits Start after ≡ unfinished
     by (inl f) =
-        on f.items_behind f.reads (same_behind closed [] (shown f.items_behind)
-        (append-nil closed ∙ sym reached.shows ∙ ap shown f.splits ∙ shown-append x.steps f.items_behind ∙ ap (λ (l : List Next). l ++ shown f.items_behind) x.shows))
-    by (inr f) = waits_so f.items_behind (not_further limits r.place r.rest f.items_behind Start behind r.waits f.reads) f.reads
+        on f.items_after f.reads (same_after closed [] (shown f.items_after)
+        (append-nil closed ∙ sym reached.shows ∙ ap shown f.splits ∙ shown-append x.steps f.items_after ∙ ap (λ (l : List Next). l ++ shown f.items_after) x.shows))
+    by (inr f) = waits_so f.items_after (not_further limits r.place r.rest f.items_after Start after r.waits f.reads) f.reads

@@ -61,8 +61,8 @@ parts_whole value none =
 abbrev of_part : List ℕ → List (List ℕ)
 of_part part = token_of (trim_ows part)
 
-pub tokens_of_cut : (value part behind : List ℕ) → parts_of value ≡ part ∷ parts_of behind → tokens_of value ≡ of_part part ++ tokens_of behind
-tokens_of_cut value part behind cut = ap (λ (parts : List (List ℕ)). flat_map of_part parts) cut
+pub tokens_of_cut : (value part after : List ℕ) → parts_of value ≡ part ∷ parts_of after → tokens_of value ≡ of_part part ++ tokens_of after
+tokens_of_cut value part after cut = ap (λ (parts : List (List ℕ)). flat_map of_part parts) cut
 
 pub tokens_of_last : (value : List ℕ) → parts_of value ≡ value ∷ [] → tokens_of value ≡ of_part value
 tokens_of_last value last = ap (λ (parts : List (List ℕ)). flat_map of_part parts) last ∙ append-nil (of_part value)
@@ -80,14 +80,14 @@ some_token (x ∷ done) first rest all part f e none = cc (e, none)
 abbrev protocol_name : List ℕ
 protocol_name = codes "sec-websocket-protocol"
 
--- a field of the name gives its tokens, in front of those of the fields behind it
-pub named_field : (f : HeaderField) (fields behind : List HeaderField) (before all : List (List ℕ)) → fields ≡ f ∷ behind → bytes_eq f.name protocol_name ≡ true
-    → all ≡ before ++ subprotocols_of fields → all ≡ (before ++ tokens_of f.value) ++ subprotocols_of behind
-named_field f fields behind before all cons named split =
+-- a field of the name gives its tokens, before those of the fields after it
+pub named_field : (f : HeaderField) (fields after : List HeaderField) (before all : List (List ℕ)) → fields ≡ f ∷ after → bytes_eq f.name protocol_name ≡ true
+    → all ≡ before ++ subprotocols_of fields → all ≡ (before ++ tokens_of f.value) ++ subprotocols_of after
+named_field f fields after before all cons named split =
     split
     ∙ ap (λ (l : List HeaderField). before ++ subprotocols_of l) cons
-    ∙ ap (λ (b : Bool). before ++ ((if b then tokens_of f.value else []) ++ subprotocols_of behind)) named
-    ∙ sym (append_assoc before (tokens_of f.value) (subprotocols_of behind))
+    ∙ ap (λ (b : Bool). before ++ ((if b then tokens_of f.value else []) ++ subprotocols_of after)) named
+    ∙ sym (append_assoc before (tokens_of f.value) (subprotocols_of after))
 
 middle_is_nil : (a b c : List (List ℕ)) → (a ++ b) ++ c ≡ [] → b ≡ []
 middle_is_nil [] [] c none = refl

@@ -1,4 +1,4 @@
--- A path that stands in front of its target is a front of it.
+-- A target that isn't in absolute-form begins with its path, if that isn't empty.
 use Rattle.std.proofs.Common.{◌≡◌, ◌≤◌, ◌<◌, ℕ, Bool, true, false, ◌||◌, List, [], ◌∷◌, length, take, if◌then◌else◌, ◌==◌, refl, ap, ◌∙◌, arith, length-take}
 use Rattle.std.specs.Prelude.{codes}
 use Rattle.asgi_request.specs.Target.{has_authority, path_and_query, before_query, or_root, path_of, question_mark}

@@ -9,7 +9,7 @@ use Rattle.asgi_request.specs.HeadText.{EndsAsHead}
 use Rattle.asgi_request.specs.Fronts.{Front, found, too_long, unfinished, front_at, head_len}
 use Rattle.asgi_request.proofs.HeadTextLemmas.{Finds, text_found, head_sound}
 
--- the search finds such a text in front of the bytes, and one that is there
+-- the search finds only such texts at the front of the bytes, and finds one if it is there
 pub record IsSearchFor (Ends : List ℕ → Type 0) (len : List ℕ → Option ℕ) : Type 0 where
   pub sound : (bytes : List ℕ) (n : ℕ) → len bytes ≡ Some n → (n ≤ length bytes) × Ends (take n bytes)
   pub finds : (text rest : List ℕ) → Ends text → (m : ℕ) × (len (text ++ rest) ≡ Some m) × (m ≤ length text)
@@ -48,7 +48,7 @@ none_of Ends len s bytes e text rest split h =
     let there : None ≡ Some f.0 = sym e ∙ ap len split ∙ f.1 in
     cc
 
--- a text in front of the first bytes is in front of all of them
+-- if the first bytes begin with a text, all of them do
 in_front : (limit : ℕ) (bytes text rest : List ℕ) → take limit bytes ≡ text ++ rest → bytes ≡ text ++ (rest ++ drop limit bytes)
 in_front limit bytes text rest split =
     sym (take-append-drop limit bytes) ∙ ap (λ (l : List ℕ). l ++ drop limit bytes) split ∙ append_assoc text rest (drop limit bytes)
@@ -67,7 +67,7 @@ late Ends len s limit bytes n e far =
           ),
     )
 
--- what a front says
+-- what a front shows
 abbrev pub Tells : (List ℕ → Type 0) → ℕ → List ℕ → Front → Type 0
 Tells Ends limit bytes (found text) = (rest : List ℕ) → bytes ≡ text ++ rest → IsFirstWithin Ends limit bytes text rest
 Tells Ends limit bytes too_long = IsTooLong Ends limit bytes
@@ -98,7 +98,7 @@ front_tells : (Ends : List ℕ → Type 0) (len : List ℕ → Option ℕ) → I
 front_tells Ends len s limit bytes (Some n) e = some_tells Ends len s limit bytes n e (nat_le n limit) refl
 front_tells Ends len s limit bytes None e = none_tells Ends len s limit bytes e (nat_le limit (length bytes)) refl
 
--- what the front of the bytes says
+-- what the front of the bytes shows
 pub tells : (Ends : List ℕ → Type 0) (len : List ℕ → Option ℕ) → IsSearchFor Ends len → (limit : ℕ) (bytes : List ℕ) (f : Front)
     → front_at limit bytes (len bytes) ≡ f → Tells Ends limit bytes f
 tells Ends len s limit bytes f e = subst (λ (x : Front). Tells Ends limit bytes x) e (front_tells Ends len s limit bytes (len bytes) refl)

@@ -1,4 +1,4 @@
--- No bytes are without results.
+-- The results of bytes cannot fail to exist.
 use Rattle.std.proofs.Common.{◌≡◌, ℕ, zero, suc, ◌+◌, ◌-◌, ◌*◌, ◌<◌, ◌≤◌, length, take, drop, Bool, true, false, List, [], ◌∷◌, ◌++◌, refl, sym, ap, ◌∙◌, subst, arith, Option, Some, None}
 use Rattle.std.specs.Prelude.{nat_le, min, if◌then◌else◌}
 use Rattle.std.proofs.lemmas.List.{length-append, length-take-le, take-append-drop}
@@ -24,9 +24,9 @@ use Rattle.asgi_request.proofs.ForwardLemmas.{lt_no, first_tells}
 use Rattle.asgi_request.proofs.BackwardLemmas.{Ends, takes_found, takes_long, then_ends, one, waiting, refusal}
 use Rattle.asgi_request.proofs.StandardLemmas.{all_results}
 
--- ---- a text that is found stands in front
+-- ---- a text that is found stands at the front
 
--- the text is in front of the bytes, and has so many bytes or more
+-- the bytes begin with the text, which has this many bytes or more
 record BeginsWith (least : ℕ) (bytes text : List ℕ) : Type 0 where
   rest : List ℕ
   splits : bytes ≡ text ++ rest

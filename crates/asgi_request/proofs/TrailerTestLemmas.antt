@@ -1,4 +1,4 @@
--- The test for a trailer section says what the grammar says.
+-- The test for a trailer section agrees with the grammar.
 use Rattle.std.proofs.Common.{◌≡◌, ℕ, zero, suc, ◌<◌, ◌≤◌, Bool, true, false, List, [], ◌∷◌, ◌++◌, length, refl, sym, ap, ◌∙◌, arith, append_assoc, append-nil, Option, Some, None, All, flat_map, inl, inr, ◌⊎◌}
 use Rattle.std.specs.Prelude.{◌↔◌, nat_lt, ◌==◌, ◌||◌, if◌then◌else◌, bytes_eq}
 use Rattle.std.proofs.lemmas.Bool.Decides.{nat_tests}
@@ -10,7 +10,7 @@ use Rattle.httparse.specs.Pieces.{Stops}
 use Rattle.httparse.proofs.GrammarLemmas.{cons-append}
 use Rattle.asgi_request.specs.ChunkedBody.{IsTrailerSection}
 use Rattle.asgi_request.specs.Parts.{ParsesTrailers}
-use Rattle.asgi_request.specs.BodyTexts.{run_of, behind_run, is_empty_line, behind_feed, behind_end, behind_value, behind_field, holds_of, is_section}
+use Rattle.asgi_request.specs.BodyTexts.{run_of, after_run, is_empty_line, after_feed, after_end, after_value, after_field, holds_of, is_section}
 use Rattle.asgi_request.proofs.RunLemmas.{run_splits, run_passes, run_done}
 
 is_code : (b c : ℕ) → (b == c) ≡ true → b ≡ c
@@ -18,7 +18,7 @@ is_code b c h = grind (arith, nat_tests)
 
 -- ---- a line end
 
-feed_sound : (s rest : List ℕ) → behind_feed s ≡ Some rest → s ≡ 10 ∷ rest
+feed_sound : (s rest : List ℕ) → after_feed s ≡ Some rest → s ≡ 10 ∷ rest
 feed_sound [] rest h = cc
 feed_sound (b ∷ s) rest h = at (b == 10) refl h
   where
@@ -26,15 +26,15 @@ feed_sound (b ∷ s) rest h = at (b == 10) refl h
     at true q g = let c = is_code b 10 q in let r : s ≡ rest = cc g in cc (c, r)
     at false q g = cc
 
-end_sound : (s rest : List ℕ) → behind_end s ≡ Some rest → (end : LineEnd) × (s ≡ print_end end ++ rest)
+end_sound : (s rest : List ℕ) → after_end s ≡ Some rest → (end : LineEnd) × (s ≡ print_end end ++ rest)
 end_sound [] rest h = cc
 end_sound (b ∷ s) rest h = at (b == 13) refl h
   where
-    at : (t : Bool) → (b == 13) ≡ t → (if t then behind_feed s else behind_feed (b ∷ s)) ≡ Some rest → (end : LineEnd) × (b ∷ s ≡ print_end end ++ rest)
+    at : (t : Bool) → (b == 13) ≡ t → (if t then after_feed s else after_feed (b ∷ s)) ≡ Some rest → (end : LineEnd) × (b ∷ s ≡ print_end end ++ rest)
     at true q g = let c = is_code b 13 q in let r = feed_sound s rest g in (crlf, cc (c, r))
     at false q g = (lf, feed_sound (b ∷ s) rest g)
 
-end_complete : (end : LineEnd) (rest : List ℕ) → behind_end (print_end end ++ rest) ≡ Some rest
+end_complete : (end : LineEnd) (rest : List ℕ) → after_end (print_end end ++ rest) ≡ Some rest
 end_complete crlf rest = refl
 end_complete lf rest = refl
 
@@ -47,14 +47,14 @@ record ValueFirst (s rest : List ℕ) : Type 0 where
   passes : AllPass is_value_byte raw
   splits : s ≡ 58 ∷ (raw ++ (print_end end ++ rest))
 
-value_sound : (s rest : List ℕ) → behind_value s ≡ Some rest → ValueFirst s rest
+value_sound : (s rest : List ℕ) → after_value s ≡ Some rest → ValueFirst s rest
 value_sound [] rest h = cc
 value_sound (b ∷ s) rest h = at (b == 58) refl h
   where
-    at : (t : Bool) → (b == 58) ≡ t → (if t then behind_end (behind_run is_value_byte s) else None) ≡ Some rest → ValueFirst (b ∷ s) rest
+    at : (t : Bool) → (b == 58) ≡ t → (if t then after_end (after_run is_value_byte s) else None) ≡ Some rest → ValueFirst (b ∷ s) rest
     at true q g =
         let c = is_code b 58 q in
-        let e = end_sound (behind_run is_value_byte s) rest g in
+        let e = end_sound (after_run is_value_byte s) rest g in
         let split : s ≡ run_of is_value_byte s ++ (print_end e.0 ++ rest) = sym (run_splits is_value_byte s) ∙ ap (λ (l : List ℕ). run_of is_value_byte s ++ l) e.1 in
         record { raw = run_of is_value_byte s; end = e.0; passes = run_passes is_value_byte s; splits = ap (λ (d : ℕ). d ∷ s) c ∙ ap (λ (l : List ℕ). 58 ∷ l) split }
     at false q g = cc
@@ -77,12 +77,12 @@ field_splits f rest = at f.name f.raw (print_end f.end) rest
     at : (a b c r : List ℕ) → (a ++ 58 ∷ b ++ c) ++ r ≡ a ++ (58 ∷ (b ++ (c ++ r)))
     at a b c r = simp (append_assoc, cons-append)
 
-field_sound : (s rest : List ℕ) → behind_field s ≡ Some rest → FieldFirst s rest
+field_sound : (s rest : List ℕ) → after_field s ≡ Some rest → FieldFirst s rest
 field_sound s rest h = at (nat_lt 0 (length (run_of is_token_byte s))) refl h
   where
-    at : (t : Bool) → nat_lt 0 (length (run_of is_token_byte s)) ≡ t → (if t then behind_value (behind_run is_token_byte s) else None) ≡ Some rest → FieldFirst s rest
+    at : (t : Bool) → nat_lt 0 (length (run_of is_token_byte s)) ≡ t → (if t then after_value (after_run is_token_byte s) else None) ≡ Some rest → FieldFirst s rest
     at true q g =
-        let v = value_sound (behind_run is_token_byte s) rest g in
+        let v = value_sound (after_run is_token_byte s) rest g in
         let f : Field = record { name = run_of is_token_byte s; raw = v.raw; end = v.end } in
         record {
           field = f;
@@ -99,15 +99,15 @@ end_stops : (end : LineEnd) (s : List ℕ) → Stops is_value_byte (print_end en
 end_stops crlf s = refl
 end_stops lf s = refl
 
-value_complete : (raw : List ℕ) (end : LineEnd) (rest : List ℕ) → AllPass is_value_byte raw → behind_value (58 ∷ (raw ++ (print_end end ++ rest))) ≡ Some rest
+value_complete : (raw : List ℕ) (end : LineEnd) (rest : List ℕ) → AllPass is_value_byte raw → after_value (58 ∷ (raw ++ (print_end end ++ rest))) ≡ Some rest
 value_complete raw end rest all =
-    ap behind_end (run_done is_value_byte raw (print_end end ++ rest) all (end_stops end rest)).1 ∙ end_complete end rest
+    ap after_end (run_done is_value_byte raw (print_end end ++ rest) all (end_stops end rest)).1 ∙ end_complete end rest
 
-field_complete : (f : Field) (rest : List ℕ) → IsField f → behind_field (print_field f ++ rest) ≡ Some rest
+field_complete : (f : Field) (rest : List ℕ) → IsField f → after_field (print_field f ++ rest) ≡ Some rest
 field_complete f rest is =
-    let behind = 58 ∷ (f.raw ++ (print_end f.end ++ rest)) in
-    let run = run_done is_token_byte f.name behind is.name.1 (colon_stops (f.raw ++ (print_end f.end ++ rest))) in
-    ap behind_field (field_splits f rest) ∙ rw (run.0, run.1, is_there (length f.name) is.name.0) (value_complete f.raw f.end rest is.raw)
+    let after = 58 ∷ (f.raw ++ (print_end f.end ++ rest)) in
+    let run = run_done is_token_byte f.name after is.name.1 (colon_stops (f.raw ++ (print_end f.end ++ rest))) in
+    ap after_field (field_splits f rest) ∙ rw (run.0, run.1, is_there (length f.name) is.name.0) (value_complete f.raw f.end rest is.raw)
 
 -- ---- a section
 
@@ -151,15 +151,15 @@ more_sound n text rest f s = (
 
 section_sound : (n : ℕ) (text : List ℕ) → is_section n text ≡ true → Section n text
 section_sound zero text h = empty_sound zero text h
-section_sound (suc n) text h = by (either (is_empty_line text) (holds_of (is_section n) (behind_field text)) h) (section_sound n)
+section_sound (suc n) text h = by (either (is_empty_line text) (holds_of (is_section n) (after_field text)) h) (section_sound n)
   where
-    on : (o : Option (List ℕ)) → behind_field text ≡ o → holds_of (is_section n) o ≡ true → ((rest : List ℕ) → is_section n rest ≡ true → Section n rest) → Section (suc n) text
+    on : (o : Option (List ℕ)) → after_field text ≡ o → holds_of (is_section n) o ≡ true → ((rest : List ℕ) → is_section n rest ≡ true → Section n rest) → Section (suc n) text
     on None e g go = cc
     on (Some rest) e g go = more_sound n text rest (field_sound text rest e) (go rest g)
 
-    by : (is_empty_line text ≡ true) ⊎ (holds_of (is_section n) (behind_field text) ≡ true) → ((rest : List ℕ) → is_section n rest ≡ true → Section n rest) → Section (suc n) text
+    by : (is_empty_line text ≡ true) ⊎ (holds_of (is_section n) (after_field text) ≡ true) → ((rest : List ℕ) → is_section n rest ≡ true → Section n rest) → Section (suc n) text
     by (inl g) go = empty_sound (suc n) text g
-    by (inr g) go = on (behind_field text) refl g go
+    by (inr g) go = on (after_field text) refl g go
 
 empty_complete : (last : LineEnd) → is_empty_line (print_end last) ≡ true
 empty_complete crlf = refl
@@ -167,13 +167,13 @@ empty_complete lf = refl
 
 section_complete : (n : ℕ) (fields : List Field) (last : LineEnd) → All IsField fields → length fields ≤ n → is_section n (print_section fields last) ≡ true
 section_complete zero [] last all few = empty_complete last
-section_complete (suc n) [] last all few = left_holds (is_empty_line (print_end last)) (holds_of (is_section n) (behind_field (print_end last))) (empty_complete last)
+section_complete (suc n) [] last all few = left_holds (is_empty_line (print_end last)) (holds_of (is_section n) (after_field (print_end last))) (empty_complete last)
 section_complete zero (f ∷ fields) last all few = absurd (omega (arith, few))
 section_complete (suc n) (f ∷ fields) last all few =
     let text = print_section (f ∷ fields) last in
     let split : text ≡ print_field f ++ print_section fields last = append_assoc (print_field f) (flat_map print_field fields) (print_end last) in
-    right_holds (is_empty_line text) (holds_of (is_section n) (behind_field text))
-    (ap (λ (o : Option (List ℕ)). holds_of (is_section n) o) (ap behind_field split ∙ field_complete f (print_section fields last) (All-head IsField f fields all))
+    right_holds (is_empty_line text) (holds_of (is_section n) (after_field text))
+    (ap (λ (o : Option (List ℕ)). holds_of (is_section n) o) (ap after_field split ∙ field_complete f (print_section fields last) (All-head IsField f fields all))
     ∙ section_complete n fields last (All-tail IsField f fields all) (omega (arith, few)))
 
 pub section_decided : (max_headers : ℕ) (text : List ℕ)

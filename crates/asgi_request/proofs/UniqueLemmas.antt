@@ -1,4 +1,4 @@
--- One turn at most, and more bytes behind change none.
+-- One turn at most, and more bytes at the end change none.
 use Rattle.std.proofs.Common.{◌≡◌, ℕ, ◌+◌, length, arith, Bool, true, false, List, [], ◌∷◌, ◌++◌, refl, sym, ap, ◌∙◌, append_assoc, subst, Option, Some, None}
 use Rattle.std.proofs.lemmas.List.{append-nil, length-append}
 use Rattle.httparse.proofs.GrammarLemmas.{request_unique}
@@ -98,7 +98,7 @@ same_front (x ∷ a) b r q e = same_front a b r q cc
 pub same_rest : (limits : Limits) (place : Place) (bytes : List ℕ) (a b : Judged) (r q : List ℕ) → Takes limits place bytes a r → Takes limits place bytes b q → r ≡ q
 same_rest limits place bytes a b r q x y = same_front (front_text (front limits place bytes)) [] r q (sym x.splits ∙ y.splits)
 
--- where a run can't go on, it begins with each run over fewer bytes
+-- if a run can't go on, it begins with each run over fewer bytes
 run_begins : (limits : Limits) (place : Place) (bytes more : List ℕ) (items : List (Option Next)) (end : Place) (rest : List ℕ)
     (others : List (Option Next)) (last : Place) (left : List ℕ)
     → Reads limits place bytes items end rest → Reads limits place (bytes ++ more) others last left → front limits last left ≡ unfinished

@@ -1,4 +1,4 @@
--- Message body length (RFC 9112, section 6.3), and the heads that are refused before it is asked for.
+-- Message body length (RFC 9112, section 6.3), and the heads that are refused before it is determined.
 use Rattle.std.specs.Prelude.{ℕ, Bool, true, false, ◌&&◌, not, List, if◌then◌else◌, ◌==◌, nat_lt, codes, bytes_eq, Result, Ok, Err, Option, Some, None}
 use Rattle.std.specs.Option.{unwrap_or}
 use Rattle.asgi_types.specs.declared.facts.Framing.{Framing}
@@ -15,17 +15,17 @@ use Rattle.asgi_types.specs.Tokens.{same_ignoring_case}
 use Rattle.asgi_request.specs.FieldValues.{count_named, has_field, value_named}
 use Rattle.asgi_request.specs.Target.{is_target}
 
--- HTTP/1.1 asks for one Host field (section 3.2)
+-- HTTP/1.1 requires one Host field (section 3.2)
 abbrev pub lacks_host : HeadRecord → Bool
 lacks_host head = is_v11 head.version && not (count_named head.headers (codes "host") == 1)
 
--- one field says that the coding is `chunked` and nothing else (section 6.1)
+-- one field gives the coding, which is `chunked` and nothing else (section 6.1)
 abbrev pub is_chunked : List HeaderField → Bool
 is_chunked fields =
     count_named fields (codes "transfer-encoding") == 1
     && same_ignoring_case (value_named fields (codes "transfer-encoding")) (codes "chunked")
 
--- the number of the first Content-Length field, where it is 1 to 19 digits
+-- the number of the first Content-Length field, if it is 1 to 19 digits
 abbrev pub content_length : List HeaderField → Option ℕ
 content_length fields = length_of_text (value_named fields (codes "content-length"))
 
@@ -47,7 +47,7 @@ has_length fields = has_field fields (codes "content-length")
 abbrev pub has_coding : List HeaderField → Bool
 has_coding fields = has_field fields (codes "transfer-encoding")
 
--- Message body length, by what the fields say (section 6.3): the first case that holds.
+-- Message body length, by the fields (section 6.3): the first case that holds.
 abbrev pub body_length : HttpVersion → List HeaderField → ℕ → Result Framing Refusal
 body_length version fields max_body =
     -- rule 3: both fields may be an attempt at request smuggling
@@ -63,7 +63,7 @@ body_length version fields max_body =
     if exceeds (content_length fields) max_body then Err ContentTooLarge else (
     -- rule 4
     if has_coding fields then Ok Chunked else
-    -- rule 6, and rule 7 where neither field is there
+    -- rule 6, and rule 7 if neither field is there
     Ok (Length (unwrap_or (content_length fields) 0))))))))
 
 -- How the body of a request is delimited, or why its head is refused: the first case that holds.

@@ -12,9 +12,9 @@ use Rattle.asgi_request.specs.Texts.{IsFirstWithin, IsTooLong, IsUnfinished}
 pub data BodyState : Type 0 where
   -- more bytes are needed
   partial : BodyState
-  -- the body is whole, and these bytes stand behind it
+  -- the body is whole, and these bytes stand after it
   complete : List ℕ → BodyState
-  -- it can't be a body
+  -- the bytes can't be a body
   faulty : Refusal → BodyState
 
 -- The data of one chunk, as far as it is there, and the size that was announced.
@@ -37,7 +37,7 @@ print_chunk c = print_chunk_line c.line ++ (c.data_bytes ++ crlf_bytes)
 abbrev pub size_line_limit : ℕ
 size_line_limit = 256
 
--- a size line that is taken
+-- a size line that is accepted
 pub record IsSizeLine (line : ChunkLine) : Type 0 where
   pub valid : IsChunkLine line
   pub short : length (print_chunk_line line) ≤ size_line_limit
@@ -48,7 +48,7 @@ pub record IsChunk (c : Chunk) : Type 0 where
   pub size : length c.data_bytes ≡ chunk_size c.line
   pub some_data : 0 < chunk_size c.line
 
--- how much data the chunks have
+-- how many bytes of data the chunks have
 abbrev pub total : List Chunk → ℕ
 total [] = 0
 total (c ∷ chunks) = chunk_size c.line + total chunks
@@ -83,16 +83,16 @@ pub record IsLastChunk (limits : Limits) (l : LastChunk) : Type 0 where
 abbrev pub EndsAsLine : List ℕ → Type 0
 EndsAsLine text = (front : List ℕ) × (text ≡ front ++ line_feed ∷ [])
 
--- a trailer section ends with an empty line, which is all of it or stands behind a line feed
+-- a trailer section ends with an empty line, which is all of it or stands after a line feed
 pub record EndsAsSection (text : List ℕ) : Type 0 where
   pub lines : List ℕ
   pub last : LineEnd
   pub closed : (lines ≡ []) ⊎ EndsAsLine lines
   pub text_is : text ≡ lines ++ print_end last
 
--- ---- what stands behind the whole chunks
+-- ---- what stands after the whole chunks
 
--- How a chunked body goes on behind its whole chunks.
+-- How a chunked body goes on after its whole chunks.
 pub data Tail : Type 0 where
   -- with a size line that is not whole
   open_line : Tail
@@ -100,15 +100,15 @@ pub data Tail : Type 0 where
   bad_line : Tail
   -- with the size line of a chunk that takes the data over the limit
   large_chunk : ChunkLine → Tail
-  -- with a size line and then these bytes: not all of the data and the two bytes behind it
+  -- with a size line and then these bytes: not all of the data and the two bytes after it
   open_chunk : ChunkLine → List ℕ → Tail
-  -- with a size line and then these bytes: the data, and two bytes behind it that are not CR LF
+  -- with a size line and then these bytes: the data, and two bytes after it that are not CR LF
   bad_chunk : ChunkLine → List ℕ → Tail
   -- with a size line of 0 and a trailer section that is not whole
   open_trailers : ChunkLine → List ℕ → Tail
   -- with a size line of 0 and what is no trailer section
   bad_trailers : ChunkLine → List ℕ → Tail
-  -- with the last chunk, and these bytes stand behind the body
+  -- with the last chunk, and these bytes stand after the body
   last : LastChunk → List ℕ → Tail
 
 -- the first line is no size line
@@ -118,60 +118,60 @@ IsBadLine bytes =
     ⊎ ((text : List ℕ) × (rest : List ℕ) × IsFirstWithin EndsAsLine size_line_limit bytes text rest
     × ((line : ChunkLine) → ¬ (ReadsChunkLine text line [])))
 
--- the section in front is no trailer section
+-- the section at the front is no trailer section
 abbrev pub IsBadSection : Limits → List ℕ → Type 0
 IsBadSection limits bytes =
     IsTooLong EndsAsSection limits.max_head bytes
     ⊎ ((text : List ℕ) × (rest : List ℕ) × IsFirstWithin EndsAsSection limits.max_head bytes text rest
     × ((fields : List Field) (end : LineEnd) → ¬ (IsTrailerSection limits.max_headers text fields end)))
 
--- the bytes are a size line of some data, which stays in the limit, and then those behind
-pub record BeginsChunk (limits : Limits) (sum : ℕ) (bytes : List ℕ) (line : ChunkLine) (behind : List ℕ) : Type 0 where
-  pub splits : bytes ≡ print_chunk_line line ++ behind
+-- the bytes are a size line of some data, which stays within the limit, and then the bytes after it
+pub record BeginsChunk (limits : Limits) (sum : ℕ) (bytes : List ℕ) (line : ChunkLine) (after : List ℕ) : Type 0 where
+  pub splits : bytes ≡ print_chunk_line line ++ after
   pub line_is : IsSizeLine line
   pub some_data : 0 < chunk_size line
   pub fits : sum + chunk_size line ≤ limits.max_body
 
--- the bytes are a size line of 0, and then those behind
-pub record BeginsTrailers (bytes : List ℕ) (line : ChunkLine) (behind : List ℕ) : Type 0 where
-  pub splits : bytes ≡ print_chunk_line line ++ behind
+-- the bytes are a size line of 0, and then the bytes after it
+pub record BeginsTrailers (bytes : List ℕ) (line : ChunkLine) (after : List ℕ) : Type 0 where
+  pub splits : bytes ≡ print_chunk_line line ++ after
   pub line_is : IsSizeLine line
   pub zero_size : chunk_size line ≡ 0
 
--- the bytes behind chunks of so much data go on that way
+-- the bytes after chunks of sum bytes of data go on that way
 abbrev pub IsTail : Limits → ℕ → List ℕ → Tail → Type 0
 IsTail limits sum bytes open_line = IsUnfinished EndsAsLine size_line_limit bytes
 IsTail limits sum bytes bad_line = IsBadLine bytes
 IsTail limits sum bytes (large_chunk line) =
-    (behind : List ℕ) × (bytes ≡ print_chunk_line line ++ behind) × IsSizeLine line × (limits.max_body < sum + chunk_size line)
-IsTail limits sum bytes (open_chunk line behind) = BeginsChunk limits sum bytes line behind × (length behind < chunk_size line + 2)
-IsTail limits sum bytes (bad_chunk line behind) =
-    BeginsChunk limits sum bytes line behind × (chunk_size line + 2 ≤ length behind) × ¬ (take 2 (drop (chunk_size line) behind) ≡ crlf_bytes)
-IsTail limits sum bytes (open_trailers line behind) = BeginsTrailers bytes line behind × IsUnfinished EndsAsSection limits.max_head behind
-IsTail limits sum bytes (bad_trailers line behind) = BeginsTrailers bytes line behind × IsBadSection limits behind
-IsTail limits sum bytes (last l behind) = IsLastChunk limits l × (bytes ≡ print_last l ++ behind)
+    (after : List ℕ) × (bytes ≡ print_chunk_line line ++ after) × IsSizeLine line × (limits.max_body < sum + chunk_size line)
+IsTail limits sum bytes (open_chunk line after) = BeginsChunk limits sum bytes line after × (length after < chunk_size line + 2)
+IsTail limits sum bytes (bad_chunk line after) =
+    BeginsChunk limits sum bytes line after × (chunk_size line + 2 ≤ length after) × ¬ (take 2 (drop (chunk_size line) after) ≡ crlf_bytes)
+IsTail limits sum bytes (open_trailers line after) = BeginsTrailers bytes line after × IsUnfinished EndsAsSection limits.max_head after
+IsTail limits sum bytes (bad_trailers line after) = BeginsTrailers bytes line after × IsBadSection limits after
+IsTail limits sum bytes (last l after) = IsLastChunk limits l × (bytes ≡ print_last l ++ after)
 
--- the data in it
+-- the data in a tail
 abbrev pub tail_pieces : Tail → List Piece
 tail_pieces open_line = []
 tail_pieces bad_line = []
 tail_pieces (large_chunk line) = []
-tail_pieces (open_chunk line behind) = record { size = chunk_size line; data_bytes = take (chunk_size line) behind } ∷ []
-tail_pieces (bad_chunk line behind) = record { size = chunk_size line; data_bytes = take (chunk_size line) behind } ∷ []
-tail_pieces (open_trailers line behind) = []
-tail_pieces (bad_trailers line behind) = []
-tail_pieces (last l behind) = []
+tail_pieces (open_chunk line after) = record { size = chunk_size line; data_bytes = take (chunk_size line) after } ∷ []
+tail_pieces (bad_chunk line after) = record { size = chunk_size line; data_bytes = take (chunk_size line) after } ∷ []
+tail_pieces (open_trailers line after) = []
+tail_pieces (bad_trailers line after) = []
+tail_pieces (last l after) = []
 
--- what it makes of the body
+-- what a tail makes of the body
 abbrev pub tail_state : Tail → BodyState
 tail_state open_line = partial
 tail_state bad_line = faulty BadRequest
 tail_state (large_chunk line) = faulty ContentTooLarge
-tail_state (open_chunk line behind) = partial
-tail_state (bad_chunk line behind) = faulty BadRequest
-tail_state (open_trailers line behind) = partial
-tail_state (bad_trailers line behind) = faulty BadRequest
-tail_state (last l behind) = complete behind
+tail_state (open_chunk line after) = partial
+tail_state (bad_chunk line after) = faulty BadRequest
+tail_state (open_trailers line after) = partial
+tail_state (bad_trailers line after) = faulty BadRequest
+tail_state (last l after) = complete after
 
 -- ---- a chunked body
 
@@ -179,7 +179,7 @@ tail_state (last l behind) = complete behind
 abbrev pub chunk_piece : Chunk → Piece
 chunk_piece c = record { size = chunk_size c.line; data_bytes = c.data_bytes }
 
--- Behind chunks of sum bytes of data, the bytes are whole chunks and a tail: these are the pieces of data in them, and
+-- After chunks of sum bytes of data, the bytes are whole chunks and a tail: these are the pieces of data in them, and
 -- this is what the body is.
 pub record ReadsChunks (limits : Limits) (sum : ℕ) (bytes : List ℕ) (pieces : List Piece) (state : BodyState) : Type 0 where
   pub chunks : List Chunk
@@ -192,6 +192,6 @@ pub record ReadsChunks (limits : Limits) (sum : ℕ) (bytes : List ℕ) (pieces 
   pub pieces_are : pieces ≡ map chunk_piece chunks ++ tail_pieces tail
   pub state_is : state ≡ tail_state tail
 
--- The bytes behind a head are a chunked body, as far as they go.
+-- The bytes after a head are a chunked body, as far as they go.
 abbrev pub ReadsChunked : Limits → List ℕ → List Piece → BodyState → Type 0
 ReadsChunked limits bytes pieces state = ReadsChunks limits 0 bytes pieces state

@@ -11,7 +11,7 @@ count_named fields name = count_by (λ f. bytes_eq f.name name) fields
 abbrev pub has_field : List HeaderField → List ℕ → Bool
 has_field fields name = nat_lt 0 (count_named fields name)
 
--- the value of the first field of the name, or nothing where there is none
+-- the value of the first field of the name, or nothing if there is none
 abbrev pub value_named : List HeaderField → List ℕ → List ℕ
 value_named [] name = []
 value_named (f ∷ fields) name = if bytes_eq f.name name then f.value else value_named fields name

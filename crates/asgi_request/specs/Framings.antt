@@ -1,4 +1,4 @@
--- The framing of a head as `framing_of` answers it.
+-- The framing of a head as `framing_of` returns it.
 use Rattle.std.specs.Prelude.{Result, Ok, Err}
 use Rattle.asgi_types.specs.declared.facts.Framing.{Framing}
 use Rattle.asgi_types.specs.declared.facts.Framing.TheVariants as framing

@@ -1,11 +1,11 @@
--- Words of `Places.antt` and `BodyOf.antt`; the laws say what these mean. Where a text ends that is judged only once it is
--- whole: a head, a size line, a trailer section, or so many bytes.
+-- Words of `Places.antt` and `BodyOf.antt`; the laws state what these mean. Where a text ends that is judged only once it is
+-- whole: a head, a size line, a trailer section, or n bytes.
 use Rattle.std.specs.Prelude.{ℕ, ◌+◌, ◌-◌, ◌&&◌, List, [], ◌∷◌, length, take, if◌then◌else◌, ◌==◌, nat_lt, nat_le, Option, Some, None}
 use Rattle.std.specs.Option.{option_map}
 use Rattle.httparse.specs.Ascii.{line_feed, carriage_return}
 use Rattle.asgi_request.specs.HeadText.{is_line_break}
 
--- the length of an empty line at the front, LF or CR LF, or 0 where there is none
+-- the length of an empty line at the front, LF or CR LF, or 0 if there is none
 abbrev pub empty_line_len : List ℕ → ℕ
 empty_line_len [] = 0
 empty_line_len (a ∷ []) = if a == line_feed then 1 else 0

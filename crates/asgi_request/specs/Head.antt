@@ -1,4 +1,4 @@
--- What the head of a request says (RFC 9112, sections 2.3, 3 and 5), by the grammar of `httparse`.
+-- What the head of a request holds (RFC 9112, sections 2.3, 3 and 5), by the grammar of `httparse`.
 use Rattle.std.specs.Prelude.{◌≡◌, ℕ, zero, suc, ◌≤◌, List, [], length, map, Option, Some, None}
 use Rattle.std.specs.Char.{to_ascii_uppercase}
 use Rattle.httparse.specs.Grammar.{Field, field_value, RequestHead, ReadsRequest}
@@ -30,7 +30,7 @@ record_of head = record {
   headers = map field_of_line head.fields;
 }
 
--- the record of the head that the text is, or none where it is no head
+-- the record of the head that the text is, or none if it is no head
 abbrev pub ParsesHead : ℕ → List ℕ → Option HeadRecord → Type 0
 ParsesHead max_headers text None = (head : RequestHead) → ¬ (IsHeadOf max_headers text head)
 ParsesHead max_headers text (Some r) = (head : RequestHead) × IsHeadOf max_headers text head × (r ≡ record_of head)

@@ -7,8 +7,8 @@ use Rattle.httparse.specs.Grammar.{LineEnd, print_end}
 abbrev pub is_line_break : ℕ → Bool
 is_line_break b = b == carriage_return || b == line_feed
 
--- The text ends as a head does: behind empty lines and the first byte of a line, somewhere a line feed and then an
--- empty line, which is CR LF or, as section 2.2 lets a server take it, LF alone.
+-- The text ends as a head does: after empty lines and the first byte of a line, somewhere a line feed and then an empty line,
+-- which is CR LF or, as section 2.2 lets a server accept, LF alone.
 pub record EndsAsHead (text : List ℕ) : Type 0 where
   pub blank : List ℕ
   pub first : ℕ

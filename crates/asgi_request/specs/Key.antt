@@ -30,7 +30,7 @@ abbrev pub is_nonce : Option (List ℕ) → Bool
 is_nonce None = false
 is_nonce (Some nonce) = length nonce == 16
 
--- "when decoded, is 16 bytes in length" (RFC 6455, section 4.2.1, item 5), by a strict decoder: of bytes it says just
--- whether they are a key
+-- "when decoded, is 16 bytes in length" (RFC 6455, section 4.2.1, item 5), by a strict decoder: it holds exactly if the bytes are
+-- a key
 abbrev pub is_key : List ℕ → Bool
 is_key key = length key == 24 && is_nonce (decoded_of standard key)

@@ -9,12 +9,11 @@ pub mod Key
 pub mod Upgrade
 pub mod Scopes
 pub mod RequestFraming
-pub mod Steps
 pub mod Fronts
 pub mod Parts
 pub mod Places
 pub mod Reading
-pub mod Searches
+pub mod private
 pub mod Texts
 pub mod ChunkedBody
 pub mod RequestEvents

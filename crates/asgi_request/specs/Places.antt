@@ -1,5 +1,5 @@
 -- What is due next in a reader, and what the bytes give there. `StandsFor` is stated by these words; the laws
--- `places_give_the_results` and `given_results_are_the_first` say what they mean in the words of `Results.antt`.
+-- `places_give_the_results` and `given_results_are_the_first` state what they mean in the words of `Results.antt`.
 use Rattle.std.specs.Prelude.{◌≡◌, ℕ, ◌+◌, ◌-◌, ◌≤◌, List, [], ◌∷◌, ◌++◌, length, min, if◌then◌else◌, nat_lt, ◌==◌, Bool, true, false, bytes_eq, Option, Some, None, Result, Ok, Err}
 use Rattle.asgi_types.specs.declared.limits.Limits.{Limits}
 use Rattle.asgi_types.specs.declared.facts.Framing.{Framing}
@@ -34,7 +34,7 @@ front limits HandshakeEnd bytes = found []
 front limits Upgraded bytes = unfinished
 front limits (Stopped refusal) bytes = unfinished
 
--- what a text gives, if anything, and what is due behind it
+-- what a text gives, if anything, and what is due after it
 pub record Judged : Type 0 where
   pub item : Option Next
   pub place : Place
@@ -51,7 +51,7 @@ silent place = record { item = None; place = place }
 abbrev pub gives : Next → Place → Judged
 gives item place = record { item = Some item; place = place }
 
--- the place behind the head
+-- the place after the head
 abbrev pub body_place : Framing → Place
 body_place (Length n) = Counted n
 body_place Chunked = SizeLine 0
@@ -67,7 +67,7 @@ abbrev pub after_head : Limits → Option HeadRecord → Judged
 after_head limits None = bad BadRequest
 after_head limits (Some r) = after_framing r (request_framing r limits)
 
--- a block is the last one where no bytes are left
+-- a block is the last one if no bytes are left
 abbrev pub after_counted : ℕ → List ℕ → Judged
 after_counted n block =
     if nat_lt (length block) n then gives (Event (HttpRequest block true)) (Counted (n - length block)) else gives (Event (HttpRequest block false)) BodyEnd
@@ -79,12 +79,12 @@ after_size max_body sum (Some n) =
     if nat_lt max_body (sum + n) then bad ContentTooLarge else
     (if n == 0 then silent Trailers else silent (Chunk n (sum + n)))
 
--- CR LF stands behind the last block of a chunk
+-- CR LF comes after the last block of a chunk
 abbrev pub after_chunk : ℕ → ℕ → List ℕ → Judged
 after_chunk left sum block =
     if nat_lt (length block) left then gives (Event (HttpRequest block true)) (Chunk (left - length block) sum) else gives (Event (HttpRequest block true)) (ChunkEnd sum)
 
--- behind a chunk stands a size line
+-- after a chunk comes a size line
 abbrev pub after_chunk_end : ℕ → List ℕ → Judged
 after_chunk_end sum pair = if bytes_eq pair crlf_bytes then silent (SizeLine sum) else bad BadRequest
 
@@ -125,7 +125,7 @@ Judges limits place (found text) turn = JudgesText limits place text turn
 Judges limits place too_long turn = turn ≡ after_too_long place
 Judges limits place unfinished turn = ⊥
 
--- at this place the bytes give that turn, and rest stands behind its text
+-- at this place the bytes give that turn, and rest stands after its text
 pub record Takes (limits : Limits) (place : Place) (bytes : List ℕ) (turn : Judged) (rest : List ℕ) : Type 0 where
   pub splits : bytes ≡ front_text (front limits place bytes) ++ rest
   pub judged : Judges limits place (front limits place bytes) turn
@@ -143,7 +143,7 @@ shown [] = []
 shown (None ∷ items) = shown items
 shown (Some item ∷ items) = item ∷ shown items
 
--- the bytes have these results up to that place, where rest is left
+-- the bytes have these results up to that place, and rest is left there
 pub record Reaches (limits : Limits) (bytes : List ℕ) (items : List Next) (place : Place) (rest : List ℕ) : Type 0 where
   pub steps : List (Option Next)
   pub reads : Reads limits Start bytes steps place rest

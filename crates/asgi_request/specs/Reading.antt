@@ -1,4 +1,4 @@
--- What a reader stands for, and what a call says of it.
+-- What a reader stands for, and what a call does to it.
 use Rattle.std.specs.Prelude.{◌≡◌, ℕ, ◌⊎◌, List, [], ◌∷◌, ◌++◌}
 use Rattle.std.specs.List.{flat_map}
 use Rattle.asgi_request.specs.Results.{AreRequests, ReadsHandshake, GivesResults}
@@ -12,7 +12,7 @@ use Rattle.asgi_request.specs.Refusals.{status_of}
 use Rattle.asgi_request.specs.Fronts.{unfinished}
 use Rattle.asgi_request.specs.Places.{front, Reaches}
 
--- what a reader is: its limits, what is due next, the bytes behind the last text, and for how many it has places
+-- what a reader is: its limits, what is due next, the bytes after the last text, and the capacity for them
 pub record Reading : Type 0 where
   pub limits : Limits
   pub place : Place
@@ -31,14 +31,14 @@ EndsWhole given = (given ≡ []) ⊎ ((before : List Next) × (given ≡ before 
 abbrev pub AllGiven : Reading → List ℕ → List Next → Type 0
 AllGiven r bytes given = (rest : List ℕ) × GivesResults r.limits bytes given rest
 
--- what was given are the results of whole requests, and perhaps of an opening handshake behind them, and these bytes stand
--- behind all of it
+-- what was given are the results of whole requests, and perhaps of an opening handshake after them, and rest stands after all of
+-- these
 pub record WholeGiven (r : Reading) (bytes : List ℕ) (given : List Next) (rest : List ℕ) : Type 0 where
   pub requests : List (List Next)
-  pub behind : List ℕ
+  pub after : List ℕ
   pub last : List Next
-  pub whole : AreRequests r.limits bytes requests behind
-  pub goes_on : ((last ≡ []) × (behind ≡ rest)) ⊎ ReadsHandshake r.limits behind last rest
+  pub whole : AreRequests r.limits bytes requests after
+  pub goes_on : ((last ≡ []) × (after ≡ rest)) ⊎ ReadsHandshake r.limits after last rest
   pub given_are : given ≡ flat_map (λ request. request) requests ++ last
 
 -- no result is there
@@ -53,6 +53,6 @@ IsRefused r status = (why : Refusal) × (r.place ≡ Stopped why) × (status ≡
 abbrev pub Keeps : Reading → Reading → Type 0
 Keeps old new = (bytes : List ℕ) (given : List Next) → StandsFor old bytes given → StandsFor new bytes given
 
--- this one was
+-- this result was given
 abbrev pub GoesOn : Reading → Reading → Next → Type 0
 GoesOn old new item = (bytes : List ℕ) (given : List Next) → StandsFor old bytes given → StandsFor new bytes (given ++ item ∷ [])

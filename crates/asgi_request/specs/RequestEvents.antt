@@ -10,7 +10,7 @@ use Rattle.asgi_request.specs.ChunkedBody.{BodyState, partial, complete, faulty,
 
 -- ---- blocks
 
--- the first so many blocks of the bytes, each of `block` bytes but the last, which may have fewer
+-- the first count blocks of the bytes, each of `block` bytes but the last, which may have fewer
 abbrev pub first_blocks : ℕ → ℕ → List ℕ → List (List ℕ)
 first_blocks zero block bytes = []
 first_blocks (suc count) block bytes = take block bytes ∷ first_blocks count block (drop block bytes)
@@ -19,13 +19,13 @@ first_blocks (suc count) block bytes = take block bytes ∷ first_blocks count b
 abbrev pub blocks : ℕ → List ℕ → List (List ℕ)
 blocks block bytes = first_blocks ((length bytes + (block - 1)) / block) block bytes
 
--- those that have `block` bytes
+-- the blocks that have `block` bytes
 abbrev pub full_blocks : ℕ → List ℕ → List (List ℕ)
 full_blocks block bytes = first_blocks (length bytes / block) block bytes
 
 -- ---- events
 
--- an event that says that more follows
+-- an event with more to follow
 abbrev pub more_event : List ℕ → Incoming
 more_event bytes = HttpRequest bytes true
 
@@ -61,7 +61,7 @@ piece_blocks block p = if nat_le p.size (length p.data_bytes) then blocks block 
 -- an empty event ends the body
 abbrev pub closing_event : BodyState → List Incoming
 closing_event partial = []
-closing_event (complete behind) = last_event [] ∷ []
+closing_event (complete after) = last_event [] ∷ []
 closing_event (faulty why) = []
 
 -- Each chunk is cut into blocks of its own.
@@ -70,7 +70,7 @@ chunked_events block pieces state = map more_event (flat_map (piece_blocks block
 
 -- ---- the body of a request
 
--- The bytes behind a head give these events, and are a body that far.
+-- The bytes after a head give these events, and are a body in this state.
 abbrev pub ReadsBody : Limits → Framing → List ℕ → List Incoming → BodyState → Type 0
 ReadsBody limits (Length n) bytes events state = (events ≡ length_events limits.block n bytes) × (state ≡ length_state n bytes)
 ReadsBody limits Chunked bytes events state =

@@ -10,7 +10,7 @@ use Rattle.asgi_request.specs.BodyLength.{framing_or_refusal}
 use Rattle.asgi_request.specs.Scopes.{has_body}
 use Rattle.asgi_request.specs.Upgrade.{handshake_or_refusal}
 
--- behind an opening handshake stand frames in place of a body
+-- after an opening handshake come frames in place of a body
 abbrev pub frames_or : Framing → Result Bool Refusal → Result Framing Refusal
 frames_or framing (Ok true) = Ok Upgrade
 frames_or framing (Ok false) = Ok framing

@@ -22,30 +22,30 @@ use Rattle.asgi_request.specs.RequestEvents.{ReadsBody}
 
 -- ---- one head
 
--- The bytes begin with this head, behind which stands what its framing says, and then come those behind it.
-pub record ReadsHead (limits : Limits) (bytes : List ℕ) (head : RequestHead) (framing : Framing) (behind : List ℕ) : Type 0 where
+-- The bytes begin with this head, whose request is framed that way, and `after` stands after it.
+pub record ReadsHead (limits : Limits) (bytes : List ℕ) (head : RequestHead) (framing : Framing) (after : List ℕ) : Type 0 where
   pub text : List ℕ
-  pub text_is : IsFirstWithin EndsAsHead limits.max_head bytes text behind
+  pub text_is : IsFirstWithin EndsAsHead limits.max_head bytes text after
   pub head_is : IsHeadOf limits.max_headers text head
   pub framing_is : request_framing (record_of head) limits ≡ Ok framing
 
 -- The head text is no head.
 pub record HoldsNoHead (limits : Limits) (bytes : List ℕ) : Type 0 where
   pub text : List ℕ
-  pub behind : List ℕ
-  pub text_is : IsFirstWithin EndsAsHead limits.max_head bytes text behind
+  pub after : List ℕ
+  pub text_is : IsFirstWithin EndsAsHead limits.max_head bytes text after
   pub no_head : (head : RequestHead) → ¬ (IsHeadOf limits.max_headers text head)
 
 -- The bytes begin with a head that is refused.
 pub record HoldsRefusedHead (limits : Limits) (bytes : List ℕ) (why : Refusal) : Type 0 where
   pub text : List ℕ
-  pub behind : List ℕ
+  pub after : List ℕ
   pub head : RequestHead
-  pub text_is : IsFirstWithin EndsAsHead limits.max_head bytes text behind
+  pub text_is : IsFirstWithin EndsAsHead limits.max_head bytes text after
   pub head_is : IsHeadOf limits.max_headers text head
   pub refused : request_framing (record_of head) limits ≡ Err why
 
--- What the bytes begin with is refused: it is too long a head, or none, or one that is not served.
+-- What the bytes begin with is refused: too long a head, no head, or one that is not served.
 abbrev pub RefusesHead : Limits → List ℕ → Refusal → Type 0
 RefusesHead limits bytes why =
     (IsTooLong EndsAsHead limits.max_head bytes × (why ≡ HeaderFieldsTooLarge))
@@ -56,7 +56,7 @@ RefusesHead limits bytes why =
 -- what follows the events of a body
 abbrev pub closing : BodyState → List Next
 closing partial = []
-closing (complete behind) = Whole ∷ []
+closing (complete after) = Whole ∷ []
 closing (faulty why) = Bad (status_of why) ∷ []
 
 -- The bytes begin with a request that is no opening handshake, as far as they go: its head, the events of its body, and how
@@ -64,17 +64,17 @@ closing (faulty why) = Bad (status_of why) ∷ []
 pub record ReadsRequest (limits : Limits) (bytes : List ℕ) (results : List Next) (state : BodyState) : Type 0 where
   pub head : RequestHead
   pub framing : Framing
-  pub behind : List ℕ
+  pub after : List ℕ
   pub events : List Incoming
-  pub head_is : ReadsHead limits bytes head framing behind
+  pub head_is : ReadsHead limits bytes head framing after
   pub plain : framing ≢ Upgrade
-  pub body_is : ReadsBody limits framing behind events state
+  pub body_is : ReadsBody limits framing after events state
   pub results_are : results ≡ Head (scope_of (record_of head) framing) (facts_of (record_of head) framing) ∷ (map Event events ++ closing state)
 
--- The bytes begin with an opening handshake, which is whole with its head; frames stand behind it (RFC 6455, section 5.1).
-pub record ReadsHandshake (limits : Limits) (bytes : List ℕ) (results : List Next) (behind : List ℕ) : Type 0 where
+-- The bytes begin with an opening handshake, which is whole with its head; frames come after it (RFC 6455, section 5.1).
+pub record ReadsHandshake (limits : Limits) (bytes : List ℕ) (results : List Next) (after : List ℕ) : Type 0 where
   pub head : RequestHead
-  pub head_is : ReadsHead limits bytes head Upgrade behind
+  pub head_is : ReadsHead limits bytes head Upgrade after
   pub results_are : results ≡ Head (scope_of (record_of head) Upgrade) (facts_of (record_of head) Upgrade) ∷ Whole ∷ []
 
 -- What bytes give that begin with no whole request.
@@ -88,34 +88,33 @@ BeginsRequest limits bytes results =
 -- ---- all of them
 
 -- The bytes are whole requests, one after another and none an opening handshake, which give these results, and rest stands
--- behind them (section 9.3.2).
+-- after them (section 9.3.2).
 abbrev pub AreRequests : Limits → List ℕ → List (List Next) → List ℕ → Type 0
 AreRequests limits bytes [] rest = bytes ≡ rest
 AreRequests limits bytes (results ∷ requests) rest =
-    (behind : List ℕ) × ReadsRequest limits bytes results (complete behind) × AreRequests limits behind requests rest
+    (after : List ℕ) × ReadsRequest limits bytes results (complete after) × AreRequests limits after requests rest
 
--- What the last results are, and which bytes stand behind the last `Whole`: no request is whole, or the bytes begin with an
--- opening handshake, behind which there are no requests.
+-- What the last results are, and which bytes stand after the last `Whole`: no request is whole, or the bytes begin with an
+-- opening handshake, after which there are no requests.
 abbrev pub GivesLast : Limits → List ℕ → List Next → List ℕ → Type 0
 GivesLast limits bytes results rest = (BeginsRequest limits bytes results × (bytes ≡ rest)) ⊎ ReadsHandshake limits bytes results rest
 
--- These are all the results of the bytes, and rest stands behind the last whole request.
+-- These are all the results of the bytes, and rest stands after the last whole request.
 pub record GivesResults (limits : Limits) (bytes : List ℕ) (results : List Next) (rest : List ℕ) : Type 0 where
   pub requests : List (List Next)
-  pub behind : List ℕ
+  pub after : List ℕ
   pub last : List Next
-  pub whole : AreRequests limits bytes requests behind
-  pub goes_on : GivesLast limits behind last rest
+  pub whole : AreRequests limits bytes requests after
+  pub goes_on : GivesLast limits after last rest
   pub results_are : results ≡ flat_map (λ request. request) requests ++ last
 
--- These are the first results of the bytes: a front of them has these, and more perhaps. No byte behind the front changes
--- them.
+-- These are the first results of the bytes: a prefix of them has these, and more perhaps. No byte after the prefix changes them.
 pub record HasFirst (limits : Limits) (bytes : List ℕ) (results : List Next) : Type 0 where
   pub front : List ℕ
-  pub behind : List ℕ
+  pub after : List ℕ
   pub further : List Next
   pub rest : List ℕ
-  pub splits : bytes ≡ front ++ behind
+  pub splits : bytes ≡ front ++ after
   pub gives : GivesResults limits front (results ++ further) rest
 
 -- what the results of bytes begin with: a head, or a refusal

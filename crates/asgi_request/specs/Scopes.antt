@@ -37,8 +37,8 @@ http_scope_of head = Http (record {
   extensions = record { websocket_http_response = false; http_response_trailers = false };
 })
 
--- the scope of an opening handshake: it has no method, which is GET, and tells the subprotocols; the server can answer it with
--- a response in place of a session
+-- the scope of an opening handshake: without a method, which is GET, and with the subprotocols; the server can send a response in
+-- place of a session
 abbrev pub websocket_scope_of : HeadRecord → Scope
 websocket_scope_of head = WebSocket (record {
   asgi = kind.WebSocket;
@@ -73,16 +73,16 @@ abbrev pub expects : HeadRecord → Framing → Bool
 expects head framing = is_v11 head.version && has_body framing && has_token head.headers (codes "expect") (codes "100-continue")
 
 -- the key of an opening handshake, which has one (RFC 6455, section 4.2.1, item 5); else zero bytes
-abbrev pub key_behind : List HeaderField → Framing → List ℕ
-key_behind fields (Length n) = replicate 24 0
-key_behind fields Chunked = replicate 24 0
-key_behind fields Upgrade = key_of fields
+abbrev pub key_after : List HeaderField → Framing → List ℕ
+key_after fields (Length n) = replicate 24 0
+key_after fields Chunked = replicate 24 0
+key_after fields Upgrade = key_of fields
 
 -- the subprotocols that an opening handshake offers
-abbrev pub offers_behind : List HeaderField → Framing → List (List ℕ)
-offers_behind fields (Length n) = []
-offers_behind fields Chunked = []
-offers_behind fields Upgrade = subprotocols_of fields
+abbrev pub offers_after : List HeaderField → Framing → List (List ℕ)
+offers_after fields (Length n) = []
+offers_after fields Chunked = []
+offers_after fields Upgrade = subprotocols_of fields
 
 -- the facts, by the head and its framing
 abbrev pub facts_of : HeadRecord → Framing → Facts
@@ -90,10 +90,10 @@ facts_of head framing = record {
   version = head.version;
   -- RFC 9110, section 9.3.2
   head_only = bytes_eq head.method (codes "HEAD");
-  -- RFC 9112, section 9.3; connections of HTTP/1.0 are not kept
+  -- RFC 9112, section 9.3; connections of HTTP/1.0 are not kept open
   close = not (is_v11 head.version) || has_token head.headers (codes "connection") (codes "close");
   expect = expects head framing;
   framing = framing;
-  key = key_behind head.headers framing;
-  subprotocols = offers_behind head.headers framing;
+  key = key_after head.headers framing;
+  subprotocols = offers_after head.headers framing;
 }

@@ -30,32 +30,32 @@ is_absolute_form target = has_authority target (codes "http://") || has_authorit
 abbrev pub is_asterisk_form : List ℕ → List ℕ → Bool
 is_asterisk_form method target = bytes_eq target (codes "*") && bytes_eq method (codes "OPTIONS")
 
--- the target has a form that is taken with the method
+-- the target has a form that is allowed with the method
 abbrev pub is_target : List ℕ → List ℕ → Bool
 is_target method target = is_origin_form target || is_asterisk_form method target || is_absolute_form target
 
 -- ---- the parts (RFC 3986, section 3)
 
 -- the bytes from the first `/` or `?`, which is where an authority ends
-abbrev pub behind_authority : List ℕ → List ℕ
-behind_authority [] = []
-behind_authority (b ∷ bytes) = if b == slash || b == question_mark then b ∷ bytes else behind_authority bytes
+abbrev pub after_authority : List ℕ → List ℕ
+after_authority [] = []
+after_authority (b ∷ bytes) = if b == slash || b == question_mark then b ∷ bytes else after_authority bytes
 
 -- the target without a scheme and an authority
 abbrev pub path_and_query : List ℕ → List ℕ
 path_and_query target =
-    if has_authority target (codes "http://") then behind_authority (drop (length (codes "http://")) target) else
-    (if has_authority target (codes "https://") then behind_authority (drop (length (codes "https://")) target) else target)
+    if has_authority target (codes "http://") then after_authority (drop (length (codes "http://")) target) else
+    (if has_authority target (codes "https://") then after_authority (drop (length (codes "https://")) target) else target)
 
 -- the bytes up to the first `?`
 abbrev pub before_query : List ℕ → List ℕ
 before_query [] = []
 before_query (b ∷ bytes) = if b == question_mark then [] else b ∷ before_query bytes
 
--- the bytes behind the first `?`
-abbrev pub behind_question_mark : List ℕ → List ℕ
-behind_question_mark [] = []
-behind_question_mark (b ∷ bytes) = if b == question_mark then bytes else behind_question_mark bytes
+-- the bytes after the first `?`
+abbrev pub after_question_mark : List ℕ → List ℕ
+after_question_mark [] = []
+after_question_mark (b ∷ bytes) = if b == question_mark then bytes else after_question_mark bytes
 
 -- an empty path is that of the root (RFC 9110, section 4.2.3)
 abbrev pub or_root : List ℕ → List ℕ
@@ -66,6 +66,6 @@ or_root (b ∷ bytes) = b ∷ bytes
 abbrev pub path_of : List ℕ → List ℕ
 path_of target = or_root (before_query (path_and_query target))
 
--- the query as it was received, empty where there is none
+-- the query as it was received, empty if there is none
 abbrev pub query_of : List ℕ → List ℕ
-query_of target = behind_question_mark (path_and_query target)
+query_of target = after_question_mark (path_and_query target)

@@ -1,7 +1,7 @@
 -- Texts that end in a way of their own: a head, a line, a trailer section. Each is judged only once it is whole.
 use Rattle.std.specs.Prelude.{◌≡◌, ℕ, ◌<◌, ◌≤◌, List, [], ◌++◌, length, take}
 
--- The bytes begin with this text, and rest follows: no shorter text in front of them ends that way.
+-- The bytes begin with this text, and rest follows: they begin with no shorter text that ends that way.
 pub record IsFirst (Ends : List ℕ → Type 0) (bytes text rest : List ℕ) : Type 0 where
   pub splits : bytes ≡ text ++ rest
   pub ends : Ends text
@@ -11,11 +11,11 @@ pub record IsFirst (Ends : List ℕ → Type 0) (bytes text rest : List ℕ) : T
 abbrev pub IsFirstWithin : (List ℕ → Type 0) → ℕ → List ℕ → List ℕ → List ℕ → Type 0
 IsFirstWithin Ends limit bytes text rest = IsFirst Ends bytes text rest × (length text ≤ limit)
 
--- No such text is in front of the bytes.
+-- The bytes begin with no such text.
 abbrev pub HasNone : (List ℕ → Type 0) → List ℕ → Type 0
 HasNone Ends bytes = (text rest : List ℕ) → bytes ≡ text ++ rest → ¬ (Ends text)
 
--- So many bytes are there, and no such text is in front of the first limit of them.
+-- At least limit bytes are there, and the first limit of them begin with no such text.
 abbrev pub IsTooLong : (List ℕ → Type 0) → ℕ → List ℕ → Type 0
 IsTooLong Ends limit bytes = (limit ≤ length bytes) × HasNone Ends (take limit bytes)
 

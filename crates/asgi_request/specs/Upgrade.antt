@@ -17,14 +17,14 @@ use Rattle.asgi_request.specs.FieldValues.{count_named, value_named}
 use Rattle.asgi_request.specs.Key.{IsKey, is_key}
 use Rattle.asgi_request.specs.Refusals.{status_of}
 
--- The request asks to go over to WebSocket: it is HTTP/1.1 (item 1), `websocket` is a token of Upgrade (item 3) and
--- `upgrade` one of Connection (item 4), each in any case (RFC 9110, section 7.8).
+-- The request asks to switch to WebSocket: it is HTTP/1.1 (item 1), `websocket` is a token of Upgrade (item 3) and `upgrade` one
+-- of Connection (item 4), each in any case (RFC 9110, section 7.8).
 abbrev pub asks_for_websocket : HeadRecord → Bool
 asks_for_websocket head =
     is_v11 head.version && has_token head.headers (codes "upgrade") (codes "websocket")
     && has_token head.headers (codes "connection") (codes "upgrade")
 
--- one field says that the version is 13 (item 6), and no other does (section 11.3.5)
+-- one field gives the version, which is 13 (item 6), and there is no other (section 11.3.5)
 abbrev pub has_version : List HeaderField → Bool
 has_version fields =
     count_named fields (codes "sec-websocket-version") == 1
@@ -56,7 +56,7 @@ handshake_or_refusal head has_body =
 abbrev pub parts_of : List ℕ → List (List ℕ)
 parts_of value = slice_split (λ b. b == comma) value
 
--- the part as it is spelled, where it is a token (RFC 9110, section 5.6.2)
+-- the part as it is spelled, if it is a token (RFC 9110, section 5.6.2)
 abbrev pub token_of : List ℕ → List (List ℕ)
 token_of part = if is_token part then part ∷ [] else []
 
@@ -64,7 +64,7 @@ token_of part = if is_token part then part ∷ [] else []
 abbrev pub tokens_of : List ℕ → List (List ℕ)
 tokens_of value = flat_map (λ part. token_of (trim_ows part)) (parts_of value)
 
--- the tokens that a field lists, where it has the name
+-- the tokens that a field lists, if it has the name
 abbrev pub tokens_if_named : List ℕ → HeaderField → List (List ℕ)
 tokens_if_named name f = if bytes_eq f.name name then tokens_of f.value else []
 
@@ -72,7 +72,7 @@ tokens_if_named name f = if bytes_eq f.name name then tokens_of f.value else []
 abbrev pub subprotocols_of : List HeaderField → List (List ℕ)
 subprotocols_of fields = flat_map (tokens_if_named (codes "sec-websocket-protocol")) fields
 
--- what is answered: the key and the offers of an opening handshake, or the status of its refusal
+-- what is returned: the key and the offers of an opening handshake, or the status of its refusal
 abbrev pub upgrade_answer : List HeaderField → Result Bool Refusal → UpgradeAsk
 upgrade_answer fields (Ok false) = Plain
 upgrade_answer fields (Ok true) = Upgrade (key_of fields) (subprotocols_of fields)
@@ -84,7 +84,7 @@ upgrade_of head (framing.Length n) = upgrade_answer head.headers (handshake_or_r
 upgrade_of head framing.Chunked = upgrade_answer head.headers (handshake_or_refusal head true)
 upgrade_of head (framing.Bad status) = Bad status
 
--- the answer has subprotocols, which alone take memory
+-- the result has subprotocols, which alone take memory
 abbrev pub OffersSome : UpgradeAsk → Type 0
 OffersSome (Upgrade key subprotocols) = ¬ (subprotocols ≡ [])
 OffersSome _ = ⊥

@@ -12,8 +12,8 @@ pub fn count_named(headers: &Headers, name: &[u8]) -> usize
     headers.iter().filter(|field| field.0 == name).count()
 }
 
-/// The bytes of the value of the first field of the name, which is in lower case; no bytes where
-/// there is no such field.
+/// The bytes of the value of the first field of the name, which is in lower case; no bytes if there
+/// is no such field.
 pub fn value_named<'h>(headers: &'h Headers, name: &[u8]) -> &'h [u8]
     ensures { result.now ≡ spec.value_named headers.now name.now }
 {

@@ -25,7 +25,7 @@ const CHUNKED: &[u8] = b"chunked";
 /// section 6.3).
 #[derive(Clone, Copy, Debug, PartialEq, Eq)]
 pub enum HeadFraming {
-    /// So many bytes; 0 where there is no body.
+    /// This many bytes; 0 if there is no body.
     Length(u64),
     /// The chunked transfer coding (RFC 9112, section 7.1).
     Chunked,
@@ -34,7 +34,7 @@ pub enum HeadFraming {
 }
 
 /// How the body of the request is delimited, or with which status its head is refused: 501 for
-/// CONNECT and for a coding other than `chunked` alone, 413 where `content-length` is above
+/// CONNECT and for a coding other than `chunked` alone, 413 if `content-length` is above
 /// `max_body`, 400 for a target, a Host field or a framing that is faulty (RFC 9112, sections 3.2,
 /// 6.1 and 6.3). It takes no memory.
 pub fn framing_of(head: &HeadRecord, limits: &Limits) -> HeadFraming
@@ -48,7 +48,8 @@ pub fn framing_of(head: &HeadRecord, limits: &Limits) -> HeadFraming
     }
 }
 
-/// The same, with the reason of a refusal: the first case that holds. It is never `Upgrade`.
+/// The same, with the reason of a refusal: the first case that holds. The framing is never
+/// `Upgrade`.
 pub fn framing_or_refusal(head: &HeadRecord, limits: &Limits) -> Result<Framing, Refusal>
     ensures first { result ≡ spec.framing_or_refusal head.now limits.now }
     ensures body { result ≢ Ok Framing.Upgrade }
@@ -65,14 +66,14 @@ pub fn framing_or_refusal(head: &HeadRecord, limits: &Limits) -> Result<Framing,
     body_length(head.version, &head.headers, limits.max_body)
 }
 
-/// Whether HTTP/1.1 asks for a Host field that isn't there, or is there more than once.
+/// Whether HTTP/1.1 requires a Host field that isn't there, or is there more than once.
 fn lacks_host(head: &HeadRecord) -> bool
     ensures { result ≡ spec.lacks_host head.now }
 {
     head.version == HttpVersion::V11 && count_named(&head.headers, HOST) != 1
 }
 
-/// Message body length, by what the fields say (RFC 9112, section 6.3): the first case that holds.
+/// Message body length, by the fields (RFC 9112, section 6.3): the first case that holds.
 fn body_length(version: HttpVersion, headers: &Headers, max_body: u64) -> Result<Framing, Refusal>
     ensures first { result ≡ spec.body_length version headers.now max_body }
     ensures body { result ≢ Ok Framing.Upgrade }

@@ -5,7 +5,7 @@ ghost use Rattle.httparse.specs.Grammar.{RequestHead};
 ghost use Rattle.httparse.specs.Spans.{span_bytes, IsHeaderWithin, IsRequestWithin, IsRequestAt};
 ghost use Rattle.asgi_request.specs.Head.{record_of as record_of_head};
 ghost use Rattle.asgi_request.specs.Head.{ParsesHead};
-ghost use Rattle.asgi_request.specs.Steps.{IsKeepable, field_at};
+ghost use Rattle.asgi_request.specs.private.Steps.{IsKeepable, field_at};
 
 use asgi_types::{Chars, Headers, HttpVersion, Octets};
 use httparse::Status;
@@ -17,7 +17,7 @@ use std::alloc::{AllocError, Global};
 pub struct HeadRecord {
     /// HTTP/1.0 or HTTP/1.1 (RFC 9112, section 2.3).
     pub version: HttpVersion,
-    /// In upper case, as a scope shows it.
+    /// In upper case, as in a scope.
     pub method: Chars,
     /// As received, in any form (RFC 9112, section 3.2).
     pub target: Octets,
@@ -25,13 +25,14 @@ pub struct HeadRecord {
     pub headers: Headers,
 }
 
-/// The most fields of most heads. To clear room for more would cost more than to read such a head.
+/// Most heads have at most this many fields. To clear room for more would cost more than to read
+/// such a head.
 const FEW: usize = 32;
 
-/// The record of a head text, from the empty lines in front of it to the one behind it (RFC 9112,
-/// sections 2.1 and 2.2), or `None` where it is no head of at most `max_headers` fields. A text
-/// that has more than 32 fields, or that is no head, is parsed twice where more than 32 may come.
-/// `AllocError` where memory is refused.
+/// The record of a head text, from the empty lines before it to the one after it (RFC 9112,
+/// sections 2.1 and 2.2), or `None` if the text is no head of at most `max_headers` fields. A text
+/// that has more than 32 fields, or that is no head, is parsed twice if more than 32 are allowed.
+/// `AllocError` if memory is refused.
 #[tactic(auto, using(crate::proofs::RecordLemmas::more_room))]
 pub fn parse_head(
     alloc: Global,
@@ -145,7 +146,7 @@ fn headers_of(alloc: Global, text: &[u8], spans: &[HeaderSpan]) -> Result<Header
     let Some(first) = spans.first() else {
         return Ok(Headers::new(alloc));
     };
-    // All fields stand behind the first one's start, so none of them takes more memory.
+    // All fields stand after the first one's start, so none of them takes more memory.
     let room = text.len() - first.name.start;
     let mut headers = Headers::with_room(alloc, spans.len(), room)?;
     for span in spans {

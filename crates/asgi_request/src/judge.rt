@@ -1,8 +1,8 @@
-//! What is due behind a text.
+//! What is due after a text.
 ghost use Rattle.std.specs.Prelude.{◌≡◌, true};
 ghost use Rattle.asgi_request.specs.Places as spec;
 ghost use Rattle.asgi_request.specs.Places.{JudgesText};
-ghost use Rattle.asgi_request.specs.Searches.{is_silent, passing};
+ghost use Rattle.asgi_request.specs.private.Searches.{is_silent, passing};
 
 use crate::parts::parse_size;
 use crate::place::Place;
@@ -11,8 +11,8 @@ use asgi_types::{Framing, Limits};
 
 const CRLF: &[u8] = b"\r\n";
 
-/// Why bytes without a text within its limit are refused: 431 for a head (RFC 6585, section 5),
-/// else 400.
+/// Why bytes with no text within its limit are refused: 431 for a head (RFC 6585, section 5), else
+/// 400.
 pub fn why_too_long(place: Place) -> Refusal
     ensures { spec.bad result ≡ spec.after_too_long place }
 {
@@ -22,7 +22,7 @@ pub fn why_too_long(place: Place) -> Refusal
     }
 }
 
-/// The place behind the head: the body, or the end of an opening handshake.
+/// The place after the head: the body, or the end of an opening handshake.
 pub fn body_place(framing: Framing) -> Place
     ensures { result ≡ spec.body_place framing }
 {
@@ -33,9 +33,9 @@ pub fn body_place(framing: Framing) -> Place
     }
 }
 
-/// The place behind a whole text that gives no result: a size line, or CR LF behind the data of a
-/// chunk (RFC 9112, section 7.1). `Stopped` with 400 where it is none, and with 413 where the data
-/// of all chunks has more bytes than `max_body`.
+/// The place after a whole text that gives no result: a size line, or CR LF after the data of a
+/// chunk (RFC 9112, section 7.1). `Stopped` with 400 if the text is neither, and with 413 if the
+/// data of all chunks has more bytes than `max_body`.
 pub fn after_silent(limits: &Limits, place: Place, text: &[u8]) -> Place
     requires { is_silent place ≡ true }
     ensures { JudgesText limits.now place text.now (passing result) }

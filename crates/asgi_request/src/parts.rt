@@ -5,8 +5,8 @@ ghost use Rattle.asgi_request.specs.Parts.{ParsesSize, ParsesTrailers};
 use httparse::spans::{EMPTY_HEADER_SPAN, HeaderSpan, parse_headers};
 use httparse::{Status, parse_chunk_size};
 
-/// How many bytes of data the line in front of a chunk announces, or `None` where the text, with
-/// its line end, is no such line (RFC 9112, section 7.1).
+/// How many bytes of data the line before a chunk announces, or `None` if the text, with its line
+/// end, is no such line (RFC 9112, section 7.1).
 pub fn parse_size(text: &[u8]) -> Option<u64>
     ensures { ParsesSize text.now result }
 {
@@ -16,8 +16,8 @@ pub fn parse_size(text: &[u8]) -> Option<u64>
     }
 }
 
-/// Whether the text is a trailer section of at most so many fields, with its empty line (RFC 9112,
-/// section 7.1.2).
+/// Whether the text is a trailer section of at most `max_headers` fields, with its empty line
+/// (RFC 9112, section 7.1.2).
 pub fn is_trailer(max_headers: usize, text: &[u8]) -> bool
     requires { max_headers ≤ 128 }
     ensures { ParsesTrailers max_headers text.now result }

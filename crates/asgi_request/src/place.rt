@@ -8,39 +8,39 @@ use crate::refusal::Refusal;
 pub enum Place {
     /// The head of a request.
     Start,
-    /// So many bytes of a body whose length was announced, or the one event of an empty one.
+    /// This many bytes of a body whose length was announced, or the one event of an empty one.
     Counted(u64),
-    /// The line before a chunk, behind chunks of so many bytes altogether.
+    /// The line before a chunk, after chunks of this many bytes altogether.
     SizeLine(u64),
-    /// So many bytes of a chunk; `sum` is the data of all chunks, this one whole.
+    /// `left` bytes of a chunk; `sum` is the data of all chunks, this one whole.
     Chunk { left: u64, sum: u64 },
-    /// CR LF behind the data of a chunk, of which all chunks have so many bytes altogether.
+    /// CR LF after the data of a chunk; all chunks have this many bytes of data altogether.
     ChunkEnd(u64),
-    /// The trailer section behind the last chunk (RFC 9112, section 7.1.2).
+    /// The trailer section after the last chunk (RFC 9112, section 7.1.2).
     Trailers,
     /// Nothing more of this request.
     BodyEnd,
     /// Nothing more of this opening handshake.
     HandshakeEnd,
-    /// Nothing ever: behind an opening handshake stand frames.
+    /// Nothing ever: frames follow the opening handshake.
     Upgraded,
     /// Nothing ever: the bytes are refused.
     Stopped(Refusal),
 }
 
-/// How far a reader comes without a result.
+/// How far a reader gets without a result.
 #[derive(Clone, Copy, Debug, PartialEq, Eq)]
 pub enum Advance {
     /// The next text is not whole.
     Waits,
     /// The bytes are refused.
     Refuses(Refusal),
-    /// Up to a text of so many bytes, which gives a result.
+    /// A text of this many bytes is next, which gives a result.
     Gives(usize),
 }
 
 impl Place {
-    ghost use Rattle.asgi_request.specs.Searches as spec;
+    ghost use Rattle.asgi_request.specs.private.Searches as spec;
 
     /// Whether a text that is not refused gives no result here.
     pub fn is_silent(self) -> bool

@@ -13,7 +13,7 @@ ghost use Rattle.asgi_request.specs.Places as places;
 ghost use Rattle.asgi_request.specs.Places.{front};
 ghost use Rattle.asgi_request.specs.Refusals.{status_of};
 ghost use Rattle.asgi_request.specs.Scopes.{scope_of as scope_is, facts_of as facts_is};
-ghost use Rattle.asgi_request.specs.Searches.{Advances, IsThere, IsWithin, Stepped, TakesText, behind, front_of, is_silent, refusal_at, refused};
+ghost use Rattle.asgi_request.specs.private.Searches.{Advances, IsThere, IsWithin, Stepped, TakesText, after, front_of, is_silent, refusal_at, refused};
 
 use crate::head::{HeadRecord, parse_head};
 use crate::judge::{after_silent, body_place, why_too_long};
@@ -29,13 +29,13 @@ use std::alloc::{AllocError, Global};
 use std::marker::Model;
 
 /// Reads requests out of bytes that come in any pieces (RFC 9112): heads, bodies and opening
-/// handshakes, one request behind the other.
+/// handshakes, one request after another.
 #[derive(Drop)]
 pub struct RequestReader {
     alloc: Global,
     limits: Limits,
     bytes: Vec<u8>,
-    /// Where the bytes behind the last text begin.
+    /// The index at which the bytes after the last text begin.
     start: usize,
     place: Place,
     search: Search,
@@ -45,7 +45,7 @@ impl Model for RequestReader {
     ghost use Rattle.std.specs.Prelude.{◌≤◌, length, drop};
     ghost use Rattle.std.specs.Vec.{vec_capacity};
     ghost use Rattle.asgi_request.specs.Reading.{Reading};
-    ghost use Rattle.asgi_request.specs.Searches.{Resumes};
+    ghost use Rattle.asgi_request.specs.private.Searches.{Resumes};
 
     ghost Value = { Reading };
 
@@ -71,8 +71,8 @@ impl RequestReader {
         }
     }
 
-    /// Takes the next bytes that came, a piece of any length. `AllocError` where memory for the
-    /// bytes held and these is refused; then the reader is as before, without the piece.
+    /// Takes the next bytes that came, a piece of any length. `AllocError` if memory for the bytes
+    /// held and these is refused; then the reader is as before, without the piece.
     pub fn feed(&mut self, piece: &[u8]) -> Result<(), AllocError>
         ensures fed { OnOk result ((bytes : List ℕ) (given : List Next) → StandsFor self.old bytes given → StandsFor self.new (bytes ++ piece.now) given) }
         ensures refused { (status : ℕ) → IsRefused self.old status → IsRefused self.new status }
@@ -88,7 +88,7 @@ impl RequestReader {
         self.feed_crowded(piece)
     }
 
-    /// Takes the next piece where there is room for it, and says whether there was.
+    /// Takes the next piece if there is room for it, and returns whether there was.
     fn feed_within(&mut self, piece: &[u8]) -> bool
         ensures fed { IsTrue result → (bytes : List ℕ) (given : List Next) → StandsFor self.old bytes given → StandsFor self.new (bytes ++ piece.now) given }
         ensures place { (self.new.place ≡ self.old.place) × (self.new.limits ≡ self.old.limits) }
@@ -104,7 +104,7 @@ impl RequestReader {
         }
     }
 
-    /// Takes the next piece where room is made first. It stays out of line, since most pieces have room.
+    /// Takes the next piece, for which room is made first. Not inlined, since most pieces have room.
     #[cold]
     #[inline(never)]
     fn feed_crowded(&mut self, piece: &[u8]) -> Result<(), AllocError>
@@ -115,7 +115,7 @@ impl RequestReader {
         ensures full { OnErr result (LacksRoom self.old.capacity (length self.old.held) piece.now) }
     {
         make_room(&mut self.bytes, &mut self.start, piece.len())?;
-        // The room is there, so this never fails: only its type says that it may.
+        // The room is there, so this never fails: only its type allows a failure.
         self.bytes.extend_from_slice(piece)?;
         Ok(())
     }
@@ -130,9 +130,9 @@ impl RequestReader {
         }
     }
 
-    /// The next result, `Need` where more bytes are needed and ever after an opening handshake, or
-    /// the last `Bad` again. `AllocError` where memory is refused for a head or a body event; then
-    /// no result is lost, and the call may be made again. A `Bad` is given again without memory.
+    /// The next result; `Need` if more bytes are needed, and always after an opening handshake; or
+    /// the last `Bad` again. `AllocError` if memory is refused for a head or a body event; then no
+    /// result is lost, and the call may be made again. A `Bad` is given again without memory.
     pub fn next(&mut self) -> Result<Next, AllocError>
         ensures need { IfOk result (λ next. next ≡ Next.Need → (bytes : List ℕ) (given : List Next) → StandsFor self.old bytes given → StandsFor self.new bytes given × AllGiven self.new bytes given) }
         ensures waits { IfOk result (λ next. next ≡ Next.Need → IsWaiting self.new) }
@@ -154,9 +154,9 @@ impl RequestReader {
         }
     }
 
-    /// Whether all that comes of the bytes fed was given: where more bytes are needed, behind a
-    /// refusal, and behind the `Whole` of an opening handshake. It is false while a whole text that
-    /// gives no result, such as a size line, is still to be passed. It takes no memory.
+    /// Whether all results of the bytes fed were given: true if more bytes are needed, after a
+    /// refusal, and after the `Whole` of an opening handshake. False while a whole text that gives
+    /// no result, such as a size line, is still to be passed. It takes no memory.
     pub fn is_waiting(&mut self) -> bool
         ensures waits { IsTrue result ↔ IsWaiting self.old }
         ensures all { IsTrue result → (bytes : List ℕ) (given : List Next) → StandsFor self.old bytes given → AllGiven self.old bytes given }
@@ -204,7 +204,7 @@ impl RequestReader {
         )
     }
 
-    /// Refuses bytes without a text within its limit.
+    /// Refuses bytes with no text within its limit.
     fn stop(&mut self) -> Refusal
         requires { front self.old.limits self.old.place self.old.held ≡ too_long }
         ensures steps { Stepped self.old self.new (Some (Next.Bad (status_of result))) }
@@ -215,7 +215,7 @@ impl RequestReader {
         refusal
     }
 
-    /// Goes behind a text that gives no result, or refuses it.
+    /// Moves past a text that gives no result, or refuses it.
     fn pass(&mut self, n: usize) -> Option<Refusal>
         requires there { IsThere self.old n }
         requires silent { is_silent self.old.place ≡ true }
@@ -227,7 +227,7 @@ impl RequestReader {
         place.refusal()
     }
 
-    /// What a text gives.
+    /// The result of a text.
     fn give(&mut self, n: usize) -> Result<Next, AllocError>
         requires there { IsThere self.old n }
         requires loud { is_silent self.old.place ≡ false }
@@ -262,7 +262,7 @@ impl RequestReader {
         }
     }
 
-    /// The request of a head behind which this stands.
+    /// The request of a head with this framing.
     fn give_request(
         &mut self,
         n: usize,
@@ -272,7 +272,7 @@ impl RequestReader {
         requires inside { n ≤ length self.old.held }
         requires key { framing ≡ Framing.Upgrade → IsKey (key_of head.headers) }
         ensures item { IfOk result (λ item. item ≡ Next.Head (scope_is head framing) (facts_is head framing)) }
-        ensures ok { OnOk result (self.new ≡ behind self.old n (places.body_place framing)) }
+        ensures ok { OnOk result (self.new ≡ after self.old n (places.body_place framing)) }
         ensures err { OnErr result (self.new ≡ self.old) }
     {
         match framing {
@@ -291,7 +291,7 @@ impl RequestReader {
         requires inside { n ≤ length self.old.held }
         requires key { IsKey (key_of head.headers) }
         ensures item { IfOk result (λ item. item ≡ Next.Head (scope_is head Framing.Upgrade) (facts_is head Framing.Upgrade)) }
-        ensures ok { OnOk result (self.new ≡ behind self.old n Place.HandshakeEnd) }
+        ensures ok { OnOk result (self.new ≡ after self.old n Place.HandshakeEnd) }
         ensures err { OnErr result (self.new ≡ self.old) }
     {
         let facts = handshake_facts_of(self.alloc, &head)?;
@@ -327,11 +327,11 @@ impl RequestReader {
         self.give_block(n, true, Place::ChunkEnd(sum))
     }
 
-    /// The event of a block, behind which this is due.
+    /// The event of a block, after which `place` is due.
     fn give_block(&mut self, n: usize, more_body: bool, place: Place) -> Result<Next, AllocError>
         requires { n ≤ length self.old.held }
         ensures item { IfOk result (λ item. item ≡ Next.Event (Incoming.HttpRequest (take n self.old.held) more_body)) }
-        ensures ok { OnOk result (self.new ≡ behind self.old n place) }
+        ensures ok { OnOk result (self.new ≡ after self.old n place) }
         ensures err { OnErr result (self.new ≡ self.old) }
     {
         let body = Octets::new(Vec::from_slice(self.alloc, self.text(n))?);
@@ -339,7 +339,7 @@ impl RequestReader {
         Ok(Next::Event(Incoming::HttpRequest { body, more_body }))
     }
 
-    /// The empty event behind a trailer section, or its refusal.
+    /// The empty event after a trailer section, or its refusal.
     fn give_trailers(&mut self, n: usize) -> Next
         requires { n ≤ length self.old.held }
         ensures { TakesText self.old self.new Place.Trailers n result }
@@ -375,23 +375,23 @@ impl RequestReader {
     fn refuse(&mut self, n: usize, refusal: Refusal) -> Next
         requires { n ≤ length self.old.held }
         ensures item { result ≡ Next.Bad (status_of refusal) }
-        ensures stopped { self.new ≡ behind self.old n (Place.Stopped refusal) }
+        ensures stopped { self.new ≡ after self.old n (Place.Stopped refusal) }
     {
         self.go_on(n, Place::Stopped(refusal));
         Next::Bad(refusal.status())
     }
 
-    /// Goes behind so many bytes, where this is due.
+    /// Moves past `n` bytes, after which `place` is due.
     fn go_on(&mut self, n: usize, place: Place)
         requires { n ≤ length self.old.held }
-        ensures { self.new ≡ behind self.old n place }
+        ensures { self.new ≡ after self.old n place }
     {
         self.start += n;
         self.place = place;
         self.search = NEW_SEARCH;
     }
 
-    /// The first bytes behind the last text.
+    /// The first `n` bytes after the last text.
     fn text(&self, n: usize) -> &[u8]
         requires { n ≤ length self.now.held }
         ensures { result.now ≡ take n self.now.held }
@@ -399,8 +399,8 @@ impl RequestReader {
         &self.bytes[self.start..self.start + n]
     }
 
-    /// The bytes behind the last `Whole`, or all of them where none was given yet; to be called
-    /// while no `Head` or `Bad` has followed. It takes no memory.
+    /// The bytes after the last `Whole`, or all of them if none was given yet; to be called while
+    /// no `Head` or `Bad` has followed. It takes no memory.
     pub fn held(&self) -> &[u8]
         ensures { (bytes : List ℕ) (given : List Next) → StandsFor self.now bytes given → EndsWhole given → WholeGiven self.now bytes given result.now }
     {
@@ -408,7 +408,7 @@ impl RequestReader {
         &self.bytes[start..]
     }
 
-    /// The same bytes, in the reader's own memory: behind an opening handshake they are the first
+    /// The same bytes, in the reader's own memory: after an opening handshake they are the first
     /// of its frames (RFC 6455, section 5). It takes no memory.
     pub fn rest(self) -> Vec<u8>
         ensures { (bytes : List ℕ) (given : List Next) → StandsFor self bytes given → EndsWhole given → WholeGiven self bytes given result.items }
@@ -420,7 +420,7 @@ impl RequestReader {
     }
 }
 
-/// Makes room for so many more bytes: where memory is refused, in the places of those before `start`, which were read.
+/// Makes room for `more` bytes: if memory is refused, in the space of those before `start`, which were read.
 fn make_room(bytes: &mut Vec<u8>, start: &mut usize, more: usize) -> Result<(), AllocError>
     requires { start.old ≤ length bytes.old.items }
     ensures held { drop start.new bytes.new.items ≡ drop start.old bytes.old.items }
@@ -438,7 +438,7 @@ fn make_room(bytes: &mut Vec<u8>, start: &mut usize, more: usize) -> Result<(), 
     bytes.reserve(more)
 }
 
-/// Drops the first bytes. The places stay.
+/// Drops the first `count` bytes. The capacity stays.
 fn drop_front(bytes: &mut Vec<u8>, count: usize)
     requires { count ≤ length bytes.old.items }
     ensures items { bytes.new.items ≡ drop count bytes.old.items }

@@ -28,8 +28,8 @@ const EXPECT: &[u8] = b"expect";
 const CONTINUE: &[u8] = b"100-continue";
 
 /// The scope of a request that is no opening handshake, without a client, a server and a state
-/// (ASGI HTTP and WebSocket message format 2.4, "HTTP Connection Scope"). `AllocError` where memory
-/// is refused.
+/// (ASGI HTTP and WebSocket message format 2.4, "HTTP Connection Scope"). `AllocError` if memory is
+/// refused.
 pub fn http_scope_of(alloc: Global, head: HeadRecord) -> Result<Scope, AllocError>
     ensures { IfOk result (λ scope. scope ≡ spec.http_scope_of head) }
 {
@@ -58,8 +58,7 @@ pub fn http_scope_of(alloc: Global, head: HeadRecord) -> Result<Scope, AllocErro
 }
 
 /// The scope of an opening handshake, without a client, a server and a state (ASGI HTTP and
-/// WebSocket message format 2.4, "WebSocket Connection Scope"). `AllocError` where memory is
-/// refused.
+/// WebSocket message format 2.4, "WebSocket Connection Scope"). `AllocError` if memory is refused.
 pub fn websocket_scope_of(alloc: Global, head: HeadRecord) -> Result<Scope, AllocError>
     ensures { IfOk result (λ scope. scope ≡ spec.websocket_scope_of head) }
 {
@@ -88,7 +87,7 @@ pub fn websocket_scope_of(alloc: Global, head: HeadRecord) -> Result<Scope, Allo
     }))
 }
 
-/// The path as it was received. Where it stands in front of the target, it stays in that memory.
+/// The path as it was received. If the target begins with it, it stays in that memory.
 fn raw_path_of(alloc: Global, target: Octets) -> Result<Octets, AllocError>
     ensures { IfOk result (λ path. path ≡ target_parts.path_of target) }
 {
@@ -99,7 +98,7 @@ fn raw_path_of(alloc: Global, target: Octets) -> Result<Octets, AllocError>
     Ok(Octets::new(path))
 }
 
-/// The first bytes, in the same memory.
+/// The first `n` bytes, in the same memory.
 fn front(bytes: Octets, n: usize) -> Octets
     requires { n ≤ length bytes }
     ensures { result ≡ take n bytes }
@@ -113,7 +112,7 @@ fn front(bytes: Octets, n: usize) -> Octets
 fn decoded(alloc: Global, path: &[u8]) -> Result<Chars, AllocError>
     ensures { IfOk result (λ text. text ≡ spec.decoded path.now) }
 {
-    // Where nothing is encoded, these are the bytes of the path itself.
+    // If nothing is encoded, these are the bytes of the path itself.
     let bytes = percent_decode(path).into_cow(alloc)?;
     Ok(Chars::new(String::from_utf8_lossy(alloc, &bytes)?))
 }
@@ -132,7 +131,7 @@ pub fn facts_of(alloc: Global, head: &HeadRecord, framing: Framing) -> Facts
 }
 
 /// What the server keeps of an opening handshake, whose head has a key. It takes memory only for
-/// the subprotocols that the client offers; `AllocError` where that is refused.
+/// the subprotocols that the client offers; `AllocError` if that is refused.
 pub fn handshake_facts_of(alloc: Global, head: &HeadRecord) -> Result<Facts, AllocError>
     requires key { IsKey (upgrade.key_of head.now.headers) }
     ensures { IfOk result (λ facts. facts ≡ spec.facts_of head.now Framing.Upgrade) }
@@ -166,8 +165,8 @@ fn expects(head: &HeadRecord, framing: Framing) -> bool
         && head.headers.has_token(EXPECT, CONTINUE)
 }
 
-/// Whether the framing announces a body: more than 0 bytes, or chunks, even where these turn out to
-/// be empty. An opening handshake has none.
+/// Whether the framing announces a body: more than 0 bytes, or chunks, even if these turn out to be
+/// empty. An opening handshake has none.
 pub fn has_body(framing: Framing) -> bool
     ensures { result ≡ spec.has_body framing }
 {

@@ -1,11 +1,11 @@
-//! Where a text ends, found by a search that goes on where it stopped.
+//! Where a text ends, found by a search that resumes where it stopped.
 ghost use Rattle.std.specs.Prelude.{◌≡◌, ◌+◌, ◌<◌, ◌≤◌, length, drop, true, false, min, IfSome};
 ghost use Rattle.httparse.specs.Ascii.{line_feed};
 ghost use Rattle.memchr.specs.Find.{IsFirst, Passes, is_byte};
 ghost use Rattle.asgi_request.specs.Fronts as spec;
 ghost use Rattle.asgi_request.specs.Fronts.{empty_line_len, lines_len, head_len, line_len, trailer_len, front_at};
 ghost use Rattle.asgi_request.specs.Places.{front};
-ghost use Rattle.asgi_request.specs.Searches.{Resumes, Continues, ResumesTrailer, GoesFrom, IsClosed, head_part, front_of, IsWithin};
+ghost use Rattle.asgi_request.specs.private.Searches.{Resumes, Continues, ResumesTrailer, GoesFrom, IsClosed, head_part, front_of, IsWithin};
 
 use crate::place::Place;
 use asgi_types::Limits;
@@ -21,17 +21,17 @@ const SIZE_LINE_LIMIT: usize = 256;
 /// How far a search has come, in bytes: no text ends whose line feed stands before `at`.
 #[derive(Clone, Copy, Debug, PartialEq, Eq)]
 pub struct Search {
-    /// How many bytes the search has behind it.
+    /// How many bytes the search has passed.
     pub at: usize,
     /// Of a head: whether a byte that is neither CR nor LF stands before `at`. Of a trailer
-    /// section: whether its front is known to be no empty line.
+    /// section: whether it is known to begin with no empty line.
     pub begun: bool,
 }
 
 /// What the bytes begin with.
 #[derive(Clone, Copy, Debug, PartialEq, Eq)]
 pub enum Arrival {
-    /// A whole text of so many bytes.
+    /// A whole text of this many bytes.
     Text(usize),
     /// No text ends within the limit.
     TooLong,
@@ -94,7 +94,7 @@ fn within(limit: usize, bytes: &[u8], found: Option<usize>) -> Arrival
     }
 }
 
-/// The length of an empty line at the front, or 0 where there is none.
+/// The length of an empty line at the front, or 0 if there is none.
 fn empty_line_length(bytes: &[u8]) -> usize
     ensures value { result ≡ empty_line_len bytes.now }
     ensures bound { result ≤ length bytes.now }
@@ -123,7 +123,7 @@ fn find_line_feed(bytes: &[u8], from: usize) -> Option<usize>
     requires { from ≤ length bytes.now }
     ensures { IsFirst (Passes (is_byte line_feed) bytes.now) from (length bytes.now) result }
 {
-    // So few bytes are not worth a vector.
+    // Too few bytes are not worth a vector.
     if bytes.len() - from >= 16 {
         return find_far_line_feed(bytes, from);
     }
@@ -135,7 +135,7 @@ fn find_line_feed(bytes: &[u8], from: usize) -> Option<usize>
     None
 }
 
-/// The same, many bytes at a time. It stays out of line, so that its registers are not saved for a few bytes.
+/// The same, many bytes at a time. Not inlined, so that its registers are not saved for a few bytes.
 #[inline(never)]
 fn find_far_line_feed(bytes: &[u8], from: usize) -> Option<usize>
     requires { from ≤ length bytes.now }
@@ -145,7 +145,8 @@ fn find_far_line_feed(bytes: &[u8], from: usize) -> Option<usize>
     Some(from + i)
 }
 
-/// The end of the first empty line that follows a line feed behind `at`, to which the search goes on.
+/// The end of the first empty line that follows a line feed from `at` on; `at` becomes how far the
+/// search has come.
 fn find_lines(bytes: &[u8], at: &mut usize) -> Option<usize>
     requires { at.old ≤ length bytes.now }
     ensures found { result ≡ spec.more at.old (lines_len (drop at.old bytes.now)) }

@@ -13,7 +13,7 @@ const SEC_WEBSOCKET_PROTOCOL: &[u8] = b"sec-websocket-protocol";
 
 /// The subprotocols that the client offers, each a token as it is spelled, in its order over all
 /// `sec-websocket-protocol` fields (RFC 6455, section 4.2.1); what is no token is left out. It
-/// takes memory only where there are some; `AllocError` where that is refused.
+/// takes memory only if there are some; `AllocError` if that is refused.
 pub fn subprotocols_of(alloc: Global, headers: &Headers) -> Result<Names, AllocError>
     ensures same { IfOk result (λ names. names ≡ spec.subprotocols_of headers.now) }
     ensures needed { OnErr result (¬ (spec.subprotocols_of headers.now ≡ [])) }
@@ -33,14 +33,14 @@ fn push_tokens(alloc: Global, names: &mut Names, value: &[u8]) -> Result<(), All
     ensures needed { OnErr result (¬ (spec.tokens_of value.now ≡ [])) }
 {
     let mut rest = value;
-    while let Some((part, behind)) = cut_at_comma(rest) {
+    while let Some((part, after)) = cut_at_comma(rest) {
         push_token(alloc, names, trimmed(part))?;
-        rest = behind;
+        rest = after;
     }
     push_token(alloc, names, trimmed(rest))
 }
 
-/// The bytes in front of the first comma, and those behind it.
+/// The bytes before the first comma, and those after it.
 fn cut_at_comma(value: &[u8]) -> Option<(&[u8], &[u8])>
     ensures none { IsNone result → parts_of value.now ≡ value.now ∷ [] }
     ensures cut { IfSome result (λ cut. parts_of value.now ≡ cut.0.now ∷ parts_of cut.1.now) }
@@ -50,7 +50,7 @@ fn cut_at_comma(value: &[u8]) -> Option<(&[u8], &[u8])>
     Some((&value[..comma], &value[comma + 1..]))
 }
 
-/// Adds the part, where it is a token.
+/// Adds the part, if it is a token.
 fn push_token(alloc: Global, names: &mut Names, part: &[u8]) -> Result<(), AllocError>
     ensures ok { OnOk result (names.new ≡ names.old ++ spec.token_of part.now) }
     ensures needed { OnErr result (is_token part.now ≡ true) }

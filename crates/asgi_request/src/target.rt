@@ -10,7 +10,7 @@ const HTTPS: &[u8] = b"https://";
 
 const ROOT: &[u8] = b"/";
 
-/// Whether the target has a form that is taken with the method, which is in upper case:
+/// Whether the target has a form that is allowed with the method, which is in upper case:
 /// origin-form, absolute-form of `http` or `https`, or `*` with OPTIONS alone (RFC 9112,
 /// sections 3.2.1, 3.2.2 and 3.2.4).
 pub fn is_target(method: &[u8], target: &[u8]) -> bool
@@ -40,7 +40,7 @@ fn has_authority(target: &[u8], scheme: &[u8]) -> bool
         && target[scheme.len()] != b'?'
 }
 
-/// The path as it was received, still percent-encoded and without the query; `/` where it is empty
+/// The path as it was received, still percent-encoded and without the query; `/` if it is empty
 /// (RFC 9110, section 4.2.3).
 pub fn path_of(target: &[u8]) -> &[u8]
     ensures { result.now ≡ spec.path_of target.now }
@@ -48,8 +48,8 @@ pub fn path_of(target: &[u8]) -> &[u8]
     or_root(before_query(path_and_query(target)))
 }
 
-/// How many bytes the path has, where the target begins with it. `None` where it does not: a scheme
-/// stands in front, or the path is empty.
+/// How many bytes the path has, if the target begins with it. `None` if it does not: a scheme comes
+/// first, or the path is empty.
 #[tactic(auto, using(crate::proofs::TargetLemmas::path_in_front))]
 pub fn path_in_front(target: &[u8]) -> Option<usize>
     ensures front { IfSome result (λ n. (n ≤ length target.now) × (spec.path_of target.now ≡ take n target.now)) }
@@ -65,7 +65,7 @@ pub fn path_in_front(target: &[u8]) -> Option<usize>
     Some(n)
 }
 
-/// The path, or that of the root where it is empty.
+/// The path, or that of the root if it is empty.
 fn or_root(path: &[u8]) -> &[u8]
     ensures { result.now ≡ spec.or_root path.now }
 {
@@ -75,12 +75,11 @@ fn or_root(path: &[u8]) -> &[u8]
     }
 }
 
-/// The query as it was received, still percent-encoded and without the `?`; empty where there is
-/// none.
+/// The query as it was received, still percent-encoded and without the `?`; empty if there is none.
 pub fn query_of(target: &[u8]) -> &[u8]
     ensures { result.now ≡ spec.query_of target.now }
 {
-    behind_question_mark(path_and_query(target))
+    after_question_mark(path_and_query(target))
 }
 
 /// The target without a scheme and an authority.
@@ -88,18 +87,18 @@ fn path_and_query(target: &[u8]) -> &[u8]
     ensures { result.now ≡ spec.path_and_query target.now }
 {
     if has_authority(target, HTTP) {
-        return behind_authority(target, HTTP.len());
+        return after_authority(target, HTTP.len());
     }
     if has_authority(target, HTTPS) {
-        return behind_authority(target, HTTPS.len());
+        return after_authority(target, HTTPS.len());
     }
     target
 }
 
 /// The bytes from the first `/` or `?` on, from `from` on.
-fn behind_authority(target: &[u8], from: usize) -> &[u8]
+fn after_authority(target: &[u8], from: usize) -> &[u8]
     requires { from ≤ length target.now }
-    ensures { result.now ≡ spec.behind_authority (drop from target.now) }
+    ensures { result.now ≡ spec.after_authority (drop from target.now) }
 {
     for i in from..target.len() {
         if target[i] == b'/' || target[i] == b'?' {
@@ -121,9 +120,9 @@ fn before_query(bytes: &[u8]) -> &[u8]
     bytes
 }
 
-/// The bytes behind the first `?`.
-fn behind_question_mark(bytes: &[u8]) -> &[u8]
-    ensures { result.now ≡ spec.behind_question_mark bytes.now }
+/// The bytes after the first `?`.
+fn after_question_mark(bytes: &[u8]) -> &[u8]
+    ensures { result.now ≡ spec.after_question_mark bytes.now }
 {
     for (i, b) in bytes.iter().enumerate() {
         if *b == b'?' {

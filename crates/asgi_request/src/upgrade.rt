@@ -33,13 +33,13 @@ const SEC_WEBSOCKET_KEY: &[u8] = b"sec-websocket-key";
 /// Whether a request asks for WebSocket (RFC 6455, section 4.2.1).
 #[derive(Debug, Drop)]
 pub enum UpgradeAsk {
-    /// It does not: it is an HTTP request.
+    /// The request does not: it is an HTTP request.
     Plain,
-    /// It is an opening handshake.
+    /// The request is an opening handshake.
     Upgrade {
         /// The value of `sec-websocket-key`: 16 bytes in base64.
         key: [u8; 24],
-        /// The subprotocols that the client offers, in its order; none where it offers none.
+        /// The subprotocols that the client offers, in its order; none if it offers none.
         subprotocols: Names,
     },
     /// The request is refused with this status: 400 or 426 for its opening handshake, or the status
@@ -49,7 +49,7 @@ pub enum UpgradeAsk {
 
 /// Whether the request asks for WebSocket, and with what (RFC 6455, section 4.2.1); `framing` is
 /// that of its body, by `framing_of`. A head whose framing is refused stays refused, with the same
-/// status. It takes memory only where subprotocols are offered; `AllocError` where that is refused.
+/// status. It takes memory only if subprotocols are offered; `AllocError` if that is refused.
 pub fn check_upgrade(
     alloc: Global,
     head: &HeadRecord,
@@ -66,7 +66,7 @@ pub fn check_upgrade(
     }
 }
 
-/// The same, where the framing says whether there is a body.
+/// The same, with `has_body` in place of the framing.
 fn ask_of(alloc: Global, head: &HeadRecord, has_body: bool) -> Result<UpgradeAsk, AllocError>
     ensures ask { IfOk result (λ ask. ask ≡ upgrade_answer head.now.headers (spec.handshake_or_refusal head.now has_body)) }
     ensures key { IfOk result HasKey }
@@ -116,9 +116,9 @@ pub fn request_framing(head: &HeadRecord, limits: &Limits) -> Result<Framing, Re
 }
 
 /// Whether the request is an opening handshake, or why it is refused: the first case that holds
-/// (RFC 6455, section 4.2.1). `BadRequest` comes for a method other than GET, for a body, and where
-/// `sec-websocket-key` is not there just once with a key; `UpgradeRequired` where
-/// `sec-websocket-version` is not there just once with 13. It takes no memory.
+/// (RFC 6455, section 4.2.1). `BadRequest` is returned for a method other than GET, for a body, and
+/// if `sec-websocket-key` is not there exactly once with a key; `UpgradeRequired` if
+/// `sec-websocket-version` is not there exactly once with 13. It takes no memory.
 pub fn handshake_or_refusal(head: &HeadRecord, has_body: bool) -> Result<bool, Refusal>
     ensures first { result ≡ spec.handshake_or_refusal head.now has_body }
     ensures key { result ≡ Ok true → IsKey (spec.key_of head.now.headers) }
@@ -141,7 +141,7 @@ pub fn handshake_or_refusal(head: &HeadRecord, has_body: bool) -> Result<bool, R
     Ok(true)
 }
 
-/// Whether the request asks to go over to WebSocket.
+/// Whether the request asks to switch to WebSocket.
 fn asks_for_websocket(head: &HeadRecord) -> bool
     ensures { result ≡ spec.asks_for_websocket head.now }
 {

@@ -1,9 +1,9 @@
-//! The calls of a reader, limits, and what is said of one result.
+//! The calls of a reader, limits, and what is checked of one result.
 use asgi_request::{Next, RequestReader};
 use asgi_types::{Incoming, Limits};
 use std::alloc::{AllocError, Global};
 
-/// What is said of the result that a call gave. It stands for a result of any type, so its proof sees no field of one.
+/// What is checked of the result that a call gave. The result is of any type, so the proof sees no field of it.
 pub fn of_given<T: Drop, E: Drop, S, F: FnOnce(&T) -> S>(
     given: Result<T, E>,
     says: F,
@@ -14,7 +14,7 @@ pub fn of_given<T: Drop, E: Drop, S, F: FnOnce(&T) -> S>(
     Ok(says(&result))
 }
 
-/// The same, where it is said beside something else.
+/// The same, checked beside something else.
 pub fn of_given_beside<T: Drop, E: Drop, B, S, F: FnOnce(&T, &B) -> S>(
     given: Result<T, E>,
     beside: &B,
@@ -36,7 +36,7 @@ pub enum Setting {
     Small,
     /// No body, and two fields.
     NoBody,
-    /// The greatest limits on a head, with bodies of 1 MiB in blocks of so many bytes.
+    /// The greatest limits on a head, with bodies of 1 MiB in blocks of this many bytes.
     Greatest(usize),
 }
 
@@ -88,7 +88,7 @@ pub fn is_need(next: &Next) -> bool {
 /// A block of a body, and whether more follows.
 pub type Block<'a> = (&'a [u8], bool);
 
-/// Whether it is this block of a body.
+/// Whether the result is this block of a body.
 pub fn is_event(next: &Next, block: &Block) -> bool {
     let Next::Event(Incoming::HttpRequest { body, more_body }) = next else {
         return false;
@@ -101,7 +101,7 @@ pub fn holds(reader: &RequestReader, bytes: &[u8]) -> bool {
     held(reader) == bytes
 }
 
-/// Whether the reader needs more bytes; it gives its next result away.
+/// Whether the reader needs more bytes; its next result is lost.
 pub fn waits(reader: &mut RequestReader) -> Result<bool, AllocError> {
     of_given(take(reader), is_need)
 }

@@ -1,4 +1,4 @@
-//! Chunked bodies: chunks, blocks, trailer sections, and what is none of them.
+//! Chunked bodies: chunks, blocks, trailer sections, and what is none of these.
 use crate::calls::Setting;
 use crate::feeding::{Row, gives_in_all_ways};
 use crate::inputs::joined;
@@ -8,7 +8,7 @@ use std::test::Fail;
 
 const HEAD: &[u8] = b"POST / HTTP/1.1\r\nHost: a\r\nTransfer-Encoding: chunked\r\n\r\n";
 
-/// Each body gives this behind a head that announces a chunked one, in blocks of 4.
+/// Each body gives this after a head that announces a chunked one, in blocks of 4.
 fn bodies_give(rt: &impl Abort, alloc: Global, rows: &[Row]) -> Result<(), Fail> {
     for (bodies, wanted) in rows {
         for body in *bodies {

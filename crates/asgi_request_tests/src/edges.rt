@@ -6,7 +6,7 @@ use std::alloc::Global;
 use std::process::Abort;
 use std::test::Fail;
 
-/// A front, how many letters stand behind it, the end, and the words of what the reader gives of it.
+/// A front, how many letters come after it, the end, and the words of what the reader gives for it.
 type Filled = (&'static [u8], usize, &'static [u8], &'static str);
 
 fn filled_give(rt: &impl Abort, alloc: Global, rows: &[Filled]) -> Result<(), Fail> {

@@ -1,4 +1,4 @@
-//! Requests that are fed in many ways, and what the reader gives of them, in words.
+//! Requests that are fed in many ways, and what the reader gives for them, in words.
 use crate::calls::{Setting, new_reader, of_given, put, take};
 use asgi_request::{Next, RequestReader};
 use asgi_types::{Facts, Framing, HttpScope, Incoming, Scope};
@@ -6,10 +6,10 @@ use std::alloc::{AllocError, Global};
 use std::process::Abort;
 use std::test::Fail;
 
-/// Inputs, and the words of what the reader gives of each of them.
+/// Inputs, and the words of what the reader gives for each of them.
 pub type Row = (&'static [&'static [u8]], &'static str);
 
-/// The reader gives these words of each input, fed in all ways.
+/// The reader gives these words for each input, fed in all ways.
 pub fn gives(rt: &impl Abort, alloc: Global, setting: Setting, rows: &[Row]) -> Result<(), Fail> {
     for (inputs, wanted) in rows {
         for bytes in *inputs {
@@ -65,7 +65,7 @@ pub fn are(rt: &impl Abort, words: &str, wanted: &str, how: &str, count: usize) 
     assert_eq!(rt; words, wanted, "{how} {count}");
 }
 
-/// What the reader gives of the bytes, fed in pieces of so many.
+/// What the reader gives for the bytes, fed in pieces of `size`.
 fn in_pieces(
     alloc: Global,
     setting: Setting,
@@ -84,22 +84,22 @@ fn feed_pieces(
 ) -> Result<String, AllocError> {
     let mut rest = bytes;
     for _ in 0..bytes.len() {
-        let (piece, behind) = rest.split_at(size.min(rest.len()));
+        let (piece, after) = rest.split_at(size.min(rest.len()));
         feed(reader, piece, &mut words)?;
-        // One empty piece is fed behind the last.
+        // One empty piece is fed after the last.
         if piece.is_empty() {
             return Ok(words);
         }
-        rest = behind;
+        rest = after;
     }
     Ok(words)
 }
 
-/// What the reader gives of the bytes, fed up to the cut and then from it on.
+/// What the reader gives for the bytes, fed up to the cut and then from it on.
 fn in_two(alloc: Global, setting: Setting, bytes: &[u8], cut: usize) -> Result<String, AllocError> {
     let mut reader = new_reader(alloc, setting);
-    let (front, behind) = bytes.split_at(cut.min(bytes.len()));
-    feed_parts(&mut reader, &[front, behind], String::new(alloc))
+    let (front, after) = bytes.split_at(cut.min(bytes.len()));
+    feed_parts(&mut reader, &[front, after], String::new(alloc))
 }
 
 fn feed_parts(
@@ -128,7 +128,7 @@ fn drain(reader: &mut RequestReader, words: &mut String) -> Result<(), AllocErro
     Ok(())
 }
 
-/// Adds the words of the next result, and says whether nothing follows before more is fed.
+/// Adds the words of the next result, and returns whether nothing follows before more is fed.
 fn add_next(reader: &mut RequestReader, words: &mut String) -> Result<bool, AllocError> {
     of_given(take(reader), |next| show(next, words))?
 }
@@ -165,7 +165,7 @@ fn add_head(scope: &Scope, facts: &Facts, words: &mut String) -> Result<(), Allo
     words.push_str(";")
 }
 
-/// The method, and behind `OPTIONS` the path, the raw path and the query string.
+/// The method, and after `OPTIONS` the path, the raw path and the query string.
 fn add_scope(http: &HttpScope, words: &mut String) -> Result<(), AllocError> {
     words.push_str(http.method.as_str())?;
     if http.method.as_str() != "OPTIONS" {
@@ -202,7 +202,7 @@ fn framing_word(framing: Framing) -> &'static str {
     }
 }
 
-/// A length that stands in a row.
+/// A length that occurs in a row.
 fn length_word(length: u64) -> &'static str {
     match length {
         0 => " 0",
@@ -225,7 +225,7 @@ fn add_event(event: &Incoming, words: &mut String) -> Result<(), AllocError> {
     words.push_str(")")
 }
 
-/// A refusal is given again; its words stand once.
+/// A refusal is given again; its words are added once.
 fn add_refusal(status: u16, words: &mut String) -> Result<(), AllocError> {
     let word = match status {
         400 => " bad 400",

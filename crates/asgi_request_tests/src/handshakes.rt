@@ -1,4 +1,4 @@
-//! What a reader gives of an opening handshake, and which bytes stand behind it (RFC 6455, section 4.2.1).
+//! What a reader gives for an opening handshake, and which bytes come after it (RFC 6455, section 4.2.1).
 use crate::calls::{Setting, holds, is_need, is_whole, new_reader, of_given, put, take};
 use asgi_request::{Next, RequestReader};
 use asgi_types::{Facts, Framing, Scope};
@@ -11,7 +11,7 @@ const HANDSHAKE: &[u8] =
 /// A frame of a client (RFC 6455, section 5.7).
 const FRAME: &[u8] = b"\x81\x85\x37\xfa\x21\x3d\x7f\x9f\x4d\x51\x58";
 
-/// Whether it is the head of the handshake.
+/// Whether the result is the head of the handshake.
 fn is_head(next: &Next) -> bool {
     match next {
         Next::Head(Scope::WebSocket(scope), facts) => {
@@ -33,7 +33,7 @@ fn are_facts(facts: &Facts) -> bool {
         && !facts.expect
 }
 
-/// What stands behind the handshake, where it was given.
+/// Whether the frame comes after the handshake, once that was given.
 fn keeps(reader: RequestReader) -> bool {
     let is_held = holds(&reader, FRAME);
     let rest = rest_of(reader);
@@ -45,15 +45,15 @@ fn rest_of(reader: RequestReader) -> Vec<u8> {
     reader.rest()
 }
 
-/// Fed in two pieces, it is given with nothing behind it.
+/// Fed in two pieces, the handshake is given with nothing after it.
 fn gives_handshake(
     reader: &mut RequestReader,
     front: &[u8],
-    behind: &[u8],
+    after: &[u8],
 ) -> Result<bool, AllocError> {
     put(reader, front)?;
     let waits = of_given(take(reader), is_need)?;
-    put(reader, behind)?;
+    put(reader, after)?;
     let head = of_given(take(reader), is_head)?;
     let whole = of_given(take(reader), is_whole)?;
     put(reader, FRAME)?;
@@ -61,11 +61,11 @@ fn gives_handshake(
     Ok(waits && head && whole && need)
 }
 
-/// It is given, and the frame behind it stays.
+/// The handshake is given, and the frame after it stays.
 fn is_given(alloc: Global, cut: usize) -> Result<bool, AllocError> {
-    let (front, behind) = HANDSHAKE.split_at(cut.min(HANDSHAKE.len()));
+    let (front, after) = HANDSHAKE.split_at(cut.min(HANDSHAKE.len()));
     let mut reader = new_reader(alloc, Setting::Usual);
-    let is_given = gives_handshake(&mut reader, front, behind);
+    let is_given = gives_handshake(&mut reader, front, after);
     let is_kept = keeps(reader);
     Ok(is_given? && is_kept)
 }
@@ -74,7 +74,7 @@ fn is_given(alloc: Global, cut: usize) -> Result<bool, AllocError> {
 const CUTS: &[usize] = &[0, 1, 60, 150];
 
 #[test]
-fn the_bytes_behind_a_handshake_are_kept(rt: HostRuntime) -> Result<(), Fail> {
+fn the_bytes_after_a_handshake_are_kept(rt: HostRuntime) -> Result<(), Fail> {
     for cut in CUTS {
         let given = is_given(rt.alloc(), *cut)?;
         assert!(rt; given, "{cut}");

@@ -3,7 +3,7 @@ use crate::calls::Setting;
 use crate::feeding::{Row, gives};
 use std::test::Fail;
 
-/// In whatever case the method is, and though the target is bad.
+/// In whatever case the method is, and even if the target is bad.
 const TUNNELS: &[Row] = &[(
     &[
         b"CONNECT a:1 HTTP/1.1\r\nHost: a\r\n\r\n",
@@ -141,7 +141,7 @@ fn a_coding_in_http_10_is_bad(rt: HostRuntime) -> Result<(), Fail> {
     gives(&rt, rt.alloc(), Setting::Usual, CODING_OF_10)
 }
 
-/// A folded line, a space before the colon, both where they would hide a coding, a bare CR, a NUL, another version.
+/// A folded line, a space before the colon, both if they would hide a coding, a bare CR, a NUL, another version.
 const NO_HEADS: &[Row] = &[(
     &[
         b"GET / HTTP/1.1\r\nHost: a\r\nX: b\r\n c\r\n\r\n",

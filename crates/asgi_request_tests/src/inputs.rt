@@ -1,7 +1,7 @@
 //! Inputs that are made of parts.
 use std::alloc::{AllocError, Global};
 
-/// The parts, one behind the other.
+/// The parts, one after another.
 pub fn joined(alloc: Global, parts: &[&[u8]]) -> Result<Vec<u8>, AllocError> {
     let mut bytes = Vec::new(alloc);
     add_parts(&mut bytes, parts)?;
@@ -15,7 +15,7 @@ pub fn add_parts(bytes: &mut Vec<u8>, parts: &[&[u8]]) -> Result<(), AllocError>
     Ok(())
 }
 
-/// The front, so many letters, and the end.
+/// The front, this many letters, and the end.
 pub fn filled(
     alloc: Global,
     front: &[u8],

@@ -18,7 +18,7 @@ const END: &[u8] = b"\r\n\r\n";
 
 const SERVED: &str = "head GET 0; last() whole;";
 
-/// How many letters stand behind the front, the end, and the words of what the reader gives of it.
+/// How many letters come after the front, the end, and the words of what the reader gives for it.
 type Filled = (usize, &'static [u8], &'static str);
 
 /// The heads give these words, fed in pieces of these sizes.
@@ -38,7 +38,7 @@ fn filled_give(
 /// Whole, in two pieces and in many.
 const SIZES: &[usize] = &[4_096, 65_534, 65_535, 1_048_576];
 
-/// No empty line can follow in time where 65,535 bytes have none.
+/// No empty line can follow in time if 65,535 bytes have none.
 const HEADS: &[Filled] = &[
     (65_502, END, SERVED),
     (65_503, END, SERVED),
@@ -68,7 +68,7 @@ fn are_letters(value: &[u8]) -> bool {
     true
 }
 
-/// A name in lower case, and a value of so many letters.
+/// A name in lower case, and a value of this many letters.
 fn is_filled(name: &[u8], value: &[u8], letters: usize) -> bool {
     name == b"x".as_slice() && value.len() == letters && are_letters(value)
 }
@@ -114,7 +114,7 @@ fn digits(number: usize) -> [u8; 3] {
     [digit(number / 100), digit(number / 10), digit(number)]
 }
 
-/// A head with `Host` and so many other fields `X-NNN: NNN`.
+/// A head with `Host` and this many other fields `X-NNN: NNN`.
 fn head_with(alloc: Global, others: usize) -> Result<Vec<u8>, AllocError> {
     let mut bytes = Vec::new(alloc);
     add_head(&mut bytes, others)?;
@@ -164,7 +164,7 @@ fn is_numbered_at(headers: &Headers, number: usize) -> bool {
     }
 }
 
-/// Behind `host` stand the fields of the numbers 0 to 126.
+/// After `host` come the fields of the numbers 0 to 126.
 fn has_127_others(headers: &Headers) -> bool {
     for number in 0..127usize {
         if !is_numbered_at(headers, number) {
@@ -199,7 +199,7 @@ fn a_head_of_128_fields_keeps_them(rt: HostRuntime) -> Result<(), Fail> {
     Ok(())
 }
 
-/// So many bytes, in rows of 251.
+/// This many bytes, in rows of 251.
 fn body_of(alloc: Global, count: usize) -> Result<Vec<u8>, AllocError> {
     let mut bytes = Vec::with_capacity(alloc, count)?;
     add_body(&mut bytes, count)?;
@@ -217,8 +217,8 @@ fn gives_event(reader: &mut RequestReader, block: &[u8], more: bool) -> Result<b
     of_given_beside(take(reader), &(block, more), is_event)
 }
 
-/// Whether the next results are the body in blocks of so many bytes, the last of them with no more to follow, if
-/// this is the end of it.
+/// Whether the next results are the body in blocks of this many bytes, the last of them with no more to follow, if this
+/// is the end of the body.
 fn gives_blocks(
     reader: &mut RequestReader,
     body: &[u8],
@@ -227,26 +227,26 @@ fn gives_blocks(
 ) -> Result<bool, AllocError> {
     let mut rest = body;
     for _ in 0..body.len() {
-        let (front, behind) = rest.split_at(block.min(rest.len()));
-        let more = !is_end || !behind.is_empty();
+        let (front, after) = rest.split_at(block.min(rest.len()));
+        let more = !is_end || !after.is_empty();
         if !gives_event(reader, front, more)? {
             return Ok(false);
         }
-        if behind.is_empty() {
+        if after.is_empty() {
             return Ok(true);
         }
-        rest = behind;
+        rest = after;
     }
     Ok(false)
 }
 
-/// Whether the request ends here, and nothing is held behind it.
+/// Whether the request ends here, and nothing is held after it.
 fn gives_end(reader: &mut RequestReader) -> Result<bool, AllocError> {
     let is_end = of_given(take(reader), is_whole)?;
     Ok(is_end && holds(reader, b"") && waits(reader)?)
 }
 
-/// Whether a head, the body in blocks and the end are given of what was fed. A chunked body has an empty last event.
+/// Whether a head, the body in blocks and the end are given for what was fed. A chunked body has an empty last event.
 fn gives_request(
     reader: &mut RequestReader,
     body: &[u8],
@@ -259,10 +259,10 @@ fn gives_request(
     Ok(is_begun && is_ended && gives_end(reader)?)
 }
 
-/// What stands in front of a body, how many bytes it has, what stands behind it, and the block.
+/// What comes before a body, how many bytes it has, what comes after it, and the block.
 type Row = (&'static [u8], usize, &'static [u8], usize);
 
-/// The body of a row, fed at once with all that stands around it, comes back in blocks.
+/// The body of a row, fed at once with all that is around it, comes back in blocks.
 fn is_given(alloc: Global, row: &Row, is_chunked: bool) -> Result<bool, AllocError> {
     let body = body_of(alloc, row.1)?;
     let bytes = joined(alloc, &[row.0, &body, row.2])?;
@@ -362,7 +362,7 @@ fn a_chunk_of_1_mib_is_given_in_blocks(rt: HostRuntime) -> Result<(), Fail> {
 
 const HEAD: &[u8] = b"POST / HTTP/1.1\r\nHost: a\r\nContent-Length: 1048576\r\n\r\n";
 
-/// Whether more bytes are needed behind the head, and a body that is fed at once then comes back in blocks, and ends
+/// Whether more bytes are needed after the head, and a body that is fed at once then comes back in blocks, and ends
 /// the request.
 fn takes_piece(reader: &mut RequestReader, body: &[u8]) -> Result<bool, AllocError> {
     put(reader, HEAD)?;

@@ -1,5 +1,6 @@
-//! Each call that allocates, where one allocation is refused: it answers so, the reader is as before, and the call can
-//! be made again. `tests/memory.py` runs these with each allocation refused in turn; with ample memory none is refused.
+//! Each call that allocates, when one allocation is refused: the call returns that error, the reader is as before, and
+//! the call can be made again. `tests/memory.py` runs these with each allocation refused in turn; with ample memory
+//! none is refused.
 use crate::calls::Setting;
 use crate::script::Call::{self, Event, Feed, Head, Held, HeldCount, Refusal, Whole};
 use crate::script::answer;

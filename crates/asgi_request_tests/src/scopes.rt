@@ -1,4 +1,4 @@
-//! The fields of a scope, what is held behind a request, and the framing of a record.
+//! The fields of a scope, what is held after a request, and the framing of a record.
 use crate::calls::{Setting, new_reader, of_given, of_given_beside, put, take};
 use crate::feeding::{Row, gives};
 use crate::records::{Field, record};
@@ -129,7 +129,7 @@ fn is_scope_of_fields(scope: &HttpScope) -> bool {
     says_so(scope) && knows_nothing(scope)
 }
 
-/// What the request says of itself.
+/// What the scope holds of the request.
 fn says_so(scope: &HttpScope) -> bool {
     scope.http_version == HttpVersion::V10
         && scope.method.as_str() == "GET"
@@ -192,7 +192,7 @@ fn has_field(headers: &Headers, index: usize, name: &[u8], value: &[u8]) -> bool
     kept_name == name && kept_value == value
 }
 
-const BEHIND: &[Call] = &[
+const AFTER: &[Call] = &[
     Feed(b"\r\n"),
     Held(b"\r\n"),
     Feed(b"GET / HTTP/1.1\r\nHost: a\r\n\r\n\r\nGE"),
@@ -206,8 +206,8 @@ const BEHIND: &[Call] = &[
 ];
 
 #[test]
-fn what_stands_behind_a_whole_request_is_held(rt: HostRuntime) -> Result<(), Fail> {
-    answer(&rt, rt.alloc(), Setting::Usual, BEHIND)
+fn what_stands_after_a_whole_request_is_held(rt: HostRuntime) -> Result<(), Fail> {
+    answer(&rt, rt.alloc(), Setting::Usual, AFTER)
 }
 
 const HOST: Field = ("host", "a");

@@ -1,4 +1,4 @@
-//! Calls of a reader, one behind the other, with what each has to give. Where memory is refused, a call is made again.
+//! Calls of a reader, one after another, with what each has to give. If memory is refused, a call is made again.
 use crate::calls::{
     Setting, held, holds, is_event, is_need, is_whole, new_reader, of_given, of_given_beside, put,
     take,
@@ -17,7 +17,7 @@ pub enum Call {
     Event(&'static [u8], bool),
     Whole,
     Refusal,
-    /// Want of more bytes.
+    /// More bytes are needed.
     Need,
     /// Anything else.
     NoNeed,
@@ -61,7 +61,7 @@ fn answered(reader: &mut RequestReader, calls: &[Call]) -> Result<usize, AllocEr
     Ok(calls.len())
 }
 
-/// Feeds the piece, and again where memory was refused: then nothing was taken.
+/// Feeds the piece, and again if memory was refused: then nothing was taken.
 fn feed(reader: &mut RequestReader, piece: &[u8]) -> Result<bool, AllocError> {
     let before = held(reader).len();
     match put(reader, piece) {
@@ -76,7 +76,7 @@ fn feed_again(reader: &mut RequestReader, piece: &[u8], before: usize) -> Result
     Ok(kept)
 }
 
-/// The next result, asked for again where memory was refused.
+/// The next result, asked for again if memory was refused.
 fn next(reader: &mut RequestReader) -> Result<Next, AllocError> {
     match take(reader) {
         Ok(next) => Ok(next),
@@ -84,7 +84,7 @@ fn next(reader: &mut RequestReader) -> Result<Next, AllocError> {
     }
 }
 
-/// Whether it is the head of a request for `/a%20b?c` with two fields.
+/// Whether the result is the head of a request for `/a%20b?c` with two fields.
 fn is_post(next: &Next) -> bool {
     let Next::Head(Scope::Http(http), _) = next else {
         return false;

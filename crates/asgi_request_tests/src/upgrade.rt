@@ -44,7 +44,7 @@ fn add_words(ask: &UpgradeAsk, words: &mut String) -> Result<(), AllocError> {
     }
 }
 
-/// A status that stands in a row.
+/// A status that occurs in a row.
 fn status_word(status: u16) -> &'static str {
     match status {
         400 => "400",
@@ -80,7 +80,7 @@ fn asked(alloc: Global, version: HttpVersion, row: &Row) -> Result<String, Heade
     Ok(of_given_beside(head, &(alloc, row.2), words_asked)??)
 }
 
-/// What is asked are the words of each row.
+/// The words of each row are those of what is asked.
 fn ask(rt: &impl Abort, alloc: Global, version: HttpVersion, rows: &[Row]) -> Result<(), Fail> {
     for (index, row) in rows.iter().enumerate() {
         let words = asked(alloc, version, row)?;
@@ -491,7 +491,7 @@ fn gives_two(alloc: Global, head: &HeadRecord) -> Result<bool, AllocError> {
     of_given(check_upgrade(alloc, head, &NONE), offers_two)
 }
 
-/// The same, asked again where memory was refused.
+/// The same, asked again if memory was refused.
 fn gives_two_again(head: &HeadRecord, alloc: &Global) -> Result<bool, AllocError> {
     match gives_two(*alloc, head) {
         Ok(given) => Ok(given),
@@ -504,7 +504,7 @@ fn offers(alloc: Global) -> Result<bool, HeaderError> {
     Ok(of_given_beside(head, &alloc, gives_two_again)??)
 }
 
-/// Where memory was refused for the record, it is made again.
+/// If memory was refused for the record, it is made again.
 #[test]
 fn memory_for_an_upgrade(rt: HostRuntime) -> Result<(), Fail> {
     let given = match offers(rt.alloc()) {

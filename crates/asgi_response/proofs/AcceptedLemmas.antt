@@ -1,4 +1,4 @@
--- What passes behind a start and the parts that follow it.
+-- What passes after a start and the parts that follow it.
 use Rattle.std.proofs.Common.{◌≡◌, ℕ, ◌+◌, Bool, true, false, List, [], ◌∷◌, ◌++◌, length, map, refl, sym, ap, ◌∙◌, subst, arith}
 use Rattle.std.proofs.lemmas.List.Sums.{fold-append}
 use Rattle.std.specs.Prelude.{not, ◌&&◌, ◌||◌, if◌then◌else◌, Option}
@@ -9,7 +9,7 @@ use Rattle.asgi_types.specs.declared.outgoing.Outgoing.{Outgoing}
 use Rattle.asgi_types.specs.declared.outgoing.Outgoing.TheVariants.{ResponseStart, ResponseBody}
 use Rattle.asgi_protocol.specs.declared.verdict.Verdict.{Verdict}
 use Rattle.asgi_protocol.specs.declared.verdict.Verdict.TheVariants.{Ignored, Refused}
-use Rattle.asgi_protocol.specs.BytesLeft.{is_above, is_below, left_behind, with_sent}
+use Rattle.asgi_protocol.specs.BytesLeft.{is_above, is_below, left_after, with_sent}
 use Rattle.asgi_protocol.specs.ContentLengths.{content_length}
 use Rattle.asgi_protocol.specs.Lawful.{IsResponse}
 use Rattle.asgi_protocol.specs.Passing.{is_pass, passes}
@@ -18,7 +18,7 @@ use Rattle.asgi_protocol.specs.Shapes.{is_part, is_last_part, is_row, begins_row
 use Rattle.asgi_protocol.specs.Verdicts.{Lines, lines_on, first_line}
 use Rattle.asgi_response.specs.Accepted.{with_event, accepted}
 use Rattle.asgi_response.specs.Standing.{part}
-use Rattle.asgi_response.specs.Steps.{is_allowed}
+use Rattle.asgi_response.specs.private.Steps.{is_allowed}
 use Rattle.asgi_protocol.proofs.CountLemmas.{above_agrees, below_agrees, counts_down}
 use Rattle.asgi_protocol.proofs.PassingLemmas.{nothing_passes}
 
@@ -40,7 +40,7 @@ begins_row-start : (parts : List (List ℕ)) (status : ℕ) (headers : List Head
 begins_row-start [] status headers = refl
 begins_row-start (p ∷ parts) status headers = ap (λ (b : Bool). b || false) (begins_row-start parts status headers)
 
--- ---- the table, where nothing was heard
+-- ---- the table, when nothing was received
 
 wrong : (a b c : Bool) (v : Verdict) → c ≡ true → is_pass (if a then Ignored else (if b then Refused 2 else (if c then Refused 3 else v))) ≡ false
 wrong true b c v h = refl
@@ -101,14 +101,14 @@ passes_body facts said status headers parts left body more e promised =
     ap (λ (s : List Outgoing). passes Http facts s (ResponseBody body more)) e
     ∙ passes_open facts status headers parts left body more (subst (λ (s : List Outgoing). promised_length facts s ≡ with_sent (body_bytes s) left) e promised)
 
--- no other start passes behind a start
+-- no other start passes after a start
 pub second_start : (facts : Facts) (said : List Outgoing) (status : ℕ) (headers : List HeaderField) (parts : List (List ℕ)) (again : ℕ) (fields : List HeaderField)
     → said ≡ ResponseStart status headers ∷ map part parts → passes Http facts said (ResponseStart again fields) ≡ false
 second_start facts said status headers parts again fields e =
     ap (λ (s : List Outgoing). passes Http facts s (ResponseStart again fields)) e
     ∙ out_of_order (lines_on Http facts (ResponseStart status headers ∷ map part parts) false (ResponseStart again fields)) (ap not (begins_row-start parts again fields))
 
--- nothing passes behind a whole response
+-- nothing passes after a whole response
 pub after_closed : (facts : Facts) (said : List Outgoing) (event : Outgoing) → IsResponse said → passes Http facts said event ≡ false
 after_closed facts said event r = nothing_passes.none Http facts said event r
 
@@ -128,7 +128,7 @@ other_scope facts said event h = wrong_scope (lines_on Http facts said false eve
 pub accepted-push : (facts : Facts) (events : List Outgoing) (event : Outgoing) → accepted facts (events ++ event ∷ []) ≡ with_event facts (accepted facts events) event
 accepted-push facts events event = fold-append (with_event facts) [] events (event ∷ [])
 
--- ---- the bytes behind a body
+-- ---- the bytes after a body
 
 body_bytes-parts : (parts : List (List ℕ)) (body : List ℕ) (more : Bool) → body_bytes (map part parts ++ ResponseBody body more ∷ []) ≡ body_bytes (map part parts) + length body
 body_bytes-parts [] body more = omega arith
@@ -139,14 +139,14 @@ fits_in : (above below : Bool) → (not above && not (false && below)) ≡ true 
 fits_in true below h = cc
 fits_in false below h = refl
 
-pub promised_behind : (facts : Facts) (said : List Outgoing) (status : ℕ) (headers : List HeaderField) (parts : List (List ℕ)) (left : Option ℕ) (body : List ℕ)
+pub promised_after : (facts : Facts) (said : List Outgoing) (status : ℕ) (headers : List HeaderField) (parts : List (List ℕ)) (left : Option ℕ) (body : List ℕ)
     → said ≡ ResponseStart status headers ∷ map part parts → promised_length facts said ≡ with_sent (body_bytes said) left
     → is_allowed left (length body) true ≡ true
-    → promised_length facts (said ++ part body ∷ []) ≡ with_sent (body_bytes (said ++ part body ∷ [])) (left_behind left (length body))
-promised_behind facts said status headers parts left body e promised fits =
+    → promised_length facts (said ++ part body ∷ []) ≡ with_sent (body_bytes (said ++ part body ∷ [])) (left_after left (length body))
+promised_after facts said status headers parts left body e promised fits =
     let start : List Outgoing = ResponseStart status headers ∷ map part parts in
     let same : promised_length facts start ≡ with_sent (body_bytes start) left = subst (λ (s : List Outgoing). promised_length facts s ≡ with_sent (body_bytes s) left) e promised in
     ap (λ (s : List Outgoing). promised_length facts (s ++ part body ∷ [])) e ∙ same
     ∙ counts_down (body_bytes start) (length body) left (fits_in (is_above (length body) left) (is_below (length body) left) fits)
-    ∙ ap (λ (n : ℕ). with_sent n (left_behind left (length body))) (sym (body_bytes-parts parts body true))
-    ∙ sym (ap (λ (s : List Outgoing). with_sent (body_bytes (s ++ part body ∷ [])) (left_behind left (length body))) e)
+    ∙ ap (λ (n : ℕ). with_sent n (left_after left (length body))) (sym (body_bytes-parts parts body true))
+    ∙ sym (ap (λ (s : List Outgoing). with_sent (body_bytes (s ++ part body ∷ [])) (left_after left (length body))) e)

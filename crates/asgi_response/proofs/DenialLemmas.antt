@@ -1,4 +1,4 @@
--- A denial is lawful just as the response is that it stands for, behind which the connection closes.
+-- A lawful denial, read as a response after which the connection closes, is lawful too.
 use Rattle.std.proofs.Common.{◌≡◌, ℕ, ◌+◌, Bool, true, false, List, [], ◌∷◌, ◌++◌, inl, inr, length, map, Option, None, refl, ap, sym, ◌∙◌, subst}
 use Rattle.std.proofs.lemmas.List.{map-append}
 use Rattle.std.specs.Prelude.{◌&&◌, not, if◌then◌else◌}
@@ -56,7 +56,7 @@ module _ (facts : Facts) where
   same_promise [] = refl
   same_promise (start ∷ bodies) = ap (λ n. if facts.head_only then None else n) (let s = is_same facts start in s.given)
 
-  -- so many bytes against the promised ones, in either words
+  -- `n` bytes against the promised ones, in either words
   same_test : (test : ℕ → Option ℕ → Bool) (before : List Outgoing) (n : ℕ)
       → test (body_bytes (map as_response before) + n) (promised_length (closing_facts facts) (map as_response before)) ≡ test (body_bytes before + n) (promised_length facts before)
   same_test test before n =
@@ -104,25 +104,25 @@ module _ (facts : Facts) where
 
 -- ---- the words
 
--- where a list in other words is split, so is the list
+-- if a list in other words is split, so is the list
 record IsSplit (said before : List Outgoing) (event : Outgoing) : Type 0 where
   pub front : List Outgoing
   pub one : Outgoing
-  pub behind : List Outgoing
-  pub said_is : said ≡ front ++ one ∷ behind
+  pub later : List Outgoing
+  pub said_is : said ≡ front ++ one ∷ later
   pub before_is : map as_response front ≡ before
   pub event_is : as_response one ≡ event
 
 split : (said before after : List Outgoing) (event : Outgoing) → map as_response said ≡ before ++ event ∷ after → IsSplit said before event
 split [] [] after event h = absurd (cc (h))
 split [] (b ∷ before) after event h = absurd (cc (h))
-split (x ∷ said) [] after event h = record { front = []; one = x; behind = said; said_is = refl; before_is = refl; event_is = cc (h) }
+split (x ∷ said) [] after event h = record { front = []; one = x; later = said; said_is = refl; before_is = refl; event_is = cc (h) }
 split (x ∷ said) (b ∷ before) after event h =
     let rest = split said before after event (cc (h)) in
     record {
       front = x ∷ rest.front;
       one = rest.one;
-      behind = rest.behind;
+      later = rest.later;
       said_is = ap (λ w. x ∷ w) rest.said_is;
       before_is = cc (h, rest.before_is);
       event_is = rest.event_is;
@@ -155,7 +155,7 @@ module _ (facts : Facts) (status : ℕ) (headers : List HeaderField) (bodies : L
       → MeetsRules (closing_facts facts) before event
   each_meets lawful before after event h =
       let s = split denial before after event h in
-      let m = meets facts s.front s.one (lawful.each s.front s.behind s.one s.said_is) in
+      let m = meets facts s.front s.one (lawful.each s.front s.later s.one s.said_is) in
       subst (λ e. MeetsRules (closing_facts facts) before e) s.event_is (subst (λ l. MeetsRules (closing_facts facts) l (as_response s.one)) s.before_is m)
 
   pub is_lawful_response : IsLawful WebSocket facts (DenialStart status headers ∷ bodies) → IsLawful Http (closing_facts facts) (map as_response (DenialStart status headers ∷ bodies))

@@ -1,5 +1,5 @@
--- What the text of an answer to an opening handshake stands for behind one more event, what the event adds, and what the
--- end of the task does.
+-- What the text of a response to an opening handshake stands for after one more event, what the event adds, and what
+-- the end of the task does.
 use Rattle.std.proofs.Common.{◌≡◌, ℕ, ◌+◌, Bool, true, false, List, [], ◌∷◌, ◌++◌, ◌⊎◌, inl, inr, IsTrue, length, map, refl, ap, sym, ◌∙◌, subst, length-append, arith}
 use Rattle.std.proofs.lemmas.List.{map-append}
 use Rattle.std.specs.Prelude.{◌&&◌, ◌||◌, if◌then◌else◌}
@@ -16,7 +16,7 @@ use Rattle.asgi_protocol.specs.Shapes.{is_empty, is_denial_part, is_last_denial_
 use Rattle.asgi_response.specs.declared.progress.Progress.TheVariants.{Begun}
 use Rattle.asgi_response.specs.declared.text.ResponseText.{ResponseText}
 use Rattle.asgi_response.specs.declared.text.Phase.{Phase}
-use Rattle.asgi_response.specs.declared.text.Phase.TheVariants.{Started, Elsewhere}
+use Rattle.asgi_response.specs.declared.text.Phase.TheVariants.{Started, NotAResponse}
 use Rattle.asgi_response.specs.Accepted.{accepted}
 use Rattle.asgi_response.specs.Denial.{closing_facts, as_response, denial_text, is_decided, denial_progress}
 use Rattle.asgi_response.specs.Fields.{head_text, closes, is_chunked}
@@ -24,22 +24,22 @@ use Rattle.asgi_response.specs.Progress.{progress_of}
 use Rattle.asgi_response.specs.Response.{message_text}
 use Rattle.asgi_response.specs.Room.{LacksDenialMemory, is_denial_start}
 use Rattle.asgi_response.specs.Standing.{opens_session, HasAccepted, IsElsewhere, IsDenying, StandsForSession, Grows}
-use Rattle.asgi_response.specs.Steps.{may_start, content_due, content_at_start, part_added, after_start, after_part, after_response_event, after_session_event, after_event, added_by_response, added_by_denial, added_by, denial_starts, response_starts, starts, progress_at}
+use Rattle.asgi_response.specs.private.Steps.{may_start, content_due, content_at_start, part_added, after_start, after_part, after_response_event, after_session_event, after_event, added_by_response, added_by_denial, added_by, denial_starts, response_starts, starts, progress_at}
 use Rattle.asgi_protocol.proofs.PassingLemmas.{fronts_are_lawful}
 use Rattle.asgi_protocol.proofs.WordLemmas.{test_of_beginning}
 use Rattle.asgi_response.proofs.DenialLemmas.{is_lawful_response}
 use Rattle.asgi_response.proofs.LawfulLemmas.{lawful_is_accepted}
 use Rattle.asgi_response.proofs.ProgressLemmas.{progress_in_text}
-use Rattle.asgi_response.proofs.StandingLemmas.{accepted_behind, next_text}
+use Rattle.asgi_response.proofs.StandingLemmas.{accepted_after, next_text}
 
--- ---- which events are behind which
+-- ---- which events are after which
 
 decided_stays : (events : List Outgoing) (event : Outgoing) → is_decided events ≡ true → is_decided (events ++ event ∷ []) ≡ true
 decided_stays (WsAccept a b ∷ events) event h = refl
 decided_stays (WsClose a b ∷ events) event h = refl
 decided_stays _ event h = absurd (cc (h))
 
--- behind events that decide nothing, one that decides nothing
+-- after events that decide nothing, one that decides nothing
 undecided_stays : (events : List Outgoing) (event : Outgoing) → is_decided events ≡ false → is_decided (event ∷ []) ≡ false → is_decided (events ++ event ∷ []) ≡ false
 undecided_stays [] event h k = k
 undecided_stays (WsAccept a b ∷ events) event h k = absurd (cc (h))
@@ -69,7 +69,7 @@ neither false false h k = refl
 neither true last h k = absurd (cc (h))
 neither false true h k = absurd (cc (k))
 
--- behind a denial's start stand its bodies alone
+-- after a denial's start only its bodies follow
 no_stranger : (events : List Outgoing) (event : Outgoing) → is_denial_part event ≡ false → is_last_denial_part event ≡ false
     → begins_row is_denial_part is_last_denial_part (events ++ event ∷ []) ≡ false
 no_stranger [] event h k = neither (is_denial_part event) (is_last_denial_part event) h k
@@ -77,7 +77,7 @@ no_stranger (x ∷ events) event h k =
     no_row (is_denial_part x) (is_last_denial_part x) (begins_row is_denial_part is_last_denial_part (events ++ event ∷ [])) (is_empty (events ++ event ∷ []))
     (no_stranger events event h k) (not_empty events event)
 
--- so one that is no body is the first, where nothing was decided
+-- so one that is no body is the first, if nothing was decided
 is_first : (events : List Outgoing) (event : Outgoing) → is_denial_part event ≡ false → is_last_denial_part event ≡ false
     → is_decided events ≡ false → begins_word WebSocket (events ++ event ∷ []) ≡ true → events ≡ []
 is_first [] event h k u b = refl
@@ -125,16 +125,16 @@ module _ (facts : Facts) where
 
 -- ---- one event
 
-start_elsewhere : (t : ResponseText) (status : ℕ) (headers : List HeaderField) → t.phase ≡ Elsewhere → after_start t status headers ≡ t
+start_elsewhere : (t : ResponseText) (status : ℕ) (headers : List HeaderField) → t.phase ≡ NotAResponse → after_start t status headers ≡ t
 start_elsewhere t status headers e =
     ap (λ (p : Phase). if may_start p status (is_faulty (content_length headers))
     then record t { phase = Started (content_at_start t.version t.head_only status headers); head = head_text (is_chunked t.version status headers) (closes t.close headers) status headers; close = closes t.close headers } else t) e
 
-part_elsewhere : (t : ResponseText) (body : List ℕ) (more_body : Bool) → t.phase ≡ Elsewhere → after_part t (content_due t.phase) body more_body ≡ t
+part_elsewhere : (t : ResponseText) (body : List ℕ) (more_body : Bool) → t.phase ≡ NotAResponse → after_part t (content_due t.phase) body more_body ≡ t
 part_elsewhere t body more_body e = ap (λ (p : Phase). after_part t (content_due p) body more_body) e
 
 abbrev AtElsewhere : ResponseText → Type 0
-AtElsewhere t = (t.session ≡ true) × (t.phase ≡ Elsewhere)
+AtElsewhere t = (t.session ≡ true) × (t.phase ≡ NotAResponse)
 
 still_elsewhere : (t : ResponseText) (event : Outgoing) → AtElsewhere t → AtElsewhere (after_session_event t event)
 still_elsewhere t (DenialStart status headers) at = subst AtElsewhere (sym (start_elsewhere t status headers at.1)) at
@@ -149,13 +149,13 @@ still_elsewhere t (StartupFailed a) at = at
 still_elsewhere t ShutdownComplete at = at
 still_elsewhere t (ShutdownFailed a) at = at
 
--- behind an accept or a close nothing is of this text
+-- after an accept or a close nothing belongs to this text
 stays_elsewhere : (t : ResponseText) (events : List Outgoing) (event : Outgoing) → IsElsewhere t events → IsElsewhere (after_session_event t event) (events ++ event ∷ [])
 stays_elsewhere t events event at =
     let still : AtElsewhere (after_session_event t event) = still_elsewhere t event (at.session, at.phase) in
     record { decided = decided_stays events event at.decided; session = still.0; phase = still.1 }
 
-nothing_elsewhere : (t : ResponseText) (event : Outgoing) → t.phase ≡ Elsewhere → added_by_denial t event ≡ []
+nothing_elsewhere : (t : ResponseText) (event : Outgoing) → t.phase ≡ NotAResponse → added_by_denial t event ≡ []
 nothing_elsewhere t (DenialBody body more_body) e = ap (λ (p : Phase). part_added t.head (content_due p) body more_body) e
 nothing_elsewhere t (DenialStart a b) e = refl
 nothing_elsewhere t (WsAccept a b) e = refl
@@ -183,7 +183,7 @@ module _ (t : ResponseText) (facts : Facts) (events : List Outgoing) where
     has_accepted =
         subst (λ (u : ResponseText). HasAccepted u (closing_facts facts) (accepted (closing_facts facts) (map as_response (events ++ event ∷ [])))) (sym same)
         (subst (λ (l : List Outgoing). HasAccepted (after_response_event t (as_response event)) (closing_facts facts) (accepted (closing_facts facts) l)) (sym (map-append as_response events (event ∷ [])))
-        (accepted_behind t (closing_facts facts) (map as_response events) (as_response event) d.has_accepted));
+        (accepted_after t (closing_facts facts) (map as_response events) (as_response event) d.has_accepted));
   }
 
   -- an accept or a close comes first
@@ -207,7 +207,7 @@ module _ (t : ResponseText) (facts : Facts) (events : List Outgoing) where
   goes_on ShutdownComplete b s d = inr (denies ShutdownComplete refl refl d)
   goes_on (ShutdownFailed a) b s d = inr (denies (ShutdownFailed a) refl refl d)
 
--- ---- the text behind an event
+-- ---- the text after an event
 
 session_of : (t : ResponseText) (facts : Facts) (events : List Outgoing) → StandsForSession t facts events → t.session ≡ true
 session_of t facts events at = by at.taken
@@ -220,9 +220,9 @@ session_of t facts events at = by at.taken
 is_session_event : (t : ResponseText) (event : Outgoing) → t.session ≡ true → after_event t event ≡ after_session_event t event
 is_session_event t event s = ap (λ (b : Bool). if b then after_session_event t event else after_response_event t event) s
 
-pub denies_behind : (t new : ResponseText) (facts : Facts) (events : List Outgoing) (event : Outgoing) → new ≡ after_event t event
+pub denies_after : (t new : ResponseText) (facts : Facts) (events : List Outgoing) (event : Outgoing) → new ≡ after_event t event
     → IsLawful WebSocket facts (events ++ event ∷ []) → StandsForSession t facts events → StandsForSession new facts (events ++ event ∷ [])
-denies_behind t new facts events event e lawful at =
+denies_after t new facts events event e lawful at =
     let s : t.session ≡ true = session_of t facts events at in
     subst (λ (u : ResponseText). StandsForSession u facts (events ++ event ∷ [])) (sym (e ∙ is_session_event t event s))
     (record { opens = at.opens; taken = by s at.taken })
@@ -277,9 +277,9 @@ adds t facts events (StartupFailed a) lawful d = adds_as_response t facts events
 adds t facts events ShutdownComplete lawful d = adds_as_response t facts events ShutdownComplete lawful refl refl d
 adds t facts events (ShutdownFailed a) lawful d = adds_as_response t facts events (ShutdownFailed a) lawful refl refl d
 
-text_behind : (t : ResponseText) (facts : Facts) (events : List Outgoing) (event : Outgoing) → IsLawful WebSocket facts (events ++ event ∷ []) → StandsForSession t facts events
+text_after : (t : ResponseText) (facts : Facts) (events : List Outgoing) (event : Outgoing) → IsLawful WebSocket facts (events ++ event ∷ []) → StandsForSession t facts events
     → denial_text facts (events ++ event ∷ []) ≡ denial_text facts events ++ added_by t event
-text_behind t facts events event lawful at =
+text_after t facts events event lawful at =
     by at.taken ∙ ap (λ (b : Bool). denial_text facts events ++ (if b then added_by_denial t event else added_by_response t event)) (sym (session_of t facts events at))
   where
     by : IsElsewhere t events ⊎ IsDenying t facts events → denial_text facts (events ++ event ∷ []) ≡ denial_text facts events ++ added_by_denial t event
@@ -289,9 +289,9 @@ text_behind t facts events event lawful at =
 pub denial_grows : (t : ResponseText) (facts : Facts) (events : List Outgoing) (event : Outgoing) (old new : List ℕ) → new ≡ old ++ added_by t event
     → IsLawful WebSocket facts (events ++ event ∷ []) → StandsForSession t facts events
     → Grows (denial_text facts events) (denial_text facts (events ++ event ∷ [])) old new
-denial_grows t facts events event old new e lawful at = record { added = added_by t event; text = text_behind t facts events event lawful at; output = e }
+denial_grows t facts events event old new e lawful at = record { added = added_by t event; text = text_after t facts events event lawful at; output = e }
 
--- ---- want of memory
+-- ---- lack of memory
 
 a_start : (t : ResponseText) (event : Outgoing) → IsTrue (denial_starts t event) → IsTrue (is_denial_start event)
 a_start t (DenialStart a b) h = refl
@@ -313,10 +313,10 @@ denial_lacks t facts events event capacity len (inl start) lawful at =
     inl (a_start t event (sym (ap (λ (b : Bool). if b then denial_starts t event else response_starts t event) (session_of t facts events at)) ∙ start))
 denial_lacks t facts events event capacity len (inr room) lawful at =
     let longer : length (denial_text facts (events ++ event ∷ [])) ≡ length (denial_text facts events) + length (added_by t event) =
-    ap (λ (x : List ℕ). length x) (text_behind t facts events event lawful at) ∙ length-append (denial_text facts events) (added_by t event) in
+    ap (λ (x : List ℕ). length x) (text_after t facts events event lawful at) ∙ length-append (denial_text facts events) (added_by t event) in
     inr (omega (arith, room, longer))
 
--- ---- how far the answer is, and the end of the task
+-- ---- how far the response is, and the end of the task
 
 pub denial_progress_is : (t : ResponseText) (facts : Facts) (events : List Outgoing) → StandsForSession t facts events
     → progress_at t.phase t.close ≡ denial_progress facts events

@@ -1,4 +1,4 @@
--- Behind a closed list nothing more is accepted, and what the end of a task adds is told by how far the response is.
+-- After a closed list nothing more is accepted, and what the end of a task adds depends on how far the response is.
 use Rattle.std.proofs.Common.{◌≡◌, ◌≢◌, ℕ, Bool, true, false, ◌⊎◌, inl, inr, List, [], ◌∷◌, ◌++◌, map, refl, sym, ap, ◌∙◌, subst}
 use Rattle.std.proofs.lemmas.List.Sums.{fold-append}
 use Rattle.std.specs.List.{fold}
@@ -19,13 +19,13 @@ use Rattle.asgi_response.specs.declared.refusal.Input.TheVariants.{Broken}
 use Rattle.asgi_response.specs.Accepted.{with_event, accepted}
 use Rattle.asgi_response.specs.Exchange.{has_begun, replacement_text, end_text, added_by_end}
 use Rattle.asgi_response.specs.Laws.{BeginsWith, ClosedTextStays, BegunResponsesGetNothingMore, UnbegunResponsesAreReplaced, AddedTextOnlyGrows}
-use Rattle.asgi_response.specs.Progress.{closes_behind}
+use Rattle.asgi_response.specs.Progress.{closes_after}
 use Rattle.asgi_response.specs.Response.{message_text, continue_text, response_text}
 use Rattle.asgi_response.proofs.LawLemmas.{same_front}
 use Rattle.asgi_response.proofs.LawfulLemmas.{lawful_is_accepted}
 use Rattle.asgi_response.proofs.StandingLemmas.{not_taken}
 
--- ---- behind a closed list
+-- ---- after a closed list
 
 closed_stays : (facts : Facts) (more said : List Outgoing) → IsClosed Http said → fold (with_event facts) said more ≡ said
 closed_stays facts [] said closed = refl
@@ -48,14 +48,14 @@ closed_text_stays = record {
 
 -- ---- how far the response is
 
-begun_behind : (start : Outgoing) (parts : List (List ℕ)) (last : Outgoing) → has_begun (start ∷ (map (λ (part : List ℕ). ResponseBody part true) parts ++ last ∷ [])) ≡ true
-begun_behind start [] last = refl
-begun_behind start (p ∷ parts) last = refl
+begun_after : (start : Outgoing) (parts : List (List ℕ)) (last : Outgoing) → has_begun (start ∷ (map (λ (part : List ℕ). ResponseBody part true) parts ++ last ∷ [])) ≡ true
+begun_after start [] last = refl
+begun_after start (p ∷ parts) last = refl
 
 closed_has_begun : (said : List Outgoing) → is_closed Http said ≡ true → has_begun said ≡ true
 closed_has_begun said h =
     let r : IsResponse said = word_from_test Http said h in
-    ap has_begun r.in_order ∙ begun_behind (ResponseStart r.status r.headers) r.parts (ResponseBody r.last false)
+    ap has_begun r.in_order ∙ begun_after (ResponseStart r.status r.headers) r.parts (ResponseBody r.last false)
 
 begun_in : (closed begun close : Bool) → (closed ≡ true → begun ≡ true) → (if closed then Complete close else (if begun then Begun else Nothing)) ≢ Nothing → begun ≡ true
 begun_in true begun close h some_progress = h refl
@@ -76,7 +76,7 @@ nothing_added facts events kind input some_progress = by kind
     none =
         let said : List Outgoing = accepted facts events in
         ap (λ (b : Bool). if b then [] else replacement_text input)
-        (begun_in (is_closed Http said) (has_begun said) (closes_behind facts said) (closed_has_begun said) some_progress)
+        (begun_in (is_closed Http said) (has_begun said) (closes_after facts said) (closed_has_begun said) some_progress)
 
     by : (kind : EndKind) → added_by_end facts events kind input ≡ []
     by Returned = none
@@ -89,7 +89,7 @@ unbegun_are_replaced facts events kind input no_limit none = by kind no_limit
     answered : end_text facts events input ≡ replacement_text input
     answered =
         let said : List Outgoing = accepted facts events in
-        ap (λ (b : Bool). if b then [] else replacement_text input) (waits_in (is_closed Http said) (has_begun said) (closes_behind facts said) none)
+        ap (λ (b : Bool). if b then [] else replacement_text input) (waits_in (is_closed Http said) (has_begun said) (closes_after facts said) none)
 
     by : (kind : EndKind) → kind ≢ Idle → added_by_end facts events kind input ≡ replacement_text input
     by Returned h = answered

@@ -18,45 +18,45 @@ use Rattle.asgi_response.specs.Laws.{BeginsWith, TextOnlyGrows, EventsAddTheirTe
 pub same_front : (xs : List ℕ) → BeginsWith xs xs
 same_front xs = ([], sym (append-nil xs))
 
-behind : (front a b : List ℕ) → BeginsWith a b → BeginsWith (front ++ a) (front ++ b)
-behind front a b h = (h.0, ap (λ (x : List ℕ). front ++ x) h.1 ∙ sym (append_assoc front b h.0))
+after : (front a b : List ℕ) → BeginsWith a b → BeginsWith (front ++ a) (front ++ b)
+after front a b h = (h.0, ap (λ (x : List ℕ). front ++ x) h.1 ∙ sym (append_assoc front b h.0))
 
 longer : (a b c : List ℕ) → BeginsWith a b → BeginsWith b c → BeginsWith a c
 longer a b c h k = (k.0 ++ h.0, h.1 ∙ ap (λ (x : List ℕ). x ++ h.0) k.1 ∙ append_assoc c k.0 h.0)
 
 -- one more event adds its text
-pub message_behind : (facts : Facts) (said : List Outgoing) (event : Outgoing) → message_text facts (said ++ event ∷ []) ≡ message_text facts said ++ event_text facts said event
-message_behind facts [] (ResponseStart a b) = refl
-message_behind facts [] (ResponseBody a b) = refl
-message_behind facts [] (WsAccept a b) = refl
-message_behind facts [] (WsSend a) = refl
-message_behind facts [] (WsClose a b) = refl
-message_behind facts [] (DenialStart a b) = refl
-message_behind facts [] (DenialBody a b) = refl
-message_behind facts [] (StartupComplete a) = refl
-message_behind facts [] (StartupFailed a) = refl
-message_behind facts [] ShutdownComplete = refl
-message_behind facts [] (ShutdownFailed a) = refl
-message_behind facts (ResponseStart status headers ∷ []) event =
+pub message_after : (facts : Facts) (said : List Outgoing) (event : Outgoing) → message_text facts (said ++ event ∷ []) ≡ message_text facts said ++ event_text facts said event
+message_after facts [] (ResponseStart a b) = refl
+message_after facts [] (ResponseBody a b) = refl
+message_after facts [] (WsAccept a b) = refl
+message_after facts [] (WsSend a) = refl
+message_after facts [] (WsClose a b) = refl
+message_after facts [] (DenialStart a b) = refl
+message_after facts [] (DenialBody a b) = refl
+message_after facts [] (StartupComplete a) = refl
+message_after facts [] (StartupFailed a) = refl
+message_after facts [] ShutdownComplete = refl
+message_after facts [] (ShutdownFailed a) = refl
+message_after facts (ResponseStart status headers ∷ []) event =
     ap (λ (x : List ℕ). head_text (is_chunked facts.version status headers) (closes facts.close headers) status headers ++ x) (append-nil (body_text facts status headers event))
-message_behind facts (ResponseStart status headers ∷ body ∷ bodies) event =
+message_after facts (ResponseStart status headers ∷ body ∷ bodies) event =
     let head : List ℕ = head_text (is_chunked facts.version status headers) (closes facts.close headers) status headers in
     let text : Outgoing → List ℕ = body_text facts status headers in
     ap (λ (x : List ℕ). head ++ x) (flat_map-append text (body ∷ bodies) (event ∷ []) ∙ ap (λ (x : List ℕ). flat_map text (body ∷ bodies) ++ x) (append-nil (text event)))
     ∙ sym (append_assoc head (flat_map text (body ∷ bodies)) (text event))
-message_behind facts (ResponseBody a b ∷ said) event = refl
-message_behind facts (WsAccept a b ∷ said) event = refl
-message_behind facts (WsSend a ∷ said) event = refl
-message_behind facts (WsClose a b ∷ said) event = refl
-message_behind facts (DenialStart a b ∷ said) event = refl
-message_behind facts (DenialBody a b ∷ said) event = refl
-message_behind facts (StartupComplete a ∷ said) event = refl
-message_behind facts (StartupFailed a ∷ said) event = refl
-message_behind facts (ShutdownComplete ∷ said) event = refl
-message_behind facts (ShutdownFailed a ∷ said) event = refl
+message_after facts (ResponseBody a b ∷ said) event = refl
+message_after facts (WsAccept a b ∷ said) event = refl
+message_after facts (WsSend a ∷ said) event = refl
+message_after facts (WsClose a b ∷ said) event = refl
+message_after facts (DenialStart a b ∷ said) event = refl
+message_after facts (DenialBody a b ∷ said) event = refl
+message_after facts (StartupComplete a ∷ said) event = refl
+message_after facts (StartupFailed a ∷ said) event = refl
+message_after facts (ShutdownComplete ∷ said) event = refl
+message_after facts (ShutdownFailed a ∷ said) event = refl
 
 message_grows : (facts : Facts) (said : List Outgoing) (event : Outgoing) → BeginsWith (message_text facts (said ++ event ∷ [])) (message_text facts said)
-message_grows facts said event = (event_text facts said event, message_behind facts said event)
+message_grows facts said event = (event_text facts said event, message_after facts said event)
 
 one_grows : (facts : Facts) (said : List Outgoing) (event : Outgoing) (b : Bool)
     → BeginsWith (message_text facts (if b then said ++ event ∷ [] else said)) (message_text facts said)
@@ -74,7 +74,7 @@ along a a' b e h = (h.0, e ∙ h.1)
 
 pub text_grows : TextOnlyGrows
 text_grows facts events more =
-    behind (continue_text facts.expect) (message_text facts (accepted facts (events ++ more))) (message_text facts (accepted facts events))
+    after (continue_text facts.expect) (message_text facts (accepted facts (events ++ more))) (message_text facts (accepted facts events))
     (along _ _ _ (ap (message_text facts) (fold-append (with_event facts) [] events more)) (fold_grows facts more (accepted facts events)))
 
 -- ---- one event
@@ -89,7 +89,7 @@ pub events_add_their_text : EventsAddTheirText
 events_add_their_text = record {
   lawful = λ facts events event h.
       at_event facts events event true h
-      ∙ ap (λ (x : List ℕ). continue_text facts.expect ++ x) (message_behind facts (accepted facts events) event)
+      ∙ ap (λ (x : List ℕ). continue_text facts.expect ++ x) (message_after facts (accepted facts events) event)
       ∙ sym (append_assoc (continue_text facts.expect) (message_text facts (accepted facts events)) (event_text facts (accepted facts events) event));
   other = λ facts events event h. at_event facts events event false h;
 }

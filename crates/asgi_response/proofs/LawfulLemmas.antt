@@ -20,7 +20,7 @@ use Rattle.asgi_response.specs.Laws.{LawfulIsAccepted}
 taken : (facts : Facts) (said : List Outgoing) (event : Outgoing) → passes Http facts said event ≡ true → with_event facts said event ≡ said ++ event ∷ []
 taken facts said event h = ap (λ (b : Bool). if b then said ++ event ∷ [] else said) h
 
--- where each event passes behind those said and those before it, all of them are taken
+-- if each event passes after those sent and those before it, all of them are taken
 all_taken : (facts : Facts) (said events : List Outgoing)
     → ((before after : List Outgoing) (event : Outgoing) → events ≡ before ++ event ∷ after → passes Http facts (said ++ before) event ≡ true)
     → fold (with_event facts) said events ≡ said ++ events

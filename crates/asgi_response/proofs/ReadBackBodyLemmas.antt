@@ -151,11 +151,11 @@ is_last_line = record { has_digit = omega arith; hexadecimal = (omega arith, tt)
 
 -- whatever chunks are read of the bytes, they carry the content of these and end where these end
 chunks_are_one : (bytes : List ℕ) (chunks : Chunks) → AreChunks 0 chunks → bytes ≡ print_chunks chunks ++ crlf_bytes
-    → (limit : ℕ) (other : Chunks) (behind : List ℕ) → ReadsChunks limit bytes other behind → (content other ≡ content chunks) × (behind ≡ crlf_bytes)
-chunks_are_one bytes chunks are text limit other behind found =
+    → (limit : ℕ) (other : Chunks) (after : List ℕ) → ReadsChunks limit bytes other after → (content other ≡ content chunks) × (after ≡ crlf_bytes)
+chunks_are_one bytes chunks are text limit other after found =
     let ours : ReadsChunks limit bytes chunks crlf_bytes =
     (record { full = are.full; last = are.last; ends = are.ends; within_limit = omega (arith, are.within_limit) }, text) in
-    let same = sym (run_chunks limit bytes other behind found) ∙ run_chunks limit bytes chunks crlf_bytes ours in
+    let same = sym (run_chunks limit bytes other after found) ∙ run_chunks limit bytes chunks crlf_bytes ours in
     (ap (λ (r : Run). r.body) same, ap (λ (r : Run). r.rest) same)
 
 carried : (chunked : Bool) (parts : List (List ℕ)) (last : List ℕ) → All IsSized (parts ++ last ∷ []) → Carries chunked (bodies_text chunked parts last) (concat (parts ++ last ∷ []))
@@ -175,8 +175,8 @@ carried true parts last sized =
       well_formed = are;
       text = text;
       carried = carried_by (parts ++ last ∷ []);
-      only = λ limit other behind found.
-          let one = chunks_are_one (bodies_text true parts last) chunks are text limit other behind found in (one.0 ∙ carried_by (parts ++ last ∷ []), one.1);
+      only = λ limit other after found.
+          let one = chunks_are_one (bodies_text true parts last) chunks are text limit other after found in (one.0 ∙ carried_by (parts ++ last ∷ []), one.1);
     }
 carried false parts last sized = plain_text parts last
 

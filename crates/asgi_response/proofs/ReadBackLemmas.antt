@@ -170,7 +170,7 @@ head_sent status reason fields = record {
   last = crlf;
 }
 
--- a status line, lines of fields that can be sent and the empty line are read as this status and just these fields
+-- a status line, lines of fields that can be sent and the empty line are read as this status and exactly these fields
 pub fields_are_read_back : (status : ℕ) (reason : List ℕ) (fields : List HeaderField) (rest : List ℕ) → 100 ≤ status → status ≤ 599
     → AllPass is_value_byte reason → All IsSendable fields
     → IsReadAs ((status_line_with status reason ++ (flat_map field_line fields ++ crlf_bytes)) ++ rest) status fields rest
@@ -191,7 +191,7 @@ fields_are_read_back status reason fields rest low high phrase clean =
       reads = reads;
       code = (decimal_is_IsNumeral status (omega (arith, high))).1;
       named = sent-named fields;
-      only = λ other behind found. response_unique text other (head_sent status reason fields) behind rest found reads;
+      only = λ other after found. response_unique text other (head_sent status reason fields) after rest found reads;
     }
 
 regroup : (a b c d rest : List ℕ) → (a ++ ((b ++ c ++ d) ++ crlf_bytes)) ++ rest ≡ (a ++ b ++ c ++ d ++ crlf_bytes) ++ rest

@@ -1,4 +1,4 @@
--- A text that is one of several fits with those before it where all of them fit.
+-- A text that is one of several fits with those before it if all of them fit.
 use Rattle.std.proofs.Common.{◌≡◌, ℕ, zero, suc, ◌+◌, ◌≤◌, ◌<◌, inl, inr, List, [], ◌∷◌, length, take, get_or, flat_map, subst, Bor, arith, length-append, Option, Some, None, Result, Ok, Err, OnErr}
 use Rattle.std.proofs.lemmas.Bool.{cases_lt}
 use Rattle.std.specs.Prelude.{SomeIff, is_ok, is_some}
@@ -15,7 +15,7 @@ one_fits (t ∷ texts) (suc i) d h =
     let before : i < length texts = omega (arith, h) in
     omega (arith, size-cons t texts, size-cons t (take i texts), one_fits texts i d before)
 
--- where there is room for all, there is room for the next
+-- if there is room for all, there is room for the next
 pub has_room : (texts : List (Bor (List ℕ))) (i : ℕ) (d : Bor (List ℕ)) (len capacity len_then : ℕ) → i < length texts
     → len_then ≡ len + length (flat_map (λ (x : Bor (List ℕ)). x.now) (take i texts)) → len + length (flat_map (λ (x : Bor (List ℕ)). x.now) texts) ≤ capacity
     → capacity < len_then + length (get_or texts i d).now → ⊥
@@ -24,7 +24,7 @@ has_room texts i d len capacity len_then inside e room full = omega (arith, e, r
 at_least : (most sum : ℕ) → (sum < most → ⊥) → most ≤ sum
 at_least most sum h = elim (cases_lt sum most) [ inl less ↦ absurd (h less) | inr more ↦ more ]
 
--- where a sum is refused, it is too great
+-- if a sum is refused, it is too great
 refused_sum : {E : Type 0} (most sum : ℕ) (tried : Option ℕ) (r : Result ℕ E) (e : E) → SomeIff tried (sum < most) sum → is_ok r ≡ is_some tried → r ≡ Err e → most ≤ sum
 refused_sum most sum None r e h same is = at_least most sum h
 refused_sum most sum (Some n) (Ok m) e h same is = cc

@@ -1,4 +1,4 @@
--- The bodies of a complete response that has content are as long as its content-length says.
+-- The bodies of a complete response that has content are as long as its content-length.
 use Rattle.std.proofs.Common.{◌≡◌, ℕ, ◌+◌, Bool, true, false, List, [], ◌∷◌, ◌++◌, length, map, sym, ◌∙◌, subst, length-append, arith}
 use Rattle.std.proofs.lemmas.Bool.Decides.{nat_tests}
 use Rattle.std.specs.List.{concat}

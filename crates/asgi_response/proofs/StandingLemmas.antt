@@ -1,4 +1,4 @@
--- What a text stands for behind one more event, and what the event adds.
+-- What a text stands for after one more event, and what the event adds.
 use Rattle.std.proofs.Common.{◌≡◌, ◌≢◌, ℕ, ◌+◌, Bool, true, false, List, [], ◌∷◌, ◌++◌, length, map, flat_map, refl, sym, ap, ◌∙◌, subst, append_assoc, length-append, ◌⊎◌, inl, inr, IsTrue, arith}
 use Rattle.std.proofs.lemmas.List.{append-nil, map-append}
 use Rattle.std.proofs.lemmas.List.Concat.{flat_map-append}
@@ -18,18 +18,18 @@ use Rattle.asgi_response.specs.declared.content.Coding.{Coding}
 use Rattle.asgi_response.specs.declared.content.Content.{Content}
 use Rattle.asgi_response.specs.declared.text.ResponseText.{ResponseText}
 use Rattle.asgi_response.specs.declared.text.Phase.{Phase}
-use Rattle.asgi_response.specs.declared.text.Phase.TheVariants.{Waiting, Started, Begun, Complete, Elsewhere}
+use Rattle.asgi_response.specs.declared.text.Phase.TheVariants.{Waiting, Started, Begun, Complete, NotAResponse}
 use Rattle.asgi_response.specs.Accepted.{with_event, accepted}
 use Rattle.asgi_response.specs.Content.{part_text, has_content}
 use Rattle.asgi_response.specs.Fields.{is_chunked, closes, head_text}
-use Rattle.asgi_response.specs.Progress.{closes_behind}
+use Rattle.asgi_response.specs.Progress.{closes_after}
 use Rattle.asgi_response.specs.Response.{body_text, message_text, continue_text, response_text}
 use Rattle.asgi_types.specs.Room.{LacksRoom}
 use Rattle.asgi_response.specs.Room.{LacksMemory, is_start}
 use Rattle.asgi_response.specs.Standing.{coding_of, part, IsOpen, HasStart, HasParts, IsPhase, HasAccepted, opens_session, StandsFor, Grows}
-use Rattle.asgi_response.specs.Steps.{coded_text, is_allowed, left_at_start, content_due, next_phase, may_start, content_at_start, after_part, part_added, after_response_event, response_starts, added_by_response, after_session_event, denial_starts, added_by_denial, after_event, starts, added_by}
+use Rattle.asgi_response.specs.private.Steps.{coded_text, is_allowed, left_at_start, content_due, next_phase, may_start, content_at_start, after_part, part_added, after_response_event, response_starts, added_by_response, after_session_event, denial_starts, added_by_denial, after_event, starts, added_by}
 use Rattle.asgi_protocol.proofs.CountLemmas.{with_sent-zero}
-use Rattle.asgi_response.proofs.AcceptedLemmas.{passes_body, second_start, after_closed, first_start, first_body, other_scope, accepted-push, promised_behind}
+use Rattle.asgi_response.proofs.AcceptedLemmas.{passes_body, second_start, after_closed, first_start, first_body, other_scope, accepted-push, promised_after}
 
 -- ---- an event that passes or not
 
@@ -49,9 +49,9 @@ choose P false true t u said more e taken kept = cc
 
 -- ---- a start
 
--- in front of a start the request alone says whether the connection closes
+-- before a start the request alone determines whether the connection closes
 closes_first : (t : ResponseText) (facts : Facts) (said : List Outgoing) → HasAccepted t facts said → said ≡ [] → t.close ≡ facts.close
-closes_first t facts said at none = at.close ∙ ap (closes_behind facts) none
+closes_first t facts said at none = at.close ∙ ap (closes_after facts) none
 
 started : (t : ResponseText) (facts : Facts) (said : List Outgoing) (status : ℕ) (headers : List HeaderField) → HasAccepted t facts said → said ≡ []
     → HasAccepted (record t { phase = Started (content_at_start t.version t.head_only status headers); head = head_text (is_chunked t.version status headers) (closes t.close headers) status headers; close = closes t.close headers })
@@ -59,7 +59,7 @@ started : (t : ResponseText) (facts : Facts) (said : List Outgoing) (status : �
 started t facts said status headers at none = record {
   version = at.version;
   head_only = at.head_only;
-  close = ap (λ (b : Bool). closes b headers) (closes_first t facts said at none) ∙ sym (ap (λ (s : List Outgoing). closes_behind facts (s ++ ResponseStart status headers ∷ [])) none);
+  close = ap (λ (b : Bool). closes b headers) (closes_first t facts said at none) ∙ sym (ap (λ (s : List Outgoing). closes_after facts (s ++ ResponseStart status headers ∷ [])) none);
   expect = at.expect;
   session = at.session;
   phase = record {
@@ -93,13 +93,13 @@ start_step t facts said status headers at (Begun content) h =
     keeps t facts said (ResponseStart status headers) at (second_start facts said h.status h.headers (h.front ++ h.last ∷ []) status headers h.is_open.events)
 start_step t facts said status headers at Complete r =
     keeps t facts said (ResponseStart status headers) at (after_closed facts said (ResponseStart status headers) r)
-start_step t facts said status headers at Elsewhere never = absurd never
+start_step t facts said status headers at NotAResponse never = absurd never
 
 -- ---- a body
 
-events_behind : (said : List Outgoing) (status : ℕ) (headers : List HeaderField) (parts : List (List ℕ)) (body : List ℕ)
+events_after : (said : List Outgoing) (status : ℕ) (headers : List HeaderField) (parts : List (List ℕ)) (body : List ℕ)
     → said ≡ ResponseStart status headers ∷ map part parts → said ++ part body ∷ [] ≡ ResponseStart status headers ∷ map part (parts ++ body ∷ [])
-events_behind said status headers parts body e =
+events_after said status headers parts body e =
     ap (λ (s : List Outgoing). s ++ part body ∷ []) e ∙ ap (λ (es : List Outgoing). ResponseStart status headers ∷ es) (sym (map-append part parts (body ∷ [])))
 
 next_is : (facts : Facts) (said : List Outgoing) (status : ℕ) (headers : List HeaderField) (parts : List (List ℕ)) (content : Content) (body : List ℕ) (more : Bool)
@@ -111,9 +111,9 @@ next_is facts said status headers parts content body true o fits = record {
   front = parts;
   last = body;
   is_open = record {
-    events = events_behind said status headers parts body o.events;
+    events = events_after said status headers parts body o.events;
     coding = o.coding;
-    left = promised_behind facts said status headers parts content.left body o.events o.left fits;
+    left = promised_after facts said status headers parts content.left body o.events o.left fits;
   };
   written = refl;
 }
@@ -126,9 +126,9 @@ next_is facts said status headers parts content body false o fits = record {
 }
 
 closes_on : (facts : Facts) (said : List Outgoing) (status : ℕ) (headers : List HeaderField) (parts : List (List ℕ)) (body : List ℕ) (more : Bool)
-    → said ≡ ResponseStart status headers ∷ map part parts → closes_behind facts said ≡ closes_behind facts (said ++ ResponseBody body more ∷ [])
+    → said ≡ ResponseStart status headers ∷ map part parts → closes_after facts said ≡ closes_after facts (said ++ ResponseBody body more ∷ [])
 closes_on facts said status headers parts body more e =
-    ap (closes_behind facts) e ∙ sym (ap (λ (s : List Outgoing). closes_behind facts (s ++ ResponseBody body more ∷ [])) e)
+    ap (closes_after facts) e ∙ sym (ap (λ (s : List Outgoing). closes_after facts (s ++ ResponseBody body more ∷ [])) e)
 
 open_step : (t : ResponseText) (facts : Facts) (said : List Outgoing) (status : ℕ) (headers : List HeaderField) (parts : List (List ℕ)) (content : Content) (body : List ℕ) (more : Bool)
     → HasAccepted t facts said → IsOpen facts said status headers parts content
@@ -147,7 +147,7 @@ body_step t facts said body more at Waiting none = keeps t facts said (ResponseB
 body_step t facts said body more at (Started content) h = open_step t facts said h.status h.headers [] content body more at h.is_open
 body_step t facts said body more at (Begun content) h = open_step t facts said h.status h.headers (h.front ++ h.last ∷ []) content body more at h.is_open
 body_step t facts said body more at Complete r = keeps t facts said (ResponseBody body more) at (after_closed facts said (ResponseBody body more) r)
-body_step t facts said body more at Elsewhere never = absurd never
+body_step t facts said body more at NotAResponse never = absurd never
 
 -- ---- any event
 
@@ -165,9 +165,9 @@ event_step t facts said (StartupFailed a) at = keeps t facts said (StartupFailed
 event_step t facts said ShutdownComplete at = keeps t facts said ShutdownComplete at (other_scope facts said ShutdownComplete refl)
 event_step t facts said (ShutdownFailed a) at = keeps t facts said (ShutdownFailed a) at (other_scope facts said (ShutdownFailed a) refl)
 
-pub accepted_behind : (t : ResponseText) (facts : Facts) (events : List Outgoing) (event : Outgoing) → HasAccepted t facts (accepted facts events)
+pub accepted_after : (t : ResponseText) (facts : Facts) (events : List Outgoing) (event : Outgoing) → HasAccepted t facts (accepted facts events)
     → HasAccepted (after_response_event t event) facts (accepted facts (events ++ event ∷ []))
-accepted_behind t facts events event at =
+accepted_after t facts events event at =
     subst (λ (s : List Outgoing). HasAccepted (after_response_event t event) facts s) (sym (accepted-push facts events event)) (event_step t facts (accepted facts events) event at)
 
 no_session : (framing : Framing) → framing ≢ Upgrade → opens_session framing ≡ false
@@ -179,13 +179,13 @@ answers_request : (t : ResponseText) (facts : Facts) (events : List Outgoing) �
 answers_request t facts events at =
     let has : HasAccepted t facts (accepted facts events) = at.has_accepted in has.session ∙ no_session facts.framing at.plain
 
-pub stands_behind : (t new : ResponseText) (facts : Facts) (events : List Outgoing) (event : Outgoing) → new ≡ after_event t event
+pub stands_after : (t new : ResponseText) (facts : Facts) (events : List Outgoing) (event : Outgoing) → new ≡ after_event t event
     → StandsFor t facts events → StandsFor new facts (events ++ event ∷ [])
-stands_behind t new facts events event e at = record {
+stands_after t new facts events event e at = record {
   plain = at.plain;
   has_accepted = subst (λ (u : ResponseText). HasAccepted u facts (accepted facts (events ++ event ∷ [])))
       (sym (e ∙ ap (λ (b : Bool). if b then after_session_event t event else after_response_event t event) (answers_request t facts events at)))
-      (accepted_behind t facts events event at.has_accepted);
+      (accepted_after t facts events event at.has_accepted);
 }
 
 -- ---- what the event adds
@@ -202,7 +202,7 @@ body_coded : (facts : Facts) (status : ℕ) (headers : List HeaderField) (coding
 body_coded facts status headers coding body more e =
     coded_is (has_content facts.head_only status) (is_chunked facts.version status headers) body more ∙ ap (λ (c : Coding). coded_text c body more) (sym e)
 
--- the text of a start and what is behind it, where that is not empty
+-- the text of a start and what is after it, if that is not empty
 message_push : (facts : Facts) (status : ℕ) (headers : List HeaderField) (first : Outgoing) (bodies : List Outgoing) (event : Outgoing)
     → message_text facts ((ResponseStart status headers ∷ first ∷ bodies) ++ event ∷ [])
     ≡ message_text facts (ResponseStart status headers ∷ first ∷ bodies) ++ body_text facts status headers event
@@ -260,7 +260,7 @@ body_adds facts said head body more (Begun content) h =
     choose_text (is_allowed content.left (length body) more) (passes Http facts said (ResponseBody body more)) said (said ++ ResponseBody body more ∷ []) facts (head ++ coded_text content.coding body more)
     (passes_body facts said h.status h.headers (h.front ++ h.last ∷ []) content.left body more h.is_open.events h.is_open.left) (later_part facts said content head body more h)
 body_adds facts said head body more Complete r = nothing_added facts said (ResponseBody body more) (after_closed facts said (ResponseBody body more) r)
-body_adds facts said head body more Elsewhere never = absurd never
+body_adds facts said head body more NotAResponse never = absurd never
 
 -- a start alone has no text
 start_alone : (facts : Facts) (said : List Outgoing) (status : ℕ) (headers : List HeaderField) (b : Bool) → said ≡ []
@@ -277,7 +277,7 @@ start_adds facts said head status headers (Started content) h =
 start_adds facts said head status headers (Begun content) h =
     nothing_added facts said (ResponseStart status headers) (second_start facts said h.status h.headers (h.front ++ h.last ∷ []) status headers h.is_open.events)
 start_adds facts said head status headers Complete r = nothing_added facts said (ResponseStart status headers) (after_closed facts said (ResponseStart status headers) r)
-start_adds facts said head status headers Elsewhere never = absurd never
+start_adds facts said head status headers NotAResponse never = absurd never
 
 event_adds : (t : ResponseText) (facts : Facts) (said : List Outgoing) (event : Outgoing) → HasAccepted t facts said
     → message_text facts (with_event facts said event) ≡ message_text facts said ++ added_by_response t event
@@ -298,26 +298,26 @@ pub next_text : (t : ResponseText) (facts : Facts) (events : List Outgoing) (eve
 next_text t facts events event at =
     ap (message_text facts) (accepted-push facts events event) ∙ event_adds t facts (accepted facts events) event at
 
-text_behind : (t : ResponseText) (facts : Facts) (events : List Outgoing) (event : Outgoing) → StandsFor t facts events
+text_after : (t : ResponseText) (facts : Facts) (events : List Outgoing) (event : Outgoing) → StandsFor t facts events
     → response_text facts (events ++ event ∷ []) ≡ response_text facts events ++ added_by t event
-text_behind t facts events event at =
+text_after t facts events event at =
     let front : List ℕ = continue_text facts.expect in
     ap (λ (x : List ℕ). front ++ x) (next_text t facts events event at.has_accepted)
     ∙ sym (append_assoc front (message_text facts (accepted facts events)) (added_by_response t event))
     ∙ ap (λ (b : Bool). response_text facts events ++ (if b then added_by_denial t event else added_by_response t event)) (sym (answers_request t facts events at))
 
-pub grows_behind : (t : ResponseText) (facts : Facts) (events : List Outgoing) (event : Outgoing) (old new : List ℕ) → new ≡ old ++ added_by t event
+pub grows_after : (t : ResponseText) (facts : Facts) (events : List Outgoing) (event : Outgoing) (old new : List ℕ) → new ≡ old ++ added_by t event
     → StandsFor t facts events → Grows (response_text facts events) (response_text facts (events ++ event ∷ [])) old new
-grows_behind t facts events event old new e at = record { added = added_by t event; text = text_behind t facts events event at; output = e }
+grows_after t facts events event old new e at = record { added = added_by t event; text = text_after t facts events event at; output = e }
 
--- where a text starts, the start is lawful
+-- if a text starts, the start is lawful
 first_passes : (facts : Facts) (said : List Outgoing) (head : List ℕ) (status : ℕ) (headers : List HeaderField) (phase : Phase) → IsPhase facts said head phase
     → IsTrue (may_start phase status (is_faulty (content_length headers))) → IsTrue (passes Http facts said (ResponseStart status headers))
 first_passes facts said head status headers Waiting none h = first_start facts said status headers none ∙ h
 first_passes facts said head status headers (Started content) at h = cc
 first_passes facts said head status headers (Begun content) at h = cc
 first_passes facts said head status headers Complete at h = cc
-first_passes facts said head status headers Elsewhere at h = cc
+first_passes facts said head status headers NotAResponse at h = cc
 
 start_passes : (t : ResponseText) (facts : Facts) (said : List Outgoing) (event : Outgoing) → HasAccepted t facts said → IsTrue (response_starts t event)
     → IsTrue (is_start event && passes Http facts said event)
@@ -333,14 +333,14 @@ start_passes t facts said (StartupFailed a) at h = cc
 start_passes t facts said ShutdownComplete at h = cc
 start_passes t facts said (ShutdownFailed a) at h = cc
 
--- an event is refused where its own head, or the output, has no room
-pub lacks_behind : (t : ResponseText) (facts : Facts) (events : List Outgoing) (event : Outgoing) (capacity len : ℕ)
+-- an event is refused if its own head, or the output, has no room
+pub lacks_after : (t : ResponseText) (facts : Facts) (events : List Outgoing) (event : Outgoing) (capacity len : ℕ)
     → IsTrue (starts t event) ⊎ LacksRoom capacity len (added_by t event) → StandsFor t facts events
     → LacksMemory capacity len facts events event
-lacks_behind t facts events event capacity len (inl start) at =
+lacks_after t facts events event capacity len (inl start) at =
     inl (start_passes t facts (accepted facts events) event at.has_accepted
     (ap (λ (b : Bool). if b then denial_starts t event else response_starts t event) (sym (answers_request t facts events at)) ∙ start))
-lacks_behind t facts events event capacity len (inr room) at =
+lacks_after t facts events event capacity len (inr room) at =
     let longer : length (response_text facts (events ++ event ∷ [])) ≡ length (response_text facts events) + length (added_by t event) =
-    ap (λ (x : List ℕ). length x) (text_behind t facts events event at) ∙ length-append (response_text facts events) (added_by t event) in
+    ap (λ (x : List ℕ). length x) (text_after t facts events event at) ∙ length-append (response_text facts events) (added_by t event) in
     inr (omega (arith, room, longer))

@@ -39,7 +39,7 @@ goes_on_well : (b : Bool) (x : Outgoing) (xs : List Outgoing) (event : Outgoing)
 goes_on_well true x xs event h = same_begin x xs event ∙ h
 goes_on_well false x xs event h = h
 
--- nothing begins, where the first event does not pass
+-- nothing begins if the first event does not pass
 not_begun : (b : Bool) (event : Outgoing) → b ≡ false → begins_well (if b then event ∷ [] else []) ≡ true
 unfolding begins_well
 not_begun true event h = cc

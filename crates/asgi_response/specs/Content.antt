@@ -12,13 +12,13 @@ chunk data_bytes = digits 16 false (length data_bytes) ++ crlf_bytes ++ data_byt
 abbrev pub last_chunk : List ℕ
 last_chunk = codes "0" ++ crlf_bytes ++ crlf_bytes
 
--- a part of the content, and behind the last part of chunked content the last chunk; a part of no bytes is no chunk,
--- since that would be the last one
+-- a part of the content, and after the last part of chunked content the last chunk; a part of no bytes is no chunk,
+-- since that would be the last chunk
 abbrev pub part_text : Bool → List ℕ → Bool → List ℕ
 part_text chunked body more_body =
     (if length body == 0 then [] else (if chunked then chunk body else body))
     ++ (if chunked && not more_body then last_chunk else [])
 
--- an answer to HEAD, 204 and 304 have no content (section 6.3, rule 1)
+-- a response to HEAD, or one with 204 or 304, has no content (section 6.3, rule 1)
 abbrev pub has_content : Bool → ℕ → Bool
 has_content head_only status = not head_only && not (has_no_content status)

@@ -11,11 +11,11 @@ use Rattle.asgi_response.specs.Exchange.{end_text}
 use Rattle.asgi_response.specs.Progress.{progress_of}
 use Rattle.asgi_response.specs.Response.{message_text}
 
--- a denial is a response behind which the connection closes
+-- a denial is a response after which the connection closes
 abbrev pub closing_facts : Facts → Facts
 closing_facts facts = record facts { close = true }
 
--- the event of a response that an event of a denial stands for
+-- the event of a response that corresponds to an event of a denial
 abbrev pub as_response : Outgoing → Outgoing
 as_response (DenialStart status headers) = ResponseStart status headers
 as_response (DenialBody body more_body) = ResponseBody body more_body
@@ -25,19 +25,19 @@ as_response event = event
 abbrev pub denial_text : Facts → List Outgoing → List ℕ
 denial_text facts events = message_text (closing_facts facts) (map as_response events)
 
--- an accept or a close was said: what is written of them is no response of the application
+-- an accept or a close was sent: what is written for them is no response of the application
 abbrev pub is_decided : List Outgoing → Bool
 is_decided (WsAccept subprotocol headers ∷ events) = true
 is_decided (WsClose code reason ∷ events) = true
 is_decided _ = false
 
--- What the end of a task adds: nothing behind an accept or a close; else what it adds to the response. So a task that
--- said nothing, or a denial's start alone, leaves 500.
+-- What the end of a task adds: nothing after an accept or a close; otherwise what it adds to the response. So a task
+-- that sent nothing, or a denial's start alone, leaves 500.
 abbrev pub denial_end_text : Facts → List Outgoing → Input → List ℕ
 denial_end_text facts events input =
     if is_decided events then [] else end_text (closing_facts facts) (map as_response events) input
 
--- how far the answer to the handshake is
+-- how far the response to the handshake is
 abbrev pub denial_progress : Facts → List Outgoing → Progress
 denial_progress facts events =
     if is_decided events then Begun else progress_of (closing_facts facts) (map as_response events)

@@ -15,7 +15,7 @@ use Rattle.asgi_response.specs.Response.{response_text}
 abbrev pub closing_fields : List ℕ
 closing_fields = codes "content-length: 0" ++ crlf_bytes ++ codes "connection: close" ++ crlf_bytes
 
--- 426 also says which protocol and which version of it are served (RFC 9110, section 15.5.22; RFC 6455, section 4.4)
+-- 426 also names the protocol and the version of it that are served (RFC 9110, section 15.5.22; RFC 6455, section 4.4)
 abbrev pub upgrade_fields : List ℕ
 upgrade_fields =
     codes "upgrade: websocket" ++ crlf_bytes ++ codes "sec-websocket-version: 13" ++ crlf_bytes
@@ -30,14 +30,14 @@ abbrev pub has_begun : List Outgoing → Bool
 has_begun (start ∷ body ∷ bodies) = true
 has_begun _ = false
 
--- the answer in place of a response that never began: to a whole request, to one whose body is faulty, to one that
--- was broken off
+-- what replaces a response that never began: for a whole request, for one whose body is faulty, for one that was broken
+-- off
 abbrev pub replacement_text : Input → List ℕ
 replacement_text Whole = refusal_text 500
 replacement_text (Faulty status) = refusal_text status
 replacement_text Broken = []
 
--- what the end of a task adds that returned or faulted; a response that has begun is left as it is
+-- what the end of a task that returned or faulted adds; a response that has begun is left as it is
 abbrev pub end_text : Facts → List Outgoing → Input → List ℕ
 end_text facts events input = if has_begun (accepted facts events) then [] else replacement_text input
 
@@ -47,6 +47,6 @@ added_by_end facts events Returned input = end_text facts events input
 added_by_end facts events Faulted input = end_text facts events input
 added_by_end facts events Idle input = []
 
--- the text of an exchange, by its events, how its task ended, and the body of its request
+-- the text of an exchange, from its events, how its task ended, and the body of its request
 abbrev pub exchange_text : Facts → List Outgoing → EndKind → Input → List ℕ
 exchange_text facts events kind input = response_text facts events ++ added_by_end facts events kind input

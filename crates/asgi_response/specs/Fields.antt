@@ -14,14 +14,14 @@ use Rattle.asgi_types.specs.Tokens.{has_token}
 abbrev pub field_line : HeaderField → List ℕ
 field_line f = f.name ++ codes ": " ++ f.value ++ crlf_bytes
 
--- A field of the name is the application's to say: the server alone says how the message is framed and whether it
+-- An application's field of this name is sent: the server alone determines how the message is framed and whether it
 -- closes, and 204 has no content-length (RFC 9110, section 8.6).
 abbrev pub is_shown : ℕ → List ℕ → Bool
 is_shown status name =
     not (bytes_eq name (codes "transfer-encoding")) && not (bytes_eq name (codes "connection"))
     && not (status == 204 && bytes_eq name (codes "content-length"))
 
--- the lines of the application's fields, in its order
+-- the lines of the application's fields, in the application's order
 abbrev pub field_lines : ℕ → List HeaderField → List ℕ
 field_lines status headers = flat_map field_line (filter (λ f. is_shown status f.name) headers)
 
@@ -29,11 +29,11 @@ field_lines status headers = flat_map field_line (filter (λ f. is_shown status 
 abbrev pub gives_no_length : List HeaderField → Bool
 gives_no_length headers = is_absent (content_length headers)
 
--- The content is chunked where its length is not given (section 6.1), in an answer to HTTP/1.1 alone.
+-- The content is chunked if its length is not given (section 6.1), in a response to HTTP/1.1 alone.
 abbrev pub is_chunked : HttpVersion → ℕ → List HeaderField → Bool
 is_chunked version status headers = is_v11 version && gives_no_length headers && not (has_no_content status)
 
--- the response says `close` where the connection closes for the request, or the application says so (section 9.6)
+-- the response has `close` if the connection closes for the request, or if the application sends it (section 9.6)
 abbrev pub closes : Bool → List HeaderField → Bool
 closes close headers = close || has_token headers (codes "connection") (codes "close")
 

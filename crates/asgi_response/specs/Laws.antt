@@ -17,7 +17,7 @@ use Rattle.asgi_response.specs.Exchange.{replacement_text, added_by_end}
 use Rattle.asgi_response.specs.Progress.{progress_of}
 use Rattle.asgi_response.specs.Response.{event_text, response_text}
 
--- the one list begins with the other
+-- the first list begins with the second
 abbrev pub BeginsWith : List ℕ → List ℕ → Type 0
 BeginsWith whole front = (rest : List ℕ) × (whole ≡ front ++ rest)
 
@@ -25,14 +25,14 @@ BeginsWith whole front = (rest : List ℕ) × (whole ≡ front ++ rest)
 abbrev pub TextOnlyGrows : Type 0
 TextOnlyGrows = (facts : Facts) (events more : List Outgoing) → BeginsWith (response_text facts (events ++ more)) (response_text facts events)
 
--- the text grows by that of each event that is lawful in its place, and by nothing for any other
+-- the text grows by that of each event that is lawful in its place, and for any other event it stays the same
 pub record EventsAddTheirText : Type 0 where
   pub lawful : (facts : Facts) (events : List Outgoing) (event : Outgoing) → passes Http facts (accepted facts events) event ≡ true
       → response_text facts (events ++ event ∷ []) ≡ response_text facts events ++ event_text facts (accepted facts events) event
   pub other : (facts : Facts) (events : List Outgoing) (event : Outgoing) → passes Http facts (accepted facts events) event ≡ false
       → response_text facts (events ++ event ∷ []) ≡ response_text facts events
 
--- events that a judge passes one behind the other are accepted whole
+-- events that a judge passes in this order are accepted whole
 abbrev pub PassedIsAccepted : Type 0
 PassedIsAccepted = (facts : Facts) (events : List Outgoing) (heard : Bool) (event : Outgoing)
     → accepted facts events ≡ events → verdict_on Http facts events heard event ≡ Pass
@@ -42,7 +42,7 @@ PassedIsAccepted = (facts : Facts) (events : List Outgoing) (heard : Bool) (even
 abbrev pub LawfulIsAccepted : Type 0
 LawfulIsAccepted = (facts : Facts) (events : List Outgoing) → IsLawful Http facts events → accepted facts events ≡ events
 
--- behind a closed list nothing more is accepted, and its text stays, whatever events follow
+-- after a closed list nothing more is accepted, and its text stays the same, whatever events follow
 pub record ClosedTextStays : Type 0 where
   pub nothing_more : (facts : Facts) (events more : List Outgoing) → IsClosed Http (accepted facts events) → accepted facts (events ++ more) ≡ accepted facts events
   pub text : (facts : Facts) (events more : List Outgoing) → IsClosed Http (accepted facts events) → response_text facts (events ++ more) ≡ response_text facts events
@@ -53,7 +53,7 @@ abbrev pub BegunResponsesGetNothingMore : Type 0
 BegunResponsesGetNothingMore = (facts : Facts) (events : List Outgoing) (kind : EndKind) (input : Input)
     → progress_of facts events ≢ Nothing → added_by_end facts events kind input ≡ []
 
--- one that has not begun gets the answer in its place, where its task returned or faulted
+-- a response that has not begun is replaced, if its task returned or faulted
 abbrev pub UnbegunResponsesAreReplaced : Type 0
 UnbegunResponsesAreReplaced = (facts : Facts) (events : List Outgoing) (kind : EndKind) (input : Input)
     → kind ≢ Idle → progress_of facts events ≡ Nothing → added_by_end facts events kind input ≡ replacement_text input

@@ -9,7 +9,7 @@ pub mod Denial
 pub mod Standing
 pub mod Laws
 pub mod Refusals
-pub mod Steps
+pub mod private
 pub mod Room
 pub mod ReadBack
 pub mod ReadBackBody

@@ -11,16 +11,16 @@ use Rattle.asgi_response.specs.Accepted.{accepted}
 use Rattle.asgi_response.specs.Exchange.{has_begun}
 use Rattle.asgi_response.specs.Fields.{closes}
 
--- the connection closes behind these events: for the request, or because the start says so
-abbrev pub closes_behind : Facts → List Outgoing → Bool
-closes_behind facts (ResponseStart status headers ∷ bodies) = closes facts.close headers
-closes_behind facts _ = facts.close
+-- the connection closes after these events: because of the request, or because of the start's fields
+abbrev pub closes_after : Facts → List Outgoing → Bool
+closes_after facts (ResponseStart status headers ∷ bodies) = closes facts.close headers
+closes_after facts _ = facts.close
 
--- the last body is there; or a start and a body; or less
+-- the last body has been sent; or a start and a body; or less
 abbrev pub progress_in : Facts → List Outgoing → Progress
 progress_in facts said =
-    if is_closed Http said then Complete (closes_behind facts said) else (if has_begun said then Begun else Nothing)
+    if is_closed Http said then Complete (closes_after facts said) else (if has_begun said then Begun else Nothing)
 
--- how far the response is, of which these events are said
+-- how far the response is after these events were sent
 abbrev pub progress_of : Facts → List Outgoing → Progress
 progress_of facts events = progress_in facts (accepted facts events)

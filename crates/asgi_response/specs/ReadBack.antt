@@ -18,24 +18,24 @@ fields_sent chunked closing status headers =
     ++ (if chunked then (record { name = codes "transfer-encoding"; value = codes "chunked" }) ∷ [] else [])
     ++ (if closing then (record { name = codes "connection"; value = codes "close" }) ∷ [] else [])
 
--- a field as it is read: without the blanks around its value
+-- a field as it is read: without the whitespace around its value
 abbrev pub as_read : HeaderField → List ℕ × List ℕ
 as_read f = (f.name, trim_ows f.value)
 
--- The bytes begin with the head of a response of this status and of just these fields, and the rest follows. There is no
--- other reading: whatever head is read of the bytes is this one, and ends where it ends.
+-- The bytes begin with the head of a response with this status and exactly these fields, and the rest follows. There is no other
+-- reading: any head that is read from the bytes is this one, and ends where it ends.
 pub record IsReadAs (bytes : List ℕ) (status : ℕ) (fields : List HeaderField) (rest : List ℕ) : Type 0 where
   pub head : ResponseHead
   pub reads : ReadsResponse bytes head rest
   pub code : status_code head ≡ status
   pub named : map name_and_value head.fields ≡ map as_read fields
-  pub only : (other : ResponseHead) (behind : List ℕ) → ReadsResponse bytes other behind → (other ≡ head) × (behind ≡ rest)
+  pub only : (other : ResponseHead) (after : List ℕ) → ReadsResponse bytes other after → (other ≡ head) × (after ≡ rest)
 
 -- the head of a response with these fields is read back: no value can add a line to it
 abbrev pub IsHeadReadBack : List HeaderField → Type 0
 IsHeadReadBack headers = (chunked closing : Bool) (status : ℕ) (rest : List ℕ) → 200 ≤ status → status ≤ 599
     → IsReadAs (head_text chunked closing status headers ++ rest) status (fields_sent chunked closing status headers) rest
 
--- so it is with all fields that can be sent
+-- the same for all fields that can be sent
 abbrev pub HeadIsReadBack : Type 0
 HeadIsReadBack = (headers : List HeaderField) → All IsSendable headers → IsHeadReadBack headers

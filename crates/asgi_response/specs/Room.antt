@@ -1,4 +1,4 @@
--- When an event may be refused for want of memory: only where the output had no room for what it adds.
+-- When an event may be refused for lack of memory: only if a start's head, or the output, had no room.
 use Rattle.std.specs.Prelude.{ℕ, ◌+◌, ◌<◌, ◌⊎◌, ◌&&◌, Bool, true, false, IsTrue, List, [], ◌∷◌, ◌++◌, length}
 use Rattle.asgi_types.specs.declared.facts.Facts.{Facts}
 use Rattle.asgi_types.specs.declared.scope.Kind.TheVariants.{Http}

@@ -14,14 +14,14 @@ use Rattle.asgi_response.specs.declared.content.Coding.{Coding}
 use Rattle.asgi_response.specs.declared.content.Coding.TheVariants.{Nothing, Plain, Chunked}
 use Rattle.asgi_response.specs.declared.content.Content.{Content}
 use Rattle.asgi_response.specs.declared.text.Phase.{Phase}
-use Rattle.asgi_response.specs.declared.text.Phase.TheVariants.{Waiting, Started, Begun, Complete, Elsewhere}
+use Rattle.asgi_response.specs.declared.text.Phase.TheVariants.{Waiting, Started, Begun, Complete, NotAResponse}
 use Rattle.asgi_response.specs.Fields.{is_chunked, closes, head_text}
 use Rattle.asgi_response.specs.Content.{has_content}
 use Rattle.asgi_response.specs.Accepted.{accepted}
 use Rattle.asgi_response.specs.Denial.{closing_facts, as_response, is_decided}
-use Rattle.asgi_response.specs.Progress.{closes_behind}
+use Rattle.asgi_response.specs.Progress.{closes_after}
 
--- how the bodies are written, where the response has content or not, and in chunks or not
+-- how the bodies are written, by whether the response has content, and whether in chunks
 abbrev pub coding_of : Bool → Bool → Coding
 coding_of content chunked = if content then (if chunked then Chunked else Plain) else Nothing
 
@@ -33,7 +33,7 @@ opens_session _ = false
 abbrev pub part : List ℕ → Outgoing
 part body = ResponseBody body true
 
--- a start and the parts behind it, and what it says of the content
+-- a start and the parts after it, and the state of the content
 pub record IsOpen (facts : Facts) (said : List Outgoing) (status : ℕ) (headers : List HeaderField) (parts : List (List ℕ)) (content : Content) : Type 0 where
   pub events : said ≡ ResponseStart status headers ∷ map part parts
   pub coding : content.coding ≡ coding_of (has_content facts.head_only status) (is_chunked facts.version status headers)
@@ -46,7 +46,7 @@ pub record HasStart (facts : Facts) (said : List Outgoing) (content : Content) (
   pub is_open : IsOpen facts said status headers [] content
   pub text : head ≡ head_text (is_chunked facts.version status headers) (closes facts.close headers) status headers
 
--- a start and one part or more, of which all is written
+-- a start and one part or more, all of it written
 pub record HasParts (facts : Facts) (said : List Outgoing) (content : Content) (head : List ℕ) : Type 0 where
   pub status : ℕ
   pub headers : List HeaderField
@@ -55,45 +55,45 @@ pub record HasParts (facts : Facts) (said : List Outgoing) (content : Content) (
   pub is_open : IsOpen facts said status headers (front ++ last ∷ []) content
   pub written : head ≡ []
 
--- the phase of a response of which these events were accepted
+-- the phase of a response after these events were accepted
 abbrev pub IsPhase : Facts → List Outgoing → List ℕ → Phase → Type 0
 IsPhase facts said head Waiting = said ≡ []
 IsPhase facts said head (Started content) = HasStart facts said content head
 IsPhase facts said head (Begun content) = HasParts facts said content head
 IsPhase facts said head Complete = IsResponse said
-IsPhase facts said head Elsewhere = ⊥
+IsPhase facts said head NotAResponse = ⊥
 
 -- the text has accepted these events
 pub record HasAccepted (text : ResponseText) (facts : Facts) (said : List Outgoing) : Type 0 where
   pub version : text.version ≡ facts.version
   pub head_only : text.head_only ≡ facts.head_only
-  pub close : text.close ≡ closes_behind facts said
+  pub close : text.close ≡ closes_after facts said
   pub expect : text.expect ≡ facts.expect
   pub session : text.session ≡ opens_session facts.framing
   pub phase : IsPhase facts said text.head text.phase
 
--- the text has taken these events, which answer a request that opens no session
+-- the text has taken these events, for a request that opens no session
 pub record StandsFor (text : ResponseText) (facts : Facts) (events : List Outgoing) : Type 0 where
   pub plain : facts.framing ≢ Upgrade
   pub has_accepted : HasAccepted text facts (accepted facts events)
 
--- an accept or a close was said, which this text is not of
+-- an accept or a close was sent, which is no part of this text
 pub record IsElsewhere (text : ResponseText) (events : List Outgoing) : Type 0 where
   pub decided : is_decided events ≡ true
   pub session : text.session ≡ true
-  pub phase : text.phase ≡ Elsewhere
+  pub phase : text.phase ≡ NotAResponse
 
--- a denial or nothing was said so far
+-- so far the events are a denial or none
 pub record IsDenying (text : ResponseText) (facts : Facts) (events : List Outgoing) : Type 0 where
   pub undecided : is_decided events ≡ false
   pub has_accepted : HasAccepted text (closing_facts facts) (accepted (closing_facts facts) (map as_response events))
 
--- the text has taken these events, which answer an opening handshake
+-- the text has taken these events, for an opening handshake
 pub record StandsForSession (text : ResponseText) (facts : Facts) (events : List Outgoing) : Type 0 where
   pub opens : facts.framing ≡ Upgrade
   pub taken : IsElsewhere text events ⊎ IsDenying text facts events
 
--- the output grew by just what makes the one text the other
+-- the output grew by exactly the difference between the two texts
 pub record Grows (before after old new : List ℕ) : Type 0 where
   pub added : List ℕ
   pub text : after ≡ before ++ added

@@ -6,8 +6,8 @@ ghost use Rattle.std.specs.Fmt.{digits, digit_glyph};
 
 use std::alloc::AllocError;
 
-/// Appends the texts, one behind the other, in one reservation. `AllocError` where memory is
-/// refused; then the vector is as before. It is for the crates of this repository only.
+/// Appends the texts in order, in one reservation. `AllocError` if memory is refused; then the
+/// vector is as before. For the crates of this repository only.
 #[doc(hidden)]
 pub fn append_all(out: &mut Vec<u8>, texts: &[&[u8]]) -> Result<(), AllocError>
     ensures ok { OnOk result (out.new.items ≡ out.old.items ++ flat_map (λ text. text.now) texts.now) }
@@ -17,14 +17,14 @@ pub fn append_all(out: &mut Vec<u8>, texts: &[&[u8]]) -> Result<(), AllocError>
 {
     out.reserve(total_len(texts)?)?;
     for text in texts {
-        // The room is there, so this never fails: only its type says that it may.
+        // The room is reserved, so this never fails: only its type allows an error.
         out.extend_from_slice(*text)?;
     }
     Ok(())
 }
 
-/// How many bytes the texts have together. `AllocError` where a `usize` can't say it: no memory
-/// holds so many.
+/// How many bytes the texts have together. `AllocError` if that does not fit a `usize`: no memory
+/// holds that many.
 pub fn total_len(texts: &[&[u8]]) -> Result<usize, AllocError>
     ensures ok { IfOk result (λ n. n ≡ length (flat_map (λ text. text.now) texts.now)) }
     ensures err { OnErr result (2 ^ 64 ≤ length (flat_map (λ text. text.now) texts.now)) }
@@ -36,8 +36,8 @@ pub fn total_len(texts: &[&[u8]]) -> Result<usize, AllocError>
     Ok(total)
 }
 
-/// Puts the number in lowercase hexadecimal, without leading zeros, at the end of the buffer, and
-/// says at which index it begins. So is the size of a chunk spelled (RFC 9112, section 7.1).
+/// Writes the number in lowercase hexadecimal, without leading zeros, at the end of the buffer, and
+/// returns the index at which it begins: the form of a chunk size (RFC 9112, section 7.1).
 pub fn hexadecimal(number: usize, buffer: &mut [u8; 16]) -> usize
     ensures inside { result ≤ 16 }
     ensures digits { drop result buffer.new ≡ digits 16 false number }

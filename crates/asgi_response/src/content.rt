@@ -6,7 +6,7 @@ use asgi_protocol::BytesLeft;
 /// How the bodies are written (RFC 9112, section 6).
 #[derive(Clone, Copy, Debug, PartialEq, Eq)]
 pub enum Coding {
-    /// The response has no content: an answer to HEAD, 204 or 304 (RFC 9112, section 6.3).
+    /// The response has no content: it answers HEAD, or is 204 or 304 (RFC 9112, section 6.3).
     Nothing,
     /// The bytes as they are: by their length, or until the connection closes (RFC 9112,
     /// section 6.3).
@@ -15,21 +15,21 @@ pub enum Coding {
     Chunked,
 }
 
-/// What the bodies behind a start may be.
+/// What the bodies after a start may be.
 #[derive(Clone, Copy, Debug, PartialEq, Eq)]
 pub struct Content {
     /// How the bodies are written.
     pub coding: Coding,
-    /// The bytes that are left of those that `content-length` promised, where it promised any.
+    /// The bytes that are left of those that `content-length` promised, if it promised any.
     pub left: BytesLeft,
 }
 
 impl Content {
-    ghost use Rattle.asgi_protocol.specs.BytesLeft.{left_behind};
-    ghost use Rattle.asgi_response.specs.Steps.{is_allowed};
+    ghost use Rattle.asgi_protocol.specs.BytesLeft.{left_after};
+    ghost use Rattle.asgi_response.specs.private.Steps.{is_allowed};
 
-    /// Whether a body of `len` bytes is neither too much nor, where it is the last, too little for
-    /// what `content-length` promised (RFC 9110, section 8.6).
+    /// Whether a body of `len` bytes is neither too long nor, if it is the last, too short for what
+    /// `content-length` promised (RFC 9110, section 8.6).
     pub fn allows(&self, len: usize, more_body: bool) -> bool
         ensures { result ≡ is_allowed self.now.left len more_body }
     {
@@ -39,14 +39,14 @@ impl Content {
         more_body || !self.left.exceeds(len)
     }
 
-    /// What the bodies may be behind one of `len` bytes.
-    pub fn behind(self, len: usize) -> Self
+    /// What the bodies may be after one of `len` bytes.
+    pub fn after(self, len: usize) -> Self
         ensures coding { result.coding ≡ self.coding }
-        ensures left { result.left ≡ left_behind self.left len }
+        ensures left { result.left ≡ left_after self.left len }
     {
         Content {
             coding: self.coding,
-            left: self.left.behind(len),
+            left: self.left.after(len),
         }
     }
 }

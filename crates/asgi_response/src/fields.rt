@@ -1,4 +1,4 @@
-//! What the fields of a response say of its framing.
+//! What the fields of a response determine about its framing.
 ghost use Rattle.std.specs.Prelude.{◌≡◌, ◌||◌};
 ghost use Rattle.asgi_response.specs.Fields as fields;
 
@@ -12,7 +12,7 @@ pub const CONNECTION: &[u8] = b"connection";
 
 const CLOSE: &[u8] = b"close";
 
-/// Whether a field of the name, in lower case, is the application's to say: the server alone says
+/// Whether an application's field of this name, in lower case, is sent: the server alone determines
 /// `transfer-encoding` (ASGI HTTP and WebSocket message format 2.4, "Response Start") and
 /// `connection`, and 204 has no `content-length` (RFC 9110, section 8.6).
 pub fn is_shown(status: u16, name: &[u8]) -> bool
@@ -21,8 +21,8 @@ pub fn is_shown(status: u16, name: &[u8]) -> bool
     name != TRANSFER_ENCODING && name != CONNECTION && !(status == 204 && name == CONTENT_LENGTH)
 }
 
-/// Whether the response says `close`: where the connection closes for the request, or a
-/// `connection` field of the application says it (RFC 9112, section 9.6).
+/// Whether the response has `close`: if the connection closes for the request, or if a `connection`
+/// field of the application has it (RFC 9112, section 9.6).
 pub fn closes(close: bool, headers: &Headers) -> bool
     ensures { result ≡ fields.closes close headers.now }
 {

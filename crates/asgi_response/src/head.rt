@@ -25,8 +25,8 @@ const CHUNKED_LINE: &[u8] = b"transfer-encoding: chunked\r\n";
 const CLOSE_LINE: &[u8] = b"connection: close\r\n";
 
 /// The bytes of the head of a response, with its empty line, in memory of its own (RFC 9112,
-/// sections 4 and 5): the application's fields, less those that `is_shown` leaves out, then the
-/// coding and `close` where they are wanted. `AllocError` where memory is refused.
+/// sections 4 and 5): the application's fields, without those that `is_shown` leaves out, then the
+/// coding and `close` if needed. `AllocError` if memory is refused.
 pub fn head_text(
     alloc: Global,
     chunked: bool,
@@ -59,7 +59,7 @@ fn append_head(
     write_head(out, chunked, closing, code, reason, status, headers)
 }
 
-/// How many bytes the head of a response has, or the greatest `usize` where it has more.
+/// How many bytes the head of a response has, or the greatest `usize` if it has more.
 fn head_len(
     chunked: bool,
     closing: bool,
@@ -79,7 +79,7 @@ fn head_len(
         .saturating_add(CRLF.len())
 }
 
-/// How many bytes the line of a status has, by its code and its reason phrase.
+/// How many bytes the status line has, from its code and its reason phrase.
 fn status_line_len(status: u16, code: &[u8], reason: &[u8]) -> usize
     requires code { code.now ≡ decimal status }
     requires reason { reason.now ≡ line.reason_phrase status }
@@ -93,7 +93,7 @@ fn status_line_len(status: u16, code: &[u8], reason: &[u8]) -> usize
         .saturating_add(CRLF.len())
 }
 
-/// How many bytes the lines of the application's fields have, or the greatest `usize` where they have more.
+/// How many bytes the lines of the application's fields have, or the greatest `usize` if they have more.
 fn fields_len(status: u16, headers: &Headers) -> usize
     ensures { result ≡ min (length (spec.field_lines status headers.now)) usize.MAX }
 {
@@ -106,7 +106,7 @@ fn fields_len(status: u16, headers: &Headers) -> usize
     size
 }
 
-/// How many bytes the line of a field has, or the greatest `usize` where it has more.
+/// How many bytes the line of a field has, or the greatest `usize` if it has more.
 fn field_len(name: &[u8], value: &[u8]) -> usize
     ensures { result ≡ min (length (spec.field_line (record { name = name.now; value = value.now }))) usize.MAX }
 {
@@ -116,7 +116,7 @@ fn field_len(name: &[u8], value: &[u8]) -> usize
         .saturating_add(CRLF.len())
 }
 
-/// How many bytes the text has where it is wanted.
+/// How many bytes the text has if it is wanted.
 fn len_if(wanted: bool, text: &[u8]) -> usize
     ensures { result ≡ length (if wanted then text.now else []) }
 {
@@ -146,7 +146,7 @@ fn write_head(
     Ok(())
 }
 
-/// Appends the line of a status, by its code and its reason phrase.
+/// Appends the status line, from its code and its reason phrase.
 fn write_status_line(
     out: &mut Vec<u8>,
     status: u16,
@@ -171,14 +171,14 @@ fn write_status_line(
     Ok(())
 }
 
-/// The line of status 200.
+/// The status line of 200.
 fn ok_line() -> &'static [u8]
     ensures { result.now ≡ line.status_line 200 }
 {
     OK_LINE
 }
 
-/// The reason phrase of a status, without a line end (RFC 9110, section 15; RFC 6585); empty where
+/// The reason phrase of a status, without a line end (RFC 9110, section 15; RFC 6585); empty if
 /// none is known.
 pub fn reason_phrase(status: u16) -> &'static str
     ensures { result.now ≡ line.reason_phrase status }
@@ -234,8 +234,8 @@ fn write_fields(out: &mut Vec<u8>, status: u16, headers: &Headers) -> Result<(),
     Ok(())
 }
 
-/// Appends the line of a field, with its CR LF (RFC 9112, section 5). `AllocError` where memory is
-/// refused; then a part of the line may be there. It is for the crates of this repository only.
+/// Appends the line of a field, with its CR LF (RFC 9112, section 5). `AllocError` if memory is
+/// refused; then a part of the line may be there. For the crates of this repository only.
 #[doc(hidden)]
 pub fn write_field<'a>(out: &mut Vec<u8>, name: &'a [u8], value: &'a [u8]) -> Result<(), AllocError>
     ensures ok { OnOk result (out.new.items ≡ out.old.items ++ spec.field_line (record { name = name.now; value = value.now })) }
@@ -249,7 +249,7 @@ pub fn write_field<'a>(out: &mut Vec<u8>, name: &'a [u8], value: &'a [u8]) -> Re
     Ok(())
 }
 
-/// Appends the text where it is wanted.
+/// Appends the text if it is wanted.
 fn write_if(out: &mut Vec<u8>, wanted: bool, text: &[u8]) -> Result<(), AllocError>
     ensures ok { OnOk result (out.new.items ≡ out.old.items ++ (if wanted then text.now else [])) }
     ensures capacity { vec_capacity out.old ≤ vec_capacity out.new }

@@ -18,12 +18,12 @@ pub fn text_only_grows()
     ensures { TextOnlyGrows }
 {}
 
-/// The text grows by that of each event that is lawful in its place, and by nothing for any other.
+/// The text grows by that of each event that is lawful in its place, and by nothing otherwise.
 pub fn events_add_their_text()
     ensures { EventsAddTheirText }
 {}
 
-/// Events that a judge passes, one behind the other, are accepted whole.
+/// Events that a judge passes in this order are accepted whole.
 pub fn passed_is_accepted()
     ensures { PassedIsAccepted }
 {}
@@ -33,8 +33,8 @@ pub fn lawful_is_accepted()
     ensures { LawfulIsAccepted }
 {}
 
-/// Behind a closed list nothing more is accepted, and its text stays, whatever events follow (ASGI
-/// HTTP and WebSocket message format 2.4, "Response Body").
+/// After a closed list nothing more is accepted, and its text stays the same, whatever events
+/// follow (ASGI HTTP and WebSocket message format 2.4, "Response Body").
 pub fn closed_text_stays()
     ensures { ClosedTextStays }
 {}
@@ -44,7 +44,7 @@ pub fn begun_responses_get_nothing_more()
     ensures { BegunResponsesGetNothingMore }
 {}
 
-/// A response that has not begun gets the answer in its place, where its task returned or faulted.
+/// A response that has not begun is replaced, if its task returned or faulted.
 pub fn unbegun_responses_are_replaced()
     ensures { UnbegunResponsesAreReplaced }
 {}
@@ -54,19 +54,19 @@ pub fn added_text_only_grows()
     ensures { AddedTextOnlyGrows }
 {}
 
-/// A recipient reads the status and just the fields that were sent: no value can add a line, and no
-/// other head is read (RFC 9112, sections 4 and 5).
+/// A recipient reads the status and exactly the fields that were sent: no value can add a line, and
+/// no other head is read (RFC 9112, sections 4 and 5).
 pub fn head_is_read_back()
     ensures { HeadIsReadBack }
 {}
 
-/// A recipient of a complete response reads its status, its fields, and just the bytes of its
+/// A recipient of a complete response reads its status, its fields, and exactly the bytes of its
 /// bodies, in one way only (RFC 9112, sections 6 and 7).
 pub fn response_is_read_back()
     ensures { ResponseIsReadBack }
 {}
 
-/// The same of the fields of any `Headers`, with nothing asked of them: that they can be sent is
+/// The same for the fields of any `Headers`, with no condition on them: that they can be sent is
 /// its own law.
 pub fn headers_are_read_back(headers: &Headers)
     ensures sendable { All IsSendable headers.now }
@@ -76,8 +76,8 @@ pub fn headers_are_read_back(headers: &Headers)
     headers.fields_are_valid();
 }
 
-/// A denial is lawful as the response that it stands for is, behind which the connection closes,
-/// and has its text.
+/// The response that a lawful denial corresponds to is lawful, the connection closes after it, and
+/// its text is the denial's after any `100 Continue`.
 pub fn denials_are_responses()
     ensures lawful { (facts : Facts) (status : ℕ) (headers : List HeaderField) (bodies : List Outgoing)
         → (let denial = Outgoing.DenialStart status headers ∷ bodies in IsLawful WebSocket facts denial → IsLawful Http (closing_facts facts) (map as_response denial)) }
@@ -86,8 +86,8 @@ pub fn denials_are_responses()
         IsLawful WebSocket facts denial → response_text (closing_facts facts) (map as_response denial) ≡ continue_text facts.expect ++ denial_text facts denial) }
 {}
 
-/// A recipient of a whole denial reads its status, its fields, and just the bytes of its bodies,
-/// and that it closes.
+/// A recipient of a whole denial reads its status, its fields, exactly the bytes of its bodies, and
+/// that it closes.
 pub fn denial_is_read_back()
     ensures { DenialIsReadBack }
 {}

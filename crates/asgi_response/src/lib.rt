@@ -1,5 +1,5 @@
-//! The bytes of a response: the text of what an application says.
-//! A text keeps a few numbers; its contract speaks of the whole list of events.
+//! The bytes of a response: the text of the events that an application sends.
+//! A text keeps a few numbers; its contract is about the whole list of events.
 #![tactic(auto)]
 
 mod append;

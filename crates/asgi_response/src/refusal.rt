@@ -1,4 +1,4 @@
-//! What a server answers in place of an application's response.
+//! What a server sends in place of an application's response.
 ghost use Rattle.std.specs.Prelude.{◌≡◌, ◌++◌, ◌==◌, ◌||◌, IsTrue, OnOk, OnErr};
 ghost use Rattle.std.specs.Vec.{vec_len, vec_capacity};
 ghost use Rattle.asgi_response.specs.Exchange as spec;
@@ -13,11 +13,11 @@ use std::alloc::AllocError;
 /// The body of a request, as far as it is known when its task ends.
 #[derive(Clone, Copy, Debug, PartialEq, Eq)]
 pub enum Input {
-    /// All of it was there.
+    /// The body was complete.
     Whole,
-    /// It is faulty, and this status says why: the one with which the reader refused it.
+    /// The body is faulty, with the status for which the reader refused it.
     Faulty(u16),
-    /// The input ended or failed inside of it.
+    /// The input ended or failed inside the body.
     Broken,
 }
 
@@ -44,8 +44,8 @@ const REFUSED_501: &[u8] =
 
 const CLOSING_FIELDS: &[u8] = b"content-length: 0\r\nconnection: close\r\n";
 
-/// The bytes of a refusal, a whole response without content behind which the connection closes
-/// (RFC 9112, section 9.6): of 400, 403, 413, 426, 431, 500 or 501. 426 says which version is
+/// The bytes of a refusal, a whole response without content after which the connection closes
+/// (RFC 9112, section 9.6): of 400, 403, 413, 426, 431, 500 or 501. 426 names the version that is
 /// served (RFC 6455, section 4.4).
 pub fn refusal_text(status: u16) -> &'static [u8]
     requires { IsTrue (is_refusal status) }
@@ -72,8 +72,8 @@ pub fn refusal_text(status: u16) -> &'static [u8]
     REFUSED_500
 }
 
-/// Appends the text of a refusal, of any status. `AllocError` where memory is refused; then the
-/// vector is as before.
+/// Appends the text of a refusal, of any status. `AllocError` if memory is refused; then the vector
+/// is as before.
 pub fn append_refusal(status: u16, out: &mut Vec<u8>) -> Result<(), AllocError>
     ensures ok { OnOk result (out.new.items ≡ out.old.items ++ spec.refusal_text status) }
     ensures err { OnErr result (out.new.items ≡ out.old.items) }

@@ -1,4 +1,4 @@
-//! The text of what an application says.
+//! The text of the events that an application sends.
 ghost use Rattle.std.specs.Prelude.{◌≡◌, ◌≢◌, ◌++◌, ◌∷◌, [], ◌&&◌, ◌⊎◌, not, true, IsTrue, List, OnOk, OnErr, if◌then◌else◌};
 ghost use Rattle.std.specs.Vec.{vec_len, vec_capacity};
 ghost use Rattle.httparse.specs.Ascii.{crlf_bytes};
@@ -13,7 +13,7 @@ ghost use Rattle.asgi_types.specs.Room.{LacksRoom};
 ghost use Rattle.asgi_types.specs.Versions.{is_v11};
 ghost use Rattle.asgi_response.specs.Room.{LacksMemory, LacksDenialMemory};
 ghost use Rattle.asgi_response.specs.Standing as standing;
-ghost use Rattle.asgi_response.specs.Steps as steps;
+ghost use Rattle.asgi_response.specs.private.Steps as steps;
 
 use crate::append::{append_all, hexadecimal, total_len};
 use crate::content::{Coding, Content};
@@ -32,17 +32,17 @@ const LAST_CHUNK: &[u8] = b"0\r\n\r\n";
 /// How far a response is.
 #[derive(Clone, Copy, Debug, PartialEq, Eq)]
 pub enum Phase {
-    /// There is no start.
+    /// No start was taken.
     Waiting,
-    /// There is a start alone: its head is written with the first body (ASGI HTTP and WebSocket
+    /// A start alone was taken: its head is written with the first body (ASGI HTTP and WebSocket
     /// message format 2.4, "Response Start").
     Started(Content),
     /// The head and a body are written, and another body may follow.
     Begun(Content),
     /// The last body is written.
     Complete,
-    /// An accept or a close was said: what is written of a session is no response.
-    Elsewhere,
+    /// An accept or a close was sent: what is written of a session is no response.
+    NotAResponse,
 }
 
 /// The text of one response, event by event (RFC 9112, sections 4 to 7).
@@ -51,10 +51,10 @@ pub struct ResponseText {
     alloc: Global,
     version: HttpVersion,
     head_only: bool,
-    // Whether the connection closes behind the response: for the request, or because the start says so.
+    // Whether the connection closes after the response: because of the request, or of the start.
     close: bool,
     expect: bool,
-    // Whether an opening handshake is answered: by a denial, where by a response.
+    // Whether this text is for an opening handshake: only a denial is a response to one.
     session: bool,
     phase: Phase,
     // The head of a response that has started, until it is written.
@@ -71,8 +71,8 @@ impl ResponseText {
     ghost use Rattle.asgi_response.specs.Response.{response_text};
     ghost use Rattle.asgi_response.specs.Standing.{StandsFor, StandsForSession, Grows};
 
-    /// No event is taken yet. It takes no memory. The facts tell whether a request or an opening
-    /// handshake is answered.
+    /// A text with no event taken yet. Allocates nothing. The facts determine whether this is for a
+    /// request or an opening handshake.
     pub fn new(alloc: Global, facts: &Facts) -> Self
         ensures response { facts.now.framing ≢ framings.Upgrade → StandsFor result facts.now [] }
         ensures denial { facts.now.framing ≡ framings.Upgrade → StandsForSession result facts.now [] }
@@ -90,11 +90,11 @@ impl ResponseText {
         }
     }
 
-    /// Appends the bytes that the event adds: none where it is not lawful in its place, and none
-    /// for a start, whose head comes with the first body (ASGI HTTP and WebSocket message format
-    /// 2.4, "Response Start"). Of an answer to an opening handshake a judge has passed the events;
-    /// a denial is a response behind which the connection closes. `AllocError` where memory is
-    /// refused; then the text and `out` are as before.
+    /// Appends the bytes that the event adds: none if it is not lawful in its place, and none for a
+    /// start, whose head comes with the first body (ASGI HTTP and WebSocket message format 2.4,
+    /// "Response Start"). For an opening handshake a judge has passed the events; a denial is a
+    /// response after which the connection closes. `AllocError` if memory is refused; then the text
+    /// and `out` are as before.
     pub fn take(&mut self, event: &Outgoing, out: &mut Vec<u8>) -> Result<(), AllocError>
         ensures ok { OnOk result ((facts : Facts) (events : List Outgoing) → StandsFor self.old facts events
             → StandsFor self.new facts (events ++ event.now ∷ [])) }
@@ -115,9 +115,9 @@ impl ResponseText {
         self.step(event, out)
     }
 
-    /// Appends the text in front of every event: `100 Continue` where the client waits for it
-    /// (RFC 9110, section 10.1.1), nothing where an opening handshake is answered. `AllocError`
-    /// where memory is refused; then `out` is as before.
+    /// Appends the text before every event: `100 Continue` if the client waits for it (RFC 9110,
+    /// section 10.1.1), nothing for an opening handshake. `AllocError` if memory is refused; then
+    /// `out` is as before.
     pub fn begin(&self, out: &mut Vec<u8>) -> Result<(), AllocError>
         ensures ok { OnOk result ((facts : Facts) (events : List Outgoing) → StandsFor self.now facts events
             → out.new.items ≡ out.old.items ++ response_text facts []) }
@@ -133,9 +133,9 @@ impl ResponseText {
         Ok(())
     }
 
-    /// Appends what the end of the task adds: a refusal where no body was taken, and no accept or
-    /// close. It is 500 for a whole input, has the status of a faulty one, and is nothing for a
-    /// broken one. `AllocError` where memory is refused; then `out` is as before.
+    /// Appends what the end of the task adds: a refusal if no body was taken, and no accept or
+    /// close. The refusal is 500 for a whole input, has the status of a faulty one, and is nothing
+    /// for a broken one. `AllocError` if memory is refused; then `out` is as before.
     pub fn end(&self, input: Input, out: &mut Vec<u8>) -> Result<(), AllocError>
         ensures ok { OnOk result ((facts : Facts) (events : List Outgoing) → StandsFor self.now facts events
             → out.new.items ≡ out.old.items ++ end_text facts events input) }
@@ -153,7 +153,7 @@ impl ResponseText {
         append_answer(input, out)
     }
 
-    /// How far the response is; behind an accept or a close it is `Begun`.
+    /// How far the response is; after an accept or a close `Begun`.
     pub fn progress(&self) -> Progress
         ensures response { (facts : Facts) (events : List Outgoing) → StandsFor self.now facts events → result ≡ progress_of facts events }
         ensures denial { (facts : Facts) (events : List Outgoing) → StandsForSession self.now facts events → result ≡ denial_progress facts events }
@@ -182,7 +182,7 @@ impl ResponseText {
         Ok(())
     }
 
-    /// Takes an event that answers an opening handshake, and appends what it adds.
+    /// Takes an event for an opening handshake, and appends what it adds.
     fn session_step(&mut self, event: &Outgoing, out: &mut Vec<u8>) -> Result<(), AllocError>
         ensures ok { OnOk result (self.new ≡ steps.after_session_event self.old event.now) }
         ensures text { OnOk result (out.new.items ≡ out.old.items ++ steps.added_by_denial self.old event.now) }
@@ -196,7 +196,7 @@ impl ResponseText {
             return self.take_body(body.bytes(), *more_body, out);
         }
         if let Outgoing::WsAccept { .. } | Outgoing::WsClose { .. } = event {
-            self.phase = Phase::Elsewhere;
+            self.phase = Phase::NotAResponse;
         }
         Ok(())
     }
@@ -220,7 +220,7 @@ impl ResponseText {
         Ok(())
     }
 
-    /// Appends the text of a body that is lawful here, behind the head where it is the first.
+    /// Appends the text of a body that is lawful here, after the head if it is the first.
     fn take_body(
         &mut self,
         body: &[u8],
@@ -262,27 +262,27 @@ impl Phase {
     {
         match self {
             Phase::Waiting | Phase::Started(_) => false,
-            Phase::Begun(_) | Phase::Complete | Phase::Elsewhere => true,
+            Phase::Begun(_) | Phase::Complete | Phase::NotAResponse => true,
         }
     }
 
-    /// What the next body may be, where one may follow.
+    /// What the next body may be, if one may follow.
     fn content_due(self) -> Option<Content>
         ensures { result ≡ steps.content_due self }
     {
         match self {
-            Phase::Waiting | Phase::Complete | Phase::Elsewhere => None,
+            Phase::Waiting | Phase::Complete | Phase::NotAResponse => None,
             Phase::Started(content) | Phase::Begun(content) => Some(content),
         }
     }
 
-    /// How far the response is, where the connection closes behind it or not.
+    /// How far the response is; `closes` is whether the connection closes after it.
     fn progress(self, closes: bool) -> Progress
         ensures { result ≡ steps.progress_at self closes }
     {
         match self {
             Phase::Waiting | Phase::Started(_) => Progress::Nothing,
-            Phase::Begun(_) | Phase::Elsewhere => Progress::Begun,
+            Phase::Begun(_) | Phase::NotAResponse => Progress::Begun,
             Phase::Complete => Progress::Complete { closes },
         }
     }
@@ -302,7 +302,7 @@ fn is_chunked(version: HttpVersion, status: u16, length: ContentLength) -> bool
     version == HttpVersion::V11 && length.is_absent() && !has_no_content(status)
 }
 
-/// What the bodies behind a start may be.
+/// What the bodies after a start may be.
 fn content_at_start(head_only: bool, status: u16, chunked: bool, length: ContentLength) -> Content
     ensures coding { result.coding ≡ standing.coding_of (contents.has_content head_only status) chunked }
     ensures left { result.left ≡ steps.left_at_start head_only status length }
@@ -333,7 +333,7 @@ fn next_phase(content: Content, len: usize, more_body: bool) -> Phase
     ensures { result ≡ steps.next_phase content len more_body }
 {
     if more_body {
-        return Phase::Begun(content.behind(len));
+        return Phase::Begun(content.after(len));
     }
     Phase::Complete
 }
@@ -357,7 +357,7 @@ fn append_part(
     }
 }
 
-/// Appends the front, the body as a chunk where it has bytes, and the last chunk where no more follow.
+/// Appends the front, the body as a chunk if it has bytes, and the last chunk if no more follow.
 fn append_chunk(
     front: &[u8],
     body: &[u8],
@@ -399,7 +399,7 @@ fn append_sized<'a>(
     ensures full { OnErr result (LacksRoom (vec_capacity out.old) (vec_len out.old) (front.now ++ (size.now ++ crlf_bytes ++ body.now ++ crlf_bytes ++ last.now))) }
 {
     out.reserve(total_len(&[front, size, CRLF, body, CRLF, last])?)?;
-    // The room is there, so these never fail: only their type says that they may.
+    // The room is reserved, so these never fail: only their type allows an error.
     out.extend_from_slice(front)?;
     out.extend_from_slice(size)?;
     out.extend_from_slice(CRLF)?;
@@ -409,7 +409,7 @@ fn append_sized<'a>(
     Ok(())
 }
 
-/// The last chunk, where no more bodies follow.
+/// The last chunk, if no more bodies follow.
 fn last_chunk(more_body: bool) -> &'static [u8]
     ensures { result.now ≡ (if not more_body then contents.last_chunk else []) }
 {
@@ -419,7 +419,7 @@ fn last_chunk(more_body: bool) -> &'static [u8]
     LAST_CHUNK
 }
 
-/// Appends the answer in place of a response that never began.
+/// Appends what replaces a response that never began.
 fn append_answer(input: Input, out: &mut Vec<u8>) -> Result<(), AllocError>
     ensures ok { OnOk result (out.new.items ≡ out.old.items ++ exchange.replacement_text input) }
     ensures err { OnErr result (out.new.items ≡ out.old.items) }

@@ -15,7 +15,7 @@ use std::alloc::{AllocError, Global};
 use std::process::Abort;
 use std::test::Fail;
 
-/// What a request says of itself.
+/// What a request asks for.
 #[derive(Clone, Copy)]
 struct Ask {
     version: HttpVersion,
@@ -67,7 +67,7 @@ const CLOSING: Ask = Ask {
     framing: Framing::Length(0),
 };
 
-/// An opening handshake of a client that also waits to be told to go on.
+/// An opening handshake of a client that also waits for `100 Continue`.
 const HANDSHAKE: Ask = Ask {
     version: HttpVersion::V11,
     head_only: false,
@@ -96,7 +96,7 @@ enum Say {
     Start(u16, Fields),
     Part(&'static str),
     Last(&'static str),
-    /// A last body of so many letters `z`.
+    /// A last body of this many letters `z`.
     LastLetters(usize),
     DenialStart(u16, Fields),
     DenialPart(&'static str),
@@ -191,12 +191,12 @@ fn letters(alloc: Global, size: usize) -> Result<Octets, AllocError> {
     Ok(Octets::new(vec![in alloc; b'z'; size]?))
 }
 
-/// The text of such a request, with no event taken.
+/// The text for such a request, with no event taken.
 fn fresh(alloc: Global, ask: Ask) -> ResponseText {
     ResponseText::new(alloc, &ask.facts(alloc))
 }
 
-/// Takes an event, which is gone then.
+/// Takes an event, which is dropped.
 fn take(text: &mut ResponseText, event: Outgoing, out: &mut Vec<u8>) -> Result<(), AllocError> {
     text.take(&event, out)
 }
@@ -228,7 +228,8 @@ fn write_all(
     Ok(())
 }
 
-/// What is said of all that is written for the events: what comes in front, each event's text, and what the end adds.
+/// The result of `says` on all that is written for the events: what comes first, each event's text, and what the end
+/// adds.
 fn of_written<F: FnOnce(&[u8]) -> bool>(
     alloc: Global,
     ask: Ask,
@@ -255,7 +256,7 @@ fn is_written(
     of_written(alloc, ask, said, end, |out| out == text.as_bytes())
 }
 
-/// What was asked and said, and the text of it.
+/// The request and the events, and the text for them.
 type Row = (&'static str, Ask, &'static [Say], &'static str);
 
 /// Each row has its text.

@@ -11,7 +11,7 @@ use Rattle.asgi_types.specs.declared.scope.Scope.{Scope}
 use Rattle.asgi_types.specs.declared.state.StateValue.{StateValue}
 use Rattle.asgi_ws.specs.declared.messages.Messages as messages
 use Rattle.asgi_conversation.specs.declared.report.Report.{Report}
-use Rattle.asgi_conn.specs.Lines.{LineState, state_of}
+use Rattle.asgi_run.specs.Lines.{LineState, state_of}
 use Rattle.asgi_conn.specs.Serving.{Serves}
 
 -- what an application promises in a scope
@@ -31,10 +31,10 @@ pub record Arrived : Type 0 where
 abbrev pub arrived : {L : Type 0} → reads.Ghosts L → counts.Ghosts L → messages.Ghosts L → Given L → Arrived
 arrived R W M (line, client, server) = record { line = state_of R W M line; client = client; server = server }
 
--- One connection was served, with each scope's client, server and state its own: this is its report, and the count of pauses rose
--- so far.
+-- One connection was served, each scope with its client, its server and a copy of the state: this is its report, and the count of
+-- pauses rose from `before` to `after`.
 pub record IsServed (answers : Promise) (limits : Limits) (state : List (List ℕ × StateValue)) (connection : Arrived) (before after : ℕ) (report : Report) : Type 0 where
-  -- what is known of its line behind it
+  -- what is known of its line afterwards
   pub line : LineState
   pub serves : Serves answers limits connection.client connection.server state connection.line line before after report
 
@@ -44,6 +44,6 @@ ServesNext R W M answers limits state asked_old asked_new before after None = (a
 ServesNext R W M answers limits state asked_old asked_new before after (Some report) =
     (given : Given _) × (asked_new ≡ asked_old ++ Some given ∷ []) × IsServed answers limits state (arrived R W M given) before after report
 
--- One connection was served by a worker, the count of whose pauses rose so far, and this is the report.
+-- One connection was served by a worker, whose count of pauses rose from `before` to `after`, and this is the report.
 abbrev pub served_by : {L : Type 0} → reads.Ghosts L → counts.Ghosts L → messages.Ghosts L → Promise → Limits → List (List ℕ × StateValue) → ℕ → ℕ → Given L → Report → Type 0
 served_by R W M answers limits state before after given report = IsServed answers limits state (arrived R W M given) before after report

@@ -1,7 +1,7 @@
-//! How a connection is accepted, past those that are lost and through a want of descriptors (accept(2)).
+//! How a connection is accepted, passing over those that are lost and waiting out a want of descriptors (accept(2)).
 ghost use Rattle.std.specs.Prelude.{◌≡◌};
 ghost use Rattle.std.specs.IoError.{raw_os_error, error_kind};
-ghost use Rattle.asgi_server.specs.Accepting.{fault_of, fault_of_code, fault_of_kind};
+ghost use Rattle.asgi_server.specs.private.Accepting.{fault_of, fault_of_code, fault_of_kind};
 
 use std::io::{self, ErrorKind};
 use std::net::{OpenListener, SocketAddr};
@@ -11,7 +11,7 @@ use std::time::{Clock, Duration};
 /// How many connections in a row may be lost between their arrival and their being accepted.
 const LOST_IN_A_ROW: u32 = 1_000;
 
-/// How often in a row descriptors or memory may be short, and how long is waited each time, in milliseconds: ten seconds in all.
+/// How often in a row descriptors or memory may be short, and each wait in milliseconds: ten seconds in all.
 const SHORT_IN_A_ROW: u32 = 1_000;
 
 const SHORT_WAIT: u64 = 10;
@@ -23,18 +23,18 @@ const PASSING: &[i32] = &[1, 4, 11, 64, 71, 92, 95, 100, 101, 103, 104, 110, 112
 /// Those of a want of memory or of descriptors: ENOMEM, ENFILE, EMFILE, ENOBUFS.
 const SHORT: &[i32] = &[12, 23, 24, 105];
 
-/// What a failed accept is of.
+/// What a failed accept means.
 #[derive(Clone, Copy, Debug, PartialEq, Eq)]
 pub enum Fault {
     /// Only the connection that was to be accepted is lost, and the next one may be accepted.
     Passing,
-    /// Descriptors or memory are short, and may be had again.
+    /// Descriptors or memory are short, and may be available again.
     Short,
     /// No connection can be accepted any more.
     Lasting,
 }
 
-/// What a failed accept is of.
+/// What a failed accept means.
 pub fn fault_of(e: &io::Error) -> Fault
     ensures { result ≡ fault_of (raw_os_error e.now) (error_kind e.now) }
 {
@@ -69,7 +69,7 @@ fn fault_of_kind(kind: ErrorKind) -> Fault
     }
 }
 
-/// Accepts a connection. One that is lost is passed over, and a want of descriptors or memory is waited for.
+/// Accepts a connection. One that is lost is passed over, and a want of descriptors or memory is waited out.
 pub fn accept_on<H: Clock, L: OpenListener>(
     clock: &H,
     listener: &L,

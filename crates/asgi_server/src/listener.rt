@@ -10,12 +10,12 @@ pub trait Listener {
     /// What carries the bytes of a connection.
     type L: Line + Drop;
 
-    // How each call of `next` was answered, in order.
+    // What each call of `next` returned, in order.
     ghost answers: { Self → List (Option (Given Self.L)) };
 
-    /// The line of the next connection, its client and its server where they are known (ASGI HTTP
-    /// connection scope, `client` and `server`); None where there is no connection any more. It may
-    /// wait for one.
+    /// The line of the next connection, its client and its server if they are known (ASGI HTTP
+    /// connection scope, `client` and `server`); None if there is no connection any more. May wait
+    /// for one.
     fn next(&mut self) -> Option<(Self::L, Option<Peer>, Option<Peer>)>
         ensures told { answers self.new ≡ answers self.old ++ result ∷ [] };
 }
@@ -25,7 +25,7 @@ pub trait Accepts: Listener {
     // Whether a connection could not be accepted.
     ghost has_failed: { Self → Bool };
 
-    /// Whether a connection could not be accepted, so that `next` gives none any more.
+    /// Whether a connection could not be accepted, so that `next` returns none any more.
     fn failed(&self) -> bool
         ensures { result ≡ has_failed self.now };
 }

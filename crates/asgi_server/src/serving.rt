@@ -9,8 +9,8 @@ use asgi_types::{Limits, Peer, State};
 use asgi_ws::Line;
 use std::alloc::AllocGlobal;
 
-/// Serves the next connection that the listener gives, and returns its report; `None` where it gives none
-/// any more. The line is dropped once its connection has ended.
+/// Serves the next connection that the listener gives, and returns its report; `None` if the listener
+/// gives none any more. The line is dropped once its connection has ended.
 pub fn serve_next<H: AllocGlobal, A: Application, N: Listener, U: Runner<A::Task>, P: Pause>(
     rt: &H,
     limits: &Limits,

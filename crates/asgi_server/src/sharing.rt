@@ -20,7 +20,7 @@ use std::alloc::AllocGlobal;
 use std::sync::Wait;
 use std::thread::Threads;
 
-/// What all workers are lent: the limits, the state and the application.
+/// What all workers borrow: the limits, the state and the application.
 #[derive(Drop)]
 struct Serving<'a, H, A> {
     rt: &'a H,
@@ -66,12 +66,12 @@ impl<
 }
 
 /// Serves each connection that the listener gives, as many at the same time as there are workers, each in a thread of
-/// its own with one of these stations. The teller is told each report once, under its connection's number, 1 upwards, in
+/// its own with one of these stations. The teller gets each report once, under its connection's number, 1 upwards, in
 /// the order in which the connections were given, and each as soon as all those before it are there.
 ///
-/// A worker serves one connection after another, to its end. A line is dropped once its connection has ended. Where a
-/// worker is refused its thread the listener is not asked (`NoThread`). Where memory for one more report is refused it
-/// is not asked for a connection, and those that it gave are served (`NoMemory`): so none that it gave is left unserved.
+/// A worker serves one connection after another, to its end. A line is dropped once its connection has ended. If a
+/// worker is refused its thread, the listener is not asked (`NoThread`). If memory for one more report is refused, no
+/// more connections are asked for, and those given are served (`NoMemory`): so none that was given is left unserved.
 pub fn serve_all<
     H: Threads + Wait + AllocGlobal + Send + Sync,
     T: AppTask + Send,

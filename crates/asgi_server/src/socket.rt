@@ -7,7 +7,7 @@ use std::io::{self, ErrorKind, Read, Write};
 use std::net::{OpenStream, Shutdown};
 use std::time::{Clock, Duration, Instant};
 
-/// How long a write waits for room, and a read for bytes where it waits, in milliseconds. The system keeps no
+/// How long a write waits for room, and a waiting read for bytes, in milliseconds. The system keeps no
 /// shorter time than its own step, some 4 to 8 milliseconds.
 const TIMEOUT: u64 = 1;
 
@@ -17,23 +17,22 @@ const SILENT_READS: u32 = 100;
 /// How long the end of a connection may take, in milliseconds.
 const LONGEST_END: u64 = 1_000;
 
-/// A socket, which is closed where it is dropped: first the half that writes, and then the other one, once
-/// the peer has closed too, or was silent for a while, or a second has passed. A socket that is closed while
-/// input waits in it would be reset, and the peer could lose the end of what was written (RFC 9112, section
-/// 9.6).
+/// A socket, which is closed when it is dropped: first its write half, and then its read half, once the peer
+/// has closed too, or was silent for a while, or a second has passed. A socket that is closed while input
+/// waits in it would be reset, and the peer could lose the end of what was written (RFC 9112, section 9.6).
 ///
-/// A socket that can't be made ready, since its peer is gone, say, gives no byte and takes none.
+/// A socket that can't be made ready, because its peer is gone, for example, reads and writes nothing.
 pub struct Socket<'a, H: Clock, S: Read + OpenStream> {
     clock: &'a H,
     stream: S,
-    /// Its reads wait for bytes, for a short while.
+    /// Reads wait for bytes, for a short while.
     waits: bool,
     is_ready: bool,
 }
 
 impl<'a, H: Clock, S: Read + OpenStream> Socket<'a, H, S> {
-    /// A socket over this stream. From here on its writes do not wait for long, and its reads neither, or not at
-    /// all.
+    /// A socket over this stream. From here on its writes wait for a short while only, and its reads too, or not
+    /// at all.
     pub fn new(clock: &'a H, stream: S, waits: bool) -> Self
         ensures { result.stream ≡ stream }
     {
@@ -49,7 +48,7 @@ impl<'a, H: Clock, S: Read + OpenStream> Socket<'a, H, S> {
 
 /// Makes a stream ready to be served.
 fn ready<S: OpenStream>(stream: &S, waits: bool) -> io::Result<()> {
-    // A response leaves in several writes, none of which is to wait for an answer to the one before.
+    // A response leaves in several writes, none of which is to wait for an acknowledgement of the one before.
     stream.set_nodelay(true)?;
     stream.set_read_timeout(Some(Duration::from_millis(TIMEOUT)))?;
     stream.set_write_timeout(Some(Duration::from_millis(TIMEOUT)))?;
@@ -70,13 +69,13 @@ impl<'a, H: Clock, S: Read + OpenStream + Drop> Drop for Socket<'a, H, S> {
     }
 }
 
-/// Ends the half that writes. The reads of the other one wait for a short while.
+/// Ends the write half. Reads wait for a short while from here on.
 fn end_writing<S: OpenStream>(stream: &S) -> io::Result<()> {
     stream.shutdown(Shutdown::Write)?;
     stream.set_nonblocking(false)
 }
 
-/// Reads and drops what is still sent.
+/// Reads and drops what the peer still sends.
 fn drain<H: Clock, S: Read>(clock: &H, stream: &mut S) {
     let Ok(began) = Instant::now(clock) else {
         return;
@@ -100,7 +99,7 @@ fn drain<H: Clock, S: Read>(clock: &H, stream: &mut S) {
     }
 }
 
-/// Whether the end of a connection that began then is to be over, as it is where no time can be had.
+/// Whether the end of a connection that began then is to be over; true if no time is available.
 fn is_late<H: Clock>(clock: &H, began: Instant) -> bool {
     match began.elapsed(clock) {
         Ok(time) => time >= Duration::from_millis(LONGEST_END),
@@ -121,7 +120,7 @@ fn is_full(wrote: &io::Result<usize>) -> bool {
 }
 
 impl<H: Clock, S: Read + Write + OpenStream> Socket<'_, H, S> {
-    /// Writes once room is there, where it comes soon.
+    /// Writes once there is room, if that comes soon.
     fn write_waiting(&mut self, buf: &[u8]) -> io::Result<usize>
         ensures bound { WritesAtMost result buf.now }
     {

@@ -20,18 +20,18 @@ type OverSocket<'a, R> = (
     Option<Peer>,
 );
 
-/// Gives so many connections of one port of this machine's loopback address, 127.0.0.1. The socket is
-/// opened at the first call of `next`; where it can't be had, or no connection can be accepted any more,
-/// there is none, and `failed` says so. A fault of one connection, before it was accepted, is passed over;
-/// what is accepted is given, without its client or its server where the system or memory refuses them.
+/// Accepts a number of connections on one port of this machine's loopback address, 127.0.0.1. The socket is opened at
+/// the first call of `next`; if it isn't available, or no connection can be accepted any more, `next` returns none, and
+/// `failed` returns true. A fault of one connection, before it was accepted, is passed over; what is accepted is given,
+/// without its client or its server if the system or memory refuses them.
 #[derive(Drop)]
 pub struct Sockets<'a, R: Net + Clock> {
     rt: &'a R,
     alloc: Global,
     port: u16,
-    // How many more connections it gives.
+    // How many more connections will be accepted.
     left: u64,
-    // The reads of their sockets wait for bytes.
+    // Reads of their sockets wait for bytes.
     waits: bool,
     listener: Option<R::Listener>,
     has_failed: bool,
@@ -39,8 +39,8 @@ pub struct Sockets<'a, R: Net + Clock> {
 }
 
 impl<'a, R: Net + Clock> Sockets<'a, R> {
-    /// Gives so many connections of this port, whose reads wait for bytes, a few milliseconds at the most: for a
-    /// runner in whose one thread nothing else is to be done meanwhile. Nothing is opened yet.
+    /// Will accept `count` connections on this port, whose reads wait for bytes, a few milliseconds at the most:
+    /// for a runner in whose one thread nothing else is to be done meanwhile. Nothing is opened yet.
     pub fn new(rt: &'a R, alloc: Global, port: u16, count: u64) -> Self
         ensures nothing { (result.told.items ≡ []) × (result.has_failed ≡ false) }
         ensures count { (result.left ≡ count) × (result.port ≡ port) }
@@ -58,7 +58,7 @@ impl<'a, R: Net + Clock> Sockets<'a, R> {
     }
 
     /// The same with reads that do not wait: for a runner whose tasks have a thread of their own, since a read that
-    /// waited would hold up what they say meanwhile.
+    /// waited would hold up what they send meanwhile.
     pub fn non_blocking(rt: &'a R, alloc: Global, port: u16, count: u64) -> Self
         ensures nothing { (result.told.items ≡ []) × (result.has_failed ≡ false) }
         ensures count { (result.left ≡ count) × (result.port ≡ port) }
@@ -68,8 +68,8 @@ impl<'a, R: Net + Clock> Sockets<'a, R> {
         sockets
     }
 
-    /// Gives so many connections of this port from here on, and none of the one before. One that has
-    /// failed gives none any more.
+    /// Switches to `port`, and will accept `count` connections on it and none on the port before. A
+    /// failed listener stays failed.
     pub fn listen_on(&mut self, port: u16, count: u64)
         ensures told { self.new.told ≡ self.old.told }
         ensures count { (self.new.left ≡ count) × (self.new.port ≡ port) }
@@ -80,7 +80,7 @@ impl<'a, R: Net + Clock> Sockets<'a, R> {
         self.listener = None;
     }
 
-    /// Accepts the next connection, where one is still to be given.
+    /// Accepts the next connection, if one is still to be given.
     fn accept(&mut self) -> Option<OverSocket<'a, R>>
         ensures some { IfSome result (λ _. (self.old.left ≡ self.new.left + 1) × (self.new.has_failed ≡ false)) }
         ensures none { IfNone result ((self.new.left ≡ self.old.left) × ((self.old.left ≡ 0) ⊎ (self.new.has_failed ≡ true))) }
@@ -127,7 +127,7 @@ impl<'a, R: Net + Clock> Sockets<'a, R> {
     }
 }
 
-/// The end of a connection at this address, where memory suffices for it.
+/// The peer at this address, if memory suffices for it.
 fn peer_of(alloc: Global, address: SocketAddr) -> Option<Peer> {
     let host = format!(in alloc; "{}", address.ip()).ok()?;
     Some(Peer {

@@ -1,5 +1,6 @@
 //! What a worker serves connections with.
 ghost use Rattle.std.specs.Prelude.{◌≡◌, ◌+◌, ◌<◌, [], ◌∷◌, ◌++◌, All, true, is_some, vec_len, vec_capacity, IfOk, IsOk};
+ghost use Rattle.asgi_server.specs.declared.station.NoStation.TheVariants.{NoMemory};
 
 use asgi_apps::AppTask;
 use asgi_conn::{Beside, Host, Napping};
@@ -11,7 +12,7 @@ use std::alloc::AllocError;
 pub struct Station<U: Drop, P: Drop> {
     /// What runs the exchanges.
     pub runner: U,
-    /// What is called where nothing moved in a turn.
+    /// What is called after a turn in which nothing moved.
     pub pause: P,
 }
 
@@ -28,6 +29,8 @@ pub enum NoStation {
 }
 
 impl From<AllocError> for NoStation {
+    ghost from_gives = { λ why found. found ≡ NoMemory };
+
     fn from(_: AllocError) -> NoStation {
         NoStation::NoMemory
     }
@@ -53,7 +56,7 @@ pub fn stations<T: AppTask + Send + 'static, R: Host>(
     Ok(made)
 }
 
-/// One station more.
+/// Adds one more station.
 fn add<T: AppTask + Send + 'static, R: Host>(
     rt: R,
     made: &mut Vec<BesideStation<T, R>>,
@@ -83,7 +86,7 @@ fn make_station<T: AppTask + Send + 'static, R: Host>(
     }
 }
 
-/// Puts a station behind the others, for which there is room.
+/// Puts a station after the others, for which there is room.
 fn put<U: Drop, P: Drop>(made: &mut Vec<Station<U, P>>, station: Station<U, P>)
     requires { vec_len made.old < vec_capacity made.old }
     ensures { made.new.items ≡ made.old.items ++ station ∷ [] }

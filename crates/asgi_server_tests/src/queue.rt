@@ -68,7 +68,7 @@ impl<'a> Listener for Feed<'a> {
 /// How a connection is to end: its outcome, and its exchanges.
 pub type End = (Outcome, u64);
 
-/// Whether the reports are numbered from 1, in order, and end so.
+/// Whether the reports are numbered from 1, in order, and end like this.
 pub fn is_reported(reports: &[(u64, Report)], ends: &[End]) -> bool {
     let mut at = 0;
     for (number, report) in reports {
@@ -83,7 +83,7 @@ pub fn is_reported(reports: &[(u64, Report)], ends: &[End]) -> bool {
     at == ends.len()
 }
 
-/// Is told reports, and keeps none.
+/// Gets reports, and keeps none.
 #[derive(Drop)]
 struct Unheard;
 
@@ -93,7 +93,7 @@ impl Teller<Report> for Unheard {
     fn tell(&mut self, _number: u64, _report: &Report) {}
 }
 
-/// Serves what the listener gives, with this state, by so many workers.
+/// Serves what the listener gives, with this state, by this many workers.
 pub fn serve<
     H: Host + Sync,
     T: AppTask + Send + 'static,
@@ -124,7 +124,7 @@ pub fn serve<
     Err(AllocError)
 }
 
-/// Serves a connection for each output, with these inputs in turn, by so many workers.
+/// Serves a connection for each output, with these inputs in turn, by this many workers.
 pub fn serve_feed<
     H: Host + Sync,
     T: AppTask + Send + 'static,
@@ -147,7 +147,7 @@ pub fn serve_feed<
     reports
 }
 
-/// Whether two connections with these inputs end so, and have these outputs, by one worker and by two.
+/// Whether two connections with these inputs end like this, and have these outputs, by one worker and by two.
 pub fn is_served<
     H: Host + Sync,
     T: AppTask + Send + 'static,
@@ -174,8 +174,8 @@ pub fn is_served<
     Ok(true)
 }
 
-/// Whether two connections with this input are served by so many workers, or not begun or ended for want of memory or of a
-/// thread, and get the output or a beginning of it, or are told that the application failed.
+/// Whether two connections with this input are served by this many workers, or not begun or ended for want of memory or
+/// of a thread, and get the output or a beginning of it, or the response that the application failed.
 pub fn is_begun<
     H: Host + Sync,
     T: AppTask + Send + 'static,
@@ -197,7 +197,7 @@ pub fn is_begun<
     well && is_lawful(&texts[0], output) && is_lawful(&texts[1], output)
 }
 
-/// Whether this may be written where memory is refused somewhere.
+/// Whether this may be written if memory is refused somewhere.
 fn is_lawful(written: &[u8], output: &[u8]) -> bool {
     output.starts_with(written) || written == SERVER_ERROR
 }

@@ -12,13 +12,13 @@ use std::sync::Arc;
 use std::sync::atomic::{AtomicU64, Ordering};
 use std::test::Fail;
 
-/// What `Hello` says.
+/// What `Hello` sends.
 const GREETS: Scripted = Scripted(&[
     Step::Says(Said::Start(200, &[("content-type", "text/plain")])),
     Step::Says(Said::Last("hello\n")),
 ]);
 
-/// Answers as `Hello` once so many tasks have been polled.
+/// Responds as `Hello` once this many tasks have been polled.
 #[derive(Drop)]
 struct Gathers {
     need: u64,
@@ -61,7 +61,7 @@ impl AppTask for GathersTask {
     ghost keeps = { λ _ _ _ _ _. tt };
 }
 
-/// So many empty texts.
+/// This many empty texts.
 fn texts_of(alloc: Global, count: usize) -> Result<Vec<Vec<u8>>, AllocError> {
     let mut texts = Vec::new(alloc);
     for _ in 0..count {
@@ -70,7 +70,7 @@ fn texts_of(alloc: Global, count: usize) -> Result<Vec<Vec<u8>>, AllocError> {
     Ok(texts)
 }
 
-/// Whether each report is of one finished exchange, so many of them, numbered from 1.
+/// Whether each report is of one finished exchange, `count` of them, numbered from 1.
 fn are_finished(reports: &[(u64, Report)], count: usize) -> bool {
     let mut next = 0_u64;
     for (number, report) in reports {
@@ -94,28 +94,40 @@ const ROWS: [(usize, u64); 8] = [
     (40, 2),
 ];
 
-#[test]
-fn each_connection_is_served_once_by_so_many_workers(rt: HostRuntime) -> Result<(), Fail> {
+/// Whether each of `count` connections gets its response and its report, by this many workers.
+fn are_served<H: Host + Sync>(rt: &H, count: usize, workers: u64) -> Result<bool, Fail> {
     let state = State::new(rt.alloc());
     let limits = Limits::usual();
+    let mut texts = texts_of(rt.alloc(), count)?;
+    let reports = serve_feed(rt, &Hello, &state, &[GET], &mut texts, &limits, workers)?;
+    let answered = texts.iter().all(|text| text.as_slice() == HELLO);
+    Ok(are_finished(&reports, count) && answered)
+}
+
+#[test]
+fn each_connection_is_served_once_by_so_many_workers(rt: HostRuntime) -> Result<(), Fail> {
     for (count, workers) in ROWS {
-        let mut texts = texts_of(rt.alloc(), count)?;
-        let reports = serve_feed(&rt, &Hello, &state, &[GET], &mut texts, &limits, workers)?;
-        let answered = texts.iter().all(|text| text.as_slice() == HELLO);
-        assert!(rt;
-            are_finished(&reports, count) && answered,
-            "{count} by {workers}"
-        );
+        assert!(rt; are_served(&rt, count, workers)?, "{count} by {workers}");
     }
     Ok(())
 }
 
-/// Limits that give an exchange up behind so many idle turns.
+#[test]
+fn a_listener_that_ends_at_each_place_loses_no_connection(rt: HostRuntime) -> Result<(), Fail> {
+    for count in 0..20 {
+        for workers in 1..9 {
+            assert!(rt; are_served(&rt, count, workers)?, "{count} by {workers}");
+        }
+    }
+    Ok(())
+}
+
+/// Limits that give an exchange up after this many idle turns.
 fn patient(idle_turns: u32) -> Result<Limits, BadLimit> {
     Limits::new(16_384, 64, 1 << 20, 16_384, 16, idle_turns, 1 << 40)
 }
 
-/// So many connections at a gate that opens once as many tasks have been polled: how they end.
+/// `count` connections at a gate that opens once as many tasks have been polled: how they end.
 fn gathered<H: Host + Sync>(
     rt: &H,
     count: usize,

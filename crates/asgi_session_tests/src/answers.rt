@@ -1,4 +1,4 @@
-//! What is answered to an opening handshake, over a stream.
+//! The responses to an opening handshake, over a stream.
 use crate::apps::{Heard, Said, Step};
 use crate::rows::{Crossed, Row, Written, check, check_crossing};
 use crate::serving::App;
@@ -164,7 +164,7 @@ const UNANSWERED: &[Row] = &[
         Written::Just(&[SERVER_ERROR]),
         FAULTED,
     ),
-    // What is refused is not said (ASGI WebSocket 2.4): a message before the accept, a response, and a subprotocol that
+    // What is refused is not sent (ASGI WebSocket 2.4): a message before the accept, a response, and a subprotocol that
     // was not offered.
     (
         App::Scripted(&[
@@ -191,7 +191,7 @@ const ACCEPTS: &[Row] = &[
         Written::Just(&[CHAT_ACCEPTED, b"\x88\x02\x03\xe8"]),
         FINISHED,
     ),
-    // It need not hear that the client asks, nor choose one of the subprotocols.
+    // The application need not receive the connect event, nor choose one of the subprotocols.
     (
         App::Scripted(&[Step::Says(Said::Accept("", &[]))]),
         &[OFFERING],
@@ -218,8 +218,8 @@ fn a_handshake_is_accepted(rt: HostRuntime) -> Result<(), Fail> {
     check_crossing(&rt, ACCEPTS, ACCEPTS_CROSSED)
 }
 
-/// Requests in front of the handshake, and all of it in one read.
-const BEHIND_REQUESTS: &[Row] = &[
+/// Requests before the handshake, and all of it in one read.
+const AFTER_REQUESTS: &[Row] = &[
     (
         App::WsEcho,
         &[GET, GET, HANDSHAKE, HELLO],
@@ -248,5 +248,5 @@ const BEHIND_REQUESTS: &[Row] = &[
 
 #[test]
 fn a_handshake_follows_requests(rt: HostRuntime) -> Result<(), Fail> {
-    check(&rt, BEHIND_REQUESTS)
+    check(&rt, AFTER_REQUESTS)
 }

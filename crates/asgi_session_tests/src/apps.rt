@@ -12,16 +12,16 @@ use std::alloc::{AllocError, Global};
 
 type Fields = &'static [(&'static str, &'static str)];
 
-/// An event that is said.
+/// An event that is sent.
 #[derive(Clone, Copy)]
 pub enum Said {
-    /// An accept with this subprotocol, or with none where it is empty, and these fields.
+    /// An accept with this subprotocol, or with none if it is empty, and these fields.
     Accept(&'static str, Fields),
     Text(&'static str),
     Close(u16, &'static str),
     /// The start of a denial with this status and these fields.
     Denial(u16, Fields),
-    /// A part of its body, behind which more follows.
+    /// A part of its body, after which more follows.
     Part(&'static str),
     /// The last part.
     Last(&'static str),
@@ -31,7 +31,7 @@ pub enum Said {
     Body(&'static str),
 }
 
-/// An event that is heard.
+/// An event that is received.
 #[derive(Clone, Copy)]
 pub enum Heard {
     Connect,
@@ -44,14 +44,14 @@ pub enum Heard {
 #[derive(Clone, Copy)]
 pub enum Step {
     Says(Said),
-    /// It says this, which is refused by this number. Where it is not, the task faults.
+    /// The task sends this, which is refused by this number. If it is not, the task faults.
     IsRefused(Said, u8),
-    /// It hears this. Where it is anything else, the task faults, which the report of a connection counts.
+    /// The task receives this. If it is anything else, the task faults, which the report of a connection counts.
     Hears(Heard),
-    /// So many polls do nothing.
+    /// This many polls do nothing.
     Rests(u32),
     Faults,
-    /// It goes no further.
+    /// The task goes no further.
     Waits,
 }
 
@@ -153,7 +153,7 @@ impl Heard {
     }
 }
 
-/// Takes these steps in a session, and returns behind the last one. A request is answered with 404.
+/// Takes these steps in a session, and returns after the last one. The response to a request is 404.
 #[derive(Clone, Copy)]
 pub struct Scripted(pub &'static [Step]);
 
@@ -193,12 +193,12 @@ impl ScriptedTask {
         Some(*self.steps.get(self.at)?)
     }
 
-    /// The next step is taken.
+    /// Goes on to the next step.
     fn pass(&mut self) {
         self.at = self.at.saturating_add(1);
     }
 
-    /// One poll of a rest of so many.
+    /// One poll of a rest of `polls`.
     fn rest(&mut self, polls: u32) {
         self.rested = self.rested.saturating_add(1);
         if self.rested >= polls {
@@ -233,7 +233,7 @@ impl AppTask for ScriptedTask {
     ghost keeps = { λ _ _ _ _ _. tt };
 }
 
-/// Whether the step goes as it says; pending where it has to wait.
+/// Whether the step goes as expected; pending if it has to wait.
 fn goes<E: AppEnd>(alloc: Global, cx: &mut Context<'_>, end: &mut E, step: Step) -> Poll<bool>
     requires { E.ended end.old ≡ None }
     ensures end { GoesOn E.AppEnd None end.old end.new }
@@ -303,7 +303,7 @@ fn is_refused<E: AppEnd>(
     }
 }
 
-/// Its call faults.
+/// An application whose call faults.
 #[derive(Clone, Copy)]
 pub struct Refuses;
 
@@ -315,7 +315,7 @@ impl Application for Refuses {
     }
 }
 
-/// Answers as `WsEcho`, and faults where it hears anything but these events. It returns behind the last one.
+/// Behaves as `WsEcho`, but faults if it receives anything but these events. Returns after the last one.
 #[derive(Clone, Copy)]
 pub struct Listens(pub &'static [Heard]);
 
@@ -324,7 +324,7 @@ pub struct ListeningTask {
     alloc: Global,
     events: &'static [Heard],
     at: usize,
-    /// What is to be said next.
+    /// What is to be sent next.
     waiting: Option<Outgoing>,
 }
 
@@ -349,7 +349,7 @@ impl ListeningTask {
         Some(*self.events.get(self.at)?)
     }
 
-    /// Makes the event's answer the next to be said, where it is the one that is wanted.
+    /// Makes the echo of the event the next to be sent, if the event is the one that is wanted.
     fn hear(&mut self, wanted: Heard, event: Incoming) -> bool {
         if !wanted.is(&event) {
             return false;
@@ -359,7 +359,7 @@ impl ListeningTask {
         true
     }
 
-    /// Says the answer that is waiting. It comes back where no place is free.
+    /// Sends the echo that is waiting. The event is returned if no place is free.
     fn say<E: AppEnd>(
         &mut self,
         cx: &mut Context<'_>,
@@ -382,7 +382,7 @@ impl ListeningTask {
         }
     }
 
-    /// Hears the next event.
+    /// Receives the next event.
     fn listen<E: AppEnd>(
         &mut self,
         cx: &mut Context<'_>,
@@ -404,7 +404,7 @@ impl ListeningTask {
     }
 }
 
-/// What `WsEcho` answers to the event.
+/// What `WsEcho` sends for the event.
 fn answer(alloc: Global, event: Incoming) -> Option<Outgoing> {
     match event {
         Incoming::WsConnect => Some(Outgoing::WsAccept {

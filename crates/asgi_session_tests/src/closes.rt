@@ -6,10 +6,10 @@ use crate::texts::{ACCEPTED, CLOSE, HANDSHAKE, HELLO, HELLO_BACK};
 use asgi_conn::Outcome;
 use std::test::Fail;
 
-/// The client's close is answered by one (5.5.1), which is the message layer's own.
+/// The response to the client's close is a close (5.5.1), which is the message layer's own.
 const ANSWERED: Written = Written::Around(&[ACCEPTED, b"\x88"], b"");
 
-/// Closes with a code, with none and with a reason, and what is heard.
+/// Closes with a code, with none and with a reason, and what is received.
 const CLOSES: &[Session] = &[
     (
         &[CLOSE],
@@ -48,7 +48,7 @@ const CLOSES: &[Session] = &[
         ANSWERED,
         Outcome::Finished,
     ),
-    // Behind a message, and with a message, a ping and another close behind it: no data follows a close.
+    // After a message, and with a message, a ping and another close after it: no data follows a close.
     (
         &[HELLO, CLOSE],
         &[
@@ -70,7 +70,7 @@ const CLOSES: &[Session] = &[
         ANSWERED,
         Outcome::Finished,
     ),
-    // Inside of a message, whose first part is not heard.
+    // Inside a message, whose first part is not received.
     (
         &[b"\x01\x83\0\0\0\0Hel", CLOSE],
         &[Heard::Connect, Heard::Disconnect(1000, "")],
@@ -84,7 +84,7 @@ fn a_close_is_heard_with_its_code(rt: HostRuntime) -> Result<(), Fail> {
     check_sessions(&rt, CLOSES)
 }
 
-/// A code that a close frame must not have (7.4): the message layer says of it that the client broke the protocol, 1002.
+/// A code that a close frame must not have (7.4): the message layer treats it as a protocol error of the client, 1002.
 const RESERVED: &[Session] = &[
     (
         &[b"\x88\x82\0\0\0\0\x03\xed"],
@@ -162,7 +162,7 @@ const OWN: Step = Step::Hears(Heard::Disconnect(1000, ""));
 
 const BYE: &[u8] = b"\x88\x05\x03\xe8bye";
 
-/// The application closes, and the client answers, says more, breaks the protocol or is gone: nothing of it is heard.
+/// The application closes, and the client answers, sends more, breaks the protocol or is gone: none of it is received.
 const OWN_CLOSES: &[Row] = &[
     (
         App::Scripted(&[CONNECTS, ACCEPTS, SAYS_BYE, OWN, OWN]),
@@ -202,7 +202,7 @@ const OWN_CLOSES: &[Row] = &[
     ),
 ];
 
-/// The end of what the client says is read before the application's close is sent, which is refused then.
+/// The end of the client's input is read before the application's close is sent, which is then refused.
 const REFUSED: (Written<'static>, Outcome) = (
     Written::Around(&[ACCEPTED], b""),
     Outcome::WriteFailed(0),

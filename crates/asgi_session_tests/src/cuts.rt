@@ -1,4 +1,4 @@
-//! The same session however its input is cut in two: the bytes behind the handshake are not lost.
+//! The same session however its input is cut in two: the bytes after the handshake are not lost.
 use crate::apps::Heard;
 use crate::rows::{Row, Written, check_halves};
 use crate::serving::App;

@@ -1,4 +1,4 @@
-//! How a session ends, over lines in memory: what is handed over, and the outcome.
+//! How a session ends, over lines in memory: what is sent, and the outcome.
 use crate::apps::{Heard, Said, Step};
 use crate::rows::{BOTH, Parts};
 use crate::scripts::{Given, Out, is_handed, is_text, script_of};
@@ -12,10 +12,10 @@ use std::io;
 use std::process::Abort;
 use std::test::Fail;
 
-/// The application, the messages, what is handed over, and the outcome and the faults.
+/// The application, the messages, what is sent, and the outcome and the faults.
 type Row = (App, &'static [Given], &'static [Out], (Outcome, u64));
 
-/// Serves a handshake that is accepted, with one exchange, and says how many messages were read where all is as the row
+/// Serves a handshake that is accepted, with one exchange, and returns how many messages were read if all is as the row
 /// has it.
 fn read_over<H: Host>(
     rt: &H,
@@ -53,11 +53,11 @@ fn check_both<H: Abort + Host>(rt: &H, rows: &[Row]) -> Result<(), Fail> {
     check_so(rt, Way::Beside, rows)
 }
 
-/// What else may come of a row where the task has a thread of its own, since what it says may cross with what is read: what is
-/// handed over, and the outcome.
+/// What else may come of a row if the task has a thread of its own, since what it sends may cross with what is read:
+/// the messages sent, and the outcome.
 type Crossed = &'static [(&'static [Out], Outcome)];
 
-/// A message or a close behind the client's close is refused.
+/// A message or a close after the client's close is refused.
 const LOST: Outcome = Outcome::WriteFailed(0);
 
 fn is_among(line: &Script, outcome: Outcome, crossed: Crossed) -> bool {
@@ -87,7 +87,7 @@ fn is_line_crossed<H: Host>(
     Ok(is_one && (is_so || is_among(line, report.outcome, crossed)))
 }
 
-/// Each row, in one thread just so, and in two so or as these have it.
+/// Each row, in one thread exactly as it is, and in two as it is or in one of the crossed ways.
 fn check_crossing<H: Abort + Host>(rt: &H, rows: &[Row], crossed: &[Crossed]) -> Result<(), Fail> {
     check_so(rt, Way::Inline, rows)?;
     for (place, (row, crossed)) in rows.iter().zip(crossed).enumerate() {
@@ -103,7 +103,7 @@ const ACCEPTS: Step = Step::Says(Said::Accept("", &[]));
 
 const SAYS_BYE: Step = Step::Says(Said::Close(1000, "bye"));
 
-/// Nothing is heard of an accepted session for some polls, in which the connection reads on.
+/// The task receives nothing in an accepted session for some polls, in which the connection reads on.
 const RESTS: Step = Step::Rests(100);
 
 const HEARS_1000: Step = Step::Hears(Heard::Disconnect(1000, ""));
@@ -112,7 +112,7 @@ const HEARS_1006: Step = Step::Hears(Heard::Disconnect(1006, ""));
 
 const BYE: Out = Out::Close(1000, "bye");
 
-/// `WsEcho`, and tasks that hear just these events and send what they do.
+/// `WsEcho`, and tasks that receive exactly these events and send what `WsEcho` does.
 const ECHOED: &[Row] = &[
     (
         App::WsEcho,
@@ -180,7 +180,7 @@ fn messages_are_heard_and_handed_over(rt: HostRuntime) -> Result<(), Fail> {
     check_crossing(&rt, ECHOED, ECHOED_CROSSED)
 }
 
-/// Whether the message is echoed, and the line was given the bytes behind the handshake.
+/// Whether the message is echoed, and the line was given the bytes after the handshake.
 fn is_handed_on<H: Host>(rt: &H, way: Way, line: &mut Script) -> io::Result<bool> {
     let (report, _) = serve_by(rt, way, &Limits::usual(), App::WsEcho, line)?;
     let is_so = is_handed(line, &[Out::Text("a")]) && report.outcome == Outcome::InputBroke;
@@ -193,7 +193,7 @@ fn hands_on<H: Host>(rt: &H, way: Way) -> io::Result<bool> {
 }
 
 #[test]
-fn the_bytes_behind_a_handshake_are_handed_on(rt: HostRuntime) -> Result<(), Fail> {
+fn the_bytes_after_a_handshake_are_handed_on(rt: HostRuntime) -> Result<(), Fail> {
     for way in BOTH {
         let is_so = hands_on(&rt, *way)?;
         assert!(rt; is_so);
@@ -204,7 +204,7 @@ fn the_bytes_behind_a_handshake_are_handed_on(rt: HostRuntime) -> Result<(), Fai
 /// The application, what is written, and the outcome and the faults.
 type Answer = (App, Parts, (Outcome, u64));
 
-/// Answers in place of a session.
+/// Responses in place of a session.
 const ANSWERS: &[Answer] = &[
     (App::Hello, &[FORBIDDEN], (Outcome::Finished, 0)),
     (
@@ -232,7 +232,7 @@ const ANSWERS: &[Answer] = &[
     ),
 ];
 
-/// Whether the text of the answer is written, and nothing else is done.
+/// Whether the text of the response is written, and nothing else is done.
 fn is_answered<H: Host>(rt: &H, way: Way, row: &Answer, line: &mut Script) -> io::Result<bool> {
     let (report, _) = serve_by(rt, way, &Limits::usual(), row.0, line)?;
     let ended = (report.outcome, report.faults) == row.2 && report.exchanges == 1;
@@ -256,7 +256,7 @@ fn an_answer_in_place_of_a_session_is_text_alone(rt: HostRuntime) -> Result<(), 
     Ok(())
 }
 
-/// A task ends while its session is open: the server closes, with 1000 where it returned and with 1011 where it faulted.
+/// A task ends while its session is open: the server closes, with 1000 if it returned and with 1011 if it faulted.
 const OPEN: &[Row] = &[
     (
         App::Scripted(&[CONNECTS, ACCEPTS]),
@@ -295,7 +295,7 @@ fn a_task_that_ends_in_an_open_session_closes_it(rt: HostRuntime) -> Result<(), 
     check_crossing(&rt, OPEN, OPEN_CROSSED)
 }
 
-/// A task ends behind a close or the end of the input, of which it has heard: nothing more is handed over, in either way.
+/// A task ends after a close or the end of the input, which it has received: nothing more is sent, in either way.
 const HEARD: &[Row] = &[
     (
         App::Scripted(&[CONNECTS, ACCEPTS, HEARS_1000]),
@@ -323,7 +323,7 @@ const HEARD: &[Row] = &[
     ),
 ];
 
-/// The same where it has not heard of it.
+/// The same if it has not received it.
 const BROKEN: &[Row] = &[
     (
         App::Scripted(&[CONNECTS, ACCEPTS, SAYS_BYE]),
@@ -367,13 +367,13 @@ const BROKEN_CROSSED: &[Crossed] = &[
 ];
 
 #[test]
-fn a_task_that_ends_behind_a_close_adds_nothing(rt: HostRuntime) -> Result<(), Fail> {
+fn a_task_that_ends_after_a_close_adds_nothing(rt: HostRuntime) -> Result<(), Fail> {
     check_both(&rt, HEARD)?;
     check_crossing(&rt, BROKEN, BROKEN_CROSSED)
 }
 
-/// Each receive behind a disconnect gives an equal one, and nothing can be said: behind the client's, in either way.
-const AGAIN_BEHIND_THE_CLIENT: &[Row] = &[
+/// Each receive after a disconnect returns an equal one, and nothing can be sent: after the client's, in either way.
+const AGAIN_AFTER_THE_CLIENT: &[Row] = &[
     (
         App::Scripted(&[
             CONNECTS,
@@ -403,7 +403,7 @@ const AGAIN_BEHIND_THE_CLIENT: &[Row] = &[
     ),
 ];
 
-/// The same behind one's own.
+/// The same after one's own.
 const AGAIN: &[Row] = &[
     (
         App::Scripted(&[CONNECTS, ACCEPTS, SAYS_BYE, HEARS_1000]),
@@ -432,8 +432,8 @@ const AGAIN: &[Row] = &[
 const AGAIN_CROSSED: &[Crossed] = &[&[], &[(&[], LOST)]];
 
 #[test]
-fn each_receive_behind_a_disconnect_is_equal(rt: HostRuntime) -> Result<(), Fail> {
-    check_both(&rt, AGAIN_BEHIND_THE_CLIENT)?;
+fn each_receive_after_a_disconnect_is_equal(rt: HostRuntime) -> Result<(), Fail> {
+    check_both(&rt, AGAIN_AFTER_THE_CLIENT)?;
     check_crossing(&rt, AGAIN, AGAIN_CROSSED)
 }
 
@@ -462,7 +462,7 @@ const CLOSING: &[Row] = &[
 ];
 
 #[test]
-fn of_100_pings_behind_a_close_64_are_read(rt: HostRuntime) -> Result<(), Fail> {
+fn of_100_pings_after_a_close_64_are_read(rt: HostRuntime) -> Result<(), Fail> {
     for (place, row) in CLOSING.iter().enumerate() {
         let read = reads(&rt, Way::Inline, &Limits::usual(), row)?;
         assert_eq!(rt; read, Some(64), "row {place}");
@@ -470,7 +470,7 @@ fn of_100_pings_behind_a_close_64_are_read(rt: HostRuntime) -> Result<(), Fail> 
     Ok(())
 }
 
-/// More texts than there are places, and a close behind them.
+/// More texts than there are places, and a close after them.
 const MANY: &[Given] = &[
     Given::Text("a"),
     Given::Text("b"),
@@ -479,7 +479,7 @@ const MANY: &[Given] = &[
     Given::Close(1001, ""),
 ];
 
-/// A task that hears none of them and one that hears all, with two places.
+/// A task that receives none of them and one that receives all, with two places.
 const CROWDED: &[(Row, usize)] = &[
     // The connect and one text have a place, and another text waits for one: the close is not read before the task has
     // ended, and then all is dropped.
@@ -529,7 +529,7 @@ fn limits_with(idle_turns: u32, turns: u64) -> Result<Limits, BadLimit> {
 /// A row, and the text that is written.
 type Waiting = (Row, Parts);
 
-/// Tasks that go no further: none is answered in its place, and an open session is not closed.
+/// Tasks that go no further: the server sends no response in their place, and does not close an open session.
 const WAITING: &[Waiting] = &[
     (
         (App::Scripted(&[Step::Waits]), &[], &[], (Outcome::Idle, 0)),
@@ -573,7 +573,7 @@ const WAITING: &[Waiting] = &[
     ),
 ];
 
-/// Whether the connection is given up behind three turns that were idle.
+/// Whether the connection is given up after three idle turns.
 fn is_given_up<H: Host>(
     rt: &H,
     limits: &Limits,

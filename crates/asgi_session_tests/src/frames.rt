@@ -52,7 +52,7 @@ const MESSAGES: &[Session] = &[
         SAYS_HELLO,
         Outcome::InputBroke,
     ),
-    // A fragment may end inside of a character (5.6).
+    // A fragment may end inside a character (5.6).
     (
         &[b"\x01\x81\0\0\0\0\xc3", b"\x80\x81\0\0\0\0\xa9"],
         &[Heard::Connect, Heard::Text("\u{e9}"), LOST],
@@ -90,7 +90,7 @@ fn messages_are_heard_and_echoed(rt: HostRuntime) -> Result<(), Fail> {
     check_sessions(&rt, MESSAGES)
 }
 
-/// A ping may come inside of a message (5.4), and is answered by the message layer; a pong need not be asked for.
+/// A ping may come inside a message (5.4), and is answered by the message layer; a pong may be unsolicited.
 const CONTROLS: &[Session] = &[
     (
         &[
@@ -129,7 +129,7 @@ fn pings_and_pongs_are_not_heard(rt: HostRuntime) -> Result<(), Fail> {
 
 const FAILS: Written = Written::Around(&[ACCEPTED], b"");
 
-/// Frames that the rules refuse, with a lawful one behind: neither is heard.
+/// Frames that the rules refuse, with a lawful one after: neither is received.
 const FAULTY: &[Session] = &[
     // No mask (5.1).
     (
@@ -202,7 +202,7 @@ const FAULTY: &[Session] = &[
         FAILS,
         Outcome::InputBroke,
     ),
-    // A continuation of nothing, and a message inside of another (5.4).
+    // A continuation of nothing, and a message inside another (5.4).
     (
         &[b"\x80\x85\0\0\0\0Hello", HELLO],
         HEARS_NOTHING,
@@ -215,7 +215,7 @@ const FAULTY: &[Session] = &[
         FAILS,
         Outcome::InputBroke,
     ),
-    // Text that is no UTF-8 (5.6, 8.1), also in its first fragment, or where the last one leaves a character open.
+    // Text that is not UTF-8 (5.6, 8.1), also in its first fragment, or if the last one leaves a character open.
     (
         &[b"\x81\x81\0\0\0\0\xff", HELLO],
         HEARS_NOTHING,
@@ -260,7 +260,7 @@ const FAULTY: &[Session] = &[
         Written::Just(&[ACCEPTED]),
         Outcome::InputBroke,
     ),
-    // What came before is heard.
+    // What came before is received.
     (
         &[HELLO, b"\x81\x05Hello"],
         HEARS_HELLO,
@@ -274,7 +274,7 @@ fn faulty_frames_are_not_heard(rt: HostRuntime) -> Result<(), Fail> {
     check_sessions(&rt, FAULTY)
 }
 
-/// Adds so many bytes.
+/// Adds this many bytes.
 fn add_bytes(text: &mut Vec<u8>, count: usize) -> Result<(), AllocError> {
     for at in 0..count {
         text.push((at % 251) as u8)?;
@@ -306,7 +306,7 @@ fn frame(alloc: Global, front: &[u8], head: &[u8], count: usize) -> Result<Vec<u
 
 const PIECES: &[usize] = &[100_000, 4_096, 1_000];
 
-/// The piece in which the message is not echoed first, if any.
+/// The first piece size with which the message is not echoed, if any.
 fn wrong_piece<H: Host>(rt: &H, input: &[u8], wanted: &[u8]) -> io::Result<Option<usize>> {
     for piece in PIECES {
         let pieces = Pieces::new(input, *piece, *piece);

@@ -1,6 +1,6 @@
 //! Memory refused to a session. `tests/memory.py` runs this with each allocation refused in turn; with ample memory none is
 //! refused.
-use crate::rows::{Parts, behind, joined};
+use crate::rows::{Parts, after, joined};
 use crate::scripts::{Given, Out, is_front, is_handed, script_of};
 use crate::serving::{App, serve_by};
 use crate::texts::{ACCEPTED, FORBIDDEN, HANDSHAKE, HELLO, HELLO_BACK, OFFERING, SERVER_ERROR};
@@ -14,7 +14,7 @@ use std::test::Fail;
 /// What came of a session.
 #[derive(Clone, Copy, Debug, PartialEq, Eq)]
 enum Came {
-    /// It was served as the row has it.
+    /// The session was served as the row has it.
     Whole,
     /// Memory was refused, and nothing was done that is not due.
     CutOff,
@@ -44,15 +44,15 @@ fn is_beginning(bytes: &[u8], parts: Parts) -> bool {
     let mut rest = bytes;
     for part in parts {
         match rest.strip_prefix(*part) {
-            Some(behind) => rest = behind,
+            Some(after) => rest = after,
             None => return part.starts_with(rest),
         }
     }
     rest.is_empty()
 }
 
-/// Behind a beginning of what is due nothing more; or the refusal of a request whose application had no memory; or nothing,
-/// where a line in memory had none for the text.
+/// A beginning of what is due and nothing more; or the refusal of a request whose application had no memory; or
+/// nothing, if a line in memory had none for the text.
 fn is_cut_off(written: &[u8], wanted: Parts, outcome: Outcome) -> bool {
     match outcome {
         Outcome::NoMemory => is_beginning(written, wanted),
@@ -83,7 +83,7 @@ fn wired_came(row: &Row, written: &[u8], report: &Report) -> Came {
     if report.outcome != row.3 {
         return Came::cut_off_if(is_cut_off(written, row.2, report.outcome));
     }
-    Came::whole_if(is_one_exchange(report) && behind(written, row.2) == Some(b""))
+    Came::whole_if(is_one_exchange(report) && after(written, row.2) == Some(b""))
 }
 
 fn serve_over<H: Host>(rt: &H, row: &Row, line: &mut Memory<Pieces>) -> io::Result<Came> {

@@ -14,8 +14,8 @@ const HEARS_HELLO: App = App::Listens(&[Heard::Connect, Heard::Text("Hello"), LO
 
 const HEARS_NOTHING: App = App::Listens(&[Heard::Connect, LOST]);
 
-/// By the bytes that were read before: the application, what it says, and how many exchanges there are.
-fn wanted_behind(read: usize) -> (App, &'static [u8], &'static [u8], u64) {
+/// By the number of bytes read before: the application, the output, and how many exchanges there are.
+fn wanted_after(read: usize) -> (App, &'static [u8], &'static [u8], u64) {
     if read < HANDSHAKE.len() {
         return (HEARS_NOTHING, b"", b"", 0);
     }
@@ -26,9 +26,9 @@ fn wanted_behind(read: usize) -> (App, &'static [u8], &'static [u8], u64) {
 }
 
 /// How many bytes are read before the first failure that ends in another way.
-fn wrong_behind<H: Host>(rt: &H, input: &[u8]) -> io::Result<Option<usize>> {
+fn wrong_after<H: Host>(rt: &H, input: &[u8]) -> io::Result<Option<usize>> {
     for read in 0..=input.len() {
-        let (app, accepted, echo, exchanges) = wanted_behind(read);
+        let (app, accepted, echo, exchanges) = wanted_after(read);
         let mut pieces = Pieces::new(input, 1, 1);
         pieces.fails_at = (read as u64).saturating_add(1);
         let end = (Outcome::InputBroke, exchanges, 0);
@@ -41,7 +41,7 @@ fn wrong_behind<H: Host>(rt: &H, input: &[u8]) -> io::Result<Option<usize>> {
 
 fn wrong_read<H: Host>(rt: &H) -> io::Result<Option<usize>> {
     let input = joined(rt.alloc(), HANDSHAKE, &[HELLO])?;
-    wrong_behind(rt, &input)
+    wrong_after(rt, &input)
 }
 
 #[test]

@@ -12,19 +12,19 @@ use std::test::Fail;
 
 pub type Parts = &'static [&'static [u8]];
 
-/// What is written.
+/// The expected output.
 #[derive(Clone, Copy)]
 pub enum Written<'a> {
-    /// Just these parts.
+    /// Exactly these parts.
     Just(&'a [&'a [u8]]),
-    /// The first parts, then what the message layer says by itself, and then the last part.
+    /// The first parts, then what the message layer writes by itself, and then the last part.
     Around(&'a [&'a [u8]], &'a [u8]),
 }
 
-/// The application, the input, what is written, and the outcome, the exchanges and the faults.
+/// The application, the input, the expected output, and the outcome, the exchanges and the faults.
 pub type Row = (App, Parts, Written<'static>, End);
 
-/// What is read behind the handshake, what is heard, what is written, and the outcome.
+/// What is read after the handshake, what is received, the expected output, and the outcome.
 pub type Session = (Parts, &'static [Heard], Written<'static>, Outcome);
 
 pub fn joined(alloc: Global, front: &[u8], parts: &[&[u8]]) -> Result<Vec<u8>, AllocError> {
@@ -35,8 +35,8 @@ pub fn joined(alloc: Global, front: &[u8], parts: &[&[u8]]) -> Result<Vec<u8>, A
     Ok(bytes)
 }
 
-/// What is behind the parts, where the bytes begin with them.
-pub fn behind<'a>(bytes: &'a [u8], parts: &[&[u8]]) -> Option<&'a [u8]> {
+/// What is after the parts, if the bytes begin with them.
+pub fn after<'a>(bytes: &'a [u8], parts: &[&[u8]]) -> Option<&'a [u8]> {
     let mut rest = bytes;
     for part in parts {
         rest = rest.strip_prefix(*part)?;
@@ -46,8 +46,8 @@ pub fn behind<'a>(bytes: &'a [u8], parts: &[&[u8]]) -> Option<&'a [u8]> {
 
 pub fn is_written(bytes: &[u8], written: Written<'_>) -> bool {
     match written {
-        Written::Just(parts) => behind(bytes, parts) == Some(b""),
-        Written::Around(parts, last) => match behind(bytes, parts) {
+        Written::Just(parts) => after(bytes, parts) == Some(b""),
+        Written::Around(parts, last) => match after(bytes, parts) {
             Some(rest) => rest.ends_with(last),
             None => false,
         },
@@ -60,7 +60,7 @@ const ONE: &[Way] = &[Way::Inline];
 /// In either way.
 pub const BOTH: &[Way] = &[Way::Inline, Way::Beside];
 
-/// Serves the input in such pieces, in each of these ways, and compares.
+/// Serves the input in these pieces, in each of these ways, and compares.
 pub fn is_served<H: Host>(
     rt: &H,
     ways: &[Way],
@@ -103,8 +103,8 @@ fn is_line_served<H: Host>(
     Ok(is_so || way == Way::Beside && is_crossed(ended, text_of(line), written, end))
 }
 
-/// Whether the end of the session was read before the last message was sent, which is refused then: where the task has a thread
-/// of its own, either may be first.
+/// Whether the end of the session was read before the last message was sent, which is then refused: if the task has a
+/// thread of its own, either may be first.
 fn is_crossed(ended: End, bytes: &[u8], written: Written<'_>, end: End) -> bool {
     let Written::Around(parts, _) = written else {
         return false;
@@ -123,8 +123,8 @@ const SIZES: &[(usize, Option<ErrorKind>)] = &[
     (7, Some(ErrorKind::WouldBlock)),
 ];
 
-/// The piece in which the row fails first: whole, byte by byte and in pieces of seven, with and without a read that would
-/// block before each.
+/// The first piece size with which the row fails: whole, byte by byte and in pieces of seven, with and without a read
+/// that would block before each.
 fn fails_at<H: Host>(
     rt: &H,
     ways: &[Way],
@@ -171,11 +171,11 @@ pub fn check<H: Abort + Host>(rt: &H, rows: &[Row]) -> Result<(), Fail> {
     check_so(rt, BOTH, rows)
 }
 
-/// What else may come of a row where the task has a thread of its own, since what it says may cross with what is read: what is
-/// written, and the outcome.
+/// What else may come of a row if the task has a thread of its own, since what it sends may cross with what is read:
+/// the output, and the outcome.
 pub type Crossed = &'static [(Written<'static>, Outcome)];
 
-/// Whether the row is served in two threads as it stands, or so.
+/// Whether the row is served in two threads as it is, or in one of the crossed ways.
 fn is_crossing<H: Host>(rt: &H, row: &Row, crossed: Crossed, pieces: Pieces) -> io::Result<bool> {
     let mut line = line_of(rt, pieces)?;
     is_line_crossing(rt, row, crossed, &mut line)
@@ -227,7 +227,7 @@ fn crossing_row_fails_at<H: Host>(
     crossing_fails_at(rt, row, crossed, &input)
 }
 
-/// Each row, in pieces: in one thread just so, and in two so or as these have it.
+/// Each row, in pieces: in one thread exactly as it is, and in two as it is or in one of the crossed ways.
 pub fn check_crossing<H: Abort + Host>(
     rt: &H,
     rows: &[Row],
@@ -246,7 +246,7 @@ fn session_fails_at<H: Host>(rt: &H, app: App, row: &Session) -> io::Result<Opti
     fails_at(rt, BOTH, app, &input, row.2, (row.3, 1, 0))
 }
 
-/// Each session, in pieces, by an application that hears just these events, and by `WsEcho`.
+/// Each session, in pieces, by an application that receives exactly these events, and by `WsEcho`.
 pub fn check_sessions<H: Abort + Host>(rt: &H, rows: &[Session]) -> Result<(), Fail> {
     for (place, row) in rows.iter().enumerate() {
         let failed = session_fails_at(rt, App::Listens(row.1), row)?;

@@ -1,11 +1,11 @@
-//! Lines in memory, by tables: what they read, and what was handed over.
-use crate::rows::{Parts, behind, joined};
+//! Lines in memory, by tables: what they read, and what was sent.
+use crate::rows::{Parts, after, joined};
 use asgi_types::{Chars, Payload, Reason};
-use asgi_ws::{Handed, Msg, Piece, Script, Turn};
+use asgi_ws::{Msg, Script, ScriptBytes, ScriptRead, SentMessage};
 use std::alloc::{AllocError, Global};
 use std::collections::VecDeque;
 
-/// What one read of a message gives.
+/// What one read of a message returns.
 #[derive(Clone, Copy)]
 pub enum Given {
     Text(&'static str),
@@ -21,28 +21,28 @@ pub enum Given {
 }
 
 impl Given {
-    fn turn(self, alloc: Global) -> Result<Turn, AllocError> {
+    fn turn(self, alloc: Global) -> Result<ScriptRead, AllocError> {
         match self {
             Given::Text(text) => text_turn(alloc, text),
-            Given::Ping => Ok(Turn::Message(Msg::Ping)),
-            Given::Pong => Ok(Turn::Message(Msg::Pong)),
+            Given::Ping => Ok(ScriptRead::Message(Msg::Ping)),
+            Given::Pong => Ok(ScriptRead::Message(Msg::Pong)),
             Given::Close(code, reason) => Ok(close(code, reason)),
-            Given::BareClose => Ok(Turn::Message(Msg::Close(None))),
-            Given::Idle => Ok(Turn::Idle),
-            Given::Fault => Ok(Turn::Fault),
+            Given::BareClose => Ok(ScriptRead::Message(Msg::Close(None))),
+            Given::Idle => Ok(ScriptRead::Idle),
+            Given::Fault => Ok(ScriptRead::Fault),
         }
     }
 }
 
-fn text_turn(alloc: Global, text: &str) -> Result<Turn, AllocError> {
+fn text_turn(alloc: Global, text: &str) -> Result<ScriptRead, AllocError> {
     let text = Chars::new(String::from_str(alloc, text)?);
-    Ok(Turn::Message(Msg::Text(text)))
+    Ok(ScriptRead::Message(Msg::Text(text)))
 }
 
-fn close(code: u16, reason: &str) -> Turn {
+fn close(code: u16, reason: &str) -> ScriptRead {
     match Reason::new(reason) {
-        Some(reason) => Turn::Message(Msg::Close(Some((code, reason)))),
-        None => Turn::Fault,
+        Some(reason) => ScriptRead::Message(Msg::Close(Some((code, reason)))),
+        None => ScriptRead::Fault,
     }
 }
 
@@ -53,20 +53,24 @@ pub fn script_of(alloc: Global, text: Parts, given: &[Given]) -> Result<Script, 
     Ok(Script::new(alloc, pieces, turns))
 }
 
-fn one_piece(alloc: Global, text: Parts) -> Result<VecDeque<Piece>, AllocError> {
+fn one_piece(alloc: Global, text: Parts) -> Result<VecDeque<ScriptBytes>, AllocError> {
     let bytes = joined(alloc, b"", text)?;
     let mut pieces = VecDeque::new(alloc);
-    pieces.push_back(Piece::Bytes(bytes))?;
+    pieces.push_back(ScriptBytes::Bytes(bytes))?;
     Ok(pieces)
 }
 
-fn turns_of(alloc: Global, given: &[Given]) -> Result<VecDeque<Turn>, AllocError> {
+fn turns_of(alloc: Global, given: &[Given]) -> Result<VecDeque<ScriptRead>, AllocError> {
     let mut turns = VecDeque::new(alloc);
     add_turns(&mut turns, alloc, given)?;
     Ok(turns)
 }
 
-fn add_turns(turns: &mut VecDeque<Turn>, alloc: Global, given: &[Given]) -> Result<(), AllocError> {
+fn add_turns(
+    turns: &mut VecDeque<ScriptRead>,
+    alloc: Global,
+    given: &[Given],
+) -> Result<(), AllocError> {
     for message in given {
         let turn = message.turn(alloc)?;
         turns.push_back(turn)?;
@@ -74,7 +78,7 @@ fn add_turns(turns: &mut VecDeque<Turn>, alloc: Global, given: &[Given]) -> Resu
     Ok(())
 }
 
-/// What is handed over.
+/// What is sent.
 #[derive(Clone, Copy)]
 pub enum Out {
     Text(&'static str),
@@ -82,10 +86,10 @@ pub enum Out {
 }
 
 impl Out {
-    fn is(self, item: &Handed) -> bool {
+    fn is(self, item: &SentMessage) -> bool {
         match (self, item) {
-            (Out::Text(text), Handed::Payload(Payload::Text(given))) => given.as_str() == text,
-            (Out::Close(code, reason), Handed::Close(given, why)) => {
+            (Out::Text(text), SentMessage::Payload(Payload::Text(given))) => given.as_str() == text,
+            (Out::Close(code, reason), SentMessage::Close(given, why)) => {
                 code == *given && why.as_str() == reason
             }
             _ => false,
@@ -93,17 +97,17 @@ impl Out {
     }
 }
 
-/// Whether just these parts were written to the line as text.
+/// Whether exactly these parts were written to the line as text.
 pub fn is_text(line: &Script, parts: Parts) -> bool {
-    behind(line.text(), parts) == Some(b"")
+    after(line.text(), parts) == Some(b"")
 }
 
-/// Whether just this was handed over to the line.
+/// Whether exactly this was sent over the line.
 pub fn is_handed(line: &Script, wanted: &[Out]) -> bool {
     line.handed().len() == wanted.len() && is_front(line, wanted)
 }
 
-/// Whether what was handed over to the line is a beginning of this.
+/// Whether what was sent over the line is a beginning of this.
 pub fn is_front(line: &Script, wanted: &[Out]) -> bool {
     for (at, item) in line.handed().iter().enumerate() {
         let Some(out) = wanted.get(at) else {

@@ -16,7 +16,7 @@ pub enum App {
     Listens(&'static [Heard]),
 }
 
-/// Serves one connection by the application of a row, and gives the report and the pauses made.
+/// Serves one connection by the application of a row, and returns the report and the pauses made.
 pub fn serve_by<H: Host, L: Line>(
     rt: &H,
     way: Way,

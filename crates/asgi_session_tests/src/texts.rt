@@ -1,4 +1,4 @@
-//! The handshake, its answers and the frames that the tables name.
+//! The handshake, the responses to it and the frames that the tables name.
 
 /// The opening handshake of RFC 6455, section 1.3, for the path `/c`.
 pub const HANDSHAKE: &[u8] =

@@ -1,4 +1,4 @@
-//! Answers and messages that go out in part, or not at all.
+//! Responses and messages that go out in part, or not at all.
 use crate::apps::{Heard, Said, Step};
 use crate::rows::{BOTH, Written, is_written, joined};
 use crate::scripts::{Given, Out, is_handed, script_of};
@@ -22,7 +22,7 @@ const LOSES: Step = Step::Hears(Heard::Disconnect(1006, ""));
 /// The application, and its text.
 type Answer = (App, &'static [u8]);
 
-/// Answers, of which three bytes go out at a time.
+/// Responses, of which three bytes go out at a time.
 const ANSWERS: &[Answer] = &[
     (App::Scripted(&[CONNECTS, ACCEPTS, LOSES, LOSES]), ACCEPTED),
     (App::Hello, FORBIDDEN),
@@ -38,7 +38,7 @@ const ANSWERS: &[Answer] = &[
     ),
 ];
 
-/// Whether just so many bytes of the answer are written, and nothing else is done.
+/// Whether exactly `out` bytes of the response are written, and nothing else is done.
 fn is_cut_off<H: Host>(
     rt: &H,
     way: Way,
@@ -53,14 +53,14 @@ fn is_cut_off<H: Host>(
     Ok(ended && is_silent && Some(line.text()) == row.1.get(..out))
 }
 
-/// The same over a line that takes so many bytes, three at a time.
+/// The same over a line that takes `out` bytes, three at a time.
 fn stops_at<H: Host>(rt: &H, way: Way, row: &Answer, out: usize) -> io::Result<bool> {
     let line = script_of(rt.alloc(), &[HANDSHAKE], &[Given::Text("x")])?;
     let mut line = line.failing_write((out / 3) as u64, 3);
     is_cut_off(rt, way, row, out, &mut line)
 }
 
-/// How many bytes go out of the answer where it is cut off in another way first.
+/// The first number of bytes after which the response is cut off in another way.
 fn wrong_out<H: Host>(rt: &H, way: Way, row: &Answer) -> io::Result<Option<usize>> {
     for out in 0..row.1.len() {
         if out % 3 == 0 && !stops_at(rt, way, row, out)? {
@@ -81,7 +81,7 @@ fn an_answer_may_go_out_in_part(rt: HostRuntime) -> Result<(), Fail> {
     Ok(())
 }
 
-/// The application, how many sends succeed, the messages, what is handed over, and how many tasks faulted.
+/// The application, how many sends succeed, the messages, what is sent, and how many tasks faulted.
 type Row = (App, u64, &'static [Given], &'static [Out], u64);
 
 const IDLE: &[Given] = &[Given::Idle; 9];
@@ -122,7 +122,7 @@ const REFUSED: &[Row] = &[
         &[],
         0,
     ),
-    // The close of the server itself, but where the task has a thread of its own and the end of the input is read before.
+    // The server's own close, unless the task has a thread of its own and the end of the input is read before.
     (App::Scripted(&[CONNECTS, ACCEPTS]), 0, &[], &[], 0),
     (
         App::Scripted(&[CONNECTS, ACCEPTS, Step::Faults]),
@@ -163,7 +163,7 @@ type Frame = (usize, u64, &'static [u8]);
 
 type SinkLine<'a> = Wired<Pair<Pieces<'a>, Sink>>;
 
-/// A line of this input, to a writer that takes so many bytes at a time, whose call of this number fails.
+/// A line of this input, to a writer that takes at most `most` bytes at a time, whose call number `fails_at` fails.
 fn line_to<'a, H: AllocGlobal>(
     rt: &H,
     input: &'a [u8],
@@ -205,7 +205,7 @@ fn is_failed_write<H: Host>(
     Ok(ended && is_written(taken_by(line), taken))
 }
 
-/// The same over a line of this input, to such a writer.
+/// The same over a line of this input, to a writer of this kind.
 fn fails_to<H: Host>(
     rt: &H,
     way: Way,
@@ -249,8 +249,8 @@ fn a_frame_that_goes_out_in_part_is_a_failed_write(rt: HostRuntime) -> Result<()
     Ok(())
 }
 
-/// A message behind the client's close, of which the application has not heard: the message layer refuses it. (In one thread: in
-/// two, the task may have rested before the close is read.)
+/// A message after the client's close, which the application has not received: the message layer refuses it. (In one
+/// thread: in two, the task may have rested before the close is read.)
 const LATE: App = App::Scripted(&[
     CONNECTS,
     ACCEPTS,
@@ -266,7 +266,7 @@ fn late_fails<H: Host>(rt: &H) -> io::Result<bool> {
 }
 
 #[test]
-fn a_message_behind_the_clients_close_is_a_failed_write(rt: HostRuntime) -> Result<(), Fail> {
+fn a_message_after_the_clients_close_is_a_failed_write(rt: HostRuntime) -> Result<(), Fail> {
     let is_so = late_fails(&rt)?;
     assert!(rt; is_so);
     Ok(())

@@ -1,4 +1,4 @@
-//! The same answer however the input is cut.
+//! The same response however the input is cut.
 use asgi_conn::{Host, Outcome};
 use asgi_fakes::texts::{BAD_REQUEST, GET, HELLO, HELLO_AND_CLOSE};
 use asgi_fakes::{App, End, Memory, Pieces, Way, is_served, line_of, serve_by, text_of};
@@ -27,7 +27,7 @@ const ROWS: &[Row] = &[
     (LENGTH, HELLO, (Outcome::Finished, 1, 0)),
 ];
 
-/// Whether the input, cut so, gets the answer to the whole.
+/// Whether the input, cut like this, gets the response to the whole.
 fn is_row<H: Host>(rt: &H, row: &Row, reader: Pieces) -> io::Result<bool> {
     let (_, wanted, end) = *row;
     is_served(rt, &Limits::usual(), App::Hello, reader, wanted, end)
@@ -62,14 +62,14 @@ fn cuts_change_nothing(rt: HostRuntime) -> Result<(), Fail> {
     Ok(())
 }
 
-/// One that gives a byte at a time, and whose read of this number fails.
+/// A reader that gives a byte at a time, and whose read of this number fails.
 fn failing_at(bytes: &[u8], fails_at: u64) -> Pieces {
     let mut pieces = Pieces::new(bytes, 1, 1);
     pieces.fails_at = fails_at;
     pieces
 }
 
-/// Whether nothing is answered, and each read is told, where the read of this number fails.
+/// Whether nothing is answered, and each read is counted, if the read of this number fails.
 fn is_unanswered<H: Host>(rt: &H, failing: u64) -> io::Result<bool> {
     let mut line = line_of(rt, failing_at(GET, failing))?;
     is_line_unanswered(rt, &mut line, failing)
@@ -94,7 +94,7 @@ fn a_read_that_fails_gets_no_answer(rt: HostRuntime) -> Result<(), Fail> {
     Ok(())
 }
 
-/// Whether the request is answered, with this outcome, where the read of this number fails.
+/// Whether the request is answered, with this outcome, if the read of this number fails.
 fn is_answered<H: Host>(rt: &H, failing: u64, outcome: Outcome) -> io::Result<bool> {
     let pieces = failing_at(GET, failing);
     let end = (outcome, 1, 0);
@@ -102,8 +102,8 @@ fn is_answered<H: Host>(rt: &H, failing: u64, outcome: Outcome) -> io::Result<bo
 }
 
 #[test]
-fn a_read_that_fails_behind_a_request_leaves_its_answer(rt: HostRuntime) -> Result<(), Fail> {
-    // The read behind the request, and one more, which is not made.
+fn a_read_that_fails_after_a_request_leaves_its_answer(rt: HostRuntime) -> Result<(), Fail> {
+    // The read after the request, and one more, which is not made.
     assert!(rt; is_answered(&rt, 28, Outcome::InputBroke)?);
     assert!(rt; is_answered(&rt, 29, Outcome::Finished)?);
     Ok(())

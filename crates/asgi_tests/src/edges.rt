@@ -1,4 +1,5 @@
-//! The greatest heads and bodies that a connection takes, and the largest responses. With ample memory each is served whole.
+//! The greatest heads and bodies that a connection takes, and the largest responses. With ample memory each is served
+//! whole.
 use asgi_conn::{Host, Outcome, Report};
 use asgi_fakes::texts::{BAD_REQUEST, ECHO_HEAD, GET, HELLO, LAST_CHUNK, POST, TOO_LARGE};
 use asgi_fakes::{App, Memory, Pieces, Way, is_served, line_of, serve_by, text_of};
@@ -10,7 +11,7 @@ use std::alloc::{AllocError, Global};
 use std::io;
 use std::test::Fail;
 
-/// A head of so many bytes, its last field filled up with letters.
+/// A head of `length` bytes, its last field filled up with letters.
 pub fn head_of(alloc: Global, length: usize) -> Result<Vec<u8>, AllocError> {
     let mut head = Vec::from_slice(alloc, b"GET / HTTP/1.1\r\nHost: a\r\nX: ")?;
     for _ in head.len()..length.saturating_sub(4) {
@@ -29,7 +30,7 @@ fn digits(number: usize) -> [u8; 3] {
     [digit(number / 100), digit(number / 10), digit(number)]
 }
 
-/// Adds the lines of so many fields `x-nnn: nnn`.
+/// Adds the lines of `count` fields `x-nnn: nnn`.
 fn add_lines(text: &mut Vec<u8>, count: usize) -> Result<(), AllocError> {
     for number in 0..count {
         let [a, b, c] = digits(number);
@@ -38,7 +39,7 @@ fn add_lines(text: &mut Vec<u8>, count: usize) -> Result<(), AllocError> {
     Ok(())
 }
 
-/// A head with `Host` and so many other fields.
+/// A head with `Host` and `others` other fields.
 fn head_with(alloc: Global, others: usize) -> Result<Vec<u8>, AllocError> {
     let mut head = Vec::from_slice(alloc, b"GET / HTTP/1.1\r\nHost: a\r\n")?;
     add_lines(&mut head, others)?;
@@ -59,7 +60,7 @@ struct Served {
 }
 
 /// The last read finds the end of the input. The greeting takes three turns that read
-/// nothing: a turn takes as many items as the ring has places, two, and the end of its task comes behind two events.
+/// nothing: a turn takes as many items as the ring has places, two, and the end of its task comes after two events.
 const fn hello(piece: usize, reads: u64) -> Served {
     Served {
         piece,
@@ -90,7 +91,7 @@ fn is_report(report: &Report, served: Served) -> bool {
         && report.idle == 0
 }
 
-/// Whether the input is served so, under the greatest limits on heads.
+/// Whether the input is served like this, under the greatest limits on heads.
 fn is_head_served<H: Host>(rt: &H, input: &[u8], served: Served) -> Result<bool, Fail> {
     let limits = Limits::new(65_535, 128, 0, 1, 2, 1, 100_000)?;
     let mut line = line_of(rt, Pieces::new(input, served.piece, served.piece))?;
@@ -147,7 +148,7 @@ fn a_head_of_128_fields_is_served(rt: HostRuntime) -> Result<(), Fail> {
 const HELLO_AND_TOO_LARGE: &[u8] =
     b"HTTP/1.1 200 OK\r\ncontent-type: text/plain\r\ntransfer-encoding: chunked\r\n\r\n6\r\nhello\n\r\n0\r\n\r\nHTTP/1.1 431 Request Header Fields Too Large\r\ncontent-length: 0\r\nconnection: close\r\n\r\n";
 
-/// A request and 1 MiB of letters behind it.
+/// A request and 1 MiB of letters after it.
 fn long_input(alloc: Global) -> Result<Vec<u8>, AllocError> {
     let mut input = Vec::from_slice(alloc, GET)?;
     for _ in 0..1_048_576 {
@@ -157,7 +158,7 @@ fn long_input(alloc: Global) -> Result<Vec<u8>, AllocError> {
 }
 
 #[test]
-fn of_1_mib_behind_a_request_a_head_is_read(rt: HostRuntime) -> Result<(), Fail> {
+fn of_1_mib_after_a_request_a_head_is_read(rt: HostRuntime) -> Result<(), Fail> {
     let input = long_input(rt.alloc())?;
     // With 27 bytes of the request, 65,535 letters come in 17 pieces.
     let served = Served {
@@ -172,7 +173,7 @@ fn of_1_mib_behind_a_request_a_head_is_read(rt: HostRuntime) -> Result<(), Fail>
     Ok(())
 }
 
-/// Adds a chunk of so many letters, whose size in hexadecimal is this.
+/// Adds a chunk of `letters` letters, whose size in hexadecimal is `size`.
 fn add_chunk(text: &mut Vec<u8>, size: &[u8], letters: usize) -> Result<(), AllocError> {
     text.extend_from_slice(size)?;
     text.extend_from_slice(b"\r\n")?;
@@ -182,7 +183,7 @@ fn add_chunk(text: &mut Vec<u8>, size: &[u8], letters: usize) -> Result<(), Allo
     text.extend_from_slice(b"\r\n")
 }
 
-/// A request whose body is one chunk of 1 MiB, with another request behind it.
+/// A request whose body is one chunk of 1 MiB, with another request after it.
 fn long_request(alloc: Global) -> Result<Vec<u8>, AllocError> {
     let mut input = Vec::from_slice(alloc, POST)?;
     input.extend_from_slice(b"Transfer-Encoding: chunked\r\n\r\n")?;
@@ -192,7 +193,7 @@ fn long_request(alloc: Global) -> Result<Vec<u8>, AllocError> {
     Ok(input)
 }
 
-/// What `Echo` answers to it: 64 blocks of 16 KiB, and nothing.
+/// What `Echo` answers to this request: 64 blocks of 16 KiB, and nothing.
 fn long_answer(alloc: Global) -> Result<Vec<u8>, AllocError> {
     let mut text = Vec::from_slice(alloc, ECHO_HEAD)?;
     for _ in 0..64 {
@@ -204,7 +205,7 @@ fn long_answer(alloc: Global) -> Result<Vec<u8>, AllocError> {
     Ok(text)
 }
 
-/// Whether the two requests are answered so, read in such pieces.
+/// Whether the two requests are answered like this, read in pieces of this size.
 fn is_echoed<H: Host>(rt: &H, input: &[u8], piece: usize, wanted: &[u8]) -> io::Result<bool> {
     let pieces = Pieces::new(input, piece, piece);
     let end = (Outcome::Finished, 2, 0);
@@ -236,7 +237,7 @@ fn facts(alloc: Global, version: HttpVersion) -> Facts {
     }
 }
 
-/// So many fields `X-NNN: NNN`.
+/// The fields `X-NNN: NNN`, `count` of them.
 fn fields(alloc: Global, count: usize) -> Result<Headers, HeaderError> {
     let mut headers = Headers::new(alloc);
     for number in 0..count {
@@ -254,7 +255,7 @@ fn start(alloc: Global, count: usize) -> Result<Outgoing, HeaderError> {
     })
 }
 
-/// Adds so many bytes, in rows of 251.
+/// Adds `count` bytes, in rows of 251.
 fn add_bytes(text: &mut Vec<u8>, count: usize) -> Result<(), AllocError> {
     for at in 0..count {
         text.push((at % 251) as u8)?;
@@ -288,7 +289,7 @@ fn take_both(
     Ok(())
 }
 
-/// What is written of a start with so many fields and a body of so many bytes.
+/// What is written of a start with this many fields and a body of this many bytes.
 fn written(
     alloc: Global,
     version: HttpVersion,
@@ -301,7 +302,7 @@ fn written(
     Ok(out)
 }
 
-/// Its text: the fields in their order, then what stands in front of the body, the body, and what stands behind it.
+/// The text of a response: the fields in their order, what comes before the body, the body, and what comes after.
 fn wanted(
     alloc: Global,
     count: usize,
@@ -317,10 +318,10 @@ fn wanted(
     Ok(text)
 }
 
-/// How many fields the start has, how many bytes the body, and what stands around the body.
+/// How many fields the start has, how many bytes the body, and what comes before and after the body.
 type Response = (usize, usize, &'static [u8], &'static [u8]);
 
-/// The body is one chunk, whose size stands before it in hexadecimal.
+/// The body is one chunk, and before it comes its size in hexadecimal.
 const CHUNKED: [Response; 7] = [
     (
         0,
@@ -366,7 +367,7 @@ const CHUNKED: [Response; 7] = [
     ),
 ];
 
-/// In HTTP/1.0 the body stands as it is, and ends with the connection.
+/// In HTTP/1.0 the body is sent as it is, and ends with the connection.
 const PLAIN: [Response; 3] = [
     (128, 2, b"connection: close\r\n\r\n", b""),
     (1, 65_536, b"connection: close\r\n\r\n", b""),

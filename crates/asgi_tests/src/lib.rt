@@ -1,4 +1,4 @@
-//! Tests of a connection by its heads: what each form of one is answered, however the input is cut, and how large it may be.
+//! Tests of a connection by its heads: what each form gets, however the input is cut, and how large a head may be.
 #![tactic(auto)]
 
 #[cfg(test)]

@@ -11,10 +11,10 @@ use std::io;
 use std::process::Abort;
 use std::test::Fail;
 
-/// Inputs, and of each what is written, the outcome and the exchanges.
+/// Inputs, and for each what is written, the outcome and the exchanges.
 type Case = (&'static [&'static [u8]], &'static [u8], Outcome, u64);
 
-/// Whether the input, given whole, is served so.
+/// Whether the input, given whole, is served like this.
 fn is_case<H: Host>(rt: &H, limits: &Limits, input: &[u8], case: &Case) -> io::Result<bool> {
     let (_, wanted, outcome, exchanges) = *case;
     let whole = Pieces::new(input, 4_096, 4_096);
@@ -320,7 +320,7 @@ fn an_input_that_ends_early_gets_no_answer(rt: HostRuntime) -> Result<(), Fail> 
     check(&rt, &Limits::usual(), ENDS_EARLY)
 }
 
-/// Whether a head of `length` bytes is served so.
+/// Whether a head of `length` bytes is served like this.
 fn is_head_served<H: Host>(
     rt: &H,
     limits: &Limits,

@@ -1,8 +1,8 @@
--- A text in front of zero bytes is a padded text.
+-- A text with zero bytes after it is a padded text.
 use Rattle.std.proofs.Common.{◌≡◌, ℕ, List, ◌++◌, length, drop, ap, ◌∙◌}
 use Rattle.std.specs.Prelude.{replicate}
 use Rattle.std.proofs.lemmas.List.{drop-replicate}
-use Rattle.asgi_types.specs.Reasons.{padded}
+use Rattle.asgi_types.specs.private.Reasons.{padded}
 
 pub front_padded : (front bytes zeros : List ℕ) → front ≡ bytes → zeros ≡ replicate 123 0
     → front ++ drop (length bytes) zeros ≡ padded bytes

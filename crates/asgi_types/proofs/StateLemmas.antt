@@ -1,4 +1,4 @@
--- Setting a value is to set it in the map: the name has it, and each other name keeps what it had.
+-- Setting a value sets it in the map: the name has it, and each other name keeps what it had.
 use Rattle.std.proofs.Common.{◌≡◌, ◌≢◌, ℕ, ◌+◌, ◌<◌, Bool, true, false, ◌⊎◌, inl, inr, List, [], ◌∷◌, ◌++◌, length, take, refl, ap, sym, ◌∙◌, Option, Some, None, slice_set, slice_index_or, length-set, length-append, subst, unwrap_or, suc, zero, add-one}
 use Rattle.std.specs.Prelude.{slice_get, is_some, IsNone, if◌then◌else◌}
 use Rattle.std.proofs.Math.Seq.{take-suc}
@@ -7,7 +7,7 @@ use Rattle.std.proofs.lemmas.Slice.Eq.{bytes_eq-Decides}
 use Rattle.asgi_types.specs.declared.state.StateValue.{StateValue}
 use Rattle.asgi_types.specs.States.{value_of, with_value, EachNameOnce}
 use Rattle.std.proofs.lemmas.Option.{slice_get_read}
-use Rattle.asgi_types.specs.StateEntries.{IsValueAt, IsReplaced}
+use Rattle.asgi_types.specs.private.StateEntries.{IsValueAt, IsReplaced}
 
 abbrev Entries : Type 0
 Entries = List (List ℕ × StateValue)
@@ -19,7 +19,7 @@ two false = inr refl
 different : {b : Bool} → b ≡ false → b ≡ true → ⊥
 different p q = cc
 
--- behind entries without the name
+-- after entries without the name
 pub value_of-append : (xs ys : Entries) (n : List ℕ) → value_of xs n ≡ None → value_of (xs ++ ys) n ≡ value_of ys n
 value_of-append [] ys n h = refl
 value_of-append (e ∷ xs) ys n h = elim (two (bytes_eq e.0 n)) [
@@ -99,7 +99,7 @@ found_at es n text i e inside read first shown same = record {
   first = first;
 }
 
--- the search goes on behind another name
+-- the search goes on after another name
 pub missing_more : (es : Entries) (n text : List ℕ) (i : ℕ) (e : List ℕ × StateValue) → i < length es → e ≡ slice_index_or es i e → value_of (take i es) n ≡ None
     → text ≡ e.0 → bytes_eq text n ≡ false → value_of (take (i + 1) es) n ≡ None
 missing_more es n text i e inside read none shown other =
@@ -159,10 +159,10 @@ held es shown now n i same view at none =
 -- a name that was not held comes last
 pub added : (es shown now new : Entries) (n : List ℕ) (w : StateValue) → shown ≡ es → es ≡ now → EachNameOnce es → value_of shown n ≡ None → new ≡ es ++ (n, w) ∷ []
     → Sets now new n w
-added es shown now new n w same view once none behind =
+added es shown now new n w same view once none after =
     let missing = ap (λ (xs : Entries). value_of xs n) (sym same) ∙ none in
     sets now new n w (subst EachNameOnce view once)
-    (behind ∙ sym (with_value-none es n w missing) ∙ ap (λ (xs : Entries). with_value xs n w) view)
+    (after ∙ sym (with_value-none es n w missing) ∙ ap (λ (xs : Entries). with_value xs n w) view)
 
 pub grown : (es new : Entries) (e : List ℕ × StateValue) → new ≡ es ++ e ∷ [] → length new ≡ length es + 1
-grown es new e behind = ap length behind ∙ length-append es (e ∷ [])
+grown es new e after = ap length after ∙ length-append es (e ∷ [])

@@ -1,12 +1,10 @@
-pub mod Buffers
 pub mod Fields
 pub mod Lengths
 pub mod Spans
 pub mod Ranges
-pub mod Reasons
 pub mod Room
 pub mod Scopes
-pub mod StateEntries
+pub mod private
 pub mod States
 pub mod Tokens
 pub mod Versions

@@ -1,4 +1,4 @@
--- What a scope says of itself, and a scope with the parts that its connection knows.
+-- The versions in a scope, and a scope with the parts that its connection knows.
 use Rattle.std.specs.Prelude.{ℕ, List, Option, codes}
 use Rattle.asgi_types.specs.declared.scope.Kind.{Kind}
 use Rattle.asgi_types.specs.declared.scope.Kind.TheVariants as kind

@@ -1,4 +1,4 @@
--- Words of private functions, which state no promise: where the text of the header fields has each of them.
+-- Where each header field stands in the text that `Headers` keeps.
 use Rattle.std.specs.Prelude.{ℕ, ◌+◌, ◌≤◌, List, length, map, slice_range, All}
 use Rattle.asgi_types.specs.declared.headers.Span.{Span}
 use Rattle.asgi_types.specs.Fields.{HeaderField, IsValidField}
@@ -13,9 +13,9 @@ pub record IsSpanIn (n : ℕ) (p : Span) : Type 0 where
 abbrev pub field_at : List ℕ → Span → HeaderField
 field_at text p = record { name = slice_range text p.start p.middle; value = slice_range text p.middle p.end }
 
--- the span of a name and a value behind n bytes
-abbrev pub span_behind : ℕ → List ℕ → List ℕ → Span
-span_behind n name value =
+-- the span of a name and a value after n bytes
+abbrev pub span_after : ℕ → List ℕ → List ℕ → Span
+span_after n name value =
     record { start = n; middle = n + length name; end = n + length name + length value }
 
 -- the spans lie in the text, and what stands there are valid fields

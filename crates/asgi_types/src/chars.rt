@@ -24,14 +24,14 @@ impl Chars {
         Chars { text }
     }
 
-    /// The text in its place.
+    /// The text, borrowed.
     pub fn as_str(&self) -> &str
         ensures { result.now ≡ self.now }
     {
         self.text.as_str()
     }
 
-    /// The text, taken out. It takes no memory.
+    /// Takes the text out. It takes no memory.
     pub fn into_string(self) -> String
         ensures { string_bytes result ≡ self }
     {
@@ -39,7 +39,7 @@ impl Chars {
         taken
     }
 
-    /// The same text once more, in memory of its own; `AllocError` where that is refused.
+    /// A copy of the text, in memory of its own; `AllocError` if that is refused.
     pub fn copy(&self, alloc: Global) -> Result<Self, AllocError>
         ensures { IfOk result (λ copied. copied ≡ self.now) }
     {

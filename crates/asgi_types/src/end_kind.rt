@@ -3,10 +3,10 @@
 /// How a task ended.
 #[derive(Clone, Copy, Debug, PartialEq, Eq)]
 pub enum EndKind {
-    /// It returned.
+    /// The task returned.
     Returned,
-    /// It faulted.
+    /// The task faulted.
     Faulted,
-    /// It reached a limit of turns, or of idle turns in a row.
+    /// The task reached a limit of turns, or of idle turns in a row.
     Idle,
 }

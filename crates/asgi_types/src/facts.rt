@@ -1,4 +1,4 @@
-//! What a server keeps of a request for its answer.
+//! What a server keeps of a request for its response.
 ghost use Rattle.std.specs.Prelude.{◌≡◌, [], IfOk, IsOk};
 
 use crate::{HttpVersion, Names};
@@ -7,7 +7,7 @@ use std::alloc::{AllocError, Global};
 /// How the body of a request is delimited (RFC 9112, section 6).
 #[derive(Clone, Copy, Debug, PartialEq, Eq)]
 pub enum Framing {
-    /// So many bytes; 0 where there is no body (RFC 9112, section 6.3).
+    /// This many bytes; 0 if there is no body (RFC 9112, section 6.3).
     Length(u64),
     /// The chunked transfer coding (RFC 9112, section 7.1).
     Chunked,
@@ -15,30 +15,30 @@ pub enum Framing {
     Upgrade,
 }
 
-/// What a server keeps of a request for its answer.
+/// What a server keeps of a request for its response.
 #[derive(Debug, Drop)]
 pub struct Facts {
-    /// The version that the request is of (RFC 9112, section 2.3).
+    /// The version of the request (RFC 9112, section 2.3).
     pub version: HttpVersion,
-    /// The method is HEAD, so the answer has no content (RFC 9110, section 9.3.2).
+    /// The method is HEAD, so the response has no content (RFC 9110, section 9.3.2).
     pub head_only: bool,
-    /// The connection closes after the answer (RFC 9112, sections 9.3 and 9.6).
+    /// The connection closes after the response (RFC 9112, sections 9.3 and 9.6).
     pub close: bool,
     /// The client waits for `100 Continue` before it sends its body (RFC 9110, section 10.1.1).
     pub expect: bool,
     /// How the body of the request is delimited.
     pub framing: Framing,
-    /// The value of `sec-websocket-key`, 16 bytes in base64 (RFC 6455, section 4.1); zero bytes
-    /// where the request is no opening handshake.
+    /// The value of `sec-websocket-key`, 16 bytes in base64 (RFC 6455, section 4.1); zero bytes if
+    /// the request is no opening handshake.
     pub key: [u8; 24],
     /// The subprotocols that the client offers, in its order (RFC 6455, section 4.1). None are
-    /// offered where the request is no opening handshake.
+    /// offered if the request is no opening handshake.
     pub subprotocols: Names,
 }
 
 impl Facts {
-    /// The same facts once more, in memory of their own; `AllocError` where that is refused. To
-    /// copy no subprotocols takes no memory.
+    /// A copy of the facts, in memory of its own; `AllocError` if that is refused. To copy no
+    /// subprotocols takes no memory.
     pub fn copy(&self, alloc: Global) -> Result<Self, AllocError>
         ensures same { IfOk result (λ copied. copied ≡ self.now) }
         ensures empty { self.now.subprotocols ≡ [] → IsOk result }

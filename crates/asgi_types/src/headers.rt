@@ -6,7 +6,7 @@ ghost use Rattle.http_header.specs.FieldValue.{IsFieldValue};
 ghost use Rattle.std.specs.Iterator.{YieldsFirstBy, item_count};
 ghost use Rattle.http_header.specs.Token.{lowercase};
 ghost use Rattle.asgi_types.specs.Fields.{HeaderField, IsValidField, field_of, shown};
-ghost use Rattle.asgi_types.specs.Spans.{field_at, span_behind, IsSpanIn};
+ghost use Rattle.asgi_types.specs.Spans.{field_at, span_after, IsSpanIn};
 
 use http_header::is_token;
 use std::alloc::{AllocError, Global};
@@ -16,8 +16,8 @@ use thiserror::Error;
 /// Why a field was not added.
 #[derive(Clone, Copy, Debug, PartialEq, Eq, Error)]
 pub enum HeaderError {
-    /// The name is no token (RFC 9110, sections 5.1 and 5.6.2), as an empty one is none, or has
-    /// more than 65,535 bytes.
+    /// The name is empty or otherwise no token (RFC 9110, sections 5.1 and 5.6.2), or has more than
+    /// 65,535 bytes.
     #[error("the field name is no token of at most 65,535 bytes")]
     BadName,
     /// The value has a control byte other than the tab (RFC 9110, section 5.5).
@@ -67,8 +67,8 @@ impl Headers {
         }
     }
 
-    /// No fields, with room for so many fields, whose names and values have so many bytes in all.
-    /// `AllocError` where memory is refused. It is for the crates of this repository only.
+    /// No fields, with room for this many fields, whose names and values have this many bytes in
+    /// all. `AllocError` if memory is refused. For the crates of this repository only.
     #[doc(hidden)]
     pub fn with_room(alloc: Global, fields: usize, bytes: usize) -> Result<Self, AllocError>
         ensures { IfOk result (λ headers. headers ≡ []) }
@@ -80,13 +80,13 @@ impl Headers {
 
     /// Adds a field at the end: its name, without the colon, in lower case, and its value as it is.
     ///
-    /// A name is a token of RFC 9110, section 5.6.2, of at most 65,535 bytes, else `BadName` comes.
-    /// A value has no control byte but the tab (section 5.5), else `BadValue` comes. `NoMemory`
-    /// comes where memory is refused. On an error nothing is added.
+    /// A name is a token of RFC 9110, section 5.6.2, of at most 65,535 bytes, else `BadName` is
+    /// returned. A value has no control byte but the tab (section 5.5), else `BadValue` is
+    /// returned. `NoMemory` is returned if memory is refused. On an error nothing is added.
     pub fn push(&mut self, name: &[u8], value: &[u8]) -> Result<(), HeaderError>
         ensures ok { OnOk result (self.new ≡ self.old ++ field_of name.now value.now ∷ []) }
 
-        // The name is judged first, then the value; want of memory comes last.
+        // The name is judged first, then the value; lack of memory comes last.
         ensures bad_name { IsErrOf result HeaderError.BadName ↔ ¬ (IsFieldName name.now) }
         ensures bad_value { IsErrOf result HeaderError.BadValue ↔ (IsFieldName name.now × (¬ (IsFieldValue value.now))) }
         ensures err { OnErr result (self.new ≡ self.old) }
@@ -103,8 +103,8 @@ impl Headers {
         Ok(())
     }
 
-    /// The same for a name and a value that were judged already; `AllocError` where memory is
-    /// refused, and then nothing is added. It is for the crates of this repository only.
+    /// The same for a name and a value that were judged already; `AllocError` if memory is refused,
+    /// and then nothing is added. For the crates of this repository only.
     #[doc(hidden)]
     pub fn push_valid(&mut self, name: &[u8], value: &[u8]) -> Result<(), AllocError>
         requires name { IsFieldName name.now }
@@ -133,7 +133,7 @@ impl Headers {
     }
 
     /// The name, in lower case, and the value of the field at the index, which counts from 0;
-    /// `None` behind the last.
+    /// `None` after the last.
     pub fn at(&self, index: usize) -> Option<(&[u8], &[u8])>
         ensures missing { IsNone result ↔ (length self.now ≤ index) }
         ensures found { IfSome result (λ field. slice_get self.now index ≡ Some (shown field)) }
@@ -152,7 +152,7 @@ impl Headers {
         }
     }
 
-    /// The law of every list: whoever made it, no byte of a field ends its line (RFC 9110,
+    /// A law of every list, however it was made: no byte of a field ends its line (RFC 9110,
     /// sections 5.1 and 5.5).
     pub fn fields_are_valid(&self)
         ensures { All IsValidField self.now }
@@ -160,8 +160,8 @@ impl Headers {
         let _ = &self.text;
     }
 
-    /// The same fields once more, in memory of their own; `AllocError` where that is refused. To
-    /// copy no fields takes no memory.
+    /// A copy of the fields, in memory of its own; `AllocError` if that is refused. To copy no
+    /// fields takes no memory.
     pub fn copy(&self, alloc: Global) -> Result<Self, AllocError>
         ensures same { IfOk result (λ copied. copied ≡ self.now) }
         ensures empty { self.now ≡ [] → IsOk result }
@@ -199,7 +199,7 @@ fn append(
     value: &[u8],
 ) -> Result<(), AllocError>
     ensures text { OnOk result (text.new.items ≡ text.old.items ++ (lowercase name.now ++ value.now)) }
-    ensures spans { OnOk result (spans.new.items ≡ spans.old.items ++ span_behind (length text.old.items) name.now value.now ∷ []) }
+    ensures spans { OnOk result (spans.new.items ≡ spans.old.items ++ span_after (length text.old.items) name.now value.now ∷ []) }
     ensures err { OnErr result ((text.new.items ≡ text.old.items) × (spans.new.items ≡ spans.old.items)) }
 {
     spans.reserve(1)?;

@@ -1,4 +1,4 @@
-//! Lengths as fields write them.
+//! Lengths as they are written in fields.
 ghost use Rattle.std.specs.Prelude.{◌≡◌};
 ghost use Rattle.asgi_types.specs.Lengths.{length_of_text};
 

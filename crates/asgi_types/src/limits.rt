@@ -37,8 +37,7 @@ pub struct Limits {
 impl Limits {
     ghost use Rattle.asgi_types.specs.Ranges.{AreInRange, AreLimits};
 
-    /// The limits given, each in the unit of its field, or `BadLimit` where one is outside its
-    /// range.
+    /// The limits given, each in the unit of its field, or `BadLimit` if one is outside its range.
     pub fn new(
         max_head: usize,
         max_headers: usize,
@@ -71,9 +70,9 @@ impl Limits {
         })
     }
 
-    /// The limits that a server takes unless told otherwise: heads of 16,384 bytes and 64 fields,
-    /// bodies of 1,048,576 bytes, body events of 16,384 bytes, 16 events each way, 30,000 idle
-    /// turns in a row and 2^40 turns.
+    /// The default limits of a server: heads of 16,384 bytes and 64 fields, bodies of 1,048,576
+    /// bytes, body events of 16,384 bytes, 16 events each way, 30,000 idle turns in a row and 2^40
+    /// turns.
     pub fn usual() -> Self
         ensures { AreLimits result 16384 64 1048576 16384 16 30000 (2 ^ 40) }
     {

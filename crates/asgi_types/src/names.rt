@@ -27,7 +27,7 @@ impl Names {
         }
     }
 
-    /// Adds a name at the end; `AllocError` where memory is refused, and then nothing is added.
+    /// Adds a name at the end; `AllocError` if memory is refused, and then nothing is added.
     pub fn push(&mut self, name: Chars) -> Result<(), AllocError>
         ensures ok { OnOk result (self.new ≡ self.old ++ name ∷ []) }
         ensures err { OnErr result (self.new ≡ self.old) }
@@ -43,7 +43,7 @@ impl Names {
         self.names.len()
     }
 
-    /// The name at the index, which counts from 0; `None` behind the last.
+    /// The name at the index, which counts from 0; `None` after the last.
     pub fn at(&self, index: usize) -> Option<&Chars>
         ensures missing { IsNone result ↔ (length self.now ≤ index) }
         ensures found { IfSome result (λ name. slice_get self.now index ≡ Some name.now) }
@@ -51,8 +51,8 @@ impl Names {
         self.names.get(index)
     }
 
-    /// The same names once more, in memory of their own; `AllocError` where that is refused. To
-    /// copy no names takes no memory.
+    /// A copy of the names, in memory of its own; `AllocError` if that is refused. To copy no names
+    /// takes no memory.
     pub fn copy(&self, alloc: Global) -> Result<Self, AllocError>
         ensures same { IfOk result (λ copied. copied ≡ self.now) }
         ensures empty { self.now ≡ [] → IsOk result }

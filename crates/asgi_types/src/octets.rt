@@ -24,14 +24,14 @@ impl Octets {
         Self { bytes }
     }
 
-    /// The bytes in their place.
+    /// The bytes, borrowed.
     pub fn bytes(&self) -> &[u8]
         ensures { result.now ≡ self.now }
     {
         self.bytes.as_slice()
     }
 
-    /// The bytes, taken out. It takes no memory.
+    /// Takes the bytes out. It takes no memory.
     pub fn into_vec(self) -> Vec<u8>
         ensures { result.items ≡ self }
     {
@@ -39,7 +39,7 @@ impl Octets {
         taken
     }
 
-    /// The same bytes once more, in memory of their own; `AllocError` where that is refused.
+    /// A copy of the bytes, in memory of its own; `AllocError` if that is refused.
     pub fn copy(&self, alloc: Global) -> Result<Self, AllocError>
         ensures { IfOk result (λ copied. copied ≡ self.now) }
     {

@@ -1,4 +1,4 @@
-//! What an application says.
+//! What an application sends.
 use crate::{Chars, Headers, Octets, Payload, State};
 
 /// The version of a request: HTTP/1.0 or HTTP/1.1 (RFC 9112, section 2.3).
@@ -20,7 +20,7 @@ pub enum Outgoing {
         status: u16,
         headers: Headers,
     },
-    /// "Response Body": a part of the content, without its framing, the last where `more_body` is
+    /// "Response Body": a part of the content, without its framing; the last if `more_body` is
     /// false.
     ResponseBody {
         body: Octets,
@@ -47,8 +47,7 @@ pub enum Outgoing {
         status: u16,
         headers: Headers,
     },
-    /// "Response Body" behind that start: a part of the content, the last where `more_body` is
-    /// false.
+    /// "Response Body" after that start: a part of the content; the last if `more_body` is false.
     DenialBody {
         body: Octets,
         more_body: bool,
@@ -57,13 +56,13 @@ pub enum Outgoing {
     StartupComplete {
         state: State,
     },
-    /// "Startup Failed", with what is to be said of it.
+    /// "Startup Failed", with a message about it.
     StartupFailed {
         message: Chars,
     },
     /// "Shutdown Complete".
     ShutdownComplete,
-    /// "Shutdown Failed", with what is to be said of it.
+    /// "Shutdown Failed", with a message about it.
     ShutdownFailed {
         message: Chars,
     },

@@ -1,23 +1,23 @@
 //! The reason of a WebSocket close.
 ghost use Rattle.std.specs.Prelude.{◌≡◌, ◌<◌, ◌≤◌, ◌↔◌, IfSome, IsNone, length};
-ghost use Rattle.asgi_types.specs.Reasons.{padded};
+ghost use Rattle.asgi_types.specs.private.Reasons.{padded};
 
 use std::marker::Model;
 
 /// A short text, which takes no memory of its own. Its bytes are UTF-8.
 ///
-/// It has at most 123 bytes: a control frame has at most 125, and two are the code's (RFC 6455,
-/// sections 5.5 and 5.5.1).
+/// The text has at most 123 bytes: a control frame has at most 125, and two are the code's
+/// (RFC 6455, sections 5.5 and 5.5.1).
 #[derive(Clone, Copy, Debug)]
 pub struct Reason {
-    // The bytes behind the text are zero.
+    // The bytes after the text are zero.
     text: [u8; 123],
     len: usize,
 }
 
 impl Model for Reason {
     ghost use Rattle.std.specs.Prelude.{◌≡◌, ℕ, ◌-◌, List, ◌++◌, length, take, drop, replicate};
-    ghost use Rattle.asgi_types.specs.Reasons.{IsReason, padded};
+    ghost use Rattle.asgi_types.specs.private.Reasons.{IsReason, padded};
 
     ghost Value = { List ℕ };
 
@@ -27,13 +27,13 @@ impl Model for Reason {
 
     ghost inverse = { λ bytes. record { text = padded bytes; len = length bytes } };
 
-    ghost use Rattle.asgi_types.specs.Buffers.{buffer_back};
+    ghost use Rattle.asgi_types.specs.private.Buffers.{buffer_back};
 
     ghost inverse_ok = { buffer_back };
 }
 
 impl Reason {
-    /// The text, or `None` where it has more than 123 bytes.
+    /// The text, or `None` if it has more than 123 bytes.
     pub fn new(text: &str) -> Option<Self>
         ensures long { IsNone result ↔ (123 < length text.now) }
         ensures kept { IfSome result (λ reason. reason ≡ text.now) }
@@ -48,14 +48,14 @@ impl Reason {
         })
     }
 
-    /// The bytes of the text, without the zero bytes behind it.
+    /// The bytes of the text, without the zero bytes after it.
     pub fn bytes(&self) -> &[u8]
         ensures { result.now ≡ self.now }
     {
         &self.text[..self.len]
     }
 
-    /// The text, without the zero bytes behind it.
+    /// The text, without the zero bytes after it.
     pub fn as_str(&self) -> &str
         ensures { result.now ≡ self.now }
     {
@@ -66,7 +66,7 @@ impl Reason {
     }
 }
 
-/// The bytes with zero bytes behind them.
+/// The bytes with zero bytes after them.
 fn buffer_of(bytes: &[u8]) -> [u8; 123]
     requires { length bytes.now ≤ 123 }
     ensures { result ≡ padded bytes.now }

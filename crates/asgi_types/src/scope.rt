@@ -27,7 +27,7 @@ pub enum Kind {
     Lifespan,
 }
 
-/// The versions of ASGI and of the message format that a scope is of.
+/// The versions of ASGI and of the message format in a scope.
 #[derive(Clone, Copy, Debug, PartialEq, Eq)]
 pub struct Asgi {
     kind: Kind,
@@ -44,7 +44,7 @@ impl Model for Asgi {
 }
 
 impl Asgi {
-    /// What a scope of this kind says.
+    /// The versions in a scope of this kind.
     pub fn of(kind: Kind) -> Self
         ensures { result ≡ kind }
     {
@@ -71,7 +71,7 @@ impl Asgi {
     }
 }
 
-/// The extensions that a server has for a scope (ASGI 3.0, "Extensions").
+/// The extensions that a server supports in a scope (ASGI 3.0, "Extensions").
 #[derive(Clone, Copy, Debug, PartialEq, Eq)]
 pub struct Extensions {
     /// `websocket.http.response`: an application may answer the handshake with a response.
@@ -86,7 +86,7 @@ pub struct Extensions {
 pub struct HttpScope {
     /// The versions of ASGI and of the message format.
     pub asgi: Asgi,
-    /// The version that the request is of.
+    /// The version of the request.
     pub http_version: HttpVersion,
     /// The method of the request, in upper case.
     pub method: Chars,
@@ -96,20 +96,20 @@ pub struct HttpScope {
     pub path: Chars,
     /// The path as it was received, still percent-encoded, without the query.
     pub raw_path: Octets,
-    /// What stands behind the first `?`, still percent-encoded; empty where there is none.
+    /// What stands after the first `?`, still percent-encoded; empty if there is none.
     pub query_string: Octets,
-    /// The prefix under which the application is mounted; empty where there is none.
+    /// The prefix under which the application is mounted; empty if there is none.
     pub root_path: Chars,
     /// The fields of the request, in its order, their names in lower case.
     pub headers: Headers,
-    /// The client's side of the connection, where it is known.
+    /// The client's side of the connection, if it is known.
     pub client: Option<Peer>,
-    /// The server's side of the connection, where it is known.
+    /// The server's side of the connection, if it is known.
     pub server: Option<Peer>,
     /// A copy of what the application kept at its start (ASGI lifespan protocol 2.0, "Lifespan
     /// State").
     pub state: State,
-    /// What the server has beside the events that each server has.
+    /// What the server supports beside the events that each server supports.
     pub extensions: Extensions,
 }
 
@@ -127,22 +127,22 @@ pub struct WsScope {
     pub path: Chars,
     /// The path as it was received, still percent-encoded, without the query.
     pub raw_path: Octets,
-    /// What stands behind the first `?`, still percent-encoded; empty where there is none.
+    /// What stands after the first `?`, still percent-encoded; empty if there is none.
     pub query_string: Octets,
-    /// The prefix under which the application is mounted; empty where there is none.
+    /// The prefix under which the application is mounted; empty if there is none.
     pub root_path: Chars,
     /// The fields of the request, in its order, their names in lower case.
     pub headers: Headers,
-    /// The client's side of the connection, where it is known.
+    /// The client's side of the connection, if it is known.
     pub client: Option<Peer>,
-    /// The server's side of the connection, where it is known.
+    /// The server's side of the connection, if it is known.
     pub server: Option<Peer>,
     /// The subprotocols that the client offers, in its order (RFC 6455, section 4.1).
     pub subprotocols: Names,
     /// A copy of what the application kept at its start (ASGI lifespan protocol 2.0, "Lifespan
     /// State").
     pub state: State,
-    /// What the server has beside the events that each server has.
+    /// What the server supports beside the events that each server supports.
     pub extensions: Extensions,
 }
 
@@ -188,8 +188,8 @@ impl Scope {
         }
     }
 
-    /// The same scope once more, in memory of its own; `AllocError` where that is refused. To copy
-    /// a lifespan scope with an empty state takes no memory.
+    /// A copy of the scope, in memory of its own; `AllocError` if that is refused. To copy a
+    /// lifespan scope with an empty state takes no memory.
     pub fn copy(&self, alloc: Global) -> Result<Self, AllocError>
         ensures same { IfOk result (λ copied. copied ≡ self.now) }
         ensures lifespan { (scope : LifespanScope) → self.now ≡ Scope.Lifespan scope → scope.state ≡ [] → IsOk result }
@@ -203,7 +203,7 @@ impl Scope {
 }
 
 impl Peer {
-    /// The same peer once more, in memory of its own; `AllocError` where that is refused.
+    /// A copy of the peer, in memory of its own; `AllocError` if that is refused.
     pub fn copy(&self, alloc: Global) -> Result<Self, AllocError>
         ensures { IfOk result (λ copied. copied ≡ self.now) }
     {

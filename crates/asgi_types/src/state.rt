@@ -3,7 +3,7 @@ ghost use Rattle.std.specs.Prelude.{◌≡◌, ◌≢◌, ◌<◌, ◌≤◌, �
 ghost use Rattle.std.specs.Option.{option_copied};
 ghost use Rattle.std.specs.Result.{IsErrOf};
 ghost use Rattle.asgi_types.specs.States.{value_of, with_value};
-ghost use Rattle.asgi_types.specs.StateEntries.{IsValueAt, IsReplaced};
+ghost use Rattle.asgi_types.specs.private.StateEntries.{IsValueAt, IsReplaced};
 
 use crate::{Chars, Octets};
 use std::alloc::{AllocError, Global};
@@ -32,7 +32,7 @@ pub enum StateError {
     NoMemory(#[from(alloc)] AllocError),
 }
 
-/// The names that a state holds at most.
+/// The most names that a state holds.
 const MOST: usize = 64;
 
 /// At most 64 names, each with its value (ASGI lifespan protocol 2.0, "Lifespan State").
@@ -65,7 +65,7 @@ impl State {
         }
     }
 
-    /// The value under the name, which is compared byte for byte; `None` where it is not held.
+    /// The value under the name, which is compared byte for byte; `None` if it is not held.
     pub fn get(&self, name: &str) -> Option<&StateValue>
         ensures { option_copied result ≡ value_of self.now name.now }
     {
@@ -75,8 +75,8 @@ impl State {
     }
 
     /// Puts the value under the name, in place of the one that is held there. A name that is not
-    /// held comes last; for it `StateFull` comes where 64 names are held, and `NoMemory` where
-    /// memory is refused. On an error nothing changes.
+    /// held comes last: it gets `StateFull` if 64 names are held, and `NoMemory` if memory is
+    /// refused. On an error nothing changes.
     pub fn set(&mut self, name: &str, value: StateValue) -> Result<(), StateError>
         ensures ok { OnOk result (self.new ≡ with_value self.old name.now value) }
         ensures found { OnOk result (value_of self.new name.now ≡ Some value) }
@@ -101,8 +101,8 @@ impl State {
         Ok(())
     }
 
-    /// The same state once more, in memory of its own; `AllocError` where that is refused. To copy
-    /// no names takes no memory.
+    /// A copy of the state, in memory of its own; `AllocError` if that is refused. To copy no names
+    /// takes no memory.
     pub fn copy(&self, alloc: Global) -> Result<Self, AllocError>
         ensures same { IfOk result (λ copied. copied ≡ self.now) }
         ensures empty { self.now ≡ [] → IsOk result }
@@ -116,7 +116,7 @@ impl State {
 }
 
 impl StateValue {
-    /// The same value once more, in memory of its own; `AllocError` where that is refused.
+    /// A copy of the value, in memory of its own; `AllocError` if that is refused.
     pub fn copy(&self, alloc: Global) -> Result<Self, AllocError>
         ensures { IfOk result (λ copied. copied ≡ self.now) }
     {
@@ -156,7 +156,7 @@ fn add(
     Ok(())
 }
 
-/// Puts the value in the place of the one that is there.
+/// Replaces the value at the index.
 fn put(entries: &mut Vec<(Chars, StateValue)>, index: usize, value: StateValue)
     requires { index < length entries.old.items }
     ensures { IsReplaced entries.old.items index value entries.new.items }

@@ -7,8 +7,8 @@ use crate::Headers;
 
 impl Headers {
     /// Whether a field of the name lists the token, in any case (RFC 9110, sections 5.1 and 5.6.1).
-    /// The name is in lower case, as fields keep theirs. No field lists an empty token. It takes no
-    /// memory.
+    /// The name is in lower case, as names in `Headers` are. No field lists an empty token. It
+    /// takes no memory.
     pub fn has_token(&self, name: &[u8], token: &[u8]) -> bool
         ensures { result ≡ spec.has_token self.now name.now token.now }
     {
@@ -33,7 +33,7 @@ fn lists_token(value: &[u8], token: &[u8]) -> bool
         .any(|part| is_token(part, token))
 }
 
-/// Whether the part is the token in any case, between spaces and tabs. An empty part is none.
+/// Whether the part is the token in any case, between spaces and tabs. An empty part is no token.
 fn is_token(part: &[u8], token: &[u8]) -> bool
     ensures { result ≡ spec.is_element part.now token.now }
 {
@@ -41,8 +41,8 @@ fn is_token(part: &[u8], token: &[u8]) -> bool
     !trimmed.is_empty() && trimmed.eq_ignore_ascii_case(token)
 }
 
-/// The part without the spaces and tabs at its ends (RFC 9110, section 5.6.3). It is for the crates
-/// of this repository only.
+/// The part without the spaces and tabs at its ends (RFC 9110, section 5.6.3). For the crates of
+/// this repository only.
 #[doc(hidden)]
 pub fn trimmed(part: &[u8]) -> &[u8]
     ensures { result.now ≡ trim_ows part.now }

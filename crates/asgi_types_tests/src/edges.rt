@@ -38,7 +38,7 @@ fn is_field_at(held: &Headers, number: usize) -> bool {
     }
 }
 
-/// The first field that is not that of its number, as they are gone over, or how many there are where it is not 200.
+/// The first field that is not that of its number, in the order of iteration, or how many there are if it is not 200.
 fn wrong_in_order(held: &Headers) -> Option<usize> {
     let mut count = 0usize;
     for (name, value) in held.iter() {
@@ -93,7 +93,7 @@ fn two_hundred_fields_are_kept(rt: HostRuntime) {
     );
 }
 
-/// So many bytes, in rows of 251.
+/// This many bytes, in rows of 251.
 fn bytes_of(alloc: Global, count: usize) -> Result<Vec<u8>, AllocError> {
     let mut bytes = vec![in alloc; 0; count]?;
     fill(&mut bytes);

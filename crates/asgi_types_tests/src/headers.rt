@@ -6,7 +6,7 @@ use std::alloc::{AllocError, Global};
 use std::process::Abort;
 use std::test::Fail;
 
-/// A name, a value, and what a push of the two answers.
+/// A name, a value, and what a push of the two returns.
 type Push = (&'static [u8], &'static [u8], Result<(), HeaderError>);
 
 const PUSHES: &[Push] = &[
@@ -28,17 +28,18 @@ const PUSHES: &[Push] = &[
     (b"A b", b"\0", Err(HeaderError::BadName)),
 ];
 
-/// What a push of the two answers.
+/// What a push of the two returns.
 fn answer(headers: &mut Headers, name: &[u8], value: &[u8]) -> Result<(), HeaderError> {
     headers.push(name, value)
 }
 
-/// There is one field where it was kept, and else none.
+/// There is one field if it was kept, and else none.
 fn has_kept(headers: &Headers, is_kept: bool) -> bool {
     headers.len() == is_kept as usize && headers.is_empty() != is_kept
 }
 
-/// The push of the field to no fields answers so, and the list then has it exactly if it was kept.
+/// The push of the field to no fields returns this, and the list then has it exactly if it was
+/// kept.
 fn answers(alloc: Global, name: &[u8], value: &[u8], wanted: &Result<(), HeaderError>) -> bool {
     let mut headers = Headers::new(alloc);
     answer(&mut headers, name, value) == *wanted && has_kept(&headers, wanted.is_ok())
@@ -55,7 +56,7 @@ fn a_field_is_kept_or_refused(rt: HostRuntime) {
     }
 }
 
-/// How many bytes a name has, and what a push of it answers.
+/// How many bytes a name has, and what a push of it returns.
 const SIZES: &[(usize, Result<(), HeaderError>)] = &[
     (65_535, Ok(())),
     (65_536, Err(HeaderError::BadName)),
@@ -94,7 +95,7 @@ fn is_kept_at(held: &Headers, index: usize) -> bool {
     }
 }
 
-/// The first of the three fields that is not there as they are gone over, or how many there are where it is not three.
+/// The first of the three fields that is not there in the order of iteration, or how many there are if not three.
 fn wrong_in_order(held: &Headers) -> Option<usize> {
     let mut count = 0usize;
     for (name, value) in held.iter() {
@@ -136,7 +137,7 @@ fn is_pushed(headers: &mut Headers, push: &Push) -> bool {
     answer(headers, push.0, push.1) == push.2
 }
 
-/// The first push that does not answer as in its row.
+/// The first push that does not return what its row has.
 fn wrong_push(headers: &mut Headers) -> Option<usize> {
     for (row, push) in PUSHES_OF_THREE.iter().enumerate() {
         if !is_pushed(headers, push) {
@@ -233,7 +234,7 @@ fn are_limits(limits: &Limits, row: &Row) -> bool {
         && limits.turns == row.6
 }
 
-/// The limits of the row are taken as they are, or refused, as it says.
+/// The limits of the row are taken as they are, or refused, as in the row.
 fn are_judged(row: &Row) -> bool {
     match limits_of(row) {
         Ok(limits) => row.7 && are_limits(&limits, row),

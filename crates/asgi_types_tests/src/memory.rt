@@ -1,5 +1,6 @@
-//! Each call that allocates, where one allocation is refused: it answers so, its object is as before, and the call can
-//! be made again. `tests/memory.py` runs these with each allocation refused in turn; with ample memory none is refused.
+//! Each call that allocates, when one allocation is refused: the call returns that error, its object is as before, and
+//! the call can be made again. `tests/memory.py` runs these with each allocation refused in turn; with ample memory
+//! none is refused.
 
 use crate::scopes::{is_copied, is_peer};
 use crate::values::{
@@ -10,7 +11,7 @@ use asgi_types::{Chars, Facts, Framing, Headers, Kind, Names, Octets, Peer, Stat
 use std::alloc::{AllocError, Global};
 use std::test::Fail;
 
-// Each of these makes the call once more where it was refused memory.
+// Each of these makes the call once more if it was refused memory.
 
 fn copy_of_text(alloc: Global, held: &Chars) -> Result<Chars, AllocError> {
     match held.copy(alloc) {
@@ -87,7 +88,7 @@ const FIELDS: &[&[u8]] = &[b"x-a", b"x-b", b"x-c", b"x-d", b"x-e"];
 const VALUE: &[u8] =
     b"vvvvvvvvvvvvvvvvvvvvvvvvvvvvvvvvvvvvvvvvvvvvvvvvvvvvvvvvvvvvvvvvvvvvvvvvvvvvvvvvvvvvvvvvvvvvvvvvvvvv";
 
-/// The field is added, at the second attempt where the first was refused and left the list as it was.
+/// The field is added, at the second attempt if the first was refused and left the list as it was.
 fn is_field_added(headers: &mut Headers, name: &[u8]) -> bool {
     let before = headers.len();
     if headers.push(name, VALUE).is_ok() {
@@ -103,7 +104,7 @@ fn is_field(held: &Headers, index: usize, name: &[u8]) -> bool {
     }
 }
 
-/// The first field that is not there, or the end where there are more or fewer.
+/// The first field that is not there, or the end if there are more or fewer.
 fn wrong_field(held: &Headers) -> Option<usize> {
     for (index, name) in FIELDS.iter().enumerate() {
         if !is_field(held, index, *name) {
@@ -162,7 +163,7 @@ fn is_pushed(alloc: Global, names: &mut Names) -> bool {
     }
 }
 
-/// The name is added, at the second attempt where the first was refused and left the list as it was.
+/// The name is added, at the second attempt if the first was refused and left the list as it was.
 fn is_name_added(alloc: Global, names: &mut Names) -> bool {
     let before = names.len();
     is_pushed(alloc, names) || (names.len() == before && is_pushed(alloc, names))
@@ -207,7 +208,7 @@ fn is_set(alloc: Global, state: &mut State, row: &Row) -> bool {
     }
 }
 
-/// The value is set, at the second attempt where the first was refused and left no value under the name.
+/// The value is set, at the second attempt if the first was refused and left no value under the name.
 fn is_set_again(alloc: Global, state: &mut State, row: &Row) -> bool {
     is_set(alloc, state, row) || (state.get(row.0).is_none() && is_set(alloc, state, row))
 }

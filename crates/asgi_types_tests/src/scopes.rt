@@ -1,4 +1,4 @@
-//! The three kinds of scope, with what a connection adds to them, and copied.
+//! The three kinds of scope, with what a connection adds to them, and their copies.
 
 use crate::values::{Sort, is_name, is_of_sort, new_octets, new_text, of, of_given, value_of_sort};
 use asgi_types::{
@@ -8,7 +8,7 @@ use asgi_types::{
 use std::alloc::{AllocError, Global};
 use std::test::Fail;
 
-// Each part of a scope is made, and asked for again where memory was refused.
+// Each part of a scope is made, and asked for again if memory was refused.
 
 fn text(alloc: Global, text: &str) -> Chars {
     match new_text(alloc, text) {
@@ -190,7 +190,7 @@ fn is_asked(scheme: &Chars, wanted: &str, version: HttpVersion) -> bool {
     scheme.as_str() == wanted && version == HttpVersion::V11
 }
 
-/// What the request of the scope says.
+/// What the scope holds of its request.
 fn is_http_request(held: &HttpScope) -> bool {
     let has_line = held.method.as_str() == "GET"
         && is_asked(&held.scheme, "http", held.http_version);
@@ -242,7 +242,7 @@ fn copy_of_scope(alloc: Global, held: &Scope) -> Result<Scope, AllocError> {
     }
 }
 
-/// The scope is whole, and so is its copy, which is made once more where it was refused memory.
+/// The scope is whole, and so is its copy, which is made once more if it was refused memory.
 pub fn is_copied(alloc: Global, kind: Kind) -> Result<bool, AllocError> {
     of(
         whole_scope(alloc, kind),

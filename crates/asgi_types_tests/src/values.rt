@@ -15,7 +15,7 @@ pub fn octets(alloc: Global, bytes: &[u8]) -> Result<Octets, AllocError> {
     Ok(Octets::new(Vec::from_slice(alloc, bytes)?))
 }
 
-// Each of these makes the call once more where it was refused memory.
+// Each of these makes the call once more if it was refused memory.
 
 pub fn new_text(alloc: Global, text: &str) -> Result<Chars, AllocError> {
     match chars(alloc, text) {
@@ -31,7 +31,7 @@ pub fn new_octets(alloc: Global, bytes: &[u8]) -> Result<Octets, AllocError> {
     }
 }
 
-/// What is said of a value. It stands for a value of any type, so its proof sees no field of one.
+/// What is checked of a value. The value is of any type, so the proof sees no field of it.
 pub fn of<T: Drop, S, F: FnOnce(&T) -> S>(value: T, says: F) -> S
     requires { F.IsAlwaysCallable says }
 {
@@ -51,7 +51,7 @@ pub fn of_given<T: Drop, S, F: FnOnce(&T) -> S>(
     }
 }
 
-/// The first that is wrong in what a call gave, and 0 where the call was refused memory.
+/// The first that is wrong in what a call gave, and 0 if the call was refused memory.
 pub fn wrong_given<T: Drop, F: FnOnce(&T) -> Option<usize>>(
     given: Result<T, AllocError>,
     says: F,
@@ -87,7 +87,7 @@ pub fn is_name(held: &Names, index: usize, name: &str) -> bool {
     }
 }
 
-/// The index of the first name that is not as wanted, or of the end where there are more or fewer.
+/// The index of the first name that is not as wanted, or of the end if there are more or fewer.
 pub fn wrong_name(held: &Names, wanted: &[&str]) -> Option<usize> {
     for (index, name) in wanted.iter().enumerate() {
         if !is_name(held, index, *name) {
@@ -121,7 +121,8 @@ fn wrong_name_of(alloc: Global, names: &mut Names, wanted: &[&str]) -> Option<us
     pushed.or(wrong_name(names, wanted)).or(copied)
 }
 
-/// The index of the first name that a new list of these names, or its copy, has not as it was pushed.
+/// The index of the first name that a new list of these names, or its copy, does not have as it was
+/// pushed.
 pub fn wrong_name_in(alloc: Global, wanted: &[&str]) -> Option<usize> {
     wrong_name_of(alloc, &mut Names::new(alloc), wanted)
 }
@@ -154,7 +155,7 @@ fn asgi_has_the_versions_of_its_formats(rt: HostRuntime) {
     }
 }
 
-/// A letter, how often it stands in a text, and whether the text is a reason.
+/// A letter, how often it occurs in a text, and whether the text is a reason.
 type Letters = (char, usize, bool);
 
 // The bytes are counted, not the characters: the euro sign has three.
@@ -201,7 +202,7 @@ fn reasons_have_at_most_123_bytes(rt: HostRuntime) -> Result<(), Fail> {
 /// `n`, and 64 letters `a`.
 const LONGEST: &str = "naaaaaaaaaaaaaaaaaaaaaaaaaaaaaaaaaaaaaaaaaaaaaaaaaaaaaaaaaaaaaaaa";
 
-/// `n`, and then so many letters `a`.
+/// `n`, and then this many letters `a`.
 fn name_of(letters: usize) -> &'static str {
     match LONGEST.split_at_checked(letters.saturating_add(1)) {
         Some((name, _)) => name,
@@ -221,7 +222,8 @@ pub fn set(state: &mut State, name: &str, number: u64) -> Result<(), StateError>
     state.set(name, StateValue::Number(number))
 }
 
-/// The number that is due under the name of so many letters: 0 to 63, with 300 in place of 3, and none under a name more.
+/// The number that is due under the name of this many letters: 0 to 63, with 300 in place of 3, and none under one more
+/// name.
 fn due(letters: usize) -> Option<u64> {
     match letters {
         3 => Some(300),
@@ -230,7 +232,7 @@ fn due(letters: usize) -> Option<u64> {
     }
 }
 
-/// The letters of the first name that has not the number that is due.
+/// The letters of the first name that does not have the number that is due.
 fn wrong_number(held: &State) -> Option<usize> {
     for letters in 0..65 {
         if number_in(held, name_of(letters)) != due(letters) {
@@ -240,7 +242,7 @@ fn wrong_number(held: &State) -> Option<usize> {
     None
 }
 
-/// Sets the numbers 0 to 63. It answers the letters of the first name that had one before, or is not set.
+/// Sets the numbers 0 to 63. Returns the letters of the first name that had one before, or is not set.
 fn wrong_before(state: &mut State) -> Option<usize> {
     for letters in 0..64 {
         let name = name_of(letters);
@@ -251,14 +253,14 @@ fn wrong_before(state: &mut State) -> Option<usize> {
     None
 }
 
-/// A name more is refused, and a held one is replaced.
+/// One more name is refused, and a held one is replaced.
 fn is_full(state: &mut State) -> bool {
     set(state, name_of(64), 64) == Err(StateError::StateFull)
         && set(state, name_of(3), 300) == Ok(())
 }
 
-/// The letters of the first name that is wrong: before it is set, once all are, or in a copy. It is 64 where a name more
-/// is not refused.
+/// The letters of the first name that is wrong: before it is set, once all are, or in a copy. The result is 64 if one
+/// more name is not refused.
 fn wrong_name_of_64(alloc: Global, state: &mut State) -> Option<usize> {
     let before = wrong_before(state);
     if !is_full(state) {
@@ -336,7 +338,7 @@ fn is_sort(held: &State, row: &(&str, Sort)) -> bool {
     is_of_sort(held.get(row.0), row.1)
 }
 
-/// The first row whose name has not a value of its sort.
+/// The first row whose name does not have a value of its sort.
 pub fn wrong_sort(held: &State, sorts: Sorts) -> Option<usize> {
     for (index, row) in sorts.iter().enumerate() {
         if !is_sort(held, row) {
@@ -368,7 +370,7 @@ fn has_others(held: &State) -> bool {
     held.get("Text").is_some() || held.get("").is_some()
 }
 
-/// The first row whose value is not set, or not held or copied then; one more where another name has a value.
+/// The first row whose value is not set, or not held or copied then; one more if another name has a value.
 fn wrong_sort_of(alloc: Global, state: &mut State) -> Option<usize> {
     let set = wrong_set(alloc, state);
     if has_others(state) {
@@ -472,7 +474,8 @@ fn a_copy_of_facts_is_equal(rt: HostRuntime) -> Result<(), Fail> {
     Ok(())
 }
 
-/// The field of a connection is judged so, beside another that lists the token.
+/// Whether a connection field of this value lists the token, beside another field that lists
+/// `close`.
 fn lists(alloc: Global, value: &[u8], token: &[u8]) -> bool {
     let mut headers = Headers::new(alloc);
     let _kept = headers.push(b"X-Other", b"close");

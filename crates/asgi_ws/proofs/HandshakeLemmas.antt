@@ -1,4 +1,4 @@
--- The answer to an opening handshake is read back by the grammar of heads.
+-- The response to an opening handshake is read back by the grammar of heads.
 use Rattle.std.proofs.Common.{◌≡◌, ℕ, ◌<◌, Bool, true, false, List, [], ◌∷◌, ◌++◌, length, flat_map, refl, subst, append_assoc, arith, All, IsTrue, Option, Some, None}
 use Rattle.std.proofs.lemmas.List.Elements.{All-nil, All-cons, All-append, All-weaker}
 use Rattle.std.proofs.lemmas.Bool.Decides.{nat_tests}
@@ -57,10 +57,10 @@ all_sendable key subprotocol headers named clean =
     let upgrade : HeaderField = field (codes "upgrade") (codes "websocket") in
     let connection : HeaderField = field (codes "connection") (codes "Upgrade") in
     let accept : HeaderField = field (codes "sec-websocket-accept") (accept_value_of key) in
-    let behind : List HeaderField = protocol_field subprotocol ++ headers in
-    All-cons IsSendable upgrade (connection ∷ accept ∷ behind) (own_sendable (codes "upgrade") (codes "websocket") (omega arith) refl refl)
-    (All-cons IsSendable connection (accept ∷ behind) (own_sendable (codes "connection") (codes "Upgrade") (omega arith) refl refl)
-    (All-cons IsSendable accept behind (named_field (codes "sec-websocket-accept") (accept_value_of key) (omega arith) refl (value_passes key))
+    let after : List HeaderField = protocol_field subprotocol ++ headers in
+    All-cons IsSendable upgrade (connection ∷ accept ∷ after) (own_sendable (codes "upgrade") (codes "websocket") (omega arith) refl refl)
+    (All-cons IsSendable connection (accept ∷ after) (own_sendable (codes "connection") (codes "Upgrade") (omega arith) refl refl)
+    (All-cons IsSendable accept after (named_field (codes "sec-websocket-accept") (accept_value_of key) (omega arith) refl (value_passes key))
     (All-append IsSendable (protocol_field subprotocol) headers (protocol_sendable subprotocol named) clean)))
 
 -- ---- the whole text

@@ -1,4 +1,4 @@
--- The parts that are written one behind the other are the text of the answer.
+-- The parts that are written in order are the text of the response.
 use Rattle.std.proofs.Common.{◌≡◌, ℕ, List, [], ◌∷◌, ◌++◌, flat_map, ap, ◌∙◌, sym, append_assoc, append-nil, Option}
 use Rattle.std.proofs.lemmas.List.Concat.{flat_map-append}
 use Rattle.std.specs.Prelude.{codes}
@@ -10,11 +10,11 @@ use Rattle.asgi_response.specs.StatusLine.{status_line_with}
 use Rattle.asgi_ws.specs.AcceptValue.{accept_value_of}
 use Rattle.asgi_ws.specs.Handshake.{field, handshake_text, protocol_field}
 
--- the bytes in front of the value that answers the key
+-- the bytes before the accept value
 abbrev front : List ℕ
 front = codes "HTTP/1.1 101 Switching Protocols\r\nupgrade: websocket\r\nconnection: Upgrade\r\nsec-websocket-accept: "
 
--- the text with this value and these lines behind the server's first three
+-- the text with this value and these lines after the server's first three
 abbrev text_with : List ℕ → List ℕ → List ℕ
 text_with value lines =
     (status_line_with 101 (codes "Switching Protocols")

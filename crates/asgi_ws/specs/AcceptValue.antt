@@ -1,4 +1,4 @@
--- The value that answers a key (RFC 6455, sections 1.3 and 4.2.2, item 5.4).
+-- The `sec-websocket-accept` value for a key (RFC 6455, sections 1.3 and 4.2.2, item 5.4).
 use Rattle.std.specs.Prelude.{◌≡◌, ℕ, List, ◌++◌, codes}
 use Rattle.sha1.specs.Sha1.{sha1}
 use Rattle.asgi_request.specs.Key.{base64}

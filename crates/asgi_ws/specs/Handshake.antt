@@ -19,7 +19,7 @@ abbrev pub protocol_field : Option (List ℕ) → List HeaderField
 protocol_field None = []
 protocol_field (Some name) = field (codes "sec-websocket-protocol") name ∷ []
 
--- the server's fields (items 5.2 to 5.5), and then the application's in their order
+-- the server's fields (items 5.2 to 5.5), then the application's in their order
 abbrev pub handshake_fields : List ℕ → Option (List ℕ) → List HeaderField → List HeaderField
 handshake_fields key subprotocol headers =
     field (codes "upgrade") (codes "websocket")
@@ -33,7 +33,7 @@ handshake_text key subprotocol headers =
     status_line_with 101 (codes "Switching Protocols") ++ flat_map field_line (handshake_fields key subprotocol headers)
     ++ crlf_bytes
 
--- the text that answers the handshake of the facts; an event that is no "Accept" has none
+-- the response that accepts the handshake of the facts; an event that is no "Accept" has none
 abbrev pub accept_text : Facts → Outgoing → List ℕ
 accept_text facts (WsAccept subprotocol headers) = handshake_text facts.key subprotocol headers
 accept_text facts _ = []

@@ -2,8 +2,7 @@ pub mod AcceptValue
 pub mod Handshake
 pub mod Laws
 pub mod Scripts
-pub mod Sending
 pub mod Sessions
 pub mod Sides
-pub mod Taps
+pub mod private
 pub mod Wires

@@ -7,12 +7,12 @@ use Rattle.asgi_ws.specs.declared.messages.Got.{Got}
 use Rattle.asgi_ws.specs.declared.messages.Got.TheVariants as got
 use Rattle.asgi_ws.specs.declared.messages.Put.{Put}
 use Rattle.asgi_ws.specs.declared.messages.Put.TheVariants as put
-use Rattle.asgi_ws.specs.declared.messages.Handed.{Handed}
-use Rattle.asgi_ws.specs.declared.messages.Handed.TheVariants as item
+use Rattle.asgi_ws.specs.declared.messages.SentMessage.{SentMessage}
+use Rattle.asgi_ws.specs.declared.messages.SentMessage.TheVariants as item
 use Rattle.asgi_ws.specs.declared.messages.Call.{Call}
 use Rattle.asgi_ws.specs.declared.messages.Call.TheVariants as call
 
--- the messages that an answer gives: one or none
+-- the messages that a read returned: one or none
 abbrev pub given_by : Got → List Msg
 given_by (got.Message m) = m ∷ []
 given_by got.Idle = []
@@ -20,18 +20,18 @@ given_by got.Ended = []
 given_by got.Failed = []
 given_by got.NoMemory = []
 
--- what went out with an answer: the item or nothing
-abbrev pub taken_by : Handed → Put → List Handed
+-- what went out with this result: the item or nothing
+abbrev pub taken_by : SentMessage → Put → List SentMessage
 taken_by item put.Done = item ∷ []
 taken_by item put.Failed = []
 taken_by item put.NoMemory = []
 
--- what one call read, and what went out by it
+-- what one call read, and what it sent out
 abbrev pub read_by : Call → List Msg
 read_by (call.Read answer) = given_by answer
 read_by (call.Send item answer) = []
 
-abbrev pub sent_by : Call → List Handed
+abbrev pub sent_by : Call → List SentMessage
 sent_by (call.Read answer) = []
 sent_by (call.Send item answer) = taken_by item answer
 
@@ -40,7 +40,7 @@ abbrev pub messages_in : List Call → List Msg
 messages_in calls = flat_map read_by calls
 
 -- what went out, in order
-abbrev pub handed_in : List Call → List Handed
+abbrev pub handed_in : List Call → List SentMessage
 handed_in calls = flat_map sent_by calls
 
 -- a close that was read, or that went out (RFC 6455, section 5.5.1)
@@ -57,16 +57,16 @@ abbrev pub is_payload : Call → Bool
 is_payload (call.Send (item.Payload payload) answer) = true
 is_payload _ = false
 
--- the same send, answered otherwise
+-- the same send with another result
 abbrev pub with_answer : Call → Put → Call
 with_answer (call.Read answer) other = call.Read answer
 with_answer (call.Send item answer) other = call.Send item other
 
--- How many reads stand behind the first close. No data follows a close (RFC 6455, section 5.5.1), and who closes the connection
+-- How many reads follow the first close. No data follows a close (RFC 6455, section 5.5.1), and whoever closes the connection
 -- discards what is still received (section 7.1.1); how much of it is read is the limit of this server.
-abbrev pub reads_behind_close : List Call → ℕ
-reads_behind_close [] = 0
-reads_behind_close (c ∷ calls) = if is_close c then count_by is_read calls else reads_behind_close calls
+abbrev pub reads_after_close : List Call → ℕ
+reads_after_close [] = 0
+reads_after_close (c ∷ calls) = if is_close c then count_by is_read calls else reads_after_close calls
 
 abbrev pub is_failed : Got → Bool
 is_failed (got.Message m) = false
@@ -85,7 +85,7 @@ abbrev pub count_after : ℕ → Bool → ℕ
 count_after n true = min (n + 1) (2 ^ 64 - 1)
 count_after n false = n
 
--- known messages to come begin with these, and lose them; None claims nothing
+-- known messages to come begin with these, which are then removed; None claims nothing
 abbrev pub Loses : Option (List Msg) → Option (List Msg) → List Msg → Type 0
 Loses None new ms = ⊤
 Loses (Some xs) None ms = ⊥
@@ -95,7 +95,7 @@ abbrev pub IsNoneLeft : Option (List Msg) → Type 0
 IsNoneLeft None = ⊤
 IsNoneLeft (Some xs) = xs ≡ []
 
--- the input has ended only where no known message is left
+-- the input has ended only if no known message is left
 abbrev pub EndsAt : Got → Option (List Msg) → Type 0
 EndsAt (got.Message m) left = ⊤
 EndsAt got.Idle left = ⊤
@@ -103,7 +103,7 @@ EndsAt got.Ended left = IsNoneLeft left
 EndsAt got.Failed left = ⊤
 EndsAt got.NoMemory left = ⊤
 
--- the first call keeps the bytes, and a later one changes nothing
+-- the first call keeps the bytes, a later one changes nothing
 abbrev pub kept_by : Option (List ℕ) → List ℕ → Option (List ℕ)
 kept_by None bytes = Some bytes
 kept_by (Some before) bytes = Some before

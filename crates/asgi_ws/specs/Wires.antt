@@ -1,4 +1,4 @@
--- What a call of a wired line has to do with the call of the message layer below it.
+-- How a call of a wired line relates to the call of the message layer below it.
 use Rattle.std.specs.Prelude.{◌≡◌, ◌≢◌, ℕ, ◌<◌, List, [], ◌∷◌, Option, Some, None, Result, Ok, Err, ◌⊎◌, ⊤, true}
 use Rattle.asgi_types.specs.declared.incoming.Payload.{Payload}
 use Rattle.asgi_types.specs.declared.incoming.Payload.TheVariants as payload
@@ -25,7 +25,7 @@ use Rattle.asgi_ws.specs.declared.messages.Got.TheVariants as got
 use Rattle.asgi_ws.specs.declared.messages.Put.{Put}
 use Rattle.asgi_ws.specs.declared.messages.Put.TheVariants as put
 
--- the message that stands on the wire
+-- the message with this content on the wire
 abbrev pub message_of : Content → Msg
 message_of (wire.text s) = msg.Text s
 message_of (wire.binary s) = msg.Bytes s
@@ -34,7 +34,7 @@ message_of (wire.pong s) = msg.Pong
 message_of (wire.close None) = msg.Close None
 message_of (wire.close (Some frame)) = msg.Close (Some (close_code_number frame.0, frame.1))
 
--- an answer to a message that the layer gave: memory may be refused, and a close has at most 123 bytes of reason
+-- the result for a message of the layer: memory may be refused, and a close has at most 123 bytes of reason
 abbrev pub IsGotOf : Message → Got → Type 0
 IsGotOf given (got.Message m) = m ≡ message_of (content_of given)
 IsGotOf given got.Idle = ⊥
@@ -47,14 +47,14 @@ abbrev pub IsPassing : Error → Type 0
 IsPassing (Io cause) = passes (error_kind cause) ≡ true
 IsPassing e = ⊥
 
--- the answer where the layer waits for the stream: the input is idle, has ended, or has failed, as it has where a write timed out
+-- the result when the layer waits for the stream: the input is idle, has ended, or has failed, also by a write that timed out
 abbrev pub waited_for : Option Stop → Got
 waited_for None = got.Idle
 waited_for (Some stopped.Ended) = got.Ended
 waited_for (Some stopped.Failed) = got.Failed
 waited_for (Some stopped.Stuck) = got.Failed
 
--- an answer by what the layer's `read` gave, and by how the stream's input had stopped by then
+-- the result by what the layer's `read` returned, and by how the stream's input had stopped by then
 abbrev pub IsAnswerTo : Result Message Error → Option Stop → Got → Type 0
 IsAnswerTo (Ok given) stop answer = IsGotOf given answer
 IsAnswerTo (Err e) stop (got.Message m) = ⊥
@@ -68,25 +68,25 @@ IfDone put.Done P = P
 IfDone put.Failed P = ⊤
 IfDone put.NoMemory P = ⊤
 
--- this holds where the call failed
+-- this holds if the call failed
 abbrev pub IfFailed : Put → Type 0 → Type 0
 IfFailed put.Done P = ⊤
 IfFailed put.Failed P = P
 IfFailed put.NoMemory P = ⊤
 
--- the answer to the outcome of a send
+-- the result by the outcome of a send
 abbrev pub IsPutOf : {A : Type 0} → Result A Error → Put → Type 0
 IsPutOf (Ok done) answer = answer ≡ put.Done
 IsPutOf (Err e) put.Done = ⊥
 IsPutOf (Err e) put.Failed = e ≢ OutOfMemory
 IsPutOf (Err e) put.NoMemory = e ≡ OutOfMemory
 
--- a payload as it stands on the wire
+-- a payload as content on the wire
 abbrev pub content_of_payload : Payload → Content
 content_of_payload (payload.Text s) = wire.text s
 content_of_payload (payload.Bytes s) = wire.binary s
 
--- what a send and a close ask of the protocol's state
+-- the step of the protocol's state for a send and for a close
 abbrev pub payload_step : Payload → Connection → Result Effect FrameError
 payload_step payload conn = write_step conn (content_of_payload payload)
 
@@ -94,7 +94,7 @@ abbrev pub closing_step : ℕ → List ℕ → Connection → Result Effect Fram
 closing_step code reason conn = close_step conn (Some (close_code_of code, reason))
 
 module _ {S : Type 0} where
-  -- each answer comes from one `read` of the layer
+  -- each result comes from one `read` of the layer
   abbrev pub AnswersBy : (Tap S → Option (List ℕ)) → Socket (Tap S) → Socket (Tap S) → Got → Type 0
   AnswersBy remaining s t answer = (given : Result Message Error) × Reads remaining s t given × IsAnswerTo given t.stream.stop answer
 
@@ -109,7 +109,7 @@ module _ {S : Type 0} where
   IsRefused None step = ⊤
   IsRefused (Some s) step = (e : Error) × WriteFails (step s.conn) e × (e ≢ OutOfMemory)
 
-  -- all of the frame went out, behind what waited
+  -- the whole frame was written, after what was waiting
   abbrev pub IsSent : (Tap S → Option (List ℕ)) → Option (Socket (Tap S)) → Option (Socket (Tap S)) → (Connection → Result Effect FrameError) → Type 0
   IsSent contents None new step = ⊥
   IsSent contents (Some s) None step = ⊥
@@ -120,7 +120,7 @@ first_of [] = []
 first_of (bytes ∷ more) = bytes
 
 module _ {S : Type 0} where
-  -- what a line of text tells of its bytes: at first the stream's, and from `upgrade` on as they stood then
+  -- the bytes of a line of text: the stream's own at first, and from `upgrade` on as they were then
   abbrev pub told_by : (S → Option (List ℕ)) → Option S → List S → Option (List ℕ)
   told_by bytes (Some stream) before = bytes stream
   told_by bytes None [] = None

@@ -2,15 +2,15 @@
 ghost use Rattle.std.specs.Prelude.{◌≡◌, [], ◌∷◌, ◌++◌, true, false};
 ghost use Rattle.asgi_ws.specs.declared.messages.Call.TheVariants as call;
 ghost use Rattle.asgi_ws.specs.declared.messages.Put.{Put};
-ghost use Rattle.asgi_ws.specs.declared.messages.Handed.TheVariants as item;
+ghost use Rattle.asgi_ws.specs.declared.messages.SentMessage.TheVariants as item;
 ghost use Rattle.asgi_ws.specs.Sessions.{is_read, is_payload, with_answer};
-ghost use Rattle.asgi_ws.specs.Sending.{calls_by};
+ghost use Rattle.asgi_ws.specs.private.Sending.{calls_by};
 
-use crate::messages::{Call, Got, Handed, Put};
+use crate::messages::{Call, Got, Put, SentMessage};
 use asgi_io::History;
 use asgi_types::Payload;
 
-/// Keeps how a read of a message was answered, and gives the answer back.
+/// Records the result of a read of a message, and returns it.
 pub fn note_read(calls: &mut History<Call>, answer: Got) -> Got
     ensures answer { result ≡ answer }
     ensures told { calls.new.items ≡ calls.old.items ++ call.Read answer ∷ [] }
@@ -20,8 +20,8 @@ pub fn note_read(calls: &mut History<Call>, answer: Got) -> Got
     answer_of(read)
 }
 
-/// Keeps what was handed over and how that was answered, and gives back what was handed over.
-pub fn note_send(calls: &mut History<Call>, item: Handed, answer: Put) -> Handed
+/// Records an item to send and the result, and returns the item.
+pub fn note_send(calls: &mut History<Call>, item: SentMessage, answer: Put) -> SentMessage
     ensures item { result ≡ item }
     ensures told { calls.new.items ≡ calls.old.items ++ call.Send item answer ∷ [] }
 {
@@ -30,24 +30,24 @@ pub fn note_send(calls: &mut History<Call>, item: Handed, answer: Put) -> Handed
     item_of(send)
 }
 
-/// The calls as they stand behind a send, for each answer that it may get. It takes no bytes.
+/// The calls after a send, for each result that it may have. Zero-sized.
 #[derive(Drop)]
 pub struct Sending {
-    /// With the answer `Done`.
+    /// With the result `Done`.
     pub done: History<Call>,
-    /// With the answer `Failed`.
+    /// With the result `Failed`.
     pub failed: History<Call>,
-    /// With the answer `NoMemory`.
+    /// With the result `NoMemory`.
     pub no_memory: History<Call>,
 }
 
 impl Sending {
-    /// Keeps what is about to be sent behind the calls so far, and gives it back.
+    /// Records a payload about to be sent after the calls so far, and returns it.
     pub fn of(calls: &History<Call>, payload: Payload) -> (Sending, Payload)
         ensures told { (answer : Put) → calls_by result.0 answer ≡ calls.now.items ++ call.Send (item.Payload payload) answer ∷ [] }
         ensures payload { result.1 ≡ payload }
     {
-        let mut send = Call::Send(Handed::Payload(payload), Put::Done);
+        let mut send = Call::Send(SentMessage::Payload(payload), Put::Done);
         let done = History::with(calls, &send);
         answer(&mut send, Put::Failed);
         let failed = History::with(calls, &send);
@@ -61,7 +61,7 @@ impl Sending {
         (sending, payload_of(send))
     }
 
-    /// The calls with the send that got this answer.
+    /// The calls with the send, which has this result.
     pub fn answered(self, answer: Put) -> History<Call>
         ensures { result.items ≡ calls_by self answer }
     {
@@ -92,7 +92,7 @@ fn payload_of(send: Call) -> Payload
     ensures { (answer : Put) × (send ≡ call.Send (item.Payload result) answer) }
 {
     match send {
-        Call::Send(Handed::Payload(payload), _) => payload,
+        Call::Send(SentMessage::Payload(payload), _) => payload,
         _ => unreachable!(),
     }
 }
@@ -107,7 +107,7 @@ fn answer_of(read: Call) -> Got
     }
 }
 
-fn item_of(send: Call) -> Handed
+fn item_of(send: Call) -> SentMessage
     requires { is_read send ≡ false }
     ensures { (answer : Put) × (send ≡ call.Send result answer) }
 {

@@ -1,4 +1,4 @@
-//! Messages of the message layer, and of a session.
+//! Conversions between messages of the message layer and those of a session.
 ghost use Rattle.std.specs.Prelude.{◌≡◌, Some, IfOk};
 ghost use Rattle.tungstenite.specs.Socket.{content_of};
 ghost use Rattle.tungstenite.specs.declared.message.Message.TheVariants as wire;
@@ -11,8 +11,8 @@ use asgi_types::{Chars, Octets, Payload, Reason};
 use std::alloc::{AllocError, Global};
 use tungstenite::{Bytes, CloseFrame, Error, Message, Utf8Bytes};
 
-/// The message that was read, in memory of its own: `NoMemory` where that is refused. What a ping
-/// or a pong carries is left out.
+/// The message that was read, in memory of its own; `NoMemory` if that is refused. The data of a
+/// ping or a pong is left out.
 pub fn got_of(alloc: Global, message: &Message) -> Got
     ensures { IsGotOf message.now result }
 {
@@ -32,7 +32,7 @@ pub fn got_of(alloc: Global, message: &Message) -> Got
     }
 }
 
-// A control frame has no room for a longer reason, so it is always a message.
+// A control frame has no room for a longer reason, so the result is always a message.
 fn close_of(frame: &CloseFrame) -> Got
     ensures { IsGotOf (wire.Close (Some frame.now)) result }
 {
@@ -42,7 +42,7 @@ fn close_of(frame: &CloseFrame) -> Got
     }
 }
 
-/// The answer of a read, by what the message layer gave and by how the input has stopped: where the
+/// The result of a read, by what the message layer returned and how the input has stopped: if the
 /// layer waits for more, `Idle`, or `Ended` or `Failed` once the input has.
 pub fn answer_to(alloc: Global, given: Result<Message, Error>, stop: Option<Stop>) -> Got
     ensures { IsAnswerTo given stop result }
@@ -72,8 +72,8 @@ fn wait(stop: Option<Stop>) -> Got
     }
 }
 
-/// The payload as the message layer takes it, in the memory that it has. `AllocError` where the
-/// memory beside it is refused.
+/// The payload as the message layer takes it, in the memory that it has. `AllocError` if further
+/// memory is refused.
 pub fn message_with(payload: Payload) -> Result<Message, AllocError>
     ensures { IfOk result (λ m. content_of m ≡ content_of_payload payload) }
 {

@@ -1,4 +1,4 @@
-//! The text of the server's opening handshake.
+//! The response to an opening handshake.
 ghost use Rattle.std.specs.Prelude.{◌≡◌, ◌++◌, [], IfOk, OnOk, OnErr, flat_map, Some};
 ghost use Rattle.asgi_response.specs.Exchange.{refusal_text as text_of_refusal};
 ghost use Rattle.asgi_response.specs.Fields.{field_line};
@@ -16,9 +16,9 @@ const SEC_WEBSOCKET_PROTOCOL: &[u8] = b"sec-websocket-protocol";
 
 const CRLF: &[u8] = b"\r\n";
 
-/// The text that accepts the handshake of the facts, for an "Accept" that a judge passed: the whole
-/// 101 response, to its empty line (RFC 6455, section 4.2.2; ASGI HTTP and WebSocket message format
-/// 2.4, "Accept"). Any other event has no text. `AllocError` where memory is refused.
+/// The response that accepts the handshake of the facts, for an "Accept" that a judge passed: the
+/// whole 101, to its empty line (RFC 6455, section 4.2.2; ASGI HTTP and WebSocket message format
+/// 2.4, "Accept"). Any other event has no text. `AllocError` if memory is refused.
 pub fn accept_text(alloc: Global, facts: &Facts, event: &Outgoing) -> Result<Vec<u8>, AllocError>
     ensures text { IfOk result (λ text. text.items ≡ spec.accept_text facts.now event.now) }
     ensures memory { OnErr result (¬ (spec.accept_text facts.now event.now ≡ [])) }
@@ -32,15 +32,15 @@ pub fn accept_text(alloc: Global, facts: &Facts, event: &Outgoing) -> Result<Vec
     }
 }
 
-/// The text that refuses a handshake: a whole 403 response without content, behind which the
-/// connection closes (ASGI HTTP and WebSocket message format 2.4, "Close").
+/// The response that refuses a handshake: a whole 403 without content, after which the connection
+/// closes (ASGI HTTP and WebSocket message format 2.4, "Close").
 pub fn denied_text() -> &'static [u8]
     ensures { result.now ≡ text_of_refusal 403 }
 {
     refusal_text(403)
 }
 
-/// The text that accepts a handshake with this key.
+/// The response that accepts a handshake with this key.
 fn handshake_text(
     alloc: Global,
     key: &[u8; 24],
@@ -57,7 +57,7 @@ fn handshake_text(
     Ok(out)
 }
 
-/// Appends the line of the chosen subprotocol, where one is.
+/// Appends the line of the chosen subprotocol, if there is one.
 fn append_subprotocol(out: &mut Vec<u8>, subprotocol: &Option<Chars>) -> Result<(), AllocError>
     ensures { OnOk result (out.new.items ≡ out.old.items ++ flat_map field_line (spec.protocol_field subprotocol.now)) }
 {

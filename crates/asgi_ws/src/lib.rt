@@ -1,4 +1,4 @@
-//! WebSocket from the server's side: the opening handshake (RFC 6455, section 4.2.2), messages, and the lines that carry
+//! WebSocket on the server's side: the opening handshake (RFC 6455, section 4.2.2), messages, and the lines that carry
 //! text first and messages after. Frames and the protocol are the crate `tungstenite`'s.
 #![tactic(auto)]
 
@@ -20,9 +20,9 @@ mod wired;
 pub use accept::accept_value;
 pub use handshake::{accept_text, denied_text};
 pub use laws::{accept_value_example, handshake_is_read_back, headers_are_read_back};
-pub use lists::Turn;
-pub use messages::{Call, Got, Handed, Line, Messages, Msg, Put};
-pub use pieces::Piece;
+pub use lists::ScriptRead;
+pub use messages::{Call, Got, Line, Messages, Msg, Put, SentMessage};
+pub use pieces::ScriptBytes;
 pub use script::Script;
 pub use stream::{Pair, Stream};
 pub use wired::Wired;

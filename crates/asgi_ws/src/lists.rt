@@ -1,4 +1,4 @@
-//! The lists that a line in memory keeps: the messages that were read, and what went out.
+//! The lists of a line in memory: the messages that were read, and what was sent.
 ghost use Rattle.std.specs.Prelude.{◌≡◌, ◌<◌, ◌++◌, ◌∷◌, [], Some, None, false, OnOk, OnErr};
 ghost use Rattle.std.specs.Vec.{vec_len, vec_capacity};
 ghost use Rattle.asgi_ws.specs.declared.messages.Got.TheVariants as got;
@@ -8,14 +8,14 @@ ghost use Rattle.asgi_ws.specs.Scripts.{messages_of, first_message, is_left, one
 ghost use Rattle.asgi_ws.specs.Sessions.{given_by, messages_in, handed_in, EndsAt};
 
 use crate::calls::{note_read, note_send};
-use crate::messages::{Call, Got, Handed, Msg, Put};
+use crate::messages::{Call, Got, Msg, Put, SentMessage};
 use asgi_io::History;
 use std::alloc::{AllocError, Global};
 use std::collections::VecDeque;
 
-/// What one read of a message gives.
+/// What one read of a message returns.
 #[derive(Debug, Drop)]
-pub enum Turn {
+pub enum ScriptRead {
     /// This message.
     Message(Msg),
     /// Nothing yet.
@@ -24,15 +24,15 @@ pub enum Turn {
     Fault,
 }
 
-/// What went by in a session: each call, the messages that were read, and what went out.
+/// The record of a session: each call, the messages that were read, and what was sent.
 #[derive(Drop)]
 pub struct Lists {
     /// Each call, the oldest first.
     pub calls: History<Call>,
     /// The messages that were read, the oldest first.
     pub received: Vec<Msg>,
-    /// What went out, the oldest first.
-    pub handed: Vec<Handed>,
+    /// What was sent, the oldest first.
+    pub handed: Vec<SentMessage>,
     // How many sends succeed; None: all.
     pub left: Option<u64>,
     ghost read: { received.items ≡ messages_in calls.items },
@@ -40,7 +40,7 @@ pub struct Lists {
 }
 
 impl Lists {
-    /// Nothing went by yet, and each send succeeds. It takes no memory.
+    /// An empty record; each send succeeds. Allocates nothing.
     pub fn new(alloc: Global) -> Self
         ensures { (result.calls.items ≡ []) × (result.left ≡ None) }
     {
@@ -52,9 +52,9 @@ impl Lists {
         }
     }
 
-    /// Reads the next turn, and keeps its message beside: `Ended` where no turn is left, and
-    /// `NoMemory` where memory for what is kept is refused, when the turn stays.
-    pub fn next(&mut self, alloc: Global, turns: &mut VecDeque<Turn>) -> Got
+    /// Takes the next scripted read, and records its message: `Ended` if none is left, and
+    /// `NoMemory` if memory for the record is refused, when the scripted read stays.
+    pub fn next(&mut self, alloc: Global, turns: &mut VecDeque<ScriptRead>) -> Got
         ensures told { self.new.calls.items ≡ self.old.calls.items ++ call.Read result ∷ [] }
         ensures gives { messages_of turns.old.items ≡ given_by result ++ messages_of turns.new.items }
         ensures ends { EndsAt result (Some (messages_of turns.new.items)) }
@@ -63,7 +63,7 @@ impl Lists {
         note_read(&mut self.calls, answer)
     }
 
-    /// A read that fails, whatever is there.
+    /// A read that fails, whatever the script contains.
     pub fn fail(&mut self) -> Got
         ensures answer { result ≡ got.Failed }
         ensures told { self.new.calls.items ≡ self.old.calls.items ++ call.Read got.Failed ∷ [] }
@@ -71,9 +71,9 @@ impl Lists {
         note_read(&mut self.calls, Got::Failed)
     }
 
-    /// Takes what is handed over: `Failed` where the line is not open or every send that succeeds
-    /// was made, `NoMemory` where memory to keep it is refused. Only with `Done` it goes out.
-    pub fn hand_over(&mut self, is_open: bool, item: Handed) -> Put
+    /// Sends an item: `Failed` if the line is not open or all successful sends were made,
+    /// `NoMemory` if memory to record it is refused. The item goes out only with `Done`.
+    pub fn hand_over(&mut self, is_open: bool, item: SentMessage) -> Put
         ensures told { self.new.calls.items ≡ self.old.calls.items ++ call.Send item result ∷ [] }
         ensures shut { is_open ≡ false → result ≡ put.Failed }
     {
@@ -91,8 +91,8 @@ impl Lists {
     }
 }
 
-/// The next turn, whose message is kept beside.
-fn next_turn(alloc: Global, turns: &mut VecDeque<Turn>, received: &mut Vec<Msg>) -> Got
+/// The next scripted read, whose message is recorded.
+fn next_turn(alloc: Global, turns: &mut VecDeque<ScriptRead>, received: &mut Vec<Msg>) -> Got
     ensures gives { messages_of turns.old.items ≡ given_by result ++ messages_of turns.new.items }
     ensures keeps { received.new.items ≡ received.old.items ++ given_by result }
     ensures ends { EndsAt result (Some (messages_of turns.new.items)) }
@@ -102,35 +102,35 @@ fn next_turn(alloc: Global, turns: &mut VecDeque<Turn>, received: &mut Vec<Msg>)
     }
     match turns.pop_front() {
         None => Got::Ended,
-        Some(Turn::Message(message)) => Got::Message(message),
-        Some(Turn::Idle) => Got::Idle,
-        Some(Turn::Fault) => Got::Failed,
+        Some(ScriptRead::Message(message)) => Got::Message(message),
+        Some(ScriptRead::Idle) => Got::Idle,
+        Some(ScriptRead::Fault) => Got::Failed,
     }
 }
 
-/// Keeps the message of the next turn, in memory of its own.
+/// Records the message of the next scripted read, in memory of its own.
 fn keep_next(
     alloc: Global,
-    turns: &VecDeque<Turn>,
+    turns: &VecDeque<ScriptRead>,
     received: &mut Vec<Msg>,
 ) -> Result<(), AllocError>
     ensures ok { OnOk result (received.new.items ≡ received.old.items ++ first_message turns.now.items) }
     ensures err { OnErr result (received.new.items ≡ received.old.items) }
 {
     match turns.front() {
-        Some(Turn::Message(message)) => {
+        Some(ScriptRead::Message(message)) => {
             let kept = message.copy(alloc)?;
             received.push(kept)?;
             Ok(())
         }
-        Some(Turn::Idle) => Ok(()),
-        Some(Turn::Fault) => Ok(()),
+        Some(ScriptRead::Idle) => Ok(()),
+        Some(ScriptRead::Fault) => Ok(()),
         None => Ok(()),
     }
 }
 
-/// The answer to a send, with a place for what goes out.
-fn answer_to(is_open: bool, left: &mut Option<u64>, items: &mut Vec<Handed>) -> Put
+/// The result of a send, with room reserved for the item.
+fn answer_to(is_open: bool, left: &mut Option<u64>, items: &mut Vec<SentMessage>) -> Put
     ensures room { result ≡ put.Done → vec_len items.new < vec_capacity items.new }
     ensures shut { is_open ≡ false → result ≡ put.Failed }
     ensures spent { is_left left.old ≡ false → result ≡ put.Failed }
@@ -145,8 +145,8 @@ fn answer_to(is_open: bool, left: &mut Option<u64>, items: &mut Vec<Handed>) -> 
     }
 }
 
-/// Makes a place for one more.
-fn make_room(items: &mut Vec<Handed>) -> Result<(), AllocError>
+/// Reserves room for one more.
+fn make_room(items: &mut Vec<SentMessage>) -> Result<(), AllocError>
     ensures room { OnOk result (vec_len items.new < vec_capacity items.new) }
     ensures items { items.new.items ≡ items.old.items }
 {

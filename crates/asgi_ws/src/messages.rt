@@ -3,7 +3,7 @@ ghost use Rattle.std.specs.Prelude.{◌≡◌, ℕ, ◌⊎◌, List, [], ◌∷�
 ghost use Rattle.asgi_ws.specs.declared.messages.Msg.{Msg};
 ghost use Rattle.asgi_ws.specs.declared.messages.Got.TheVariants as got;
 ghost use Rattle.asgi_ws.specs.declared.messages.Put.TheVariants as put;
-ghost use Rattle.asgi_ws.specs.declared.messages.Handed.TheVariants as item;
+ghost use Rattle.asgi_ws.specs.declared.messages.SentMessage.TheVariants as item;
 ghost use Rattle.asgi_ws.specs.declared.messages.Call.{Call};
 ghost use Rattle.asgi_ws.specs.declared.messages.Call.TheVariants as call;
 ghost use Rattle.asgi_ws.specs.Sessions.{given_by, is_failed, has_failed, count_after, Loses, EndsAt, kept_by};
@@ -19,16 +19,16 @@ pub enum Msg {
     Text(Chars),
     /// The payload of one binary message, whole and unmasked.
     Bytes(Octets),
-    /// A ping, without what it carries.
+    /// A ping, without its data.
     Ping,
-    /// A pong, without what it carries.
+    /// A pong, without its data.
     Pong,
-    /// The code and the reason, where the close has a body (section 5.5.1).
+    /// The code and the reason, if the close has a body (section 5.5.1).
     Close(Option<(u16, Reason)>),
 }
 
 impl Msg {
-    /// The same message once more, in memory of its own. `AllocError` where that is refused.
+    /// A copy of the message, in memory of its own. `AllocError` if that is refused.
     pub fn copy(&self, alloc: Global) -> Result<Self, AllocError>
         ensures { IfOk result (λ copied. copied ≡ self.now) }
     {
@@ -42,12 +42,12 @@ impl Msg {
     }
 }
 
-/// The answer of a read.
+/// The result of a read.
 #[derive(Debug, Drop)]
 pub enum Got {
     /// The next message.
     Message(Msg),
-    /// Nothing is there yet.
+    /// Nothing has arrived yet.
     Idle,
     /// No message follows.
     Ended,
@@ -57,10 +57,10 @@ pub enum Got {
     NoMemory,
 }
 
-/// The answer of a send.
+/// The result of a send.
 #[derive(Clone, Copy, Debug, PartialEq, Eq)]
 pub enum Put {
-    /// All of it went out.
+    /// All of it was sent.
     Done,
     /// The line or its protocol refused it, or the line carries no messages yet.
     Failed,
@@ -68,37 +68,36 @@ pub enum Put {
     NoMemory,
 }
 
-/// What is handed to a line, to be sent to the client.
+/// A message or a close to be sent to the client.
 #[derive(Debug, Drop)]
-pub enum Handed {
+pub enum SentMessage {
     /// One message of text or of bytes (RFC 6455, section 5.6).
     Payload(Payload),
     /// A close with this code and reason (RFC 6455, section 5.5.1).
     Close(u16, Reason),
 }
 
-/// A call of a session, with its answer.
+/// A call of a session, with its result.
 #[derive(Debug, Drop)]
 pub enum Call {
     /// A read of a message.
     Read(Got),
     /// A send of a message or of a close.
-    Send(Handed, Put),
+    Send(SentMessage, Put),
 }
 
-/// Messages in and out, told call by call. Before `upgrade` of `Line` each call answers Failed.
+/// Messages in and out, recorded call by call. Before `upgrade` of `Line` each call returns Failed.
 pub trait Messages: Reads + Counts {
-    /// The reads and the sends, each with its answer, the oldest first.
+    /// The reads and the sends, each with its result, the oldest first.
     ghost calls: { Self → List Call };
 
-    /// The messages that reads will give from here on, where they are known.
+    /// The messages that reads will return from here on, if they are known.
     ghost coming: { Self → Option (List Msg) };
 
     /// The bytes that `upgrade` kept; None before it.
     ghost leftover: { Self → Option (List ℕ) };
 
-    /// The next message, whole and unmasked. Where it answers `Failed`, one more failure is
-    /// counted.
+    /// Returns the next message, whole and unmasked. With `Failed` one more failure is counted.
     fn read_message(&mut self) -> Got
         ensures told { calls self.new ≡ calls self.old ++ call.Read result ∷ [] }
         ensures coming { Loses (coming self.old) (coming self.new) (given_by result) × EndsAt result (coming self.new) }
@@ -108,8 +107,8 @@ pub trait Messages: Reads + Counts {
         ensures text { (Self.remaining self.new ≡ Self.remaining self.old) × (Self.written self.new ≡ Self.written self.old)
             × (Self.Reads.answers self.new ≡ Self.Reads.answers self.old) × (Self.Counts.answers self.new ≡ Self.Counts.answers self.old) };
 
-    /// Sends one message of text or of bytes (RFC 6455, section 5.6). Where it answers `Failed`,
-    /// one more failure is counted.
+    /// Sends one message of text or of bytes (RFC 6455, section 5.6). With `Failed` one more
+    /// failure is counted.
     fn send_message(&mut self, payload: Payload) -> Put
         ensures told { calls self.new ≡ calls self.old ++ call.Send (item.Payload payload) result ∷ [] }
         ensures counts { Self.failed self.new ≡ count_after (Self.failed self.old) (has_failed result) }
@@ -118,8 +117,8 @@ pub trait Messages: Reads + Counts {
         ensures text { (Self.remaining self.new ≡ Self.remaining self.old) × (Self.written self.new ≡ Self.written self.old)
             × (Self.Reads.answers self.new ≡ Self.Reads.answers self.old) × (Self.Counts.answers self.new ≡ Self.Counts.answers self.old) };
 
-    /// Sends a close with this code and reason (RFC 6455, section 5.5.1). Where it answers
-    /// `Failed`, one more failure is counted.
+    /// Sends a close with this code and reason (RFC 6455, section 5.5.1). With `Failed` one more
+    /// failure is counted.
     fn send_close(&mut self, code: u16, reason: Reason) -> Put
         ensures told { calls self.new ≡ calls self.old ++ call.Send (item.Close code reason) result ∷ [] }
         ensures counts { Self.failed self.new ≡ count_after (Self.failed self.old) (has_failed result) }
@@ -129,12 +128,12 @@ pub trait Messages: Reads + Counts {
             × (Self.Reads.answers self.new ≡ Self.Reads.answers self.old) × (Self.Counts.answers self.new ≡ Self.Counts.answers self.old) };
 }
 
-/// A connection: text both ways, and messages both ways after `upgrade`. Its reads and its writes
-/// are told, and those that failed are counted.
+/// A connection: text both ways, and messages both ways after `upgrade`. The result of each read
+/// and write is recorded, and failures are counted.
 pub trait Line: Messages {
-    /// From here on the line carries messages, of the leftover and then of what is read behind it.
-    /// The leftover are the bytes that were read behind the head of the opening handshake. A second
-    /// call changes nothing, and reads and writes of text fail from here on.
+    /// Switches the line to messages, which come from the leftover and then from what is read after
+    /// it. The leftover are the bytes that were read after the head of the opening handshake. A
+    /// second call changes nothing, and reads and writes of text fail from here on.
     fn upgrade(&mut self, leftover: Vec<u8>)
         ensures keeps { Self.leftover self.new ≡ kept_by (Self.leftover self.old) leftover.items }
         ensures again { IsSome (Self.leftover self.old) → self.new ≡ self.old }
@@ -143,7 +142,7 @@ pub trait Line: Messages {
         ensures text { (Self.remaining self.new ≡ Self.remaining self.old) × (Self.written self.new ≡ Self.written self.old)
             × (Self.Reads.answers self.new ≡ Self.Reads.answers self.old) × (Self.Counts.answers self.new ≡ Self.Counts.answers self.old) };
 
-    // A write of text leaves what is to be read, and a read what is written.
+    // A write of text leaves what is still to be read, and a read what is written.
     ghost reads_stay: { (old new : Self) → Self.Counts.beside new ≡ Self.Counts.beside old
         → (Self.remaining new ≡ Self.remaining old) × (Self.Reads.answers new ≡ Self.Reads.answers old) };
 

@@ -8,10 +8,10 @@ use std::alloc::Global;
 use std::collections::VecDeque;
 use std::io::{self, ErrorKind};
 
-/// What one read of text gives.
+/// What one read of text returns.
 #[derive(Debug, Drop)]
-pub enum Piece {
-    /// These bytes, in as many reads as they need. Where there are none, the read would block.
+pub enum ScriptBytes {
+    /// These bytes, in as many reads as they need. If there are none, the read would block.
     Bytes(Vec<u8>),
     /// Nothing yet.
     WouldBlock,
@@ -19,21 +19,21 @@ pub enum Piece {
     Fault,
 }
 
-/// The piece that is being read, from `at` on, and those behind it.
+/// The piece that is being read, from `at` on, and those after it.
 #[derive(Drop)]
 pub struct Pieces {
-    /// The piece in hand.
+    /// The current piece.
     pub current: Vec<u8>,
     /// How many of its bytes were read.
     pub at: usize,
-    /// The pieces behind it.
-    pub pieces: VecDeque<Piece>,
+    /// The pieces after it.
+    pub pieces: VecDeque<ScriptBytes>,
     ghost inside: { at ≤ length current.items },
 }
 
 impl Pieces {
-    /// These pieces, of which none was read. It takes no memory.
-    pub fn new(alloc: Global, pieces: VecDeque<Piece>) -> Self
+    /// These pieces, none read yet. Allocates nothing.
+    pub fn new(alloc: Global, pieces: VecDeque<ScriptBytes>) -> Self
         ensures { (result.current.items ≡ []) × (result.pieces ≡ pieces) }
     {
         Pieces {
@@ -43,9 +43,8 @@ impl Pieces {
         }
     }
 
-    /// Reads some bytes of one piece to the front of `buf`, and answers how many: none behind the
-    /// last piece, or where `buf` has no room. The error is `WouldBlock` or `Other`, as the piece
-    /// says.
+    /// Reads bytes of one piece into the front of `buf`, and returns how many: none after the last
+    /// piece, or if `buf` has no room. The error is `WouldBlock` or `Other`, by the piece.
     pub fn read(&mut self, buf: &mut [u8]) -> io::Result<usize>
         ensures bound { ReadsAtMost result buf.new }
         ensures bytes { ReadConsumes (Some (drop self.old.at self.old.current.items ++ bytes_of self.old.pieces.items))
@@ -55,9 +54,9 @@ impl Pieces {
         if self.at == self.current.len() {
             match self.pieces.pop_front() {
                 None => return Ok(0),
-                Some(Piece::WouldBlock) => return Err(io::Error::from(ErrorKind::WouldBlock)),
-                Some(Piece::Fault) => return Err(io::Error::from(ErrorKind::Other)),
-                Some(Piece::Bytes(bytes)) => {
+                Some(ScriptBytes::WouldBlock) => return Err(io::Error::from(ErrorKind::WouldBlock)),
+                Some(ScriptBytes::Fault) => return Err(io::Error::from(ErrorKind::Other)),
+                Some(ScriptBytes::Bytes(bytes)) => {
                     self.current = bytes;
                     self.at = 0;
                 }

@@ -1,4 +1,4 @@
-//! A line in memory: it reads what it was given, and keeps what went by.
+//! A line in memory: reads come from a script, and each call is recorded.
 ghost use Rattle.std.specs.Prelude.{◌≡◌, ◌++◌, ◌∷◌, [], ◌⊎◌, length, drop, None, Some, IsSome, IsErr, OnErr, option_map};
 ghost use Rattle.std.specs.Io.{ReadsAtMost, WritesAtMost};
 ghost use Rattle.std.specs.Io.KnownBytes.{ReadConsumes, WriteAppends};
@@ -7,9 +7,9 @@ ghost use Rattle.asgi_io.specs.Counting.{CountsFailures};
 ghost use Rattle.asgi_ws.specs.Scripts.{bytes_of, messages_of, IsHeldUp};
 ghost use Rattle.asgi_ws.specs.Sessions.{messages_in, handed_in};
 
-use crate::lists::{Lists, Turn, is_allowed};
-use crate::messages::{Got, Handed, Line, Messages, Msg, Put};
-use crate::pieces::{Piece, Pieces};
+use crate::lists::{Lists, ScriptRead, is_allowed};
+use crate::messages::{Got, Line, Messages, Msg, Put, SentMessage};
+use crate::pieces::{Pieces, ScriptBytes};
 use crate::tally::Tally;
 use asgi_io::{Counts, Reads};
 use asgi_types::{Payload, Reason};
@@ -17,12 +17,12 @@ use std::alloc::Global;
 use std::collections::VecDeque;
 use std::io::{self, ErrorKind};
 
-/// A line in memory, which keeps what went by.
+/// A line in memory, which records each call.
 #[derive(Drop)]
 pub struct Script {
     alloc: Global,
     pieces: Pieces,
-    turns: VecDeque<Turn>,
+    turns: VecDeque<ScriptRead>,
     // How many writes succeed, None: all; and how many bytes one takes at most.
     writes_left: Option<u64>,
     at_most: usize,
@@ -33,9 +33,9 @@ pub struct Script {
 }
 
 impl Script {
-    /// A line that reads these pieces, and after `upgrade` the messages of these turns, and takes
-    /// all that it is given. It takes no memory.
-    pub fn new(alloc: Global, pieces: VecDeque<Piece>, turns: VecDeque<Turn>) -> Self
+    /// A line that reads these pieces, and after `upgrade` these messages (`turns`), and takes
+    /// everything written. Allocates nothing.
+    pub fn new(alloc: Global, pieces: VecDeque<ScriptBytes>, turns: VecDeque<ScriptRead>) -> Self
         ensures pieces { (result.pieces.current.items ≡ []) × (result.pieces.pieces ≡ pieces) }
         ensures turns { result.turns ≡ turns }
         ensures nothing { (result.text.items ≡ []) × (result.lists.calls.items ≡ []) }
@@ -65,7 +65,7 @@ impl Script {
         self
     }
 
-    /// At most `after` sends succeed; from then on each answers `Failed`.
+    /// At most `after` sends succeed; from then on each returns `Failed`.
     pub fn failing_send(mut self, after: u64) -> Self
         ensures sends { result.lists.left ≡ Some after }
         ensures same { (result.lists.calls ≡ self.lists.calls) × (result ≡ record self { lists = result.lists }) }
@@ -98,8 +98,8 @@ impl Script {
         self.lists.received.as_slice()
     }
 
-    /// The messages and closes that went out, the oldest first.
-    pub fn handed(&self) -> &[Handed]
+    /// The messages and closes that were sent, the oldest first.
+    pub fn handed(&self) -> &[SentMessage]
         ensures { result.now ≡ handed_in self.now.lists.calls.items }
     {
         self.lists.handed.as_slice()
@@ -225,11 +225,11 @@ impl Messages for Script {
     }
 
     fn send_message(&mut self, payload: Payload) -> Put {
-        self.hand_over(Handed::Payload(payload))
+        self.hand_over(SentMessage::Payload(payload))
     }
 
     fn send_close(&mut self, code: u16, reason: Reason) -> Put {
-        self.hand_over(Handed::Close(code, reason))
+        self.hand_over(SentMessage::Close(code, reason))
     }
 }
 
@@ -238,7 +238,7 @@ impl Script {
     ghost use Rattle.asgi_ws.specs.declared.messages.Put.TheVariants as put;
     ghost use Rattle.asgi_ws.specs.declared.messages.Call.TheVariants as call;
 
-    fn hand_over(&mut self, item: Handed) -> Put
+    fn hand_over(&mut self, item: SentMessage) -> Put
         ensures told { self.new.lists.calls.items ≡ self.old.lists.calls.items ++ call.Send item result ∷ [] }
         ensures counts { self.new.tally.failures ≡ count_after self.old.tally.failures (has_failed result) }
         ensures shut { self.old.leftover ≡ None → result ≡ put.Failed }

@@ -16,8 +16,8 @@ pub type Session<S> = WebSocket<Tap<S>, NoMask>;
 /// How many bytes one read of the stream asks for, and how many the layer reserves.
 const READ_BUFFER: usize = 4_096;
 
-/// A session of a server over the stream, whose first input is the leftover, the bytes of its first
-/// frames. It takes no memory.
+/// A server's session over the stream, whose first input is the leftover, the bytes of its first
+/// frames. Allocates nothing.
 pub fn session_on<S: Drop>(alloc: Global, stream: S, leftover: Vec<u8>) -> Session<S>
     ensures { IsSessionOn stream leftover.items result }
 {
@@ -31,7 +31,7 @@ pub fn session_on<S: Drop>(alloc: Global, stream: S, leftover: Vec<u8>) -> Sessi
     )
 }
 
-/// The next message. `Failed` where no session has begun.
+/// Returns the next message. `Failed` if no session has begun.
 pub fn read<S: Stream + Drop>(alloc: Global, session: &mut Option<Session<S>>) -> Got
     ensures { AnswersRead (λ t. S.remaining t.stream) session.old session.new result }
 {
@@ -49,8 +49,8 @@ fn read_next<S: Stream + Drop>(alloc: Global, socket: &mut Session<S>) -> Got
     answer_to(alloc, given, stop)
 }
 
-/// Sends a payload. `Failed` where no session has begun or the layer refuses it, `NoMemory` where
-/// memory is refused.
+/// Sends a payload. `Failed` if no session has begun or the layer refuses it, `NoMemory` if memory
+/// is refused.
 pub fn send<S: Stream + Drop>(session: &mut Option<Session<S>>, payload: Payload) -> Put
     ensures sent { IfDone result (IsSent (λ t. S.contents t.stream) session.old session.new (payload_step payload)) }
     ensures refused { IfFailed result (IsRefused session.old (payload_step payload)) }
@@ -64,7 +64,7 @@ pub fn send<S: Stream + Drop>(session: &mut Option<Session<S>>, payload: Payload
     put_of(socket.send(message))
 }
 
-/// Sends a close with this code and reason (RFC 6455, section 5.5.1). The answer is as for `send`.
+/// Sends a close with this code and reason (RFC 6455, section 5.5.1). The result is as for `send`.
 pub fn close<S: Stream + Drop>(
     alloc: Global,
     session: &mut Option<Session<S>>,

@@ -5,39 +5,39 @@ ghost use Rattle.std.specs.Io.KnownBytes.{ReadConsumes, WriteAppends, Keeps};
 
 use std::io::{self, Read, Write};
 
-/// What carries bytes both ways. A read leaves what was written as it is, and a write what is to be
-/// read.
+/// A byte stream in both directions. A read does not change what was written, and a write does not
+/// change what is still to be read.
 pub trait Stream {
-    /// The bytes that are still to come, where they are known.
+    /// The bytes that are still to come, if they are known.
     ghost remaining: { Self → Option (List ℕ) };
 
-    /// The bytes that were written, where they are known.
+    /// The bytes that were written, if they are known.
     ghost contents: { Self → Option (List ℕ) };
 
-    /// Reads some bytes to the front of `buf`, and answers how many: none at the end.
+    /// Reads some bytes into the front of `buf`, and returns how many: none at the end.
     fn read_part(&mut self, buf: &mut [u8]) -> io::Result<usize>
         ensures bound { ReadsAtMost result buf.new }
         ensures bytes { ReadConsumes (remaining self.old) (remaining self.new) result buf.new }
         ensures stays { contents self.new ≡ contents self.old };
 
-    /// Writes some of the bytes, from the first on, and answers how many.
+    /// Writes some of the bytes, from the first on, and returns how many.
     fn write_part(&mut self, bytes: &[u8]) -> io::Result<usize>
         ensures bound { WritesAtMost result bytes.now }
         ensures bytes { WriteAppends (contents self.old) (contents self.new) result bytes.now }
         ensures stays { remaining self.new ≡ remaining self.old };
 
-    /// Sends on what a buffer holds.
+    /// Flushes what a buffer holds.
     fn flush_parts(&mut self) -> io::Result<()>
         ensures bytes { Keeps (contents self.old) (contents self.new) }
         ensures stays { remaining self.new ≡ remaining self.old };
 }
 
-/// A stream of a reader and a writer, each of which tells its own bytes.
+/// A stream made of a reader and a writer, each with its own bytes.
 #[derive(Debug, Drop)]
 pub struct Pair<R, W> {
-    /// What the bytes are read from.
+    /// The source of the bytes that are read.
     pub reader: R,
-    /// What the bytes are written to.
+    /// The destination of the bytes that are written.
     pub writer: W,
 }
 
@@ -60,7 +60,7 @@ impl<R: Read, W: Write> Stream for Pair<R, W> {
 }
 
 /// One value that reads and writes, such as a socket: nothing is known of its bytes, since a write
-/// may change what is to be read.
+/// may change what is still to be read.
 impl<S: Read + Write> Stream for S {
     ghost remaining = { λ _. None };
 

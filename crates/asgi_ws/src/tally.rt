@@ -1,4 +1,4 @@
-//! How the reads and writes of text were answered, and how often a call failed.
+//! The results of the reads and writes of text, and how often a call failed.
 ghost use Rattle.std.specs.Prelude.{◌≡◌, ◌∷◌, [], ◌++◌, length, true};
 ghost use Rattle.asgi_io.specs.Answers.{answer_of, failed_in};
 ghost use Rattle.asgi_io.specs.Counting.{counted, CountsFailures};
@@ -7,16 +7,16 @@ ghost use Rattle.asgi_ws.specs.Sessions.{count_after};
 use asgi_io::{Answer, History, answer_of};
 use std::io;
 
-/// The answers, and the counts of faults and of failures.
+/// The results, and the counts of faults and of failures.
 #[derive(Drop)]
 pub struct Tally {
-    /// Reads of text that failed with an error that does not pass.
+    /// Reads of text that failed with an error that is not transient.
     pub faults: u64,
-    /// How each read of text was answered, the oldest first.
+    /// The result of each read of text, the oldest first.
     pub reads: History<Answer>,
     /// Writes of text, and reads and sends of messages, that failed.
     pub failures: u64,
-    /// How each write of text was answered, the oldest first.
+    /// The result of each write of text, the oldest first.
     pub writes: History<Answer>,
     ghost counts: { faults ≡ counted (failed_in reads.items) },
 }
@@ -34,7 +34,7 @@ impl Tally {
         }
     }
 
-    /// Keeps how a read of text with `room` bytes of room was answered, and counts a fault.
+    /// Records the result of a read of text into `room` bytes, and counts a fault.
     pub fn note_read(&mut self, read: &io::Result<usize>, room: usize)
         ensures told { self.new.reads.items ≡ self.old.reads.items ++ answer_of room read.now ∷ [] }
         ensures same { (self.new.failures ≡ self.old.failures) × (self.new.writes ≡ self.old.writes) }
@@ -46,8 +46,8 @@ impl Tally {
         }
     }
 
-    /// Keeps how a write of these bytes was answered. A failure is counted, also one that passes,
-    /// or that none of some bytes were taken.
+    /// Records the result of a write of these bytes. A failure is counted, also a transient one,
+    /// and also if none of some bytes were taken.
     pub fn note_write(&mut self, wrote: &io::Result<usize>, bytes: &[u8])
         ensures told { self.new.writes.items ≡ self.old.writes.items ++ answer_of (length bytes.now) wrote.now ∷ [] }
         ensures counts { CountsFailures self.old.failures self.new.failures bytes.now wrote.now }
@@ -61,7 +61,7 @@ impl Tally {
         }
     }
 
-    /// Counts the failure of a call.
+    /// Counts a failed call.
     pub fn note_failure(&mut self)
         ensures counts { self.new.failures ≡ count_after self.old.failures true }
         ensures same { (self.new.faults ≡ self.old.faults) × (self.new.reads ≡ self.old.reads) × (self.new.writes ≡ self.old.writes) }

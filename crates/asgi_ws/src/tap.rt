@@ -1,18 +1,18 @@
-//! The stream as the message layer sees it. Where it ended or failed, reads would block, so that what is sent can still go
-//! out; and a write that would block is tried again, a counted number of times.
+//! The stream as the message layer sees it. Once the input ended or failed, reads would block, so that messages can
+//! still be sent; and a write that would block is retried, a bounded number of times.
 ghost use Rattle.std.specs.Prelude.{◌≡◌, None};
 ghost use Rattle.std.specs.Io.{WritesAtMost};
 ghost use Rattle.std.specs.Io.KnownBytes.{WriteAppends, Keeps};
 ghost use Rattle.std.specs.IoError.{error_kind};
 ghost use Rattle.std.specs.declared.io.ErrorKind.TheVariants.{TimedOut};
-ghost use Rattle.asgi_ws.specs.Taps.{Lasts, stop_after, IsLeft, is_stuck};
+ghost use Rattle.asgi_ws.specs.private.Taps.{Lasts, stop_after, IsLeft, is_stuck};
 
 use crate::stream::Stream;
 use asgi_io::is_passing;
 use std::io::{self, ErrorKind, Read, Write};
 
-/// How often a write that was interrupted or would block is tried. Behind that its client is taken as one that reads nothing
-/// more.
+/// How often a write that was interrupted or would block is tried. After that its client counts as one that reads
+/// nothing more.
 const TRIES: u32 = 1_001;
 
 /// How the input of a stream stopped.
@@ -20,18 +20,18 @@ const TRIES: u32 = 1_001;
 pub enum Stop {
     /// A read found its end.
     Ended,
-    /// A read failed with an error that does not pass.
+    /// A read failed with an error that is not transient.
     Failed,
-    /// A write timed out: it still would block at its last try, or the stream said so.
+    /// A write timed out: it still would block at its last try, or the stream returned that error.
     Stuck,
 }
 
-/// A stream that would block where its input has ended or failed.
+/// A stream whose reads would block once its input has ended or failed.
 #[derive(Drop)]
 pub struct Tap<S> {
     /// The stream below.
     pub stream: S,
-    /// How the input stopped, once a read told it.
+    /// How the input stopped, once a call found out.
     pub stop: Option<Stop>,
 }
 
@@ -43,14 +43,14 @@ impl<S> Tap<S> {
         Tap { stream, stop: None }
     }
 
-    /// Whether a write timed out, so that none is made any more.
+    /// Whether a write timed out, after which none is made.
     fn is_stuck(&self) -> bool
         ensures { result ≡ is_stuck self.now.stop }
     {
         matches!(self.stop, Some(Stop::Stuck))
     }
 
-    /// Notes a write that timed out.
+    /// Records a write that timed out.
     fn note<T>(&mut self, answered: &io::Result<T>)
         ensures stops { self.new.stop ≡ stop_after answered.now self.old.stop }
         ensures stays { self.new.stream ≡ self.old.stream }
@@ -63,7 +63,7 @@ impl<S> Tap<S> {
     }
 }
 
-/// The answer to what was tried too often.
+/// The error after too many tries.
 fn timed_out() -> io::Error
     ensures { error_kind result ≡ TimedOut }
 {
@@ -96,8 +96,8 @@ impl<S: Stream> Read for Tap<S> {
     }
 }
 
-/// A write has an answer that lasts: where it was tried in vain it has timed out (`ErrorKind::TimedOut`), and behind that no
-/// write reaches the stream.
+/// An error of a write is not transient: after too many tries it is `ErrorKind::TimedOut`, and from then on no write
+/// reaches the stream.
 impl<S: Stream> Write for Tap<S> {
     ghost contents = { λ t. S.contents t.stream };
 
@@ -131,7 +131,7 @@ impl<S: Stream> Write for Tap<S> {
     }
 }
 
-/// Writes some of the bytes, and answers how many.
+/// Writes some of the bytes, and returns how many.
 fn write_retrying<S: Stream>(stream: &mut S, bytes: &[u8]) -> io::Result<usize>
     ensures bound { WritesAtMost result bytes.now }
     ensures bytes { WriteAppends (S.contents stream.old) (S.contents stream.new) result bytes.now }
@@ -150,7 +150,7 @@ fn write_retrying<S: Stream>(stream: &mut S, bytes: &[u8]) -> io::Result<usize>
     Err(timed_out())
 }
 
-/// Sends on what a buffer holds.
+/// Flushes what a buffer holds.
 fn flush_retrying<S: Stream>(stream: &mut S) -> io::Result<()>
     ensures kept { Keeps (S.contents stream.old) (S.contents stream.new) }
     ensures lasting { Lasts result }

@@ -7,7 +7,7 @@ ghost use Rattle.asgi_io.specs.Counting.{CountsFailures};
 ghost use Rattle.asgi_ws.specs.Wires.{told_by, leftover_by};
 
 use crate::calls::{Sending, note_read, note_send};
-use crate::messages::{Call, Got, Handed, Line, Messages, Put};
+use crate::messages::{Call, Got, Line, Messages, Put, SentMessage};
 use crate::session::{Session, close, read, send, session_on};
 use crate::stream::Stream;
 use crate::tally::Tally;
@@ -24,7 +24,7 @@ pub struct Wired<S> {
     stream: Option<S>,
     // The message layer, from `upgrade` on.
     session: Option<Session<S>>,
-    // The stream and the bytes behind the handshake, as they were at `upgrade`.
+    // The stream and the bytes after the handshake, as they were at `upgrade`.
     before: History<S>,
     kept: History<Octets>,
     tally: Tally,
@@ -32,7 +32,7 @@ pub struct Wired<S> {
 }
 
 impl<S> Wired<S> {
-    /// A line of text over the stream. It takes no memory.
+    /// A line of text over the stream. Allocates nothing.
     pub fn new(alloc: Global, stream: S) -> Self
         ensures stream { result.stream ≡ Some stream }
         ensures nothing { (result.calls.items ≡ []) × (result.tally.failures ≡ 0) × (result.tally.reads.items ≡ []) × (result.tally.writes.items ≡ []) }
@@ -166,7 +166,7 @@ impl<S: Stream> Counts for Wired<S> {
 impl<S: Stream + Drop> Messages for Wired<S> {
     ghost use Rattle.asgi_ws.specs.declared.messages.Got.TheVariants as got;
     ghost use Rattle.asgi_ws.specs.declared.messages.Put.TheVariants as put;
-    ghost use Rattle.asgi_ws.specs.declared.messages.Handed.TheVariants as item;
+    ghost use Rattle.asgi_ws.specs.declared.messages.SentMessage.TheVariants as item;
     ghost use Rattle.asgi_ws.specs.declared.messages.Call.TheVariants as call;
     ghost use Rattle.asgi_ws.specs.Sessions.{is_failed, has_failed, count_after};
     ghost use Rattle.asgi_ws.specs.Wires.{AnswersRead, IsSent, IfDone, IfFailed, IsRefused, payload_step, closing_step};
@@ -229,7 +229,7 @@ impl<S: Stream + Drop> Messages for Wired<S> {
         } else {
             close(self.alloc, &mut self.session, code, &reason)
         };
-        self.note(answer, Handed::Close(code, reason))
+        self.note(answer, SentMessage::Close(code, reason))
     }
 }
 
@@ -250,8 +250,8 @@ impl<S: Stream + Drop> Wired<S> {
         answer
     }
 
-    // Keeps what was handed over and its answer, and counts a failure.
-    fn note(&mut self, answer: Put, item: Handed) -> Put
+    // Records the item and the result, and counts a failure.
+    fn note(&mut self, answer: Put, item: SentMessage) -> Put
         ensures answer { result ≡ answer }
         ensures kept { self.new.calls.items ≡ self.old.calls.items ++ call.Send item answer ∷ [] }
         ensures after { self.new.tally.failures ≡ count_after self.old.tally.failures (has_failed answer) }

@@ -1,10 +1,10 @@
-//! The calls of a line of any kind, and what is said of their answers. What a test proves needs none of their clauses.
+//! The calls of a line of any kind, and checks of their results. What a test proves needs none of their clauses.
 use asgi_types::{Octets, Payload, Reason};
 use asgi_ws::{Got, Line, Msg, Put};
 use std::alloc::{AllocError, Global};
 use std::test::Fail;
 
-/// What a read gave, without what it carries.
+/// What a read returned, without its data.
 #[derive(Clone, Copy, Debug, PartialEq, Eq)]
 pub enum Kind {
     Text,
@@ -42,7 +42,7 @@ pub fn kind_of(got: &Got) -> Kind {
     }
 }
 
-/// What is said of a value that is gone behind it. It stands for a value of any type, so its proof sees no field of one.
+/// The result of `says` on a value, which is then dropped. The value has any type, so the proof sees no field of it.
 pub fn of<T: Drop, S, F: FnOnce(&T) -> S>(value: T, says: F) -> S
     requires { F.IsAlwaysCallable says }
 {
@@ -75,7 +75,7 @@ pub fn close<L: Line>(line: &mut L, code: u16, reason: Reason) -> Put {
     line.send_close(code, reason)
 }
 
-/// How many reads, from the first on, give these kinds.
+/// How many reads, from the first on, return these kinds.
 pub fn reads_held<L: Line>(line: &mut L, kinds: &[Kind]) -> usize {
     for i in 0..kinds.len() {
         if next(line) != kinds[i] {
@@ -85,17 +85,17 @@ pub fn reads_held<L: Line>(line: &mut L, kinds: &[Kind]) -> usize {
     kinds.len()
 }
 
-/// How many bytes of text a read gave, None where it failed.
+/// How many bytes of text a read returned, None if it failed.
 pub fn read_text<L: Line>(line: &mut L, buf: &mut [u8]) -> Option<usize> {
     line.read_some(buf).ok()
 }
 
-/// How many bytes of text a write took, None where it failed.
+/// How many bytes of text a write took, None if it failed.
 pub fn write_text<L: Line>(line: &mut L, bytes: &[u8]) -> Option<usize> {
     line.write_some(bytes).ok()
 }
 
-/// How many reads of text and how many calls beside them failed.
+/// How many reads of text and how many other calls failed.
 pub fn counts<L: Line>(line: &L) -> (u64, u64) {
     (line.faults(), line.failures())
 }

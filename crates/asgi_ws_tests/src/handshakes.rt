@@ -1,4 +1,4 @@
-//! The answers of a server, from RFC 6455 and the standard's fields.
+//! The responses of a server, from RFC 6455 and with the standard's fields.
 
 use super::calls::of;
 use asgi_types::{
@@ -9,7 +9,7 @@ use std::alloc::{AllocError, Global};
 use std::process::Abort;
 use std::test::Fail;
 
-/// The key of RFC 6455, section 1.3, and its answer.
+/// The key of RFC 6455, section 1.3, and its accept value.
 const KEY: &[u8; 24] = b"dGhlIHNhbXBsZSBub25jZQ==";
 
 const ANSWER: &[u8] = b"s3pPLMBiTxaQ9kYGzzhZRbK+xOo=";
@@ -58,14 +58,14 @@ fn text_for(alloc: Global, event: &Outgoing) -> Result<Vec<u8>, AllocError> {
 const HEAD: &str =
     "HTTP/1.1 101 Switching Protocols\r\nupgrade: websocket\r\nconnection: Upgrade\r\nsec-websocket-accept: s3pPLMBiTxaQ9kYGzzhZRbK+xOo=\r\n";
 
-/// Whether the answer is 101 with the server's fields, and then these lines.
+/// Whether the response is 101 with the server's fields, and then these lines.
 fn ends_with(alloc: Global, event: &Outgoing, lines: &str) -> Result<bool, AllocError> {
     let text = text_for(alloc, event)?;
-    let behind = text.as_slice().strip_prefix(HEAD.as_bytes());
-    Ok(behind == Some(lines.as_bytes()))
+    let after = text.as_slice().strip_prefix(HEAD.as_bytes());
+    Ok(after == Some(lines.as_bytes()))
 }
 
-/// The subprotocol, the fields of the application, and the lines that they make.
+/// The subprotocol, the application's fields, and the lines that they produce.
 const ACCEPTED: &[(&str, &[(&str, &str)], &str)] = &[
     ("", &[], "\r\n"),
     (
@@ -81,7 +81,7 @@ const ACCEPTED: &[(&str, &[(&str, &str)], &str)] = &[
     ),
 ];
 
-/// Whether an "Accept" with these is answered by these lines.
+/// Whether the response to an "Accept" with these has these lines.
 fn is_accepted(
     alloc: Global,
     name: &str,
@@ -102,7 +102,7 @@ fn a_handshake_is_accepted(rt: HostRuntime) -> Result<(), Fail> {
     Ok(())
 }
 
-/// How long the text for the event is.
+/// The length of the text for the event.
 fn text_len(alloc: Global, event: &Outgoing) -> Result<usize, AllocError> {
     Ok(text_for(alloc, event)?.len())
 }
@@ -140,7 +140,7 @@ fn chosen(alloc: Global) -> Result<Outgoing, HeaderError> {
 
 const CHOSEN: &str = "sec-websocket-protocol: chat\r\nx-a: q\r\n\r\n";
 
-/// Whether the answer to `chosen` has both. Where memory was refused, it is made once more.
+/// Whether the response to `chosen` has both. If memory was refused, it is made once more.
 fn has_chosen(alloc: Global, event: &Outgoing) -> Result<bool, AllocError> {
     ends_with(alloc, event, CHOSEN).or_else(|_| ends_with(alloc, event, CHOSEN))
 }

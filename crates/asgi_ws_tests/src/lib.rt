@@ -1,4 +1,4 @@
-//! Tests of `asgi_ws` on its public calls: answers to opening handshakes, and lines that carry messages.
+//! Tests of `asgi_ws` on its public calls: responses to opening handshakes, and lines that carry messages.
 #![tactic(auto)]
 
 #[cfg(test)]

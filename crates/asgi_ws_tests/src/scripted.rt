@@ -1,40 +1,40 @@
-//! Lines in memory do as they say, and keep what went by.
+//! Lines in memory follow their scripts, and record each call.
 use super::calls::{
     Kind, bye, bytes, close, counts, failures, next, read_text, reads_held, send, write_text,
 };
 use asgi_types::{Chars, Payload, Reason};
-use asgi_ws::{Handed, Line, Msg, Piece, Put, Script, Turn};
+use asgi_ws::{Line, Msg, Put, Script, ScriptBytes, ScriptRead, SentMessage};
 use std::alloc::{AllocError, Global};
 use std::collections::VecDeque;
 use std::test::Fail;
 
-fn pieces(alloc: Global) -> Result<VecDeque<Piece>, AllocError> {
+fn pieces(alloc: Global) -> Result<VecDeque<ScriptBytes>, AllocError> {
     let mut pieces = VecDeque::new(alloc);
-    pieces.push_back(Piece::Bytes(b"abc".to_vec(alloc)?))?;
-    pieces.push_back(Piece::WouldBlock)?;
-    pieces.push_back(Piece::Bytes(b"d".to_vec(alloc)?))?;
-    pieces.push_back(Piece::Fault)?;
+    pieces.push_back(ScriptBytes::Bytes(b"abc".to_vec(alloc)?))?;
+    pieces.push_back(ScriptBytes::WouldBlock)?;
+    pieces.push_back(ScriptBytes::Bytes(b"d".to_vec(alloc)?))?;
+    pieces.push_back(ScriptBytes::Fault)?;
     Ok(pieces)
 }
 
-fn turns(alloc: Global) -> Result<VecDeque<Turn>, AllocError> {
+fn turns(alloc: Global) -> Result<VecDeque<ScriptRead>, AllocError> {
     let mut turns = VecDeque::new(alloc);
-    turns.push_back(Turn::Idle)?;
+    turns.push_back(ScriptRead::Idle)?;
     let text = Chars::new(String::from_str(alloc, "a")?);
-    turns.push_back(Turn::Message(Msg::Text(text)))?;
-    turns.push_back(Turn::Message(Msg::Ping))?;
-    turns.push_back(Turn::Fault)?;
-    turns.push_back(Turn::Message(Msg::Close(None)))?;
+    turns.push_back(ScriptRead::Message(Msg::Text(text)))?;
+    turns.push_back(ScriptRead::Message(Msg::Ping))?;
+    turns.push_back(ScriptRead::Fault)?;
+    turns.push_back(ScriptRead::Message(Msg::Close(None)))?;
     Ok(turns)
 }
 
-/// What reads of two bytes give, from the first on; None: they fail.
+/// What reads of two bytes return, from the first on; None: they fail.
 const READS: &[Option<usize>] = &[Some(2), Some(1), None, Some(1), None, Some(0)];
 
 /// Texts to write, and how many bytes are taken.
 const WRITES: &[(&[u8], Option<usize>)] = &[(b"wxyz", Some(3)), (b"z", Some(1)), (b"z", None)];
 
-/// How many reads, from the first on, give what they are to give.
+/// How many reads, from the first on, return what is expected.
 fn texts_read<L: Line>(line: &mut L) -> usize {
     let mut buf = [0; 2];
     for i in 0..READS.len() {
@@ -45,7 +45,7 @@ fn texts_read<L: Line>(line: &mut L) -> usize {
     READS.len()
 }
 
-/// How many writes, from the first on, take what they are to take.
+/// How many writes, from the first on, take what is expected.
 fn texts_written<L: Line>(line: &mut L) -> usize {
     for i in 0..WRITES.len() {
         let (bytes, expected) = WRITES[i];
@@ -56,12 +56,12 @@ fn texts_written<L: Line>(line: &mut L) -> usize {
     WRITES.len()
 }
 
-/// Whether the text is kept that was written, and both failures are counted.
+/// Whether the text that was written is kept, and both failures are counted.
 fn keeps_text(line: &Script) -> bool {
     line.text() == b"wxyz".as_slice() && counts(line) == (1, 1)
 }
 
-/// Whether the line has kept what was left over, and neither reads nor writes text.
+/// Whether the line has kept the leftover, and neither reads nor writes text.
 fn has_no_text(line: &mut Script) -> bool {
     let mut buf = [0; 2];
     line.leftover() == Some(b"left".as_slice())
@@ -70,7 +70,7 @@ fn has_no_text(line: &mut Script) -> bool {
         && counts(line) == (2, 2)
 }
 
-/// How many reads and writes hold, and whether the line keeps the text, and has none behind the first `upgrade`.
+/// How many reads and writes are right, and whether the line keeps the text, and has none after the first `upgrade`.
 fn text_held(mut line: Script, first: Vec<u8>, second: Vec<u8>) -> (usize, usize, [bool; 2]) {
     let reads = texts_read(&mut line);
     let writes = texts_written(&mut line);
@@ -90,7 +90,7 @@ fn text_is_read_and_written_as_the_script_says(rt: HostRuntime) -> Result<(), Fa
     Ok(())
 }
 
-/// What reads of messages give behind `upgrade`.
+/// What reads of messages return after `upgrade`.
 const MESSAGES: &[Kind] = &[
     Kind::Idle,
     Kind::Text,
@@ -100,7 +100,7 @@ const MESSAGES: &[Kind] = &[
     Kind::Ended,
 ];
 
-/// What a read gives before `upgrade`, how many hold behind it, and how many calls failed.
+/// What a read returns before `upgrade`, how many are as expected after it, and how many calls failed.
 fn messages_held<L: Line>(line: &mut L, leftover: Vec<u8>) -> (Kind, usize, u64) {
     let before = next(line);
     line.upgrade(leftover);
@@ -127,7 +127,7 @@ fn messages_are_read_and_kept(rt: HostRuntime) -> Result<(), Fail> {
     Ok(())
 }
 
-/// How a close is answered before `upgrade`, then a payload, and then two closes.
+/// The result of a close before `upgrade`, then of a payload, and then of two closes.
 fn sends<L: Line>(line: &mut L, payload: Payload, leftover: Vec<u8>, reason: Reason) -> [Put; 4] {
     let before = close(line, 1000, reason);
     line.upgrade(leftover);
@@ -136,14 +136,17 @@ fn sends<L: Line>(line: &mut L, payload: Payload, leftover: Vec<u8>, reason: Rea
     [before, sent, closed, close(line, 1001, reason)]
 }
 
-fn are_sent(handed: &[Handed]) -> bool {
+fn are_sent(handed: &[SentMessage]) -> bool {
     matches!(
         handed,
-        [Handed::Payload(Payload::Bytes(_)), Handed::Close(1000, _)]
+        [
+            SentMessage::Payload(Payload::Bytes(_)),
+            SentMessage::Close(1000, _)
+        ]
     )
 }
 
-/// The answers, and whether what went out is kept, and both failures are counted.
+/// The results, and whether what went out is kept, and both failures are counted.
 fn sent_and_kept(
     mut line: Script,
     payload: Payload,
@@ -166,7 +169,7 @@ fn what_goes_out_is_kept(rt: HostRuntime) -> Result<(), Fail> {
     Ok(())
 }
 
-/// The kind of the first message of a script. Where memory is refused, the message stays, and the next read gives it.
+/// The kind of the first message of a script. If memory is refused, the message stays, and the next read returns it.
 fn first_kind<L: Line>(line: &mut L) -> Kind {
     match next(line) {
         Kind::NoMemory => next(line),
@@ -174,7 +177,7 @@ fn first_kind<L: Line>(line: &mut L) -> Kind {
     }
 }
 
-/// How a close is answered; where memory is refused, it is sent again.
+/// The result of a close; if memory is refused, it is sent again.
 fn closed<L: Line>(line: &mut L, reason: Reason) -> Put {
     match close(line, 1000, reason) {
         Put::NoMemory => close(line, 1000, reason),
@@ -182,7 +185,7 @@ fn closed<L: Line>(line: &mut L, reason: Reason) -> Put {
     }
 }
 
-/// The first three messages behind `upgrade`.
+/// The first three messages after `upgrade`.
 fn first_three<L: Line>(line: &mut L, leftover: Vec<u8>) -> [Kind; 3] {
     line.upgrade(leftover);
     [first_kind(line), first_kind(line), first_kind(line)]
@@ -192,11 +195,11 @@ fn are_text_and_ping(messages: &[Msg]) -> bool {
     matches!(messages, [Msg::Text(_), Msg::Ping])
 }
 
-fn is_one_close(handed: &[Handed]) -> bool {
-    matches!(handed, [Handed::Close(1000, _)])
+fn is_one_close(handed: &[SentMessage]) -> bool {
+    matches!(handed, [SentMessage::Close(1000, _)])
 }
 
-/// The first three messages, how a close is answered, and whether the messages and the close are kept.
+/// The first three messages, the result of a close, and whether the messages and the close are kept.
 fn first_held(mut line: Script, leftover: Vec<u8>, reason: Reason) -> ([Kind; 3], Put, [bool; 2]) {
     let kinds = first_three(&mut line, leftover);
     let received = are_text_and_ping(line.received());

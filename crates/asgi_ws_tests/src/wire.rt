@@ -2,7 +2,7 @@
 use std::alloc::{AllocError, Global};
 use std::io::{self, ErrorKind, Read, Write};
 
-/// It reads its input in parts, and would block before each where `blocks` says so. It keeps what is written.
+/// A stream that reads its input in parts, would block before each if `blocks` is set, and keeps what is written.
 #[derive(Drop)]
 pub struct Wire {
     pub input: Vec<u8>,

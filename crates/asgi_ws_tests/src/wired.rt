@@ -23,7 +23,7 @@ fn output_of(line: &Wired<Wire>) -> &[u8] {
     }
 }
 
-/// A line over this stream that was upgraded, with these bytes behind the handshake.
+/// A line over this stream that was upgraded, with these bytes after the handshake.
 fn upgraded_with(alloc: Global, wire: Wire, held: Vec<u8>) -> Wired<Wire> {
     let mut line = Wired::new(alloc, wire);
     line.upgrade(held);
@@ -36,7 +36,7 @@ fn upgraded(alloc: Global, input: &[u8], blocks: bool) -> Result<Wired<Wire>, Al
     Ok(upgraded_with(alloc, wire, Vec::new(alloc)))
 }
 
-/// The text that a read gave, to be sent back, or what else it gave.
+/// The text that a read returned, to be sent back, or what else it returned.
 fn text_in(got: Got) -> Result<Payload, Kind> {
     match got {
         Got::Message(Msg::Text(text)) => Ok(Payload::Text(text)),
@@ -44,7 +44,7 @@ fn text_in(got: Got) -> Result<Payload, Kind> {
     }
 }
 
-/// Sends each text back, until the line has ended, and says how many there were and how many reads found nothing.
+/// Sends each text back, until the line has ended, and returns how many there were and how many reads found nothing.
 fn echo<L: Line>(line: &mut L) -> (u8, u8) {
     let mut texts = 0u8;
     let mut idle = 0u8;
@@ -62,19 +62,19 @@ fn echo<L: Line>(line: &mut L) -> (u8, u8) {
     (texts, idle)
 }
 
-/// Whether one text is read and sent back without a failure, and some reads find nothing where the stream blocks.
+/// Whether one text is read and sent back without a failure, and some reads find nothing if the stream blocks.
 fn echoes_one<L: Line>(line: &mut L, blocks: bool) -> bool {
     let (texts, idle) = echo(line);
     texts == 1 && (idle > 0) == blocks && failures(line) == 0
 }
 
-/// Whether it is so, and the text stands in the output.
+/// The same, and whether the text is in the output.
 fn is_echoed(mut line: Wired<Wire>, blocks: bool) -> bool {
     let echoed = echoes_one(&mut line, blocks);
     echoed && output_of(&line) == HELLO_BACK
 }
 
-/// Whether the text is echoed where so many bytes of it stand behind the handshake.
+/// Whether the text is echoed if this many bytes of it follow the handshake.
 fn cut_is_echoed(
     alloc: Global,
     held: usize,
@@ -84,9 +84,9 @@ fn cut_is_echoed(
     if held > HELLO.len() {
         return Ok(false);
     }
-    let behind = HELLO[..held].to_vec(alloc)?;
+    let after = HELLO[..held].to_vec(alloc)?;
     let wire = Wire::new(alloc, &HELLO[held..], part, blocks)?;
-    Ok(is_echoed(upgraded_with(alloc, wire, behind), blocks))
+    Ok(is_echoed(upgraded_with(alloc, wire, after), blocks))
 }
 
 #[test]
@@ -106,7 +106,7 @@ fn a_message_is_read_however_it_is_cut(rt: HostRuntime) -> Result<(), Fail> {
 }
 
 /// Whether the line echoes a text, has ended, and still takes a message and a close.
-fn takes_behind_the_end<L: Line>(line: &mut L, payload: Payload, reason: Reason) -> [bool; 4] {
+fn takes_after_the_end<L: Line>(line: &mut L, payload: Payload, reason: Reason) -> [bool; 4] {
     let echoed = echo(line) == (1, 0);
     let ended = next(line) == Kind::Ended;
     let sent = send(line, payload) == Put::Done;
@@ -114,16 +114,16 @@ fn takes_behind_the_end<L: Line>(line: &mut L, payload: Payload, reason: Reason)
 }
 
 /// The text sent back, a message of one byte, and the close.
-const BEHIND_THE_END: &[u8] = b"\x81\x05Hello\x82\x01!\x88\x05\x03\xe8bye";
+const AFTER_THE_END: &[u8] = b"\x81\x05Hello\x82\x01!\x88\x05\x03\xe8bye";
 
-/// Whether it is so, and whether all that was sent stands in the output.
-fn taken_behind_the_end(
+/// The same, and whether all that was sent is in the output.
+fn taken_after_the_end(
     mut line: Wired<Wire>,
     payload: Payload,
     reason: Reason,
 ) -> ([bool; 4], bool) {
-    let taken = takes_behind_the_end(&mut line, payload, reason);
-    (taken, output_of(&line) == BEHIND_THE_END)
+    let taken = takes_after_the_end(&mut line, payload, reason);
+    (taken, output_of(&line) == AFTER_THE_END)
 }
 
 #[test]
@@ -131,7 +131,7 @@ fn an_ended_stream_still_takes_messages(rt: HostRuntime) -> Result<(), Fail> {
     let reason = bye()?;
     let payload = bytes(rt.alloc(), b"!")?;
     let line = upgraded(rt.alloc(), HELLO, false)?;
-    let taken = taken_behind_the_end(line, payload, reason);
+    let taken = taken_after_the_end(line, payload, reason);
     assert_eq!(rt; taken, ([true; 4], true));
     Ok(())
 }
@@ -148,7 +148,7 @@ fn has_text_alone<L: Line>(line: &mut L, payload: Payload) -> bool {
         && counts(line) == (0, 2)
 }
 
-/// Behind `upgrade` there is no text.
+/// After `upgrade` there is no text.
 fn has_no_text<L: Line>(line: &mut L) -> bool {
     let mut buf = [0; 4];
     read_text(line, &mut buf) == None && write_text(line, b"x") == None && counts(line) == (1, 3)
@@ -168,7 +168,7 @@ fn keeps_apart<L: Line>(
     [before, has_no_text(line)]
 }
 
-/// Whether it is so, and whether the output is the text.
+/// The same, and whether the output is the text.
 fn kept_apart(
     mut line: Wired<Wire>,
     payload: Payload,
@@ -197,7 +197,7 @@ const CLOSES: &[(&[u8], u16, &str)] = &[
     (b"\x88\x80\0\0\0\0", 1005, ""),
 ];
 
-/// Whether it is a close with this code and reason; one without a body stands for 1005.
+/// Whether the message is a close with this code and reason; 1005 means one without a body.
 fn is_close(got: &Got, code: u16, expected: &str) -> bool {
     match got {
         Got::Message(Msg::Close(Some((given, reason)))) => {
@@ -208,7 +208,7 @@ fn is_close(got: &Got, code: u16, expected: &str) -> bool {
     }
 }
 
-/// Whether this close is read, and behind it the layer takes no payload and gives no message.
+/// Whether this close is read, and after it the layer takes no payload and returns no message.
 fn is_closed<L: Line>(line: &mut L, payload: Payload, code: u16, expected: &str) -> bool {
     let read = of(read(line), |got| is_close(got, code, expected));
     let put = send(line, payload);
@@ -235,7 +235,7 @@ fn closes_are_read(rt: HostRuntime) -> Result<(), Fail> {
     Ok(())
 }
 
-/// A ping and a pong, and what reads of them give.
+/// A ping and a pong, and what reads of them return.
 const PINGS: &[u8] = b"\x89\x80\0\0\0\0\x8a\x80\0\0\0\0";
 
 const PINGS_READ: &[Kind] = &[Kind::Ping, Kind::Pong, Kind::Ended];
@@ -273,7 +273,7 @@ fn failing(alloc: Global) -> Result<Wire, AllocError> {
     Ok(wire)
 }
 
-/// What a read of the line gives, and how it then answers a send.
+/// What a read of the line returns, and the result of a send after it.
 fn read_and_sent<L: Line>(line: &mut L, payload: Payload) -> (Kind, Put) {
     (next(line), send(line, payload))
 }
@@ -297,11 +297,11 @@ fn faults_are_failures(rt: HostRuntime) -> Result<(), Fail> {
     Ok(())
 }
 
-/// How often in a row a write would block, and how the send is answered.
+/// How often in a row a write would block, and the result of the send.
 const WAITS: &[(u32, Put)] = &[(0, Put::Done), (1_000, Put::Done), (1_001, Put::Failed)];
 
-/// How a send is answered where the stream would block so often.
-fn sent_behind(alloc: Global, waits: u32) -> Result<Put, AllocError> {
+/// The result of a send if the stream would block this often.
+fn sent_after(alloc: Global, waits: u32) -> Result<Put, AllocError> {
     let payload = bytes(alloc, b"a")?;
     let mut wire = Wire::new(alloc, b"", 100, false)?;
     wire.waits = waits;
@@ -312,14 +312,14 @@ fn sent_behind(alloc: Global, waits: u32) -> Result<Put, AllocError> {
 #[test]
 fn a_send_that_would_block_is_tried_again(rt: HostRuntime) -> Result<(), Fail> {
     for (waits, answer) in WAITS {
-        let given = sent_behind(rt.alloc(), *waits)?;
+        let given = sent_after(rt.alloc(), *waits)?;
         assert_eq!(rt; given, *answer, "{waits} waits");
     }
     Ok(())
 }
 
-/// How often in a row a write would block, what reads give of two pings whose pongs are due, and how often a write would block
-/// still.
+/// How often in a row a write would block, what reads return for two pings whose pongs are due, and how often a write
+/// would still block.
 type Pinged = (u32, &'static [Kind], u32);
 
 const PINGED: &[Pinged] = &[
@@ -336,7 +336,7 @@ fn waits_of(line: &Wired<Wire>) -> u32 {
     }
 }
 
-/// Whether the reads of a line whose writes would block so often give this, and leave so many.
+/// Whether the reads of a line whose writes would block this often return this, and leave this many.
 fn is_pinged(alloc: Global, waits: u32, kinds: &[Kind], left: u32) -> Result<bool, AllocError> {
     let mut wire = Wire::new(alloc, b"\x89\x80\0\0\0\0\x89\x80\0\0\0\0", 100, false)?;
     wire.waits = waits;
@@ -372,14 +372,14 @@ fn written_of(line: &Wired<Ends>) -> &[u8] {
     }
 }
 
-/// Whether "Hello" is read, nothing behind it, and whether the text is sent.
+/// Whether "Hello" is read, nothing after it, and whether the text is sent.
 fn passes_hello<L: Line>(line: &mut L, text: Chars) -> [bool; 3] {
     let is_read = of(read(line), is_hello);
     let ended = next(line) == Kind::Ended;
     [is_read, ended, send(line, Payload::Text(text)) == Put::Done]
 }
 
-/// Whether it is so, and whether the text was written.
+/// The same, and whether the text was written.
 fn passed_hello(mut line: Wired<Ends>, text: Chars) -> ([bool; 3], bool) {
     let passed = passes_hello(&mut line, text);
     (passed, written_of(&line) == HELLO_BACK)
@@ -400,7 +400,7 @@ fn a_reader_and_a_writer_make_a_stream(rt: HostRuntime) -> Result<(), Fail> {
     Ok(())
 }
 
-/// How the line answers where the next message is a text that is sent back.
+/// What the line returns if the next message is a text that is sent back.
 fn sent_back<L: Line>(line: &mut L) -> Put {
     match text_in(read(line)) {
         Ok(text) => send(line, text),
@@ -409,13 +409,13 @@ fn sent_back<L: Line>(line: &mut L) -> Put {
     }
 }
 
-/// How the line answers, and whether the text stands in its output.
+/// What the line returns, and whether the text is in its output.
 fn echoed_on(mut line: Wired<Wire>) -> (Put, bool) {
     let answer = sent_back(&mut line);
     (answer, output_of(&line) == HELLO_BACK)
 }
 
-/// One message read and sent back. Where memory was refused, the whole is done once more.
+/// One message read and sent back. If memory was refused, all of it is done once more.
 fn echoed(alloc: Global) -> Result<bool, AllocError> {
     match echoed_on(upgraded(alloc, HELLO, false)?) {
         (Put::NoMemory, _) => Err(AllocError),

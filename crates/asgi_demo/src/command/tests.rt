@@ -18,7 +18,7 @@ const ECHO: &[u8] =
 
 const NOT_FOUND: &[u8] = b"HTTP/1.1 404 Not Found\r\ncontent-length: 0\r\n\r\n";
 
-/// What `life` answers where the state has no number.
+/// What `life` answers if the state has no number.
 const NO_NUMBER: &[u8] =
     b"HTTP/1.1 200 OK\r\ncontent-type: text/plain\r\ntransfer-encoding: chunked\r\n\r\n4\r\nn=?\n\r\n0\r\n\r\n";
 
@@ -54,7 +54,7 @@ fn has_written(line: &Memory, text: &[u8]) -> bool {
     text_of(line) == text
 }
 
-/// How many bytes of the line were not read yet.
+/// How many bytes of the line are still to be read.
 fn left_in(line: &Memory) -> usize {
     match line.stream() {
         Some(pair) => pair.reader.len(),
@@ -62,7 +62,7 @@ fn left_in(line: &Memory) -> usize {
     }
 }
 
-/// Where no connection comes from.
+/// A listener that no connection comes from.
 #[derive(Drop)]
 struct Nowhere {
     told: History<Option<(Memory<'static>, Option<Peer>, Option<Peer>)>>,
@@ -92,7 +92,7 @@ impl Listens for Nowhere {
     fn listen_on(&mut self, _port: u16, _count: u64) {}
 }
 
-/// Runs the program, where no connection comes from its port.
+/// Runs the program with a port that no connection comes from.
 fn run<H: Host + Sync, L: Line, E: Counts>(
     rt: &H,
     words: &[String],
@@ -106,7 +106,7 @@ fn run<H: Host + Sync, L: Line, E: Counts>(
     command(rt, words, line, &mut nowhere, &mut output, errors)
 }
 
-/// The words behind the program's name, the input, the status, what is written, and what is told.
+/// The words after the program's name, the input, the status, what is written to the line, and to `errors`.
 type Row = (
     &'static [&'static str],
     &'static [u8],
@@ -115,8 +115,8 @@ type Row = (
     &'static [u8],
 );
 
-/// Whether the program does so on the words and the input of the row, and whether it left so many bytes of the input, where
-/// that is asked.
+/// Whether the program does this on the words and the input of the row, and whether it left this many bytes of the
+/// input, if that is asked.
 fn is_row<H: Host + Sync>(rt: &H, row: &Row, left: Option<usize>) -> Result<bool, Fail> {
     let (texts, input, status, text, told) = *row;
     let words = words(rt.alloc(), texts)?;
@@ -150,7 +150,7 @@ fn once_answers_by_the_application_that_is_named(rt: HostRuntime) -> Result<(), 
     Ok(())
 }
 
-/// Behind the example of RFC 6455, section 1.3, a masked text of "Hello" (section 5.7) and a close without a code.
+/// After the example of RFC 6455, section 1.3, a masked text of "Hello" (section 5.7) and a close without a code.
 const SESSION: &[u8] =
     b"GET /chat HTTP/1.1\r\nHost: server.example.com\r\nUpgrade: websocket\r\nConnection: Upgrade\r\n\
     Sec-WebSocket-Key: dGhlIHNhbXBsZSBub25jZQ==\r\nSec-WebSocket-Version: 13\r\n\r\n\
@@ -223,7 +223,7 @@ impl Write for Stuck {
     }
 }
 
-/// The status of `once hello` over this line, where it tells this; None where it tells something else.
+/// The status of `once hello` over this line, if this is written to `errors`; None if it is something else.
 fn status_of<H: Host + Sync, L: Line>(
     rt: &H,
     line: &mut L,
@@ -247,8 +247,8 @@ fn an_answer_that_is_not_written_is_said_so(rt: HostRuntime) -> Result<(), Fail>
     Ok(())
 }
 
-/// What `once hello` is to tell of an input that fails so, and its status. One that would block reaches a limit; one that
-/// fails is no fault of the program.
+/// What `once hello` writes to `errors` for an input that fails like this, and its status. One that would block reaches
+/// a limit; one that fails is no fault of the program.
 const STUCK_INPUTS: &[(ErrorKind, u8, &[u8])] = &[
     (ErrorKind::WouldBlock, 5, b"stopped: idle\n"),
     (ErrorKind::ConnectionReset, 0, b""),
@@ -273,7 +273,7 @@ const FAULTS_OF_WORDS: &[(ErrorKind, u8, &[u8])] = &[
     (ErrorKind::Other, 2, USAGE_TEXT),
 ];
 
-/// The status where the words can't be had for this reason, and this is told.
+/// The status if the words are not available for this reason, and this is written to `errors`.
 fn status_without_words(alloc: Global, kind: ErrorKind, told: &[u8]) -> Option<u8> {
     let mut errors = Counted::new(Vec::new(alloc));
     let status = without_words(&io::Error::from(kind), &mut errors);
@@ -288,8 +288,8 @@ fn words_that_cannot_be_had_are_told(rt: HostRuntime) {
     }
 }
 
-/// The statuses of wrong words, of a connection that stops, and of words that can't be had, and how often what they tell
-/// failed.
+/// The statuses of wrong words, of a connection that stops, and of words that are not available, and how often writing
+/// about them failed.
 fn statuses_untold<H: Host + Sync>(rt: &H, none: &[String], once: &[String]) -> ([u8; 3], u64) {
     let kind = ErrorKind::BrokenPipe;
     let mut errors = Counted::new(Stuck { kind });

@@ -14,7 +14,7 @@ use std::test::Fail;
 
 const OLD_GET: &[u8] = b"GET / HTTP/1.0\r\n\r\n";
 
-/// An application whose task hears and says nothing, and asks to be polled again.
+/// An application whose task receives and sends nothing, and asks to be polled again.
 #[derive(Clone, Copy, Debug)]
 struct Silent;
 
@@ -43,7 +43,7 @@ impl AppTask for SilentTask {
 
 type Memory = Wired<Pair<&'static [u8], Vec<u8>>>;
 
-/// Gives one connection, and then none; it may fail there.
+/// Gives one connection, and then none; a row may make it fail there.
 #[derive(Drop)]
 struct One {
     line: Option<Memory>,
@@ -91,7 +91,7 @@ impl Accepts for One {
     }
 }
 
-/// A writer that takes so many bytes.
+/// A writer that takes a set number of bytes.
 #[derive(Drop)]
 struct Room {
     written: Vec<u8>,
@@ -113,11 +113,11 @@ impl Write for Room {
     }
 }
 
-/// The status, how often a connection is asked for, what is written, and what is told.
+/// The status, how often a connection is asked for, what is written to the output, and to `errors`.
 type End = (u8, u64, &'static [u8], &'static [u8]);
 
-/// Whether a server of the one connection by so many workers, whose listener may fail and whose output has so much room,
-/// ends so.
+/// Whether a server of the one connection, with this many workers, whose listener may fail and whose output has this
+/// much room, ends like this.
 fn ends<H: Host + Sync, T: AppTask + Send + 'static, A: Application<Task = T> + Send + Sync>(
     rt: &H,
     limits: &Limits,
@@ -160,7 +160,7 @@ const ROWS: &[Row] = &[
         100,
         (4, 2, LINE, b"shutdown failed: still busy\n"),
     ),
-    // a listener that failed, or a report that is not written, is told whatever the stop answered
+    // a listener that failed, or a report that is not written, is reported however the application stopped
     (Life::Works, true, 100, (5, 2, LINE, b"device fault\n")),
     (Life::NoStop, true, 100, (5, 2, LINE, b"device fault\n")),
     (Life::Works, false, 12, (5, 2, b"", b"device fault\n")),

@@ -1,4 +1,4 @@
-//! The ends of a pair, by the answers of their calls: plain ones, and rings.
+//! The ends of a pair, by the results of their calls: plain ones, and rings.
 ghost use Rattle.std.specs.Prelude.{◌≡◌, false, None, Some};
 ghost use Rattle.asgi_pipes.specs.PlainPairs.{IsPlainPair};
 ghost use Rattle.asgi_pipes.specs.RingEnds.{IsRingPair};
@@ -39,7 +39,7 @@ pub trait Pair: Drop {
 
     fn moved(&mut self) -> Answer;
 
-    /// Moves what was put at each end on to the other one, where that does not happen by itself.
+    /// Moves what was put at each end on to the other one, if that does not happen by itself.
     fn carry(&mut self) -> Answer;
 
     /// What was left in the two queues.

@@ -25,7 +25,7 @@ enum Many {
     Take,
 }
 
-/// The call for the event of this number, with its answer.
+/// The call for the event of this number, with its result.
 fn row_of(many: Many, number: usize) -> Row {
     let byte = byte_of(number);
     match many {
@@ -57,7 +57,7 @@ const INWARD_HEARD: Part = Part::Rows(&[
     (Step::Receive, Answer::Event("disconnect", 0)),
 ]);
 
-/// 1,024 events are offered, and then the disconnect. They are heard, the disconnect last and again.
+/// 1,024 events are offered, and then the disconnect. They are received, the disconnect last and again.
 const INWARD: &[Part] = &[
     Part::Events(Many::Offer, 0),
     INWARD_FULL,
@@ -82,7 +82,7 @@ const OUTWARD_TAKEN: Part = Part::Rows(&[
     (Step::Take, Answer::Nothing),
 ]);
 
-/// 1,024 events are said, a start and 1,023 bodies, and then the end. They are taken, the end last.
+/// 1,024 events are sent, a start and 1,023 bodies, and then the end. They are taken, the end last.
 const OUTWARD: &[Part] = &[
     STARTED,
     Part::Events(Many::Say, 1),
@@ -92,7 +92,7 @@ const OUTWARD: &[Part] = &[
     OUTWARD_TAKEN,
 ];
 
-/// Each way is filled, and nothing is heard or taken.
+/// Each way is filled, and nothing is received or taken.
 const BOTH_FULL: &[Part] = &[
     STARTED,
     Part::Events(Many::Say, 1),
@@ -101,10 +101,10 @@ const BOTH_FULL: &[Part] = &[
     INWARD_FULL,
 ];
 
-/// The part and its first row, or the number of its first event, that answered otherwise, with the answer.
+/// The part and its first row, or the number of its first event, whose result differs, with that result.
 type Other = Option<(usize, (usize, Answer))>;
 
-/// What the parts gave, and what was left behind them.
+/// The results of the parts, and what was left after them.
 type Ran = (Other, Left);
 
 fn run_events<P: Pair>(
@@ -174,7 +174,7 @@ fn run_fresh<P: Pair>(
     run_on(alloc, solo, &mut pair, carries, parts)
 }
 
-/// What the parts give over plain ends, where nothing is carried and where all is behind each call, and over rings.
+/// The results of the parts over plain ends, with nothing carried and with all carried after each call, and over rings.
 fn run_all<R: RandomSource + AllocGlobal>(
     rt: &R,
     parts: &[Part],
@@ -186,7 +186,7 @@ fn run_all<R: RandomSource + AllocGlobal>(
     Ok((late, carried, over_rings))
 }
 
-/// Compares each answer of the parts and what is left in the queues.
+/// Compares each result of the parts and what is left in the queues.
 fn check<R: Abort + RandomSource + AllocGlobal>(
     rt: &R,
     parts: &[Part],

@@ -6,7 +6,7 @@ use std::test::Fail;
 
 const DISCONNECT: Answer = Answer::Event("disconnect", 0);
 
-/// Two places: each call's answers, with what was put carried after each call.
+/// Two places: each call's result, with what was put carried after each call.
 pub const PAIR_OF_TWO_PLACES: &[Row] = &[
     (Step::Offer(1), Answer::Taken),
     (Step::Offer(2), Answer::Taken),
@@ -62,7 +62,7 @@ fn every_answer_of_a_send(rt: HostRuntime) -> Result<(), Fail> {
     check(&rt, Kind::Http, 2, true, EVERY_ANSWER, (0, 0))
 }
 
-/// What was offered is not heard behind the complete response, and is left.
+/// What was offered is not received after the complete response, and is left.
 const COMPLETE_RESPONSE: &[Row] = &[
     (Step::Offer(1), Answer::Taken),
     (Step::Receive, Answer::Event("body", 1)),
@@ -79,11 +79,11 @@ const COMPLETE_RESPONSE: &[Row] = &[
 ];
 
 #[test]
-fn nothing_is_heard_behind_a_complete_response(rt: HostRuntime) -> Result<(), Fail> {
+fn nothing_is_heard_after_a_complete_response(rt: HostRuntime) -> Result<(), Fail> {
     check(&rt, Kind::Http, 3, true, COMPLETE_RESPONSE, (2, 1))
 }
 
-/// A heard disconnect lets nothing through.
+/// After a received disconnect nothing passes.
 const AFTER_A_DISCONNECT: &[Row] = &[
     (Step::Start(204), Answer::Done),
     (Step::Break, Answer::Yes),
@@ -97,7 +97,7 @@ const AFTER_A_DISCONNECT: &[Row] = &[
 ];
 
 #[test]
-fn nothing_is_said_behind_a_heard_disconnect(rt: HostRuntime) -> Result<(), Fail> {
+fn nothing_is_said_after_a_heard_disconnect(rt: HostRuntime) -> Result<(), Fail> {
     check(&rt, Kind::Http, 4, true, AFTER_A_DISCONNECT, (0, 0))
 }
 

@@ -1,4 +1,4 @@
-//! Pairs of ends in lifespan scopes, which hear no disconnect.
+//! Pairs of ends in lifespan scopes, which receive no disconnect.
 use super::{Answer, Row, Step, check};
 use asgi_pipes::EndKind;
 use asgi_types::Kind;

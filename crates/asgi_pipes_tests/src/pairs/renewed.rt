@@ -1,4 +1,4 @@
-//! Pairs made out of the ends of another one answer as fresh ones.
+//! Pairs made out of the ends of another one behave as fresh ones.
 use super::http::{EVERY_ANSWER, PAIR_OF_TWO_PLACES};
 use super::{Answer, Pair, PlainPair, Ran, RingPair, Row, Step, facts, run_on, solo_of};
 use asgi_pipes::EndKind;
@@ -34,10 +34,10 @@ const NOTHING_CAME: &[Row] = &[
     (Step::Moved, Answer::No),
 ];
 
-/// What the table gave on the pair before, and what the one on the new pair gave.
+/// What the table returned on the pair before, and what the one on the new pair returned.
 type Twice = (Ran, Ran);
 
-/// Runs a table on a WebSocket pair of so many places, and the rows on an HTTP pair out of its ends.
+/// Runs a table on a WebSocket pair of this many places, and the rows on an HTTP pair out of its ends.
 fn run_twice<P: Pair>(
     alloc: Global,
     solo: &Solo,

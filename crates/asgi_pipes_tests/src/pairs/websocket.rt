@@ -4,7 +4,7 @@ use asgi_pipes::EndKind;
 use asgi_types::Kind;
 use std::test::Fail;
 
-/// A client's close is heard again and again, with its code.
+/// A client's close is received again and again, with its code.
 const CLIENT_CLOSES: &[Row] = &[
     (Step::OfferConnect, Answer::Taken),
     (Step::Receive, Answer::Event("connect", 0)),
@@ -27,7 +27,7 @@ fn client_closes(rt: HostRuntime) -> Result<(), Fail> {
     check(&rt, Kind::WebSocket, 4, true, CLIENT_CLOSES, (0, 0))
 }
 
-/// Behind the application's own close no message is heard, but a disconnect with its code.
+/// After the application's own close no message is received, but a disconnect with its code.
 const APPLICATION_CLOSES: &[Row] = &[
     (Step::OfferConnect, Answer::Taken),
     (Step::Receive, Answer::Event("connect", 0)),

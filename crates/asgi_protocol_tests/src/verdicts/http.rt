@@ -180,7 +180,7 @@ fn the_first_reason_counts(rt: HostRuntime) -> Result<(), Fail> {
 const BEGUN: [Part; 2] = [
     ("before", &[Heard::Request], &[(Step::Start(200, ""), PASS)]),
     (
-        "behind",
+        "after",
         &[Heard::HttpDisconnect, Heard::Request],
         &[
             (Step::LastBody(1), Verdict::Refused(2)),

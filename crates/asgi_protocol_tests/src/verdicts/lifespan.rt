@@ -59,7 +59,7 @@ const FAILED: [Part; 2] = [
 
 #[test]
 fn what_is_heard_is_no_disconnect(rt: HostRuntime) -> Result<(), Fail> {
-    // No server gives a disconnect to a lifespan, but a judge takes any event.
+    // No server sends a disconnect to a lifespan scope, but a judge takes any event.
     judges_hearing(&rt, Kind::Lifespan, &STARTED)?;
     judges_hearing(&rt, Kind::Lifespan, &FAILED)
 }

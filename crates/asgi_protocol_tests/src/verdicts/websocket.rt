@@ -173,7 +173,7 @@ const DISCONNECTED: [Part; 3] = [
     ),
     ("received", &[Heard::Receive], &[(Step::Send, PASS)]),
     (
-        "behind",
+        "after",
         &[Heard::WsDisconnect],
         &[
             (Step::Send, Verdict::Refused(2)),
@@ -190,7 +190,7 @@ fn after_a_disconnect_nothing_passes(rt: HostRuntime) -> Result<(), Fail> {
 const REJECTED: [Part; 2] = [
     ("rejected", &[], &[(Step::Close(1_000, 0), PASS)]),
     (
-        "behind",
+        "after",
         &[Heard::WsDisconnect],
         &[(Step::Send, Verdict::Refused(1))],
     ),

@@ -2,7 +2,7 @@ use Rattle.std.proofs.Common.{◌++◌, ◌∷◌, [], ◌∙◌, ap, sym}
 use Rattle.asgi_response.specs.Response.{response_text}
 use Rattle.asgi_response_example.proofs.text_of.Goals as goal
 
--- The output grows by just what makes one text the next.
+-- The output grows by exactly what makes one text the next.
 pub returns : goal.returns
 returns c plain =
     let facts = c.args.facts.now in

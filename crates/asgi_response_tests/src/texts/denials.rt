@@ -1,4 +1,4 @@
-//! The text of a denial, and of what else answers an opening handshake.
+//! The text of a denial, and of other responses to an opening handshake.
 
 use super::{HANDSHAKE, Row, Say, are_written};
 use std::test::Fail;

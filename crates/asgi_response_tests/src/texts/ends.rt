@@ -20,7 +20,7 @@ const START: Say = Say::Start(200, &[]);
 
 const CLOSE: Say = Say::Start(200, &[("connection", "close")]);
 
-/// What was asked and said, and the text with what each end of the task adds.
+/// The request and the events, and the text with what each end of the task adds.
 type Row = (
     &'static str,
     Ask,

@@ -1,5 +1,5 @@
-//! Each call that allocates, where one allocation is refused: it answers so, its objects are as before, and the call
-//! can be made again. `tests/memory.py` runs these with each allocation refused in turn.
+//! Each call that allocates, when one allocation is refused: it returns that error, its objects are as before, and the
+//! call can be made again. `tests/memory.py` runs these with each allocation refused in turn.
 
 use super::{
     EXPECTING, GET, HANDSHAKE, OLD, REFUSED_413, REFUSED_426, REFUSED_500, Row, Say, fresh,
@@ -51,7 +51,7 @@ fn event(alloc: Global, say: Say) -> Result<Outgoing, HeaderError> {
     }
 }
 
-/// Takes the event, at the second attempt where memory was refused, which changed nothing.
+/// Takes the event, at the second attempt if memory was refused, which changed nothing.
 fn is_taken(text: &mut ResponseText, event: &Outgoing, out: &mut Vec<u8>) -> bool {
     let len = out.len();
     let progress = text.progress();
@@ -61,22 +61,22 @@ fn is_taken(text: &mut ResponseText, event: &Outgoing, out: &mut Vec<u8>) -> boo
     out.len() == len && text.progress() == progress && text.take(event, out).is_ok()
 }
 
-/// The same, and the event is gone then.
+/// The same, and the event is dropped.
 fn takes(text: &mut ResponseText, event: Outgoing, out: &mut Vec<u8>) -> bool {
     is_taken(text, &event, out)
 }
 
-/// Appends what comes in front, at the second attempt where memory was refused, which changed nothing.
+/// Appends what comes first, at the second attempt if memory was refused, which changed nothing.
 fn is_begun(text: &ResponseText, out: &mut Vec<u8>) -> bool {
     text.begin(out).is_ok() || (out.is_empty() && text.begin(out).is_ok())
 }
 
-/// Appends what the end of the task adds, at the second attempt where memory was refused, which changed nothing.
+/// Appends what the end of the task adds, at the second attempt if memory was refused, which changed nothing.
 fn is_ended(text: &ResponseText, input: Input, out: &mut Vec<u8>) -> bool {
     text.end(input, out).is_ok() || (out.is_empty() && text.end(input, out).is_ok())
 }
 
-/// Takes all that is said so.
+/// Takes all the events in this way.
 fn are_taken(
     text: &mut ResponseText,
     alloc: Global,
@@ -114,7 +114,7 @@ fn memory_for_a_response(rt: HostRuntime) -> Result<(), Fail> {
     Ok(())
 }
 
-/// The body of the request, and what answers it in place of a response that has only started.
+/// The body of the request, and what replaces a response that has only started.
 type End = (Input, &'static str);
 
 const ENDS: &[End] = &[

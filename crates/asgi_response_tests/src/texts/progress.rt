@@ -70,7 +70,7 @@ const ROWS: &[Row] = &[
         STAYS,
     ),
     (
-        "a start behind the last body",
+        "a start after the last body",
         GET,
         &[START, Say::Last("x"), CLOSE],
         STAYS,
@@ -94,8 +94,8 @@ const ROWS: &[Row] = &[
     ("a close", HANDSHAKE, &[Say::Close], Progress::Begun),
 ];
 
-/// How far the text is once it took these events.
-fn progress_behind(
+/// How far the response is once the text took these events.
+fn progress_after(
     text: &mut ResponseText,
     alloc: Global,
     said: &[Say],
@@ -105,7 +105,7 @@ fn progress_behind(
 }
 
 fn progress_of(alloc: Global, ask: Ask, said: &[Say]) -> Result<Progress, HeaderError> {
-    progress_behind(&mut fresh(alloc, ask), alloc, said)
+    progress_after(&mut fresh(alloc, ask), alloc, said)
 }
 
 #[test]

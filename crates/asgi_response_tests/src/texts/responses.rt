@@ -180,19 +180,19 @@ const UNLAWFUL: &[Row] = &[
         ONE_CHUNK,
     ),
     (
-        "a start behind a body",
+        "a start after a body",
         GET,
         &[START, Say::Part("x"), START, Say::Last("")],
         ONE_CHUNK,
     ),
     (
-        "a body behind the last",
+        "a body after the last",
         GET,
         &[START, Say::Last("x"), Say::Last("y")],
         ONE_CHUNK,
     ),
     (
-        "a start behind the last",
+        "a start after the last",
         GET,
         &[START, Say::Last("x"), START],
         ONE_CHUNK,
@@ -274,15 +274,15 @@ const CHUNKED_HEAD: &[u8] = b"HTTP/1.1 200 OK\r\ntransfer-encoding: chunked\r\n\
 /// The content of the only chunk, whose size has these digits.
 fn chunk<'a>(out: &'a [u8], digits: &str) -> Option<&'a [u8]> {
     let sized = out.strip_prefix(CHUNKED_HEAD)?;
-    let behind = sized.strip_prefix(digits.as_bytes())?;
-    behind.strip_prefix(b"\r\n")?.strip_suffix(b"\r\n0\r\n\r\n")
+    let after = sized.strip_prefix(digits.as_bytes())?;
+    after.strip_prefix(b"\r\n")?.strip_suffix(b"\r\n0\r\n\r\n")
 }
 
 fn are_letters(content: &[u8], size: usize) -> bool {
     content.len() == size && content.iter().all(|byte| *byte == b'z')
 }
 
-/// Whether this is one chunk of so many letters, whose size has these digits.
+/// Whether this is one chunk of this many letters, whose size has these digits.
 fn is_one_chunk(out: &[u8], size: usize, digits: &str) -> bool {
     match chunk(out, digits) {
         Some(content) => are_letters(content, size),

@@ -84,7 +84,7 @@ const REFUSALS: &[(u16, &str)] = &[
     ),
 ];
 
-/// The text of the refusal, for the statuses that there are.
+/// The text of the refusal, for the statuses that have one.
 fn refusal_of(status: u16) -> &'static [u8] {
     match status {
         400 => refusal_text(400),

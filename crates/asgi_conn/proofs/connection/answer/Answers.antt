@@ -4,9 +4,9 @@ use Rattle.asgi_io.specs.Turns.{CountsTurns}
 use Rattle.asgi_exchange.specs.Calls.{IsExchangeOf}
 use Rattle.asgi_exchange.specs.Http.{http}
 use Rattle.asgi_exchange.specs.Views.{ConnView, empty_conn}
-use Rattle.asgi_conn.specs.Lines.{state_of}
+use Rattle.asgi_run.specs.Lines.{state_of}
 use Rattle.asgi_conn.proofs.AnswerLemmas as lemma
-use Rattle.asgi_conn.proofs.HttpHalfLemmas.{over_at}
+use Rattle.asgi_halves.proofs.HttpHalfLemmas.{over_at}
 use Rattle.asgi_conn.proofs.connection.answer.Goals as goal
 
 pub returns-in-Err-clause-serves : goal.returns-in-Err-clause-serves

@@ -6,11 +6,11 @@ use Rattle.asgi_exchange.specs.Calls.{IsExchangeOf}
 use Rattle.asgi_exchange.specs.Views.{empty_conn}
 use Rattle.asgi_conversation.specs.declared.report.Outcome.TheVariants.{NoMemory}
 use Rattle.asgi_conversation.specs.Exchanges.{requests_of}
-use Rattle.asgi_conn.specs.Lines.{state_of}
-use Rattle.asgi_conn.specs.ReadAhead.{ReadsAhead}
-use Rattle.asgi_conn.specs.SessionHalf.{exchange_of}
+use Rattle.asgi_run.specs.Lines.{state_of}
+use Rattle.asgi_halves.specs.ReadAhead.{ReadsAhead}
+use Rattle.asgi_halves.specs.WebSocketHalf.{exchange_of}
 use Rattle.asgi_conn.proofs.AnswerLemmas.{of_pair, of_request}
-use Rattle.asgi_conn.proofs.HttpHalfLemmas.{over_at}
+use Rattle.asgi_halves.proofs.HttpHalfLemmas.{over_at}
 use Rattle.asgi_conn.proofs.ServeLemmas.{counts_still}
 use Rattle.asgi_conn.proofs.SessionServeLemmas as lemma
 use Rattle.asgi_conn.proofs.connection.open.Goals as goal
@@ -46,7 +46,7 @@ run-ended-requires-clause-pair g c =
     of_pair (g.A.Application.answers c.args.app.now c.args.scope.now) g.A.Task.AppTask.answers g.U.Pipes.App.AppEnd was (λ app. g.U.Pipes.Pipes.is_pair end app) c.in-Ok-make.ensures.pair
     c.call-side.result c.call-side.ensures.opens (λ app tag. g.met.U.Pipes.Pipes.stays_pair end end was app refl tag c.in-Ok-make.ensures.pair)
 
--- where both halves have run
+-- once both halves have run
 pub outcome_of-requires : goal.outcome_of-requires
 outcome_of-requires g c =
     let scene = c.requires.opens.0 in

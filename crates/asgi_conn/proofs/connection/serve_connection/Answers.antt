@@ -1,5 +1,5 @@
 use Rattle.std.proofs.Common.{[], ◌∙◌, refl, subst, sym, ◌≤◌, ◌^◌, ℕ, arith}
-use Rattle.asgi_conn.specs.Lines.{state_of}
+use Rattle.asgi_run.specs.Lines.{state_of}
 use Rattle.asgi_conn.proofs.ServeLemmas as lemma
 use Rattle.asgi_conn.proofs.connection.serve_connection.Goals as goal
 

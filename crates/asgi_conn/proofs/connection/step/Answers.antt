@@ -1,6 +1,6 @@
 use Rattle.std.proofs.Common.{refl}
 use Rattle.asgi_request.specs.declared.next.Next.TheVariants.{Head, Event, Whole, Bad}
-use Rattle.asgi_conn.specs.Lines.{state_of}
+use Rattle.asgi_run.specs.Lines.{state_of}
 use Rattle.asgi_conn.proofs.ServeLemmas as lemma
 use Rattle.asgi_conn.proofs.connection.step.Goals as goal
 

@@ -16,5 +16,5 @@ returns-clause-ws_echo c limits end late read exchanges others written other rep
     same_bytes _ _ ws_echo_says limits end late read exchanges others written other report another x y
 
 pub returns-clause-session : goal.returns-clause-session
-returns-clause-session c limits end late read exchanges others talk other_talk written other report another x y =
-    same_session_bytes limits end late read exchanges others talk other_talk written other report another x y
+returns-clause-session c limits end late read exchanges others traffic other_traffic written other report another x y =
+    same_session_bytes limits end late read exchanges others traffic other_traffic written other report another x y

@@ -2,17 +2,17 @@ use Rattle.asgi_conversation.proofs.laws.a_reader_ends_an_exchange.Goals as goal
 use Rattle.asgi_conversation.proofs.TaskEndLemmas as lemma
 
 pub returns-clause-closes : goal.returns-clause-closes
-returns-clause-closes c limits end read opened exchanges written scope facts w report kind x t broke p out o = lemma.closes limits end read opened exchanges written scope facts w report x.within x.exchange x.counts kind t broke p out o
+returns-clause-closes c limits end read opened exchanges written scope facts w report kind x t input_broke p out o = lemma.closes limits end read opened exchanges written scope facts w report x.within x.exchange x.counts kind t input_broke p out o
 
 pub returns-clause-leaves_off : goal.returns-clause-leaves_off
-returns-clause-leaves_off c limits end read opened exchanges written scope facts w report kind x t broke p out o = lemma.leaves_off limits end read opened exchanges written scope facts w report x.within x.exchange x.counts kind t broke p out o
+returns-clause-leaves_off c limits end read opened exchanges written scope facts w report kind x t input_broke p out o = lemma.leaves_off limits end read opened exchanges written scope facts w report x.within x.exchange x.counts kind t input_broke p out o
 
-pub returns-clause-leaves_off_behind : goal.returns-clause-leaves_off_behind
-returns-clause-leaves_off_behind c reader end read opened exchanges written scope facts w report kind events x t r broke p out o =
-    lemma.leaves_off_behind reader.limits end read opened exchanges written scope facts w report x.within x.exchange x.counts kind t events reader.place reader.held r broke p out o
+pub returns-clause-leaves_off_after : goal.returns-clause-leaves_off_after
+returns-clause-leaves_off_after c reader end read opened exchanges written scope facts w report kind events x t r input_broke p out o =
+    lemma.leaves_off_after reader.limits end read opened exchanges written scope facts w report x.within x.exchange x.counts kind t events reader.place reader.held r input_broke p out o
 
 pub returns-clause-fails : goal.returns-clause-fails
-returns-clause-fails c reader end read opened exchanges written scope facts w report kind events x t r broke p out o = lemma.fails reader.limits end read opened exchanges written scope facts w report x.within x.exchange x.counts kind t events reader.place reader.held r broke p out o
+returns-clause-fails c reader end read opened exchanges written scope facts w report kind events x t r input_broke p out o = lemma.fails reader.limits end read opened exchanges written scope facts w report x.within x.exchange x.counts kind t events reader.place reader.held r input_broke p out o
 
 pub returns-clause-refuses_body : goal.returns-clause-refuses_body
 returns-clause-refuses_body c reader end read opened exchanges written scope facts w report kind events status x t r p out o =

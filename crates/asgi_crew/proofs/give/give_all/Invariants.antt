@@ -1,7 +1,7 @@
 use Rattle.std.proofs.Common.{◌≡◌, ◌≤◌, ◌<◌, ◌++◌, [], Some, map, length, vec_capacity}
 use Rattle.crossbeam_channel.specs.Claims.{view, IsSeatAt}
 use Rattle.crossbeam_channel.specs.Ends.{sends_on}
-use Rattle.asgi_crew.specs.Channel.{hand}
+use Rattle.asgi_crew.specs.private.Channel.{hand}
 use Rattle.asgi_crew.specs.Ran.{items_of}
 use Rattle.asgi_crew.specs.Shared.{numbered}
 use Rattle.asgi_crew.proofs.give.give_all.Given as goal

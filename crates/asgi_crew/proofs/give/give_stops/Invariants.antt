@@ -1,7 +1,7 @@
 use Rattle.std.proofs.Common.{◌≡◌, ◌+◌}
 use Rattle.crossbeam_channel.specs.Claims.{view, IsSeatAt}
 use Rattle.crossbeam_channel.specs.Ends.{sends_on}
-use Rattle.asgi_crew.specs.Channel.{hand}
+use Rattle.asgi_crew.specs.private.Channel.{hand}
 use Rattle.asgi_crew.proofs.give.give_stops.Given as goal
 
 abbrev pub invariant-loop-worker : goal.invariant-loop-worker

@@ -1,8 +1,8 @@
 use Rattle.std.proofs.Common.{◌≡◌, []}
 use Rattle.crossbeam_channel.specs.Claims.{view, IsSeatAt}
 use Rattle.crossbeam_channel.specs.Ends.{receives_on}
-use Rattle.asgi_crew.specs.Channel.{hand}
-use Rattle.asgi_desk.specs.Channel.{seated}
+use Rattle.asgi_crew.specs.private.Channel.{hand}
+use Rattle.asgi_desk.specs.Hands.{seated}
 use Rattle.asgi_desk.specs.Seat.{knows, IsSeatOf}
 use Rattle.asgi_crew.specs.Shared.{InTurn}
 use Rattle.asgi_crew.proofs.work.work.Given as goal

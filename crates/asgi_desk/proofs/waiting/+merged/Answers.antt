@@ -1,6 +1,6 @@
 use Rattle.std.proofs.Common.{◌≡◌, ◌∷◌, ◌++◌, List, ℕ, length, ap, rules, arith, subst}
 use Rattle.std.specs.List.Sorted.{IsPermutation}
-use Rattle.asgi_desk.specs.Book.{waiting_of}
+use Rattle.asgi_desk.specs.private.Book.{waiting_of}
 use Rattle.asgi_desk.proofs.Heap.{fewer, goes_right}
 use Rattle.asgi_desk.proofs.waiting.+merged.Goals as goal
 

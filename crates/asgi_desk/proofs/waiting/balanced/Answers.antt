@@ -1,4 +1,4 @@
-use Rattle.asgi_desk.specs.Book.{waiting_of}
+use Rattle.asgi_desk.specs.private.Book.{waiting_of}
 use Rattle.asgi_desk.proofs.Heap.{sides_change}
 use Rattle.asgi_desk.proofs.waiting.balanced.Goals as goal
 

@@ -1,6 +1,6 @@
 use Rattle.std.proofs.Common.{◌≡◌, ◌<◌, ◌++◌, take}
 use Rattle.asgi_desk.specs.Told.{numbers_of}
-use Rattle.asgi_desk.specs.Channel.{seated}
+use Rattle.asgi_desk.specs.Hands.{seated}
 use Rattle.asgi_desk.specs.Seat.{knows, IsSeatOf}
 use Rattle.asgi_desk_tests.proofs.fakes.hand_in_all.Given as goal
 

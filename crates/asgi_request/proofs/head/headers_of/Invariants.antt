@@ -1,5 +1,5 @@
 use Rattle.std.proofs.Common.{◌≡◌, take, map}
-use Rattle.asgi_request.specs.Steps.{field_at}
+use Rattle.asgi_request.specs.private.Steps.{field_at}
 use Rattle.asgi_request.proofs.head.headers_of.Given as goal
 
 abbrev pub invariant-loop-span : goal.invariant-loop-span

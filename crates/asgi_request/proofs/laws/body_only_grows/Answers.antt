@@ -6,7 +6,7 @@ pub returns-clause-grows : goal.returns-clause-grows
 returns-clause-grows c limits framing bytes more events others state other x y = body_grows limits framing bytes more events others state other x y
 
 pub returns-clause-whole : goal.returns-clause-whole
-returns-clause-whole c limits framing bytes more events behind x = whole_grows limits framing bytes more events behind x
+returns-clause-whole c limits framing bytes more events after x = whole_grows limits framing bytes more events after x
 
 pub returns-clause-faulty : goal.returns-clause-faulty
 returns-clause-faulty c limits framing bytes more events why x = faulty_grows limits framing bytes more events why x

@@ -1,5 +1,5 @@
 use Rattle.asgi_request.specs.Fronts.{head_len}
-use Rattle.asgi_request.specs.Searches.{GoesFrom}
+use Rattle.asgi_request.specs.private.Searches.{GoesFrom}
 use Rattle.asgi_request.proofs.search.find_begin.Given as goal
 
 abbrev pub invariant-loop-i : goal.invariant-loop-i

@@ -1,6 +1,6 @@
 use Rattle.std.proofs.Common.{◌+◌, sym, ◌∙◌, refl, arith, length, Bool, subst}
 use Rattle.asgi_request.specs.Fronts.{lines_len, head_len}
-use Rattle.asgi_request.specs.Searches.{Continues, head_part}
+use Rattle.asgi_request.specs.private.Searches.{Continues, head_part}
 use Rattle.asgi_request.proofs.SearchLemmas.{whole_is, at_end, ended}
 use Rattle.asgi_request.proofs.search.find_head.Goals as goal
 

@@ -1,6 +1,6 @@
 use Rattle.std.proofs.Common.{◌-◌, ◌≤◌, length}
 use Rattle.asgi_request.specs.Fronts.{lines_len}
-use Rattle.asgi_request.specs.Searches.{GoesFrom}
+use Rattle.asgi_request.specs.private.Searches.{GoesFrom}
 use Rattle.asgi_request.proofs.search.find_lines.Given as goal
 
 abbrev pub invariant-loop-i : goal.invariant-loop-i

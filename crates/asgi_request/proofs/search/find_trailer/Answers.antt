@@ -1,6 +1,6 @@
 use Rattle.std.proofs.Common.{◌≡◌, sym, ◌∙◌, arith, Bool, subst}
 use Rattle.asgi_request.specs.Fronts.{lines_len, trailer_len}
-use Rattle.asgi_request.specs.Searches.{ResumesTrailer}
+use Rattle.asgi_request.specs.private.Searches.{ResumesTrailer}
 use Rattle.asgi_request.proofs.SearchLemmas.{whole_is, Continues-then, trailer_begun}
 use Rattle.asgi_request.proofs.search.find_trailer.Goals as goal
 

@@ -1,6 +1,6 @@
 use Rattle.std.proofs.Common.{◌≡◌, [], ◌∷◌, ◌++◌, List, ℕ, rules, subst}
 use Rattle.std.specs.List.Sorted.{IsPermutation}
-use Rattle.asgi_desk.specs.Book.{told_of, waiting_of}
+use Rattle.asgi_desk.specs.private.Book.{told_of, waiting_of}
 use Rattle.asgi_desk.proofs.Telling.{one_comes}
 use Rattle.asgi_desk.proofs.book.Book.add.Goals as goal
 

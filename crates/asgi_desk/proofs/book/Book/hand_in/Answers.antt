@@ -1,7 +1,7 @@
 use Rattle.std.proofs.Common.{◌++◌, List, ℕ, ◌∙◌, sym, subst}
 use Rattle.std.specs.List.Sorted.{IsPermutation}
 use Rattle.std.proofs.lemmas.List.Sorted.{IsPermutation-trans}
-use Rattle.asgi_desk.specs.Book.{all_of}
+use Rattle.asgi_desk.specs.private.Book.{all_of}
 use Rattle.asgi_desk.proofs.book.Book.hand_in.Goals as goal
 
 pub returns-clause-all : goal.returns-clause-all

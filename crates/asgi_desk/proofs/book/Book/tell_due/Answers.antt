@@ -2,7 +2,7 @@ use Rattle.std.proofs.Common.{◌∙◌, length, ap, arith, sym, subst}
 use Rattle.std.proofs.lemmas.List.Sorted.{length_permutation}
 use Rattle.asgi_desk.specs.declared.waiting.Waiting.{Waiting}
 use Rattle.asgi_desk.specs.declared.book.Last.{Last}
-use Rattle.asgi_desk.specs.Book.{waiting_of, added_by, IsAbove}
+use Rattle.asgi_desk.specs.private.Book.{waiting_of, added_by, IsAbove}
 use Rattle.asgi_desk.proofs.Telling.{all_stay, keeps_more}
 use Rattle.asgi_desk.proofs.book.Book.tell_due.Goals as goal
 

@@ -1,6 +1,6 @@
 use Rattle.std.proofs.Common.{◌≡◌, length}
 use Rattle.std.specs.List.Sorted.{IsPermutation}
-use Rattle.asgi_desk.specs.Book.{waiting_of, all_of, added, Keeps}
+use Rattle.asgi_desk.specs.private.Book.{waiting_of, all_of, added, Keeps}
 use Rattle.asgi_desk.proofs.book.Book.tell_due.Given as goal
 
 abbrev pub invariant-loop-entry : goal.invariant-loop-entry

@@ -1,5 +1,5 @@
 use Rattle.std.proofs.Common.{◌≡◌, ◌+◌, ◌≤◌, ◌++◌, length, reverse, vec_len, vec_capacity}
-use Rattle.asgi_desk.specs.Book.{told_of}
+use Rattle.asgi_desk.specs.private.Book.{told_of}
 use Rattle.asgi_desk.proofs.done.Done.put_into.Given as goal
 
 abbrev pub invariant-loop-self : goal.invariant-loop-self

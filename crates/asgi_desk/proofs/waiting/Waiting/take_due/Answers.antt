@@ -1,5 +1,5 @@
 use Rattle.std.proofs.Common.{◌≡◌, ◌∷◌, ◌++◌, rules}
-use Rattle.asgi_desk.specs.Book.{waiting_of}
+use Rattle.asgi_desk.specs.private.Book.{waiting_of}
 use Rattle.asgi_desk.proofs.Heap.{top_goes}
 use Rattle.asgi_desk.proofs.waiting.Waiting.take_due.Goals as goal
 

@@ -1,4 +1,4 @@
--- The field says only that a proof exists that the application was started. An entailment is a proposition, so the proof may be opened in front of the
+-- The field says only that a proof exists that the application was started. An entailment is a proposition, so the proof may be opened before the
 -- walk that Rattle made.
 use seplogic.Bi.Basic.{Entails-prop}
 use mathlib.Core.Logic.{∥∥₁_elim}

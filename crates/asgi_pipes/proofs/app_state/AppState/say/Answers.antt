@@ -1,9 +1,9 @@
 use Rattle.std.proofs.Common.{[], ◌∷◌, ◌++◌, sym, ap, ◌∙◌}
 use Rattle.std.specs.Prelude.{◌||◌}
 use Rattle.std.proofs.Math.Logic.{∥∥₁_map}
-use Rattle.asgi_pipes.specs.Closings.{closing_of}
+use Rattle.asgi_pipes.specs.private.Closings.{closing_of}
 use Rattle.asgi_pipes.specs.Disconnects.{is_accept}
-use Rattle.asgi_pipes.proofs.ClosingLemmas.{accepted-append, passed, answer_behind, nothing_at_once, nothing_kept}
+use Rattle.asgi_pipes.proofs.ClosingLemmas.{accepted-append, passed, answer_after, nothing_at_once, nothing_kept}
 use Rattle.asgi_pipes.proofs.DisconnectLemmas.{hears_said}
 use Rattle.asgi_pipes.proofs.app_state.AppState.say.Goals as goal
 
@@ -19,8 +19,8 @@ pub invariant_of-self-clause-at_once : goal.invariant_of-self-clause-at_once
 invariant_of-self-clause-at_once c =
     let s = c.args.self.now in
     rw c.with.ensures
-    (c.keep_behind.ensures ∙ ap (λ b. closing_of b c.args.event.now) s.opened
-    ∙ sym (answer_behind s.kind s.said.items s.heard.items c.args.event.now (passed s.kind s.facts s.said.items s.heard.items c.args.event.now c.requires.passes)))
+    (c.keep_after.ensures ∙ ap (λ b. closing_of b c.args.event.now) s.opened
+    ∙ sym (answer_after s.kind s.said.items s.heard.items c.args.event.now (passed s.kind s.facts s.said.items s.heard.items c.args.event.now c.requires.passes)))
 
 pub invariant_of-self-clause-hears_is : goal.invariant_of-self-clause-hears_is
 invariant_of-self-clause-hears_is c =
@@ -28,7 +28,7 @@ invariant_of-self-clause-hears_is c =
     let p = passed s.kind s.facts s.said.items s.heard.items c.args.event.now c.requires.passes in
     rw c.with.ensures (∥∥₁_map s.hears_is (hears_said s.kind s.said.items (s.said.items ++ c.args.event.now ∷ []) s.pulled.items s.heard.items p.open_is p.none))
 
-pub keep_behind-requires : goal.keep_behind-requires
-keep_behind-requires c =
+pub keep_after-requires : goal.keep_after-requires
+keep_after-requires c =
     let s = c.args.self.now in
     nothing_kept s.disconnect (s.at_once ∙ nothing_at_once s.kind s.said.items s.heard.items c.args.event.now (passed s.kind s.facts s.said.items s.heard.items c.args.event.now c.requires.passes))

@@ -9,7 +9,7 @@ returns-in-Pass-clause-verdict c = λ kind said disconnected s.
 
 pub returns-in-Pass-clause-passed : goal.returns-in-Pass-clause-passed
 returns-in-Pass-clause-passed c = λ pass kind said disconnected s.
-    stands_with c.args.self.now c.behind-self.result kind c.args.facts.now said disconnected c.args.event.now c.verdict-verdict.result c.behind-self.ensures c.verdict-verdict.ensures pass s
+    stands_with c.args.self.now c.after-self.result kind c.args.facts.now said disconnected c.args.event.now c.verdict-verdict.result c.after-self.ensures c.verdict-verdict.ensures pass s
 
 pub returns-in_default : goal.returns-in_default
 returns-in_default c = record {

@@ -1,6 +1,6 @@
 use Rattle.std.proofs.Common.{◌≡◌}
 use Rattle.asgi_request.specs.Reading.{Keeps}
-use Rattle.asgi_request.specs.Searches.{rank}
+use Rattle.asgi_request.specs.private.Searches.{rank}
 use Rattle.asgi_request.proofs.reader.RequestReader.advance.Given as goal
 
 abbrev pub invariant-loop-self : goal.invariant-loop-self

@@ -1,7 +1,7 @@
 use Rattle.std.proofs.Common.{List, ℕ, length, ap, sym, ◌∙◌, subst, drop, arith, length-append}
 use Rattle.std.specs.Vec.{vec_capacity}
 use Rattle.asgi_request.specs.Reading.{Reading}
-use Rattle.asgi_request.specs.Searches.{Resumes}
+use Rattle.asgi_request.specs.private.Searches.{Resumes}
 use Rattle.asgi_request.proofs.ReaderLemmas.{feed_stands, held_fed}
 use Rattle.asgi_request.proofs.SearchLemmas.{Resumes-append}
 use Rattle.asgi_request.proofs.reader.RequestReader.feed_crowded.Goals as goal

@@ -1,7 +1,7 @@
 use Rattle.std.proofs.Common.{◌≡◌, refl, ap, sym, ◌∙◌, subst, Some}
 use Rattle.asgi_request.specs.Refusals.{status_of}
 use Rattle.asgi_request.specs.Reading.{Reading, Keeps}
-use Rattle.asgi_request.specs.Searches.{TakesText}
+use Rattle.asgi_request.specs.private.Searches.{TakesText}
 use Rattle.asgi_request.proofs.ReaderLemmas.{stepped_stands, stepped_result, text_stepped, answers_need, answers_bad, when_ok, when_err, both_ways}
 use Rattle.asgi_request.proofs.StandardLemmas.{all_results}
 use Rattle.asgi_request.proofs.reader.RequestReader.next.Goals as goal
@@ -42,7 +42,7 @@ returns-in-Gives c =
       refused = when_ok (λ item. TakesText mid new mid.place n item) _ c.give.result (λ item took status e. answers_bad new item status (stepped_result mid new (Some item) (text_stepped mid new n item gives.1 took)) e) ok;
       again = when_ok (λ item. TakesText mid new mid.place n item) _ c.give.result (λ item took status e. absurd (c.in_default.not-Stopped e.0 (ap (λ (r : Reading). r.place) c.self.view_is ∙ e.1))) ok;
       sure = λ status e. absurd (c.in_default.not-Stopped e.0 (ap (λ (r : Reading). r.place) c.self.view_is ∙ e.1));
-      limits = both_ways (λ item. TakesText mid new mid.place n item) (new ≡ mid) _ c.give.result (λ item took. ap (λ (r : Reading). r.limits) took.is_behind ∙ c.advance.ensures.limits) (λ e. ap (λ (r : Reading). r.limits) e ∙ c.advance.ensures.limits) ok err;
-      capacity = both_ways (λ item. TakesText mid new mid.place n item) (new ≡ mid) _ c.give.result (λ item took. ap (λ (r : Reading). r.capacity) took.is_behind ∙ c.advance.ensures.capacity) (λ e. ap (λ (r : Reading). r.capacity) e ∙ c.advance.ensures.capacity) ok err;
+      limits = both_ways (λ item. TakesText mid new mid.place n item) (new ≡ mid) _ c.give.result (λ item took. ap (λ (r : Reading). r.limits) took.is_after ∙ c.advance.ensures.limits) (λ e. ap (λ (r : Reading). r.limits) e ∙ c.advance.ensures.limits) ok err;
+      capacity = both_ways (λ item. TakesText mid new mid.place n item) (new ≡ mid) _ c.give.result (λ item took. ap (λ (r : Reading). r.capacity) took.is_after ∙ c.advance.ensures.capacity) (λ e. ap (λ (r : Reading). r.capacity) e ∙ c.advance.ensures.capacity) ok err;
       err = when_err (new ≡ mid) (Keeps c.args.self.now new) c.give.result (λ e. subst P (sym e) gives.0) err;
     }

@@ -1,13 +1,13 @@
 use Rattle.std.proofs.Common.{sym, append-nil}
 use Rattle.asgi_ws.specs.declared.messages.Call.TheVariants as call
 use Rattle.asgi_ws.specs.Sessions.{read_by, sent_by}
-use Rattle.asgi_ws.proofs.ListLemmas.{kept_behind}
+use Rattle.asgi_ws.proofs.ListLemmas.{kept_after}
 use Rattle.asgi_ws.proofs.lists.Lists.next.Goals as goal
 
 pub invariant_of-self : goal.invariant_of-self
 invariant_of-self c =
     let read = call.Read c.next_turn-answer.result in
     record {
-      read = kept_behind read_by _ _ read _ _ c.args.self.now.read c.note_read.ensures.told c.next_turn-answer.ensures.keeps;
-      sent = kept_behind sent_by _ _ read _ _ c.args.self.now.sent c.note_read.ensures.told (sym (append-nil c.args.self.now.handed.items));
+      read = kept_after read_by _ _ read _ _ c.args.self.now.read c.note_read.ensures.told c.next_turn-answer.ensures.keeps;
+      sent = kept_after sent_by _ _ read _ _ c.args.self.now.sent c.note_read.ensures.told (sym (append-nil c.args.self.now.handed.items));
     }

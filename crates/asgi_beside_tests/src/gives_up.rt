@@ -1,0 +1,88 @@
+//! A task that is given up while its connection still reads.
+ghost use Rattle.std.specs.Prelude.{◌≤◌, length};
+
+use asgi_apps::{AppTask, Application, Echo, WsEcho};
+use asgi_conn::{Host, Outcome};
+use asgi_fakes::{Way, line_of, serve};
+use asgi_types::{BadLimit, Limits};
+use std::io::{self, Read};
+use std::test::Fail;
+use std::thread;
+use std::time::{Clock, Duration};
+
+const POST: &[u8] = b"POST / HTTP/1.1\r\nHost: a\r\nContent-Length: 1000000\r\n\r\n";
+
+const HANDSHAKE: &[u8] =
+    b"GET / HTTP/1.1\r\nHost: a\r\nUpgrade: websocket\r\nConnection: Upgrade\r\nSec-WebSocket-Key: dGhlIHNhbXBsZSBub25jZQ==\r\nSec-WebSocket-Version: 13\r\n\r\n";
+
+/// A ping without a payload, under a mask of zeros (RFC 6455, section 5.2).
+const PING: &[u8] = b"\x89\x80\0\0\0\0";
+
+/// What comes first, and what comes again and again: too little of a body for an event, or messages that are none.
+const BODY: (&[u8], &[u8]) = (POST, b"a");
+
+const PINGS: (&[u8], &[u8]) = (HANDSHAKE, PING);
+
+/// Gives a text, and then another one each millisecond.
+#[derive(Drop)]
+struct Trickle<R> {
+    clock: R,
+    first: &'static [u8],
+    more: &'static [u8],
+    has_begun: bool,
+}
+
+impl<R: Clock> Read for Trickle<R> {
+    fn read(&mut self, buf: &mut [u8]) -> io::Result<usize> {
+        if !self.has_begun {
+            self.has_begun = true;
+            return Ok(give(self.first, buf));
+        }
+        thread::sleep(&self.clock, Duration::from_millis(1));
+        Ok(give(self.more, buf))
+    }
+}
+
+/// Copies as many of the bytes as the buffer takes, and returns how many.
+fn give(bytes: &[u8], buf: &mut [u8]) -> usize
+    ensures { result ≤ length buf.new }
+{
+    let n = bytes.len().min(buf.len());
+    buf[..n].copy_from_slice(&bytes[..n]);
+    n
+}
+
+/// A hundred idle turns in a row, for the task too, and ten million turns.
+fn few() -> Result<Limits, BadLimit> {
+    Limits::new(16_384, 64, 1_048_576, 16_384, 16, 100, 10_000_000)
+}
+
+/// The outcome of a connection whose task waits for an event that does not come, and whether it came after the idle
+/// turns, and not only once all turns were taken.
+fn given_up<H: Host + Clock + Drop, T: AppTask + Send + 'static, A: Application<Task = T>>(
+    rt: &H,
+    limits: &Limits,
+    app: &A,
+    texts: (&'static [u8], &'static [u8]),
+) -> io::Result<(Outcome, bool)> {
+    let trickle = Trickle {
+        clock: *rt,
+        first: texts.0,
+        more: texts.1,
+        has_begun: false,
+    };
+    let mut line = line_of(rt, trickle)?;
+    let (report, _) = serve(rt, Way::Beside, limits, app, &mut line)?;
+    Ok((report.outcome, report.turns < 1_000_000))
+}
+
+#[test]
+fn a_task_that_is_given_up_takes_its_connection_with_it(rt: HostRuntime) -> Result<(), Fail> {
+    let limits = few()?;
+    assert_eq!(rt; given_up(&rt, &limits, &Echo, BODY)?, (Outcome::Idle, true));
+    assert_eq!(rt;
+        given_up(&rt, &limits, &WsEcho, PINGS)?,
+        (Outcome::Idle, true)
+    );
+    Ok(())
+}

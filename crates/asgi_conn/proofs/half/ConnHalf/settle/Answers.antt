@@ -1,6 +1,0 @@
-use Rattle.std.proofs.Common.{[]}
-use Rattle.asgi_conn.proofs.HalfEndLemmas.{stays_there}
-use Rattle.asgi_conn.proofs.half.ConnHalf.settle.Goals as goal
-
-pub returns-in-Waits-clause-leads : goal.returns-in-Waits-clause-leads
-returns-in-Waits-clause-leads g c scene read view x = ([], view.arrived, view.written, stays_there scene _ _ read view x)

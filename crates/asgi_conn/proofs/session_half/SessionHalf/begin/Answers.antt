@@ -1,6 +1,0 @@
-use Rattle.std.proofs.Common.{arith}
-use Rattle.asgi_conn.proofs.SessionTakeLemmas.{begun}
-use Rattle.asgi_conn.proofs.session_half.SessionHalf.begin.Goals as goal
-
-pub returns-clause-begins : goal.returns-clause-begins
-returns-clause-begins c scene now read o = begun scene now c.args.wire c.args.facts c.args.text c.args.leftover read c.new.result 64 (omega arith) o (c.new.ensures scene.facts)

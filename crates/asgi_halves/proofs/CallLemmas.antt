@@ -1,0 +1,95 @@
+-- How many reads of messages come after a close, with one more call.
+use Rattle.std.proofs.Common.{◌≡◌, ℕ, ◌+◌, ◌≤◌, Bool, true, false, ◌||◌, List, [], ◌∷◌, ◌++◌, map, refl, sym, ◌∙◌, arith}
+use Rattle.std.specs.Prelude.{if◌then◌else◌}
+use Rattle.std.specs.List.{count_by, flat_map}
+use Rattle.std.proofs.lemmas.List.Sums.{sum_by-append}
+use Rattle.asgi_types.specs.declared.facts.Facts.{Facts}
+use Rattle.asgi_types.specs.declared.outgoing.Outgoing.{Outgoing}
+use Rattle.asgi_types.specs.declared.outgoing.Outgoing.TheVariants.{WsAccept, WsSend, WsClose}
+use Rattle.asgi_types.specs.declared.scope.Kind.TheVariants.{WebSocket}
+use Rattle.asgi_protocol.specs.Shapes as shapes
+use Rattle.asgi_ws.specs.declared.messages.Got.{Got}
+use Rattle.asgi_ws.specs.declared.messages.Got.TheVariants as got
+use Rattle.asgi_ws.specs.declared.messages.Put.{Put}
+use Rattle.asgi_ws.specs.declared.messages.Put.TheVariants as put
+use Rattle.asgi_ws.specs.declared.messages.Msg.TheVariants as msg
+use Rattle.asgi_ws.specs.declared.messages.SentMessage.{SentMessage}
+use Rattle.asgi_ws.specs.declared.messages.SentMessage.TheVariants as item
+use Rattle.asgi_ws.specs.declared.messages.Call.{Call}
+use Rattle.asgi_ws.specs.declared.messages.Call.TheVariants.{Read, Send}
+use Rattle.asgi_ws.specs.Sessions.{is_close, is_read, messages_in, handed_in, reads_after_close}
+use Rattle.asgi_exchange.specs.Messages.{has_close}
+use Rattle.asgi_exchange.specs.Session.{Output, Byte, Message, Handshake, message_of, output_of}
+use Rattle.asgi_halves.specs.declared.session_half.Answered.TheVariants.{Open, Closed}
+use Rattle.asgi_halves.specs.WebSocketHalf.{answer_to}
+
+-- ---- one more call
+
+counted : (calls : List Call) (c : Call) → count_by is_read (calls ++ c ∷ []) ≡ count_by is_read calls + count_by is_read (c ∷ [])
+counted calls c = sum_by-append _ calls (c ∷ [])
+
+same_either : (b : Bool) (n : ℕ) → (if b then n else n) ≡ n
+same_either true n = refl
+same_either false n = refl
+
+-- a read is at most one more
+pub read_after : (calls : List Call) (answer : Got) → reads_after_close (calls ++ Read answer ∷ []) ≤ reads_after_close calls + 1
+read_after [] answer = omega (arith, same_either (is_close (Read answer)) 0)
+read_after (first ∷ calls) answer =
+    elim (is_close first) as
+    (λ b. (if b then count_by is_read (calls ++ Read answer ∷ []) else reads_after_close (calls ++ Read answer ∷ [])) ≤ (if b then count_by is_read calls else reads_after_close calls) + 1)
+    [ true ↦ omega (arith, counted calls (Read answer)) | false ↦ read_after calls answer ]
+
+-- a send is none
+pub send_after : (calls : List Call) (item : SentMessage) (answer : Put) → reads_after_close (calls ++ Send item answer ∷ []) ≡ reads_after_close calls
+send_after [] item answer = same_either (is_close (Send item answer)) 0
+send_after (first ∷ calls) item answer =
+    elim (is_close first) as
+    (λ b. (if b then count_by is_read (calls ++ Send item answer ∷ []) else reads_after_close (calls ++ Send item answer ∷ [])) ≡ (if b then count_by is_read calls else reads_after_close calls))
+    [ true ↦ omega (arith, counted calls (Send item answer)) | false ↦ send_after calls item answer ]
+
+-- ---- no close
+
+-- a close went out
+abbrev pub closes : List Output → Bool
+closes [] = false
+closes (Byte b ∷ out) = closes out
+closes (Message (item.Payload payload) ∷ out) = closes out
+closes (Message (item.Close code reason) ∷ out) = true
+
+-- if none was read and none went out, no read comes after a close
+pub none_after : (calls : List Call) → has_close (messages_in calls) ≡ false → closes (map Message (handed_in calls)) ≡ false → (answer : Got)
+    → reads_after_close (calls ++ Read answer ∷ []) ≡ 0
+none_after [] received sent answer = same_either (is_close (Read answer)) 0
+none_after (Read (got.Message (msg.Close close)) ∷ calls) received sent answer = absurd (cc received)
+none_after (Send (item.Close code reason) put.Done ∷ calls) received sent answer = absurd (cc sent)
+none_after (Send (item.Payload payload) put.Done ∷ calls) received sent answer = none_after calls received sent answer
+none_after (_ ∷ calls) received sent answer = none_after calls received sent answer
+
+-- text has none
+pub closes_after : (text : List ℕ) (out : List Output) → closes (map Byte text ++ out) ≡ closes out
+closes_after [] out = refl
+closes_after (b ∷ text) out = closes_after text out
+
+or_none : (b : Bool) → (b || false) ≡ b
+or_none true = refl
+or_none false = refl
+
+not_whole : (b : Bool) → (if b then Closed else Open) ≡ Open → b ≡ false
+not_whole true h = cc h
+not_whole false h = refl
+
+row_closes : (events : List Outgoing) → shapes.begins_row shapes.is_message shapes.is_close events ≡ true → shapes.is_row shapes.is_message shapes.is_close events ≡ false
+    → closes (flat_map message_of events) ≡ false
+row_closes [] begins part = refl
+row_closes (WsSend payload ∷ events) begins part =
+    row_closes events (sym (or_none (shapes.begins_row shapes.is_message shapes.is_close events)) ∙ begins) (sym (or_none (shapes.is_row shapes.is_message shapes.is_close events)) ∙ part)
+row_closes (WsClose code reason ∷ events) begins part = absurd (cc (begins, part))
+row_closes (_ ∷ events) begins part = absurd (cc begins)
+
+-- nor has what is written in an open session
+pub open_closes : (handshake : Handshake) (facts : Facts) (said : List Outgoing) → shapes.begins_word WebSocket said ≡ true → answer_to said ≡ Open
+    → closes (output_of handshake facts said) ≡ false
+open_closes handshake facts (WsAccept subprotocol headers ∷ events) begins is =
+    closes_after (handshake subprotocol headers) (flat_map message_of events) ∙ row_closes events begins (not_whole (shapes.is_row shapes.is_message shapes.is_close events) is)
+open_closes handshake facts _ begins is = absurd (cc is)

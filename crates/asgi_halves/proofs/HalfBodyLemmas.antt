@@ -1,0 +1,140 @@
+-- What the connection's half knows of the body: what the reader gave of it, and what was offered.
+use Rattle.std.proofs.Common.{◌≡◌, ◌≢◌, ℕ, true, false, List, [], ◌∷◌, ◌++◌, map, refl, sym, ap, ◌∙◌, subst, inl, inr, append_assoc, Option, Some, None, Bool}
+use Rattle.std.specs.Prelude.{◌⊎◌}
+use Rattle.std.proofs.lemmas.List.{map-append}
+use mathlib.Core.List.{IsPrefix}
+use Rattle.asgi_types.specs.declared.facts.Facts.{Facts}
+use Rattle.asgi_types.specs.declared.facts.Framing.{Framing}
+use Rattle.asgi_types.specs.declared.incoming.Incoming.{Incoming}
+use Rattle.asgi_types.specs.declared.scope.Scope.{Scope}
+use Rattle.asgi_request.specs.declared.next.Next.{Next}
+use Rattle.asgi_request.specs.declared.next.Next.TheVariants as next
+use Rattle.asgi_request.specs.BodyOf.{body_events, body_state}
+use Rattle.asgi_request.specs.Opened.{HasOpened}
+use Rattle.asgi_request.specs.Reading.{Reading, StandsFor, AllGiven, IsRefused, GoesOn}
+use Rattle.asgi_request.specs.Refusals.{status_of}
+use Rattle.asgi_request.proofs.BodyOfLemmas.{body_is_read}
+use Rattle.asgi_request.proofs.DueLemmas.{events_are_due, whole_is_complete, bad_is_faulty, need_is_partial, no_head as none_inside}
+use Rattle.asgi_request.proofs.OpenedLemmas.{opened_at, opened_plain}
+use Rattle.asgi_request.proofs.RefusalLemmas.{refused_last}
+use Rattle.asgi_exchange.specs.Views.{Break, ByInput, ByCut}
+use Rattle.asgi_exchange.specs.Steps.{is_by_input, is_by_cut}
+use Rattle.asgi_halves.specs.declared.half.BodyProgress.{BodyProgress}
+use Rattle.asgi_halves.specs.declared.half.BodyProgress.TheVariants.{Open, Waits, Whole, Refused, BrokenOff}
+use Rattle.asgi_conversation.specs.declared.input.InputEnd.{InputEnd}
+use Rattle.asgi_halves.specs.Half.{HasGiven, BreaksAt}
+use Rattle.asgi_halves.specs.private.HalfSteps.{GaveNext}
+use Rattle.asgi_conversation.specs.TaskEnds.{has_ended, is_faulty}
+
+-- ---- breaks
+
+pub unbroken : (b : Option Break) → is_by_cut b ≡ false → is_by_input b ≡ false → b ≡ None
+unbroken None uncut not_by_input = refl
+unbroken (Some ByInput) uncut not_by_input = absurd (cc (not_by_input))
+unbroken (Some ByCut) uncut not_by_input = absurd (cc (uncut))
+
+-- ---- what one more result makes of the body
+
+events_more : (opened : List Next) (events : List Incoming) (event : Incoming) → (opened ++ map next.Event events) ++ next.Event event ∷ [] ≡ opened ++ map next.Event (events ++ event ∷ [])
+events_more opened events event =
+    append_assoc opened (map next.Event events) (next.Event event ∷ []) ∙ ap (λ (l : List Next). opened ++ l) (sym (map-append next.Event events (event ∷ [])))
+
+module _ (reader : Reading) (read : List ℕ) (opened : List Next) (framing : Framing) (arrived : List ℕ) (events : List Incoming) (x : HasOpened reader.limits read opened framing arrived) where
+  pub gives_event : (event : Incoming) → GaveNext reader read (opened ++ map next.Event events) (next.Event event) → HasGiven reader read opened events (Waits event)
+  gives_event event stands = subst (λ (l : List Next). StandsFor reader read l) (events_more opened events event) stands
+
+  pub gives_whole : GaveNext reader read (opened ++ map next.Event events) next.Whole → HasGiven reader read opened events Whole
+  gives_whole stands = subst (λ (l : List Next). StandsFor reader read l) (append_assoc opened (map next.Event events) (next.Whole ∷ [])) stands
+
+  pub gives_refusal : (status : ℕ) → GaveNext reader read (opened ++ map next.Event events) (next.Bad status) → HasGiven reader read opened events (Refused status)
+  gives_refusal status stands = subst (λ (l : List Next). StandsFor reader read l) (append_assoc opened (map next.Event events) (next.Bad status ∷ [])) stands
+
+-- ---- no refusal was given before
+
+is_bad : Next → Bool
+is_bad (next.Bad status) = true
+is_bad _ = false
+
+ends_bad : List Next → Bool
+ends_bad [] = false
+ends_bad (x ∷ []) = is_bad x
+ends_bad (x ∷ y ∷ l) = ends_bad (y ∷ l)
+
+ends_after : (l : List Next) (x : Next) (m : List Next) → ends_bad (l ++ x ∷ m) ≡ ends_bad (x ∷ m)
+unfolding ends_bad
+ends_after [] x m = refl
+ends_after (y ∷ []) x m = refl
+ends_after (y ∷ z ∷ l) x m = ends_after (z ∷ l) x m
+
+no_bad_events : (x : Next) (events : List Incoming) → is_bad x ≡ false → ends_bad (x ∷ map next.Event events) ≡ false
+unfolding ends_bad is_bad
+no_bad_events x [] no_bad = no_bad
+no_bad_events x (e ∷ events) no_bad = no_bad_events (next.Event e) events refl
+
+-- a reader that gave a head and events after it has not refused
+pub not_refused : (reader : Reading) (read : List ℕ) (opened : List Next) (framing : Framing) (arrived : List ℕ) (events : List Incoming) (status : ℕ)
+    → HasOpened reader.limits read opened framing arrived → StandsFor reader read (opened ++ map next.Event events) → IsRefused reader status → ⊥
+unfolding ends_bad is_bad
+not_refused reader read opened framing arrived events status x stands refused =
+    let last = refused_last reader.limits read (opened ++ map next.Event events) reader.place reader.held refused.0 stands refused.1 in
+    let bad : ends_bad (opened ++ map next.Event events) ≡ true = ap ends_bad last.1 ∙ ends_after last.0 (next.Bad (status_of refused.0)) [] in
+    let good : ends_bad (opened ++ map next.Event events) ≡ false =
+    ap (λ (l : List Next). ends_bad (l ++ map next.Event events)) x.opened_is
+    ∙ (ap ends_bad (append_assoc x.closed (next.Head x.scope x.facts ∷ []) (map next.Event events))
+    ∙ (ends_after x.closed (next.Head x.scope x.facts) (map next.Event events) ∙ no_bad_events (next.Head x.scope x.facts) events refl)) in
+    cc (bad, good)
+
+-- ---- what was offered is all that is due
+
+module _ (reader : Reading) (read : List ℕ) (opened : List Next) (framing : Framing) (arrived : List ℕ) (x : HasOpened reader.limits read opened framing arrived) where
+  pub first_due : (events : List Incoming) → StandsFor reader read (opened ++ map next.Event events) → IsPrefix events (body_events reader.limits framing arrived)
+  first_due events stands =
+      events_are_due reader.limits read opened framing arrived (body_events reader.limits framing arrived) (body_state reader.limits framing arrived) reader.place reader.held
+      (opened_at reader.limits read opened framing arrived x) (opened_plain reader.limits read opened framing arrived x) (body_is_read reader.limits framing arrived) events stands
+
+  pub all_due : (events : List Incoming) (body : BodyProgress) (end : InputEnd) → HasGiven reader read opened events body → BreaksAt body end → events ≡ body_events reader.limits framing arrived
+  all_due events Open end given breaks = absurd breaks
+  all_due events (Waits event) end given breaks = absurd breaks
+  all_due events Whole end given breaks =
+      (whole_is_complete reader.limits read opened framing arrived (body_events reader.limits framing arrived) (body_state reader.limits framing arrived) reader.place reader.held
+      (opened_at reader.limits read opened framing arrived x) (opened_plain reader.limits read opened framing arrived x) (body_is_read reader.limits framing arrived) events given).0
+  all_due events (Refused status) end given breaks =
+      (bad_is_faulty reader.limits read opened framing arrived (body_events reader.limits framing arrived) (body_state reader.limits framing arrived) reader.place reader.held
+      (opened_at reader.limits read opened framing arrived x) (opened_plain reader.limits read opened framing arrived x) (body_is_read reader.limits framing arrived) events status given).0
+  all_due events BrokenOff end given breaks =
+      (need_is_partial reader.limits read opened framing arrived (body_events reader.limits framing arrived) (body_state reader.limits framing arrived) events given.0
+      (opened_at reader.limits read opened framing arrived x) (opened_plain reader.limits read opened framing arrived x) (body_is_read reader.limits framing arrived) given.1).0
+
+  pub why_broken : (events : List Incoming) (body : BodyProgress) (end : InputEnd) → HasGiven reader read opened events body → BreaksAt body end
+      → (has_ended end ≡ true) ⊎ (is_faulty (body_state reader.limits framing arrived) ≡ true)
+  why_broken events Open end given breaks = absurd breaks
+  why_broken events (Waits event) end given breaks = absurd breaks
+  why_broken events Whole end given breaks = inl breaks
+  why_broken events BrokenOff end given breaks = inl breaks
+  why_broken events (Refused status) end given breaks =
+      let f = (bad_is_faulty reader.limits read opened framing arrived (body_events reader.limits framing arrived) (body_state reader.limits framing arrived) reader.place reader.held
+      (opened_at reader.limits read opened framing arrived x) (opened_plain reader.limits read opened framing arrived x) (body_is_read reader.limits framing arrived) events status given).1 in
+      inr (ap is_faulty f.1)
+
+  pub no_head : (events : List Incoming) (scope : Scope) (facts : Facts) → StandsFor reader read ((opened ++ map next.Event events) ++ next.Head scope facts ∷ []) → ⊥
+  no_head events scope facts stands =
+      none_inside reader.limits read opened framing arrived (body_events reader.limits framing arrived) (body_state reader.limits framing arrived) reader.place reader.held
+      (opened_at reader.limits read opened framing arrived x) (opened_plain reader.limits read opened framing arrived x) (body_is_read reader.limits framing arrived) events scope facts
+      (subst (λ (l : List Next). StandsFor reader read l) (append_assoc opened (map next.Event events) (next.Head scope facts ∷ [])) stands)
+
+-- ---- from what the reader gave
+
+pub gave_next : (old new : Reading) (item : Next) (read : List ℕ) (opened : List Next) (framing : Framing) (arrived : List ℕ) (events : List Incoming)
+    → HasOpened old.limits read opened framing arrived → StandsFor old read (opened ++ map next.Event events)
+    → (item ≡ next.Need → (bytes : List ℕ) (given : List Next) → StandsFor old bytes given → StandsFor new bytes given × AllGiven new bytes given)
+    → (item ≢ next.Need → ((status : ℕ) → IsRefused old status → ⊥) → GoesOn old new item)
+    → GaveNext new read (opened ++ map next.Event events) item
+gave_next old new next.Need read opened framing arrived events x stands need given = need refl read (opened ++ map next.Event events) stands
+gave_next old new (next.Head scope facts) read opened framing arrived events x stands need given =
+    given (λ e. cc) (λ status. not_refused old read opened framing arrived events status x stands) read (opened ++ map next.Event events) stands
+gave_next old new (next.Event event) read opened framing arrived events x stands need given =
+    given (λ e. cc) (λ status. not_refused old read opened framing arrived events status x stands) read (opened ++ map next.Event events) stands
+gave_next old new next.Whole read opened framing arrived events x stands need given =
+    given (λ e. cc) (λ status. not_refused old read opened framing arrived events status x stands) read (opened ++ map next.Event events) stands
+gave_next old new (next.Bad status) read opened framing arrived events x stands need given =
+    given (λ e. cc) (λ status. not_refused old read opened framing arrived events status x stands) read (opened ++ map next.Event events) stands

@@ -1,0 +1,524 @@
+-- A session ends with its task: what the end adds is written, and the connection ends as that end requires.
+use Rattle.std.proofs.Common.{◌≡◌, ℕ, ◌<◌, Bool, true, false, ◌⊎◌, inl, inr, List, [], ◌∷◌, ◌++◌, length, take, drop, refl, sym, ap, ◌∙◌, subst, append_assoc, Option, Some, map, arith}
+use Rattle.std.specs.Prelude.{if◌then◌else◌}
+use Rattle.std.specs.Io.KnownBytes.{Appends}
+use Rattle.std.proofs.lemmas.List.{append-nil, length-map, map-append, take-map, take-append-drop}
+use Rattle.asgi_io.specs.declared.write.Wrote.TheVariants as wrote
+use Rattle.asgi_io.specs.Counting.{RoseBy}
+use Rattle.asgi_io.specs.Writing.{TriesWrites}
+use Rattle.asgi_types.specs.declared.end_kind.EndKind.{EndKind}
+use Rattle.asgi_types.specs.declared.end_kind.EndKind.TheVariants as kind
+use Rattle.asgi_types.specs.declared.facts.Facts.{Facts}
+use Rattle.asgi_types.specs.declared.outgoing.Outgoing.{Outgoing}
+use Rattle.asgi_types.specs.declared.outgoing.Outgoing.TheVariants.{ResponseStart, ResponseBody, WsAccept, WsSend, WsClose, DenialStart, DenialBody, StartupComplete, StartupFailed, ShutdownComplete, ShutdownFailed}
+use Rattle.asgi_types.specs.declared.scope.Kind.TheVariants.{Http, WebSocket}
+use Rattle.asgi_protocol.specs.Lawful.{IsLawful}
+use Rattle.asgi_protocol.specs.Shapes.{begins_word, is_closed}
+use Rattle.asgi_protocol.proofs.WordLemmas.{test_of_beginning}
+use Rattle.asgi_response.specs.declared.progress.Progress.{Progress}
+use Rattle.asgi_response.specs.declared.progress.Progress.TheVariants.{Nothing, Begun, Complete}
+use Rattle.asgi_response.specs.Denial.{closing_facts, as_response, denial_progress}
+use Rattle.asgi_response.specs.Exchange.{refusal_text}
+use Rattle.asgi_response.specs.Standing as standing
+use Rattle.asgi_response.specs.Progress.{closes_after, progress_in}
+use Rattle.asgi_response.proofs.DenialLemmas.{is_lawful_response}
+use Rattle.asgi_response.proofs.LawfulLemmas.{lawful_is_accepted}
+use Rattle.asgi_ws.specs.declared.messages.Call.TheVariants.{Send}
+use Rattle.asgi_ws.specs.declared.messages.SentMessage.{SentMessage}
+use Rattle.asgi_ws.specs.declared.messages.SentMessage.TheVariants as item
+use Rattle.asgi_ws.specs.declared.messages.Msg.{Msg}
+use Rattle.asgi_ws.specs.declared.messages.Put.{Put}
+use Rattle.asgi_ws.specs.declared.messages.Put.TheVariants as put
+use Rattle.asgi_ws.specs.Sessions.{taken_by, has_failed, count_after}
+use Rattle.asgi_exchange.specs.Items.{end_of}
+use Rattle.asgi_exchange.specs.Session.{Output, Byte, Message, accepted_session, ending_of, session_ending}
+use Rattle.asgi_exchange.specs.ExchangeTexts.{ending_after, session_text}
+use Rattle.asgi_exchange.specs.Steps.{is_by_input}
+use Rattle.asgi_exchange.specs.Views.{ConnView, added_by, output, taken_of}
+use Rattle.asgi_conversation.specs.declared.following.NextStep.TheVariants.{ConnectionEnds}
+use Rattle.asgi_conversation.specs.declared.report.Outcome.{Outcome}
+use Rattle.asgi_conversation.specs.declared.report.Outcome.TheVariants as outcome
+use Rattle.asgi_conversation.specs.Sessions.{handshake_of, after_session, open_outcome, session_outcome, StopsSession}
+use Rattle.asgi_conversation.specs.ExchangeRecord.{Ending}
+use Rattle.asgi_halves.specs.declared.stage.Stage.{Stage}
+use Rattle.asgi_halves.specs.declared.stage.Stage.TheVariants as stage
+use Rattle.asgi_halves.specs.declared.session_half.Answered.{Answered}
+use Rattle.asgi_halves.specs.declared.session_half.Answered.TheVariants.{Unanswered, Open, Closed, Refused}
+use Rattle.asgi_halves.specs.declared.session_half.WebSocketHalf.{WebSocketHalf}
+use Rattle.asgi_halves.specs.Traffic.{failures_of}
+use Rattle.asgi_run.specs.Lines.{LineState, how_wrote}
+use Rattle.asgi_halves.specs.WebSocketHalf.{SessionScene, Invariant, Talks, EndsByTask, IsAt, IsCarried, IsSilent, answer_to, exchange_of, known, outcome_after, output_in, said_in, talk_in, text_failures}
+use Rattle.asgi_halves.specs.WebSocketHalf.{CarriesOn}
+use Rattle.asgi_run.proofs.LineLemmas.{tries_front}
+use Rattle.asgi_halves.proofs.TalkLemmas.{LeavesText, talk_written, talk_sent}
+
+-- ---- what the end adds, by what was sent
+
+-- nothing
+pub record EndsWell (said : List Outgoing) : Type 0 where
+  pub adds : (code : ℕ) (broken : Bool) → ending_of code broken said ≡ []
+  pub follows : (input_broke : Bool) (received : List Msg) → session_outcome said input_broke received ≡ outcome.Finished
+
+-- 500
+pub record EndsRefused (said : List Outgoing) : Type 0 where
+  pub adds : (code : ℕ) (broken : Bool) → ending_of code broken said ≡ map Byte (refusal_text 500)
+  pub follows : (input_broke : Bool) (received : List Msg) → session_outcome said input_broke received ≡ outcome.Refused 500
+
+-- a close, if the client did not close and the input did not end before
+pub record EndsOpen (said : List Outgoing) : Type 0 where
+  pub adds : (code : ℕ) (broken : Bool) → ending_of code broken said ≡ (if broken then [] else Message (item.Close code []) ∷ [])
+  pub follows : (input_broke : Bool) (received : List Msg) → session_outcome said input_broke received ≡ open_outcome input_broke received
+
+-- an accepted session is open or closed
+open_or_closed : (said : List Outgoing) (b : Bool) (a : Answered) → is_closed WebSocket said ≡ b → (if is_closed WebSocket said then Closed else Open) ≡ a → a ≡ (if b then Closed else Open)
+open_or_closed said b a is h = sym h ∙ ap (λ (c : Bool). if c then Closed else Open) is
+
+left_open : (said : List Outgoing) → answer_to said ≡ Open → EndsOpen said
+left_open [] h = cc
+left_open (WsAccept a b ∷ events) h = by (is_closed WebSocket (WsAccept a b ∷ events)) refl
+  where
+    by : (c : Bool) → is_closed WebSocket (WsAccept a b ∷ events) ≡ c → EndsOpen (WsAccept a b ∷ events)
+    by true is = (let never : Open ≡ Closed = open_or_closed (WsAccept a b ∷ events) true Open is h in cc)
+    by false is = record {
+      adds = λ code broken. ap (λ (c : Bool). if c then [] else (if broken then [] else Message (item.Close code []) ∷ [])) is;
+      follows = λ input_broke received. ap (λ (c : Bool). if c then outcome.Finished else open_outcome input_broke received) is;
+    }
+left_open (WsClose a b ∷ events) h = cc
+left_open (WsSend a ∷ events) h = cc
+left_open (DenialStart a b ∷ events) h = cc
+left_open (DenialBody a b ∷ events) h = cc
+left_open (ResponseStart a b ∷ events) h = cc
+left_open (ResponseBody a b ∷ events) h = cc
+left_open (StartupComplete a ∷ events) h = cc
+left_open (StartupFailed a ∷ events) h = cc
+left_open (ShutdownComplete ∷ events) h = cc
+left_open (ShutdownFailed a ∷ events) h = cc
+
+was_closed : (said : List Outgoing) → answer_to said ≡ Closed → EndsWell said
+was_closed [] h = cc
+was_closed (WsAccept a b ∷ events) h = by (is_closed WebSocket (WsAccept a b ∷ events)) refl
+  where
+    by : (c : Bool) → is_closed WebSocket (WsAccept a b ∷ events) ≡ c → EndsWell (WsAccept a b ∷ events)
+    by false is = (let never : Closed ≡ Open = open_or_closed (WsAccept a b ∷ events) false Closed is h in cc)
+    by true is = record {
+      adds = λ code broken. ap (λ (c : Bool). if c then [] else (if broken then [] else Message (item.Close code []) ∷ [])) is;
+      follows = λ input_broke received. ap (λ (c : Bool). if c then outcome.Finished else open_outcome input_broke received) is;
+    }
+was_closed (WsClose a b ∷ events) h = cc
+was_closed (WsSend a ∷ events) h = cc
+was_closed (DenialStart a b ∷ events) h = cc
+was_closed (DenialBody a b ∷ events) h = cc
+was_closed (ResponseStart a b ∷ events) h = cc
+was_closed (ResponseBody a b ∷ events) h = cc
+was_closed (StartupComplete a ∷ events) h = cc
+was_closed (StartupFailed a ∷ events) h = cc
+was_closed (ShutdownComplete ∷ events) h = cc
+was_closed (ShutdownFailed a ∷ events) h = cc
+
+was_refused : (said : List Outgoing) → answer_to said ≡ Refused → EndsWell said
+was_refused [] h = cc
+was_refused (WsAccept a b ∷ events) h = by (is_closed WebSocket (WsAccept a b ∷ events)) refl
+  where
+    by : (c : Bool) → is_closed WebSocket (WsAccept a b ∷ events) ≡ c → EndsWell (WsAccept a b ∷ events)
+    by true is = (let never : Refused ≡ Closed = open_or_closed (WsAccept a b ∷ events) true Refused is h in cc)
+    by false is = (let never : Refused ≡ Open = open_or_closed (WsAccept a b ∷ events) false Refused is h in cc)
+was_refused (WsClose a b ∷ events) h = record { adds = λ code broken. refl; follows = λ input_broke received. refl }
+was_refused (WsSend a ∷ events) h = cc
+was_refused (DenialStart a b ∷ events) h = cc
+was_refused (DenialBody a b ∷ events) h = cc
+was_refused (ResponseStart a b ∷ events) h = cc
+was_refused (ResponseBody a b ∷ events) h = cc
+was_refused (StartupComplete a ∷ events) h = cc
+was_refused (StartupFailed a ∷ events) h = cc
+was_refused (ShutdownComplete ∷ events) h = cc
+was_refused (ShutdownFailed a ∷ events) h = cc
+
+-- how far a denial is
+denied_so_far : (facts : Facts) (status : ℕ) (headers : _) (bodies : List Outgoing) → IsLawful WebSocket facts (DenialStart status headers ∷ bodies)
+    → denial_progress facts (DenialStart status headers ∷ bodies) ≡ progress_in (closing_facts facts) (map as_response (DenialStart status headers ∷ bodies))
+denied_so_far facts status headers bodies lawful =
+    ap (progress_in (closing_facts facts))
+    (lawful_is_accepted (closing_facts facts) (map as_response (DenialStart status headers ∷ bodies)) (is_lawful_response facts status headers bodies lawful))
+
+begun_or_whole : (b : Bool) (closes : Bool) → (if b then Complete closes else Begun) ≡ Nothing → false ≡ true
+begun_or_whole true closes h = cc
+begun_or_whole false closes h = cc
+
+unlawful : (facts : Facts) (said : List Outgoing) → IsLawful WebSocket facts said → begins_word WebSocket said ≡ true
+unlawful facts said lawful = test_of_beginning WebSocket said lawful.begins
+
+-- no answer was begun
+none_begun : (facts : Facts) (said : List Outgoing) → IsLawful WebSocket facts said → denial_progress facts said ≡ Nothing → EndsRefused said
+none_begun facts [] lawful h = record { adds = λ code broken. refl; follows = λ input_broke received. refl }
+none_begun facts (DenialStart a b ∷ []) lawful h = record { adds = λ code broken. refl; follows = λ input_broke received. refl }
+none_begun facts (DenialStart a b ∷ event ∷ events) lawful h =
+    let said = map as_response (DenialStart a b ∷ event ∷ events) in
+    let never : false ≡ true = begun_or_whole (is_closed Http said) (closes_after (closing_facts facts) said) (sym (denied_so_far facts a b (event ∷ events) lawful) ∙ h) in cc
+none_begun facts (WsAccept a b ∷ events) lawful h = cc
+none_begun facts (WsClose a b ∷ events) lawful h = cc
+none_begun facts (WsSend a ∷ events) lawful h = (let never : false ≡ true = unlawful facts (WsSend a ∷ events) lawful in cc)
+none_begun facts (DenialBody a b ∷ events) lawful h = (let never : false ≡ true = unlawful facts (DenialBody a b ∷ events) lawful in cc)
+none_begun facts (ResponseStart a b ∷ events) lawful h = (let never : false ≡ true = unlawful facts (ResponseStart a b ∷ events) lawful in cc)
+none_begun facts (ResponseBody a b ∷ events) lawful h = (let never : false ≡ true = unlawful facts (ResponseBody a b ∷ events) lawful in cc)
+none_begun facts (StartupComplete a ∷ events) lawful h = (let never : false ≡ true = unlawful facts (StartupComplete a ∷ events) lawful in cc)
+none_begun facts (StartupFailed a ∷ events) lawful h = (let never : false ≡ true = unlawful facts (StartupFailed a ∷ events) lawful in cc)
+none_begun facts (ShutdownComplete ∷ events) lawful h = (let never : false ≡ true = unlawful facts (ShutdownComplete ∷ events) lawful in cc)
+none_begun facts (ShutdownFailed a ∷ events) lawful h = (let never : false ≡ true = unlawful facts (ShutdownFailed a ∷ events) lawful in cc)
+
+-- one was
+one_begun : (facts : Facts) (said : List Outgoing) → IsLawful WebSocket facts said → answer_to said ≡ Unanswered → (denial_progress facts said ≡ Nothing → ⊥) → EndsWell said
+one_begun facts [] lawful u h = absurd (h refl)
+one_begun facts (DenialStart a b ∷ []) lawful u h = absurd (h (denied_so_far facts a b [] lawful))
+one_begun facts (DenialStart a b ∷ event ∷ events) lawful u h = record { adds = λ code broken. refl; follows = λ input_broke received. refl }
+one_begun facts (WsAccept a b ∷ events) lawful u h = by (is_closed WebSocket (WsAccept a b ∷ events)) refl
+  where
+    by : (c : Bool) → is_closed WebSocket (WsAccept a b ∷ events) ≡ c → EndsWell (WsAccept a b ∷ events)
+    by true is = (let never : Unanswered ≡ Closed = open_or_closed (WsAccept a b ∷ events) true Unanswered is u in cc)
+    by false is = (let never : Unanswered ≡ Open = open_or_closed (WsAccept a b ∷ events) false Unanswered is u in cc)
+one_begun facts (WsClose a b ∷ events) lawful u h = cc
+one_begun facts (WsSend a ∷ events) lawful u h = (let never : false ≡ true = unlawful facts (WsSend a ∷ events) lawful in cc)
+one_begun facts (DenialBody a b ∷ events) lawful u h = (let never : false ≡ true = unlawful facts (DenialBody a b ∷ events) lawful in cc)
+one_begun facts (ResponseStart a b ∷ events) lawful u h = (let never : false ≡ true = unlawful facts (ResponseStart a b ∷ events) lawful in cc)
+one_begun facts (ResponseBody a b ∷ events) lawful u h = (let never : false ≡ true = unlawful facts (ResponseBody a b ∷ events) lawful in cc)
+one_begun facts (StartupComplete a ∷ events) lawful u h = (let never : false ≡ true = unlawful facts (StartupComplete a ∷ events) lawful in cc)
+one_begun facts (StartupFailed a ∷ events) lawful u h = (let never : false ≡ true = unlawful facts (StartupFailed a ∷ events) lawful in cc)
+one_begun facts (ShutdownComplete ∷ events) lawful u h = (let never : false ≡ true = unlawful facts (ShutdownComplete ∷ events) lawful in cc)
+one_begun facts (ShutdownFailed a ∷ events) lawful u h = (let never : false ≡ true = unlawful facts (ShutdownFailed a ∷ events) lawful in cc)
+
+-- ---- in the end
+
+unfailed : (a : Answered) (ended : EndKind) → text_failures a (stage.Ending ended) ≡ 0
+unfailed Unanswered ended = refl
+unfailed Refused ended = refl
+unfailed Open ended = refl
+unfailed Closed ended = refl
+
+unfailing : (a : Answered) (out : Outcome) → failures_of out ≡ 0 → text_failures a (stage.Over (ConnectionEnds out)) ≡ 0
+unfailing Unanswered out none = none
+unfailing Refused out none = none
+unfailing Open out none = refl
+unfailing Closed out none = refl
+
+carried_still : (a : Answered) (scene : SessionScene) (half : WebSocketHalf) (view : ConnView Msg Output) (text : List ℕ) (leftover : Option (List ℕ)) (handed : List SentMessage)
+    (later : Stage) (written : List Output) → IsCarried a scene half view text leftover handed
+    → IsCarried a scene (record half { stage = later }) (record view { written = written }) text leftover handed
+carried_still Unanswered scene half view text leftover handed later written c = (silent_still scene half view leftover handed later written c.0, c.1)
+  where
+    silent_still : (scene : SessionScene) (half : WebSocketHalf) (view : ConnView Msg Output) (leftover : Option (List ℕ)) (handed : List SentMessage) (later : Stage) (written : List Output)
+        → IsSilent half view leftover handed → IsSilent (record half { stage = later }) (record view { written = written }) leftover handed
+    silent_still scene half view leftover handed later written s = record { kept = s.kept; received = s.received; over = s.over; unclosed = s.unclosed; sent = s.sent }
+carried_still Refused scene half view text leftover handed later written c = record { kept = c.kept; received = c.received; over = c.over; unclosed = c.unclosed; sent = c.sent }
+carried_still Open scene half view text leftover handed later written c = record { kept = c.kept; subprotocol = c.subprotocol; headers = c.headers; events = c.events; said = c.said; text_is = c.text_is }
+carried_still Closed scene half view text leftover handed later written c = record { kept = c.kept; subprotocol = c.subprotocol; headers = c.headers; events = c.events; said = c.said; text_is = c.text_is }
+
+-- the half after its connection ended with this outcome
+abbrev pub ends_so : WebSocketHalf → Outcome → WebSocketHalf
+ends_so half out = record half { stage = stage.Over (ConnectionEnds out) }
+
+-- the invariant holds, and the line moved on
+abbrev pub Goes : SessionScene → LineState → WebSocketHalf → List ℕ → ConnView Msg Output → Type 0
+Goes scene now half read view = (arrived : List Msg) × (written : List Output) × Invariant scene now half read (record view { arrived = arrived; written = written })
+
+module _ (scene : SessionScene) (was : LineState) (half : WebSocketHalf) (read : List ℕ) (view : ConnView Msg Output) (x : Invariant scene was half read view)
+    (ended : EndKind) (is : half.stage ≡ stage.Ending ended) where
+  at_end : Talks scene half view × (end_of view.got ≡ Some ended) × (view.broken_first ≡ is_by_input view.broken)
+  at_end = subst (λ (s : Stage). IsAt s scene half view) is x.stage
+
+  abbrev adds : List Output
+  adds = session_ending scene.facts (taken_of view) ended (is_by_input view.broken)
+
+  line : CarriesOn scene.start was half.wire.input read (scene.before ++ x.text) 0 (talk_in half view x.leftover x.handed) half.spare_reads
+  line =
+      let P : ℕ → Type 0 = λ n. CarriesOn scene.start was half.wire.input read (scene.before ++ x.text) n (talk_in half view x.leftover x.handed) half.spare_reads in
+      subst P (unfailed half.answered ended) (subst (λ (s : Stage). P (text_failures half.answered s)) is x.line)
+
+  whole : session_text (handshake_of scene.facts) scene.facts (taken_of view) (end_of view.got) (is_by_input view.broken) ≡ view.written ++ adds
+  whole =
+      ap (λ (o : Option EndKind). output_in scene view ++ ending_after scene.facts (taken_of view) o (is_by_input view.broken)) at_end.1
+      ∙ ap (λ (l : List Output). l ++ adds) (sym at_end.0.written)
+
+  all_of : output (exchange_of scene) view ≡ view.written ++ adds
+  all_of =
+      ap (λ (o : Option EndKind). output_in scene view ++ added_by (exchange_of scene) (taken_of view) o view.broken_first view.arrived) at_end.1
+      ∙ (ap (λ (b : Bool). output_in scene view ++ session_ending scene.facts (taken_of view) ended b) at_end.2
+      ∙ ap (λ (l : List Output). l ++ adds) (sym at_end.0.written))
+
+  -- this much of it went out
+  ends_with : (now : LineState) (out : Outcome) (text : List ℕ) (handed : List SentMessage) (front rest : List Output)
+      → CarriesOn scene.start now half.wire.input read (scene.before ++ text) (text_failures half.answered (stage.Over (ConnectionEnds out))) (talk_in half view x.leftover handed) half.spare_reads
+      → map Byte text ++ map Message handed ≡ view.written ++ front → front ++ rest ≡ adds
+      → IsCarried half.answered scene half view text x.leftover handed
+      → IsAt (stage.Over (ConnectionEnds out)) scene (ends_so half out) (record view { written = map Byte text ++ map Message handed })
+      → Goes scene now (ends_so half out) read view
+  ends_with now out text handed front rest line_is gone is_all carried stands =
+      let written : List Output = map Byte text ++ map Message handed in (
+        view.arrived,
+        written,
+        record {
+          fixed = x.fixed;
+          text = text;
+          leftover = x.leftover;
+          handed = handed;
+          line = line_is;
+          written = refl;
+          carried = carried_still half.answered scene half view text x.leftover handed (stage.Over (ConnectionEnds out)) written carried;
+          keeps = record {
+            offered = x.keeps.offered;
+            written = (
+              rest,
+              ap (λ (l : List Output). l ++ rest) gone ∙ (append_assoc view.written front rest ∙ (ap (λ (l : List Output). view.written ++ l) is_all ∙ sym all_of)),
+            );
+          };
+          breaks = x.breaks;
+          stage = stands;
+        },
+      )
+
+  by_task : (out : Outcome) (written : List Output) → after_session ended (said_in scene view) (is_by_input view.broken) view.arrived ≡ out → written ≡ view.written ++ adds
+      → EndsByTask scene (record view { written = written }) out
+  by_task out written follows gone = record { kind = ended; taken = at_end.1; uncut = at_end.0.uncut; follows = follows; out = gone ∙ sym whole }
+
+  stops : (n : ℕ) (written : List Output) → n < length adds → written ≡ view.written ++ take n adds → StopsSession n (known scene (record view { written = written })) written
+  stops n written less gone = record {
+    out = view.written;
+    more = adds;
+    is_next = Ending ended at_end.1 at_end.0.written refl;
+    within = less;
+    written_is = gone;
+  }
+
+  -- nothing is added
+  ends_silent : (out : Outcome) → failures_of out ≡ 0 → adds ≡ [] → after_session ended (said_in scene view) (is_by_input view.broken) view.arrived ≡ out → Goes scene was (ends_so half out) read view
+  ends_silent out none nothing follows =
+      let gone : map Byte x.text ++ map Message x.handed ≡ view.written ++ [] = sym x.written ∙ sym (append-nil view.written) in
+      ends_with was out x.text x.handed [] []
+      (subst (λ (n : ℕ). CarriesOn scene.start was half.wire.input read (scene.before ++ x.text) n (talk_in half view x.leftover x.handed) half.spare_reads) (sym (unfailing half.answered out none)) line)
+      gone (sym nothing) x.carried
+      (inl (by_task out (map Byte x.text ++ map Message x.handed) follows (gone ∙ ap (λ (l : List Output). view.written ++ l) (sym nothing))))
+
+  -- a text is added, if no message passed by
+  module _ (unanswered : half.answered ≡ Unanswered) (more : List ℕ) (adds_it : adds ≡ map Byte more) (now : LineState)
+      (same_left : now.left ≡ was.left) (same_reads : now.reads ≡ was.reads) (same_session : now.session ≡ was.session) where
+    silent : IsSilent half view x.leftover x.handed × (half.leftover.items ≡ scene.frames)
+    silent = subst (λ (a : Answered). IsCarried a scene half view x.text x.leftover x.handed) unanswered x.carried
+
+    carried_on : (text : List ℕ) → IsCarried half.answered scene half view text x.leftover x.handed
+    carried_on text = subst (λ (a : Answered). IsCarried a scene half view text x.leftover x.handed) (sym unanswered) silent
+
+    out_as_text : (part : List ℕ) → map Byte (x.text ++ part) ++ map Message x.handed ≡ view.written ++ map Byte part
+    out_as_text part =
+        ap (λ (h : List SentMessage). map Byte (x.text ++ part) ++ map Message h) silent.0.sent
+        ∙ (append-nil (map Byte (x.text ++ part))
+        ∙ (map-append Byte x.text part
+        ∙ ap (λ (l : List Output). l ++ map Byte part)
+        (sym (x.written ∙ (ap (λ (h : List SentMessage). map Byte x.text ++ map Message h) silent.0.sent ∙ append-nil (map Byte x.text))))))
+
+    text_moved : (out : Outcome) (part : List ℕ) (failures : ℕ) → failures ≡ failures_of out → Appends was.written now.written part → RoseBy failures was.failed now.failed
+        → TriesWrites was.writes now.writes (length part) (how_wrote failures (length part))
+        → CarriesOn scene.start now half.wire.input read (scene.before ++ (x.text ++ part)) (text_failures half.answered (stage.Over (ConnectionEnds out))) (talk_in half view x.leftover x.handed) half.spare_reads
+    text_moved out part failures count appends rose tries =
+        let P : ℕ → Type 0 = λ n. CarriesOn scene.start now half.wire.input read (scene.before ++ (x.text ++ part)) n (talk_in half view x.leftover x.handed) half.spare_reads in
+        subst P (count ∙ ap (λ (a : Answered). text_failures a (stage.Over (ConnectionEnds out))) (sym unanswered))
+        (subst (λ (l : List ℕ). CarriesOn scene.start now half.wire.input read l failures (talk_in half view x.leftover x.handed) half.spare_reads) (append_assoc scene.before x.text part)
+        (talk_written scene.start was now half.wire.input read (scene.before ++ x.text) part failures (talk_in half view x.leftover x.handed) half.spare_reads line same_left same_reads same_session appends rose tries))
+
+    text_out : (out : Outcome) → failures_of out ≡ 0 → after_session ended (said_in scene view) (is_by_input view.broken) view.arrived ≡ out
+        → Appends was.written now.written more → RoseBy 0 was.failed now.failed → TriesWrites was.writes now.writes (length more) wrote.Done → Goes scene now (ends_so half out) read view
+    text_out out none follows appends rose tries =
+        let gone = out_as_text more in
+        ends_with now out (x.text ++ more) x.handed (map Byte more) [] (text_moved out more 0 (sym none) appends rose tries) gone (append-nil (map Byte more) ∙ sym adds_it) (carried_on (x.text ++ more))
+        (inl (by_task out (map Byte (x.text ++ more) ++ map Message x.handed) follows (gone ∙ ap (λ (l : List Output). view.written ++ l) (sym adds_it))))
+
+    text_cut : (n : ℕ) → n < length more → Appends was.written now.written (take n more) → RoseBy 1 was.failed now.failed → TriesWrites was.writes now.writes n (wrote.Failed n)
+        → Goes scene now (ends_so half (outcome.WriteFailed n)) read view
+    text_cut n less appends rose tries =
+        let part : map Byte (take n more) ≡ take n adds = sym (take-map Byte n more) ∙ ap (λ (l : List Output). take n l) (sym adds_it) in
+        let gone : map Byte (x.text ++ take n more) ++ map Message x.handed ≡ view.written ++ take n adds = out_as_text (take n more) ∙ ap (λ (l : List Output). view.written ++ l) part in
+        ends_with now (outcome.WriteFailed n) (x.text ++ take n more) x.handed (take n adds) (drop n adds)
+        (text_moved (outcome.WriteFailed n) (take n more) 1 refl appends rose (tries_front was.writes now.writes n more less tries))
+        gone (take-append-drop n adds) (carried_on (x.text ++ take n more))
+        (inr (stops n (map Byte (x.text ++ take n more) ++ map Message x.handed)
+        (subst (λ (k : ℕ). n < k) (sym (ap (λ (l : List Output). length l) adds_it ∙ length-map more Byte)) less) gone))
+
+  -- a message is, in an open session
+  module _ (opened : half.answered ≡ Open) (message : SentMessage) (adds_it : adds ≡ Message message ∷ []) (now : LineState) (same : LeavesText was now) (answer : Put)
+      (told : now.session.calls ≡ was.session.calls ++ Send message answer ∷ []) (count : now.failed ≡ count_after was.failed (has_failed answer))
+      (coming : now.session.coming ≡ was.session.coming) (kept : now.session.leftover ≡ was.session.leftover) where
+    sent : (out : Outcome)
+        → CarriesOn scene.start now half.wire.input read (scene.before ++ x.text) (text_failures half.answered (stage.Over (ConnectionEnds out))) (talk_in half view x.leftover (x.handed ++ taken_by message answer)) half.spare_reads
+    sent out =
+        subst (λ (n : ℕ). CarriesOn scene.start now half.wire.input read (scene.before ++ x.text) n (talk_in half view x.leftover (x.handed ++ taken_by message answer)) half.spare_reads)
+        (ap (λ (a : Answered). text_failures a (stage.Over (ConnectionEnds out))) (sym opened))
+        (talk_sent scene.start was now half.wire.input read (scene.before ++ x.text) 0 (talk_in half view x.leftover x.handed)
+        (talk_in half view x.leftover (x.handed ++ taken_by message answer)) half.spare_reads line same message answer told count coming kept refl refl refl refl
+        scene.frames (subst (λ (a : Answered). IsCarried a scene half view x.text x.leftover x.handed) opened x.carried).kept)
+
+    sent_as : (out : Outcome) (result : Put) → answer ≡ result
+        → CarriesOn scene.start now half.wire.input read (scene.before ++ x.text) (text_failures half.answered (stage.Over (ConnectionEnds out))) (talk_in half view x.leftover (x.handed ++ taken_by message result)) half.spare_reads
+    sent_as out result e =
+        subst (λ (a : Put). CarriesOn scene.start now half.wire.input read (scene.before ++ x.text) (text_failures half.answered (stage.Over (ConnectionEnds out)))
+        (talk_in half view x.leftover (x.handed ++ taken_by message a)) half.spare_reads) e (sent out)
+
+    carried_with : (handed : List SentMessage) → IsCarried half.answered scene half view x.text x.leftover handed
+    carried_with handed =
+        subst (λ (a : Answered). IsCarried a scene half view x.text x.leftover handed) (sym opened)
+        (subst (λ (a : Answered). IsCarried a scene half view x.text x.leftover x.handed) opened x.carried)
+
+    out_with : (handed : List SentMessage) → map Byte x.text ++ map Message (x.handed ++ handed) ≡ view.written ++ map Message handed
+    out_with handed =
+        ap (λ (l : List Output). map Byte x.text ++ l) (map-append Message x.handed handed)
+        ∙ (sym (append_assoc (map Byte x.text) (map Message x.handed) (map Message handed)) ∙ ap (λ (l : List Output). l ++ map Message handed) (sym x.written))
+
+    message_out : answer ≡ put.Done → after_session ended (said_in scene view) (is_by_input view.broken) view.arrived ≡ outcome.Finished → Goes scene now (ends_so half outcome.Finished) read view
+    message_out e follows =
+        let handed : List SentMessage = x.handed ++ message ∷ [] in
+        let gone : map Byte x.text ++ map Message handed ≡ view.written ++ Message message ∷ [] = out_with (message ∷ []) in
+        ends_with now outcome.Finished x.text handed (Message message ∷ []) [] (sent_as outcome.Finished put.Done e) gone (sym adds_it) (carried_with handed)
+        (inl (by_task outcome.Finished (map Byte x.text ++ map Message handed) follows (gone ∙ ap (λ (l : List Output). view.written ++ l) (sym adds_it))))
+
+    message_cut : answer ≡ put.Failed → Goes scene now (ends_so half (outcome.WriteFailed 0)) read view
+    message_cut e =
+        let handed : List SentMessage = x.handed ++ [] in
+        let gone : map Byte x.text ++ map Message handed ≡ view.written ++ [] = out_with [] in
+        ends_with now (outcome.WriteFailed 0) x.text handed [] adds (sent_as (outcome.WriteFailed 0) put.Failed e) gone refl (carried_with handed)
+        (inr (stops 0 (map Byte x.text ++ map Message handed) (subst (λ (l : List Output). 0 < length l) (sym adds_it) (omega arith)) gone))
+
+    message_short : answer ≡ put.NoMemory → Goes scene now (ends_so half outcome.NoMemory) read view
+    message_short e =
+        let handed : List SentMessage = x.handed ++ [] in
+        let gone : map Byte x.text ++ map Message handed ≡ view.written ++ [] = out_with [] in
+        ends_with now outcome.NoMemory x.text handed [] adds (sent_as outcome.NoMemory put.NoMemory e) gone refl (carried_with handed)
+        (inr ([], append-nil (map Byte x.text ++ map Message handed) ∙ (gone ∙ (append-nil view.written ∙ at_end.0.written))))
+
+-- ---- by how the task ended
+
+-- a task that ended by its limit of turns
+pub ends_idle : (scene : SessionScene) (was : LineState) (half : WebSocketHalf) (read : List ℕ) (view : ConnView Msg Output) → Invariant scene was half read view → half.stage ≡ stage.Ending kind.Idle
+    → Goes scene was (ends_so half outcome.Idle) read view
+ends_idle scene was half read view x is = ends_silent scene was half read view x kind.Idle is outcome.Idle refl refl refl
+
+-- one that ended by itself: an open session is closed with this code
+abbrev pub EndsWith : WebSocketHalf → ℕ → Type 0
+EndsWith half code = ((half.stage ≡ stage.Ending kind.Returned) × (code ≡ 1000)) ⊎ ((half.stage ≡ stage.Ending kind.Faulted) × (code ≡ 1011))
+
+pub ends_itself : (half : WebSocketHalf) → (half.stage ≡ stage.Ending kind.Returned) ⊎ (half.stage ≡ stage.Ending kind.Faulted) → (code : ℕ) × EndsWith half code
+ends_itself half (inl is) = (1000, inl (is, refl))
+ends_itself half (inr is) = (1011, inr (is, refl))
+
+record Own (half : WebSocketHalf) (code : ℕ) : Type 0 where
+  ended : EndKind
+  at : half.stage ≡ stage.Ending ended
+  adds : (facts : Facts) (events : List Outgoing) (broken : Bool) → session_ending facts events ended broken ≡ ending_of code broken (accepted_session facts events)
+  follows : (said : List Outgoing) (input_broke : Bool) (received : List Msg) → after_session ended said input_broke received ≡ session_outcome said input_broke received
+
+own : (half : WebSocketHalf) (code : ℕ) → EndsWith half code → Own half code
+own half code (inl (is, e)) = record {
+  ended = kind.Returned;
+  at = is;
+  adds = λ facts events broken. ap (λ (c : ℕ). ending_of c broken (accepted_session facts events)) (sym e);
+  follows = λ said input_broke received. refl;
+}
+own half code (inr (is, e)) = record {
+  ended = kind.Faulted;
+  at = is;
+  adds = λ facts events broken. ap (λ (c : ℕ). ending_of c broken (accepted_session facts events)) (sym e);
+  follows = λ said input_broke received. refl;
+}
+
+outcome_if : (b : Bool) → (if b then outcome.Finished else outcome.InputBroke) ≡ outcome_after b
+outcome_if true = refl
+outcome_if false = refl
+
+never_fails : (b : Bool) → failures_of (outcome_after b) ≡ 0
+never_fails true = refl
+never_fails false = refl
+
+module _ (scene : SessionScene) (was : LineState) (half : WebSocketHalf) (read : List ℕ) (view : ConnView Msg Output) (x : Invariant scene was half read view)
+    (code : ℕ) (ends : EndsWith half code) where
+  o : Own half code
+  o = own half code ends
+
+  talks : Talks scene half view
+  talks = (at_end scene was half read view x o.ended o.at).0
+
+  well : EndsWell (said_in scene view) → Goes scene was (ends_so half outcome.Finished) read view
+  well w =
+      let input_broke = is_by_input view.broken in
+      ends_silent scene was half read view x o.ended o.at outcome.Finished refl (o.adds scene.facts (taken_of view) input_broke ∙ w.adds code input_broke)
+      (o.follows (said_in scene view) input_broke view.arrived ∙ w.follows input_broke view.arrived)
+
+  pub ends_refused : half.answered ≡ Refused → Goes scene was (ends_so half outcome.Finished) read view
+  ends_refused a = well (was_refused (said_in scene view) (sym talks.answered ∙ a))
+
+  pub ends_closed : half.answered ≡ Closed → Goes scene was (ends_so half outcome.Finished) read view
+  ends_closed a = well (was_closed (said_in scene view) (sym talks.answered ∙ a))
+
+  -- ---- no answer, or a denial
+
+  module _ (unanswered : half.answered ≡ Unanswered) (progress : Progress)
+      (is_progress : (facts : Facts) (events : List Outgoing) → standing.StandsForSession half.text facts events → progress ≡ denial_progress facts events) where
+    so_far : progress ≡ denial_progress scene.facts (said_in scene view)
+    so_far = is_progress scene.facts (said_in scene view) (talks.text unanswered)
+
+    pub ends_denied : (progress ≡ Nothing → ⊥) → Goes scene was (ends_so half outcome.Finished) read view
+    ends_denied some = well (one_begun scene.facts (said_in scene view) talks.judged.lawful (sym talks.answered ∙ unanswered) (λ none. some (so_far ∙ none)))
+
+    module _ (nothing : progress ≡ Nothing) (text : List ℕ) (text_is : text ≡ refusal_text 500) (now : LineState)
+        (same_left : now.left ≡ was.left) (same_reads : now.reads ≡ was.reads) (same_session : now.session ≡ was.session) where
+      little : EndsRefused (said_in scene view)
+      little = none_begun scene.facts (said_in scene view) talks.judged.lawful (sym so_far ∙ nothing)
+
+      adds_refusal : session_ending scene.facts (taken_of view) o.ended (is_by_input view.broken) ≡ map Byte text
+      adds_refusal =
+          let input_broke = is_by_input view.broken in
+          o.adds scene.facts (taken_of view) input_broke ∙ (little.adds code input_broke ∙ ap (λ (l : List ℕ). map Byte l) (sym text_is))
+
+      pub answered_whole : Appends was.written now.written text → RoseBy 0 was.failed now.failed → TriesWrites was.writes now.writes (length text) wrote.Done
+          → Goes scene now (ends_so half (outcome.Refused 500)) read view
+      answered_whole appends rose tries =
+          let input_broke = is_by_input view.broken in
+          text_out scene was half read view x o.ended o.at unanswered text adds_refusal now same_left same_reads same_session (outcome.Refused 500) refl
+          (o.follows (said_in scene view) input_broke view.arrived ∙ little.follows input_broke view.arrived) appends rose tries
+
+      pub answered_part : (n : ℕ) → n < length text → Appends was.written now.written (take n text) → RoseBy 1 was.failed now.failed → TriesWrites was.writes now.writes n (wrote.Failed n)
+          → Goes scene now (ends_so half (outcome.WriteFailed n)) read view
+      answered_part n less appends rose tries =
+          text_cut scene was half read view x o.ended o.at unanswered text adds_refusal now same_left same_reads same_session n less appends rose tries
+
+  -- ---- an open session
+
+  module _ (opened : half.answered ≡ Open) where
+    open_still : EndsOpen (said_in scene view)
+    open_still = left_open (said_in scene view) (sym talks.answered ∙ opened)
+
+    adds_by : (b : Bool) → half.input_broke ≡ b → session_ending scene.facts (taken_of view) o.ended (is_by_input view.broken) ≡ (if b then [] else Message (item.Close code []) ∷ [])
+    adds_by b e =
+        let input_broke = is_by_input view.broken in
+        o.adds scene.facts (taken_of view) input_broke ∙ (open_still.adds code input_broke ∙ ap (λ (c : Bool). if c then [] else Message (item.Close code []) ∷ []) (sym talks.input_broke ∙ e))
+
+    follows_by : (b : Bool) → half.input_broke ≡ b → after_session o.ended (said_in scene view) (is_by_input view.broken) view.arrived ≡ open_outcome b view.arrived
+    follows_by b e =
+        let input_broke = is_by_input view.broken in
+        o.follows (said_in scene view) input_broke view.arrived ∙ (open_still.follows input_broke view.arrived ∙ ap (λ (c : Bool). open_outcome c view.arrived) (sym talks.input_broke ∙ e))
+
+    -- a disconnect was offered before
+    pub ends_left : half.input_broke ≡ true → (out : Outcome) → out ≡ outcome_after half.client_closed → Goes scene was (ends_so half out) read view
+    ends_left input_broke out is =
+        ends_silent scene was half read view x o.ended o.at out (ap failures_of is ∙ never_fails half.client_closed) (adds_by true input_broke)
+        (follows_by true input_broke ∙ (ap (λ (c : Bool). if c then outcome.Finished else outcome.InputBroke) (sym (talks.closed opened)) ∙ (outcome_if half.client_closed ∙ sym is)))
+
+    module _ (unbroke : half.input_broke ≡ false) (reason : List ℕ) (none : reason ≡ []) (now : LineState) (same : LeavesText was now) (answer : Put)
+        (told : now.session.calls ≡ was.session.calls ++ Send (item.Close code reason) answer ∷ []) (count : now.failed ≡ count_after was.failed (has_failed answer))
+        (coming : now.session.coming ≡ was.session.coming) (kept : now.session.leftover ≡ was.session.leftover) where
+      told_close : now.session.calls ≡ was.session.calls ++ Send (item.Close code []) answer ∷ []
+      told_close = told ∙ ap (λ (r : List ℕ). was.session.calls ++ Send (item.Close code r) answer ∷ []) none
+
+      pub close_done : answer ≡ put.Done → Goes scene now (ends_so half outcome.Finished) read view
+      close_done e =
+          message_out scene was half read view x o.ended o.at opened (item.Close code []) (adds_by false unbroke) now same answer told_close count coming kept e (follows_by false unbroke)
+
+      pub close_failed : answer ≡ put.Failed → Goes scene now (ends_so half (outcome.WriteFailed 0)) read view
+      close_failed e = message_cut scene was half read view x o.ended o.at opened (item.Close code []) (adds_by false unbroke) now same answer told_close count coming kept e
+
+      pub close_short : answer ≡ put.NoMemory → Goes scene now (ends_so half outcome.NoMemory) read view
+      close_short e = message_short scene was half read view x o.ended o.at opened (item.Close code []) (adds_by false unbroke) now same answer told_close count coming kept e

@@ -1,0 +1,324 @@
+-- The steps of a session's half at its own end of the pair: it offers what is due, and the disconnect of a cut.
+use Rattle.std.proofs.Common.{◌≡◌, ℕ, Bool, true, false, List, [], ◌∷◌, ◌++◌, refl, sym, ap, ◌∙◌, subst, inl, inr, append-nil, Option, Some, None, if◌then◌else◌}
+use Rattle.std.specs.Prelude.{◌⊎◌, not, is_some, IsTrue}
+use Rattle.std.proofs.lemmas.List.Sums.{fold-append}
+use mathlib.Core.List.{IsPrefix}
+use Rattle.asgi_types.specs.declared.end_kind.EndKind.{EndKind}
+use Rattle.asgi_types.specs.declared.facts.Facts.{Facts}
+use Rattle.asgi_types.specs.declared.incoming.Incoming.{Incoming}
+use Rattle.asgi_types.specs.declared.incoming.Incoming.TheVariants.{WsDisconnect}
+use Rattle.asgi_types.specs.declared.outgoing.Outgoing.{Outgoing}
+use Rattle.asgi_types.specs.declared.scope.Kind.TheVariants.{WebSocket}
+use Rattle.asgi_protocol.specs.Passing.{passes}
+use Rattle.asgi_pipes.specs.declared.ends.ConnEnd as conn_end
+use Rattle.asgi_pipes.specs.declared.items.OutItem.{OutItem}
+use Rattle.asgi_pipes.specs.declared.items.OutItem.TheVariants.{Event, Ended}
+use Rattle.asgi_exchange.specs.Calls.{IsViewOf}
+use Rattle.asgi_exchange.specs.Halves.{ConnKeeps, IsOffered}
+use Rattle.asgi_exchange.specs.Items.{end_of, events_of}
+use Rattle.asgi_exchange.specs.Messages.{has_close, session_events}
+use Rattle.asgi_exchange.specs.Session.{Output, with_session_event, accepted_session, session_output, session_ending}
+use Rattle.asgi_exchange.specs.Steps.{is_by_input, is_by_cut}
+use Rattle.asgi_exchange.specs.Views.{Break, ByInput, ByCut, ConnView, output, added_by, taken_of}
+use Rattle.asgi_exchange.proofs.EventLemmas.{events_append, end_event}
+use Rattle.asgi_exchange.proofs.ListLemmas.{prefix_self, prefix_trans}
+use Rattle.asgi_exchange.proofs.SessionLemmas.{web_socket_is_steady}
+use Rattle.asgi_ws.specs.declared.messages.SentMessage.{SentMessage}
+use Rattle.asgi_ws.specs.declared.messages.Msg.{Msg}
+use Rattle.asgi_conversation.specs.declared.following.NextStep.TheVariants.{ConnectionEnds}
+use Rattle.asgi_conversation.specs.declared.report.Outcome.{Outcome}
+use Rattle.asgi_conversation.specs.declared.report.Outcome.TheVariants as outcome
+use Rattle.asgi_conversation.specs.Sessions.{IsNextOutput, StopsSession, handshake_of}
+use Rattle.asgi_halves.specs.declared.stage.Stage.{Stage}
+use Rattle.asgi_halves.specs.declared.stage.Stage.TheVariants as stage
+use Rattle.asgi_halves.specs.declared.session_half.Answered.{Answered}
+use Rattle.asgi_halves.specs.declared.session_half.Answered.TheVariants.{Unanswered, Open, Closed, Refused}
+use Rattle.asgi_halves.specs.declared.session_half.Due.{Due}
+use Rattle.asgi_halves.specs.declared.session_half.Due.TheVariants as due
+use Rattle.asgi_halves.specs.declared.session_half.WebSocketHalf.{WebSocketHalf}
+use Rattle.asgi_halves.specs.Half.{failures_at}
+use Rattle.asgi_run.specs.Lines.{LineState}
+use Rattle.asgi_halves.specs.WebSocketHalf.{SessionScene, Invariant, Talks, IsAt, IsCarried, IsCutShort, IsCutShortAs, IsDue, exchange_of, known, output_in, said_in, talk_in, text_failures}
+use Rattle.asgi_conversation.specs.OutcomeClasses.{OutcomeClass, Uncut, ByWrite, GivenUp, Lacking, Unbegun, class_of}
+use Rattle.asgi_halves.specs.WebSocketHalf.{CarriesOn}
+use Rattle.asgi_conversation.proofs.NextLemmas.{next_on}
+use Rattle.asgi_halves.specs.Kinds.{IsCutOff}
+
+-- ---- what was taken grows
+
+-- what a judge passes of a list begins what it passes of a longer one
+pub accepted_grows : (facts : Facts) (events : List Outgoing) (event : Outgoing) → IsPrefix (accepted_session facts events) (accepted_session facts (events ++ event ∷ []))
+accepted_grows facts events event =
+    let r = by (passes WebSocket facts (accepted_session facts events) event) in
+    (r.0, r.1 ∙ sym (fold-append (with_session_event facts) [] events (event ∷ [])))
+  where
+    by : (b : Bool) → IsPrefix (accepted_session facts events) (if b then accepted_session facts events ++ event ∷ [] else accepted_session facts events)
+    by true = (event ∷ [], refl)
+    by false = prefix_self (accepted_session facts events)
+
+-- so do the items of a queue, of which some are no events
+pub accepted_after : (facts : Facts) (got : List OutItem) (item : OutItem) → IsPrefix (accepted_session facts (events_of got)) (accepted_session facts (events_of (got ++ item ∷ [])))
+accepted_after facts got (Event event) =
+    subst (λ (l : List Outgoing). IsPrefix (accepted_session facts (events_of got)) (accepted_session facts l)) (sym (events_append got (Event event ∷ []))) (accepted_grows facts (events_of got) event)
+accepted_after facts got (Ended kind) =
+    subst (λ (l : List Outgoing). IsPrefix (accepted_session facts (events_of got)) (accepted_session facts l)) (sym (events_append got (Ended kind ∷ []) ∙ append-nil (events_of got)))
+    (prefix_self (accepted_session facts (events_of got)))
+
+output_after : (scene : SessionScene) (got : List OutItem) (item : OutItem)
+    → IsPrefix (session_output (handshake_of scene.facts) scene.facts (events_of got)) (session_output (handshake_of scene.facts) scene.facts (events_of (got ++ item ∷ [])))
+output_after scene got (Event event) =
+    subst (λ (l : List Outgoing). IsPrefix (session_output (handshake_of scene.facts) scene.facts (events_of got)) (session_output (handshake_of scene.facts) scene.facts l))
+    (sym (events_append got (Event event ∷ []))) ((web_socket_is_steady (handshake_of scene.facts) scene.facts scene.limits.ring).text_grows (events_of got) event)
+output_after scene got (Ended kind) =
+    subst (λ (l : List Outgoing). IsPrefix (session_output (handshake_of scene.facts) scene.facts (events_of got)) (session_output (handshake_of scene.facts) scene.facts l))
+    (sym (events_append got (Ended kind ∷ []) ∙ append-nil (events_of got))) (prefix_self (session_output (handshake_of scene.facts) scene.facts (events_of got)))
+
+-- ---- what an end does not touch
+
+-- what the line carries, if no message arrived and what was sent goes on
+pub carried_on : (answered : Answered) (scene : SessionScene) (half later : WebSocketHalf) (view next : ConnView Msg Output) (text : List ℕ) (leftover : Option (List ℕ)) (handed : List SentMessage)
+    → later.leftover ≡ half.leftover → later.is_over ≡ half.is_over → later.client_closed ≡ half.client_closed → next.arrived ≡ view.arrived → IsPrefix (said_in scene view) (said_in scene next)
+    → IsCarried answered scene half view text leftover handed → IsCarried answered scene later next text leftover handed
+carried_on Unanswered scene half later view next text leftover handed kept over closed arrived more c = (
+  record { kept = c.0.kept; received = arrived ∙ c.0.received; over = over ∙ c.0.over; unclosed = closed ∙ c.0.unclosed; sent = c.0.sent },
+  ap (λ v. v.items) kept ∙ c.1,
+)
+carried_on Refused scene half later view next text leftover handed kept over closed arrived more c =
+    record { kept = c.kept; received = arrived ∙ c.received; over = over ∙ c.over; unclosed = closed ∙ c.unclosed; sent = c.sent }
+carried_on Open scene half later view next text leftover handed kept over closed arrived more c =
+    record { kept = c.kept; subprotocol = c.subprotocol; headers = c.headers; events = c.events ++ more.0; said = sym more.1 ∙ ap (λ (l : List Outgoing). l ++ more.0) c.said; text_is = c.text_is }
+carried_on Closed scene half later view next text leftover handed kept over closed arrived more c =
+    record { kept = c.kept; subprotocol = c.subprotocol; headers = c.headers; events = c.events ++ more.0; said = sym more.1 ∙ ap (λ (l : List Outgoing). l ++ more.0) c.said; text_is = c.text_is }
+
+-- a stage with the same count of failed writes
+pub same_failures : (answered : Answered) (s t : Stage) → failures_at s ≡ failures_at t → text_failures answered s ≡ text_failures answered t
+same_failures Unanswered s t e = e
+same_failures Refused s t e = e
+same_failures Open s t e = refl
+same_failures Closed s t e = refl
+
+unbroken : (b : Option Break) → is_by_cut b ≡ false → is_by_input b ≡ false → b ≡ None
+unbroken None c i = refl
+unbroken (Some ByInput) c i = cc
+unbroken (Some ByCut) c i = cc
+
+module _ (scene : SessionScene) (line : LineState) (half : WebSocketHalf) (read : List ℕ) (view : ConnView Msg Output) (x : Invariant scene line half read view) where
+  -- The half's invariant holds in a stage again, if the line is the same.
+  pub stands_at : (d : Due) (b : Bool) (s : Stage) (offered : List Incoming) (broken : Option Break) (got : List OutItem)
+      → failures_at half.stage ≡ failures_at s
+      → IsPrefix (said_in scene view) (said_in scene (record view { offered = offered; broken = broken; got = got }))
+      → ConnKeeps (exchange_of scene) (record view { offered = offered; broken = broken; got = got })
+      → (is_by_input broken ≡ true → (has_close view.arrived ≡ true) ⊎ (half.is_over ≡ true))
+      → IsAt s scene (record half { due = d; input_broke = b; stage = s }) (record view { offered = offered; broken = broken; got = got })
+      → Invariant scene line (record half { due = d; input_broke = b; stage = s }) read (record view { offered = offered; broken = broken; got = got })
+  stands_at d b s offered broken got failures more keeps breaks at = record {
+    fixed = x.fixed;
+    text = x.text;
+    leftover = x.leftover;
+    handed = x.handed;
+    line = subst (λ (n : ℕ). CarriesOn scene.start line half.wire.input read (scene.before ++ x.text) n (talk_in half view x.leftover x.handed) half.spare_reads) (same_failures half.answered half.stage s failures) x.line;
+    written = x.written;
+    carried = carried_on half.answered scene half (record half { due = d; input_broke = b; stage = s }) view (record view { offered = offered; broken = broken; got = got }) x.text x.leftover x.handed refl refl refl refl more x.carried;
+    keeps = keeps;
+    breaks = breaks;
+    stage = at;
+  }
+
+  -- ---- what is due is offered
+
+  module _ (is : half.stage ≡ stage.Running) where
+    runs : Talks scene half view × (end_of view.got ≡ None) × IsDue half.due half view
+    runs = subst (λ (s : Stage). IsAt s scene half view) is x.stage
+
+    -- all that was taken is out, whatever is offered
+    talks_on : (d : Due) (b : Bool) (offered : List Incoming) (broken : Option Break) → is_by_cut broken ≡ false → b ≡ is_by_input broken
+        → Talks scene (record half { due = d; input_broke = b }) (record view { offered = offered; broken = broken })
+    talks_on d b offered broken uncut input_broke =
+        let t = runs.0 in
+        record { uncut = uncut; input_broke = input_broke; judged = t.judged; answered = t.answered; text = t.text; written = t.written; empty = t.empty; closed = t.closed }
+
+    runs_on : (d : Due) (b : Bool) (offered : List Incoming) (broken : Option Break)
+        → IsOffered (exchange_of scene) view.arrived offered broken → is_by_cut broken ≡ false → b ≡ is_by_input broken
+        → (is_by_input broken ≡ true → (has_close view.arrived ≡ true) ⊎ (half.is_over ≡ true))
+        → IsDue d (record half { due = d; input_broke = b }) (record view { offered = offered; broken = broken })
+        → Invariant scene line (record half { due = d; input_broke = b }) read (record view { offered = offered; broken = broken })
+    runs_on d b offered broken offers uncut input_broke breaks is_due =
+        stands_at d b half.stage offered broken view.got refl (prefix_self (said_in scene view)) (record { offered = offers; written = x.keeps.written }) breaks
+        (subst (λ (s : Stage). IsAt s scene (record half { due = d; input_broke = b }) (record view { offered = offered; broken = broken })) (sym is) (talks_on d b offered broken uncut input_broke, runs.1, is_due))
+
+    none_broke : half.input_broke ≡ false → view.broken ≡ None
+    none_broke unbroke = unbroken view.broken runs.0.uncut (sym runs.0.input_broke ∙ unbroke)
+
+    -- the event that waits is offered
+    pub offered_on : (event : Incoming) → half.due ≡ due.Waits event
+        → Invariant scene line (record half { due = due.Nothing }) read (record view { offered = view.offered ++ event ∷ [] })
+    offered_on event waits =
+        let w = subst (λ (d : Due). IsDue d half view) waits runs.2 in
+        let none = none_broke w.0 in
+        runs_on due.Nothing half.input_broke (view.offered ++ event ∷ []) view.broken
+        (subst (λ (b : Option Break). IsOffered (exchange_of scene) view.arrived (view.offered ++ event ∷ []) b) (sym none) ([], append-nil (view.offered ++ event ∷ []) ∙ w.1))
+        runs.0.uncut runs.0.input_broke x.breaks (λ shut unbroke. (w.1, w.2))
+
+    -- the disconnect is
+    pub left_on : (disconnect : Incoming) → half.due ≡ due.Left disconnect
+        → (view.broken ≡ None) × Invariant scene line (record half { due = due.Nothing; input_broke = true }) read (record view { offered = view.offered ++ disconnect ∷ []; broken = Some ByInput })
+    left_on disconnect left =
+        let w = subst (λ (d : Due). IsDue d half view) left runs.2 in (
+          none_broke w.0,
+          runs_on due.Nothing true (view.offered ++ disconnect ∷ []) (Some ByInput)
+              (ap (λ (l : List Incoming). l ++ disconnect ∷ []) w.1 ∙ ap (λ (e : Incoming). session_events view.arrived ++ e ∷ []) w.2)
+              refl refl (λ e. w.3) (λ shut unbroke. cc),
+        )
+
+    -- the same, with the clauses of the end's calls: what is due was taken out of the half before
+    module _ {E : Type 0} (C : conn_end.Ghosts E) (old new : E) (taken left : Due) (value : taken ≡ half.due) (after : left ≡ due.Nothing) (v : IsViewOf C old view) where
+      pub offered_view : (event : Incoming) → taken ≡ due.Waits event → C.offered new ≡ C.offered old ++ event ∷ [] → C.is_broken new ≡ C.is_broken old → C.got new ≡ C.got old
+          → (later : ConnView Msg Output) × Invariant scene line (record half { due = left }) read later × IsViewOf C new later
+      offered_view event waits offered broken got =
+          let later : ConnView Msg Output = record view { offered = view.offered ++ event ∷ [] } in (
+            later,
+            subst (λ (d : Due). Invariant scene line (record half { due = d }) read later) (sym after) (offered_on event (sym value ∙ waits)),
+            (ap (λ (l : List Incoming). l ++ event ∷ []) v.0 ∙ sym offered, v.1 ∙ sym broken, v.2 ∙ sym got),
+          )
+
+      pub left_view : (first : Bool) (disconnect : Incoming) → taken ≡ due.Left disconnect
+          → first ≡ not (C.is_broken old) → (IsTrue first → C.offered new ≡ C.offered old ++ disconnect ∷ []) → C.is_broken new ≡ true → C.got new ≡ C.got old
+          → (later : ConnView Msg Output) × Invariant scene line (record half { due = left; input_broke = true }) read later × IsViewOf C new later
+      left_view first disconnect is_left is_first on_first broken got =
+          let on = left_on disconnect (sym value ∙ is_left) in
+          let later : ConnView Msg Output = record view { offered = view.offered ++ disconnect ∷ []; broken = Some ByInput } in
+          let unbroken : C.is_broken old ≡ false = sym v.1 ∙ ap is_some on.0 in (
+            later,
+            subst (λ (d : Due). Invariant scene line (record half { due = d; input_broke = true }) read later) (sym after) on.1,
+            (ap (λ (l : List Incoming). l ++ disconnect ∷ []) v.0 ∙ sym (on_first (is_first ∙ ap not unbroken)), sym broken, v.2 ∙ sym got),
+          )
+
+      -- no place is free, and it is due again
+      pub waits_view : (event back : Incoming) → taken ≡ due.Waits event → back ≡ event → C.offered new ≡ C.offered old → C.is_broken new ≡ C.is_broken old → C.got new ≡ C.got old
+          → (later : ConnView Msg Output) × Invariant scene line (record half { due = due.Waits back }) read later × IsViewOf C new later
+      waits_view event back waits same offered broken got = (
+        view,
+        subst (λ (d : Due). Invariant scene line (record half { due = d }) read view) (sym value ∙ waits ∙ ap (λ (e : Incoming). due.Waits e) (sym same)) x,
+        (v.0 ∙ sym offered, v.1 ∙ sym broken, v.2 ∙ sym got),
+      )
+
+      -- nothing is due
+      pub none_view : taken ≡ due.Nothing → (later : ConnView Msg Output) × Invariant scene line (record half { due = left }) read later × IsViewOf C old later
+      none_view none = (view, subst (λ (d : Due). Invariant scene line (record half { due = d }) read view) (sym value ∙ none ∙ sym after) x, v)
+
+-- ---- the connection is cut short
+
+-- what is out does not depend on a disconnect of a cut, nor on what is taken after it
+pub short_on : (scene : SessionScene) (view : ConnView Msg Output) (out : Outcome) (offered : List Incoming) (broken : Option Break) → is_by_input broken ≡ is_by_input view.broken
+    → IsCutShort scene view out → IsCutShort scene (record view { offered = offered; broken = broken }) out
+short_on scene view out offered broken same short = by (class_of out) short
+  where
+    by : (k : OutcomeClass) → IsCutShortAs k scene view → IsCutShortAs k scene (record view { offered = offered; broken = broken })
+    by Uncut short = short
+    by (ByWrite n) short = subst (λ (b : Bool). StopsSession n (record (known scene view) { input_broke = b }) view.written) (sym same) short
+    by GivenUp short = short
+    by Lacking short = short
+    by Unbegun short = short
+
+pub short_after : (scene : SessionScene) (view : ConnView Msg Output) (out : Outcome) (item : OutItem) → end_of view.got ≡ None
+    → IsCutShort scene view out → IsCutShort scene (record view { got = view.got ++ item ∷ [] }) out
+short_after scene view out item none short = by (class_of out) short
+  where
+    front : IsPrefix view.written (output_in scene view) → IsPrefix view.written (output_in scene (record view { got = view.got ++ item ∷ [] }))
+    front short = prefix_trans view.written (output_in scene view) (output_in scene (record view { got = view.got ++ item ∷ [] })) short (output_after scene view.got item)
+
+    by : (k : OutcomeClass) → IsCutShortAs k scene view → IsCutShortAs k scene (record view { got = view.got ++ item ∷ [] })
+    by Uncut short = absurd short
+    by (ByWrite n) short =
+        let last = end_of (view.got ++ item ∷ []) in
+        subst (λ (l : List Outgoing). StopsSession n (record (known scene view) { said = l; ended = last }) view.written) (sym (events_append view.got (item ∷ [])))
+        (record {
+          out = short.out;
+          more = short.more;
+          is_next = next_on (session_output (handshake_of scene.facts) scene.facts) (λ (k : EndKind). session_ending scene.facts (events_of view.got) k (is_by_input view.broken))
+              (λ (k : EndKind). session_ending scene.facts (events_of view.got ++ events_of (item ∷ [])) k (is_by_input view.broken))
+              (known scene view) (events_of view.got) (events_of (item ∷ [])) last short.out short.more
+              (subst (λ (o : Option EndKind). IsNextOutput (record (known scene view) { ended = o }) short.out short.more) none short.is_next);
+          within = short.within;
+          written_is = short.written_is;
+        })
+    by GivenUp short = front short
+    by Lacking short = front short
+    by Unbegun short = absurd short
+
+-- the disconnect of a cut is a beginning of what is due, and that
+offers_of_cut : (scene : SessionScene) (view : ConnView Msg Output) → view.broken ≡ None → ConnKeeps (exchange_of scene) view
+    → ConnKeeps (exchange_of scene) (record view { offered = view.offered ++ WsDisconnect 1006 [] ∷ []; broken = Some ByCut })
+offers_of_cut scene view none keeps = record {
+  offered = (view.offered, subst (λ (b : Option Break). IsOffered (exchange_of scene) view.arrived view.offered b) none keeps.offered, refl);
+  written = keeps.written;
+}
+
+module _ (scene : SessionScene) (line : LineState) (half : WebSocketHalf) (read : List ℕ) (view : ConnView Msg Output) (x : Invariant scene line half read view) where
+  -- Cut short in another stage, the half's invariant holds again.
+  stands_cut : (out : Outcome) (s : Stage) → failures_at half.stage ≡ failures_at s → IsCutShort scene view out
+      → ((v : ConnView Msg Output) → IsCutShort scene v out → v.got ≡ view.got → IsAt s scene (record half { stage = s }) v)
+      → (later : ConnView Msg Output) → IsCutOff (WsDisconnect 1006 []) view later → Invariant scene line (record half { stage = s }) read later
+  stands_cut out s failures short at later (inl e) =
+      subst (λ (v : ConnView Msg Output). Invariant scene line (record half { stage = s }) read v) (sym e)
+      (stands_at scene line half read view x half.due half.input_broke s view.offered view.broken view.got failures (prefix_self (said_in scene view)) x.keeps x.breaks (at view short refl))
+  stands_cut out s failures short at later (inr (none, e)) =
+      let offered = view.offered ++ WsDisconnect 1006 [] ∷ [] in
+      subst (λ (v : ConnView Msg Output). Invariant scene line (record half { stage = s }) read v) (sym e)
+      (stands_at scene line half read view x half.due half.input_broke s offered (Some ByCut) view.got failures (prefix_self (said_in scene view)) (offers_of_cut scene view none x.keeps) (λ b. cc)
+      (at (record view { offered = offered; broken = Some ByCut }) (short_on scene view out offered (Some ByCut) (sym (ap is_by_input none)) short) refl))
+
+  -- the exchange is given up when all that was taken is written
+  stops_here : Talks scene half view → failures_at half.stage ≡ 0 → (later : ConnView Msg Output) → IsCutOff (WsDisconnect 1006 []) view later
+      → Invariant scene line (record half { stage = stage.Over (ConnectionEnds outcome.Idle) }) read later
+  stops_here t none later off =
+      stands_cut outcome.Idle (stage.Over (ConnectionEnds outcome.Idle)) none ([], append-nil view.written ∙ t.written) (λ v s e. inr s) later off
+
+  pub stops_running : half.stage ≡ stage.Running → (new : WebSocketHalf) → new ≡ record half { stage = stage.Over (ConnectionEnds outcome.Idle) } → (later : ConnView Msg Output) → IsCutOff (WsDisconnect 1006 []) view later
+      → Invariant scene line new read later
+  stops_running is new same later off =
+      subst (λ (h : WebSocketHalf). Invariant scene line h read later) (sym same) (stops_here (runs scene line half read view x is).0 (ap failures_at is) later off)
+
+  pub stops_ending : (kind : EndKind) → half.stage ≡ stage.Ending kind → (new : WebSocketHalf) → new ≡ record half { stage = stage.Over (ConnectionEnds outcome.Idle) } → (later : ConnView Msg Output)
+      → IsCutOff (WsDisconnect 1006 []) view later → Invariant scene line new read later
+  stops_ending kind is new same later off =
+      let at = subst (λ (s : Stage). IsAt s scene half view) is x.stage in
+      subst (λ (h : WebSocketHalf). Invariant scene line h read later) (sym same) (stops_here at.0 (ap failures_at is) later off)
+
+  module _ (out : Outcome) (is : half.stage ≡ stage.Cut out) where
+    unended : IsCutShort scene view out × (end_of view.got ≡ None)
+    unended = subst (λ (s : Stage). IsAt s scene half view) is x.stage
+
+    pub cut_stops : (new : WebSocketHalf) → new ≡ record half { stage = stage.Over (ConnectionEnds out) } → (later : ConnView Msg Output) → IsCutOff (WsDisconnect 1006 []) view later → Invariant scene line new read later
+    cut_stops new same later off =
+        subst (λ (h : WebSocketHalf). Invariant scene line h read later) (sym same) (stands_cut out (stage.Over (ConnectionEnds out)) (ap failures_at is) unended.0 (λ v s e. inr s) later off)
+
+    -- the disconnect is offered, and the end of the task is awaited
+    pub cut_waits : (later : ConnView Msg Output) → IsCutOff (WsDisconnect 1006 []) view later → Invariant scene line half read later
+    cut_waits later off =
+        stands_cut out half.stage refl unended.0 (λ v s e. subst (λ (t : Stage). IsAt t scene half v) (sym is) (s, ap end_of e ∙ unended.1)) later off
+
+    -- ---- what is taken is dropped
+
+    keeps_after : (item : OutItem) → ConnKeeps (exchange_of scene) (record view { got = view.got ++ item ∷ [] })
+    keeps_after item =
+        let later : ConnView Msg Output = record view { got = view.got ++ item ∷ [] } in
+        let p = x.keeps.written in
+        let whole : view.written ++ p.0 ≡ output_in scene view =
+        p.1 ∙ (ap (λ (o : Option EndKind). output_in scene view ++ added_by (exchange_of scene) (taken_of view) o view.broken_first view.arrived) unended.1 ∙ append-nil (output_in scene view)) in
+        let more = prefix_trans view.written (output_in scene view) (output_in scene later) (p.0, whole) (output_after scene view.got item) in
+        record {
+          offered = x.keeps.offered;
+          written = prefix_trans view.written (output_in scene later) (output (exchange_of scene) later) more (added_by (exchange_of scene) (taken_of later) (end_of later.got) later.broken_first later.arrived, refl);
+        }
+
+    pub took_event : (event : Outgoing) → Invariant scene line half read (record view { got = view.got ++ Event event ∷ [] })
+    took_event event =
+        stands_at scene line half read view x half.due half.input_broke half.stage view.offered view.broken (view.got ++ Event event ∷ []) refl (accepted_after scene.facts view.got (Event event)) (keeps_after (Event event)) x.breaks
+        (subst (λ (s : Stage). IsAt s scene half (record view { got = view.got ++ Event event ∷ [] })) (sym is)
+        (short_after scene view out (Event event) unended.1 unended.0, end_event view.got event ∙ unended.1))
+
+    pub took_end : (kind : EndKind) → Invariant scene line (record half { stage = stage.Over (ConnectionEnds out) }) read (record view { got = view.got ++ Ended kind ∷ [] })
+    took_end kind =
+        stands_at scene line half read view x half.due half.input_broke (stage.Over (ConnectionEnds out)) view.offered view.broken (view.got ++ Ended kind ∷ []) (ap failures_at is) (accepted_after scene.facts view.got (Ended kind))
+        (keeps_after (Ended kind)) x.breaks (inr (short_after scene view out (Ended kind) unended.1 unended.0))

@@ -1,0 +1,510 @@
+-- An event is sent that the judge has passed: if the invariant of the half held, it holds again.
+use Rattle.std.proofs.Common.{◌≡◌, ◌≢◌, ℕ, ◌<◌, Bool, true, false, ◌⊎◌, inl, inr, List, [], ◌∷◌, ◌++◌, length, take, drop, refl, sym, ap, ◌∙◌, subst, append_assoc, Option, Some, None, map, arith}
+use Rattle.std.specs.Prelude.{if◌then◌else◌}
+use Rattle.std.specs.Io.KnownBytes.{Appends}
+use Rattle.std.proofs.lemmas.List.{append-nil, length-map, map-append, take-map, take-append-drop}
+use mathlib.Core.List.{IsPrefix}
+use Rattle.asgi_io.specs.declared.write.Wrote.TheVariants as wrote
+use Rattle.asgi_io.specs.Counting.{RoseBy}
+use Rattle.asgi_io.specs.Writing.{TriesWrites}
+use Rattle.asgi_types.specs.Fields.{HeaderField}
+use Rattle.asgi_types.specs.declared.end_kind.EndKind.{EndKind}
+use Rattle.asgi_types.specs.declared.facts.Facts.{Facts}
+use Rattle.asgi_types.specs.declared.incoming.Payload.{Payload}
+use Rattle.asgi_types.specs.declared.outgoing.Outgoing.{Outgoing}
+use Rattle.asgi_types.specs.declared.outgoing.Outgoing.TheVariants.{WsAccept, WsSend, WsClose}
+use Rattle.asgi_types.specs.declared.scope.Kind.TheVariants.{WebSocket}
+use Rattle.asgi_protocol.specs.declared.judge.Judge.{Judge}
+use Rattle.asgi_protocol.specs.Passing.{passes}
+use Rattle.asgi_protocol.specs.Shapes.{is_closed}
+use Rattle.asgi_protocol.specs.Stages as judging
+use Rattle.asgi_response.specs.Exchange.{refusal_text}
+use Rattle.asgi_pipes.specs.declared.items.OutItem.{OutItem}
+use Rattle.asgi_pipes.specs.declared.items.OutItem.TheVariants.{Event}
+use Rattle.asgi_ws.specs.declared.messages.Call.TheVariants.{Send}
+use Rattle.asgi_ws.specs.declared.messages.SentMessage.{SentMessage}
+use Rattle.asgi_ws.specs.declared.messages.SentMessage.TheVariants as item
+use Rattle.asgi_ws.specs.declared.messages.Msg.{Msg}
+use Rattle.asgi_ws.specs.declared.messages.Put.{Put}
+use Rattle.asgi_ws.specs.declared.messages.Put.TheVariants as put
+use Rattle.asgi_ws.specs.Handshake.{accept_text}
+use Rattle.asgi_ws.specs.Sessions.{taken_by, has_failed, count_after, kept_by}
+use Rattle.asgi_exchange.specs.Items.{end_of}
+use Rattle.asgi_exchange.specs.Messages.{has_close}
+use Rattle.asgi_exchange.specs.Session.{Output, Byte, Message, accepted_session, event_output, output_of, session_output}
+use Rattle.asgi_exchange.specs.Views.{ConnView, added_by, output, taken_of}
+use Rattle.asgi_exchange.proofs.EventLemmas.{events_append, end_event}
+use Rattle.asgi_exchange.proofs.SessionLemmas.{event_adds}
+use Rattle.asgi_conversation.specs.declared.report.Outcome.TheVariants.{WriteFailed, NoMemory}
+use Rattle.asgi_conversation.specs.Sessions.{handshake_of, StopsSession}
+use Rattle.asgi_conversation.specs.ExchangeRecord.{Saying}
+use Rattle.asgi_halves.specs.declared.stage.Stage.{Stage}
+use Rattle.asgi_halves.specs.declared.stage.Stage.TheVariants.{Running, Cut}
+use Rattle.asgi_halves.specs.declared.session_half.Answered.{Answered}
+use Rattle.asgi_halves.specs.declared.session_half.Answered.TheVariants.{Unanswered, Open, Closed, Refused}
+use Rattle.asgi_halves.specs.declared.session_half.Due.{Due}
+use Rattle.asgi_halves.specs.declared.session_half.Due.TheVariants as due
+use Rattle.asgi_halves.specs.declared.session_half.WebSocketHalf.{WebSocketHalf}
+use Rattle.asgi_run.specs.Lines.{LineState, how_wrote}
+use Rattle.asgi_halves.specs.WebSocketHalf.{SessionScene, Invariant, IsAccept, Talks, IsAt, IsCarried, IsCarrying, IsDue, IsSilent, answer_to, exchange_of, known, output_in, said_in, stage_of, talk_in, text_failures}
+use Rattle.asgi_halves.specs.WebSocketHalf.{CarriesOn}
+use Rattle.asgi_run.proofs.LineLemmas.{tries_front}
+use Rattle.asgi_halves.proofs.SessionPassLemmas.{more_said, accept_is_first, close_has_place, send_is_in_session, open_is_accepted, not_closed, open_after_send, closed_after_close}
+use Rattle.asgi_halves.proofs.TalkLemmas.{LeavesText, talk_written, talk_sent, talk_upgraded}
+
+-- no write fails while the half runs
+no_failures : (answered : Answered) → text_failures answered Running ≡ 0
+no_failures Unanswered = refl
+no_failures Refused = refl
+no_failures Open = refl
+no_failures Closed = refl
+
+-- ---- the line carries messages
+
+abbrev IsUpgraded : Answered → Type 0
+IsUpgraded answered = (answered ≡ Open) ⊎ (answered ≡ Closed)
+
+quiet : (progress : Answered) (stage : Stage) → IsUpgraded progress → 0 ≡ text_failures progress stage
+quiet progress stage (inl is) = ap (λ (a : Answered). text_failures a stage) (sym is)
+quiet progress stage (inr is) = ap (λ (a : Answered). text_failures a stage) (sym is)
+
+carrying : (progress : Answered) (scene : SessionScene) (half : WebSocketHalf) (view : ConnView Msg Output) (text : List ℕ) (leftover : Option (List ℕ)) (handed : List SentMessage) → IsUpgraded progress
+    → IsCarrying scene view text leftover → IsCarried progress scene half view text leftover handed
+carrying progress scene half view text leftover handed (inl is) c = subst (λ (a : Answered). IsCarried a scene half view text leftover handed) (sym is) c
+carrying progress scene half view text leftover handed (inr is) c = subst (λ (a : Answered). IsCarried a scene half view text leftover handed) (sym is) c
+
+is_answered : (progress : Answered) → IsUpgraded progress → progress ≡ Unanswered → ⊥
+is_answered progress (inl is) e = let never : Open ≡ Unanswered = sym is ∙ e in cc
+is_answered progress (inr is) e = let never : Closed ≡ Unanswered = sym is ∙ e in cc
+
+no_text : (text : List ℕ) (handed : List SentMessage) → map Byte text ++ map Message handed ≡ [] → text ≡ []
+no_text [] handed e = refl
+no_text (b ∷ text) handed e = absurd (cc)
+
+not_both : Open ≡ Closed → ⊥
+not_both e = cc
+
+-- ---- what is due
+
+due_stays : (d : Due) (old new : WebSocketHalf) (view : ConnView Msg Output) (got : List OutItem) (written : List Output) → new.input_broke ≡ old.input_broke → new.is_over ≡ old.is_over
+    → old.answered ≢ Closed → new.answered ≢ Closed → IsDue d old view → IsDue d new (record view { got = got; written = written })
+due_stays due.Nothing old new view got written input_broke over was is x = λ other unbroken. x was (sym input_broke ∙ unbroken)
+due_stays (due.Waits event) old new view got written input_broke over was is x = (input_broke ∙ x.0, x.1, x.2, is)
+due_stays (due.Left event) old new view got written input_broke over was is x = (input_broke ∙ x.0, x.1, x.2, over_as x.3, is)
+  where
+    over_as : (has_close view.arrived ≡ true) ⊎ (old.is_over ≡ true) → (has_close view.arrived ≡ true) ⊎ (new.is_over ≡ true)
+    over_as (inl h) = inl h
+    over_as (inr h) = inr (over ∙ h)
+
+-- ---- an event is sent
+
+pub running_of : (scene : SessionScene) (was : LineState) (half : WebSocketHalf) (read : List ℕ) (view : ConnView Msg Output) (before : Judge)
+    → Invariant scene was (record half { judge = before }) read view → half.stage ≡ Running
+    → Talks scene (record half { judge = before }) view × (end_of view.got ≡ None) × IsDue half.due (record half { judge = before }) view
+running_of scene was half read view before x is = subst (λ (s : Stage). IsAt s scene (record half { judge = before }) view) is x.stage
+
+module _ (scene : SessionScene) (was : LineState) (half : WebSocketHalf) (read : List ℕ) (view : ConnView Msg Output) (before : Judge) (x : Invariant scene was (record half { judge = before }) read view)
+    (running : half.stage ≡ Running) (event : Outgoing) (pass : passes WebSocket scene.facts (said_in scene view) event ≡ true)
+    (judged : judging.StandsFor half.judge WebSocket scene.facts (said_in scene view ++ event ∷ []) false) where
+  abbrev later : List Output → ConnView Msg Output
+  later written = record view { got = view.got ++ Event event ∷ []; written = written }
+
+  abbrev adds : List Output
+  adds = event_output (handshake_of scene.facts) scene.facts (said_in scene view) event
+
+  at : Talks scene (record half { judge = before }) view × (end_of view.got ≡ None) × IsDue half.due (record half { judge = before }) view
+  at = running_of scene was half read view before x running
+
+  line : CarriesOn scene.start was half.wire.input read (scene.before ++ x.text) 0 (talk_in half view x.leftover x.handed) half.spare_reads
+  line =
+      let P : ℕ → Type 0 = λ n. CarriesOn scene.start was half.wire.input read (scene.before ++ x.text) n (talk_in half view x.leftover x.handed) half.spare_reads in
+      subst P (no_failures half.answered) (subst (λ (s : Stage). P (text_failures half.answered s)) running x.line)
+
+  more_taken : (written : List Output) → taken_of (later written) ≡ taken_of view ++ event ∷ []
+  more_taken written = events_append view.got (Event event ∷ [])
+
+  still_open : end_of (view.got ++ Event event ∷ []) ≡ None
+  still_open = end_event view.got event ∙ at.1
+
+  said_later : (written : List Output) → said_in scene (later written) ≡ said_in scene view ++ event ∷ []
+  said_later written = ap (accepted_session scene.facts) (more_taken written) ∙ more_said scene.facts (taken_of view) event pass
+
+  text_after : session_output (handshake_of scene.facts) scene.facts (taken_of view ++ event ∷ []) ≡ view.written ++ adds
+  text_after = event_adds (handshake_of scene.facts) scene.facts (taken_of view) event pass ∙ ap (λ (l : List Output). l ++ adds) (sym at.0.written)
+
+  output_later : (written : List Output) → output_in scene (later written) ≡ view.written ++ adds
+  output_later written = ap (session_output (handshake_of scene.facts) scene.facts) (more_taken written) ∙ text_after
+
+  all_later : (written : List Output) → output (exchange_of scene) (later written) ≡ view.written ++ adds
+  all_later written =
+      ap (λ (o : Option EndKind). output_in scene (later written) ++ added_by (exchange_of scene) (taken_of (later written)) o view.broken_first view.arrived) still_open
+      ∙ append-nil (output_in scene (later written)) ∙ output_later written
+
+  front_of : (written front rest : List Output) → written ≡ view.written ++ front → front ++ rest ≡ adds → written ++ rest ≡ view.written ++ adds
+  front_of written front rest out is =
+      ap (λ (l : List Output). l ++ rest) out ∙ (append_assoc view.written front rest ∙ ap (λ (l : List Output). view.written ++ l) is)
+
+  -- this much of it went out, as text or as a message
+  spoken : (now : LineState) (leftover : _) (progress : Answered) (waits : Due) (stage : Stage) (text : List ℕ) (kept : Option (List ℕ)) (handed : List SentMessage) (front rest : List Output)
+      → CarriesOn scene.start now half.wire.input read (scene.before ++ text) (text_failures progress stage) (talk_in half view kept handed) half.spare_reads
+      → map Byte text ++ map Message handed ≡ view.written ++ front → front ++ rest ≡ adds
+      → IsCarried progress scene (record half { leftover = leftover; answered = progress; due = waits; stage = stage }) (later (map Byte text ++ map Message handed)) text kept handed
+      → IsAt stage scene (record half { leftover = leftover; answered = progress; due = waits; stage = stage }) (later (map Byte text ++ map Message handed))
+      → (written : List Output) × Invariant scene now (record half { leftover = leftover; answered = progress; due = waits; stage = stage }) read (later written)
+  spoken now leftover progress waits stage text kept handed front rest line_is out is carried stands =
+      let written : List Output = map Byte text ++ map Message handed in (
+        written,
+        record {
+          fixed = x.fixed;
+          text = text;
+          leftover = kept;
+          handed = handed;
+          line = line_is;
+          written = refl;
+          carried = carried;
+          keeps = record { offered = x.keeps.offered; written = (rest, front_of written front rest out is ∙ sym (all_later written)) };
+          breaks = x.breaks;
+          stage = stands;
+        },
+      )
+
+  -- all of it did
+  goes_on : (leftover : _) (progress : Answered) (waits : Due) (written : List Output) → answer_to (said_in scene view ++ event ∷ []) ≡ progress → (progress ≡ Unanswered → ⊥)
+      → (progress ≡ Open → half.client_closed ≡ has_close view.arrived) → written ≡ view.written ++ adds
+      → IsDue waits (record half { leftover = leftover; answered = progress; due = waits; stage = Running }) (later written)
+      → IsAt Running scene (record half { leftover = leftover; answered = progress; due = waits; stage = Running }) (later written)
+  goes_on leftover progress waits written becomes given closed out is_due = (
+    record {
+      uncut = at.0.uncut;
+      input_broke = at.0.input_broke;
+      judged = subst (λ (l : List Outgoing). judging.StandsFor half.judge WebSocket scene.facts l false) (sym (said_later written)) judged;
+      answered = sym becomes ∙ ap answer_to (sym (said_later written));
+      text = λ e. absurd (given e);
+      written = out ∙ sym (output_later written);
+      empty = at.0.empty;
+      closed = closed;
+    },
+    still_open,
+    is_due,
+  )
+
+  -- a write failed after its first n bytes
+  stops : (n : ℕ) (written : List Output) → n < length adds → written ≡ view.written ++ take n adds → StopsSession n (known scene (later written)) written
+  stops n written less out = record {
+    out = view.written;
+    more = adds;
+    is_next = Saying (taken_of view) [] event (more_taken written) at.0.written text_after;
+    within = less;
+    written_is = out;
+  }
+
+  -- there was no memory
+  falls_short : (written front rest : List Output) → written ≡ view.written ++ front → front ++ rest ≡ adds → IsPrefix written (output_in scene (later written))
+  falls_short written front rest out is = (rest, front_of written front rest out is ∙ sym (output_later written))
+
+  -- after an accept the session is open, as long as something passes
+  pub is_open : (subprotocol : Option (List ℕ)) × (headers : List HeaderField) × (events : List Outgoing) × (said_in scene view ≡ WsAccept subprotocol headers ∷ events) → half.answered ≡ Open
+  is_open s =
+      at.0.answered ∙ (ap answer_to s.3 ∙ (ap (λ (l : List Outgoing). if is_closed WebSocket l then Closed else Open) (sym s.3)
+      ∙ ap (λ (b : Bool). if b then Closed else Open) (not_closed scene.facts (said_in scene view) event pass)))
+
+  -- ---- a message
+
+  module _ (opened : half.answered ≡ Open) where
+    carries : (written : List Output) → IsCarrying scene (later written) x.text x.leftover
+    carries written =
+        let c : IsCarrying scene view x.text x.leftover =
+        subst (λ (a : Answered). IsCarried a scene (record half { judge = before }) view x.text x.leftover x.handed) opened x.carried in
+        record {
+          kept = c.kept;
+          subprotocol = c.subprotocol;
+          headers = c.headers;
+          events = c.events ++ event ∷ [];
+          said = said_later written ∙ ap (λ (l : List Outgoing). l ++ event ∷ []) c.said;
+          text_is = c.text_is;
+        }
+
+    module _ (now : LineState) (message : SentMessage) (adds_it : adds ≡ Message message ∷ []) (answer : Put) (same : LeavesText was now)
+        (told : now.session.calls ≡ was.session.calls ++ Send message answer ∷ []) (count : now.failed ≡ count_after was.failed (has_failed answer))
+        (coming : now.session.coming ≡ was.session.coming) (kept : now.session.leftover ≡ was.session.leftover) where
+      sent : CarriesOn scene.start now half.wire.input read (scene.before ++ x.text) 0 (talk_in half view x.leftover (x.handed ++ taken_by message answer)) half.spare_reads
+      sent = talk_sent scene.start was now half.wire.input read (scene.before ++ x.text) 0 (talk_in half view x.leftover x.handed)
+          (talk_in half view x.leftover (x.handed ++ taken_by message answer)) half.spare_reads line same message answer told count coming kept refl refl refl refl
+          scene.frames (subst (λ (a : Answered). IsCarried a scene (record half { judge = before }) view x.text x.leftover x.handed) opened x.carried).kept
+
+      carried : (result : Put) → answer ≡ result → (stage : Stage) (progress : Answered) → IsUpgraded progress
+          → CarriesOn scene.start now half.wire.input read (scene.before ++ x.text) (text_failures progress stage) (talk_in half view x.leftover (x.handed ++ taken_by message result)) half.spare_reads
+      carried result is stage progress upgraded =
+          subst (λ (n : ℕ). CarriesOn scene.start now half.wire.input read (scene.before ++ x.text) n (talk_in half view x.leftover (x.handed ++ taken_by message result)) half.spare_reads)
+          (quiet progress stage upgraded)
+          (subst (λ (a : Put). CarriesOn scene.start now half.wire.input read (scene.before ++ x.text) 0 (talk_in half view x.leftover (x.handed ++ taken_by message a)) half.spare_reads) is sent)
+
+      out_with : (handed : List SentMessage) → map Byte x.text ++ map Message (x.handed ++ handed) ≡ view.written ++ map Message handed
+      out_with handed =
+          ap (λ (l : List Output). map Byte x.text ++ l) (map-append Message x.handed handed)
+          ∙ (sym (append_assoc (map Byte x.text) (map Message x.handed) (map Message handed)) ∙ ap (λ (l : List Output). l ++ map Message handed) (sym x.written))
+
+      -- the half after the answer
+      answered_put : (progress : Answered) (waits : Due) → IsUpgraded progress → answer_to (said_in scene view ++ event ∷ []) ≡ progress
+          → (progress ≡ Open → half.client_closed ≡ has_close view.arrived)
+          → ((written : List Output) → IsDue waits (record half { answered = progress; due = waits; stage = Running }) (later written))
+          → (result : Put) → answer ≡ result → (written : List Output) × Invariant scene now (record half { answered = progress; due = waits; stage = stage_of result }) read (later written)
+      answered_put progress waits upgraded becomes closed is_due put.Done is =
+          let handed : List SentMessage = x.handed ++ message ∷ [] in
+          let written : List Output = map Byte x.text ++ map Message handed in
+          let out : written ≡ view.written ++ Message message ∷ [] = out_with (message ∷ []) in
+          spoken now half.leftover progress waits Running x.text x.leftover handed (Message message ∷ []) [] (carried put.Done is Running progress upgraded) out (sym adds_it)
+          (carrying progress scene (record half { answered = progress; due = waits; stage = Running }) (later written) x.text x.leftover handed upgraded (carries written))
+          (goes_on half.leftover progress waits written becomes (is_answered progress upgraded) closed (out ∙ ap (λ (l : List Output). view.written ++ l) (sym adds_it)) (is_due written))
+      answered_put progress waits upgraded becomes closed is_due put.Failed is =
+          let handed : List SentMessage = x.handed ++ [] in
+          let written : List Output = map Byte x.text ++ map Message handed in
+          let out : written ≡ view.written ++ [] = out_with [] in
+          spoken now half.leftover progress waits (Cut (WriteFailed 0)) x.text x.leftover handed [] adds (carried put.Failed is (Cut (WriteFailed 0)) progress upgraded) out refl
+          (carrying progress scene (record half { answered = progress; due = waits; stage = Cut (WriteFailed 0) }) (later written) x.text x.leftover handed upgraded (carries written))
+          (stops 0 written (subst (λ (l : List Output). 0 < length l) (sym adds_it) (omega arith)) out, still_open)
+      answered_put progress waits upgraded becomes closed is_due put.NoMemory is =
+          let handed : List SentMessage = x.handed ++ [] in
+          let written : List Output = map Byte x.text ++ map Message handed in
+          let out : written ≡ view.written ++ [] = out_with [] in
+          spoken now half.leftover progress waits (Cut NoMemory) x.text x.leftover handed [] adds (carried put.NoMemory is (Cut NoMemory) progress upgraded) out refl
+          (carrying progress scene (record half { answered = progress; due = waits; stage = Cut NoMemory }) (later written) x.text x.leftover handed upgraded (carries written))
+          (falls_short written [] adds out refl, still_open)
+
+      -- a message of the session: it stays open
+      pub sent_on : answer_to (said_in scene view ++ event ∷ []) ≡ Open → (stage : Stage) → stage ≡ stage_of answer
+          → (written : List Output) × Invariant scene now (record half { stage = stage }) read (later written)
+      sent_on becomes stage is =
+          subst (λ (s : Stage). (written : List Output) × Invariant scene now (record half { stage = s }) read (later written)) (sym is)
+          (answered_put half.answered half.due (inl opened) (becomes ∙ sym opened) at.0.closed
+          (λ written. due_stays half.due (record half { judge = before }) (record half { stage = Running }) view (view.got ++ Event event ∷ []) written refl refl
+          (λ e. not_both (sym opened ∙ e)) (λ e. not_both (sym opened ∙ e)) at.2)
+          answer refl)
+
+      -- the application's close: nothing is due after it
+      pub closed_by : answer_to (said_in scene view ++ event ∷ []) ≡ Closed → (stage : Stage) → stage ≡ stage_of answer
+          → (written : List Output) × Invariant scene now (record half { answered = Closed; due = due.Nothing; stage = stage }) read (later written)
+      closed_by becomes stage is =
+          subst (λ (s : Stage). (written : List Output) × Invariant scene now (record half { answered = Closed; due = due.Nothing; stage = s }) read (later written)) (sym is)
+          (answered_put Closed due.Nothing (inr refl) becomes (λ e. absurd (not_both (sym e))) (λ written other. absurd (other refl)) answer refl)
+
+  -- ---- a text, if nothing was sent before
+
+  module _ (first : said_in scene view ≡ []) (more : List ℕ) (adds_it : adds ≡ map Byte more) where
+    unanswered : half.answered ≡ Unanswered
+    unanswered = at.0.answered ∙ ap answer_to first
+
+    not_shut : half.answered ≢ Closed
+    not_shut e = let never : Unanswered ≡ Closed = sym unanswered ∙ e in cc
+
+    silent : IsSilent (record half { judge = before }) view x.leftover x.handed × (half.leftover.items ≡ scene.frames)
+    silent = subst (λ (a : Answered). IsCarried a scene (record half { judge = before }) view x.text x.leftover x.handed) unanswered x.carried
+
+    silent_still : (progress : Answered) (stage : Stage) (written : List Output) → IsSilent (record half { answered = progress; stage = stage }) (later written) x.leftover x.handed
+    silent_still progress stage written = record {
+      kept = silent.0.kept;
+      received = silent.0.received;
+      over = silent.0.over;
+      unclosed = silent.0.unclosed;
+      sent = silent.0.sent;
+    }
+
+    due_still : (leftover : _) (progress : Answered) (written : List Output) → progress ≢ Closed
+        → IsDue half.due (record half { leftover = leftover; answered = progress; stage = Running }) (later written)
+    due_still leftover progress written on =
+        due_stays half.due (record half { judge = before }) (record half { leftover = leftover; answered = progress; stage = Running }) view (view.got ++ Event event ∷ []) written refl refl not_shut on at.2
+
+    out_as_text : (part : List ℕ) → map Byte (x.text ++ part) ++ map Message x.handed ≡ view.written ++ map Byte part
+    out_as_text part =
+        ap (λ (h : List SentMessage). map Byte (x.text ++ part) ++ map Message h) silent.0.sent
+        ∙ (append-nil (map Byte (x.text ++ part))
+        ∙ (map-append Byte x.text part
+        ∙ ap (λ (l : List Output). l ++ map Byte part)
+        (sym (x.written ∙ (ap (λ (h : List SentMessage). map Byte x.text ++ map Message h) silent.0.sent ∙ append-nil (map Byte x.text))))))
+
+    as_unanswered : (now : LineState) (stage : Stage)
+        → (written : List Output) × Invariant scene now (record half { answered = Unanswered; stage = stage }) read (later written)
+        → (written : List Output) × Invariant scene now (record half { stage = stage }) read (later written)
+    as_unanswered now stage s =
+        subst (λ (a : Answered). (written : List Output) × Invariant scene now (record half { answered = a; stage = stage }) read (later written)) (sym unanswered) s
+
+    -- there is no memory for it
+    pub text_short : (written : List Output) × Invariant scene was (record half { stage = Cut NoMemory }) read (later written)
+    text_short =
+        let written : List Output = map Byte x.text ++ map Message x.handed in
+        let out : written ≡ view.written ++ [] = sym x.written ∙ sym (append-nil view.written) in
+        as_unanswered was (Cut NoMemory)
+        (spoken was half.leftover Unanswered half.due (Cut NoMemory) x.text x.leftover x.handed [] adds line out refl
+        (silent_still Unanswered (Cut NoMemory) written, silent.1) (falls_short written [] adds out refl, still_open))
+
+    module _ (now : LineState) (same_left : now.left ≡ was.left) (same_reads : now.reads ≡ was.reads) (same_session : now.session ≡ was.session) where
+      text_moved : (part : List ℕ) (failures : ℕ) → Appends was.written now.written part → RoseBy failures was.failed now.failed
+          → TriesWrites was.writes now.writes (length part) (how_wrote failures (length part))
+          → CarriesOn scene.start now half.wire.input read (scene.before ++ (x.text ++ part)) failures (talk_in half view x.leftover x.handed) half.spare_reads
+      text_moved part failures appends rose tries =
+          subst (λ (l : List ℕ). CarriesOn scene.start now half.wire.input read l failures (talk_in half view x.leftover x.handed) half.spare_reads) (append_assoc scene.before x.text part)
+          (talk_written scene.start was now half.wire.input read (scene.before ++ x.text) part failures (talk_in half view x.leftover x.handed) half.spare_reads line same_left same_reads same_session appends rose tries)
+
+      -- its first n bytes went out
+      cut_by : (progress : Answered) (n : ℕ) → n < length more
+          → CarriesOn scene.start now half.wire.input read (scene.before ++ (x.text ++ take n more)) (text_failures progress (Cut (WriteFailed n))) (talk_in half view x.leftover x.handed) half.spare_reads
+          → IsCarried progress scene (record half { answered = progress; stage = Cut (WriteFailed n) }) (later (map Byte (x.text ++ take n more) ++ map Message x.handed)) (x.text ++ take n more) x.leftover x.handed
+          → (written : List Output) × Invariant scene now (record half { answered = progress; stage = Cut (WriteFailed n) }) read (later written)
+      cut_by progress n less line_is carried =
+          let written : List Output = map Byte (x.text ++ take n more) ++ map Message x.handed in
+          let part : map Byte (take n more) ≡ take n adds = sym (take-map Byte n more) ∙ ap (λ (l : List Output). take n l) (sym adds_it) in
+          let out : written ≡ view.written ++ take n adds = out_as_text (take n more) ∙ ap (λ (l : List Output). view.written ++ l) part in
+          let within : n < length adds = subst (λ (l : List Output). n < length l) (sym adds_it) (subst (λ (k : ℕ). n < k) (sym (length-map more Byte)) less) in
+          spoken now half.leftover progress half.due (Cut (WriteFailed n)) (x.text ++ take n more) x.leftover x.handed (take n adds) (drop n adds) line_is out (take-append-drop n adds) carried
+          (stops n written within out, still_open)
+
+      module _ (n : ℕ) (less : n < length more) (appends : Appends was.written now.written (take n more)) (rose : RoseBy 1 was.failed now.failed) (tries : TriesWrites was.writes now.writes n (wrote.Failed n)) where
+        moved_part : CarriesOn scene.start now half.wire.input read (scene.before ++ (x.text ++ take n more)) 1 (talk_in half view x.leftover x.handed) half.spare_reads
+        moved_part = text_moved (take n more) 1 appends rose (tries_front was.writes now.writes n more less tries)
+
+        pub accept_cut : (written : List Output) × Invariant scene now (record half { stage = Cut (WriteFailed n) }) read (later written)
+        accept_cut =
+            as_unanswered now (Cut (WriteFailed n))
+            (cut_by Unanswered n less moved_part (silent_still Unanswered (Cut (WriteFailed n)) (map Byte (x.text ++ take n more) ++ map Message x.handed), silent.1))
+
+        pub refusal_cut : (written : List Output) × Invariant scene now (record half { answered = Refused; stage = Cut (WriteFailed n) }) read (later written)
+        refusal_cut = cut_by Refused n less moved_part (silent_still Refused (Cut (WriteFailed n)) (map Byte (x.text ++ take n more) ++ map Message x.handed))
+
+      module _ (appends : Appends was.written now.written more) (rose : RoseBy 0 was.failed now.failed) (tries : TriesWrites was.writes now.writes (length more) wrote.Done) where
+        all_out : map Byte (x.text ++ more) ++ map Message x.handed ≡ view.written ++ adds
+        all_out = out_as_text more ∙ ap (λ (l : List Output). view.written ++ l) (sym adds_it)
+
+        pub refusal_out : answer_to (said_in scene view ++ event ∷ []) ≡ Refused → (stage : Stage) → stage ≡ Running
+            → (written : List Output) × Invariant scene now (record half { answered = Refused; stage = stage }) read (later written)
+        refusal_out becomes stage is =
+            let written : List Output = map Byte (x.text ++ more) ++ map Message x.handed in
+            subst (λ (s : Stage). (w : List Output) × Invariant scene now (record half { answered = Refused; stage = s }) read (later w)) (sym is)
+            (spoken now half.leftover Refused half.due Running (x.text ++ more) x.leftover x.handed adds [] (text_moved more 0 appends rose tries) all_out (append-nil adds)
+            (silent_still Refused Running written) (goes_on half.leftover Refused half.due written becomes (λ e. cc) (λ e. cc) all_out (due_still half.leftover Refused written (λ e. cc))))
+
+        -- the line carries messages from here on
+        pub accept_out : (after : LineState) (leftover : _) → LeavesText now after → after.session.leftover ≡ kept_by now.session.leftover half.leftover.items → after.failed ≡ now.failed
+            → after.session.calls ≡ now.session.calls → after.session.coming ≡ now.session.coming
+            → answer_to (said_in scene view ++ event ∷ []) ≡ Open → (subprotocol : Option (List ℕ)) (headers : List HeaderField) → event ≡ WsAccept subprotocol headers
+            → more ≡ handshake_of scene.facts subprotocol headers → (stage : Stage) → stage ≡ Running
+            → (written : List Output) × Invariant scene after (record half { leftover = leftover; answered = Open; stage = stage }) read (later written)
+        accept_out after leftover same kept count calls coming becomes subprotocol headers accepts text_is stage is =
+            let written : List Output = map Byte (x.text ++ more) ++ map Message x.handed in
+            let none : x.text ≡ [] = no_text x.text x.handed (sym x.written ∙ (at.0.written ∙ ap (output_of (handshake_of scene.facts) scene.facts) first)) in
+            let line_is : CarriesOn scene.start after half.wire.input read (scene.before ++ (x.text ++ more)) 0 (talk_in half view (Some scene.frames) x.handed) half.spare_reads =
+            talk_upgraded scene.start now after half.wire.input read (scene.before ++ (x.text ++ more)) 0 (talk_in half view x.leftover x.handed) (talk_in half view (Some scene.frames) x.handed)
+            half.spare_reads (text_moved more 0 appends rose tries) same half.leftover.items silent.0.kept kept count calls coming (ap (λ (l : List ℕ). Some l) (sym silent.1)) refl refl refl in
+            let carried : IsCarrying scene (later written) (x.text ++ more) (Some scene.frames) = record {
+              kept = refl;
+              subprotocol = subprotocol;
+              headers = headers;
+              events = [];
+              said = said_later written ∙ (ap (λ (l : List Outgoing). l ++ event ∷ []) first ∙ ap (λ (e : Outgoing). e ∷ []) accepts);
+              text_is = ap (λ (l : List ℕ). l ++ more) none ∙ text_is;
+            } in
+            subst (λ (s : Stage). (w : List Output) × Invariant scene after (record half { leftover = leftover; answered = Open; stage = s }) read (later w)) (sym is)
+            (spoken after leftover Open half.due Running (x.text ++ more) (Some scene.frames) x.handed adds [] line_is all_out (append-nil adds) carried
+            (goes_on leftover Open half.due written becomes (λ e. cc) (λ e. silent.0.unclosed ∙ ap has_close (sym silent.0.received)) all_out
+            (due_still leftover Open written (λ e. cc))))
+
+-- ---- a payload, and a close
+
+module _ (scene : SessionScene) (was now : LineState) (half : WebSocketHalf) (read : List ℕ) (view : ConnView Msg Output) (before : Judge) (x : Invariant scene was (record half { judge = before }) read view)
+    (running : half.stage ≡ Running) (answer : Put) (same : LeavesText was now) (count : now.failed ≡ count_after was.failed (has_failed answer))
+    (coming : now.session.coming ≡ was.session.coming) (kept : now.session.leftover ≡ was.session.leftover) where
+  pub payload_sent : (payload : Payload) → passes WebSocket scene.facts (said_in scene view) (WsSend payload) ≡ true
+      → judging.StandsFor half.judge WebSocket scene.facts (said_in scene view ++ WsSend payload ∷ []) false
+      → now.session.calls ≡ was.session.calls ++ Send (item.Payload payload) answer ∷ [] → (stage : Stage) → stage ≡ stage_of answer
+      → (written : List Output) × Invariant scene now (record half { stage = stage }) read (record view { got = view.got ++ Event (WsSend payload) ∷ []; written = written })
+  payload_sent payload pass judged told stage is =
+      let s = send_is_in_session scene.facts (said_in scene view) payload pass in
+      sent_on scene was half read view before x running (WsSend payload) pass judged
+      (is_open scene was half read view before x running (WsSend payload) pass judged s)
+      now (item.Payload payload) (ap (λ (l : List Outgoing). event_output (handshake_of scene.facts) scene.facts l (WsSend payload)) s.3)
+      answer same told count coming kept (open_after_send scene.facts (said_in scene view) payload pass) stage is
+
+  pub close_sent : (code : ℕ) (reason : List ℕ) → passes WebSocket scene.facts (said_in scene view) (WsClose code reason) ≡ true
+      → judging.StandsFor half.judge WebSocket scene.facts (said_in scene view ++ WsClose code reason ∷ []) false → half.answered ≡ Open
+      → (copy : List ℕ) → copy ≡ reason → now.session.calls ≡ was.session.calls ++ Send (item.Close code copy) answer ∷ [] → (stage : Stage) → stage ≡ stage_of answer
+      → (written : List Output)
+      × Invariant scene now (record half { answered = Closed; due = due.Nothing; stage = stage }) read (record view { got = view.got ++ Event (WsClose code reason) ∷ []; written = written })
+  close_sent code reason pass judged opened copy copied told stage is =
+      let t = running_of scene was half read view before x running in
+      let s = open_is_accepted (said_in scene view) (sym t.0.answered ∙ opened) in
+      closed_by scene was half read view before x running (WsClose code reason) pass judged opened
+      now (item.Close code reason) (ap (λ (l : List Outgoing). event_output (handshake_of scene.facts) scene.facts l (WsClose code reason)) s.3)
+      answer same (told ∙ ap (λ (r : List ℕ). was.session.calls ++ Send (item.Close code r) answer ∷ []) copied) count coming kept (closed_after_close scene.facts (said_in scene view) code reason s.0 s.1 s.2 s.3 pass) stage is
+
+-- ---- a close in place of an accept
+
+module _ (scene : SessionScene) (was now : LineState) (half : WebSocketHalf) (read : List ℕ) (view : ConnView Msg Output) (before : Judge) (x : Invariant scene was (record half { judge = before }) read view)
+    (running : half.stage ≡ Running) (code : ℕ) (reason : List ℕ) (pass : passes WebSocket scene.facts (said_in scene view) (WsClose code reason) ≡ true)
+    (judged : judging.StandsFor half.judge WebSocket scene.facts (said_in scene view ++ WsClose code reason ∷ []) false) (shut : half.answered ≢ Open) (text : List ℕ) (text_is : text ≡ refusal_text 403)
+    (same_left : now.left ≡ was.left) (same_reads : now.reads ≡ was.reads) (same_session : now.session ≡ was.session) where
+  unsaid : said_in scene view ≡ []
+  unsaid = elim (close_has_place scene.facts (said_in scene view) code reason pass) [
+    | inl none ↦ none
+    | inr s ↦ absurd (shut (is_open scene was half read view before x running (WsClose code reason) pass judged s))
+  ]
+
+  adds_refusal : event_output (handshake_of scene.facts) scene.facts (said_in scene view) (WsClose code reason) ≡ map Byte text
+  adds_refusal =
+      ap (λ (l : List Outgoing). event_output (handshake_of scene.facts) scene.facts l (WsClose code reason)) unsaid ∙ ap (λ (l : List ℕ). map Byte l) (sym text_is)
+
+  pub refused_whole : Appends was.written now.written text → RoseBy 0 was.failed now.failed → TriesWrites was.writes now.writes (length text) wrote.Done
+      → (written : List Output) × Invariant scene now (record half { answered = Refused }) read (record view { got = view.got ++ Event (WsClose code reason) ∷ []; written = written })
+  refused_whole appends rose tries =
+      refusal_out scene was half read view before x running (WsClose code reason) pass judged unsaid text adds_refusal now same_left same_reads same_session appends rose tries
+      (ap (λ (l : List Outgoing). answer_to (l ++ WsClose code reason ∷ [])) unsaid) half.stage running
+
+  pub refused_part : (n : ℕ) → n < length text → Appends was.written now.written (take n text) → RoseBy 1 was.failed now.failed → TriesWrites was.writes now.writes n (wrote.Failed n)
+      → (written : List Output)
+      × Invariant scene now (record half { answered = Refused; stage = Cut (WriteFailed n) }) read (record view { got = view.got ++ Event (WsClose code reason) ∷ []; written = written })
+  refused_part n less appends rose tries =
+      refusal_cut scene was half read view before x running (WsClose code reason) pass judged unsaid text adds_refusal now same_left same_reads same_session n less appends rose tries
+
+-- ---- an accept
+
+accept_of : (event : Outgoing) → IsAccept event → (subprotocol : Option (List ℕ)) × (headers : List HeaderField) × (event ≡ WsAccept subprotocol headers)
+accept_of (WsAccept subprotocol headers) h = (subprotocol, headers, refl)
+accept_of _ h = absurd h
+
+module _ (scene : SessionScene) (was : LineState) (half : WebSocketHalf) (read : List ℕ) (view : ConnView Msg Output) (before : Judge) (x : Invariant scene was (record half { judge = before }) read view)
+    (running : half.stage ≡ Running) (event : Outgoing) (accepts : IsAccept event) (pass : passes WebSocket scene.facts (said_in scene view) event ≡ true)
+    (judged : judging.StandsFor half.judge WebSocket scene.facts (said_in scene view ++ event ∷ []) false) where
+  none_before : said_in scene view ≡ []
+  none_before =
+      let a = accept_of event accepts in
+      accept_is_first scene.facts (said_in scene view) a.0 a.1 (ap (λ (e : Outgoing). passes WebSocket scene.facts (said_in scene view) e) (sym a.2) ∙ pass)
+
+  adds_handshake : (text : List ℕ) → text ≡ accept_text half.facts event → event_output (handshake_of scene.facts) scene.facts (said_in scene view) event ≡ map Byte text
+  adds_handshake text is =
+      let a = accept_of event accepts in
+      let by_event : event_output (handshake_of scene.facts) scene.facts [] event ≡ map Byte (accept_text scene.facts event) =
+      ap (λ (e : Outgoing). event_output (handshake_of scene.facts) scene.facts [] e) a.2 ∙ ap (λ (e : Outgoing). map Byte (accept_text scene.facts e)) (sym a.2) in
+      ap (λ (l : List Outgoing). event_output (handshake_of scene.facts) scene.facts l event) none_before
+      ∙ (by_event ∙ ap (λ (l : List ℕ). map Byte l) (ap (λ (f : Facts). accept_text f event) (sym x.fixed.facts_are) ∙ sym is))
+
+  -- there is no memory for its text
+  pub accept_short : (written : List Output) × Invariant scene was (record half { stage = Cut NoMemory }) read (record view { got = view.got ++ Event event ∷ []; written = written })
+  accept_short = text_short scene was half read view before x running event pass judged none_before (accept_text half.facts event) (adds_handshake (accept_text half.facts event) refl)
+
+  module _ (now : LineState) (text : List ℕ) (text_is : text ≡ accept_text half.facts event) (same_left : now.left ≡ was.left) (same_reads : now.reads ≡ was.reads)
+      (same_session : now.session ≡ was.session) where
+    pub accept_part : (n : ℕ) → n < length text → Appends was.written now.written (take n text) → RoseBy 1 was.failed now.failed → TriesWrites was.writes now.writes n (wrote.Failed n)
+        → (written : List Output) × Invariant scene now (record half { stage = Cut (WriteFailed n) }) read (record view { got = view.got ++ Event event ∷ []; written = written })
+    accept_part n less appends rose tries =
+        accept_cut scene was half read view before x running event pass judged none_before text (adds_handshake text text_is) now same_left same_reads same_session n less appends rose tries
+
+    pub accepted : Appends was.written now.written text → RoseBy 0 was.failed now.failed → TriesWrites was.writes now.writes (length text) wrote.Done
+        → (after : LineState) (new : WebSocketHalf) (bytes : List ℕ) → LeavesText now after → after.session.leftover ≡ kept_by now.session.leftover bytes → bytes ≡ half.leftover.items
+        → after.failed ≡ now.failed
+        → after.session.calls ≡ now.session.calls → after.session.coming ≡ now.session.coming
+        → (written : List Output)
+        × Invariant scene after (record half { leftover = new.leftover; answered = Open }) read (record view { got = view.got ++ Event event ∷ []; written = written })
+    accepted appends rose tries after new bytes same kept bytes_are count calls coming =
+        let a = accept_of event accepts in
+        accept_out scene was half read view before x running event pass judged none_before text (adds_handshake text text_is) now same_left same_reads same_session appends rose tries
+        after new.leftover same (kept ∙ ap (λ (l : List ℕ). kept_by now.session.leftover l) bytes_are) count calls coming
+        (ap (λ (l : List Outgoing). answer_to (l ++ event ∷ [])) none_before ∙ ap (λ (e : Outgoing). answer_to (e ∷ [])) a.2)
+        a.0 a.1 a.2 (text_is ∙ (ap (λ (f : Facts). accept_text f event) x.fixed.facts_are ∙ ap (λ (e : Outgoing). accept_text scene.facts e) a.2)) half.stage running

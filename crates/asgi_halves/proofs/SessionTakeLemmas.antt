@@ -1,0 +1,237 @@
+-- What the half of a session takes: nothing, the end of the task, or an event, which adds nothing if the judge does not pass it.
+use Rattle.std.proofs.Common.{◌≡◌, ◌≢◌, ◌≤◌, ℕ, true, false, Bool, List, [], ◌∷◌, ◌++◌, refl, sym, ap, ◌∙◌, subst, Option, None, Vec, Global}
+use Rattle.std.proofs.lemmas.List.{append-nil}
+use Rattle.asgi_types.specs.Fields.{HeaderField}
+use Rattle.asgi_types.specs.declared.end_kind.EndKind.{EndKind}
+use Rattle.asgi_types.specs.declared.facts.Facts.{Facts}
+use Rattle.asgi_types.specs.declared.incoming.Incoming.TheVariants.{WsConnect}
+use Rattle.asgi_types.specs.declared.outgoing.Outgoing.{Outgoing}
+use Rattle.asgi_types.specs.declared.outgoing.Outgoing.TheVariants.{WsAccept, WsSend, WsClose, DenialStart, DenialBody}
+use Rattle.asgi_types.specs.declared.scope.Kind.TheVariants.{WebSocket}
+use Rattle.asgi_protocol.specs.declared.judge.Judge.{Judge}
+use Rattle.asgi_protocol.specs.declared.verdict.Verdict.{Verdict}
+use Rattle.asgi_protocol.specs.declared.verdict.Verdict.TheVariants as verdict
+use Rattle.asgi_protocol.specs.Passing.{is_pass, passes}
+use Rattle.asgi_protocol.specs.Shapes.{is_message, is_of}
+use Rattle.asgi_protocol.specs.Stages as judging
+use Rattle.asgi_protocol.specs.Verdicts.{verdict_on}
+use Rattle.asgi_pipes.specs.declared.items.OutItem.{OutItem}
+use Rattle.asgi_pipes.specs.declared.items.OutItem.TheVariants.{Event, Ended}
+use Rattle.asgi_response.specs.Standing as standing
+use Rattle.asgi_response.specs.declared.text.ResponseText.{ResponseText}
+use Rattle.asgi_ws.specs.declared.messages.SentMessage.{SentMessage}
+use Rattle.asgi_ws.specs.declared.messages.Msg.{Msg}
+use Rattle.asgi_exchange.specs.Items.{end_of}
+use Rattle.asgi_exchange.specs.Messages.{session_events}
+use Rattle.asgi_exchange.specs.Session.{Output, accepted_session, output_of}
+use Rattle.asgi_exchange.specs.Steps.{is_by_input}
+use Rattle.asgi_exchange.specs.Views.{ConnView, empty_conn, added_by, output, taken_of}
+use Rattle.asgi_exchange.proofs.EventLemmas.{events_append, end_event, end_ended}
+use Rattle.asgi_conversation.specs.Sessions.{handshake_of, no_traffic}
+use Rattle.asgi_halves.specs.declared.stage.Stage.{Stage}
+use Rattle.asgi_halves.specs.declared.stage.Stage.TheVariants.{Running, Ending}
+use Rattle.asgi_halves.specs.declared.session_half.Answered.{Answered}
+use Rattle.asgi_halves.specs.declared.session_half.Answered.TheVariants.{Unanswered, Open, Closed, Refused}
+use Rattle.asgi_halves.specs.declared.session_half.Due.{Due}
+use Rattle.asgi_halves.specs.declared.session_half.Due.TheVariants as due
+use Rattle.asgi_halves.specs.declared.session_half.WebSocketHalf.{WebSocketHalf}
+use Rattle.asgi_halves.specs.declared.wire.Wire.{Wire}
+use Rattle.asgi_halves.specs.Half.{failures_at}
+use Rattle.asgi_run.specs.Lines.{LineState}
+use Rattle.asgi_halves.specs.WebSocketHalf.{SessionScene, Invariant, OpensSession, Talks, IsAt, IsCarried, IsCarrying, IsDue, IsSilent, answer_to, exchange_of, said_in, talk_in, text_failures}
+use Rattle.asgi_halves.specs.Traffic.{drop_limit}
+use Rattle.asgi_halves.specs.WebSocketHalf.{CarriesOn}
+use Rattle.asgi_halves.proofs.SessionPassLemmas.{same_said}
+use Rattle.asgi_halves.proofs.TalkLemmas.{talk_begins}
+
+running_of : (scene : SessionScene) (now : LineState) (half : WebSocketHalf) (read : List ℕ) (view : ConnView Msg Output) → Invariant scene now half read view → half.stage ≡ Running
+    → Talks scene half view × (end_of view.got ≡ None) × IsDue half.due half view
+running_of scene now half read view x is = subst (λ (s : Stage). IsAt s scene half view) is x.stage
+
+same_failures : (answered : Answered) (old new : Stage) → failures_at old ≡ failures_at new → text_failures answered old ≡ text_failures answered new
+same_failures Unanswered old new h = h
+same_failures Refused old new h = h
+same_failures Open old new h = refl
+same_failures Closed old new h = refl
+
+no_pass : (v : Verdict) → (v ≡ verdict.Pass → ⊥) → is_pass v ≡ false
+no_pass verdict.Pass h = absurd (h refl)
+no_pass verdict.Ignored h = refl
+no_pass (verdict.Refused n) h = refl
+
+-- an event of a session is a message, an accept, a close or one of a denial
+pub none_left : {A : Type 0} (event : Outgoing) → is_message event ≡ false → ((subprotocol : Option (List ℕ)) (headers : List HeaderField) → event ≡ WsAccept subprotocol headers → ⊥)
+    → ((code : ℕ) (reason : List ℕ) → event ≡ WsClose code reason → ⊥) → ((status : ℕ) (headers : List HeaderField) → event ≡ DenialStart status headers → ⊥)
+    → ((body : List ℕ) (more_body : Bool) → event ≡ DenialBody body more_body → ⊥) → is_of WebSocket event ≡ true → A
+none_left (WsAccept subprotocol headers) message accept close start body of = absurd (accept subprotocol headers refl)
+none_left (WsClose code reason) message accept close start body of = absurd (close code reason refl)
+none_left (DenialStart status headers) message accept close start body of = absurd (start status headers refl)
+none_left (DenialBody bytes more_body) message accept close start body of = absurd (body bytes more_body refl)
+none_left (WsSend payload) message accept close start body of = absurd (cc)
+none_left _ message accept close start body of = absurd (cc)
+
+-- ---- more is taken, and nothing more is sent
+
+module _ (scene : SessionScene) (half : WebSocketHalf) (view : ConnView Msg Output) (stage : Stage) (got : List OutItem) (first : Bool)
+    (same : accepted_session scene.facts (taken_of (record view { got = got; broken_first = first })) ≡ said_in scene view) where
+  silent_on : (leftover : Option (List ℕ)) (handed : List SentMessage) → IsSilent half view leftover handed → IsSilent (record half { stage = stage }) (record view { got = got; broken_first = first }) leftover handed
+  silent_on leftover handed s = record { kept = s.kept; received = s.received; over = s.over; unclosed = s.unclosed; sent = s.sent }
+
+  carrying_on : (text : List ℕ) (leftover : Option (List ℕ)) → IsCarrying scene view text leftover → IsCarrying scene (record view { got = got; broken_first = first }) text leftover
+  carrying_on text leftover c = record {
+    kept = c.kept;
+    subprotocol = c.subprotocol;
+    headers = c.headers;
+    events = c.events;
+    said = same ∙ c.said;
+    text_is = c.text_is;
+  }
+
+  carried_on : (answered : Answered) (text : List ℕ) (leftover : Option (List ℕ)) (handed : List SentMessage) → IsCarried answered scene half view text leftover handed
+      → IsCarried answered scene (record half { stage = stage }) (record view { got = got; broken_first = first }) text leftover handed
+  carried_on Unanswered text leftover handed c = (silent_on leftover handed c.0, c.1)
+  carried_on Refused text leftover handed c = silent_on leftover handed c
+  carried_on Open text leftover handed c = carrying_on text leftover c
+  carried_on Closed text leftover handed c = carrying_on text leftover c
+
+  due_on : (d : Due) → IsDue d half view → IsDue d (record half { stage = stage }) (record view { got = got; broken_first = first })
+  due_on due.Nothing x = x
+  due_on (due.Waits event) x = x
+  due_on (due.Left event) x = x
+
+  talks_on : Talks scene half view → Talks scene (record half { stage = stage }) (record view { got = got; broken_first = first })
+  talks_on t = record {
+    uncut = t.uncut;
+    input_broke = t.input_broke;
+    judged = subst (λ (l : List Outgoing). judging.StandsFor half.judge WebSocket scene.facts l false) (sym same) t.judged;
+    answered = t.answered ∙ ap answer_to (sym same);
+    text = λ e. subst (λ (l : List Outgoing). standing.StandsForSession half.text scene.facts l) (sym same) (t.text e);
+    written = t.written ∙ ap (output_of (handshake_of scene.facts) scene.facts) (sym same);
+    empty = t.empty;
+    closed = t.closed;
+  }
+
+module _ (scene : SessionScene) (now : LineState) (half : WebSocketHalf) (read : List ℕ) (view : ConnView Msg Output) (x : Invariant scene now half read view) (is : half.stage ≡ Running) where
+  at : Talks scene half view × (end_of view.got ≡ None) × IsDue half.due half view
+  at = running_of scene now half read view x is
+
+  line_at : (stage : Stage) → failures_at stage ≡ 0
+      → CarriesOn scene.start now half.wire.input read (scene.before ++ x.text) (text_failures half.answered stage) (talk_in half view x.leftover x.handed) half.spare_reads
+  line_at stage none =
+      subst (λ (n : ℕ). CarriesOn scene.start now half.wire.input read (scene.before ++ x.text) n (talk_in half view x.leftover x.handed) half.spare_reads)
+      (same_failures half.answered half.stage stage (ap failures_at is ∙ sym none)) x.line
+
+  -- the end of the task
+  pub ended_taken : (kind : EndKind) → Invariant scene now (record half { stage = Ending kind }) read (record view { got = view.got ++ Ended kind ∷ []; broken_first = is_by_input view.broken })
+  ended_taken kind =
+      let later : ConnView Msg Output = record view { got = view.got ++ Ended kind ∷ []; broken_first = is_by_input view.broken } in
+      let taken : taken_of later ≡ taken_of view = events_append view.got (Ended kind ∷ []) ∙ append-nil (taken_of view) in
+      let same : accepted_session scene.facts (taken_of later) ≡ said_in scene view = ap (accepted_session scene.facts) taken in
+      let talks = talks_on scene half view (Ending kind) later.got later.broken_first same at.0 in
+      let added : List Output = added_by (exchange_of scene) (taken_of later) (end_of later.got) later.broken_first later.arrived in
+      record {
+        fixed = x.fixed;
+        text = x.text;
+        leftover = x.leftover;
+        handed = x.handed;
+        line = line_at (Ending kind) refl;
+        written = x.written;
+        carried = carried_on scene half view (Ending kind) later.got later.broken_first same half.answered x.text x.leftover x.handed x.carried;
+        keeps = record { offered = x.keeps.offered; written = (added, ap (λ (l : List Output). l ++ added) talks.written) };
+        breaks = x.breaks;
+        stage = (talks, end_ended view.got kind at.1, refl);
+      }
+
+  -- an event that the judge does not pass
+  pub unsaid : (event : Outgoing) → passes WebSocket scene.facts (said_in scene view) event ≡ false → Invariant scene now half read (record view { got = view.got ++ Event event ∷ [] })
+  unsaid event other =
+      let later : ConnView Msg Output = record view { got = view.got ++ Event event ∷ [] } in
+      let same : accepted_session scene.facts (taken_of later) ≡ said_in scene view =
+      ap (accepted_session scene.facts) (events_append view.got (Event event ∷ [])) ∙ same_said scene.facts (taken_of view) event other in
+      let talks = talks_on scene half view Running later.got view.broken_first same at.0 in
+      let added : List Output = added_by (exchange_of scene) (taken_of later) (end_of later.got) later.broken_first later.arrived in
+      subst (λ (s : Stage). Invariant scene now (record half { stage = s }) read later) (sym is)
+      (record {
+        fixed = x.fixed;
+        text = x.text;
+        leftover = x.leftover;
+        handed = x.handed;
+        line = line_at Running refl;
+        written = x.written;
+        carried = carried_on scene half view Running later.got view.broken_first same half.answered x.text x.leftover x.handed x.carried;
+        keeps = record { offered = x.keeps.offered; written = (added, ap (λ (l : List Output). l ++ added) talks.written) };
+        breaks = x.breaks;
+        stage = (talks, end_event view.got event ∙ at.1, due_on scene half view Running later.got view.broken_first same half.due at.2);
+      })
+
+  -- the judge knows the facts of the half, which are those of the scene
+  judged_here : judging.StandsFor half.judge WebSocket half.facts (said_in scene view) false
+  judged_here = subst (λ (f : Facts). judging.StandsFor half.judge WebSocket f (said_in scene view) false) (sym x.fixed.facts_are) at.0.judged
+
+  module _ (event : Outgoing) (answer : Verdict)
+      (judged : (said : List Outgoing) → judging.StandsFor half.judge WebSocket half.facts said false → answer ≡ verdict_on WebSocket half.facts said false event) where
+    -- the verdict is that on what was sent
+    verdict_is : answer ≡ verdict_on WebSocket scene.facts (said_in scene view) false event
+    verdict_is = subst (λ (f : Facts). answer ≡ verdict_on WebSocket f (said_in scene view) false event) x.fixed.facts_are (judged (said_in scene view) judged_here)
+
+    pub not_passed : (after : Judge) → (answer ≡ verdict.Pass → ⊥) → (answer ≢ verdict.Pass → after ≡ half.judge)
+        → (written : List Output) × Invariant scene now (record half { judge = after }) read (record view { got = view.got ++ Event event ∷ []; written = written })
+    not_passed after fails kept =
+        subst (λ (j : Judge). (written : List Output) × Invariant scene now (record half { judge = j }) read (record view { got = view.got ++ Event event ∷ []; written = written })) (sym (kept fails))
+        (view.written, unsaid event (ap is_pass (sym verdict_is) ∙ no_pass answer fails))
+
+    pub passed : answer ≡ verdict.Pass → passes WebSocket scene.facts (said_in scene view) event ≡ true
+    passed pass = ap is_pass (sym verdict_is ∙ pass)
+
+  -- after the event the judge stands for that too
+  pub judged_after : (event : Outgoing) (after : Judge)
+      → ((said : List Outgoing) → judging.StandsFor half.judge WebSocket half.facts said false → judging.StandsFor after WebSocket half.facts (said ++ event ∷ []) false)
+      → judging.StandsFor after WebSocket scene.facts (said_in scene view ++ event ∷ []) false
+  judged_after event after keeps =
+      subst (λ (f : Facts). judging.StandsFor after WebSocket f (said_in scene view ++ event ∷ []) false) x.fixed.facts_are (keeps (said_in scene view) judged_here)
+
+-- ---- an exchange begins
+
+pub begun : (scene : SessionScene) (now : LineState) (wire : Wire) (facts : Facts) (text : ResponseText) (leftover : Vec ℕ Global) (read : List ℕ) (judge : Judge) (spare_reads : ℕ)
+    → spare_reads ≤ drop_limit → OpensSession scene now wire facts text leftover.items read → judging.StandsFor judge WebSocket scene.facts [] false
+    → Invariant scene now
+    (record {
+      wire = wire;
+      facts = facts;
+      judge = judge;
+      text = text;
+      leftover = leftover;
+      answered = Unanswered;
+      due = due.Waits WsConnect;
+      input_broke = false;
+      client_closed = false;
+      is_over = false;
+      spare_reads = spare_reads;
+      stage = Running;
+    })
+    read empty_conn
+begun scene now wire facts text leftover read judge spare_reads within o judged = record {
+  fixed = o.fixed;
+  text = [];
+  leftover = None;
+  handed = [];
+  line = subst (λ (l : List ℕ). CarriesOn scene.start now wire.input read l 0 no_traffic spare_reads) (sym (append-nil scene.before)) (talk_begins scene.start now wire.input read scene.before spare_reads within o.moved);
+  written = refl;
+  carried = (record { kept = refl; received = refl; over = refl; unclosed = refl; sent = refl }, o.frames);
+  keeps = record { offered = (session_events [], refl); written = (output (exchange_of scene) empty_conn, refl) };
+  breaks = λ e. cc;
+  stage = (
+    record {
+      uncut = refl;
+      input_broke = refl;
+      judged = judged;
+      answered = refl;
+      text = λ e. o.denial;
+      written = refl;
+      empty = o.empty;
+      closed = λ e. cc;
+    },
+    refl,
+    (refl, refl, refl, λ e. cc),
+  );
+}

@@ -1,0 +1,18 @@
+use Rattle.std.proofs.Common.{◌++◌, ◌∷◌, [], List, ap, sym, ◌∙◌, Some}
+use Rattle.std.specs.Prelude.{is_some, not}
+use Rattle.asgi_types.specs.declared.incoming.Incoming.{Incoming}
+use Rattle.asgi_types.specs.declared.incoming.Incoming.TheVariants.{HttpDisconnect}
+use Rattle.asgi_exchange.specs.Views.{ByInput}
+use Rattle.asgi_halves.proofs.HalfInLemmas.{broken_off, none_broke}
+use Rattle.asgi_halves.proofs.half.HttpHalf.break_off.Goals as goal
+
+pub returns-clause-leads : goal.returns-clause-leads
+returns-clause-leads g c scene line read view x is_view =
+    let half = c.args.self.now in
+    let unbroken = sym is_view.1 ∙ ap is_some (none_broke scene line half read view x c.requires.running.0 c.requires.running.1) in
+    let offered = c.offer_disconnect.ensures.yes (c.offer_disconnect.ensures.first ∙ ap not unbroken) in
+    let same = c.offer_disconnect.ensures.same in (
+      record view { offered = view.offered ++ HttpDisconnect ∷ []; broken = Some ByInput },
+      broken_off scene line half read view x c.requires.running.0 c.requires.running.1 c.requires.due,
+      (ap (λ (l : List Incoming). l ++ HttpDisconnect ∷ []) is_view.0 ∙ sym offered, sym c.offer_disconnect.ensures.broken, is_view.2 ∙ sym same.0),
+    )

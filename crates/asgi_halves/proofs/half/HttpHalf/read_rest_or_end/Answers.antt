@@ -1,0 +1,6 @@
+use Rattle.std.proofs.Common.{[]}
+use Rattle.asgi_halves.proofs.HalfEndLemmas.{stays_there}
+use Rattle.asgi_halves.proofs.half.HttpHalf.read_rest_or_end.Goals as goal
+
+pub returns-in-Waits-clause-leads : goal.returns-in-Waits-clause-leads
+returns-in-Waits-clause-leads g c scene read view x = ([], view.arrived, view.written, stays_there scene _ _ read view x)

@@ -1,0 +1,46 @@
+use Rattle.std.proofs.Common.{◌≡◌, ℕ, List, ◌++◌, take, arith, subst, sym, inl, ◌∙◌}
+use Rattle.std.proofs.lemmas.List.{take_at}
+use Rattle.asgi_request.specs.declared.next.Next.{Next}
+use Rattle.asgi_request.specs.Reading.{StandsFor}
+use Rattle.asgi_io.specs.Answers.{bytes_of}
+use Rattle.asgi_conversation.specs.declared.input.InputEnd.{InputEnd}
+use Rattle.asgi_run.specs.Lines.{Transferred, state_of}
+use Rattle.asgi_run.proofs.LineLemmas.{gave, session_is, told_as, moved_by_open_read}
+use Rattle.asgi_halves.proofs.ReadAheadLemmas.{short_piece}
+use Rattle.asgi_halves.proofs.wire.Wire.read.Goals as goal
+
+pub returns-in-Ok-clause-moved : goal.returns-in-Ok-clause-moved
+returns-in-Ok-clause-moved g c =
+    let buffer = c.read_some-read.new.buf in
+    let a = c.answer_of-answer.result in
+    let x = gave _ _ buffer c.read_some-read.result a c.read_some-read.ensures.bound c.read_some-read.ensures.bytes (omega (arith, c.read_some-read.auto.buf)) c.answer_of-answer.ensures in
+    let stay = g.met.L.Line.writes_stay _ _ c.read_some-read.ensures.beside in (
+      take (bytes_of a) buffer,
+      λ start read written failures moved.
+          subst (λ (end : InputEnd). Transferred start (state_of g.L.Reads g.L.Counts g.L.Messages c.read_some-read.new.self) end (read ++ take (bytes_of a) buffer) written failures)
+          (sym c.take_in-taken.ensures.input)
+          (moved_by_open_read start (state_of g.L.Reads g.L.Counts g.L.Messages c.args.line.now) _ c.args.self.now.input read written failures buffer a c.requires moved x
+          (told_as _ _ buffer c.read_some-read.result a c.read_some-read.ensures.told (omega (arith, c.read_some-read.auto.buf)) c.answer_of-answer.ensures) stay.0 stay.1.1 stay.1.0 (session_is _ _ (g.met.L.Line.session_stays _ _ (inl c.read_some-read.ensures.beside)))),
+      (
+          let same : c.deref.result.now ≡ buffer = c.deref.ensures.value ∙ take_at buffer _ _ (omega (arith, c.read_some-read.auto.buf, c.deref_mut.ensures.len)) in
+          subst (λ (l : List ℕ). (bytes : List ℕ) (given : List Next) → StandsFor c.args.self.now.requests bytes given → StandsFor c.take_in-taken.new.self.requests (bytes ++ take (bytes_of a) l) given)
+          same c.in-Ok.ensures.fed
+          ),
+      short_piece buffer (bytes_of a) (omega (arith, c.read_some-read.auto.buf)) x.fits,
+    )
+
+pub returns-in-Err-clause-moved : goal.returns-in-Err-clause-moved
+returns-in-Err-clause-moved g c =
+    let buffer = c.read_some-read.new.buf in
+    let a = c.answer_of-answer.result in
+    let x = gave _ _ buffer c.read_some-read.result a c.read_some-read.ensures.bound c.read_some-read.ensures.bytes (omega (arith, c.read_some-read.auto.buf)) c.answer_of-answer.ensures in
+    let stay = g.met.L.Line.writes_stay _ _ c.read_some-read.ensures.beside in (
+      take (bytes_of a) buffer,
+      λ start read written failures moved.
+          subst (λ (end : InputEnd). Transferred start (state_of g.L.Reads g.L.Counts g.L.Messages c.read_some-read.new.self) end (read ++ take (bytes_of a) buffer) written failures)
+          (sym c.take_in-taken.ensures.input)
+          (moved_by_open_read start (state_of g.L.Reads g.L.Counts g.L.Messages c.args.line.now) _ c.args.self.now.input read written failures buffer a c.requires moved x
+          (told_as _ _ buffer c.read_some-read.result a c.read_some-read.ensures.told (omega (arith, c.read_some-read.auto.buf)) c.answer_of-answer.ensures) stay.0 stay.1.1 stay.1.0 (session_is _ _ (g.met.L.Line.session_stays _ _ (inl c.read_some-read.ensures.beside)))),
+      tt,
+      short_piece buffer (bytes_of a) (omega (arith, c.read_some-read.auto.buf)) x.fits,
+    )

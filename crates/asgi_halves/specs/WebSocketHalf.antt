@@ -1,0 +1,306 @@
+-- The invariant of the half of an opening handshake's exchange, which the members of its `Half` name.
+use Rattle.std.specs.Prelude.{◌≡◌, ◌≢◌, ◌⊎◌, ℕ, ⊤, Bool, true, false, List, [], ◌∷◌, ◌++◌, map, Option, Some, None, if◌then◌else◌, ◌≤◌, ◌+◌}
+use mathlib.Core.List.{IsPrefix}
+use Rattle.asgi_types.specs.Fields.{HeaderField}
+use Rattle.asgi_types.specs.declared.end_kind.EndKind.{EndKind}
+use Rattle.asgi_types.specs.declared.facts.Facts.{Facts}
+use Rattle.asgi_types.specs.declared.limits.Limits.{Limits}
+use Rattle.asgi_types.specs.declared.outgoing.Outgoing.{Outgoing}
+use Rattle.asgi_types.specs.declared.outgoing.Outgoing.TheVariants.{WsAccept, WsClose, DenialStart, DenialBody}
+use Rattle.asgi_types.specs.declared.incoming.Incoming.TheVariants.{WsReceive}
+use Rattle.asgi_types.specs.declared.incoming.Payload.TheVariants as payload
+use Rattle.asgi_types.specs.declared.scope.Kind.TheVariants.{WebSocket}
+use Rattle.asgi_types.specs.declared.scope.Scope.{Scope}
+use Rattle.asgi_protocol.specs.declared.judge.Judge.{Judge}
+use Rattle.asgi_protocol.specs.Passing.{passes}
+use Rattle.asgi_protocol.specs.Shapes.{is_closed}
+use Rattle.asgi_protocol.specs.Stages as judging
+use Rattle.asgi_pipes.specs.declared.items.OutItem.TheVariants.{Event}
+use Rattle.asgi_request.specs.declared.next.Next.{Next}
+use Rattle.asgi_request.specs.declared.next.Next.TheVariants.{Head}
+use Rattle.asgi_request.specs.Opened.{BeginsWithHandshake}
+use Rattle.asgi_request.specs.Reading.{StandsFor}
+use Rattle.asgi_response.specs.Standing as standing
+use Rattle.asgi_response.specs.declared.text.ResponseText.{ResponseText}
+use Rattle.asgi_exchange.specs.Exchange.{Exchange}
+use Rattle.asgi_exchange.specs.Halves.{ConnKeeps}
+use Rattle.asgi_exchange.specs.Items.{end_of}
+use Rattle.asgi_exchange.specs.Messages.{has_close, disconnect_of, session_events, session_disconnect}
+use Rattle.asgi_exchange.specs.Session.{Output, Byte, Message, accepted_session, session_output}
+use Rattle.asgi_exchange.specs.ExchangeTexts.{session_text}
+use Rattle.asgi_exchange.specs.Steps.{is_by_input, is_by_cut}
+use Rattle.asgi_exchange.specs.Views.{ConnView, World, said_of, taken_of}
+use Rattle.asgi_exchange.specs.WebSocket.{web_socket}
+use Rattle.asgi_ws.specs.declared.messages.SentMessage.{SentMessage}
+use Rattle.asgi_ws.specs.declared.messages.Msg.{Msg}
+use Rattle.asgi_ws.specs.declared.messages.Msg.TheVariants.{Text, Bytes, Ping, Pong, Close}
+use Rattle.asgi_ws.specs.declared.messages.Put.{Put}
+use Rattle.asgi_ws.specs.declared.messages.Put.TheVariants as put
+use Rattle.asgi_conversation.specs.declared.following.NextStep.TheVariants.{NextRequest, ConnectionEnds}
+use Rattle.asgi_conversation.specs.declared.report.Outcome.{Outcome}
+use Rattle.asgi_conversation.specs.declared.report.Outcome.TheVariants.{Finished, InputBroke, WriteFailed, NoMemory}
+use Rattle.asgi_conversation.specs.OutcomeClasses.{OutcomeClass, Uncut, ByWrite, GivenUp, Lacking, Unbegun, class_of}
+use Rattle.asgi_conversation.specs.Exchanges.{AreAnswered, answer_texts, requests_of}
+use Rattle.asgi_conversation.specs.ExchangeRecord.{ExchangeRecord}
+use Rattle.asgi_conversation.specs.Sessions.{SessionTraffic, handshake_of, after_session, StopsSession}
+use Rattle.asgi_conversation.specs.SoFar.{Between}
+use Rattle.asgi_halves.specs.declared.stage.Stage.{Stage}
+use Rattle.asgi_halves.specs.declared.stage.Stage.TheVariants.{Running, Ending, Cut, Over}
+use Rattle.asgi_halves.specs.declared.session_half.Answered.{Answered}
+use Rattle.asgi_halves.specs.declared.session_half.Answered.TheVariants.{Unanswered, Open, Closed, Refused}
+use Rattle.asgi_halves.specs.declared.session_half.Due.{Due}
+use Rattle.asgi_halves.specs.declared.session_half.Due.TheVariants as due
+use Rattle.asgi_halves.specs.declared.session_half.WebSocketHalf.{WebSocketHalf}
+use Rattle.asgi_halves.specs.declared.wire.Wire.{Wire}
+use Rattle.asgi_run.specs.AnyHalf.{PreservesInLine}
+use Rattle.asgi_halves.specs.Half.{failures_at}
+use Rattle.asgi_run.specs.Lines.{LineState, Transferred}
+use Rattle.asgi_halves.specs.ReadAhead.{ReadsAhead}
+use Rattle.asgi_halves.specs.Traffic.{HasCarried, drop_limit}
+use Rattle.asgi_ws.specs.Sessions.{reads_after_close}
+use Rattle.asgi_conversation.specs.declared.input.InputEnd.{InputEnd}
+
+-- The traffic of a session so far, after which this many more messages may be read after a close.
+pub record CarriesOn (start now : LineState) (end : InputEnd) (read text : List ℕ) (failures : ℕ) (traffic : SessionTraffic) (spare : ℕ) : Type 0 where
+  pub carried : HasCarried start now end read text failures traffic
+  pub within : reads_after_close carried.calls + spare ≤ drop_limit
+
+-- The constants of one exchange: what was known of the line when the connection began, the exchanges before this one and what
+-- was written for them, the handshake, the bytes after it, and all that was read: no more text is.
+pub record SessionScene : Type 0 where
+  pub limits : Limits
+  pub start : LineState
+  pub exchanges : List ExchangeRecord
+  pub before : List ℕ
+  pub scope : Scope
+  pub facts : Facts
+  pub frames : List ℕ
+  pub read : List ℕ
+
+-- the exchange of the scene
+abbrev pub exchange_of : SessionScene → Exchange Msg Output
+exchange_of scene = web_socket (handshake_of scene.facts) scene.facts scene.limits.ring
+
+-- the exchange, as far as its connection knows it
+abbrev pub known : SessionScene → ConnView Msg Output → ExchangeRecord
+known scene view =
+    record { scope = scene.scope; facts = scene.facts; heard = []; said = taken_of view; ended = end_of view.got; input_broke = is_by_input view.broken }
+
+-- the exchange, as it is in the end
+abbrev pub session_of : SessionScene → World Msg Output → ExchangeRecord
+session_of scene w =
+    record { scope = scene.scope; facts = scene.facts; heard = w.app.heard; said = said_of w.app; ended = end_of w.app.put; input_broke = is_by_input w.conn.broken }
+
+-- what was taken, as far as a judge passes it
+abbrev pub said_in : SessionScene → ConnView Msg Output → List Outgoing
+said_in scene view = accepted_session scene.facts (taken_of view)
+
+-- all that is to be written of what was taken
+abbrev pub output_in : SessionScene → ConnView Msg Output → List Output
+output_in scene view = session_output (handshake_of scene.facts) scene.facts (taken_of view)
+
+-- ---- what does not change
+
+-- The requests were answered, and after them comes the handshake.
+pub record IsOf (scene : SessionScene) (facts : Facts) (wire : Wire) (read : List ℕ) : Type 0 where
+  pub facts_are : facts ≡ scene.facts
+  pub limits_are : wire.limits ≡ scene.limits
+  pub after : List ℕ
+  pub answered : AreAnswered scene.limits wire.input read scene.exchanges after
+  pub head : BeginsWithHandshake scene.limits after scene.scope scene.facts scene.frames
+  pub before_is : scene.before ≡ answer_texts scene.exchanges
+  pub read_is : read ≡ scene.read
+
+-- ---- the line
+
+abbrev pub talk_in : WebSocketHalf → ConnView Msg Output → Option (List ℕ) → List SentMessage → SessionTraffic
+talk_in half view leftover handed = record { leftover = leftover; received = view.arrived; is_over = half.is_over; handed = handed }
+
+-- the writes of text that failed: once the session is open, no text is written any more
+abbrev pub text_failures : Answered → Stage → ℕ
+text_failures Unanswered stage = failures_at stage
+text_failures Refused stage = failures_at stage
+text_failures Open stage = 0
+text_failures Closed stage = 0
+
+-- no message passed by
+pub record IsSilent (half : WebSocketHalf) (view : ConnView Msg Output) (leftover : Option (List ℕ)) (handed : List SentMessage) : Type 0 where
+  pub kept : leftover ≡ None
+  pub received : view.arrived ≡ []
+  pub over : half.is_over ≡ false
+  pub unclosed : half.client_closed ≡ false
+  pub sent : handed ≡ []
+
+-- the accept is written whole, and the line carries messages, those in the bytes after the handshake first
+pub record IsCarrying (scene : SessionScene) (view : ConnView Msg Output) (text : List ℕ) (leftover : Option (List ℕ)) : Type 0 where
+  pub kept : leftover ≡ Some scene.frames
+  pub subprotocol : Option (List ℕ)
+  pub headers : List HeaderField
+  pub events : List Outgoing
+  pub said : said_in scene view ≡ WsAccept subprotocol headers ∷ events
+  pub text_is : text ≡ handshake_of scene.facts subprotocol headers
+
+abbrev pub IsCarried : Answered → SessionScene → WebSocketHalf → ConnView Msg Output → List ℕ → Option (List ℕ) → List SentMessage → Type 0
+IsCarried Unanswered scene half view text leftover handed = IsSilent half view leftover handed × (half.leftover.items ≡ scene.frames)
+IsCarried Refused scene half view text leftover handed = IsSilent half view leftover handed
+IsCarried Open scene half view text leftover handed = IsCarrying scene view text leftover
+IsCarried Closed scene half view text leftover handed = IsCarrying scene view text leftover
+
+-- ---- what is due
+
+-- all that is due was offered, if the application did not close the session
+abbrev pub IsDue : Due → WebSocketHalf → ConnView Msg Output → Type 0
+IsDue due.Nothing half view =
+    half.answered ≢ Closed → half.input_broke ≡ false → (view.offered ≡ session_events view.arrived) × (has_close view.arrived ≡ false)
+IsDue (due.Waits event) half view =
+    (half.input_broke ≡ false) × (view.offered ++ event ∷ [] ≡ session_events view.arrived) × (has_close view.arrived ≡ false) × (half.answered ≢ Closed)
+IsDue (due.Left disconnect) half view =
+    (half.input_broke ≡ false) × (view.offered ≡ session_events view.arrived) × (disconnect ≡ session_disconnect view.arrived)
+    × ((has_close view.arrived ≡ true) ⊎ (half.is_over ≡ true)) × (half.answered ≢ Closed)
+
+-- ---- the stages
+
+-- how far the answer to the handshake is, by what the application sent
+abbrev pub answer_to : List Outgoing → Answered
+answer_to (WsAccept subprotocol headers ∷ events) = if is_closed WebSocket (WsAccept subprotocol headers ∷ events) then Closed else Open
+answer_to (WsClose code reason ∷ events) = Refused
+answer_to _ = Unanswered
+
+-- Not cut short, and all that was taken is written.
+pub record Talks (scene : SessionScene) (half : WebSocketHalf) (view : ConnView Msg Output) : Type 0 where
+  pub uncut : is_by_cut view.broken ≡ false
+  pub input_broke : half.input_broke ≡ is_by_input view.broken
+  pub judged : judging.StandsFor half.judge WebSocket scene.facts (said_in scene view) false
+  pub answered : half.answered ≡ answer_to (said_in scene view)
+  pub text : half.answered ≡ Unanswered → standing.StandsForSession half.text scene.facts (said_in scene view)
+  pub written : view.written ≡ output_in scene view
+  pub empty : half.wire.out.items ≡ []
+  pub closed : half.answered ≡ Open → half.client_closed ≡ has_close view.arrived
+
+-- The connection is cut short: if a write failed, n bytes of what was next are out, else nothing.
+abbrev pub IsCutShortAs : OutcomeClass → SessionScene → ConnView Msg Output → Type 0
+IsCutShortAs Uncut scene view = ⊥
+IsCutShortAs (ByWrite n) scene view = StopsSession n (known scene view) view.written
+IsCutShortAs GivenUp scene view = IsPrefix view.written (output_in scene view)
+IsCutShortAs Lacking scene view = IsPrefix view.written (output_in scene view)
+IsCutShortAs Unbegun scene view = ⊥
+
+abbrev pub IsCutShort : SessionScene → ConnView Msg Output → Outcome → Type 0
+IsCutShort scene view outcome = IsCutShortAs (class_of outcome) scene view
+
+-- The end of the task was taken, and the connection ends as that end requires.
+pub record EndsByTask (scene : SessionScene) (view : ConnView Msg Output) (outcome : Outcome) : Type 0 where
+  pub kind : EndKind
+  pub taken : end_of view.got ≡ Some kind
+  pub uncut : is_by_cut view.broken ≡ false
+  pub follows : after_session kind (said_in scene view) (is_by_input view.broken) view.arrived ≡ outcome
+  pub out : view.written ≡ session_text (handshake_of scene.facts) scene.facts (taken_of view) (end_of view.got) (is_by_input view.broken)
+
+abbrev pub IsAt : Stage → SessionScene → WebSocketHalf → ConnView Msg Output → Type 0
+IsAt Running scene half view = Talks scene half view × (end_of view.got ≡ None) × IsDue half.due half view
+-- what the end adds depends on the breaks before it
+IsAt (Ending kind) scene half view = Talks scene half view × (end_of view.got ≡ Some kind) × (view.broken_first ≡ is_by_input view.broken)
+IsAt (Cut outcome) scene half view = IsCutShort scene view outcome × (end_of view.got ≡ None)
+IsAt (Over NextRequest) scene half view = ⊥
+IsAt (Over (ConnectionEnds outcome)) scene half view = EndsByTask scene view outcome ⊎ IsCutShort scene view outcome
+
+-- ---- the half
+
+-- The half's invariant in its exchange, with the bytes read since the connection began: no more of them are read as text.
+pub record Invariant (scene : SessionScene) (now : LineState) (half : WebSocketHalf) (read : List ℕ) (view : ConnView Msg Output) : Type 0 where
+  pub fixed : IsOf scene half.facts half.wire read
+  pub text : List ℕ
+  pub leftover : Option (List ℕ)
+  pub handed : List SentMessage
+  pub line : CarriesOn scene.start now half.wire.input read (scene.before ++ text) (text_failures half.answered half.stage) (talk_in half view leftover handed) half.spare_reads
+  pub written : view.written ≡ map Byte text ++ map Message handed
+  pub carried : IsCarried half.answered scene half view text leftover handed
+  pub keeps : ConnKeeps (exchange_of scene) view
+  -- a disconnect was offered because the client closed, or because no message follows
+  pub breaks : is_by_input view.broken ≡ true → (has_close view.arrived ≡ true) ⊎ (half.is_over ≡ true)
+  pub stage : IsAt half.stage scene half view
+
+-- The exchange may begin.
+pub record OpensSession (scene : SessionScene) (now : LineState) (wire : Wire) (facts : Facts) (text : ResponseText) (leftover read : List ℕ) : Type 0 where
+  pub fixed : IsOf scene facts wire read
+  pub moved : Transferred scene.start now wire.input read scene.before 0
+  pub denial : standing.StandsForSession text scene.facts []
+  pub frames : leftover ≡ scene.frames
+  pub empty : wire.out.items ≡ []
+
+-- The reader has given an opening handshake, after requests that were answered.
+pub record OpensHandshake (scene : SessionScene) (now : LineState) (wire : Wire) (facts : Facts) (read : List ℕ) : Type 0 where
+  pub facts_are : facts ≡ scene.facts
+  pub read_is : read ≡ scene.read
+  pub limits_are : wire.limits ≡ scene.limits
+  pub reader_limits : wire.requests.limits ≡ scene.limits
+  pub moved : Transferred scene.start now wire.input read scene.before 0
+  pub given : List Next
+  pub after : List ℕ
+  pub between : Between scene.limits wire.input read given scene.exchanges after scene.before
+  pub stands : StandsFor wire.requests read (given ++ Head scene.scope scene.facts ∷ [])
+  pub head : BeginsWithHandshake scene.limits after scene.scope scene.facts scene.frames
+  pub ahead : ReadsAhead scene.limits read (requests_of scene.exchanges)
+  pub empty : wire.out.items ≡ []
+
+-- ---- the clauses of the steps
+
+-- its end of the pair is called, and the line does not move
+abbrev pub PreservesByEnd : WebSocketHalf → (ConnView Msg Output → Type 0) → WebSocketHalf → (ConnView Msg Output → Type 0) → Type 0
+PreservesByEnd = PreservesInLine Invariant
+
+-- the line moves on, and its end of the pair is not called
+abbrev pub PreservesByLine : LineState → WebSocketHalf → LineState → WebSocketHalf → Type 0
+PreservesByLine was old now new =
+    (scene : SessionScene) (read : List ℕ) (view : ConnView Msg Output) → Invariant scene was old read view
+    → (arrived : List Msg) × (written : List Output) × Invariant scene now new read (record view { arrived = arrived; written = written })
+
+-- the same, if this event was taken before
+abbrev pub Says : LineState → WebSocketHalf → Outgoing → LineState → WebSocketHalf → Type 0
+Says was old event now new =
+    (scene : SessionScene) (read : List ℕ) (view : ConnView Msg Output) → Invariant scene was old read view
+    → (written : List Output) × Invariant scene now new read (record view { got = view.got ++ Event event ∷ []; written = written })
+
+-- the same, if the judge has passed the event: the invariant held with an earlier judge
+abbrev pub Speaks : LineState → WebSocketHalf → Outgoing → LineState → WebSocketHalf → Type 0
+Speaks was old event now new =
+    (scene : SessionScene) (read : List ℕ) (view : ConnView Msg Output) (before : Judge) → Invariant scene was (record old { judge = before }) read view
+    → passes WebSocket scene.facts (said_in scene view) event ≡ true
+    → judging.StandsFor old.judge WebSocket scene.facts (said_in scene view ++ event ∷ []) false
+    → (written : List Output) × Invariant scene now new read (record view { got = view.got ++ Event event ∷ []; written = written })
+
+-- ---- what single steps do
+
+abbrev pub IsAccept : Outgoing → Type 0
+IsAccept (WsAccept subprotocol headers) = ⊤
+IsAccept _ = ⊥
+
+abbrev pub IsDenial : Outgoing → Type 0
+IsDenial (DenialStart status headers) = ⊤
+IsDenial (DenialBody body more_body) = ⊤
+IsDenial _ = ⊥
+
+-- the stage after a message was handed over
+abbrev pub stage_of : Put → Stage
+stage_of put.Done = Running
+stage_of put.Failed = Cut (WriteFailed 0)
+stage_of put.NoMemory = Cut NoMemory
+
+-- what a message makes due
+abbrev pub heard_by : WebSocketHalf → Msg → WebSocketHalf
+heard_by half (Text text) = record half { due = due.Waits (WsReceive (payload.Text text)) }
+heard_by half (Bytes bytes) = record half { due = due.Waits (WsReceive (payload.Bytes bytes)) }
+heard_by half Ping = half
+heard_by half Pong = half
+heard_by half (Close close) = record half { client_closed = true; due = due.Left (disconnect_of (Some close)) }
+
+-- how a session ends that the application left open, after its disconnect
+abbrev pub outcome_after : (client_closed : Bool) → Outcome
+outcome_after true = Finished
+outcome_after false = InputBroke
+
+-- Messages may be read and dropped: after a close of either side, or once the exchange is over.
+abbrev pub MayDrop : WebSocketHalf → Type 0
+MayDrop half =
+    ((half.stage ≡ Running) × (half.due ≡ due.Nothing) × ((half.answered ≡ Closed) ⊎ ((half.answered ≡ Open) × (half.input_broke ≡ true))))
+    ⊎ ((half.stage ≡ Over (ConnectionEnds Finished)) × ((half.answered ≡ Open) ⊎ (half.answered ≡ Closed)))

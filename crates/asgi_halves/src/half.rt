@@ -1,0 +1,508 @@
+//! The connection's half of an exchange: it reads, offers what is due, takes what the application sent,
+//! and writes. The half knows only its own end of the pair, whatever thread the application runs in.
+ghost use Rattle.std.specs.Prelude.{◌≡◌, ◌≢◌, ◌↔◌, true, false, [], ◌∷◌, ◌++◌, map, List, ℕ, IsTrue, IsFalse, OnOk};
+ghost use Rattle.asgi_types.specs.declared.facts.Facts.{Facts};
+ghost use Rattle.asgi_types.specs.declared.facts.Framing.{Framing};
+ghost use Rattle.asgi_types.specs.declared.incoming.Incoming.{Incoming};
+ghost use Rattle.asgi_types.specs.declared.outgoing.Outgoing.{Outgoing};
+ghost use Rattle.asgi_request.specs.declared.next.Next.{Next};
+ghost use Rattle.asgi_request.specs.Opened.{HasOpened};
+ghost use Rattle.asgi_request.specs.Reading.{Reading};
+ghost use Rattle.asgi_response.specs.Progress.{progress_of};
+ghost use Rattle.asgi_response.specs.Standing as standing;
+ghost use Rattle.asgi_exchange.specs.Calls.{IsViewOf};
+ghost use Rattle.asgi_exchange.specs.Views.{ConnView, empty_conn};
+ghost use Rattle.asgi_halves.specs.Half.{Scene, Invariant, HasGiven, EndsWhere, IsSettled, BreaksAt};
+ghost use Rattle.asgi_halves.specs.private.HalfSteps.{Pending, PreservesByLine, PreservesByEnd, KeepsBesidesBody, GivesOn, GivesAfter, GaveNext, HasAsked, HoldsFew, IsFree, ReadsAt, EndsAtInput, NeedsBody, known_input};
+ghost use Rattle.asgi_halves.specs.Half.{Opens};
+ghost use Rattle.asgi_run.specs.Lines.{state_of};
+ghost use Rattle.asgi_conversation.specs.declared.following.NextStep.{NextStep};
+ghost use Rattle.asgi_conversation.specs.TaskEnds.{has_ended};
+
+use crate::kind::ExchangeKind;
+use crate::stage::Stage;
+use crate::wire::Wire;
+use asgi_conversation::{InputEnd, NextStep, Outcome, after_task};
+use asgi_io::Turn;
+use asgi_pipes::{ConnEnd, EndKind, OutItem};
+use asgi_request::Next;
+use asgi_response::{Input, Progress, ResponseText};
+use asgi_types::{Facts, Incoming, Outgoing};
+use asgi_ws::Line;
+use std::alloc::AllocError;
+use std::mem;
+
+/// More is read only while fewer bytes than these are held after the request in hand.
+const AHEAD: usize = 65_536;
+
+/// How far the body of the request in hand has come, by what the reader gave.
+#[derive(Debug, Drop)]
+pub enum BodyProgress {
+    /// More of it may be given.
+    Open,
+    /// This event waits for a free place in the queue.
+    Waits(Incoming),
+    /// The body is whole.
+    Whole,
+    /// The reader refused it with this status.
+    Refused(u16),
+    /// The input ended or failed inside the body.
+    BrokenOff,
+}
+
+/// The connection's half of an exchange.
+#[derive(Drop)]
+pub struct HttpHalf {
+    /// What the connection keeps from exchange to exchange.
+    pub wire: Wire,
+    /// How far the body of the request is.
+    pub body: BodyProgress,
+    /// How far the text of the response is.
+    pub text: ResponseText,
+    /// A disconnect was offered because the input ended, failed or was faulty.
+    pub input_broke: bool,
+    /// How far the exchange is.
+    pub stage: Stage,
+}
+
+impl HttpHalf {
+    /// Begins an exchange: a client that waits for `100 Continue` is sent it (RFC 9110, section 10.1.1).
+    /// If memory is refused or the write fails, the connection is cut short.
+    pub fn begin<L: Line>(wire: Wire, text: ResponseText, line: &mut L) -> HttpHalf
+        ensures begins { (scene : Scene) (facts : Facts) (read arrived : List ℕ) → Opens scene (state_of L.Reads L.Counts L.Messages.own line.old) wire facts read arrived → standing.StandsFor text facts []
+            → (written : List ℕ) × Invariant scene (state_of L.Reads L.Counts L.Messages.own line.new) result read (record empty_conn { arrived = arrived; written = written }) }
+        ensures limits { result.wire.limits ≡ wire.limits }
+        ensures open { (following : NextStep) → result.stage ≢ Stage.Over following }
+    {
+        let mut half = HttpHalf {
+            wire,
+            body: BodyProgress::Open,
+            text,
+            input_broke: false,
+            stage: Stage::Running,
+        };
+        match half.text.begin(&mut half.wire.out) {
+            Ok(()) => half.put(line),
+            Err(_) => half.stage = Stage::Cut(Outcome::NoMemory),
+        }
+        half
+    }
+
+    // ---- what the application sent
+
+    /// Writes what an event adds.
+    fn say<L: Line>(&mut self, event: &Outgoing, line: &mut L)
+        requires { self.old.stage ≡ Stage.Running }
+        ensures says { (scene : Scene) (read : List ℕ) (view : ConnView ℕ ℕ) → Invariant scene (state_of L.Reads L.Counts L.Messages.own line.old) self.old read view
+            → (written : List ℕ) × Invariant scene (state_of L.Reads L.Counts L.Messages.own line.new) self.new read (record view { got = view.got ++ OutItem.Event event.now ∷ []; written = written }) }
+        ensures limits { self.new.wire.limits ≡ self.old.wire.limits }
+    {
+        match self.text.take(event, &mut self.wire.out) {
+            Ok(()) => self.put(line),
+            Err(_) => self.stage = Stage::Cut(Outcome::NoMemory),
+        }
+    }
+
+    /// Writes the text in hand.
+    fn put<L: Line>(&mut self, line: &mut L)
+        ensures puts { (scene : Scene) (read : List ℕ) (view : ConnView ℕ ℕ) → Pending scene (state_of L.Reads L.Counts L.Messages.own line.old) self.old read view
+            → (written : List ℕ) × Invariant scene (state_of L.Reads L.Counts L.Messages.own line.new) self.new read (record view { written = written }) }
+        ensures limits { self.new.wire.limits ≡ self.old.wire.limits }
+        ensures open { (following : NextStep) → self.new.stage ≡ Stage.Over following → self.old.stage ≡ Stage.Over following }
+    {
+        if let Some(n) = self.wire.put(line) {
+            self.stage = Stage::Cut(Outcome::WriteFailed(n));
+        }
+    }
+
+    // ---- what is due
+
+    /// Offers what is due, as far as places are free.
+    fn offer_all<C: ConnEnd>(&mut self, end: &mut C) -> bool
+        ensures leads { PreservesByEnd self.old (IsViewOf C.ConnEnd end.old) self.new (IsViewOf C.ConnEnd end.new) }
+        ensures tag { (C.tag end.new ≡ C.tag end.old) × (C.ring end.new ≡ C.ring end.old) }
+        ensures limits { self.new.wire.limits ≡ self.old.wire.limits }
+        ensures asked { IsFalse result → self.new.stage ≡ Stage.Running → HasAsked self.new }
+    {
+        let mut offered = false;
+        for _event in 0..self.wire.limits.ring {
+            if self.stage != Stage::Running {
+                return offered;
+            }
+            if !self.offer_one(end) {
+                return offered;
+            }
+            offered = true;
+        }
+        true
+    }
+
+    /// Offers the next event that is due, or the disconnect after the last one. Returns whether one was offered.
+    fn offer_one<C: ConnEnd>(&mut self, end: &mut C) -> bool
+        requires { self.old.stage ≡ Stage.Running }
+        ensures leads { PreservesByEnd self.old (IsViewOf C.ConnEnd end.old) self.new (IsViewOf C.ConnEnd end.new) }
+        ensures tag { (C.tag end.new ≡ C.tag end.old) × (C.ring end.new ≡ C.ring end.old) }
+        ensures limits { self.new.wire.limits ≡ self.old.wire.limits }
+        ensures asked { IsFalse result → self.new.stage ≡ Stage.Running → HasAsked self.new }
+    {
+        if self.input_broke {
+            return false;
+        }
+        if self.pull().is_err() {
+            self.stage = Stage::Cut(Outcome::NoMemory);
+            return false;
+        }
+        self.offer_held(end)
+    }
+
+    /// Offers the event that waits, or the disconnect if nothing more is due.
+    fn offer_held<C: ConnEnd>(&mut self, end: &mut C) -> bool
+        requires { (self.old.stage ≡ Stage.Running) × (self.old.input_broke ≡ false) }
+        ensures leads { PreservesByEnd self.old (IsViewOf C.ConnEnd end.old) self.new (IsViewOf C.ConnEnd end.new) }
+        ensures tag { (C.tag end.new ≡ C.tag end.old) × (C.ring end.new ≡ C.ring end.old) }
+        ensures limits { self.new.wire.limits ≡ self.old.wire.limits }
+        ensures asked { IsFalse result → HasAsked self.old → HasAsked self.new }
+    {
+        match self.body {
+            BodyProgress::Open => false,
+            BodyProgress::Waits(_) => self.offer(end),
+            BodyProgress::Whole => self.break_at_end(end),
+            BodyProgress::Refused(_) => self.break_off(end),
+            BodyProgress::BrokenOff => self.break_at_end(end),
+        }
+    }
+
+    /// Offers the event that waits, which waits on if no place is free.
+    fn offer<C: ConnEnd>(&mut self, end: &mut C) -> bool
+        requires running { (self.old.stage ≡ Stage.Running) × (self.old.input_broke ≡ false) }
+        requires waits { (event : Incoming) × (self.old.body ≡ BodyProgress.Waits event) }
+        ensures leads { PreservesByEnd self.old (IsViewOf C.ConnEnd end.old) self.new (IsViewOf C.ConnEnd end.new) }
+        ensures tag { (C.tag end.new ≡ C.tag end.old) × (C.ring end.new ≡ C.ring end.old) }
+        ensures limits { self.new.wire.limits ≡ self.old.wire.limits }
+        ensures asked { IsFalse result → HasAsked self.old → HasAsked self.new }
+    {
+        let BodyProgress::Waits(event) = mem::replace(&mut self.body, BodyProgress::Open) else {
+            unreachable!()
+        };
+        match end.offer(event) {
+            Ok(()) => true,
+            Err(back) => {
+                self.body = BodyProgress::Waits(back);
+                false
+            }
+        }
+    }
+
+    /// Offers the disconnect, if the input has ended.
+    fn break_at_end<C: ConnEnd>(&mut self, end: &mut C) -> bool
+        requires running { (self.old.stage ≡ Stage.Running) × (self.old.input_broke ≡ false) }
+        requires ends { EndsAtInput self.old.body }
+        ensures leads { PreservesByEnd self.old (IsViewOf C.ConnEnd end.old) self.new (IsViewOf C.ConnEnd end.new) }
+        ensures tag { (C.tag end.new ≡ C.tag end.old) × (C.ring end.new ≡ C.ring end.old) }
+        ensures limits { self.new.wire.limits ≡ self.old.wire.limits }
+        ensures asked { IsFalse result → HasAsked self.old → HasAsked self.new }
+    {
+        if !self.wire.input.has_ended() {
+            return false;
+        }
+        self.break_off(end)
+    }
+
+    /// Offers the disconnect.
+    fn break_off<C: ConnEnd>(&mut self, end: &mut C) -> bool
+        requires running { (self.old.stage ≡ Stage.Running) × (self.old.input_broke ≡ false) }
+        requires due { BreaksAt self.old.body self.old.wire.input }
+        ensures leads { PreservesByEnd self.old (IsViewOf C.ConnEnd end.old) self.new (IsViewOf C.ConnEnd end.new) }
+        ensures tag { (C.tag end.new ≡ C.tag end.old) × (C.ring end.new ≡ C.ring end.old) }
+        ensures limits { self.new.wire.limits ≡ self.old.wire.limits }
+        ensures asked { IsFalse result → HasAsked self.old → HasAsked self.new }
+    {
+        self.input_broke = true;
+        end.offer_disconnect(Incoming::HttpDisconnect)
+    }
+
+    /// Asks the reader for more of the body, if more of it may be given.
+    fn pull(&mut self) -> Result<(), AllocError>
+        ensures same { KeepsBesidesBody self.old self.new }
+        ensures gives { GivesAfter self.old self.new }
+        ensures limits { self.new.wire.requests.limits ≡ self.old.wire.requests.limits }
+        ensures asked { OnOk result (HasAsked self.new) }
+    {
+        if let BodyProgress::Open = self.body {
+            self.body = body_of(self.wire.requests.next()?, self.wire.input);
+        }
+        Ok(())
+    }
+
+    /// Reads, if nothing waits for a place and not too much is held.
+    fn read<L: Line>(&mut self, line: &mut L) -> Turn
+        requires running { self.old.stage ≡ Stage.Running }
+        requires asked { HasAsked self.old }
+        ensures leads { PreservesByLine (state_of L.Reads L.Counts L.Messages.own line.old) self.old (state_of L.Reads L.Counts L.Messages.own line.new) self.new }
+        ensures limits { self.new.wire.limits ≡ self.old.wire.limits }
+    {
+        if !self.reads_on() {
+            return Turn::Idle;
+        }
+        match self.wire.read(line) {
+            Ok(turn) => turn,
+            Err(_) => {
+                self.stage = Stage::Cut(Outcome::NoMemory);
+                Turn::Moved
+            }
+        }
+    }
+
+    /// Whether more is read.
+    fn reads_on(&self) -> bool
+        ensures open { IsTrue result → has_ended self.now.wire.input ≡ false }
+        ensures free { IsTrue result → ReadsAt self.now.body }
+        ensures few { IsTrue result → self.now.body ≡ BodyProgress.Whole → HoldsFew self.now.wire.requests }
+    {
+        if self.wire.input.has_ended() {
+            return false;
+        }
+        match self.body {
+            BodyProgress::Open => true,
+            BodyProgress::Waits(_) => false,
+            BodyProgress::Whole => self.wire.requests.held().len() < AHEAD,
+            BodyProgress::Refused(_) => false,
+            BodyProgress::BrokenOff => false,
+        }
+    }
+
+    // ---- the end
+
+    /// Ends the exchange once the task has ended. If the response needs it, the rest of the body is read
+    /// and dropped first.
+    fn finish_task<L: Line>(&mut self, kind: EndKind, line: &mut L) -> Turn
+        requires { self.old.stage ≡ Stage.Ending kind }
+        ensures leads { PreservesByLine (state_of L.Reads L.Counts L.Messages.own line.old) self.old (state_of L.Reads L.Counts L.Messages.own line.new) self.new }
+        ensures limits { self.new.wire.limits ≡ self.old.wire.limits }
+    {
+        let progress = self.text.progress();
+        if !needs_body(kind, progress, self.input_broke) {
+            return self.write_end(kind, progress, line);
+        }
+        match self.drop_rest() {
+            Err(_) => {
+                self.stage = Stage::Over(NextStep::ConnectionEnds(Outcome::NoMemory));
+                Turn::Moved
+            }
+            Ok(()) => self.read_rest_or_end(kind, progress, line),
+        }
+    }
+
+    /// Reads on in the rest of the body, or ends the exchange if nothing more is due.
+    fn read_rest_or_end<L: Line>(&mut self, kind: EndKind, progress: Progress, line: &mut L) -> Turn
+        requires ending { self.old.stage ≡ Stage.Ending kind }
+        requires progress { (facts : Facts) (said : List Outgoing) → standing.StandsFor self.old.text facts said → progress ≡ progress_of facts said }
+        requires asked { HasAsked self.old }
+        ensures leads { PreservesByLine (state_of L.Reads L.Counts L.Messages.own line.old) self.old (state_of L.Reads L.Counts L.Messages.own line.new) self.new }
+        ensures limits { self.new.wire.limits ≡ self.old.wire.limits }
+    {
+        match self.body {
+            BodyProgress::Open => self.read_rest(line),
+            BodyProgress::Waits(_) => Turn::Moved,
+            BodyProgress::Whole => self.write_end(kind, progress, line),
+            BodyProgress::Refused(_) => self.write_end(kind, progress, line),
+            BodyProgress::BrokenOff => self.write_end(kind, progress, line),
+        }
+    }
+
+    /// Drops the event that waits, if one does.
+    fn drop_one(&mut self) -> bool
+        ensures same { KeepsBesidesBody self.old self.new }
+        ensures requests { self.new.wire.requests ≡ self.old.wire.requests }
+        ensures gives { GivesOn self.old self.new }
+        ensures stays { IsFalse result → self.new ≡ self.old }
+        ensures no { IsFalse result → IsFree self.new.body }
+    {
+        if let BodyProgress::Waits(_) = self.body {
+            self.body = BodyProgress::Open;
+            return true;
+        }
+        false
+    }
+
+    /// Drops events of the rest of the body, as many as one turn takes. After a disconnect none is left.
+    fn drop_rest(&mut self) -> Result<(), AllocError>
+        ensures same { KeepsBesidesBody self.old self.new }
+        ensures gives { OnOk result (GivesOn self.old self.new) }
+        ensures input_broke { self.old.input_broke ≡ true → self.new.body ≡ self.old.body }
+        ensures limits { self.new.wire.requests.limits ≡ self.old.wire.requests.limits }
+        ensures asked { OnOk result (HasAsked self.new) }
+    {
+        if self.input_broke {
+            return Ok(());
+        }
+        self.pull()?;
+        for _event in 0..self.wire.limits.ring {
+            if !self.drop_one() {
+                return Ok(());
+            }
+            self.pull()?;
+        }
+        Ok(())
+    }
+
+    /// Reads on in the rest of the body.
+    fn read_rest<L: Line>(&mut self, line: &mut L) -> Turn
+        requires ending { (kind : EndKind) × (self.old.stage ≡ Stage.Ending kind) }
+        requires open { self.old.body ≡ BodyProgress.Open }
+        requires asked { HasAsked self.old }
+        ensures leads { PreservesByLine (state_of L.Reads L.Counts L.Messages.own line.old) self.old (state_of L.Reads L.Counts L.Messages.own line.new) self.new }
+        ensures limits { self.new.wire.limits ≡ self.old.wire.limits }
+    {
+        if self.wire.input.has_ended() {
+            return Turn::Moved;
+        }
+        match self.wire.read(line) {
+            Ok(turn) => turn,
+            Err(_) => {
+                self.stage = Stage::Over(NextStep::ConnectionEnds(Outcome::NoMemory));
+                Turn::Moved
+            }
+        }
+    }
+
+    /// Writes what the end of the task adds.
+    fn write_end<L: Line>(&mut self, kind: EndKind, progress: Progress, line: &mut L) -> Turn
+        requires ending { self.old.stage ≡ Stage.Ending kind }
+        requires progress { (facts : Facts) (said : List Outgoing) → standing.StandsFor self.old.text facts said → progress ≡ progress_of facts said }
+        requires known { NeedsBody kind progress self.old.input_broke → IsSettled self.old.body }
+        ensures leads { PreservesByLine (state_of L.Reads L.Counts L.Messages.own line.old) self.old (state_of L.Reads L.Counts L.Messages.own line.new) self.new }
+        ensures limits { self.new.wire.limits ≡ self.old.wire.limits }
+    {
+        let input = input_of(&self.body);
+        let following = after_task(kind, progress, input, self.input_broke);
+        if let EndKind::Idle = kind {
+            self.stage = Stage::Over(following);
+            return Turn::Moved;
+        }
+        match self.text.end(input, &mut self.wire.out) {
+            Err(_) => {
+                self.stage = Stage::Over(NextStep::ConnectionEnds(Outcome::NoMemory));
+                Turn::Moved
+            }
+            Ok(()) => match self.wire.put(line) {
+                None => {
+                    self.stage = Stage::Over(following);
+                    Turn::Moved
+                }
+                Some(n) => {
+                    self.stage = Stage::Over(NextStep::ConnectionEnds(Outcome::WriteFailed(n)));
+                    Turn::Moved
+                }
+            },
+        }
+    }
+}
+
+impl ExchangeKind for HttpHalf {
+    ghost use Rattle.asgi_halves.specs.HttpHalf.{HttpScene, StandsIn};
+
+    ghost In = { ℕ };
+
+    ghost Out = { ℕ };
+
+    ghost Scene = { HttpScene };
+
+    ghost stands = { StandsIn };
+
+    ghost reached = { λ half. half.stage };
+
+    ghost may_read = { HasAsked };
+
+    ghost cut_event = { Incoming.HttpDisconnect };
+
+    fn stage(&self) -> Stage {
+        self.stage
+    }
+
+    fn places(&self) -> usize {
+        self.wire.limits.ring
+    }
+
+    fn cut_disconnect(&self) -> Incoming {
+        Incoming::HttpDisconnect
+    }
+
+    fn end_with(&mut self, outcome: Outcome) {
+        self.stage = Stage::Over(NextStep::ConnectionEnds(outcome));
+    }
+
+    fn take_end(&mut self, kind: EndKind) {
+        self.stage = Stage::Ending(kind);
+    }
+
+    fn say<L: Line>(&mut self, event: Outgoing, line: &mut L) {
+        HttpHalf::say(self, &event, line);
+    }
+
+    fn offer_due<C: ConnEnd>(&mut self, end: &mut C) -> bool {
+        self.offer_all(end)
+    }
+
+    fn read_on<L: Line>(&mut self, line: &mut L) -> Turn {
+        self.read(line)
+    }
+
+    fn finish<L: Line>(&mut self, kind: EndKind, line: &mut L) -> Turn {
+        self.finish_task(kind, line)
+    }
+}
+
+/// The body after what the reader gave.
+///
+/// A reader gives no head inside a body.
+fn body_of(next: Next, input: InputEnd) -> BodyProgress
+    ensures gives { (reader : Reading) (read : List ℕ) (opened : List Next) (framing : Framing) (arrived : List ℕ) (events : List Incoming)
+        → HasOpened reader.limits read opened framing arrived → GaveNext reader read (opened ++ map Next.Event events) next → HasGiven reader read opened events result }
+    ensures ends_where { EndsWhere result input }
+    ensures open { result ≡ BodyProgress.Open → next ≡ Next.Need }
+{
+    match next {
+        Next::Need => unfinished(input),
+        Next::Event(event) => BodyProgress::Waits(event),
+        Next::Whole => BodyProgress::Whole,
+        Next::Bad(status) => BodyProgress::Refused(status),
+        Next::Head(_, _) => BodyProgress::Whole,
+    }
+}
+
+/// The body, if the reader needs more.
+fn unfinished(input: InputEnd) -> BodyProgress
+    ensures open { has_ended input ≡ false → result ≡ BodyProgress.Open }
+    ensures broken { has_ended input ≡ true → result ≡ BodyProgress.BrokenOff }
+{
+    if input.has_ended() {
+        return BodyProgress::BrokenOff;
+    }
+    BodyProgress::Open
+}
+
+/// Whether the rest of the body decides what comes after the end of a task.
+fn needs_body(kind: EndKind, progress: Progress, input_broke: bool) -> bool
+    ensures { IsTrue result ↔ NeedsBody kind progress input_broke }
+{
+    if kind == EndKind::Idle {
+        return false;
+    }
+    match progress {
+        Progress::Nothing => true,
+        Progress::Begun => input_broke,
+        Progress::Complete { closes } => !closes,
+    }
+}
+
+/// The body of the request, as the end of a task finds it.
+fn input_of(body: &BodyProgress) -> Input
+    ensures { result ≡ known_input body.now }
+{
+    match body {
+        BodyProgress::Whole => Input::Whole,
+        BodyProgress::Refused(status) => Input::Faulty(*status),
+        _ => Input::Broken,
+    }
+}

@@ -1,0 +1,146 @@
+//! What a connection keeps from its first byte to its last.
+ghost use Rattle.std.specs.Prelude.{◌≡◌, ◌<◌, ◌≤◌, ◌++◌, ◌∷◌, [], ℕ, List, false, take, length, IfNone, IfOk, IfSome, OnOk};
+ghost use Rattle.std.specs.Io.KnownBytes.{Appends};
+ghost use Rattle.asgi_io.specs.Answers.{bytes_of};
+ghost use Rattle.asgi_io.specs.Counting.{RoseBy};
+ghost use Rattle.asgi_io.specs.Writing.{TriesWrites, out_of};
+ghost use Rattle.asgi_request.specs.declared.next.Next.{Next};
+ghost use Rattle.asgi_types.specs.declared.facts.Facts.{Facts};
+ghost use Rattle.asgi_types.specs.declared.scope.Scope.{Scope};
+ghost use Rattle.asgi_request.specs.Opened.{BeginsWithHandshake, HasClosed};
+ghost use Rattle.asgi_request.specs.Reading.{StandsFor};
+ghost use Rattle.asgi_run.specs.Lines.{LineState, Transferred, how_put, input_after, piece_size, session_of, state_of};
+ghost use Rattle.asgi_conversation.specs.TaskEnds.{has_ended};
+
+use crate::piece::{PIECE, Piece};
+use asgi_conversation::InputEnd;
+use asgi_io::{Answer, Turn, Wrote, answer_of, write_out};
+use asgi_request::RequestReader;
+use asgi_types::Limits;
+use asgi_ws::Line;
+use std::alloc::{AllocError, Global};
+use std::mem;
+
+/// What a connection keeps from its first byte to its last.
+#[derive(Drop)]
+pub struct Wire {
+    /// Where memory is taken.
+    pub alloc: Global,
+    /// What the connection may take.
+    pub limits: Limits,
+    /// The reader that makes requests of the bytes.
+    pub requests: RequestReader,
+    /// How far the input has come.
+    pub input: InputEnd,
+    /// The text that is being written; empty between two texts.
+    pub out: Vec<u8>,
+    /// The buffer that reads fill.
+    pub piece: Piece,
+}
+
+impl Wire {
+    /// A connection before its first byte. Making it takes no memory.
+    pub fn new(alloc: Global, limits: Limits) -> Wire
+        ensures limits { (result.limits ≡ limits) × (result.requests.limits ≡ limits) }
+        ensures unread { StandsFor result.requests [] [] × (result.input ≡ InputEnd.Open) }
+        ensures empty { result.out.items ≡ [] }
+    {
+        Wire {
+            alloc,
+            limits,
+            requests: RequestReader::new(alloc, limits),
+            input: InputEnd::Open,
+            out: Vec::new(alloc),
+            piece: Piece::new(alloc),
+        }
+    }
+
+    /// Reads once, at most `PIECE` bytes, and feeds what came to the reader of requests. `AllocError` if
+    /// memory is refused; then what was read may be lost.
+    pub fn read<L: Line>(&mut self, line: &mut L) -> Result<Turn, AllocError>
+        requires { has_ended self.old.input ≡ false }
+        ensures moved { (more : List ℕ)
+            × ((start : LineState) (read written : List ℕ) (failures : ℕ) → Transferred start (state_of L.Reads L.Counts L.Messages.own line.old) self.old.input read written failures
+            → Transferred start (state_of L.Reads L.Counts L.Messages.own line.new) self.new.input (read ++ more) written failures)
+            × OnOk result ((bytes : List ℕ) (given : List Next) → StandsFor self.old.requests bytes given → StandsFor self.new.requests (bytes ++ more) given)
+            × (length more ≤ piece_size) }
+        ensures same { self.new ≡ record self.old { requests = self.new.requests; input = self.new.input } }
+        ensures limits { self.new.requests.limits ≡ self.old.requests.limits }
+    {
+        let mut piece = self.piece.lend(self.alloc)?;
+        let read = line.read_some(&mut piece);
+        let answer = answer_of(&read, PIECE);
+        let taken = self.take_in(answer, &piece);
+        self.piece.take_back(piece);
+        match taken {
+            Ok(()) => Ok(answer.turn()),
+            Err(e) => Err(e),
+        }
+    }
+
+    /// Takes in what a read gave: `answer` counts the bytes of the piece that are filled.
+    fn take_in(&mut self, answer: Answer, piece: &[u8]) -> Result<(), AllocError>
+        requires { bytes_of answer ≤ length piece.now }
+        ensures fed { OnOk result ((bytes : List ℕ) (given : List Next) → StandsFor self.old.requests bytes given
+            → StandsFor self.new.requests (bytes ++ take (bytes_of answer) piece.now) given) }
+        ensures input { self.new.input ≡ input_after self.old.input answer }
+        ensures same { self.new ≡ record self.old { requests = self.new.requests; input = self.new.input } }
+        ensures limits { self.new.requests.limits ≡ self.old.requests.limits }
+    {
+        match answer {
+            Answer::Moved(n) => self.requests.feed(&piece[..n]),
+            Answer::Nothing => {
+                self.input = InputEnd::AtEnd;
+                Ok(())
+            }
+            Answer::Failed => {
+                self.input = InputEnd::Failed;
+                Ok(())
+            }
+            Answer::Paused => Ok(()),
+        }
+    }
+
+    /// The bytes after an opening handshake, whose head was given last: the first of its frames (RFC
+    /// 6455, section 5). `AllocError` if memory is refused.
+    pub fn take_frames(&mut self) -> Result<Vec<u8>, AllocError>
+        ensures frames { IfOk result (λ taken. (bytes : List ℕ) (given : List Next) (after : List ℕ) (scope : Scope) (facts : Facts) (frames : List ℕ)
+            → HasClosed self.old.requests.limits bytes given after → BeginsWithHandshake self.old.requests.limits after scope facts frames
+            → StandsFor self.old.requests bytes (given ++ Next.Head scope facts ∷ []) → taken.items ≡ frames) }
+        ensures same { self.new ≡ record self.old { requests = self.new.requests } }
+    {
+        let _whole = self.requests.next()?;
+        let fresh = RequestReader::new(self.alloc, self.limits);
+        Ok(mem::replace(&mut self.requests, fresh).rest())
+    }
+
+    /// Writes the text in hand, which is empty then. Returns None if all of its bytes went out; if a
+    /// write failed, how many did.
+    pub fn put<L: Line>(&mut self, line: &mut L) -> Option<usize>
+        ensures none { IfNone result (Appends (L.written line.old) (L.written line.new) self.old.out.items × RoseBy 0 (L.failed line.old) (L.failed line.new)) }
+        ensures some { IfSome result (λ n. (n < length self.old.out.items) × Appends (L.written line.old) (L.written line.new) (take n self.old.out.items) × RoseBy 1 (L.failed line.old) (L.failed line.new)) }
+        ensures tries { TriesWrites (L.Counts.answers line.old) (L.Counts.answers line.new) (out_of self.old.out.items (how_put result)) (how_put result) }
+        ensures reads { (L.remaining line.new ≡ L.remaining line.old) × (L.Reads.answers line.new ≡ L.Reads.answers line.old) }
+        ensures session { session_of L.Messages.own line.new ≡ session_of L.Messages.own line.old }
+        ensures same { self.new ≡ record self.old { out = self.new.out } }
+        ensures empty { self.new.out.items ≡ [] }
+    {
+        let cut = write(line, &self.out);
+        self.out.clear();
+        cut
+    }
+}
+
+/// Writes a text. Returns None if all of its bytes went out; if a write failed, how many did.
+pub fn write<L: Line>(line: &mut L, text: &[u8]) -> Option<usize>
+    ensures none { IfNone result (Appends (L.written line.old) (L.written line.new) text.now × RoseBy 0 (L.failed line.old) (L.failed line.new)) }
+    ensures some { IfSome result (λ n. (n < length text.now) × Appends (L.written line.old) (L.written line.new) (take n text.now) × RoseBy 1 (L.failed line.old) (L.failed line.new)) }
+    ensures tries { TriesWrites (L.Counts.answers line.old) (L.Counts.answers line.new) (out_of text.now (how_put result)) (how_put result) }
+    ensures reads { (L.remaining line.new ≡ L.remaining line.old) × (L.Reads.answers line.new ≡ L.Reads.answers line.old) }
+    ensures session { session_of L.Messages.own line.new ≡ session_of L.Messages.own line.old }
+{
+    match write_out(line, text) {
+        Wrote::Done => None,
+        Wrote::Failed(n) => Some(n),
+    }
+}

@@ -1,8 +1,0 @@
-use Rattle.asgi_request.proofs.laws.bytes_behind_results_are_one.Goals as goal
-use Rattle.asgi_request.proofs.OpenedLemmas.{closed_is_one, opened_is_one}
-
-pub returns-clause-closed : goal.returns-clause-closed
-returns-clause-closed c limits bytes closed behind others x y = closed_is_one limits bytes closed behind others x y
-
-pub returns-clause-opened : goal.returns-clause-opened
-returns-clause-opened c limits bytes opened framing other arrived others x y = opened_is_one limits bytes opened framing other arrived others x y

@@ -1,6 +1,0 @@
-use Rattle.std.proofs.Common.{◌≡◌, drop}
-use Rattle.asgi_request.specs.Target as spec
-use Rattle.asgi_request.proofs.target.behind_question_mark.Given as goal
-
-abbrev pub invariant-loop-i : goal.invariant-loop-i
-invariant-loop-i l = spec.behind_question_mark l.bytes ≡ spec.behind_question_mark (drop l.i l.bytes)

@@ -1,0 +1,4 @@
+pub mod LineLemmas
+pub mod LeadsLemmas
+pub mod InlineLemmas
+pub mod ApartLemmas

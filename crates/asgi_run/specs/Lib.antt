@@ -1,0 +1,4 @@
+pub mod Lines
+pub mod AnyHalf
+pub mod Limits
+pub mod Running

@@ -1,0 +1,263 @@
+//! Both halves of an exchange in one thread, turn by turn.
+ghost use Rattle.std.specs.Prelude.{◌≡◌, ◌≢◌, ◌<◌, ◌⊎◌, ◌++◌, ℕ, List, Some, IsSome, ⊤};
+ghost use Rattle.asgi_io.specs.declared.turns.Turn.{Turn};
+ghost use Rattle.asgi_io.specs.Turns.{CountsTurns};
+ghost use Rattle.asgi_pipes.specs.PlainPairs.{IsPlainPair};
+ghost use Rattle.asgi_apps.specs.Ends.{MayGoOn, IsWithin};
+ghost use Rattle.asgi_exchange.specs.Calls.{IsViewOf, IsExchangeOf};
+ghost use Rattle.asgi_exchange.specs.Views.{ConnView};
+ghost use Rattle.asgi_conversation.specs.declared.following.NextStep.TheVariants.{NextRequest};
+ghost use Rattle.asgi_run.specs.Limits.{IsAtLimit, IsOverIdle, IsSettled};
+ghost use Rattle.asgi_run.specs.Lines.{state_of};
+ghost use Rattle.asgi_run.specs.Running.{OfEnd, MayRun, HasRun, Drives, HasPassed, IsOfRequest, EndsIn, GoesOnAs, TagStays};
+
+use crate::exchange_half::Half;
+use crate::runner::{AppSide, NoEnds, Runner, goes_on};
+use asgi_apps::{AppTask, Lent, Running};
+use asgi_exchange::join;
+use asgi_io::{Pause, Turn, Turns};
+use asgi_pipes::{AppEnd, ConnEnd, EndKind, Pipes, Plain, PlainApp, PlainConn};
+use asgi_types::{Facts, Kind};
+use asgi_ws::Line;
+use futures::task::{Context, Poll};
+use std::alloc::Global;
+
+/// Runs both halves in the caller's thread, turn by turn. In a turn the connection's half takes one. Then
+/// the task is polled with this context for as long as each poll moves something, at most as often as the
+/// ring has places.
+pub struct Inline<'q> {
+    cx: Context<'q>,
+    /// The ends of the last exchange: the next one may reuse their places.
+    spare: Option<(PlainConn, PlainApp)>,
+}
+
+impl<'q> Inline<'q> {
+    /// A runner that polls tasks with this context. Making it takes no memory.
+    pub fn new(cx: Context<'q>) -> Self {
+        Inline { cx, spare: None }
+    }
+
+    /// Ends the task of the context: no exchange is run any more.
+    pub fn end(self) {
+        let Inline { cx, spare: _ } = self;
+        cx.cancel();
+    }
+}
+
+impl<'q, T: AppTask> Runner<T> for Inline<'q> {
+    type Pipes = Plain;
+
+    ghost not_met = { λ _. 0 };
+
+    ghost pauses = { λ _. 0 };
+
+    ghost driven = { λ _. 0 };
+
+    ghost is_ready = { λ _. ⊤ };
+
+    fn make(
+        &mut self,
+        alloc: Global,
+        kind: Kind,
+        facts: Facts,
+        ring: usize,
+    ) -> Result<(PlainConn, PlainApp), NoEnds> {
+        let Some((conn, app)) = self.spare.take() else {
+            return Ok(Plain.make(alloc, kind, facts, ring)?);
+        };
+        Ok(Plain.renew(alloc, conn, app, kind, facts, ring)?)
+    }
+
+    fn run<H: Half, L: Line, P: Pause>(
+        &mut self,
+        half: &mut H,
+        line: &mut L,
+        pause: &mut P,
+        turns: &mut Turns,
+        end: PlainConn,
+        side: AppSide<T, PlainApp>,
+    ) -> EndKind
+        requires ready { ⊤ }
+        requires pair { OfEnd side (λ app. IsPlainPair end app) }
+        requires may { MayRun T.stands ⟦<PlainApp as AppEnd>⟧ side }
+        ensures runs { (scene : H.Scene) (read : List ℕ) (view : ConnView H.In H.Out) → H.stands scene (state_of L.Reads L.Counts L.Messages.own line.old) half.old read view
+            → IsViewOf ⟦<PlainConn as ConnEnd>⟧ end view → OfEnd side (λ app. IsExchangeOf ⟦<PlainApp as AppEnd>⟧ app (H.exchange scene))
+            → (more : List ℕ) × HasRun H.Half T.answers ⟦<PlainApp as AppEnd>⟧ scene (state_of L.Reads L.Counts L.Messages.own line.new) half.new (read ++ more) side result }
+        ensures over { IsSome (H.following half.new) }
+        ensures counts { (turned : List Turn) (pauses : ℕ) → CountsTurns turns.old.turn_limit turns.old.idle_limit turned pauses (P.count pause.old) turns.old.turns turns.old.idle
+            → (more : List Turn) × CountsTurns turns.old.turn_limit turns.old.idle_limit (turned ++ more) pauses (P.count pause.new) turns.new.turns turns.new.idle }
+        ensures turn_limits { (turns.new.turn_limit ≡ turns.old.turn_limit) × (turns.new.idle_limit ≡ turns.old.idle_limit) }
+        ensures takes_a_turn { H.following half.new ≡ Some NextRequest → (H.following half.old ≡ Some NextRequest) ⊎ (turns.old.turns < turns.new.turns) }
+        ensures settled { IsSettled (H.following half.old) → (half.new ≡ half.old) × (turns.new.turns ≡ turns.old.turns) }
+        ensures idle { IsOverIdle (H.following half.new) → IsAtLimit turns.new }
+        ensures drives { Drives turns.old.turn_limit turns.old.idle_limit 0 0 0 0 result }
+        ensures met { ◌≡◌ {A = ℕ} 0 0 }
+    {
+        let mut conn = end;
+        let mut side = side;
+        let mut app_goes_on = true;
+        while goes_on(half, turns) {
+            let moved = half.turn(line, &mut conn, app_goes_on);
+            carry(&mut conn, &mut side);
+            let polled = poll_on(&mut self.cx, &mut side, half.ring());
+            carry(&mut conn, &mut side);
+            app_goes_on = polled == Turn::Moved;
+            turns.take(both(moved, polled), pause);
+        }
+        half.abandon(&mut conn);
+        let mut last = end_of(side);
+        let _met = join::<Plain>(&mut conn, &mut last.app_end);
+        self.spare = Some((conn, last.app_end));
+        last.kind
+    }
+
+    fn unmet(&self) -> u64 {
+        0
+    }
+
+    fn paused(&self) -> u64 {
+        0
+    }
+
+    fn turned(&self) -> u64 {
+        0
+    }
+}
+
+/// What both halves did in a turn: idle if neither moved anything.
+fn both(half: Turn, app: Turn) -> Turn
+    ensures idle { result ≡ Turn.Idle → (half ≡ Turn.Idle) × (app ≢ Turn.Moved) }
+{
+    if app == Turn::Moved {
+        return Turn::Moved;
+    }
+    half
+}
+
+/// Carries what was put at each end to the other one.
+fn carry<T: AppTask>(conn: &mut PlainConn, side: &mut AppSide<T, PlainApp>)
+    requires pair { OfEnd side.old (λ app. IsPlainPair conn.old app) }
+    requires may { MayRun T.stands ⟦<PlainApp as AppEnd>⟧ side.old }
+    ensures pair { OfEnd side.new (λ app. IsPlainPair conn.new app) }
+    ensures conn { let End = ⟦<PlainConn as ConnEnd>⟧ in (End.offered conn.new ≡ End.offered conn.old)
+        × (End.got conn.new ≡ End.got conn.old)
+        × (End.is_broken conn.new ≡ End.is_broken conn.old) }
+    ensures side { GoesOnAs T.stands T.answers ⟦<PlainApp as AppEnd>⟧ side.old side.new }
+    ensures passed { OfEnd side.new (λ app. HasPassed ⟦<PlainConn as ConnEnd>⟧ ⟦<PlainApp as AppEnd>⟧ conn.new app) }
+{
+    match side {
+        AppSide::HasEnded { app_end, kind: _ } => Plain::carry(conn, app_end),
+        AppSide::Runs(running) => carry_running(conn, running),
+    }
+}
+
+/// The same for a task that runs.
+fn carry_running<T: AppTask>(conn: &mut PlainConn, running: &mut Running<T, PlainApp>)
+    requires pair { OfEnd (AppSide.Runs running.old) (λ app. IsPlainPair conn.old app) }
+    requires may { MayRun T.stands ⟦<PlainApp as AppEnd>⟧ (AppSide.Runs running.old) }
+    ensures pair { OfEnd (AppSide.Runs running.new) (λ app. IsPlainPair conn.new app) }
+    ensures conn { let End = ⟦<PlainConn as ConnEnd>⟧ in (End.offered conn.new ≡ End.offered conn.old)
+        × (End.got conn.new ≡ End.got conn.old)
+        × (End.is_broken conn.new ≡ End.is_broken conn.old) }
+    ensures side { GoesOnAs T.stands T.answers ⟦<PlainApp as AppEnd>⟧ (AppSide.Runs running.old) (AppSide.Runs running.new) }
+    ensures passed { OfEnd (AppSide.Runs running.new) (λ app. HasPassed ⟦<PlainConn as ConnEnd>⟧ ⟦<PlainApp as AppEnd>⟧ conn.new app) }
+{
+    let Some(lent) = &mut running.lent else {
+        unreachable!()
+    };
+    carry_lent(conn, lent);
+}
+
+/// The same, with the end that the task has borrowed.
+fn carry_lent<T: AppTask>(conn: &mut PlainConn, lent: &mut Lent<T, PlainApp>)
+    requires pair { IsPlainPair conn.old lent.old.app_end }
+    requires may { MayGoOn T.stands ⟦<PlainApp as AppEnd>⟧ lent.old.task lent.old.app_end }
+    ensures pair { IsPlainPair conn.new lent.new.app_end }
+    ensures conn { let End = ⟦<PlainConn as ConnEnd>⟧ in (End.offered conn.new ≡ End.offered conn.old)
+        × (End.got conn.new ≡ End.got conn.old)
+        × (End.is_broken conn.new ≡ End.is_broken conn.old) }
+    ensures may { MayGoOn T.stands ⟦<PlainApp as AppEnd>⟧ lent.new.task lent.new.app_end }
+    ensures within { IsWithin T.answers lent.new.task lent.old.task }
+    ensures request { IsOfRequest ⟦<PlainApp as AppEnd>⟧ lent.old.app_end lent.new.app_end }
+    ensures passed { HasPassed ⟦<PlainConn as ConnEnd>⟧ ⟦<PlainApp as AppEnd>⟧ conn.new lent.new.app_end }
+{
+    Plain::carry(conn, &mut lent.app_end);
+}
+
+/// Polls the task while each poll moves something, at most `most` times.
+fn poll_on<T: AppTask, E: AppEnd>(
+    cx: &mut Context<'_>,
+    side: &mut AppSide<T, E>,
+    most: usize,
+) -> Turn
+    requires { MayRun T.stands E.AppEnd side.old }
+    ensures side { GoesOnAs T.stands T.answers E.AppEnd side.old side.new }
+    ensures tag { TagStays E.AppEnd side.old side.new }
+    ensures ends { EndsIn side.old side.new → result ≡ Turn.Moved }
+{
+    let mut turn = Turn::Idle;
+    for _poll in 0..most {
+        if poll(cx, side) != Turn::Moved {
+            return turn;
+        }
+        turn = Turn::Moved;
+    }
+    turn
+}
+
+/// Polls the task once, if it still runs. A poll that ends it has moved something.
+fn poll<T: AppTask, E: AppEnd>(cx: &mut Context<'_>, side: &mut AppSide<T, E>) -> Turn
+    requires { MayRun T.stands E.AppEnd side.old }
+    ensures side { GoesOnAs T.stands T.answers E.AppEnd side.old side.new }
+    ensures tag { TagStays E.AppEnd side.old side.new }
+    ensures ends { EndsIn side.old side.new → result ≡ Turn.Moved }
+{
+    let AppSide::Runs(running) = side else {
+        return Turn::Idle;
+    };
+    match running.turn(cx) {
+        Poll::Pending => running.moved(),
+        Poll::Ready(kind) => {
+            let Some(lent) = running.lent.take() else {
+                unreachable!()
+            };
+            *side = AppSide::HasEnded {
+                app_end: lent.app_end,
+                kind,
+            };
+            Turn::Moved
+        }
+    }
+}
+
+/// The application's end after the exchange, and how its task ended.
+#[derive(Drop)]
+struct Last<E> {
+    app_end: E,
+    kind: EndKind,
+}
+
+/// Ends a task that still runs.
+fn end_of<T: AppTask, E: AppEnd>(side: AppSide<T, E>) -> Last<E>
+    requires { MayRun T.stands E.AppEnd side }
+    ensures side { GoesOnAs T.stands T.answers E.AppEnd side (AppSide.HasEnded result.app_end result.kind) }
+    ensures tag { OfEnd side (λ was. E.tag result.app_end ≡ E.tag was) }
+{
+    match side {
+        AppSide::HasEnded { app_end, kind } => Last { app_end, kind },
+        AppSide::Runs(running) => {
+            let Some(lent) = running.lent else {
+                unreachable!()
+            };
+            let Lent {
+                task: _,
+                mut app_end,
+            } = lent;
+            let _first = app_end.finish(EndKind::Idle);
+            Last {
+                app_end,
+                kind: EndKind::Idle,
+            }
+        }
+    }
+}
