@@ -416,6 +416,8 @@ impl ExchangeKind for HttpHalf {
 
     ghost cut_event = { Incoming.HttpDisconnect };
 
+    ghost ring = { λ scene. scene.limits.ring };
+
     fn stage(&self) -> Stage {
         self.stage
     }

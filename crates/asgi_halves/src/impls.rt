@@ -10,6 +10,7 @@ ghost use Rattle.asgi_halves.specs.Kinds.{following_of};
 ghost use Rattle.asgi_halves.specs.WebSocketHalf as session;
 
 use crate::half::HttpHalf;
+use crate::kind::ExchangeKind;
 use crate::session_half::WebSocketHalf;
 use crate::turns::{abandon, is_settled, turn};
 use asgi_io::Turn;
@@ -46,7 +47,7 @@ impl Half for HttpHalf {
     }
 
     fn ring(&self) -> usize {
-        self.wire.limits.ring
+        self.places()
     }
 
     ghost keeps = { λ scene now half read view s. subst (λ (l : Limits). ConnKeeps (http l scene.at.facts) view) s.limits s.stands.keeps };
@@ -83,8 +84,7 @@ impl Half for WebSocketHalf {
     }
 
     fn ring(&self) -> usize {
-        let wire = &self.wire;
-        wire.limits.ring
+        self.places()
     }
 
     ghost keeps = { λ scene now half read view s. s.keeps };

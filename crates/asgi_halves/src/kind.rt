@@ -42,12 +42,16 @@ pub trait ExchangeKind {
     // What the application receives if the connection is cut short.
     ghost cut_event: { Incoming };
 
+    // How many events each queue of an exchange holds.
+    ghost ring: { Scene → ℕ };
+
     /// How far the exchange is.
     fn stage(&self) -> Stage
         ensures { result ≡ reached self.now };
 
     /// How many events each queue of the exchange holds.
-    fn places(&self) -> usize;
+    fn places(&self) -> usize
+        ensures { (scene : Scene) (now : LineState) (read : List ℕ) (view : ConnView In Out) → stands scene now self.now read view → result ≡ ring scene };
 
     /// The disconnect of a connection that is cut short. Once it is offered, what the application sends is
     /// dropped.

@@ -445,6 +445,8 @@ impl ExchangeKind for WebSocketHalf {
 
     ghost cut_event = { Incoming.WsDisconnect 1006 [] };
 
+    ghost ring = { λ scene. scene.limits.ring };
+
     fn stage(&self) -> Stage {
         self.stage
     }
