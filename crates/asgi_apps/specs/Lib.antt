@@ -7,6 +7,7 @@ pub mod Life
 pub mod Living
 pub mod Mounting
 pub mod Mounts
+pub mod Promises
 pub mod Saying
 pub mod Scopes
 pub mod WsEcho

@@ -3,7 +3,6 @@
 use Rattle.std.specs.Prelude.{◌≡◌, ℕ, eqb, List, [], ◌∷◌, ◌++◌, Option, Some, None, if◌then◌else◌, ⊤, codes}
 use Rattle.std.specs.Option.{option_to_list}
 use Rattle.asgi_types.specs.States.{value_of}
-use Rattle.asgi_types.specs.declared.scope.Scope.{Scope}
 use Rattle.asgi_types.specs.declared.scope.Scope.TheVariants as scope
 use Rattle.asgi_types.specs.declared.state.StateValue.{StateValue}
 use Rattle.asgi_types.specs.declared.state.StateValue.TheVariants.{Number, Text, Bytes}
@@ -16,6 +15,7 @@ use Rattle.asgi_types.specs.declared.end_kind.EndKind.TheVariants.{Returned, Fau
 use Rattle.asgi_apps.specs.declared.life.Life.{Life}
 use Rattle.asgi_apps.specs.declared.life.Life.TheVariants.{Works, NoStart, NoStop}
 use Rattle.asgi_apps.specs.Answers.{Answers, close_events, line_feed, text_events}
+use Rattle.asgi_apps.specs.Promises.{Promise}
 
 -- the line for the value under `n`: the number 7 is shown, and nothing else
 abbrev pub line_for : Option StateValue → List ℕ
@@ -85,7 +85,7 @@ abbrev pub ServiceAnswers : Life → List Incoming → List Outgoing → Option 
 ServiceAnswers life heard said ended = Answers (Some (lifespan_events life heard)) heard said ended × ReturnsAtLast life heard ended
 
 -- A request is answered with the line of the scope's state, and a session is refused. Only a call faults, for want of memory.
-abbrev pub LifeAnswers : Life → Scope → List Incoming → List Outgoing → Option EndKind → Type 0
+abbrev pub LifeAnswers : Life → Promise
 LifeAnswers life (scope.Http s) heard said ended = Answers (Some (text_events (number_line s.state ++ line_feed ∷ []))) heard said ended
 LifeAnswers life (scope.WebSocket s) heard said ended = Answers (Some close_events) heard said ended
 LifeAnswers life (scope.Lifespan s) heard said ended = ServiceAnswers life heard said ended

@@ -11,6 +11,7 @@ use Rattle.asgi_types.specs.declared.end_kind.EndKind.TheVariants.{Faulted}
 use Rattle.asgi_apps.specs.declared.mounting.Mount.{Mount}
 use Rattle.asgi_apps.specs.Answers.{Answers, not_found_answer}
 use Rattle.asgi_apps.specs.Scopes.{kind_of}
+use Rattle.asgi_apps.specs.Promises.{Promise}
 
 -- the code of `/`
 abbrev pub slash : ℕ
@@ -87,8 +88,8 @@ abbrev pub Nothing : List Incoming → List Outgoing → Option EndKind → Type
 Nothing heard said ended = (heard ≡ []) × (said ≡ []) × (ended ≡ Some Faulted)
 
 -- The application that the scope goes to keeps its own promise; if there is none, the answer is that of `NotFound`.
-abbrev pub MountsAnswer : {A : Type 0} → (A → Scope → List Incoming → List Outgoing → Option EndKind → Type 0)
-    → List (Mount A) → Scope → List Incoming → List Outgoing → Option EndKind → Type 0
+abbrev pub MountsAnswer : {A : Type 0} → (A → Promise)
+    → List (Mount A) → Promise
 MountsAnswer answers mounts scope heard said ended =
     Nothing heard said ended
     ⊎ TakenBy mounts scope (λ app taken. answers app taken heard said ended)

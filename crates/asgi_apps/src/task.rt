@@ -11,6 +11,7 @@ ghost use Rattle.asgi_types.specs.declared.end_kind.EndKind.{EndKind};
 ghost use Rattle.asgi_types.specs.declared.end_kind.EndKind.TheVariants.{Faulted};
 ghost use Rattle.asgi_apps.specs.Ends.{GoesOn, IsWithin, end_of};
 ghost use Rattle.asgi_apps.specs.Scopes.{kind_of};
+ghost use Rattle.asgi_apps.specs.Promises.{Promise};
 
 use asgi_pipes::AppEnd;
 use asgi_types::Scope;
@@ -63,7 +64,7 @@ pub trait Application {
     type Task: AppTask;
 
     // The promise: that this was received and sent in the scope, and that the task ended like this; None while it runs.
-    ghost answers: { Self → Scope → List Incoming → List Outgoing → Option EndKind → Type 0 } = { λ _ _ _ _ _. ⊤ };
+    ghost answers: { Self → Promise } = { λ _ _ _ _ _. ⊤ };
 
     // The scopes in which a call may fail by the application's own judgement.
     ghost refuses: { Self → Scope → Type 0 } = { λ _ _. ⊤ };

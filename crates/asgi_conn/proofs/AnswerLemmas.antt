@@ -37,7 +37,9 @@ use Rattle.asgi_halves.specs.contracts.impls.HttpHalfHalf.TheImpl as http_half
 use Rattle.asgi_halves.specs.Half.{Scene}
 use Rattle.asgi_halves.specs.Traffic.{failures_as, failures_of}
 use Rattle.asgi_halves.specs.Half.{Opens}
-use Rattle.asgi_run.specs.Lines.{LineState, Transferred}
+use Rattle.asgi_ws.specs.Lines.{LineState}
+use Rattle.asgi_apps.specs.Promises.{Promise}
+use Rattle.asgi_run.specs.Lines.{Transferred}
 use Rattle.asgi_conn.specs.private.Loop.{IsAt, IsTallied, ConnInvariant, IsLeft}
 use Rattle.asgi_run.specs.Running.{OfEnd, IsOfRequest, IsOpened, HasRun}
 use Rattle.asgi_conn.proofs.HttpEndLemmas.{http_ends}
@@ -66,7 +68,7 @@ module _ {T E : Type 0} (promise : List Incoming → List Outgoing → Option En
 
 -- ---- one more exchange
 
-module _ {T E : Type 0} (promise : Scope → List Incoming → List Outgoing → Option EndKind → Type 0) (answers : T → List Incoming → List Outgoing → Option EndKind → Type 0) (ends : Ghosts E)
+module _ {T E : Type 0} (promise : Promise) (answers : T → List Incoming → List Outgoing → Option EndKind → Type 0) (ends : Ghosts E)
     (limits : Limits) (client server : Option Peer) (state : List (List ℕ × StateValue)) (scene : Scene) (now : LineState) (half : HttpHalf) (read : List ℕ)
     (side : AppSide T E) (kind : EndKind) (run : HasRun http_half.ghosts answers ends (record { limits = limits; at = scene }) now half read side kind) where
   abbrev one : ExchangeRecord
@@ -124,7 +126,7 @@ pub lacks_moved : (start now : LineState) (end : InputEnd) (read written : List 
 lacks_moved start now end read written outcome (inl is) moved = subst (λ (n : ℕ). Transferred start now end read written n) (sym (ap failures_as is)) moved
 lacks_moved start now end read written outcome (inr is) moved = subst (λ (n : ℕ). Transferred start now end read written n) (sym (ap failures_as is)) moved
 
-pub serves_short : (promise : Scope → List Incoming → List Outgoing → Option EndKind → Type 0) (client server : Option Peer) (state : List (List ℕ × StateValue)) (scene : Scene) (now : LineState)
+pub serves_short : (promise : Promise) (client server : Option Peer) (state : List (List ℕ × StateValue)) (scene : Scene) (now : LineState)
     (wire : Wire) (facts : Facts) (read arrived : List ℕ) (tally : Tally) → Opens scene now wire facts read arrived
     → ArePromised promise client server state scene.exchanges → IsTallied tally scene.exchanges → (outcome : Outcome) → IsLacking outcome
     → ConnInvariant promise wire.limits client server state scene.start now tally (Ended outcome)

@@ -40,7 +40,8 @@ use Rattle.asgi_conversation.specs.SoFar.{Between}
 use Rattle.asgi_conversation.specs.TaskEnds.{has_ended}
 use Rattle.asgi_conversation.proofs.LoopLemmas as loop
 use Rattle.asgi_halves.specs.declared.wire.Wire.{Wire}
-use Rattle.asgi_run.specs.Lines.{LineState, Transferred, piece_size}
+use Rattle.asgi_ws.specs.Lines.{LineState}
+use Rattle.asgi_run.specs.Lines.{Transferred, piece_size}
 use Rattle.asgi_conn.specs.private.Loop.{BetweenRequests, EndsSo}
 use Rattle.asgi_halves.specs.ReadAhead.{ReadsAhead}
 use Rattle.asgi_conn.proofs.HttpEndLemmas.{http_ends}

@@ -2,13 +2,10 @@
 use Rattle.std.proofs.Common.{◌≡◌, ◌≢◌, ℕ, List, [], ◌∷◌, ◌++◌, ◌-◌, refl, sym, ap, ◌∙◌, append-nil, subst, Option, inl, inr}
 use Rattle.std.specs.Prelude.{◌+◌}
 use Rattle.std.proofs.lemmas.List.Elements.{All-nil}
-use Rattle.asgi_types.specs.declared.end_kind.EndKind.{EndKind}
 use Rattle.asgi_types.specs.declared.facts.Facts.{Facts}
 use Rattle.asgi_types.specs.declared.facts.Framing.{Framing}
 use Rattle.asgi_types.specs.declared.facts.Framing.TheVariants.{Length, Chunked, Upgrade}
-use Rattle.asgi_types.specs.declared.incoming.Incoming.{Incoming}
 use Rattle.asgi_types.specs.declared.limits.Limits.{Limits}
-use Rattle.asgi_types.specs.declared.outgoing.Outgoing.{Outgoing}
 use Rattle.asgi_types.specs.declared.scope.Kind.TheVariants.{Http, WebSocket}
 use Rattle.asgi_types.specs.declared.scope.Peer.{Peer}
 use Rattle.asgi_types.specs.declared.scope.Scope.{Scope}
@@ -47,7 +44,9 @@ use Rattle.asgi_halves.specs.Half.{Scene, WithinScene}
 use Rattle.asgi_halves.specs.Half as half
 use Rattle.asgi_run.specs.Limits.{IsAtLimit}
 use Rattle.asgi_run.specs.Lines as lines
-use Rattle.asgi_run.specs.Lines.{LineState, Transferred}
+use Rattle.asgi_ws.specs.Lines.{LineState}
+use Rattle.asgi_apps.specs.Promises.{Promise}
+use Rattle.asgi_run.specs.Lines.{Transferred}
 use Rattle.asgi_conn.specs.private.Loop.{BetweenRequests, IsAt, IsTallied, ConnInvariant}
 use Rattle.asgi_halves.specs.ReadAhead.{ReadsAhead}
 use Rattle.asgi_conn.specs.Serving.{Serves}
@@ -111,7 +110,7 @@ moved_nothing start end still = subst (λ (e : InputEnd). Transferred start star
   quiet = refl;
 })
 
-module _ (answers : Scope → List Incoming → List Outgoing → Option EndKind → Type 0) (limits : Limits) (client server : Option Peer) (state : List (List ℕ × StateValue)) where
+module _ (answers : Promise) (limits : Limits) (client server : Option Peer) (state : List (List ℕ × StateValue)) where
   pub begins : (start : LineState) (wire : Wire) (tally : Tally) → (wire.limits ≡ limits) × (wire.requests.limits ≡ limits) → StandsFor wire.requests [] [] × (wire.input ≡ Open)
       → wire.out.items ≡ [] → tally.exchanges ≡ 0 → tally.faults ≡ 0 → ConnInvariant answers limits client server state start start tally (place.Between wire)
   begins start wire tally limits_are unread empty none no_faults = record {
@@ -300,7 +299,7 @@ module _ (answers : Scope → List Incoming → List Outgoing → Option EndKind
 abbrev pub told_of : Tally → Outcome → Report
 told_of tally outcome = record { exchanges = tally.exchanges; faults = tally.faults; turns = tally.turns.turns; idle = tally.turns.idle; outcome = outcome }
 
-pub serves : (answers : Scope → List Incoming → List Outgoing → Option EndKind → Type 0) (limits : Limits) (client server : Option Peer) (state : List (List ℕ × StateValue))
+pub serves : (answers : Promise) (limits : Limits) (client server : Option Peer) (state : List (List ℕ × StateValue))
     (start now : LineState) (tally : Tally) (at : ConnState) (outcome : Outcome) (pauses_old pauses_new : ℕ)
     → at ≡ place.Ended outcome → ConnInvariant answers limits client server state start now tally at
     → (turned : List Turn) → CountsTurns limits.turns limits.idle_turns turned pauses_old pauses_new tally.turns.turns tally.turns.idle

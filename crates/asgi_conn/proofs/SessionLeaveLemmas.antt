@@ -39,7 +39,7 @@ use Rattle.asgi_halves.specs.declared.session_half.Answered.{Answered}
 use Rattle.asgi_halves.specs.declared.session_half.Answered.TheVariants as answered
 use Rattle.asgi_halves.specs.declared.session_half.WebSocketHalf.{WebSocketHalf}
 use Rattle.asgi_halves.specs.WebSocketHalf.{SessionScene, Invariant, IsAt, IsCarried, IsCarrying, IsCutShort, IsCutShortAs, IsSilent, EndsByTask, known, output_in, said_in, session_of, talk_in}
-use Rattle.asgi_run.specs.Lines.{LineState}
+use Rattle.asgi_ws.specs.Lines.{LineState}
 
 -- ---- how an exchange may end that was not cut short
 

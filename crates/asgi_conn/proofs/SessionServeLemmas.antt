@@ -40,7 +40,8 @@ use Rattle.asgi_halves.specs.declared.session_half.WebSocketHalf.{WebSocketHalf}
 use Rattle.asgi_conn.specs.declared.tally.Tally.{Tally}
 use Rattle.asgi_halves.specs.declared.wire.Wire.{Wire}
 use Rattle.asgi_halves.specs.contracts.impls.WebSocketHalfHalf.TheImpl as session_half
-use Rattle.asgi_run.specs.Lines.{LineState}
+use Rattle.asgi_ws.specs.Lines.{LineState}
+use Rattle.asgi_apps.specs.Promises.{Promise}
 use Rattle.asgi_conn.specs.private.Loop.{EndsSo, IsTallied, ConnInvariant}
 use Rattle.asgi_halves.specs.ReadAhead.{ReadsAhead}
 use Rattle.asgi_run.specs.Running.{IsOpened, HasRun}
@@ -88,7 +89,7 @@ module _ (scene : SessionScene) (now : LineState) (wire : Wire) (facts : Facts) 
       })
 
   -- memory or a thread is refused, before the application is called
-  pub opens_short : (promise : Scope → List Incoming → List Outgoing → Option EndKind → Type 0) (client server : Option Peer) (state : List (List ℕ × StateValue)) (tally : Tally)
+  pub opens_short : (promise : Promise) (client server : Option Peer) (state : List (List ℕ × StateValue)) (tally : Tally)
       → ArePromised promise client server state scene.exchanges → IsTallied tally scene.exchanges → (outcome : Outcome) → IsLacking outcome
       → ConnInvariant promise scene.limits client server state scene.start now tally (Ended outcome)
   opens_short promise client server state tally promised tallied outcome lacks = record {
@@ -118,7 +119,7 @@ pub ends_connection : (scene : SessionScene) (half : WebSocketHalf) (view : _) �
 ends_connection scene half view at NextRequest is = absurd (subst (λ (s : Stage). IsAt s scene half view) is at)
 ends_connection scene half view at (ConnectionEnds outcome) is = (outcome, is)
 
-module _ {T E : Type 0} (promise : Scope → List Incoming → List Outgoing → Option EndKind → Type 0) (answers : T → List Incoming → List Outgoing → Option EndKind → Type 0) (ends : Ghosts E)
+module _ {T E : Type 0} (promise : Promise) (answers : T → List Incoming → List Outgoing → Option EndKind → Type 0) (ends : Ghosts E)
     (client server : Option Peer) (state : List (List ℕ × StateValue)) (scene : SessionScene) (now : LineState) (half : WebSocketHalf) (read : List ℕ)
     (side : AppSide T E) (kind : EndKind) (run : HasRun session_half.ghosts answers ends scene now half read side kind) where
   abbrev one : ExchangeRecord

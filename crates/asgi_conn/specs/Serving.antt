@@ -1,12 +1,8 @@
 -- What `serve_connection` promises, whole: the bytes read, the exchanges, what was written and the report make a
 -- conversation, and the turns and pauses are counted.
 use Rattle.std.specs.Prelude.{◌≡◌, ◌⊎◌, ℕ, List, Option}
-use Rattle.asgi_types.specs.declared.end_kind.EndKind.{EndKind}
-use Rattle.asgi_types.specs.declared.incoming.Incoming.{Incoming}
 use Rattle.asgi_types.specs.declared.limits.Limits.{Limits}
-use Rattle.asgi_types.specs.declared.outgoing.Outgoing.{Outgoing}
 use Rattle.asgi_types.specs.declared.scope.Peer.{Peer}
-use Rattle.asgi_types.specs.declared.scope.Scope.{Scope}
 use Rattle.asgi_types.specs.declared.state.StateValue.{StateValue}
 use Rattle.asgi_io.specs.declared.turns.Turn.{Turn}
 use Rattle.asgi_io.specs.Turns.{CountsTurns}
@@ -18,12 +14,13 @@ use Rattle.asgi_conversation.specs.Exchanges.{requests_of}
 use Rattle.asgi_conversation.specs.ExchangeRecord.{ExchangeRecord}
 use Rattle.asgi_conversation.specs.Promised.{ArePromised}
 use Rattle.asgi_conversation.specs.Sessions.{SessionTraffic}
-use Rattle.asgi_run.specs.Lines.{LineState}
+use Rattle.asgi_ws.specs.Lines.{LineState}
+use Rattle.asgi_apps.specs.Promises.{Promise}
 use Rattle.asgi_halves.specs.ReadAhead.{ReadsAhead}
 use Rattle.asgi_halves.specs.Traffic.{HasCarried, failures_in}
 
 -- One connection was served.
-pub record Serves (answers : Scope → List Incoming → List Outgoing → Option EndKind → Type 0) (limits : Limits) (client server : Option Peer) (state : List (List ℕ × StateValue))
+pub record Serves (answers : Promise) (limits : Limits) (client server : Option Peer) (state : List (List ℕ × StateValue))
     (old new : LineState) (pauses_old pauses_new : ℕ) (report : Report) : Type 0 where
   -- what left the line, how far its input has come, and what the line gained
   pub read : List ℕ

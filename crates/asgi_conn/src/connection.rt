@@ -26,7 +26,7 @@ ghost use Rattle.asgi_conversation.specs.TaskEnds.{has_ended};
 ghost use Rattle.asgi_halves.specs.Half.{Scene};
 ghost use Rattle.asgi_halves.specs.Half.{Opens};
 ghost use Rattle.asgi_run.specs.Limits.{IsAtLimit};
-ghost use Rattle.asgi_run.specs.Lines.{LineState, state_of};
+ghost use Rattle.asgi_ws.specs.Lines.{LineState};
 ghost use Rattle.asgi_conn.specs.private.Loop.{BetweenRequests, EndsSo, IsAt, IsTallied, ConnInvariant, IsBetween, IsLeft, HasRoom};
 ghost use Rattle.asgi_run.specs.Running.{OfEnd, MayRun, IsOpened};
 ghost use Rattle.asgi_conn.specs.Serving.{Serves};
@@ -94,7 +94,7 @@ pub fn serve_connection<H: AllocGlobal, A: Application, L: Line, U: Runner<A::Ta
     pause: &mut P,
 ) -> Report
     ensures { Serves (A.answers app.now) limits.now client.now server.now state.now
-        (state_of L.Reads L.Counts L.Messages.own line.old) (state_of L.Reads L.Counts L.Messages.own line.new) (P.count pause.old) (P.count pause.new) result }
+        (L.state line.old) (L.state line.new) (P.count pause.old) (P.count pause.new) result }
 {
     let mut tally = Tally {
         exchanges: 0,
@@ -129,10 +129,10 @@ fn step<A: Application, L: Line, U: Runner<A::Task>, P: Pause>(
     tally: &mut Tally,
 ) -> ConnState
     requires between { IsBetween place }
-    requires stands { (limits : Limits) × (start : LineState) × ConnInvariant (A.answers app.now) limits client.now server.now state.now start (state_of L.Reads L.Counts L.Messages.own line.old) tally.old place }
+    requires stands { (limits : Limits) × (start : LineState) × ConnInvariant (A.answers app.now) limits client.now server.now state.now start (L.state line.old) tally.old place }
     requires room { HasRoom tally.old }
-    ensures serves { (limits : Limits) (start : LineState) → ConnInvariant (A.answers app.now) limits client.now server.now state.now start (state_of L.Reads L.Counts L.Messages.own line.old) tally.old place
-        → ConnInvariant (A.answers app.now) limits client.now server.now state.now start (state_of L.Reads L.Counts L.Messages.own line.new) tally.new result }
+    ensures serves { (limits : Limits) (start : LineState) → ConnInvariant (A.answers app.now) limits client.now server.now state.now start (L.state line.old) tally.old place
+        → ConnInvariant (A.answers app.now) limits client.now server.now state.now start (L.state line.new) tally.new result }
     ensures room { IsBetween result → HasRoom tally.new }
     ensures takes { IsBetween result → tally.old.turns.turns < tally.new.turns.turns }
     ensures idle { result ≡ ConnState.Ended Outcome.Idle → IsAtLimit tally.new.turns }
@@ -220,8 +220,8 @@ fn copy_of(peer: &Option<Peer>, alloc: Global) -> Result<Option<Peer>, AllocErro
 /// Reads until the reader may have a result, or ends the connection at the end of the input or at a limit.
 fn wait<L: Line, P: Pause>(wire: Wire, line: &mut L, pause: &mut P, turns: &mut Turns) -> ConnState
     ensures waits { (limits : Limits) (start : LineState) (read : List ℕ) (given : List Next) (exchanges : List ExchangeRecord) (after written : List ℕ)
-        → BetweenRequests limits start (state_of L.Reads L.Counts L.Messages.own line.old) wire read given exchanges after written → AllGiven wire.requests read given
-        → (more : List ℕ) × IsAt result limits start (state_of L.Reads L.Counts L.Messages.own line.new) (read ++ more) exchanges written }
+        → BetweenRequests limits start (L.state line.old) wire read given exchanges after written → AllGiven wire.requests read given
+        → (more : List ℕ) × IsAt result limits start (L.state line.new) (read ++ more) exchanges written }
     ensures takes { IsBetween result → turns.old.turns < turns.new.turns }
     ensures idle { result ≡ ConnState.Ended Outcome.Idle → IsAtLimit turns.new }
     ensures counts { (turned : List Turn) (pauses : ℕ) → CountsTurns turns.old.turn_limit turns.old.idle_limit turned pauses (P.count pause.old) turns.old.turns turns.old.idle
@@ -278,8 +278,8 @@ fn is_blank(bytes: &[u8]) -> bool
 fn refuse<L: Line>(status: u16, line: &mut L) -> ConnState
     requires { IsTrue (is_refusal status) }
     ensures refuses { (limits : Limits) (start : LineState) (wire : Wire) (read : List ℕ) (given : List Next) (exchanges : List ExchangeRecord) (after written : List ℕ)
-        → BetweenRequests limits start (state_of L.Reads L.Counts L.Messages.own line.old) wire read given exchanges after written → RefusesWith limits after status
-        → (text : List ℕ) × IsAt result limits start (state_of L.Reads L.Counts L.Messages.own line.new) read exchanges (written ++ text) }
+        → BetweenRequests limits start (L.state line.old) wire read given exchanges after written → RefusesWith limits after status
+        → (text : List ℕ) × IsAt result limits start (L.state line.new) read exchanges (written ++ text) }
     ensures ends { ¬ (IsBetween result) }
     ensures not_idle { result ≢ ConnState.Ended Outcome.Idle }
 {
@@ -306,9 +306,9 @@ fn answer<A: Application, L: Line, U: Runner<A::Task>, P: Pause>(
     requires http { kind_of scope.now ≡ Http }
     requires plain { facts.framing ≢ Framing.Upgrade }
     ensures serves { (scene : Scene) (client server : Option Peer) (state : List (List ℕ × StateValue)) (read arrived : List ℕ)
-        → scope.now ≡ scope_with scene.scope client server state → Opens scene (state_of L.Reads L.Counts L.Messages.own line.old) wire facts read arrived
+        → scope.now ≡ scope_with scene.scope client server state → Opens scene (L.state line.old) wire facts read arrived
         → ArePromised (A.answers app.now) client server state scene.exchanges → IsTallied tally.old scene.exchanges
-        → ConnInvariant (A.answers app.now) wire.limits client server state scene.start (state_of L.Reads L.Counts L.Messages.own line.new) tally.new result }
+        → ConnInvariant (A.answers app.now) wire.limits client server state scene.start (L.state line.new) tally.new result }
     ensures room { IsBetween result → HasRoom tally.new }
     ensures takes { IsBetween result → tally.old.turns.turns < tally.new.turns.turns }
     ensures idle { result ≡ ConnState.Ended Outcome.Idle → IsAtLimit tally.new.turns }
@@ -394,11 +394,11 @@ fn open<A: Application, L: Line, U: Runner<A::Task>, P: Pause>(
     requires room { HasRoom tally.old }
     requires websocket { kind_of scope.now ≡ WebSocket }
     requires upgrade { facts.framing ≡ Framing.Upgrade }
-    requires opens { (scene : SessionScene) × (read : List ℕ) × OpensHandshake scene (state_of L.Reads L.Counts L.Messages.own line.old) wire facts read }
+    requires opens { (scene : SessionScene) × (read : List ℕ) × OpensHandshake scene (L.state line.old) wire facts read }
     ensures serves { (scene : SessionScene) (client server : Option Peer) (state : List (List ℕ × StateValue)) (read : List ℕ)
-        → scope.now ≡ scope_with scene.scope client server state → OpensHandshake scene (state_of L.Reads L.Counts L.Messages.own line.old) wire facts read
+        → scope.now ≡ scope_with scene.scope client server state → OpensHandshake scene (L.state line.old) wire facts read
         → ArePromised (A.answers app.now) client server state scene.exchanges → IsTallied tally.old scene.exchanges
-        → ConnInvariant (A.answers app.now) scene.limits client server state scene.start (state_of L.Reads L.Counts L.Messages.own line.new) tally.new result }
+        → ConnInvariant (A.answers app.now) scene.limits client server state scene.start (L.state line.new) tally.new result }
     ensures ends { ¬ (IsBetween result) }
     ensures idle { result ≡ ConnState.Ended Outcome.Idle → IsAtLimit tally.new.turns }
     ensures counts { (turned : List Turn) (pauses : ℕ) → CountsTurns tally.old.turns.turn_limit tally.old.turns.idle_limit turned pauses (P.count pause.old) tally.old.turns.turns tally.old.turns.idle

@@ -1,16 +1,15 @@
 -- One list of bytes read has one kind of conversation with `WsEcho`: over HTTP alone, or to the end of a session.
 use Rattle.std.proofs.Common.{◌≡◌, ℕ, false, List, [], ◌∷◌, ◌++◌, ◌⊎◌, inl, inr, sym, ap, ◌∙◌, subst, Option, Some, None, All}
 use Rattle.std.proofs.lemmas.List.Elements.{All-head, All-tail}
-use Rattle.asgi_types.specs.declared.end_kind.EndKind.{EndKind}
 use Rattle.asgi_types.specs.declared.incoming.Incoming.{Incoming}
 use Rattle.asgi_types.specs.declared.limits.Limits.{Limits}
 use Rattle.asgi_types.specs.declared.outgoing.Outgoing.{Outgoing}
 use Rattle.asgi_types.specs.declared.scope.Peer.{Peer}
-use Rattle.asgi_types.specs.declared.scope.Scope.{Scope}
 use Rattle.asgi_types.specs.declared.state.StateValue.{StateValue}
 use Rattle.asgi_request.specs.ChunkedBody.{complete}
 use Rattle.asgi_request.specs.Opened.{BeginsWithHandshake}
 use Rattle.asgi_apps.specs.Answers.{not_found_events}
+use Rattle.asgi_apps.specs.Promises.{Promise}
 use Rattle.asgi_conversation.specs.declared.following.NextStep.TheVariants.{NextRequest, ConnectionEnds}
 use Rattle.asgi_conversation.specs.declared.input.InputEnd.{InputEnd}
 use Rattle.asgi_conversation.specs.declared.report.Outcome.{Outcome}
@@ -75,7 +74,7 @@ not_both limits end late read exchanges others traffic written other report anot
 
 -- ---- two conversations, of either kind
 
-either_with : (answers : Scope → List Incoming → List Outgoing → Option EndKind → Type 0) (limits : Limits) (end : InputEnd) (read : List ℕ) (exchanges : List ExchangeRecord) (traffic : SessionTraffic) (written : List ℕ)
+either_with : (answers : Promise) (limits : Limits) (end : InputEnd) (read : List ℕ) (exchanges : List ExchangeRecord) (traffic : SessionTraffic) (written : List ℕ)
     (report : Report) → ConversationWith answers limits end read exchanges traffic written report
     → (ConversesWith answers limits end read exchanges written report × (traffic ≡ no_traffic)) ⊎ ConversesInSessionWith answers limits end read exchanges traffic written report
 either_with answers limits end read exchanges traffic written report v = by (either limits end read exchanges traffic written report v.converses)

@@ -9,11 +9,11 @@ use Rattle.asgi_types.specs.declared.incoming.Incoming.{Incoming}
 use Rattle.asgi_types.specs.declared.limits.Limits.{Limits}
 use Rattle.asgi_types.specs.declared.outgoing.Outgoing.{Outgoing}
 use Rattle.asgi_types.specs.declared.scope.Peer.{Peer}
-use Rattle.asgi_types.specs.declared.scope.Scope.{Scope}
 use Rattle.asgi_types.specs.declared.state.StateValue.{StateValue}
 use Rattle.asgi_request.specs.ChunkedBody.{BodyState, complete}
 use Rattle.asgi_response.specs.Progress.{progress_of}
 use Rattle.asgi_response.specs.declared.refusal.Input.TheVariants as input
+use Rattle.asgi_apps.specs.Promises.{Promise}
 use Rattle.asgi_conversation.specs.declared.report.Outcome.{Outcome}
 use Rattle.asgi_conversation.specs.declared.report.Outcome.TheVariants.{Idle}
 use Rattle.asgi_conversation.proofs.OutcomeLemmas.{is_done}
@@ -48,7 +48,7 @@ not_idle o c e = let same : Idle ≡ o = cc e in let cut : is_cut Idle ≡ false
 
 -- ---- the conversation
 
-module _ (answers : Scope → List Incoming → List Outgoing → Option EndKind → Type 0) (say : List Incoming → List Outgoing) (law : SaysOf answers say)
+module _ (answers : Promise) (say : List Incoming → List Outgoing) (law : SaysOf answers say)
     (limits : Limits) (end : InputEnd) (client server : Option Peer) (values : List (List ℕ × StateValue)) where
   replies : (bytes : List ℕ) (x : ExchangeRecord) (state : BodyState) (next : NextStep) → ServesFirst limits end false bytes x state → IsFollowed x state next
       → (ConnectionEnds Idle ≡ next → ⊥) → fault_of x.ended ≡ 0 → IsPromised answers client server values x → Replies say limits bytes x state next
@@ -80,7 +80,7 @@ module _ (answers : Scope → List Incoming → List Outgoing → Option EndKind
   )
 
 -- so it is with the whole conversation
-pub plainly : (answers : Scope → List Incoming → List Outgoing → Option EndKind → Type 0) (say : List Incoming → List Outgoing) → SaysOf answers say
+pub plainly : (answers : Promise) (say : List Incoming → List Outgoing) → SaysOf answers say
     → (limits : Limits) (end : InputEnd) (read : List ℕ) (exchanges : List ExchangeRecord) (written : List ℕ) (report : Report)
     → (w : ConversesWith answers limits end read exchanges written report) → Plain say limits end report.outcome read w.converses.answered w.converses.last written
 plainly answers say law limits end read exchanges written report w =
@@ -93,7 +93,7 @@ plainly answers say law limits end read exchanges written report w =
 -- ---- the laws
 
 -- the same bytes: the texts and the number of exchanges are the same, and the outcomes too, if reading ended alike
-pub alike : (answers : Scope → List Incoming → List Outgoing → Option EndKind → Type 0) (say : List Incoming → List Outgoing) → SaysOf answers say
+pub alike : (answers : Promise) (say : List Incoming → List Outgoing) → SaysOf answers say
     → (limits : Limits) (end late : InputEnd) (read : List ℕ) (exchanges others : List ExchangeRecord) (written other : List ℕ) (report another : Report)
     → ConversesWith answers limits end read exchanges written report → ConversesWith answers limits late read others other another
     → (written ≡ other) × (end ≡ late → report.outcome ≡ another.outcome) × (report.exchanges ≡ another.exchanges)
@@ -107,7 +107,7 @@ alike answers say law limits end late read exchanges others written other report
       a.counts.exchanges_are ∙ ap length a.in_order ∙ same.as_many ∙ sym (b.counts.exchanges_are ∙ ap length b.in_order),
     )
 
-pub one_answer : (answers : Scope → List Incoming → List Outgoing → Option EndKind → Type 0) (say : List Incoming → List Outgoing) → SaysOf answers say
+pub one_answer : (answers : Promise) (say : List Incoming → List Outgoing) → SaysOf answers say
     → (limits : Limits) (end : InputEnd) (read : List ℕ) (exchanges others : List ExchangeRecord) (written other : List ℕ) (report another : Report)
     → ConversesWith answers limits end read exchanges written report → ConversesWith answers limits end read others other another
     → (written ≡ other) × (report.outcome ≡ another.outcome) × (report.exchanges ≡ another.exchanges)
@@ -115,13 +115,13 @@ one_answer answers say law limits end read exchanges others written other report
     let same = alike answers say law limits end end read exchanges others written other report another v w in (same.0, same.1 refl, same.2)
 
 -- however reading ended
-pub same_bytes : (answers : Scope → List Incoming → List Outgoing → Option EndKind → Type 0) (say : List Incoming → List Outgoing) → SaysOf answers say
+pub same_bytes : (answers : Promise) (say : List Incoming → List Outgoing) → SaysOf answers say
     → (limits : Limits) (end late : InputEnd) (read : List ℕ) (exchanges others : List ExchangeRecord) (written other : List ℕ) (report another : Report)
     → ConversesWith answers limits end read exchanges written report → ConversesWith answers limits late read others other another → written ≡ other
 same_bytes answers say law limits end late read exchanges others written other report another v w =
     (alike answers say law limits end late read exchanges others written other report another v w).0
 
-pub front_comes_first : (answers : Scope → List Incoming → List Outgoing → Option EndKind → Type 0) (say : List Incoming → List Outgoing) → SaysOf answers say
+pub front_comes_first : (answers : Promise) (say : List Incoming → List Outgoing) → SaysOf answers say
     → (limits : Limits) (early late : InputEnd) (read more : List ℕ) (exchanges others : List ExchangeRecord) (written other : List ℕ) (report another : Report)
     → ConversesWith answers limits early read exchanges written report → ConversesWith answers limits late (read ++ more) others other another → IsPrefix written other
 front_comes_first answers say law limits early late read more exchanges others written other report another v w =

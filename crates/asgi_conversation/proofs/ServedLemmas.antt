@@ -8,7 +8,6 @@ use Rattle.asgi_types.specs.declared.incoming.Incoming.{Incoming}
 use Rattle.asgi_types.specs.declared.limits.Limits.{Limits}
 use Rattle.asgi_types.specs.declared.outgoing.Outgoing.{Outgoing}
 use Rattle.asgi_types.specs.declared.scope.Peer.{Peer}
-use Rattle.asgi_types.specs.declared.scope.Scope.{Scope}
 use Rattle.asgi_types.specs.declared.state.StateValue.{StateValue}
 use Rattle.asgi_request.specs.BodyGrowth.{StaysAs}
 use Rattle.asgi_request.specs.ChunkedBody.{BodyState, partial, complete, faulty}
@@ -24,6 +23,7 @@ use Rattle.asgi_response.proofs.EndLemmas.{added_text_only_grows}
 use Rattle.asgi_exchange.specs.ExchangeTexts.{input_of}
 use Rattle.asgi_exchange.specs.ExchangeTexts.{text_of}
 use Rattle.asgi_exchange.proofs.ListLemmas.{prefix_trans, prefix_same, prefix_front}
+use Rattle.asgi_apps.specs.Promises.{Promise}
 use Rattle.asgi_conversation.specs.declared.input.InputEnd.{InputEnd}
 use Rattle.asgi_conversation.specs.Exchanges.{ServesFirst, out_text}
 use Rattle.asgi_conversation.specs.ExchangeRecord.{ExchangeRecord}
@@ -40,7 +40,7 @@ pub record Served (say : List Incoming → List Outgoing) (limits : Limits) (byt
   pub ended : x.ended ≡ Some Returned
   pub told : Told x (say events) state
 
-pub served : (answers : Scope → List Incoming → List Outgoing → Option EndKind → Type 0) (say : List Incoming → List Outgoing) → SaysOf answers say
+pub served : (answers : Promise) (say : List Incoming → List Outgoing) → SaysOf answers say
     → (limits : Limits) (end : InputEnd) (bytes : List ℕ) (x : ExchangeRecord) (state : BodyState) (client server : Option Peer) (values : List (List ℕ × StateValue))
     → ServesFirst limits end false bytes x state → x.ended ≡ Some Returned → IsPromised answers client server values x → Served say limits bytes x state
 served answers say law limits end bytes x state client server values s r p = record {
@@ -149,7 +149,7 @@ module _ (say : List Incoming → List Outgoing) (limits : Limits) (bytes more :
 
 -- ---- the events of its body, whatever else is known of them
 
-pub said_of_body : (answers : Scope → List Incoming → List Outgoing → Option EndKind → Type 0) (say : List Incoming → List Outgoing) → SaysOf answers say
+pub said_of_body : (answers : Promise) (say : List Incoming → List Outgoing) → SaysOf answers say
     → (limits : Limits) (end : InputEnd) (bytes : List ℕ) (x : ExchangeRecord) (state : BodyState) (client server : Option Peer) (values : List (List ℕ × StateValue))
     (arrived : List ℕ) (events : List Incoming)
     → ServesFirst limits end false bytes x state → IsPromised answers client server values x → x.ended ≡ Some Returned

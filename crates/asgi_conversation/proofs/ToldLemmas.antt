@@ -29,6 +29,7 @@ use Rattle.asgi_apps.specs.Answers.{start_of, hello_events, not_found_events}
 use Rattle.asgi_apps.specs.Echo.{bodies_of, echo_events, ends_request, HeardAll}
 use Rattle.asgi_apps.proofs.AnswerLemmas.{text_is_lawful, not_found_is_lawful}
 use Rattle.asgi_apps.proofs.EchoLemmas.{bodies-append}
+use Rattle.asgi_apps.specs.Promises.{Promise}
 use Rattle.asgi_conversation.specs.declared.following.NextStep.{NextStep}
 use Rattle.asgi_conversation.specs.declared.input.InputEnd.{InputEnd}
 use Rattle.asgi_conversation.specs.TaskEnds.{after_response, after_task}
@@ -50,13 +51,13 @@ pub record Told (x : ExchangeRecord) (said : List Outgoing) (state : BodyState) 
   pub next : (next : NextStep) → IsFollowed x state next → next ≡ next_for x.facts said state
 
 -- what is sent is a function of the events of the body, and goes on if these go on
-pub record SaysOf (answers : Scope → List Incoming → List Outgoing → Option EndKind → Type 0) (say : List Incoming → List Outgoing) : Type 0 where
+pub record SaysOf (answers : Promise) (say : List Incoming → List Outgoing) : Type 0 where
   pub tells : (limits : Limits) (end : InputEnd) (bytes : List ℕ) (x : ExchangeRecord) (state : BodyState) (client server : Option Peer) (values : List (List ℕ × StateValue))
       → (s : ServesFirst limits end false bytes x state) → x.ended ≡ Some Returned → IsPromised answers client server values x → Told x (say s.events) state
   pub grows : (events others : List Incoming) → IsPrefix events others → IsPrefix (say events) (say others)
 
 -- the promise, if the task returned: the scope is that of a request
-returned : (answers : Scope → List Incoming → List Outgoing → Option EndKind → Type 0) (client server : Option Peer) (values : List (List ℕ × StateValue)) (x : ExchangeRecord) (scope : Scope)
+returned : (answers : Promise) (client server : Option Peer) (values : List (List ℕ × StateValue)) (x : ExchangeRecord) (scope : Scope)
     → x.scope ≡ scope → x.ended ≡ Some Returned → IsPromised answers client server values x → answers (scope_with scope client server values) x.heard x.said (Some Returned)
 returned answers client server values x scope e r p =
     let A : Scope → Type 0 = λ s. answers (scope_with s client server values) x.heard x.said (Some Returned) in

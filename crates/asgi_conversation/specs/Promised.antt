@@ -2,12 +2,10 @@
 use Rattle.std.specs.Prelude.{ℕ, List, Option, Some, None, All}
 use Rattle.asgi_types.specs.Scopes.{scope_with}
 use Rattle.asgi_types.specs.declared.end_kind.EndKind.{EndKind}
-use Rattle.asgi_types.specs.declared.incoming.Incoming.{Incoming}
-use Rattle.asgi_types.specs.declared.outgoing.Outgoing.{Outgoing}
 use Rattle.asgi_types.specs.declared.scope.Peer.{Peer}
-use Rattle.asgi_types.specs.declared.scope.Scope.{Scope}
 use Rattle.asgi_types.specs.declared.state.StateValue.{StateValue}
 use Rattle.asgi_apps.specs.Ends.{own_end}
+use Rattle.asgi_apps.specs.Promises.{Promise}
 use Rattle.asgi_conversation.specs.ExchangeRecord.{ExchangeRecord}
 
 -- ---- of one exchange
@@ -19,10 +17,10 @@ task_end (Some kind) = own_end kind
 
 -- The events received and sent, and how the task ended, are as the application promises them for the scope, to which the
 -- connection added what it knows.
-abbrev pub IsPromised : (Scope → List Incoming → List Outgoing → Option EndKind → Type 0) → Option Peer → Option Peer → List (List ℕ × StateValue) → ExchangeRecord → Type 0
+abbrev pub IsPromised : Promise → Option Peer → Option Peer → List (List ℕ × StateValue) → ExchangeRecord → Type 0
 IsPromised answers client server state x = answers (scope_with x.scope client server state) x.heard x.said (task_end x.ended)
 
 -- ---- of all of them
 
-abbrev pub ArePromised : (Scope → List Incoming → List Outgoing → Option EndKind → Type 0) → Option Peer → Option Peer → List (List ℕ × StateValue) → List ExchangeRecord → Type 0
+abbrev pub ArePromised : Promise → Option Peer → Option Peer → List (List ℕ × StateValue) → List ExchangeRecord → Type 0
 ArePromised answers client server state exchanges = All (IsPromised answers client server state) exchanges

@@ -1,19 +1,17 @@
 -- One connection was served, with a pause that begins at none and a state that is empty.
 use Rattle.std.proofs.Common.{◌≡◌, ◌⊎◌, ◌∙◌, ◌++◌, ◌∷◌, ap, ap₂, codes, inr, Option, ℕ, Bool, List, [], None, subst, sym}
-use Rattle.asgi_io.specs.declared.counts.Counts as counts
-use Rattle.asgi_io.specs.declared.reads.Reads as reads
 use Rattle.asgi_types.specs.declared.limits.Limits.{Limits}
 use Rattle.asgi_types.specs.declared.state.StateValue.{StateValue}
 use Rattle.asgi_types.specs.Ranges.{AreLimits}
-use Rattle.asgi_ws.specs.declared.messages.Messages as messages
 use Rattle.asgi_conversation.specs.declared.report.Report.{Report}
-use Rattle.asgi_run.specs.Lines.{LineState}
+use Rattle.asgi_ws.specs.Lines.{LineState}
 use Rattle.asgi_conn.specs.Serving.{Serves}
 use Rattle.asgi_apps.specs.declared.mounting.Mount.{Mount}
 use Rattle.asgi_apps.specs.declared.root_path.RootPath.{RootPath}
 use Rattle.asgi_apps.specs.Answers.{Answers, root_path_answer}
 use Rattle.asgi_apps.specs.Mounts.{MountsAnswer}
-use Rattle.asgi_server.specs.Connections.{Given, Promise}
+use Rattle.asgi_apps.specs.Promises.{Promise}
+use Rattle.asgi_server.specs.Connections.{Given}
 use Rattle.asgi_demo.proofs.WordLemmas.{one_serving}
 use Rattle.asgi_crew.specs.declared.workers.Workers.{Workers}
 use Rattle.asgi_demo.specs.declared.words.App.{App}
@@ -38,12 +36,12 @@ pub as_named : (a b : App) (before after : Streams) (status : ℕ) → a ≡ b �
     → ServesOnce (promise a) before after status ⊎ BeginsNone before after status
 as_named a b before after status same served = subst (λ x. ServesOnce (promise x) before after status ⊎ BeginsNone before after status) (sym same) served
 
-pub port_as_named : {L : Type 0} (R : reads.Ghosts L) (W : counts.Ghosts L) (M : messages.Ghosts L) (a b : App) (limits : Limits) (workers : ℕ) (has_failed : Bool) (old new : Around L)
+pub port_as_named : {L : Type 0} (line_state : L → LineState) (a b : App) (limits : Limits) (workers : ℕ) (has_failed : Bool) (old new : Around L)
     (errors_old errors_new : Writer) (status : ℕ) → AreLimits limits 16384 64 1048576 16384 16 30000 1099511627776 → a ≡ b
-    → ServesOn R W M (promise b) limits workers has_failed old new errors_old errors_new status
-    → ServesPort R W M (promise a) workers has_failed old new errors_old errors_new status
-port_as_named R W M a b limits workers has_failed old new errors_old errors_new status usual same serves =
-    let P : App → Type 0 = λ x. ServesOn R W M (promise x) limits workers has_failed old new errors_old errors_new status in
+    → ServesOn line_state (promise b) limits workers has_failed old new errors_old errors_new status
+    → ServesPort line_state (promise a) workers has_failed old new errors_old errors_new status
+port_as_named line_state a b limits workers has_failed old new errors_old errors_new status usual same serves =
+    let P : App → Type 0 = λ x. ServesOn line_state (promise x) limits workers has_failed old new errors_old errors_new status in
     record { limits = limits; usual = usual; serves = subst P (sym same) serves }
 
 -- the promise of applications under these prefixes
@@ -64,29 +62,29 @@ pub once_mounted : (a : App) (mounts : List (Mount RootPath)) (before after : St
 once_mounted a mounts before after status same is served =
     as_named a app.Mounts before after status same (subst (λ m. ServesOnce (mounted m) before after status ⊎ BeginsNone before after status) is served)
 
-module _ {L : Type 0} (R : reads.Ghosts L) (W : counts.Ghosts L) (M : messages.Ghosts L) (limits : Limits) (workers : ℕ) (has_failed : Bool) (old new : Around L)
+module _ {L : Type 0} (line_state : L → LineState) (limits : Limits) (workers : ℕ) (has_failed : Bool) (old new : Around L)
     (errors_old errors_new : Writer) (status : ℕ) where
   pub port_mounted : (a : App) (mounts : List (Mount RootPath)) → AreLimits limits 16384 64 1048576 16384 16 30000 1099511627776 → a ≡ app.Mounts → mounts ≡ two_mounts
-      → ServesOn R W M (mounted mounts) limits workers has_failed old new errors_old errors_new status
-      → ServesPort R W M (promise a) workers has_failed old new errors_old errors_new status
+      → ServesOn line_state (mounted mounts) limits workers has_failed old new errors_old errors_new status
+      → ServesPort line_state (promise a) workers has_failed old new errors_old errors_new status
   port_mounted a mounts usual same is serves =
-      port_as_named R W M a app.Mounts limits workers has_failed old new errors_old errors_new status usual same
-      (subst (λ m. ServesOn R W M (mounted m) limits workers has_failed old new errors_old errors_new status) is serves)
+      port_as_named line_state a app.Mounts limits workers has_failed old new errors_old errors_new status usual same
+      (subst (λ m. ServesOn line_state (mounted m) limits workers has_failed old new errors_old errors_new status) is serves)
 
   -- what is to be served is not available, and the listener was not asked
   pub port_unserved : (answers : Promise) → AreLimits limits 16384 64 1048576 16384 16 30000 1099511627776 → new ≡ old → Tells device_fault errors_old errors_new → status ≡ 5
-      → ServesPort R W M answers workers has_failed old new errors_old errors_new status
+      → ServesPort line_state answers workers has_failed old new errors_old errors_new status
   port_unserved answers usual kept told is = record { limits = limits; usual = usual; serves = inr (kept, told, is) }
 
 -- what was served by the application and the workers that the words name, once the port of the listener was set
-pub port_asked : {L : Type 0} (R : reads.Ghosts L) (W : counts.Ghosts L) (M : messages.Ghosts L) (words : List (List ℕ)) (a b : App) (port count n : ℕ) (w : Workers) (has_failed : Bool)
+pub port_asked : {L : Type 0} (line_state : L → LineState) (words : List (List ℕ)) (a b : App) (port count n : ℕ) (w : Workers) (has_failed : Bool)
     (asked told : List (Option (Given L))) (output : Writer) (new : Around L) (errors_old errors_new : Writer) (status : ℕ)
     (found : Command) → IsServing words a n → Asks words found → found ≡ Serve port count b w → told ≡ asked
-    → ServesPort R W M (promise b) w.count has_failed (around told output) new errors_old errors_new status
-    → ServesPort R W M (promise a) n has_failed (around asked output) new errors_old errors_new status
-port_asked R W M words a b port count n w has_failed asked told output new errors_old errors_new status found is asks found_is same serves =
-    let P : App → Type 0 = λ x. ServesPort R W M (promise x) w.count has_failed (around told output) new errors_old errors_new status in
+    → ServesPort line_state (promise b) w.count has_failed (around told output) new errors_old errors_new status
+    → ServesPort line_state (promise a) n has_failed (around asked output) new errors_old errors_new status
+port_asked line_state words a b port count n w has_failed asked told output new errors_old errors_new status found is asks found_is same serves =
+    let P : App → Type 0 = λ x. ServesPort line_state (promise x) w.count has_failed (around told output) new errors_old errors_new status in
     let (one, many) = one_serving words a b is.0 is.1 port count is.2 w is.3 (subst (λ c. Asks words c) found_is asks) in
-    let Q : ℕ → Type 0 = λ m. ServesPort R W M (promise a) m has_failed (around told output) new errors_old errors_new status in
-    let all : ServesPort R W M (promise a) n has_failed (around told output) new errors_old errors_new status = subst Q (sym many ∙ is.4) (subst P (sym one) serves) in
-    subst (λ l. ServesPort R W M (promise a) n has_failed (around l output) new errors_old errors_new status) same all
+    let Q : ℕ → Type 0 = λ m. ServesPort line_state (promise a) m has_failed (around told output) new errors_old errors_new status in
+    let all : ServesPort line_state (promise a) n has_failed (around told output) new errors_old errors_new status = subst Q (sym many ∙ is.4) (subst P (sym one) serves) in
+    subst (λ l. ServesPort line_state (promise a) n has_failed (around l output) new errors_old errors_new status) same all

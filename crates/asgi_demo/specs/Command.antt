@@ -1,10 +1,7 @@
 -- What the program does, by the words after its name.
 use Rattle.std.specs.Prelude.{◌≡◌, ℕ, Bool, List, [], ◌∷◌, codes, None, if◌then◌else◌}
-use Rattle.asgi_io.specs.declared.counts.Counts as counts
-use Rattle.asgi_io.specs.declared.reads.Reads as reads
 use Rattle.asgi_types.specs.declared.limits.Limits.{Limits}
 use Rattle.asgi_types.specs.Ranges.{AreLimits}
-use Rattle.asgi_ws.specs.declared.messages.Messages as messages
 use Rattle.asgi_apps.specs.declared.life.Life.TheVariants.{Works, NoStart, NoStop}
 use Rattle.asgi_apps.specs.declared.mounting.Mount.{Mount}
 use Rattle.asgi_apps.specs.declared.root_path.RootPath.{RootPath}
@@ -17,9 +14,9 @@ use Rattle.asgi_conversation.specs.declared.report.Outcome.{Outcome}
 use Rattle.asgi_conversation.specs.declared.report.Report.{Report}
 use Rattle.asgi_conversation.specs.OutcomeClasses.{is_cut}
 use Rattle.asgi_conversation.specs.PromisedWhole.{echo_promise, hello_promise}
-use Rattle.asgi_run.specs.Lines.{LineState}
+use Rattle.asgi_ws.specs.Lines.{LineState}
+use Rattle.asgi_apps.specs.Promises.{Promise}
 use Rattle.asgi_conn.specs.Serving.{Serves}
-use Rattle.asgi_server.specs.Connections.{Promise}
 use Rattle.asgi_demo.specs.declared.words.App.{App}
 use Rattle.asgi_demo.specs.declared.words.App.TheVariants as app
 use Rattle.asgi_demo.specs.Serving.{Around, ServesOn}
@@ -74,8 +71,8 @@ pub record BeginsNone (old new : Streams) (status : ℕ) : Type 0 where
   pub status_is : status ≡ 5
 
 -- The connections of a port were served with the usual limits, by an application of this promise and this many workers.
-pub record ServesPort {L : Type 0} (R : reads.Ghosts L) (W : counts.Ghosts L) (M : messages.Ghosts L) (answers : Promise) (workers : ℕ) (has_failed : Bool)
+pub record ServesPort {L : Type 0} (line_state : L → LineState) (answers : Promise) (workers : ℕ) (has_failed : Bool)
     (old new : Around L) (errors_old errors_new : Writer) (status : ℕ) : Type 0 where
   pub limits : Limits
   pub usual : AreLimits limits 16384 64 1048576 16384 16 30000 1099511627776
-  pub serves : ServesOn R W M answers limits workers has_failed old new errors_old errors_new status
+  pub serves : ServesOn line_state answers limits workers has_failed old new errors_old errors_new status

@@ -2,8 +2,6 @@
 -- and the application is stopped, whatever happened in between (ASGI lifespan protocol 2.0).
 use Rattle.std.specs.Prelude.{◌≡◌, ◌⊎◌, ◌&&◌, ◌++◌, ℕ, Bool, true, false, not, List, [], ◌∷◌, codes, replicate, Option, Some, None}
 use mathlib.Core.List.{IsPrefix}
-use Rattle.asgi_io.specs.declared.counts.Counts as counts
-use Rattle.asgi_io.specs.declared.reads.Reads as reads
 use Rattle.asgi_types.specs.declared.end_kind.EndKind.{EndKind}
 use Rattle.asgi_types.specs.declared.incoming.Incoming.{Incoming}
 use Rattle.asgi_types.specs.declared.incoming.Incoming.TheVariants.{LifespanStartup}
@@ -12,7 +10,8 @@ use Rattle.asgi_types.specs.declared.outgoing.Outgoing.{Outgoing}
 use Rattle.asgi_types.specs.declared.scope.Kind.TheVariants as kind
 use Rattle.asgi_types.specs.declared.state.StateValue.{StateValue}
 use Rattle.asgi_protocol.specs.Lawful.{IsLawful}
-use Rattle.asgi_ws.specs.declared.messages.Messages as messages
+use Rattle.asgi_ws.specs.Lines.{LineState}
+use Rattle.asgi_apps.specs.Promises.{Promise}
 use Rattle.asgi_conversation.specs.declared.report.Report.{Report}
 use Rattle.asgi_lifespan.specs.declared.stop.Stop.{Stop}
 use Rattle.asgi_lifespan.specs.declared.stop.Stop.TheVariants as stop
@@ -24,7 +23,7 @@ use Rattle.asgi_crew.specs.declared.give.End.{End}
 use Rattle.asgi_crew.specs.declared.give.End.TheVariants as end
 use Rattle.asgi_crew.specs.Ran.{last_of}
 use Rattle.asgi_crew.specs.Shared.{IsShared}
-use Rattle.asgi_server.specs.Connections.{Promise, Given, served_by}
+use Rattle.asgi_server.specs.Connections.{Given, served_by}
 use Rattle.asgi_demo.specs.declared.ending.Ending.{Ending}
 use Rattle.asgi_demo.specs.declared.ending.Ending.TheVariants.{Done, StartupFailed, NoStartup, ShutdownFailed, NoShutdown, DeviceFault}
 use Rattle.asgi_demo.specs.Telling.{Writer, Tells, TellsOf, Puts, report_lines, device_fault}
@@ -77,7 +76,7 @@ gave_all end.Given = true
 gave_all end.NoMemory = false
 gave_all end.NoThread = false
 
-module _ {L : Type 0} (R : reads.Ghosts L) (W : counts.Ghosts L) (M : messages.Ghosts L) (answers : Promise) (limits : Limits) (workers : ℕ) (has_failed : Bool) where
+module _ {L : Type 0} (line_state : L → LineState) (answers : Promise) (limits : Limits) (workers : ℕ) (has_failed : Bool) where
   -- The connections of the listener were served with this state, each by one of `workers` workers, and a line was written for
   -- each, in the order in which they came. All went well if the listener gave all that it had and has not failed, and each
   -- line went out.
@@ -87,7 +86,7 @@ module _ {L : Type 0} (R : reads.Ghosts L) (W : counts.Ghosts L) (M : messages.G
     -- the count of each worker's pauses began at none, and is this
     pub pauses : List ℕ
     pub reports : List (ℕ × Report)
-    pub shared : IsShared (served_by R W M answers limits state) old.asked new.asked (last_of ended) (replicate workers 0) pauses reports
+    pub shared : IsShared (served_by line_state answers limits state) old.asked new.asked (last_of ended) (replicate workers 0) pauses reports
     -- the lines went out, all of them or as much as the writer took
     pub told : Bool
     pub tells : Puts (report_lines reports) old.output new.output told

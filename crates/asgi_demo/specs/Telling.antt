@@ -3,6 +3,7 @@ use Rattle.std.specs.Prelude.{◌≡◌, ℕ, Bool, true, false, List, ◌++◌,
 use Rattle.std.specs.Fmt.{decimal}
 use Rattle.std.specs.List.{flat_map}
 use Rattle.asgi_io.specs.declared.answer.Answer.{Answer}
+use Rattle.asgi_io.specs.declared.counts.Counts as counts
 use Rattle.asgi_io.specs.declared.write.Wrote.{Wrote}
 use Rattle.asgi_io.specs.declared.write.Wrote.TheVariants.{Done, Failed}
 use Rattle.asgi_io.specs.Writing.{WritesOut, TriesWrites, out_of}
@@ -38,8 +39,8 @@ pub record Writer : Type 0 where
   pub writes : List Answer
   pub failed : ℕ
 
-abbrev pub writer : Option (List ℕ) → List Answer → ℕ → Writer
-writer written writes failed = record { written = written; writes = writes; failed = failed }
+abbrev pub writer : {W : Type 0} → counts.Ghosts W → W → Writer
+writer C output = record { written = C.written output; writes = C.answers output; failed = C.failed output }
 
 -- A text was written, all of it or as much as the writer took.
 pub record Tells (text : List ℕ) (old new : Writer) : Type 0 where

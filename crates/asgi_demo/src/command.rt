@@ -2,7 +2,6 @@
 ghost use Rattle.std.specs.Prelude.{◌≡◌, ℕ, ◌⊎◌, ◌++◌, map, string_bytes};
 ghost use Rattle.std.specs.IoError.{error_kind};
 ghost use Rattle.std.specs.declared.io.ErrorKind.TheVariants.{OutOfMemory};
-ghost use Rattle.asgi_run.specs.Lines.{state_of};
 ghost use Rattle.asgi_demo.specs.Command as spec;
 ghost use Rattle.asgi_demo.specs.Command.{ServesOnce, ServesWhole, ServesPort, BeginsNone, promise, streams};
 ghost use Rattle.asgi_demo.specs.Serving.{around};
@@ -46,17 +45,17 @@ pub fn command<
     E: Counts,
 >(rt: &H, words: &[String], line: &mut L, listener: &mut N, output: &mut W, errors: &mut E) -> u8
     ensures serves { (app : App) → IsOnce (map string_bytes words.now) app → (
-        let before = streams (state_of L.Reads L.Counts L.Messages.own line.old) (writer (E.written errors.old) (E.answers errors.old) (E.failed errors.old)) in
-        let after = streams (state_of L.Reads L.Counts L.Messages.own line.new) (writer (E.written errors.new) (E.answers errors.new) (E.failed errors.new)) in
+        let before = streams (L.state line.old) (writer E.Counts errors.old) in
+        let after = streams (L.state line.new) (writer E.Counts errors.new) in
         (ServesOnce (promise app) before after result) ⊎ (BeginsNone before after result)) }
-    ensures serves_port { (app : App) (workers : ℕ) → IsServing (map string_bytes words.now) app workers → ServesPort M.Reads M.Counts M.Messages.own (promise app) workers (N.has_failed listener.new)
-        (around (N.Listener.own.answers listener.old) (writer (W.written output.old) (W.answers output.old) (W.failed output.old)))
-        (around (N.Listener.own.answers listener.new) (writer (W.written output.new) (W.answers output.new) (W.failed output.new)))
-        (writer (E.written errors.old) (E.answers errors.old) (E.failed errors.old))
-        (writer (E.written errors.new) (E.answers errors.new) (E.failed errors.new)) result }
+    ensures serves_port { (app : App) (workers : ℕ) → IsServing (map string_bytes words.now) app workers → ServesPort M.state (promise app) workers (N.has_failed listener.new)
+        (around (N.Listener.own.answers listener.old) (writer W.Counts output.old))
+        (around (N.Listener.own.answers listener.new) (writer W.Counts output.new))
+        (writer E.Counts errors.old)
+        (writer E.Counts errors.new) result }
     ensures usage { ((asked : Command) → ¬ (Asks (map string_bytes words.now) asked)) → (result ≡ 2) × Tells telling.usage
-        (writer (E.written errors.old) (E.answers errors.old) (E.failed errors.old))
-        (writer (E.written errors.new) (E.answers errors.new) (E.failed errors.new)) }
+        (writer E.Counts errors.old)
+        (writer E.Counts errors.new) }
     ensures kept { ((asked : Command) → ¬ (Asks (map string_bytes words.now) asked)) → (line.new ≡ line.old) × (listener.new ≡ listener.old) × (output.new ≡ output.old) }
     ensures port { (app : App) (workers : ℕ) → IsServing (map string_bytes words.now) app workers → line.new ≡ line.old }
     ensures once { (app : App) → IsOnce (map string_bytes words.now) app → (listener.new ≡ listener.old) × (output.new ≡ output.old) }
@@ -85,8 +84,8 @@ fn once_by<H: RandomSource + AllocGlobal, L: Line, E: Counts>(
     line: &mut L,
     errors: &mut E,
 ) -> u8
-    ensures { let before = streams (state_of L.Reads L.Counts L.Messages.own line.old) (writer (E.written errors.old) (E.answers errors.old) (E.failed errors.old)) in
-        let after = streams (state_of L.Reads L.Counts L.Messages.own line.new) (writer (E.written errors.new) (E.answers errors.new) (E.failed errors.new)) in
+    ensures { let before = streams (L.state line.old) (writer E.Counts errors.old) in
+        let after = streams (L.state line.new) (writer E.Counts errors.new) in
         (ServesOnce (promise app) before after result) ⊎ (BeginsNone before after result) }
 {
     match app {
@@ -112,11 +111,11 @@ fn serve_by<
     W: Counts + Send,
     E: Counts,
 >(rt: &H, app: App, workers: Workers, listener: &mut N, output: &mut W, errors: &mut E) -> u8
-    ensures { ServesPort L.Reads L.Counts L.Messages.own (promise app) workers.count (N.has_failed listener.new)
-        (around (N.Listener.own.answers listener.old) (writer (W.written output.old) (W.answers output.old) (W.failed output.old)))
-        (around (N.Listener.own.answers listener.new) (writer (W.written output.new) (W.answers output.new) (W.failed output.new)))
-        (writer (E.written errors.old) (E.answers errors.old) (E.failed errors.old))
-        (writer (E.written errors.new) (E.answers errors.new) (E.failed errors.new)) result }
+    ensures { ServesPort L.state (promise app) workers.count (N.has_failed listener.new)
+        (around (N.Listener.own.answers listener.old) (writer W.Counts output.old))
+        (around (N.Listener.own.answers listener.new) (writer W.Counts output.new))
+        (writer E.Counts errors.old)
+        (writer E.Counts errors.new) result }
 {
     let limits = Limits::usual();
     match app {
@@ -154,11 +153,11 @@ fn serve_by<
 /// a fault of the system, and words that are not UTF-8 are wrong words.
 pub fn without_words<E: Counts>(e: &io::Error, errors: &mut E) -> u8
     ensures memory { (error_kind e.now ≡ OutOfMemory) → (result ≡ 5) × Tells telling.device_fault
-        (writer (E.written errors.old) (E.answers errors.old) (E.failed errors.old))
-        (writer (E.written errors.new) (E.answers errors.new) (E.failed errors.new)) }
+        (writer E.Counts errors.old)
+        (writer E.Counts errors.new) }
     ensures wrong { (¬ (error_kind e.now ≡ OutOfMemory)) → (result ≡ 2) × Tells telling.usage
-        (writer (E.written errors.old) (E.answers errors.old) (E.failed errors.old))
-        (writer (E.written errors.new) (E.answers errors.new) (E.failed errors.new)) }
+        (writer E.Counts errors.old)
+        (writer E.Counts errors.new) }
 {
     if e.kind() == ErrorKind::OutOfMemory {
         return device_fault(errors);
@@ -175,8 +174,8 @@ fn once<H: RandomSource + AllocGlobal, A: Application, L: Line, E: Counts>(
     line: &mut L,
     errors: &mut E,
 ) -> u8
-    ensures { let before = streams (state_of L.Reads L.Counts L.Messages.own line.old) (writer (E.written errors.old) (E.answers errors.old) (E.failed errors.old)) in
-        let after = streams (state_of L.Reads L.Counts L.Messages.own line.new) (writer (E.written errors.new) (E.answers errors.new) (E.failed errors.new)) in
+    ensures { let before = streams (L.state line.old) (writer E.Counts errors.old) in
+        let after = streams (L.state line.new) (writer E.Counts errors.new) in
         (ServesOnce (A.answers app.now) before after result) ⊎ (BeginsNone before after result) }
 {
     let Ok(solo) = Solo::new(rt, Doorbell::spinning()) else {
@@ -193,7 +192,7 @@ fn serve<H: AllocGlobal, A: Application, L: Line>(
     app: &A,
     line: &mut L,
 ) -> Report
-    ensures { ServesWhole (A.answers app.now) (state_of L.Reads L.Counts L.Messages.own line.old) (state_of L.Reads L.Counts L.Messages.own line.new) result }
+    ensures { ServesWhole (A.answers app.now) (L.state line.old) (L.state line.new) result }
 {
     let limits = Limits::usual();
     let state = State::new(rt.alloc());
@@ -220,8 +219,8 @@ fn serve<H: AllocGlobal, A: Application, L: Line>(
 fn usage<E: Counts>(errors: &mut E) -> u8
     ensures status { result ≡ 2 }
     ensures tells { Tells telling.usage
-        (writer (E.written errors.old) (E.answers errors.old) (E.failed errors.old))
-        (writer (E.written errors.new) (E.answers errors.new) (E.failed errors.new)) }
+        (writer E.Counts errors.old)
+        (writer E.Counts errors.new) }
 {
     tell(USAGE, errors);
     2
@@ -232,8 +231,8 @@ fn usage<E: Counts>(errors: &mut E) -> u8
 fn tell_end<E: Counts>(outcome: Outcome, errors: &mut E) -> u8
     ensures status { result ≡ spec.exit_status outcome }
     ensures tells { TellsOf (telling.of_outcome outcome)
-        (writer (E.written errors.old) (E.answers errors.old) (E.failed errors.old))
-        (writer (E.written errors.new) (E.answers errors.new) (E.failed errors.new)) }
+        (writer E.Counts errors.old)
+        (writer E.Counts errors.new) }
 {
     let status = exit_status(outcome);
     if status != 0 {

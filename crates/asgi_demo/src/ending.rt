@@ -35,8 +35,8 @@ impl Ending {
     pub fn tell<E: Counts>(self, errors: &mut E) -> u8
         ensures status { result ≡ status_of self }
         ensures tells { TellsOf (of_ending self)
-            (writer (E.written errors.old) (E.answers errors.old) (E.failed errors.old))
-            (writer (E.written errors.new) (E.answers errors.new) (E.failed errors.new)) }
+            (writer E.Counts errors.old)
+            (writer E.Counts errors.new) }
     {
         match self {
             Ending::Done => 0,

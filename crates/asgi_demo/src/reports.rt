@@ -23,8 +23,8 @@ impl<'a, W: Counts> Teller<Report> for Printer<'a, W> {
 
     ghost tells = { λ was is number report. (is.output.ghost_name ≡ was.output.ghost_name)
         × PutsNext was.told (report_line (number, report))
-        (writer (W.written was.output.now) (W.answers was.output.now) (W.failed was.output.now))
-        (writer (W.written is.output.now) (W.answers is.output.now) (W.failed is.output.now)) is.told };
+        (writer W.Counts was.output.now)
+        (writer W.Counts is.output.now) is.told };
 
     fn tell(&mut self, number: u64, report: &Report) {
         self.told = print_next(self.told, number, report, &mut *self.output);
@@ -35,8 +35,8 @@ impl<'a, W: Counts> Teller<Report> for Printer<'a, W> {
 /// the number of its exchanges, and the words of its outcome. Returns whether this one was, too.
 fn print_next<W: Counts>(told: bool, number: u64, report: &Report, output: &mut W) -> bool
     ensures { PutsNext told (report_line (number, report.now))
-        (writer (W.written output.old) (W.answers output.old) (W.failed output.old))
-        (writer (W.written output.new) (W.answers output.new) (W.failed output.new)) result }
+        (writer W.Counts output.old)
+        (writer W.Counts output.new) result }
 {
     told && put(line_of(number, report).as_bytes(), output)
 }

@@ -40,11 +40,11 @@ pub fn serve_on<
     output: &mut W,
     errors: &mut E,
 ) -> u8
-    ensures { ServesOn L.Reads L.Counts L.Messages.own (A.answers app.now) limits.now workers.count (N.has_failed listener.new)
-        (around (N.Listener.own.answers listener.old) (writer (W.written output.old) (W.answers output.old) (W.failed output.old)))
-        (around (N.Listener.own.answers listener.new) (writer (W.written output.new) (W.answers output.new) (W.failed output.new)))
-        (writer (E.written errors.old) (E.answers errors.old) (E.failed errors.old))
-        (writer (E.written errors.new) (E.answers errors.new) (E.failed errors.new)) result }
+    ensures { ServesOn L.state (A.answers app.now) limits.now workers.count (N.has_failed listener.new)
+        (around (N.Listener.own.answers listener.old) (writer W.Counts output.old))
+        (around (N.Listener.own.answers listener.new) (writer W.Counts output.new))
+        (writer E.Counts errors.old)
+        (writer E.Counts errors.new) result }
 {
     let Ok(solo) = Solo::new(rt, Doorbell::spinning()) else {
         return device_fault(errors);
@@ -85,9 +85,9 @@ fn live<
     output: &mut W,
 ) -> Ending
     requires { (vec_len list ≡ workers.count) × All (λ s. s.pause.count ≡ 0) list.items }
-    ensures { LivesOrNot L.Reads L.Counts L.Messages.own (A.answers app.now) limits.now workers.count (N.has_failed listener.new)
-        (around (N.Listener.own.answers listener.old) (writer (W.written output.old) (W.answers output.old) (W.failed output.old)))
-        (around (N.Listener.own.answers listener.new) (writer (W.written output.new) (W.answers output.new) (W.failed output.new)))
+    ensures { LivesOrNot L.state (A.answers app.now) limits.now workers.count (N.has_failed listener.new)
+        (around (N.Listener.own.answers listener.old) (writer W.Counts output.old))
+        (around (N.Listener.own.answers listener.new) (writer W.Counts output.new))
         (P.count pause.old) (P.count pause.new) result }
 {
     match Lifespan::start(rt.alloc(), app, limits, cx, pause) {
@@ -143,9 +143,9 @@ fn serve_each<
     output: &mut W,
 ) -> bool
     requires { (vec_len list ≡ workers.count) × All (λ s. s.pause.count ≡ 0) list.items }
-    ensures { ServesEach L.Reads L.Counts L.Messages.own (A.answers app.now) limits.now workers.count (N.has_failed listener.new) state.now
-        (around (N.Listener.own.answers listener.old) (writer (W.written output.old) (W.answers output.old) (W.failed output.old)))
-        (around (N.Listener.own.answers listener.new) (writer (W.written output.new) (W.answers output.new) (W.failed output.new)))
+    ensures { ServesEach L.state (A.answers app.now) limits.now workers.count (N.has_failed listener.new) state.now
+        (around (N.Listener.own.answers listener.old) (writer W.Counts output.old))
+        (around (N.Listener.own.answers listener.new) (writer W.Counts output.new))
         result }
 {
     let lent = &mut *output;
@@ -182,9 +182,9 @@ fn serve_printing<
     printer: Printer<'a, W>,
 ) -> (bool, Printer<'a, W>)
     requires { (vec_len list ≡ workers.count) × All (λ s. s.pause.count ≡ 0) list.items × (printer.told ≡ true) }
-    ensures served { ServesEach L.Reads L.Counts L.Messages.own (A.answers app.now) limits.now workers.count (N.has_failed listener.new) state.now
-        (around (N.Listener.own.answers listener.old) (writer (W.written printer.entry.output.now) (W.answers printer.entry.output.now) (W.failed printer.entry.output.now)))
-        (around (N.Listener.own.answers listener.new) (writer (W.written result.1.output.now) (W.answers result.1.output.now) (W.failed result.1.output.now)))
+    ensures served { ServesEach L.state (A.answers app.now) limits.now workers.count (N.has_failed listener.new) state.now
+        (around (N.Listener.own.answers listener.old) (writer W.Counts printer.entry.output.now))
+        (around (N.Listener.own.answers listener.new) (writer W.Counts result.1.output.now))
         result.0 }
     ensures same { result.1.output.ghost_name ≡ printer.entry.output.ghost_name }
 {

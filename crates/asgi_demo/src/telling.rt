@@ -12,8 +12,8 @@ const LINE_FEED: &[u8] = b"\n";
 /// Writes the text, and returns whether all of it went out.
 pub fn put<W: Counts>(text: &[u8], output: &mut W) -> bool
     ensures { Puts text.now
-        (writer (W.written output.old) (W.answers output.old) (W.failed output.old))
-        (writer (W.written output.new) (W.answers output.new) (W.failed output.new)) result }
+        (writer W.Counts output.old)
+        (writer W.Counts output.new) result }
 {
     write_out(output, text) == Wrote::Done
 }
@@ -22,8 +22,8 @@ pub fn put<W: Counts>(text: &[u8], output: &mut W) -> bool
 pub fn device_fault<E: Counts>(errors: &mut E) -> u8
     ensures status { result ≡ 5 }
     ensures tells { Tells telling.device_fault
-        (writer (E.written errors.old) (E.answers errors.old) (E.failed errors.old))
-        (writer (E.written errors.new) (E.answers errors.new) (E.failed errors.new)) }
+        (writer E.Counts errors.old)
+        (writer E.Counts errors.new) }
 {
     tell(DEVICE_FAULT, errors);
     5
@@ -32,8 +32,8 @@ pub fn device_fault<E: Counts>(errors: &mut E) -> u8
 /// Writes what failed, and why, in a line.
 pub fn tell_failure<E: Counts>(what: &[u8], why: &[u8], errors: &mut E)
     ensures { Tells (what.now ++ why.now ++ codes "\n")
-        (writer (E.written errors.old) (E.answers errors.old) (E.failed errors.old))
-        (writer (E.written errors.new) (E.answers errors.new) (E.failed errors.new)) }
+        (writer E.Counts errors.old)
+        (writer E.Counts errors.new) }
 {
     if !put(what, errors) {
         return;
@@ -47,8 +47,8 @@ pub fn tell_failure<E: Counts>(what: &[u8], why: &[u8], errors: &mut E)
 /// Writes a text, as far as the writer takes it: what is not written does not change the status.
 pub fn tell<E: Counts>(text: &[u8], errors: &mut E)
     ensures { Tells text.now
-        (writer (E.written errors.old) (E.answers errors.old) (E.failed errors.old))
-        (writer (E.written errors.new) (E.answers errors.new) (E.failed errors.new)) }
+        (writer E.Counts errors.old)
+        (writer E.Counts errors.new) }
 {
     let _ = write_out(errors, text);
 }

@@ -59,7 +59,8 @@ use Rattle.asgi_halves.specs.declared.wire.Wire.{Wire}
 use Rattle.asgi_halves.specs.Half.{BreaksAt, EndsWhere, HasGiven, IsAt, IsCutShort, IsSettled, Leaves, Scene, Invariant, Talks, WithinScene, failures_at, known, requests_in, state_in}
 use Rattle.asgi_halves.specs.Traffic.{failures_of}
 use Rattle.asgi_halves.specs.private.HalfSteps.{KeepsBesidesBody, GivesOn, GivesAfter, HasAsked, ReadsAt, NeedsBody, IsFree, known_input}
-use Rattle.asgi_run.specs.Lines.{LineState, Transferred, how_wrote, piece_size}
+use Rattle.asgi_ws.specs.Lines.{LineState}
+use Rattle.asgi_run.specs.Lines.{Transferred, how_wrote, piece_size}
 use Rattle.asgi_halves.specs.ReadAhead.{ReadsAhead}
 use Rattle.asgi_conversation.specs.Persistence.{InHand, StopsWithin}
 use Rattle.asgi_conversation.specs.ExchangeRecord.{Ending}

@@ -29,7 +29,8 @@ use Rattle.asgi_conversation.specs.declared.report.Outcome.TheVariants.{NoMemory
 use Rattle.asgi_halves.specs.declared.wire.Wire.{Wire}
 use Rattle.asgi_halves.specs.Half.{Scene, Invariant, WithinScene, requests_in, IsRunning, HasGiven, EndsWhere, BreaksAt}
 use Rattle.asgi_halves.specs.private.HalfSteps.{KeepsBesidesBody, GivesAfter, HasAsked, HoldsFew, ReadsAt, EndsAtInput}
-use Rattle.asgi_run.specs.Lines.{LineState, Transferred, piece_size}
+use Rattle.asgi_ws.specs.Lines.{LineState}
+use Rattle.asgi_run.specs.Lines.{Transferred, piece_size}
 use Rattle.asgi_halves.specs.ReadAhead.{ReadsAhead}
 use Rattle.asgi_conversation.specs.TaskEnds.{has_ended, is_faulty}
 use Rattle.asgi_halves.proofs.HalfBodyLemmas.{unbroken, first_due, all_due, why_broken}

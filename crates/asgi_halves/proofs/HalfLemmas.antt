@@ -32,7 +32,8 @@ use Rattle.asgi_halves.specs.declared.wire.Wire.{Wire}
 use Rattle.asgi_halves.specs.Half.{Scene, Invariant, IsRunning, IsAt, failures_at, known, state_in}
 use Rattle.asgi_halves.specs.private.HalfSteps.{Pending}
 use Rattle.asgi_halves.specs.Half.{Opens}
-use Rattle.asgi_run.specs.Lines.{LineState, Transferred, how_wrote}
+use Rattle.asgi_ws.specs.Lines.{LineState}
+use Rattle.asgi_run.specs.Lines.{Transferred, how_wrote}
 use Rattle.asgi_conversation.specs.Persistence.{StopsWithin}
 use Rattle.asgi_conversation.specs.ExchangeRecord.{Beginning, Saying}
 use Rattle.asgi_run.proofs.LineLemmas.{moved_by_write, tries_front}

@@ -1,4 +1,5 @@
 pub mod TalkLemmas
+pub mod LineCallLemmas
 pub mod FramesLemmas
 pub mod SessionPassLemmas
 pub mod SessionSayLemmas

@@ -36,7 +36,8 @@ use Rattle.asgi_halves.specs.declared.session_half.Due.{Due}
 use Rattle.asgi_halves.specs.declared.session_half.Due.TheVariants as due
 use Rattle.asgi_halves.specs.declared.session_half.WebSocketHalf.{WebSocketHalf}
 use Rattle.asgi_halves.specs.declared.wire.Wire.{Wire}
-use Rattle.asgi_run.specs.Lines.{LineState, how_wrote}
+use Rattle.asgi_ws.specs.Lines.{LineState}
+use Rattle.asgi_run.specs.Lines.{how_wrote}
 use Rattle.asgi_halves.specs.WebSocketHalf.{SessionScene, Invariant, IsDenial, Talks, IsAt, IsCarried, IsDue, IsOf, IsSilent, answer_to, exchange_of, said_in, talk_in, text_failures}
 use Rattle.asgi_halves.specs.WebSocketHalf.{CarriesOn}
 use Rattle.asgi_run.proofs.LineLemmas.{tries_front}

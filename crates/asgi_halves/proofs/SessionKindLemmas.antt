@@ -10,7 +10,7 @@ use Rattle.asgi_ws.specs.declared.messages.Msg.{Msg}
 use Rattle.asgi_conversation.specs.declared.following.NextStep.TheVariants.{ConnectionEnds}
 use Rattle.asgi_conversation.specs.declared.report.Outcome.{Outcome}
 use Rattle.asgi_conversation.specs.declared.report.Outcome.TheVariants.{Idle}
-use Rattle.asgi_run.specs.Lines.{LineState}
+use Rattle.asgi_ws.specs.Lines.{LineState}
 use Rattle.asgi_halves.specs.declared.session_half.WebSocketHalf.{WebSocketHalf}
 use Rattle.asgi_halves.specs.declared.stage.Stage.{Stage}
 use Rattle.asgi_halves.specs.declared.stage.Stage.TheVariants.{Running, Ending, Cut, Over}

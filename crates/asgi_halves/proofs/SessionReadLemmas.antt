@@ -1,8 +1,6 @@
 -- The reads of a session: a message arrives and is heard, or it is dropped after a close.
 use Rattle.std.proofs.Common.{◌≡◌, ℕ, ◌+◌, ◌<◌, ◌≤◌, Bool, true, false, ◌||◌, List, [], ◌∷◌, ◌++◌, ◌⊎◌, inl, inr, refl, sym, ap, ◌∙◌, subst, append-nil, map, arith, Option, Some, None}
 use mathlib.Core.List.{IsPrefix}
-use Rattle.asgi_io.specs.declared.counts.Counts as counts
-use Rattle.asgi_io.specs.declared.reads.Reads as reads
 use Rattle.asgi_types.specs.declared.end_kind.EndKind.{EndKind}
 use Rattle.asgi_types.specs.declared.end_kind.EndKind.TheVariants as kind
 use Rattle.asgi_types.specs.declared.incoming.Incoming.{Incoming}
@@ -25,10 +23,9 @@ use Rattle.asgi_ws.specs.declared.messages.Got.{Got}
 use Rattle.asgi_ws.specs.declared.messages.Got.TheVariants as got
 use Rattle.asgi_ws.specs.declared.messages.Call.TheVariants.{Read}
 use Rattle.asgi_ws.specs.declared.messages.SentMessage.{SentMessage}
-use Rattle.asgi_ws.specs.declared.messages.Messages as messages
 use Rattle.asgi_ws.specs.declared.messages.Msg.{Msg}
 use Rattle.asgi_ws.specs.declared.messages.Msg.TheVariants.{Text, Bytes, Ping, Pong, Close}
-use Rattle.asgi_ws.specs.Sessions.{given_by, is_failed, count_after, reads_after_close, Loses}
+use Rattle.asgi_ws.specs.Sessions.{given_by, reads_after_close}
 use Rattle.asgi_conversation.specs.declared.following.NextStep.TheVariants.{ConnectionEnds}
 use Rattle.asgi_conversation.specs.declared.report.Outcome.TheVariants.{Finished, NoMemory}
 use Rattle.asgi_conversation.specs.Sessions.{handshake_of, session_outcome, after_session}
@@ -39,36 +36,13 @@ use Rattle.asgi_halves.specs.declared.session_half.Answered.TheVariants.{Open, C
 use Rattle.asgi_halves.specs.declared.session_half.Due.{Due}
 use Rattle.asgi_halves.specs.declared.session_half.Due.TheVariants as due
 use Rattle.asgi_halves.specs.declared.session_half.WebSocketHalf.{WebSocketHalf}
-use Rattle.asgi_run.specs.Lines.{LineState, state_of}
+use Rattle.asgi_ws.specs.Lines.{LineState}
 use Rattle.asgi_halves.specs.WebSocketHalf.{SessionScene, Invariant, Talks, EndsByTask, IsAt, IsDue, IsCarrying, IsCarried, MayDrop, PreservesByLine, exchange_of, said_in, output_in, talk_in, text_failures, heard_by}
 use Rattle.asgi_halves.specs.Traffic.{drop_limit, is_end}
 use Rattle.asgi_halves.specs.WebSocketHalf.{CarriesOn}
 use Rattle.asgi_halves.proofs.CallLemmas.{closes, closes_after, none_after, open_closes, read_after}
-use Rattle.asgi_halves.proofs.TalkLemmas.{LeavesText, talk_read}
-
--- ---- a read of a message
-
--- The next read of a message had this outcome, and the text stays.
-pub record HasRead (was now : LineState) (answer : Got) : Type 0 where
-  pub text : LeavesText was now
-  pub told : now.session.calls ≡ was.session.calls ++ Read answer ∷ []
-  pub loses : Loses was.session.coming now.session.coming (given_by answer)
-  pub count : now.failed ≡ count_after was.failed (is_failed answer)
-  pub kept : now.session.leftover ≡ was.session.leftover
-
--- by the clauses of a line
-pub has_read : (L : Type 0) (R : reads.Ghosts L) (W : counts.Ghosts L) (M : messages.Ghosts L) (old new : L) (answer : Got)
-    → M.calls new ≡ M.calls old ++ Read answer ∷ [] → Loses (M.coming old) (M.coming new) (given_by answer) → W.failed new ≡ count_after (W.failed old) (is_failed answer)
-    → M.leftover new ≡ M.leftover old
-    → (R.remaining new ≡ R.remaining old) × (W.written new ≡ W.written old) × (R.answers new ≡ R.answers old) × (W.answers new ≡ W.answers old)
-    → HasRead (state_of R W M old) (state_of R W M new) answer
-has_read L R W M old new answer told loses count kept text = record {
-  text = record { left = text.0; written = text.1; reads = text.2; writes = text.3 };
-  told = told;
-  loses = loses;
-  count = count;
-  kept = kept;
-}
+use Rattle.asgi_halves.proofs.LineCallLemmas.{HasRead}
+use Rattle.asgi_halves.proofs.TalkLemmas.{talk_read}
 
 -- ---- more messages
 

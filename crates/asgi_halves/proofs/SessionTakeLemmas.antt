@@ -37,7 +37,7 @@ use Rattle.asgi_halves.specs.declared.session_half.Due.TheVariants as due
 use Rattle.asgi_halves.specs.declared.session_half.WebSocketHalf.{WebSocketHalf}
 use Rattle.asgi_halves.specs.declared.wire.Wire.{Wire}
 use Rattle.asgi_halves.specs.Half.{failures_at}
-use Rattle.asgi_run.specs.Lines.{LineState}
+use Rattle.asgi_ws.specs.Lines.{LineState}
 use Rattle.asgi_halves.specs.WebSocketHalf.{SessionScene, Invariant, OpensSession, Talks, IsAt, IsCarried, IsCarrying, IsDue, IsSilent, answer_to, exchange_of, said_in, talk_in, text_failures}
 use Rattle.asgi_halves.specs.Traffic.{drop_limit}
 use Rattle.asgi_halves.specs.WebSocketHalf.{CarriesOn}

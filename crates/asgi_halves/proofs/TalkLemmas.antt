@@ -17,7 +17,8 @@ use Rattle.asgi_ws.specs.Sessions.{given_by, taken_by, read_by, sent_by, is_fail
 use Rattle.asgi_ws.proofs.ListLemmas.{given_after}
 use Rattle.asgi_conversation.specs.declared.input.InputEnd.{InputEnd}
 use Rattle.asgi_conversation.specs.Sessions.{SessionTraffic, no_traffic}
-use Rattle.asgi_run.specs.Lines.{LineState, Transferred, EndsAs, how_wrote}
+use Rattle.asgi_ws.specs.Lines.{LineState}
+use Rattle.asgi_run.specs.Lines.{Transferred, EndsAs, how_wrote}
 use Rattle.asgi_halves.specs.Traffic.{HasCarried, drop_limit, is_end, says_over, kept_with, text_of_line}
 use Rattle.asgi_halves.specs.WebSocketHalf.{CarriesOn}
 use Rattle.asgi_halves.proofs.CallLemmas.{send_after}

@@ -1,5 +1,5 @@
 -- What the half's end of the pair gives it, in an exchange of any kind.
-use Rattle.std.proofs.Common.{◌≡◌, ℕ, Bool, true, false, List, [], ◌∷◌, ◌++◌, refl, sym, ap, ◌∙◌, subst, inl, inr, append-nil, Option, Some, None}
+use Rattle.std.proofs.Common.{◌≡◌, ℕ, ◌+◌, length, length-append, Bool, true, false, List, [], ◌∷◌, ◌++◌, refl, sym, ap, ◌∙◌, subst, inl, inr, append-nil, Option, Some, None}
 use Rattle.std.specs.Prelude.{◌⊎◌, not, is_some, IsTrue, IsFalse}
 use Rattle.asgi_types.specs.declared.end_kind.EndKind.{EndKind}
 use Rattle.asgi_types.specs.declared.outgoing.Outgoing.{Outgoing}
@@ -8,9 +8,9 @@ use Rattle.asgi_pipes.specs.declared.items.OutItem.{OutItem}
 use Rattle.asgi_pipes.specs.declared.items.OutItem.TheVariants.{Event, Ended}
 use Rattle.asgi_exchange.specs.Calls.{IsViewOf}
 use Rattle.asgi_exchange.specs.Views.{Break, ByCut, ConnView}
-use Rattle.asgi_run.specs.Lines.{LineState}
+use Rattle.asgi_ws.specs.Lines.{LineState}
 use Rattle.asgi_types.specs.declared.incoming.Incoming.{Incoming}
-use Rattle.asgi_halves.specs.Kinds.{IsCutOff}
+use Rattle.asgi_halves.specs.Kinds.{IsCutOff, IsTaken}
 
 module _ {S H A W : Type 0} (stands : S → LineState → H → List ℕ → ConnView A W → Type 0) where
   still : (scene : S) (now : LineState) (half : H) (read : List ℕ) (view : ConnView A W) → stands scene now half read view → stands scene now half (read ++ []) view
@@ -70,3 +70,9 @@ pub offers_cut : {A W C : Type 0} (E : conn_end.Ghosts C) (old new : C) (view : 
     → (later : ConnView A W) × IsCutOff cut view later × IsViewOf E new later
 offers_cut E old new view first event cut is v is_first on_first on_later broken got =
     offers E old new view first cut v is_first (λ t. on_first t ∙ ap (λ (e : Incoming). E.offered old ++ e ∷ []) is) on_later broken got
+
+-- ---- how many items a turn takes
+
+pub one_longer : (taken : Bool) (old new : List OutItem) → taken ≡ true → IsTaken taken old new → length new ≡ length old + 1
+one_longer true old new is took = ap length took.1 ∙ length-append old (took.0 ∷ [])
+one_longer false old new is took = cc

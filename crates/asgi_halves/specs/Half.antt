@@ -34,7 +34,8 @@ use Rattle.asgi_conversation.specs.declared.report.Outcome.{Outcome}
 use Rattle.asgi_conversation.specs.declared.report.Outcome.TheVariants.{InputBroke, WriteFailed}
 use Rattle.asgi_conversation.specs.Exchanges.{requests_of}
 use Rattle.asgi_conversation.specs.ExchangeRecord.{ExchangeRecord}
-use Rattle.asgi_run.specs.Lines.{LineState, Transferred}
+use Rattle.asgi_ws.specs.Lines.{LineState}
+use Rattle.asgi_run.specs.Lines.{Transferred}
 use Rattle.asgi_halves.specs.ReadAhead.{ReadsAhead}
 use Rattle.asgi_conversation.specs.Persistence.{StopsWithin}
 use Rattle.asgi_conversation.specs.Exchanges.{heads_of}

@@ -4,7 +4,7 @@ use Rattle.asgi_types.specs.declared.limits.Limits.{Limits}
 use Rattle.asgi_exchange.specs.Views.{ConnView}
 use Rattle.asgi_halves.specs.declared.half.HttpHalf.{HttpHalf}
 use Rattle.asgi_halves.specs.Half.{Scene, Invariant}
-use Rattle.asgi_run.specs.Lines.{LineState}
+use Rattle.asgi_ws.specs.Lines.{LineState}
 
 -- The constants of one exchange, with the limits of its connection.
 pub record HttpScene : Type 0 where

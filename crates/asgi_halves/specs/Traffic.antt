@@ -8,7 +8,8 @@ use Rattle.asgi_ws.specs.Sessions.{messages_in, handed_in, kept_by, reads_after_
 use Rattle.asgi_conversation.specs.declared.input.InputEnd.{InputEnd}
 use Rattle.asgi_conversation.specs.declared.report.Outcome.{Outcome}
 use Rattle.asgi_conversation.specs.Sessions.{SessionTraffic}
-use Rattle.asgi_run.specs.Lines.{LineState, Transferred}
+use Rattle.asgi_ws.specs.Lines.{LineState}
+use Rattle.asgi_run.specs.Lines.{Transferred}
 use Rattle.asgi_conversation.specs.OutcomeClasses.{OutcomeClass, ByWrite, class_of}
 
 -- no message follows

@@ -54,7 +54,8 @@ use Rattle.asgi_halves.specs.declared.session_half.WebSocketHalf.{WebSocketHalf}
 use Rattle.asgi_halves.specs.declared.wire.Wire.{Wire}
 use Rattle.asgi_run.specs.AnyHalf.{PreservesInLine}
 use Rattle.asgi_halves.specs.Half.{failures_at}
-use Rattle.asgi_run.specs.Lines.{LineState, Transferred}
+use Rattle.asgi_ws.specs.Lines.{LineState}
+use Rattle.asgi_run.specs.Lines.{Transferred}
 use Rattle.asgi_halves.specs.ReadAhead.{ReadsAhead}
 use Rattle.asgi_halves.specs.Traffic.{HasCarried, drop_limit}
 use Rattle.asgi_ws.specs.Sessions.{reads_after_close}

@@ -15,7 +15,6 @@ ghost use Rattle.asgi_exchange.specs.Views.{ConnView, empty_conn};
 ghost use Rattle.asgi_halves.specs.Half.{Scene, Invariant, HasGiven, EndsWhere, IsSettled, BreaksAt};
 ghost use Rattle.asgi_halves.specs.private.HalfSteps.{Pending, PreservesByLine, PreservesByEnd, KeepsBesidesBody, GivesOn, GivesAfter, GaveNext, HasAsked, HoldsFew, IsFree, ReadsAt, EndsAtInput, NeedsBody, known_input};
 ghost use Rattle.asgi_halves.specs.Half.{Opens};
-ghost use Rattle.asgi_run.specs.Lines.{state_of};
 ghost use Rattle.asgi_conversation.specs.declared.following.NextStep.{NextStep};
 ghost use Rattle.asgi_conversation.specs.TaskEnds.{has_ended};
 
@@ -69,8 +68,8 @@ impl HttpHalf {
     /// Begins an exchange: a client that waits for `100 Continue` is sent it (RFC 9110, section 10.1.1).
     /// If memory is refused or the write fails, the connection is cut short.
     pub fn begin<L: Line>(wire: Wire, text: ResponseText, line: &mut L) -> HttpHalf
-        ensures begins { (scene : Scene) (facts : Facts) (read arrived : List ℕ) → Opens scene (state_of L.Reads L.Counts L.Messages.own line.old) wire facts read arrived → standing.StandsFor text facts []
-            → (written : List ℕ) × Invariant scene (state_of L.Reads L.Counts L.Messages.own line.new) result read (record empty_conn { arrived = arrived; written = written }) }
+        ensures begins { (scene : Scene) (facts : Facts) (read arrived : List ℕ) → Opens scene (L.state line.old) wire facts read arrived → standing.StandsFor text facts []
+            → (written : List ℕ) × Invariant scene (L.state line.new) result read (record empty_conn { arrived = arrived; written = written }) }
         ensures limits { result.wire.limits ≡ wire.limits }
         ensures open { (following : NextStep) → result.stage ≢ Stage.Over following }
     {
@@ -93,8 +92,8 @@ impl HttpHalf {
     /// Writes what an event adds.
     fn say<L: Line>(&mut self, event: &Outgoing, line: &mut L)
         requires { self.old.stage ≡ Stage.Running }
-        ensures says { (scene : Scene) (read : List ℕ) (view : ConnView ℕ ℕ) → Invariant scene (state_of L.Reads L.Counts L.Messages.own line.old) self.old read view
-            → (written : List ℕ) × Invariant scene (state_of L.Reads L.Counts L.Messages.own line.new) self.new read (record view { got = view.got ++ OutItem.Event event.now ∷ []; written = written }) }
+        ensures says { (scene : Scene) (read : List ℕ) (view : ConnView ℕ ℕ) → Invariant scene (L.state line.old) self.old read view
+            → (written : List ℕ) × Invariant scene (L.state line.new) self.new read (record view { got = view.got ++ OutItem.Event event.now ∷ []; written = written }) }
         ensures limits { self.new.wire.limits ≡ self.old.wire.limits }
     {
         match self.text.take(event, &mut self.wire.out) {
@@ -105,8 +104,8 @@ impl HttpHalf {
 
     /// Writes the text in hand.
     fn put<L: Line>(&mut self, line: &mut L)
-        ensures puts { (scene : Scene) (read : List ℕ) (view : ConnView ℕ ℕ) → Pending scene (state_of L.Reads L.Counts L.Messages.own line.old) self.old read view
-            → (written : List ℕ) × Invariant scene (state_of L.Reads L.Counts L.Messages.own line.new) self.new read (record view { written = written }) }
+        ensures puts { (scene : Scene) (read : List ℕ) (view : ConnView ℕ ℕ) → Pending scene (L.state line.old) self.old read view
+            → (written : List ℕ) × Invariant scene (L.state line.new) self.new read (record view { written = written }) }
         ensures limits { self.new.wire.limits ≡ self.old.wire.limits }
         ensures open { (following : NextStep) → self.new.stage ≡ Stage.Over following → self.old.stage ≡ Stage.Over following }
     {
@@ -238,7 +237,7 @@ impl HttpHalf {
     fn read<L: Line>(&mut self, line: &mut L) -> Turn
         requires running { self.old.stage ≡ Stage.Running }
         requires asked { HasAsked self.old }
-        ensures leads { PreservesByLine (state_of L.Reads L.Counts L.Messages.own line.old) self.old (state_of L.Reads L.Counts L.Messages.own line.new) self.new }
+        ensures leads { PreservesByLine (L.state line.old) self.old (L.state line.new) self.new }
         ensures limits { self.new.wire.limits ≡ self.old.wire.limits }
     {
         if !self.reads_on() {
@@ -277,7 +276,7 @@ impl HttpHalf {
     /// and dropped first.
     fn finish_task<L: Line>(&mut self, kind: EndKind, line: &mut L) -> Turn
         requires { self.old.stage ≡ Stage.Ending kind }
-        ensures leads { PreservesByLine (state_of L.Reads L.Counts L.Messages.own line.old) self.old (state_of L.Reads L.Counts L.Messages.own line.new) self.new }
+        ensures leads { PreservesByLine (L.state line.old) self.old (L.state line.new) self.new }
         ensures limits { self.new.wire.limits ≡ self.old.wire.limits }
     {
         let progress = self.text.progress();
@@ -298,7 +297,7 @@ impl HttpHalf {
         requires ending { self.old.stage ≡ Stage.Ending kind }
         requires progress { (facts : Facts) (said : List Outgoing) → standing.StandsFor self.old.text facts said → progress ≡ progress_of facts said }
         requires asked { HasAsked self.old }
-        ensures leads { PreservesByLine (state_of L.Reads L.Counts L.Messages.own line.old) self.old (state_of L.Reads L.Counts L.Messages.own line.new) self.new }
+        ensures leads { PreservesByLine (L.state line.old) self.old (L.state line.new) self.new }
         ensures limits { self.new.wire.limits ≡ self.old.wire.limits }
     {
         match self.body {
@@ -351,7 +350,7 @@ impl HttpHalf {
         requires ending { (kind : EndKind) × (self.old.stage ≡ Stage.Ending kind) }
         requires open { self.old.body ≡ BodyProgress.Open }
         requires asked { HasAsked self.old }
-        ensures leads { PreservesByLine (state_of L.Reads L.Counts L.Messages.own line.old) self.old (state_of L.Reads L.Counts L.Messages.own line.new) self.new }
+        ensures leads { PreservesByLine (L.state line.old) self.old (L.state line.new) self.new }
         ensures limits { self.new.wire.limits ≡ self.old.wire.limits }
     {
         if self.wire.input.has_ended() {
@@ -371,7 +370,7 @@ impl HttpHalf {
         requires ending { self.old.stage ≡ Stage.Ending kind }
         requires progress { (facts : Facts) (said : List Outgoing) → standing.StandsFor self.old.text facts said → progress ≡ progress_of facts said }
         requires known { NeedsBody kind progress self.old.input_broke → IsSettled self.old.body }
-        ensures leads { PreservesByLine (state_of L.Reads L.Counts L.Messages.own line.old) self.old (state_of L.Reads L.Counts L.Messages.own line.new) self.new }
+        ensures leads { PreservesByLine (L.state line.old) self.old (L.state line.new) self.new }
         ensures limits { self.new.wire.limits ≡ self.old.wire.limits }
     {
         let input = input_of(&self.body);
@@ -416,7 +415,7 @@ impl ExchangeKind for HttpHalf {
 
     ghost cut_event = { Incoming.HttpDisconnect };
 
-    ghost ring = { λ scene. scene.limits.ring };
+    ghost ring = { λ half. half.wire.limits.ring };
 
     fn stage(&self) -> Stage {
         self.stage

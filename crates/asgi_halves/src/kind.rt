@@ -8,7 +8,7 @@ ghost use Rattle.asgi_exchange.specs.Views.{ConnView};
 ghost use Rattle.asgi_conversation.specs.declared.following.NextStep.TheVariants.{ConnectionEnds};
 ghost use Rattle.asgi_conversation.specs.declared.report.Outcome.{Outcome};
 ghost use Rattle.asgi_run.specs.AnyHalf.{PreservesInLine};
-ghost use Rattle.asgi_run.specs.Lines.{LineState, state_of};
+ghost use Rattle.asgi_ws.specs.Lines.{LineState};
 ghost use Rattle.asgi_halves.specs.Kinds.{IsCutOff, IsOpen, PreservesAlone};
 ghost use Rattle.asgi_halves.specs.declared.stage.Stage.{Stage};
 
@@ -42,8 +42,8 @@ pub trait ExchangeKind {
     // What the application receives if the connection is cut short.
     ghost cut_event: { Incoming };
 
-    // How many events each queue of an exchange holds.
-    ghost ring: { Scene → ℕ };
+    // How many events each queue of the exchange holds.
+    ghost ring: { Self → ℕ };
 
     /// How far the exchange is.
     fn stage(&self) -> Stage
@@ -51,7 +51,7 @@ pub trait ExchangeKind {
 
     /// How many events each queue of the exchange holds.
     fn places(&self) -> usize
-        ensures { (scene : Scene) (now : LineState) (read : List ℕ) (view : ConnView In Out) → stands scene now self.now read view → result ≡ ring scene };
+        ensures { result ≡ ring self.now };
 
     /// The disconnect of a connection that is cut short. Once it is offered, what the application sends is
     /// dropped.
@@ -83,8 +83,8 @@ pub trait ExchangeKind {
     /// Writes or hands over what an event adds.
     fn say<L: Line>(&mut self, event: Outgoing, line: &mut L)
         requires running { reached self.old ≡ Stage.Running }
-        ensures says { (scene : Scene) (read : List ℕ) (view : ConnView In Out) → stands scene (state_of L.Reads L.Counts L.Messages.own line.old) self.old read view
-            → (written : List Out) × stands scene (state_of L.Reads L.Counts L.Messages.own line.new) self.new read (record view { got = view.got ++ OutItem.Event event ∷ []; written = written }) };
+        ensures says { (scene : Scene) (read : List ℕ) (view : ConnView In Out) → stands scene (L.state line.old) self.old read view
+            → (written : List Out) × stands scene (L.state line.new) self.new read (record view { got = view.got ++ OutItem.Event event ∷ []; written = written }) };
 
     /// Offers what is due, as far as places are free. Returns whether something was offered.
     fn offer_due<C: ConnEnd>(&mut self, end: &mut C) -> bool
@@ -97,10 +97,10 @@ pub trait ExchangeKind {
     fn read_on<L: Line>(&mut self, line: &mut L) -> Turn
         requires running { reached self.old ≡ Stage.Running }
         requires asked { may_read self.old }
-        ensures leads { PreservesAlone stands (state_of L.Reads L.Counts L.Messages.own line.old) self.old (state_of L.Reads L.Counts L.Messages.own line.new) self.new };
+        ensures leads { PreservesAlone stands (L.state line.old) self.old (L.state line.new) self.new };
 
     /// Ends the exchange once the task has ended, or reads on before it does.
     fn finish<L: Line>(&mut self, kind: EndKind, line: &mut L) -> Turn
         requires ending { reached self.old ≡ Stage.Ending kind }
-        ensures leads { PreservesAlone stands (state_of L.Reads L.Counts L.Messages.own line.old) self.old (state_of L.Reads L.Counts L.Messages.own line.new) self.new };
+        ensures leads { PreservesAlone stands (L.state line.old) self.old (L.state line.new) self.new };
 }

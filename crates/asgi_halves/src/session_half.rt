@@ -9,7 +9,7 @@ ghost use Rattle.asgi_exchange.specs.Messages as heard;
 ghost use Rattle.asgi_exchange.specs.Views.{empty_conn};
 ghost use Rattle.asgi_conversation.specs.declared.following.NextStep.{NextStep};
 ghost use Rattle.asgi_conversation.specs.declared.following.NextStep.TheVariants.{ConnectionEnds};
-ghost use Rattle.asgi_run.specs.Lines.{LineState, state_of};
+ghost use Rattle.asgi_ws.specs.Lines.{LineState};
 ghost use Rattle.asgi_halves.specs.WebSocketHalf.{SessionScene, Invariant, OpensSession, PreservesByEnd, PreservesByLine, Says, Speaks, MayDrop, IsAccept, IsDenial, heard_by, outcome_after, stage_of};
 ghost use Rattle.asgi_ws.specs.declared.messages.Msg.{Msg};
 ghost use Rattle.asgi_exchange.specs.Session.{Output};
@@ -110,7 +110,7 @@ impl WebSocketHalf {
     /// Writes or hands over what an event adds: nothing, if the judge does not pass it.
     fn say<L: Line>(&mut self, event: Outgoing, line: &mut L)
         requires running { self.old.stage ≡ Stage.Running }
-        ensures says { Says (state_of L.Reads L.Counts L.Messages.own line.old) self.old event (state_of L.Reads L.Counts L.Messages.own line.new) self.new }
+        ensures says { Says (L.state line.old) self.old event (L.state line.new) self.new }
     {
         if let Verdict::Pass = self.judge.judge(&self.facts, &event) {
             self.speak(event, line);
@@ -120,7 +120,7 @@ impl WebSocketHalf {
     /// Writes or hands over what an event adds that the judge has passed.
     fn speak<L: Line>(&mut self, event: Outgoing, line: &mut L)
         requires running { self.old.stage ≡ Stage.Running }
-        ensures speaks { Speaks (state_of L.Reads L.Counts L.Messages.own line.old) self.old event (state_of L.Reads L.Counts L.Messages.own line.new) self.new }
+        ensures speaks { Speaks (L.state line.old) self.old event (L.state line.new) self.new }
     {
         match event {
             Outgoing::WsSend { payload } => self.send(payload, line),
@@ -132,7 +132,7 @@ impl WebSocketHalf {
     fn speak_of<L: Line>(&mut self, event: &Outgoing, line: &mut L)
         requires running { self.old.stage ≡ Stage.Running }
         requires no_message { is_message event.now ≡ false }
-        ensures speaks { Speaks (state_of L.Reads L.Counts L.Messages.own line.old) self.old event.now (state_of L.Reads L.Counts L.Messages.own line.new) self.new }
+        ensures speaks { Speaks (L.state line.old) self.old event.now (L.state line.new) self.new }
     {
         match event {
             Outgoing::WsClose { code, reason } => self.close_by(*code, reason, line),
@@ -147,7 +147,7 @@ impl WebSocketHalf {
     fn accept<L: Line>(&mut self, event: &Outgoing, line: &mut L)
         requires running { self.old.stage ≡ Stage.Running }
         requires accepts { IsAccept event.now }
-        ensures speaks { Speaks (state_of L.Reads L.Counts L.Messages.own line.old) self.old event.now (state_of L.Reads L.Counts L.Messages.own line.new) self.new }
+        ensures speaks { Speaks (L.state line.old) self.old event.now (L.state line.new) self.new }
     {
         let Ok(text) = accept_text(self.wire.alloc, &self.facts, event) else {
             self.stage = Stage::Cut(Outcome::NoMemory);
@@ -164,7 +164,7 @@ impl WebSocketHalf {
     /// Hands a message over to the line.
     fn send<L: Line>(&mut self, payload: Payload, line: &mut L)
         requires running { self.old.stage ≡ Stage.Running }
-        ensures speaks { Speaks (state_of L.Reads L.Counts L.Messages.own line.old) self.old (Outgoing.WsSend payload) (state_of L.Reads L.Counts L.Messages.own line.new) self.new }
+        ensures speaks { Speaks (L.state line.old) self.old (Outgoing.WsSend payload) (L.state line.new) self.new }
     {
         self.stage = stage_after(line.send_message(payload));
     }
@@ -172,7 +172,7 @@ impl WebSocketHalf {
     /// Closes the session, or refuses a handshake that was not accepted.
     fn close_by<L: Line>(&mut self, code: u16, reason: &Chars, line: &mut L)
         requires running { self.old.stage ≡ Stage.Running }
-        ensures speaks { Speaks (state_of L.Reads L.Counts L.Messages.own line.old) self.old (Outgoing.WsClose code reason.now) (state_of L.Reads L.Counts L.Messages.own line.new) self.new }
+        ensures speaks { Speaks (L.state line.old) self.old (Outgoing.WsClose code reason.now) (L.state line.new) self.new }
     {
         match self.answered {
             Answered::Open => self.close(code, reason, line),
@@ -184,7 +184,7 @@ impl WebSocketHalf {
     fn close<L: Line>(&mut self, code: u16, reason: &Chars, line: &mut L)
         requires running { self.old.stage ≡ Stage.Running }
         requires open { self.old.answered ≡ Answered.Open }
-        ensures speaks { Speaks (state_of L.Reads L.Counts L.Messages.own line.old) self.old (Outgoing.WsClose code reason.now) (state_of L.Reads L.Counts L.Messages.own line.new) self.new }
+        ensures speaks { Speaks (L.state line.old) self.old (Outgoing.WsClose code reason.now) (L.state line.new) self.new }
     {
         let Some(reason) = Reason::new(reason.as_str()) else {
             self.stage = Stage::Cut(Outcome::WriteFailed(0));
@@ -199,7 +199,7 @@ impl WebSocketHalf {
     fn refuse<L: Line>(&mut self, line: &mut L)
         requires running { self.old.stage ≡ Stage.Running }
         requires shut { self.old.answered ≢ Answered.Open }
-        ensures speaks { (code : ℕ) (reason : List ℕ) → Speaks (state_of L.Reads L.Counts L.Messages.own line.old) self.old (Outgoing.WsClose code reason) (state_of L.Reads L.Counts L.Messages.own line.new) self.new }
+        ensures speaks { (code : ℕ) (reason : List ℕ) → Speaks (L.state line.old) self.old (Outgoing.WsClose code reason) (L.state line.new) self.new }
     {
         self.answered = Answered::Refused;
         if let Some(n) = write(line, denied_text()) {
@@ -211,7 +211,7 @@ impl WebSocketHalf {
     fn deny<L: Line>(&mut self, event: &Outgoing, line: &mut L)
         requires running { self.old.stage ≡ Stage.Running }
         requires denies { IsDenial event.now }
-        ensures speaks { Speaks (state_of L.Reads L.Counts L.Messages.own line.old) self.old event.now (state_of L.Reads L.Counts L.Messages.own line.new) self.new }
+        ensures speaks { Speaks (L.state line.old) self.old event.now (L.state line.new) self.new }
     {
         if self.text.take(event, &mut self.wire.out).is_err() {
             self.stage = Stage::Cut(Outcome::NoMemory);
@@ -252,7 +252,7 @@ impl WebSocketHalf {
     /// Reads a message, if the session is open and nothing waits for a place; after a close it is dropped.
     fn read<L: Line>(&mut self, line: &mut L) -> Turn
         requires running { self.old.stage ≡ Stage.Running }
-        ensures leads { PreservesByLine (state_of L.Reads L.Counts L.Messages.own line.old) self.old (state_of L.Reads L.Counts L.Messages.own line.new) self.new }
+        ensures leads { PreservesByLine (L.state line.old) self.old (L.state line.new) self.new }
     {
         let Due::Nothing = self.due else {
             return Turn::Idle;
@@ -276,7 +276,7 @@ impl WebSocketHalf {
         requires running { self.old.stage ≡ Stage.Running }
         requires opened { (self.old.answered ≡ Answered.Open) × (self.old.input_broke ≡ false) }
         requires free { self.old.due ≡ Due.Nothing }
-        ensures leads { PreservesByLine (state_of L.Reads L.Counts L.Messages.own line.old) self.old (state_of L.Reads L.Counts L.Messages.own line.new) self.new }
+        ensures leads { PreservesByLine (L.state line.old) self.old (L.state line.new) self.new }
     {
         match line.read_message() {
             Got::Message(message) => self.hear(message),
@@ -315,7 +315,7 @@ impl WebSocketHalf {
     /// Reads and drops a message after a close, as long as `spare_reads` are left.
     fn drop_one<L: Line>(&mut self, line: &mut L) -> Turn
         requires may { MayDrop self.old }
-        ensures leads { PreservesByLine (state_of L.Reads L.Counts L.Messages.own line.old) self.old (state_of L.Reads L.Counts L.Messages.own line.new) self.new }
+        ensures leads { PreservesByLine (L.state line.old) self.old (L.state line.new) self.new }
         ensures may { MayDrop self.new }
         ensures stage { self.new.stage ≡ self.old.stage }
     {
@@ -336,7 +336,7 @@ impl WebSocketHalf {
     /// Makes at most `spare_reads` more reads after a close, and drops their messages. Such reads are not counted as turns.
     fn drop_rest<L: Line>(&mut self, line: &mut L)
         requires may { MayDrop self.old }
-        ensures leads { PreservesByLine (state_of L.Reads L.Counts L.Messages.own line.old) self.old (state_of L.Reads L.Counts L.Messages.own line.new) self.new }
+        ensures leads { PreservesByLine (L.state line.old) self.old (L.state line.new) self.new }
         ensures stage { self.new.stage ≡ self.old.stage }
     {
         for _read in 0..self.spare_reads {
@@ -350,7 +350,7 @@ impl WebSocketHalf {
     /// (`drop_rest`).
     fn finish_task<L: Line>(&mut self, kind: EndKind, line: &mut L) -> Turn
         requires ending { self.old.stage ≡ Stage.Ending kind }
-        ensures leads { PreservesByLine (state_of L.Reads L.Counts L.Messages.own line.old) self.old (state_of L.Reads L.Counts L.Messages.own line.new) self.new }
+        ensures leads { PreservesByLine (L.state line.old) self.old (L.state line.new) self.new }
     {
         let outcome = self.end_by(kind, line);
         self.stage = Stage::Over(NextStep::ConnectionEnds(outcome));
@@ -374,7 +374,7 @@ impl WebSocketHalf {
     /// Writes what the end of the task adds, and returns how the connection ends.
     fn end_by<L: Line>(&mut self, kind: EndKind, line: &mut L) -> Outcome
         requires ending { self.old.stage ≡ Stage.Ending kind }
-        ensures leads { PreservesByLine (state_of L.Reads L.Counts L.Messages.own line.old) self.old (state_of L.Reads L.Counts L.Messages.own line.new) (record self.new { stage = Stage.Over (NextStep.ConnectionEnds result) }) }
+        ensures leads { PreservesByLine (L.state line.old) self.old (L.state line.new) (record self.new { stage = Stage.Over (NextStep.ConnectionEnds result) }) }
     {
         match kind {
             EndKind::Idle => Outcome::Idle,
@@ -386,7 +386,7 @@ impl WebSocketHalf {
     /// The same for a task that ended by itself: an open session is closed with this code.
     fn finish<L: Line>(&mut self, code: u16, line: &mut L) -> Outcome
         requires ending { ((self.old.stage ≡ Stage.Ending EndKind.Returned) × (code ≡ 1000)) ⊎ ((self.old.stage ≡ Stage.Ending EndKind.Faulted) × (code ≡ 1011)) }
-        ensures leads { PreservesByLine (state_of L.Reads L.Counts L.Messages.own line.old) self.old (state_of L.Reads L.Counts L.Messages.own line.new) (record self.new { stage = Stage.Over (NextStep.ConnectionEnds result) }) }
+        ensures leads { PreservesByLine (L.state line.old) self.old (L.state line.new) (record self.new { stage = Stage.Over (NextStep.ConnectionEnds result) }) }
     {
         match self.answered {
             Answered::Unanswered => self.answer(line),
@@ -400,7 +400,7 @@ impl WebSocketHalf {
     fn answer<L: Line>(&mut self, line: &mut L) -> Outcome
         requires ending { (self.old.stage ≡ Stage.Ending EndKind.Returned) ⊎ (self.old.stage ≡ Stage.Ending EndKind.Faulted) }
         requires unanswered { self.old.answered ≡ Answered.Unanswered }
-        ensures leads { PreservesByLine (state_of L.Reads L.Counts L.Messages.own line.old) self.old (state_of L.Reads L.Counts L.Messages.own line.new) (record self.new { stage = Stage.Over (NextStep.ConnectionEnds result) }) }
+        ensures leads { PreservesByLine (L.state line.old) self.old (L.state line.new) (record self.new { stage = Stage.Over (NextStep.ConnectionEnds result) }) }
     {
         match self.text.progress() {
             Progress::Begun => Outcome::Finished,
@@ -417,7 +417,7 @@ impl WebSocketHalf {
     fn finish_open<L: Line>(&mut self, code: u16, line: &mut L) -> Outcome
         requires ending { ((self.old.stage ≡ Stage.Ending EndKind.Returned) × (code ≡ 1000)) ⊎ ((self.old.stage ≡ Stage.Ending EndKind.Faulted) × (code ≡ 1011)) }
         requires open { self.old.answered ≡ Answered.Open }
-        ensures leads { PreservesByLine (state_of L.Reads L.Counts L.Messages.own line.old) self.old (state_of L.Reads L.Counts L.Messages.own line.new) (record self.new { stage = Stage.Over (NextStep.ConnectionEnds result) }) }
+        ensures leads { PreservesByLine (L.state line.old) self.old (L.state line.new) (record self.new { stage = Stage.Over (NextStep.ConnectionEnds result) }) }
     {
         if self.input_broke {
             return left(self.client_closed);
@@ -445,7 +445,7 @@ impl ExchangeKind for WebSocketHalf {
 
     ghost cut_event = { Incoming.WsDisconnect 1006 [] };
 
-    ghost ring = { λ scene. scene.limits.ring };
+    ghost ring = { λ half. half.wire.limits.ring };
 
     fn stage(&self) -> Stage {
         self.stage

@@ -1,12 +1,11 @@
 //! The turns of the connection's half, once for all kinds of exchange.
-ghost use Rattle.std.specs.Prelude.{◌≡◌, ◌↔◌, ◌⊎◌, IsTrue, IfNone, IfSome};
+ghost use Rattle.std.specs.Prelude.{◌≡◌, ◌≢◌, ◌↔◌, ◌⊎◌, ◌+◌, ℕ, [], length, true, IsTrue, IsFalse, IsNone, IfNone, IfSome};
 ghost use Rattle.asgi_exchange.specs.Calls.{IsViewOf};
 ghost use Rattle.asgi_conversation.specs.declared.following.NextStep.{NextStep};
 ghost use Rattle.asgi_conversation.specs.declared.following.NextStep.TheVariants.{NextRequest};
 ghost use Rattle.asgi_run.specs.AnyHalf.{PreservesOn, PreservesInLine};
 ghost use Rattle.asgi_run.specs.Limits.{IsSettled};
-ghost use Rattle.asgi_run.specs.Lines.{state_of};
-ghost use Rattle.asgi_halves.specs.Kinds.{IsOpen, following_of};
+ghost use Rattle.asgi_halves.specs.Kinds.{IsOpen, IsCut, IsTaken, TookOne, following_of};
 
 use crate::kind::ExchangeKind;
 use crate::stage::Stage;
@@ -23,9 +22,10 @@ pub fn turn<K: ExchangeKind, L: Line, C: ConnEnd>(
     end: &mut C,
     app_goes_on: bool,
 ) -> Turn
-    ensures leads { PreservesOn K.stands (state_of L.Reads L.Counts L.Messages.own line.old) half.old (IsViewOf C.ConnEnd end.old) (state_of L.Reads L.Counts L.Messages.own line.new) half.new (IsViewOf C.ConnEnd end.new) }
+    ensures leads { PreservesOn K.stands (L.state line.old) half.old (IsViewOf C.ConnEnd end.old) (L.state line.new) half.new (IsViewOf C.ConnEnd end.new) }
     ensures over { (following : NextStep) → K.reached half.old ≡ Stage.Over following → half.new ≡ half.old }
     ensures waits { (following : NextStep) → K.reached half.old ≡ Stage.Over following → result ≡ Turn.Idle }
+    ensures told { IsCut (K.reached half.old) → C.is_broken end.new ≡ true }
     ensures tag { (C.tag end.new ≡ C.tag end.old) × (C.ring end.new ≡ C.ring end.old) }
 {
     match half.stage() {
@@ -57,7 +57,7 @@ fn run<K: ExchangeKind, L: Line, C: ConnEnd>(
     app_goes_on: bool,
 ) -> Turn
     requires running { K.reached half.old ≡ Stage.Running }
-    ensures leads { PreservesOn K.stands (state_of L.Reads L.Counts L.Messages.own line.old) half.old (IsViewOf C.ConnEnd end.old) (state_of L.Reads L.Counts L.Messages.own line.new) half.new (IsViewOf C.ConnEnd end.new) }
+    ensures leads { PreservesOn K.stands (L.state line.old) half.old (IsViewOf C.ConnEnd end.old) (L.state line.new) half.new (IsViewOf C.ConnEnd end.new) }
     ensures tag { (C.tag end.new ≡ C.tag end.old) × (C.ring end.new ≡ C.ring end.old) }
 {
     let took = take_all(half, line, end);
@@ -78,9 +78,12 @@ fn run<K: ExchangeKind, L: Line, C: ConnEnd>(
     half.read_on(line)
 }
 
-/// Takes all that is there, and writes what it adds.
+/// Takes all that is there, and writes what it adds: until nothing is there, the exchange does not run any
+/// more, or as many items as the exchange has places were taken. Returns whether one was.
 fn take_all<K: ExchangeKind, L: Line, C: ConnEnd>(half: &mut K, line: &mut L, end: &mut C) -> bool
-    ensures leads { PreservesOn K.stands (state_of L.Reads L.Counts L.Messages.own line.old) half.old (IsViewOf C.ConnEnd end.old) (state_of L.Reads L.Counts L.Messages.own line.new) half.new (IsViewOf C.ConnEnd end.new) }
+    ensures leads { PreservesOn K.stands (L.state line.old) half.old (IsViewOf C.ConnEnd end.old) (L.state line.new) half.new (IsViewOf C.ConnEnd end.new) }
+    ensures all { (C.seen end.new ≡ []) ⊎ (K.reached half.new ≢ Stage.Running) ⊎ (length (C.got end.new) ≡ length (C.got end.old) + K.ring half.old) }
+    ensures none { IsFalse result → C.got end.new ≡ C.got end.old }
     ensures tag { (C.tag end.new ≡ C.tag end.old) × (C.ring end.new ≡ C.ring end.old) }
 {
     let mut took = false;
@@ -99,7 +102,9 @@ fn take_all<K: ExchangeKind, L: Line, C: ConnEnd>(half: &mut K, line: &mut L, en
 /// Takes the next item, and writes what it adds. Returns whether there was one.
 fn take_one<K: ExchangeKind, L: Line, C: ConnEnd>(half: &mut K, line: &mut L, end: &mut C) -> bool
     requires running { K.reached half.old ≡ Stage.Running }
-    ensures leads { PreservesOn K.stands (state_of L.Reads L.Counts L.Messages.own line.old) half.old (IsViewOf C.ConnEnd end.old) (state_of L.Reads L.Counts L.Messages.own line.new) half.new (IsViewOf C.ConnEnd end.new) }
+    ensures leads { PreservesOn K.stands (L.state line.old) half.old (IsViewOf C.ConnEnd end.old) (L.state line.new) half.new (IsViewOf C.ConnEnd end.new) }
+    ensures took { IsTaken result (C.got end.old) (C.got end.new) }
+    ensures none { IsFalse result → C.seen end.new ≡ [] }
     ensures tag { (C.tag end.new ≡ C.tag end.old) × (C.ring end.new ≡ C.ring end.old) }
 {
     match end.take() {
@@ -120,6 +125,8 @@ fn take_one<K: ExchangeKind, L: Line, C: ConnEnd>(half: &mut K, line: &mut L, en
 fn drain_after_cut<K: ExchangeKind, C: ConnEnd>(half: &mut K, outcome: Outcome, end: &mut C) -> Turn
     requires cut { K.reached half.old ≡ Stage.Cut outcome }
     ensures leads { PreservesInLine K.stands half.old (IsViewOf C.ConnEnd end.old) half.new (IsViewOf C.ConnEnd end.new) }
+    ensures told { C.is_broken end.new ≡ true }
+    ensures took { TookOne result (C.got end.old) (C.got end.new) }
     ensures tag { (C.tag end.new ≡ C.tag end.old) × (C.ring end.new ≡ C.ring end.old) }
 {
     let _first = end.offer_disconnect(half.cut_disconnect());
@@ -140,13 +147,14 @@ pub fn abandon<K: ExchangeKind, C: ConnEnd>(half: &mut K, end: &mut C)
     ensures over { (following : NextStep) × (K.reached half.new ≡ Stage.Over following) }
     ensures stays { (following : NextStep) → K.reached half.old ≡ Stage.Over following → half.new ≡ half.old }
     ensures follows { K.reached half.new ≡ Stage.Over NextRequest → K.reached half.old ≡ Stage.Over NextRequest }
+    ensures told { IsNone (following_of (K.reached half.old)) → C.is_broken end.new ≡ true }
     ensures tag { (C.tag end.new ≡ C.tag end.old) × (C.ring end.new ≡ C.ring end.old) }
 {
     let Some(outcome) = outcome_at(half.stage()) else {
         return;
     };
     half.end_with(outcome);
-    let _first = end.offer_disconnect(half.cut_disconnect());
+    let _told = end.offer_disconnect(half.cut_disconnect());
 }
 
 /// How the connection ends if its exchange is given up at this stage; None if the exchange is over.

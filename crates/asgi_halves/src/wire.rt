@@ -1,7 +1,8 @@
 //! What a connection keeps from its first byte to its last.
 ghost use Rattle.std.specs.Prelude.{◌≡◌, ◌<◌, ◌≤◌, ◌++◌, ◌∷◌, [], ℕ, List, false, take, length, IfNone, IfOk, IfSome, OnOk};
 ghost use Rattle.std.specs.Io.KnownBytes.{Appends};
-ghost use Rattle.asgi_io.specs.Answers.{bytes_of};
+ghost use Rattle.asgi_io.specs.declared.answer.Answer.{Answer};
+ghost use Rattle.asgi_io.specs.Answers.{bytes_of, turn_of};
 ghost use Rattle.asgi_io.specs.Counting.{RoseBy};
 ghost use Rattle.asgi_io.specs.Writing.{TriesWrites, out_of};
 ghost use Rattle.asgi_request.specs.declared.next.Next.{Next};
@@ -9,7 +10,8 @@ ghost use Rattle.asgi_types.specs.declared.facts.Facts.{Facts};
 ghost use Rattle.asgi_types.specs.declared.scope.Scope.{Scope};
 ghost use Rattle.asgi_request.specs.Opened.{BeginsWithHandshake, HasClosed};
 ghost use Rattle.asgi_request.specs.Reading.{StandsFor};
-ghost use Rattle.asgi_run.specs.Lines.{LineState, Transferred, how_put, input_after, piece_size, session_of, state_of};
+ghost use Rattle.asgi_ws.specs.Lines.{LineState};
+ghost use Rattle.asgi_run.specs.Lines.{Transferred, how_put, input_after, piece_size};
 ghost use Rattle.asgi_conversation.specs.TaskEnds.{has_ended};
 
 use crate::piece::{PIECE, Piece};
@@ -60,10 +62,12 @@ impl Wire {
     pub fn read<L: Line>(&mut self, line: &mut L) -> Result<Turn, AllocError>
         requires { has_ended self.old.input ≡ false }
         ensures moved { (more : List ℕ)
-            × ((start : LineState) (read written : List ℕ) (failures : ℕ) → Transferred start (state_of L.Reads L.Counts L.Messages.own line.old) self.old.input read written failures
-            → Transferred start (state_of L.Reads L.Counts L.Messages.own line.new) self.new.input (read ++ more) written failures)
+            × ((start : LineState) (read written : List ℕ) (failures : ℕ) → Transferred start (L.state line.old) self.old.input read written failures
+            → Transferred start (L.state line.new) self.new.input (read ++ more) written failures)
             × OnOk result ((bytes : List ℕ) (given : List Next) → StandsFor self.old.requests bytes given → StandsFor self.new.requests (bytes ++ more) given)
             × (length more ≤ piece_size) }
+        // the turn is that of the one read that was made
+        ensures turn { IfOk result (λ turn. (answer : Answer) × ((L.state line.new).reads ≡ (L.state line.old).reads ++ answer ∷ []) × (turn ≡ turn_of answer)) }
         ensures same { self.new ≡ record self.old { requests = self.new.requests; input = self.new.input } }
         ensures limits { self.new.requests.limits ≡ self.old.requests.limits }
     {
@@ -117,11 +121,11 @@ impl Wire {
     /// Writes the text in hand, which is empty then. Returns None if all of its bytes went out; if a
     /// write failed, how many did.
     pub fn put<L: Line>(&mut self, line: &mut L) -> Option<usize>
-        ensures none { IfNone result (Appends (L.written line.old) (L.written line.new) self.old.out.items × RoseBy 0 (L.failed line.old) (L.failed line.new)) }
-        ensures some { IfSome result (λ n. (n < length self.old.out.items) × Appends (L.written line.old) (L.written line.new) (take n self.old.out.items) × RoseBy 1 (L.failed line.old) (L.failed line.new)) }
-        ensures tries { TriesWrites (L.Counts.answers line.old) (L.Counts.answers line.new) (out_of self.old.out.items (how_put result)) (how_put result) }
-        ensures reads { (L.remaining line.new ≡ L.remaining line.old) × (L.Reads.answers line.new ≡ L.Reads.answers line.old) }
-        ensures session { session_of L.Messages.own line.new ≡ session_of L.Messages.own line.old }
+        ensures none { IfNone result (Appends (L.state line.old).written (L.state line.new).written self.old.out.items × RoseBy 0 (L.state line.old).failed (L.state line.new).failed) }
+        ensures some { IfSome result (λ n. (n < length self.old.out.items) × Appends (L.state line.old).written (L.state line.new).written (take n self.old.out.items) × RoseBy 1 (L.state line.old).failed (L.state line.new).failed) }
+        ensures tries { TriesWrites (L.state line.old).writes (L.state line.new).writes (out_of self.old.out.items (how_put result)) (how_put result) }
+        ensures reads { ((L.state line.new).left ≡ (L.state line.old).left) × ((L.state line.new).reads ≡ (L.state line.old).reads) }
+        ensures session { (L.state line.new).session ≡ (L.state line.old).session }
         ensures same { self.new ≡ record self.old { out = self.new.out } }
         ensures empty { self.new.out.items ≡ [] }
     {
@@ -133,11 +137,11 @@ impl Wire {
 
 /// Writes a text. Returns None if all of its bytes went out; if a write failed, how many did.
 pub fn write<L: Line>(line: &mut L, text: &[u8]) -> Option<usize>
-    ensures none { IfNone result (Appends (L.written line.old) (L.written line.new) text.now × RoseBy 0 (L.failed line.old) (L.failed line.new)) }
-    ensures some { IfSome result (λ n. (n < length text.now) × Appends (L.written line.old) (L.written line.new) (take n text.now) × RoseBy 1 (L.failed line.old) (L.failed line.new)) }
-    ensures tries { TriesWrites (L.Counts.answers line.old) (L.Counts.answers line.new) (out_of text.now (how_put result)) (how_put result) }
-    ensures reads { (L.remaining line.new ≡ L.remaining line.old) × (L.Reads.answers line.new ≡ L.Reads.answers line.old) }
-    ensures session { session_of L.Messages.own line.new ≡ session_of L.Messages.own line.old }
+    ensures none { IfNone result (Appends (L.state line.old).written (L.state line.new).written text.now × RoseBy 0 (L.state line.old).failed (L.state line.new).failed) }
+    ensures some { IfSome result (λ n. (n < length text.now) × Appends (L.state line.old).written (L.state line.new).written (take n text.now) × RoseBy 1 (L.state line.old).failed (L.state line.new).failed) }
+    ensures tries { TriesWrites (L.state line.old).writes (L.state line.new).writes (out_of text.now (how_put result)) (how_put result) }
+    ensures reads { ((L.state line.new).left ≡ (L.state line.old).left) × ((L.state line.new).reads ≡ (L.state line.old).reads) }
+    ensures session { (L.state line.new).session ≡ (L.state line.old).session }
 {
     match write_out(line, text) {
         Wrote::Done => None,

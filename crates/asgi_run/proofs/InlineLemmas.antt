@@ -24,7 +24,7 @@ use Rattle.asgi_run.specs.Limits.{IsAtLimit, IsOverIdle, IsSettled}
 use Rattle.asgi_run.specs.declared.runner.AppSide.{AppSide}
 use Rattle.asgi_run.specs.declared.runner.AppSide.TheVariants.{Runs, HasEnded}
 use Rattle.asgi_run.specs.AnyHalf.{PreservesOn}
-use Rattle.asgi_run.specs.Lines.{LineState}
+use Rattle.asgi_ws.specs.Lines.{LineState}
 use Rattle.asgi_run.specs.Running.{OfEnd, MayRun, Answers, IsOfRequest, SameLists, GoesOnAs, EndsIn, TagStays}
 
 -- ---- the connection's half

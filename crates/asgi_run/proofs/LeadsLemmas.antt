@@ -5,7 +5,7 @@ use Rattle.asgi_pipes.specs.declared.ends.ConnEnd as conn_end
 use Rattle.asgi_exchange.specs.Calls.{IsViewOf}
 use Rattle.asgi_exchange.specs.Views.{ConnView}
 use Rattle.asgi_run.specs.AnyHalf.{PreservesOn, PreservesInLine}
-use Rattle.asgi_run.specs.Lines.{LineState}
+use Rattle.asgi_ws.specs.Lines.{LineState}
 
 module _ {S H A W : Type 0} (stands : S → LineState → H → List ℕ → ConnView A W → Type 0) where
   pub leads_none : (line : LineState) (half : H) (V : ConnView A W → Type 0) → PreservesOn stands line half V line half V

@@ -22,7 +22,8 @@ use Rattle.asgi_io.proofs.CountLemmas.{rose_after}
 use Rattle.asgi_io.proofs.WriteLemmas.{moved_some, moved_none, paused, failed}
 use Rattle.asgi_conversation.specs.declared.input.InputEnd.{InputEnd}
 use Rattle.asgi_conversation.specs.declared.input.InputEnd.TheVariants.{Open, AtEnd, Failed}
-use Rattle.asgi_run.specs.Lines.{LineState, Transferred, EndsAs, GoesOn, how_wrote, input_after, piece_size}
+use Rattle.asgi_ws.specs.Lines.{LineState}
+use Rattle.asgi_run.specs.Lines.{Transferred, EndsAs, GoesOn, how_wrote, input_after, piece_size}
 use Rattle.asgi_conversation.specs.TaskEnds.{has_ended}
 
 -- ---- the session

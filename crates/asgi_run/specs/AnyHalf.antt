@@ -1,7 +1,7 @@
 -- How the calls of a connection's half move it on in its exchange, whether bytes or messages arrive and are written.
 use Rattle.std.specs.Prelude.{ℕ, List, ◌++◌}
 use Rattle.asgi_exchange.specs.Views.{ConnView}
-use Rattle.asgi_run.specs.Lines.{LineState}
+use Rattle.asgi_ws.specs.Lines.{LineState}
 
 module _ {S H A W : Type 0} (stands : S → LineState → H → List ℕ → ConnView A W → Type 0) where
   -- From a half and its view to later ones: if the invariant held, it holds again.

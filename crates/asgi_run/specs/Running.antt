@@ -17,7 +17,7 @@ use Rattle.asgi_exchange.specs.Views.{AppView, World, said_of}
 use Rattle.asgi_run.specs.declared.exchange_half.Half as any_half
 use Rattle.asgi_run.specs.declared.runner.AppSide.{AppSide}
 use Rattle.asgi_run.specs.declared.runner.AppSide.TheVariants.{Runs, HasEnded}
-use Rattle.asgi_run.specs.Lines.{LineState}
+use Rattle.asgi_ws.specs.Lines.{LineState}
 
 -- ---- the application's side
 

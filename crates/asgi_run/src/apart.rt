@@ -9,7 +9,6 @@ ghost use Rattle.asgi_exchange.specs.Views.{ConnView};
 ghost use Rattle.asgi_conversation.specs.declared.following.NextStep.TheVariants.{NextRequest};
 ghost use Rattle.asgi_run.specs.AnyHalf.{PreservesOn};
 ghost use Rattle.asgi_run.specs.Limits.{IsAtLimit, IsOverIdle, IsSettled};
-ghost use Rattle.asgi_run.specs.Lines.{state_of};
 ghost use Rattle.asgi_run.specs.Running.{OfEnd, HasRun};
 ghost use Rattle.asgi_run.specs.declared.runner.AppSide.TheVariants.{HasEnded, Runs};
 
@@ -35,7 +34,7 @@ fn serve_half<H: Half, L: Line, P: Pause, C: ConnEnd>(
     turns: &mut Turns,
     conn: &mut Waking<'_, C>,
 )
-    ensures leads { PreservesOn H.stands (state_of L.Reads L.Counts L.Messages.own line.old) half.old (IsViewOf C.ConnEnd conn.old.end) (state_of L.Reads L.Counts L.Messages.own line.new) half.new (IsViewOf C.ConnEnd conn.new.end) }
+    ensures leads { PreservesOn H.stands (L.state line.old) half.old (IsViewOf C.ConnEnd conn.old.end) (L.state line.new) half.new (IsViewOf C.ConnEnd conn.new.end) }
     ensures tag { C.tag conn.new.end ≡ C.tag conn.old.end }
     ensures over { IsSome (H.following half.new) }
     ensures counts { (turned : List Turn) (pauses : ℕ) → CountsTurns turns.old.turn_limit turns.old.idle_limit turned pauses (P.count pause.old) turns.old.turns turns.old.idle
@@ -93,9 +92,9 @@ pub fn run_apart<
 ) -> Ran<T, E, Q>
     requires pair { IsSomeAnd running.lent (λ was. N.is_pair end was.app_end) }
     requires may { IsSomeAnd running.lent (λ was. MayGoOn T.stands E.AppEnd was.task was.app_end) }
-    ensures runs { (scene : H.Scene) (read : List ℕ) (view : ConnView H.In H.Out) → H.stands scene (state_of L.Reads L.Counts L.Messages.own line.old) half.old read view
+    ensures runs { (scene : H.Scene) (read : List ℕ) (view : ConnView H.In H.Out) → H.stands scene (L.state line.old) half.old read view
         → IsViewOf C.ConnEnd end view → OfEnd (Runs running) (λ app. IsExchangeOf E.AppEnd app (H.exchange scene))
-        → (more : List ℕ) × HasRun H.Half T.answers E.AppEnd scene (state_of L.Reads L.Counts L.Messages.own line.new) half.new (read ++ more) (Runs running) result.kind }
+        → (more : List ℕ) × HasRun H.Half T.answers E.AppEnd scene (L.state line.new) half.new (read ++ more) (Runs running) result.kind }
     ensures over { IsSome (H.following half.new) }
     ensures counts { (turned : List Turn) (pauses : ℕ) → CountsTurns turns.old.turn_limit turns.old.idle_limit turned pauses (P.count pause.old) turns.old.turns turns.old.idle
         → (more : List Turn) × CountsTurns turns.old.turn_limit turns.old.idle_limit (turned ++ more) pauses (P.count pause.new) turns.new.turns turns.new.idle }
@@ -155,9 +154,9 @@ pub fn run_ended<
 ) -> EndKind
     requires pair { N.is_pair end app_end }
     requires ended { E.ended app_end ≡ Some kind }
-    ensures runs { (scene : H.Scene) (read : List ℕ) (view : ConnView H.In H.Out) → H.stands scene (state_of L.Reads L.Counts L.Messages.own line.old) half.old read view
+    ensures runs { (scene : H.Scene) (read : List ℕ) (view : ConnView H.In H.Out) → H.stands scene (L.state line.old) half.old read view
         → IsViewOf C.ConnEnd end view → IsExchangeOf E.AppEnd app_end (H.exchange scene)
-        → (more : List ℕ) × HasRun H.Half T.answers E.AppEnd scene (state_of L.Reads L.Counts L.Messages.own line.new) half.new (read ++ more) (HasEnded app_end kind) result }
+        → (more : List ℕ) × HasRun H.Half T.answers E.AppEnd scene (L.state line.new) half.new (read ++ more) (HasEnded app_end kind) result }
     ensures over { IsSome (H.following half.new) }
     ensures counts { (turned : List Turn) (pauses : ℕ) → CountsTurns turns.old.turn_limit turns.old.idle_limit turned pauses (P.count pause.old) turns.old.turns turns.old.idle
         → (more : List Turn) × CountsTurns turns.old.turn_limit turns.old.idle_limit (turned ++ more) pauses (P.count pause.new) turns.new.turns turns.new.idle }

@@ -1,5 +1,5 @@
 //! The connection's half of one exchange, whether bytes or messages arrive and are written.
-ghost use Rattle.std.specs.Prelude.{◌≡◌, ◌↔◌, ℕ, List, Option, Some, IsSome, IsTrue};
+ghost use Rattle.std.specs.Prelude.{◌≡◌, ◌↔◌, ℕ, List, Option, Some, true, IsNone, IsSome, IsTrue};
 ghost use Rattle.asgi_types.specs.declared.limits.Limits.{Limits};
 ghost use Rattle.asgi_exchange.specs.Calls.{IsViewOf};
 ghost use Rattle.asgi_exchange.specs.Exchange.{Exchange, IsSteady};
@@ -9,7 +9,7 @@ ghost use Rattle.asgi_conversation.specs.declared.following.NextStep.{NextStep};
 ghost use Rattle.asgi_conversation.specs.declared.following.NextStep.TheVariants.{NextRequest};
 ghost use Rattle.asgi_run.specs.AnyHalf.{PreservesOn, PreservesInLine};
 ghost use Rattle.asgi_run.specs.Limits.{IsSettled};
-ghost use Rattle.asgi_run.specs.Lines.{LineState, state_of};
+ghost use Rattle.asgi_ws.specs.Lines.{LineState};
 
 use asgi_io::Turn;
 use asgi_pipes::ConnEnd;
@@ -35,7 +35,7 @@ pub trait Half {
 
     /// Takes one turn, and returns whether it moved anything. While the application goes on, nothing is read.
     fn turn<L: Line, C: ConnEnd>(&mut self, line: &mut L, end: &mut C, app_goes_on: bool) -> Turn
-        ensures leads { PreservesOn stands (state_of L.Reads L.Counts L.Messages.own line.old) self.old (IsViewOf C.ConnEnd end.old) (state_of L.Reads L.Counts L.Messages.own line.new) self.new (IsViewOf C.ConnEnd end.new) }
+        ensures leads { PreservesOn stands (L.state line.old) self.old (IsViewOf C.ConnEnd end.old) (L.state line.new) self.new (IsViewOf C.ConnEnd end.new) }
         ensures over { IsSome (following self.old) → self.new ≡ self.old }
         ensures tag { (C.tag end.new ≡ C.tag end.old) × (C.ring end.new ≡ C.ring end.old) };
 
@@ -48,6 +48,8 @@ pub trait Half {
         ensures leads { PreservesInLine stands self.old (IsViewOf C.ConnEnd end.old) self.new (IsViewOf C.ConnEnd end.new) }
         ensures over { IsSome (following self.new) }
         ensures stays { IsSome (following self.old) → self.new ≡ self.old }
+        // the disconnect is offered
+        ensures told { IsNone (following self.old) → C.is_broken end.new ≡ true }
         ensures follows { following self.new ≡ Some NextRequest → following self.old ≡ Some NextRequest }
         ensures tag { (C.tag end.new ≡ C.tag end.old) × (C.ring end.new ≡ C.ring end.old) };
 

@@ -8,7 +8,6 @@ ghost use Rattle.asgi_exchange.specs.Calls.{IsViewOf, IsExchangeOf};
 ghost use Rattle.asgi_exchange.specs.Views.{ConnView};
 ghost use Rattle.asgi_conversation.specs.declared.following.NextStep.TheVariants.{NextRequest};
 ghost use Rattle.asgi_run.specs.Limits.{IsAtLimit, IsOverIdle, IsSettled};
-ghost use Rattle.asgi_run.specs.Lines.{state_of};
 ghost use Rattle.asgi_run.specs.Running.{OfEnd, MayRun, HasRun, Drives, HasPassed, IsOfRequest, EndsIn, GoesOnAs, TagStays};
 
 use crate::exchange_half::Half;
@@ -80,9 +79,9 @@ impl<'q, T: AppTask> Runner<T> for Inline<'q> {
         requires ready { ⊤ }
         requires pair { OfEnd side (λ app. IsPlainPair end app) }
         requires may { MayRun T.stands ⟦<PlainApp as AppEnd>⟧ side }
-        ensures runs { (scene : H.Scene) (read : List ℕ) (view : ConnView H.In H.Out) → H.stands scene (state_of L.Reads L.Counts L.Messages.own line.old) half.old read view
+        ensures runs { (scene : H.Scene) (read : List ℕ) (view : ConnView H.In H.Out) → H.stands scene (L.state line.old) half.old read view
             → IsViewOf ⟦<PlainConn as ConnEnd>⟧ end view → OfEnd side (λ app. IsExchangeOf ⟦<PlainApp as AppEnd>⟧ app (H.exchange scene))
-            → (more : List ℕ) × HasRun H.Half T.answers ⟦<PlainApp as AppEnd>⟧ scene (state_of L.Reads L.Counts L.Messages.own line.new) half.new (read ++ more) side result }
+            → (more : List ℕ) × HasRun H.Half T.answers ⟦<PlainApp as AppEnd>⟧ scene (L.state line.new) half.new (read ++ more) side result }
         ensures over { IsSome (H.following half.new) }
         ensures counts { (turned : List Turn) (pauses : ℕ) → CountsTurns turns.old.turn_limit turns.old.idle_limit turned pauses (P.count pause.old) turns.old.turns turns.old.idle
             → (more : List Turn) × CountsTurns turns.old.turn_limit turns.old.idle_limit (turned ++ more) pauses (P.count pause.new) turns.new.turns turns.new.idle }

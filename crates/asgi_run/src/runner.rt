@@ -6,7 +6,6 @@ ghost use Rattle.asgi_exchange.specs.Calls.{IsViewOf, IsExchangeOf};
 ghost use Rattle.asgi_exchange.specs.Views.{ConnView};
 ghost use Rattle.asgi_conversation.specs.declared.following.NextStep.TheVariants.{NextRequest};
 ghost use Rattle.asgi_run.specs.Limits.{IsAtLimit, IsOverIdle, IsSettled};
-ghost use Rattle.asgi_run.specs.Lines.{state_of};
 ghost use Rattle.asgi_run.specs.Running.{OfEnd, MayRun, HasRun, Drives};
 
 use crate::exchange_half::Half;
@@ -92,9 +91,9 @@ pub trait Runner<T: AppTask> {
         requires pair { OfEnd side (λ app. Self.Pipes.is_pair end app) }
         requires may { MayRun T.stands Self.Pipes.App.AppEnd side }
         // If the half's invariant held in an exchange of these ends, it holds after it.
-        ensures runs { (scene : H.Scene) (read : List ℕ) (view : ConnView H.In H.Out) → H.stands scene (state_of L.Reads L.Counts L.Messages.own line.old) half.old read view
+        ensures runs { (scene : H.Scene) (read : List ℕ) (view : ConnView H.In H.Out) → H.stands scene (L.state line.old) half.old read view
             → IsViewOf Self.Pipes.Conn.ConnEnd end view → OfEnd side (λ app. IsExchangeOf Self.Pipes.App.AppEnd app (H.exchange scene))
-            → (more : List ℕ) × HasRun H.Half T.answers Self.Pipes.App.AppEnd scene (state_of L.Reads L.Counts L.Messages.own line.new) half.new (read ++ more) side result }
+            → (more : List ℕ) × HasRun H.Half T.answers Self.Pipes.App.AppEnd scene (L.state line.new) half.new (read ++ more) side result }
         ensures over { IsSome (H.following half.new) }
         ensures counts { (turned : List Turn) (pauses : ℕ) → CountsTurns turns.old.turn_limit turns.old.idle_limit turned pauses (P.count pause.old) turns.old.turns turns.old.idle
             → (more : List Turn) × CountsTurns turns.old.turn_limit turns.old.idle_limit (turned ++ more) pauses (P.count pause.new) turns.new.turns turns.new.idle }

@@ -20,7 +20,7 @@ pub fn serve_next<H: AllocGlobal, A: Application, N: Listener, U: Runner<A::Task
     runner: &mut U,
     pause: &mut P,
 ) -> Option<Report>
-    ensures { ServesNext N.L.Reads N.L.Counts N.L.Messages.own (A.answers app.now) limits.now state.now (N.answers listener.old) (N.answers listener.new)
+    ensures { ServesNext N.L.state (A.answers app.now) limits.now state.now (N.answers listener.old) (N.answers listener.new)
         (P.count pause.old) (P.count pause.new) result }
 {
     let (line, client, server) = listener.next()?;
@@ -41,7 +41,7 @@ pub(crate) fn serve<H: AllocGlobal, A: Application, L: Line + Drop, U: Runner<A:
     runner: &mut U,
     pause: &mut P,
 ) -> Report
-    ensures { IsServed (A.answers app.now) limits.now state.now (arrived L.Reads L.Counts L.Messages.own (line, client.now, server.now)) (P.count pause.old) (P.count pause.new) result }
+    ensures { IsServed (A.answers app.now) limits.now state.now (arrived L.state (line, client.now, server.now)) (P.count pause.old) (P.count pause.new) result }
 {
     let mut line = line;
     serve_connection(

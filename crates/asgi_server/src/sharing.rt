@@ -47,7 +47,7 @@ impl<
 > Serves<Station<U, P>, (L, Option<Peer>, Option<Peer>)> for Serving<'a, H, A> {
     type Report = Report;
 
-    ghost serves = { λ how was is given report. served_by L.Reads L.Counts L.Messages.own (A.answers how.app.now) how.limits.now how.state.now (P.count was.pause) (P.count is.pause) given report };
+    ghost serves = { λ how was is given report. served_by L.state (A.answers how.app.now) how.limits.now how.state.now (P.count was.pause) (P.count is.pause) given report };
 
     fn serve(&self, station: &mut Station<U, P>, given: (L, Option<Peer>, Option<Peer>)) -> Report {
         let (line, client, server) = given;
@@ -95,7 +95,7 @@ pub fn serve_all<
     teller: K,
 ) -> Shared<Report, Station<U, P>, K>
     requires { vec_len stations ≡ workers.count }
-    ensures served { IsShared (served_by L.Reads L.Counts L.Messages.own (A.answers app.now) limits.now state.now) (N.answers listener.old) (N.answers listener.new) (last_of result.end)
+    ensures served { IsShared (served_by L.state (A.answers app.now) limits.now state.now) (N.answers listener.old) (N.answers listener.new) (last_of result.end)
         (map (λ s. P.count s.pause) stations.items) (map (λ s. P.count s.pause) result.workers.items) result.reports.items }
     ensures told { Told K.tells teller result.teller result.reports.items }
     ensures no_thread { result.end ≡ NoThread → N.answers listener.new ≡ N.answers listener.old }

@@ -1,6 +1,7 @@
 pub mod AcceptValue
 pub mod Handshake
 pub mod Laws
+pub mod Lines
 pub mod Scripts
 pub mod Sessions
 pub mod Sides

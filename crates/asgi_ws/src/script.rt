@@ -7,8 +7,9 @@ ghost use Rattle.asgi_io.specs.Counting.{CountsFailures};
 ghost use Rattle.asgi_ws.specs.Scripts.{bytes_of, messages_of, IsHeldUp};
 ghost use Rattle.asgi_ws.specs.Sessions.{messages_in, handed_in};
 
+use crate::line::Line;
 use crate::lists::{Lists, ScriptRead, is_allowed};
-use crate::messages::{Got, Line, Messages, Msg, Put, SentMessage};
+use crate::messages::{Got, Messages, Msg, Put, SentMessage};
 use crate::pieces::{Pieces, ScriptBytes};
 use crate::tally::Tally;
 use asgi_io::{Counts, Reads};
@@ -254,14 +255,19 @@ impl Script {
 }
 
 impl Line for Script {
+    ghost use Rattle.asgi_ws.specs.Lines.{state_of};
     ghost use Rattle.std.specs.Prelude.{refl};
     ghost use Rattle.asgi_ws.specs.Sides.{read_side, write_side, session_beside};
+
+    ghost state = { λ line. state_of Self.Reads Self.Counts Self.Messages line };
 
     fn upgrade(&mut self, leftover: Vec<u8>) {
         if self.leftover.is_none() {
             self.leftover = Some(leftover);
         }
     }
+
+    ghost state_is = { λ _. refl };
 
     ghost reads_stay = { λ old new same. read_side same };
 

@@ -7,7 +7,8 @@ ghost use Rattle.asgi_io.specs.Counting.{CountsFailures};
 ghost use Rattle.asgi_ws.specs.Wires.{told_by, leftover_by};
 
 use crate::calls::{Sending, note_read, note_send};
-use crate::messages::{Call, Got, Line, Messages, Put, SentMessage};
+use crate::line::Line;
+use crate::messages::{Call, Got, Messages, Put, SentMessage};
 use crate::session::{Session, close, read, send, session_on};
 use crate::stream::Stream;
 use crate::tally::Tally;
@@ -264,10 +265,13 @@ impl<S: Stream + Drop> Wired<S> {
 }
 
 impl<S: Stream + Drop> Line for Wired<S> {
+    ghost use Rattle.asgi_ws.specs.Lines.{state_of};
     ghost use Rattle.asgi_ws.specs.Sessions.{kept_by};
     ghost use Rattle.asgi_ws.specs.Wires.{BeginsSession};
     ghost use Rattle.std.specs.Prelude.{refl};
     ghost use Rattle.asgi_ws.specs.Sides.{read_side, write_side, session_beside};
+
+    ghost state = { λ line. state_of Self.Reads Self.Counts Self.Messages line };
 
     fn upgrade(&mut self, leftover: Vec<u8>)
         ensures begins { BeginsSession self.old.stream self.new.stream self.new.session leftover.items }
@@ -285,6 +289,8 @@ impl<S: Stream + Drop> Line for Wired<S> {
         self.kept = History::with(&History::new(), &kept);
         self.session = Some(session_on(self.alloc, stream, kept.into_vec()));
     }
+
+    ghost state_is = { λ _. refl };
 
     ghost reads_stay = { λ old new same. read_side same };
 

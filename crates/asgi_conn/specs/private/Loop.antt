@@ -1,11 +1,7 @@
 -- The states of a connection from request to request: words of private functions. No promise is stated by them.
 use Rattle.std.specs.Prelude.{◌≡◌, ◌⊎◌, ℕ, ◌≤◌, ◌^◌, ⊤, List, [], length, Option}
-use Rattle.asgi_types.specs.declared.end_kind.EndKind.{EndKind}
-use Rattle.asgi_types.specs.declared.incoming.Incoming.{Incoming}
 use Rattle.asgi_types.specs.declared.limits.Limits.{Limits}
-use Rattle.asgi_types.specs.declared.outgoing.Outgoing.{Outgoing}
 use Rattle.asgi_types.specs.declared.scope.Peer.{Peer}
-use Rattle.asgi_types.specs.declared.scope.Scope.{Scope}
 use Rattle.asgi_types.specs.declared.state.StateValue.{StateValue}
 use Rattle.asgi_request.specs.declared.next.Next.{Next}
 use Rattle.asgi_request.specs.Reading.{StandsFor}
@@ -27,7 +23,9 @@ use Rattle.asgi_conn.specs.declared.tally.Tally.{Tally}
 use Rattle.asgi_halves.specs.declared.half.HttpHalf.{HttpHalf}
 use Rattle.asgi_halves.specs.declared.stage.Stage.TheVariants.{Over}
 use Rattle.asgi_halves.specs.declared.wire.Wire.{Wire}
-use Rattle.asgi_run.specs.Lines.{LineState, Transferred}
+use Rattle.asgi_ws.specs.Lines.{LineState}
+use Rattle.asgi_apps.specs.Promises.{Promise}
+use Rattle.asgi_run.specs.Lines.{Transferred}
 use Rattle.asgi_halves.specs.ReadAhead.{ReadsAhead}
 use Rattle.asgi_halves.specs.Traffic.{HasCarried, failures_in}
 
@@ -59,7 +57,7 @@ abbrev pub IsTallied : Tally → List ExchangeRecord → Type 0
 IsTallied tally exchanges = (tally.exchanges ≡ length exchanges) × (tally.faults ≡ fault_count exchanges)
 
 -- The connection's invariant: its exchanges are as the application promises them, and are counted.
-pub record ConnInvariant (answers : Scope → List Incoming → List Outgoing → Option EndKind → Type 0) (limits : Limits) (client server : Option Peer) (state : List (List ℕ × StateValue))
+pub record ConnInvariant (answers : Promise) (limits : Limits) (client server : Option Peer) (state : List (List ℕ × StateValue))
     (start now : LineState) (tally : Tally) (at : ConnState) : Type 0 where
   pub read : List ℕ
   pub written : List ℕ

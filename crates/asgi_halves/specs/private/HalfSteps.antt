@@ -25,7 +25,8 @@ use Rattle.asgi_halves.specs.declared.half.HttpHalf.{HttpHalf}
 use Rattle.asgi_halves.specs.declared.stage.Stage.TheVariants.{Running}
 use Rattle.asgi_run.specs.AnyHalf.{PreservesInLine}
 use Rattle.asgi_halves.specs.Half.{Scene, Invariant, WithinScene, HasGiven, EndsWhere, BreaksAt, alone, known}
-use Rattle.asgi_run.specs.Lines.{LineState, Transferred}
+use Rattle.asgi_ws.specs.Lines.{LineState}
+use Rattle.asgi_run.specs.Lines.{Transferred}
 use Rattle.asgi_halves.specs.ReadAhead.{ahead_limit}
 use Rattle.asgi_conversation.specs.Persistence.{InHand}
 use Rattle.asgi_conversation.specs.SoFar.{HasBrokenIn}

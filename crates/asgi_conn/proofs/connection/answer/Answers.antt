@@ -4,14 +4,13 @@ use Rattle.asgi_io.specs.Turns.{CountsTurns}
 use Rattle.asgi_exchange.specs.Calls.{IsExchangeOf}
 use Rattle.asgi_exchange.specs.Http.{http}
 use Rattle.asgi_exchange.specs.Views.{ConnView, empty_conn}
-use Rattle.asgi_run.specs.Lines.{state_of}
 use Rattle.asgi_conn.proofs.AnswerLemmas as lemma
 use Rattle.asgi_halves.proofs.HttpHalfLemmas.{over_at}
 use Rattle.asgi_conn.proofs.connection.answer.Goals as goal
 
 pub returns-in-Err-clause-serves : goal.returns-in-Err-clause-serves
 returns-in-Err-clause-serves g c scene client server state read arrived scope opens promised tallied =
-    lemma.serves_short (g.A.Application.answers c.args.app.now) client server state scene (state_of g.L.Reads g.L.Counts g.L.Messages c.args.line.now) c.args.wire c.args.facts read arrived c.args.tally.now
+    lemma.serves_short (g.A.Application.answers c.args.app.now) client server state scene (g.L.Line.state c.args.line.now) c.args.wire c.args.facts read arrived c.args.tally.now
     opens promised tallied c.without_ends.result c.without_ends.ensures.lacking
 
 pub returns-in-Err-clause-counts : goal.returns-in-Err-clause-counts
@@ -40,7 +39,7 @@ returns-clause-serves g c scene client server state read arrived scope opens pro
     let made = c.in-Ok.ensures in
     let side = c.call-side.result in
     let opened = c.call-side.ensures.opens in
-    let line = state_of g.L.Reads g.L.Counts g.L.Messages c.run-kind.new.line in
+    let line = g.L.Line.state c.run-kind.new.line in
     let half = c.run-kind.new.half in
     let begun = c.begin-half.ensures.begins scene c.args.facts read arrived opens (c.new-text.ensures.response c.requires.plain) in
     let view : ConnView ℕ ℕ = record empty_conn { arrived = arrived; written = begun.0 } in

@@ -6,7 +6,6 @@ use Rattle.asgi_exchange.specs.Calls.{IsExchangeOf}
 use Rattle.asgi_exchange.specs.Views.{empty_conn}
 use Rattle.asgi_conversation.specs.declared.report.Outcome.TheVariants.{NoMemory}
 use Rattle.asgi_conversation.specs.Exchanges.{requests_of}
-use Rattle.asgi_run.specs.Lines.{state_of}
 use Rattle.asgi_halves.specs.ReadAhead.{ReadsAhead}
 use Rattle.asgi_halves.specs.WebSocketHalf.{exchange_of}
 use Rattle.asgi_conn.proofs.AnswerLemmas.{of_pair, of_request}
@@ -17,7 +16,7 @@ use Rattle.asgi_conn.proofs.connection.open.Goals as goal
 
 pub returns-in_default-clause-serves : goal.returns-in_default-clause-serves
 returns-in_default-clause-serves g c scene client server state read scope opens promised tallied =
-    lemma.opens_short scene (state_of g.L.Reads g.L.Counts g.L.Messages c.args.line.now) c.args.wire c.args.facts read opens
+    lemma.opens_short scene (g.L.Line.state c.args.line.now) c.args.wire c.args.facts read opens
     (g.A.Application.answers c.args.app.now) client server state c.args.tally.now promised tallied NoMemory (inl refl)
 
 pub returns-in_default-clause-counts : goal.returns-in_default-clause-counts
@@ -25,7 +24,7 @@ returns-in_default-clause-counts g c turned pauses counts = counts_still _ _ tur
 
 pub returns-in_default-copy-clause-serves : goal.returns-in_default-copy-clause-serves
 returns-in_default-copy-clause-serves g c scene client server state read scope opens promised tallied =
-    lemma.opens_short scene (state_of g.L.Reads g.L.Counts g.L.Messages c.args.line.now) c.args.wire c.args.facts read opens
+    lemma.opens_short scene (g.L.Line.state c.args.line.now) c.args.wire c.args.facts read opens
     (g.A.Application.answers c.args.app.now) client server state c.args.tally.now promised tallied NoMemory (inl refl)
 
 pub returns-in_default-copy-clause-counts : goal.returns-in_default-copy-clause-counts
@@ -33,7 +32,7 @@ returns-in_default-copy-clause-counts g c turned pauses counts = counts_still _ 
 
 pub returns-in-Err-clause-serves : goal.returns-in-Err-clause-serves
 returns-in-Err-clause-serves g c scene client server state read scope opens promised tallied =
-    lemma.opens_short scene (state_of g.L.Reads g.L.Counts g.L.Messages c.args.line.now) c.args.wire c.args.facts read opens
+    lemma.opens_short scene (g.L.Line.state c.args.line.now) c.args.wire c.args.facts read opens
     (g.A.Application.answers c.args.app.now) client server state c.args.tally.now promised tallied c.without_ends.result c.without_ends.ensures.lacking
 
 pub returns-in-Err-clause-counts : goal.returns-in-Err-clause-counts
@@ -59,10 +58,10 @@ outcome_of-requires g c =
     let promise = g.A.Application.answers c.args.app.now in
     let side = c.call-side.result in
     let half = c.run-ended.new.half in
-    let frames = lemma.frames_are scene (state_of g.L.Reads g.L.Counts g.L.Messages c.args.line.now) c.args.wire c.args.facts read opens c.in-Ok.frames.items c.in-Ok.ensures.frames in
-    let starts = lemma.opens_session scene (state_of g.L.Reads g.L.Counts g.L.Messages c.args.line.now) c.args.wire c.args.facts read opens
+    let frames = lemma.frames_are scene (g.L.Line.state c.args.line.now) c.args.wire c.args.facts read opens c.in-Ok.frames.items c.in-Ok.ensures.frames in
+    let starts = lemma.opens_session scene (g.L.Line.state c.args.line.now) c.args.wire c.args.facts read opens
     c.take_frames.new.self c.in-Ok-copy.own c.new-text.result c.in-Ok.frames.items c.in-Ok.ensures.same c.in-Ok-copy.ensures.same frames c.new-text.ensures.denial c.requires.upgrade in
-    let begun = c.begin-half.ensures.begins scene (state_of g.L.Reads g.L.Counts g.L.Messages c.args.line.now) read starts in
+    let begun = c.begin-half.ensures.begins scene (g.L.Line.state c.args.line.now) read starts in
     let request = of_request (promise c.args.scope.now) answers ends was (λ app. IsExchangeOf ends app (exchange_of scene))
     (sym made.scope.0, sym (made.scope.1 ∙ opens.facts_are))
     side c.call-side.ensures.opens (λ app same. (sym (same.0 ∙ made.scope.0), sym (same.1 ∙ made.scope.1 ∙ opens.facts_are))) in
@@ -78,8 +77,8 @@ returns-clause-serves g c scene client server state read scope opens promised ta
     let was = c.in-Ok-make.ends.1 in
     let made = c.in-Ok-make.ensures in
     let side = c.call-side.result in
-    let now = state_of g.L.Reads g.L.Counts g.L.Messages c.args.line.now in
-    let line = state_of g.L.Reads g.L.Counts g.L.Messages c.run-ended.new.line in
+    let now = g.L.Line.state c.args.line.now in
+    let line = g.L.Line.state c.run-ended.new.line in
     let half = c.run-ended.new.half in
     let frames = lemma.frames_are scene now c.args.wire c.args.facts read opens c.in-Ok.frames.items c.in-Ok.ensures.frames in
     let starts = lemma.opens_session scene now c.args.wire c.args.facts read opens

@@ -1,12 +1,11 @@
 use Rattle.std.proofs.Common.{[], ◌∙◌, refl, subst, sym, ◌≤◌, ◌^◌, ℕ, arith}
-use Rattle.asgi_run.specs.Lines.{state_of}
 use Rattle.asgi_conn.proofs.ServeLemmas as lemma
 use Rattle.asgi_conn.proofs.connection.serve_connection.Goals as goal
 
 pub loop-place-init : goal.loop-place-init
 loop-place-init g c = record {
   stands = lemma.begins (g.A.Application.answers c.args.app.now) c.args.limits.now c.args.client.now c.args.server.now c.args.state.now
-      (state_of g.L.Reads g.L.Counts g.L.Messages c.args.line.now) c.new-2.result _ c.new-2.ensures.limits c.new-2.ensures.unread c.new-2.ensures.empty refl refl;
+      (g.L.Line.state c.args.line.now) c.new-2.result _ c.new-2.ensures.limits c.new-2.ensures.unread c.new-2.ensures.empty refl refl;
   room = λ between. (omega arith, subst (λ (n : ℕ). n ≤ 2 ^ 48) (sym c.new.ensures.turn_limit) c.args.limits.now.turns_in_range.1);
   turn_limit = c.new.ensures.turn_limit;
   idle_limit = c.new.ensures.idle_limit;
@@ -18,7 +17,7 @@ pub loop-place-preserved : goal.loop-place-preserved
 loop-place-preserved g c =
     let inv = c.loop-place.invariant in
     record {
-      stands = c.step-place.ensures.serves c.args.limits.now (state_of g.L.Reads g.L.Counts g.L.Messages c.args.line.now) inv.stands;
+      stands = c.step-place.ensures.serves c.args.limits.now (g.L.Line.state c.args.line.now) inv.stands;
       room = c.step-place.ensures.room;
       turn_limit = c.step-place.ensures.turn_limits.0 ∙ inv.turn_limit;
       idle_limit = c.step-place.ensures.turn_limits.1 ∙ inv.idle_limit;
@@ -31,5 +30,5 @@ pub returns : goal.returns
 returns g c =
     let inv = c.loop-place.invariant in
     lemma.serves (g.A.Application.answers c.args.app.now) c.args.limits.now c.args.client.now c.args.server.now c.args.state.now
-    (state_of g.L.Reads g.L.Counts g.L.Messages c.args.line.now) (state_of g.L.Reads g.L.Counts g.L.Messages c.loop-place.line) c.loop-place.tally c.loop-place.place c.outcome.result _ _
+    (g.L.Line.state c.args.line.now) (g.L.Line.state c.loop-place.line) c.loop-place.tally c.loop-place.place c.outcome.result _ _
     c.outcome.ensures inv.stands inv.counts.0 inv.counts.1 inv.turn_limit inv.idle_limit inv.at_limit

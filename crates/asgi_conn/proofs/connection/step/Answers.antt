@@ -1,12 +1,11 @@
 use Rattle.std.proofs.Common.{refl}
 use Rattle.asgi_request.specs.declared.next.Next.TheVariants.{Head, Event, Whole, Bad}
-use Rattle.asgi_run.specs.Lines.{state_of}
 use Rattle.asgi_conn.proofs.ServeLemmas as lemma
 use Rattle.asgi_conn.proofs.connection.step.Goals as goal
 
 pub returns-in_default-scope_of-clause-serves : goal.returns-in_default-scope_of-clause-serves
 returns-in_default-scope_of-clause-serves g c limits start s =
-    let now = state_of g.L.Reads g.L.Counts g.L.Messages c.args.line.now in
+    let now = g.L.Line.state c.args.line.now in
     let answers = g.A.Application.answers c.args.app.now in
     let at = lemma.rested answers limits c.args.client.now c.args.server.now c.args.state.now start now c.args.tally.now c.args.place c.in-Between.wire c.in-Between.is s in
     lemma.short answers limits c.args.client.now c.args.server.now c.args.state.now start now c.args.tally.now c.in-Between.wire at
@@ -16,7 +15,7 @@ returns-in_default-scope_of-clause-counts g c turned pauses counts = lemma.count
 
 pub answer-requires-clause-http : goal.answer-requires-clause-http
 answer-requires-clause-http g c =
-    let now = state_of g.L.Reads g.L.Counts g.L.Messages c.args.line.now in
+    let now = g.L.Line.state c.args.line.now in
     let answers = g.A.Application.answers c.args.app.now in
     let limits = c.requires.stands.0 in
     let start = c.requires.stands.1 in
@@ -28,7 +27,7 @@ answer-requires-clause-http g c =
 
 pub unreachable-requires-in-Ok-Event : goal.unreachable-requires-in-Ok-Event
 unreachable-requires-in-Ok-Event g c =
-    let now = state_of g.L.Reads g.L.Counts g.L.Messages c.args.line.now in
+    let now = g.L.Line.state c.args.line.now in
     let answers = g.A.Application.answers c.args.app.now in
     let limits = c.requires.stands.0 in
     let start = c.requires.stands.1 in
@@ -40,7 +39,7 @@ unreachable-requires-in-Ok-Event g c =
 
 pub unreachable-requires-in-Ok-Whole : goal.unreachable-requires-in-Ok-Whole
 unreachable-requires-in-Ok-Whole g c =
-    let now = state_of g.L.Reads g.L.Counts g.L.Messages c.args.line.now in
+    let now = g.L.Line.state c.args.line.now in
     let answers = g.A.Application.answers c.args.app.now in
     let limits = c.requires.stands.0 in
     let start = c.requires.stands.1 in
@@ -52,7 +51,7 @@ unreachable-requires-in-Ok-Whole g c =
 
 pub returns-in-Err-clause-serves : goal.returns-in-Err-clause-serves
 returns-in-Err-clause-serves g c limits start s =
-    let now = state_of g.L.Reads g.L.Counts g.L.Messages c.args.line.now in
+    let now = g.L.Line.state c.args.line.now in
     let answers = g.A.Application.answers c.args.app.now in
     let at = lemma.rested answers limits c.args.client.now c.args.server.now c.args.state.now start now c.args.tally.now c.args.place c.in-Between.wire c.in-Between.is s in
     lemma.short answers limits c.args.client.now c.args.server.now c.args.state.now start now c.args.tally.now c.in-Between.wire at
@@ -62,51 +61,51 @@ returns-in-Err-clause-counts g c turned pauses counts = lemma.counts_still _ _ t
 
 pub returns-in-Ok-Need-clause-serves : goal.returns-in-Ok-Need-clause-serves
 returns-in-Ok-Need-clause-serves g c limits start s =
-    let now = state_of g.L.Reads g.L.Counts g.L.Messages c.args.line.now in
+    let now = g.L.Line.state c.args.line.now in
     let answers = g.A.Application.answers c.args.app.now in
     let at = lemma.rested answers limits c.args.client.now c.args.server.now c.args.state.now start now c.args.tally.now c.args.place c.in-Between.wire c.in-Between.is s in
     lemma.waited answers limits c.args.client.now c.args.server.now c.args.state.now start now c.args.tally.now c.in-Between.wire at
-    c.next.new.self c.next.ensures.limits (state_of g.L.Reads g.L.Counts g.L.Messages c.wait.new.line) _ c.wait.result refl refl
+    c.next.new.self c.next.ensures.limits (g.L.Line.state c.wait.new.line) _ c.wait.result refl refl
     (c.in-Ok-Need.ensures.need c.in-Ok-Need.field-0-is) c.wait.ensures.waits
 
 pub returns-in-Ok-Bad-clause-serves : goal.returns-in-Ok-Bad-clause-serves
 returns-in-Ok-Bad-clause-serves g c limits start s =
-    let now = state_of g.L.Reads g.L.Counts g.L.Messages c.args.line.now in
+    let now = g.L.Line.state c.args.line.now in
     let answers = g.A.Application.answers c.args.app.now in
     let at = lemma.rested answers limits c.args.client.now c.args.server.now c.args.state.now start now c.args.tally.now c.args.place c.in-Between.wire c.in-Between.is s in
     let bad = c.in-Ok-Bad in
     let gave = lemma.given_as c.in-Between.wire.requests c.next.new.self bad.field-0 (Bad bad.status) bad.field-0-is (λ never. cc) bad.ensures.given in
     lemma.refused answers limits c.args.client.now c.args.server.now c.args.state.now start now c.args.tally.now c.in-Between.wire at
-    c.next.new.self c.next.ensures.limits (state_of g.L.Reads g.L.Counts g.L.Messages c.refuse.new.line) c.refuse.result bad.status gave c.refuse.ensures.refuses
+    c.next.new.self c.next.ensures.limits (g.L.Line.state c.refuse.new.line) c.refuse.result bad.status gave c.refuse.ensures.refuses
 
 pub returns-in-Ok-Bad-clause-counts : goal.returns-in-Ok-Bad-clause-counts
 returns-in-Ok-Bad-clause-counts g c turned pauses counts = lemma.counts_still _ _ turned pauses _ _ _ counts
 
 pub returns-in_default-framing-clause-serves : goal.returns-in_default-framing-clause-serves
 returns-in_default-framing-clause-serves g c limits start s =
-    let now = state_of g.L.Reads g.L.Counts g.L.Messages c.args.line.now in
+    let now = g.L.Line.state c.args.line.now in
     let answers = g.A.Application.answers c.args.app.now in
     let at = lemma.rested answers limits c.args.client.now c.args.server.now c.args.state.now start now c.args.tally.now c.args.place c.in-Between.wire c.in-Between.is s in
     let head = c.in-Ok-Head in
     let gave = lemma.given_as c.in-Between.wire.requests c.next.new.self head.field-0 (Head head.scope head.facts) head.field-0-is (λ never. cc) head.ensures.given in
     lemma.answered answers limits c.args.client.now c.args.server.now c.args.state.now start now c.args.tally.now c.in-Between.wire at
-    c.next.new.self c.next.ensures.limits head.scope head.facts gave c.in_default-framing.not-Upgrade c.in-Ok.scope (state_of g.L.Reads g.L.Counts g.L.Messages c.answer.new.line) c.answer.new.tally c.answer.result
+    c.next.new.self c.next.ensures.limits head.scope head.facts gave c.in_default-framing.not-Upgrade c.in-Ok.scope (g.L.Line.state c.answer.new.line) c.answer.new.tally c.answer.result
     c.in-Ok.ensures c.answer.ensures.serves
 
 pub returns-in-Upgrade-clause-serves : goal.returns-in-Upgrade-clause-serves
 returns-in-Upgrade-clause-serves g c limits start s =
-    let now = state_of g.L.Reads g.L.Counts g.L.Messages c.args.line.now in
+    let now = g.L.Line.state c.args.line.now in
     let answers = g.A.Application.answers c.args.app.now in
     let at = lemma.rested answers limits c.args.client.now c.args.server.now c.args.state.now start now c.args.tally.now c.args.place c.in-Between.wire c.in-Between.is s in
     let head = c.in-Ok-Head in
     let gave = lemma.given_as c.in-Between.wire.requests c.next.new.self head.field-0 (Head head.scope head.facts) head.field-0-is (λ never. cc) head.ensures.given in
     lemma.opened answers limits c.args.client.now c.args.server.now c.args.state.now start now c.args.tally.now c.in-Between.wire at
-    c.next.new.self c.next.ensures.limits head.scope head.facts gave c.in-Upgrade.is c.in-Ok.scope (state_of g.L.Reads g.L.Counts g.L.Messages c.open.new.line) c.open.new.tally c.open.result
+    c.next.new.self c.next.ensures.limits head.scope head.facts gave c.in-Upgrade.is c.in-Ok.scope (g.L.Line.state c.open.new.line) c.open.new.tally c.open.result
     c.in-Ok.ensures c.open.ensures.serves
 
 pub open-requires-clause-websocket : goal.open-requires-clause-websocket
 open-requires-clause-websocket g c =
-    let now = state_of g.L.Reads g.L.Counts g.L.Messages c.args.line.now in
+    let now = g.L.Line.state c.args.line.now in
     let answers = g.A.Application.answers c.args.app.now in
     let limits = c.requires.stands.0 in
     let start = c.requires.stands.1 in
@@ -118,7 +117,7 @@ open-requires-clause-websocket g c =
 
 pub open-requires-clause-opens : goal.open-requires-clause-opens
 open-requires-clause-opens g c =
-    let now = state_of g.L.Reads g.L.Counts g.L.Messages c.args.line.now in
+    let now = g.L.Line.state c.args.line.now in
     let answers = g.A.Application.answers c.args.app.now in
     let limits = c.requires.stands.0 in
     let start = c.requires.stands.1 in

@@ -3,7 +3,6 @@ use Rattle.asgi_io.specs.declared.turns.Turn.{Turn}
 use Rattle.asgi_io.specs.Turns.{CountsTurns}
 use Rattle.asgi_request.specs.Reading.{Reading, StandsFor, AllGiven}
 use Rattle.asgi_apps.proofs.PauseLemmas.{counts_more}
-use Rattle.asgi_run.specs.Lines.{state_of}
 use Rattle.asgi_conn.proofs.BetweenLemmas.{asked, ends_idle, ends_fed_short, rests_on}
 use Rattle.asgi_conn.proofs.connection.wait.Goals as goal
 
@@ -22,13 +21,13 @@ loop-wire-init g c = record {
 
 pub returns-then-has_ended-clause-waits : goal.returns-then-has_ended-clause-waits
 returns-then-has_ended-clause-waits g c limits start read given exchanges after written x all =
-    let now = state_of g.L.Reads g.L.Counts g.L.Messages c.loop-wire.line in
+    let now = g.L.Line.state c.loop-wire.line in
     let y = c.loop-wire.invariant.waits limits start read given exchanges after written x all in
     (y.0, c.at_end.ensures.ends limits start now (read ++ y.0) given exchanges (after ++ y.0) written y.1 y.2)
 
 pub returns-then-is_over-clause-waits : goal.returns-then-is_over-clause-waits
 returns-then-is_over-clause-waits g c limits start read given exchanges after written x all =
-    let now = state_of g.L.Reads g.L.Counts g.L.Messages c.loop-wire.line in
+    let now = g.L.Line.state c.loop-wire.line in
     let y = c.loop-wire.invariant.waits limits start read given exchanges after written x all in
     (y.0, ends_idle limits start now c.loop-wire.wire (read ++ y.0) given exchanges (after ++ y.0) written y.1 y.2)
 
@@ -38,16 +37,16 @@ returns-in_default-clause-waits g c limits start read given exchanges after writ
     let more = c.read.ensures.moved.0 in (
       y.0 ++ more,
       rw (sym (append_assoc read y.0 more))
-          (ends_fed_short limits start (state_of g.L.Reads g.L.Counts g.L.Messages c.loop-wire.line) c.loop-wire.wire (read ++ y.0) given exchanges (after ++ y.0) written y.1
-          (state_of g.L.Reads g.L.Counts g.L.Messages c.read.new.line) c.read.new.self more c.read.ensures.moved.1 (λ ended. let never = c.if-has_ended.false in cc) y.2 c.read.ensures.moved.3),
+          (ends_fed_short limits start (g.L.Line.state c.loop-wire.line) c.loop-wire.wire (read ++ y.0) given exchanges (after ++ y.0) written y.1
+          (g.L.Line.state c.read.new.line) c.read.new.self more c.read.ensures.moved.1 (λ ended. let never = c.if-has_ended.false in cc) y.2 c.read.ensures.moved.3),
     )
 
 pub returns-then-not-is_waiting-clause-waits : goal.returns-then-not-is_waiting-clause-waits
 returns-then-not-is_waiting-clause-waits g c limits start read given exchanges after written x all =
     let y = c.loop-wire.invariant.waits limits start read given exchanges after written x all in
     let more = c.in-Ok.ensures.moved.0 in
-    let next = state_of g.L.Reads g.L.Counts g.L.Messages c.read.new.line in
-    let on = rests_on limits start (state_of g.L.Reads g.L.Counts g.L.Messages c.loop-wire.line) c.loop-wire.wire (read ++ y.0) given exchanges (after ++ y.0) written y.1
+    let next = g.L.Line.state c.read.new.line in
+    let on = rests_on limits start (g.L.Line.state c.loop-wire.line) c.loop-wire.wire (read ++ y.0) given exchanges (after ++ y.0) written y.1
     next c.read.new.self more c.in-Ok.ensures.moved.1 (λ ended. let never = c.if-has_ended.false in cc) y.2 c.in-Ok.ensures.moved.3
     c.read.ensures.same c.read.ensures.limits c.in-Ok.ensures.moved.2 in
     let same = c.is_waiting.ensures.same in (
@@ -80,8 +79,8 @@ loop-wire-preserved g c =
       waits = λ limits start read given exchanges after written x all.
           let y = inv.waits limits start read given exchanges after written x all in
           let more = c.in-Ok.ensures.moved.0 in
-          let next = state_of g.L.Reads g.L.Counts g.L.Messages c.read.new.line in
-          let on = rests_on limits start (state_of g.L.Reads g.L.Counts g.L.Messages c.loop-wire.line) c.loop-wire.wire (read ++ y.0) given exchanges (after ++ y.0) written y.1
+          let next = g.L.Line.state c.read.new.line in
+          let on = rests_on limits start (g.L.Line.state c.loop-wire.line) c.loop-wire.wire (read ++ y.0) given exchanges (after ++ y.0) written y.1
           next c.read.new.self more c.in-Ok.ensures.moved.1 (λ ended. let never = c.if-has_ended.false in cc) y.2 c.in-Ok.ensures.moved.3
           c.read.ensures.same c.read.ensures.limits c.in-Ok.ensures.moved.2 in
           let same = c.is_waiting.ensures.same in

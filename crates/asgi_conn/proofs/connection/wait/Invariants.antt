@@ -5,15 +5,15 @@ use Rattle.asgi_io.specs.Turns.{CountsTurns}
 use Rattle.asgi_request.specs.declared.next.Next.{Next}
 use Rattle.asgi_request.specs.Reading.{AllGiven}
 use Rattle.asgi_conversation.specs.ExchangeRecord.{ExchangeRecord}
-use Rattle.asgi_run.specs.Lines.{LineState, state_of}
+use Rattle.asgi_ws.specs.Lines.{LineState}
 use Rattle.asgi_conn.specs.private.Loop.{BetweenRequests}
 use Rattle.asgi_conn.proofs.connection.wait.Given as goal
 
 abbrev pub invariant-loop-wire : goal.invariant-loop-wire
 invariant-loop-wire g l = record {
   waits : (limits : Limits) (start : LineState) (read : List ℕ) (given : List Next) (exchanges : List ExchangeRecord) (after written : List ℕ)
-      → BetweenRequests limits start (state_of g.L.Reads g.L.Counts g.L.Messages l.fn.line) l.fn.wire read given exchanges after written → AllGiven l.fn.wire.requests read given
-      → (more : List ℕ) × BetweenRequests limits start (state_of g.L.Reads g.L.Counts g.L.Messages l.line) l.wire (read ++ more) given exchanges (after ++ more) written × AllGiven l.wire.requests (read ++ more) given;
+      → BetweenRequests limits start (g.L.Line.state l.fn.line) l.fn.wire read given exchanges after written → AllGiven l.fn.wire.requests read given
+      → (more : List ℕ) × BetweenRequests limits start (g.L.Line.state l.line) l.wire (read ++ more) given exchanges (after ++ more) written × AllGiven l.wire.requests (read ++ more) given;
   turn_limit : l.turns.turn_limit ≡ l.fn.turns.turn_limit;
   idle_limit : l.turns.idle_limit ≡ l.fn.turns.idle_limit;
   at_least : l.fn.turns.turns ≤ l.turns.turns;

@@ -16,7 +16,7 @@ returns-in-None-clause-serves_port g c = λ a n is. absurd (c.in-None.ensures.no
 
 pub returns-in-Some-Serve-clause-serves_port : goal.returns-in-Some-Serve-clause-serves_port
 returns-in-Some-Serve-clause-serves_port g c = λ a n is.
-    port_asked g.M.Reads g.M.Counts g.M.Messages (map string_bytes c.args.words.now) a c.in-Some-Serve.app c.in-Some-Serve.port c.in-Some-Serve.count n c.in-Some-Serve.workers _ _ _ _ _ _ _ _ c.in-Some-Serve.field-0
+    port_asked g.M.Line.state (map string_bytes c.args.words.now) a c.in-Some-Serve.app c.in-Some-Serve.port c.in-Some-Serve.count n c.in-Some-Serve.workers _ _ _ _ _ _ _ _ c.in-Some-Serve.field-0
     is c.in-Some-Serve.ensures.some c.in-Some-Serve.field-0-is c.listen_on.ensures c.serve_by.ensures
 
 pub returns-in-Some-Once-clause-serves : goal.returns-in-Some-Once-clause-serves

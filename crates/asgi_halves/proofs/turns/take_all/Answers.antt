@@ -1,28 +1,35 @@
-use Rattle.std.proofs.Common.{◌∙◌, refl}
+use Rattle.std.proofs.Common.{◌∙◌, refl, arith}
 use Rattle.asgi_exchange.specs.Calls.{IsViewOf}
-use Rattle.asgi_run.specs.Lines.{state_of}
 use Rattle.asgi_run.proofs.LeadsLemmas.{leads_none, leads_then}
+use Rattle.asgi_halves.proofs.TurnLemmas.{one_longer}
 use Rattle.asgi_halves.proofs.turns.take_all.Goals as goal
 
 pub loop-item-init : goal.loop-item-init
 loop-item-init g c = record {
-  leads = leads_none g.K.ExchangeKind.stands (state_of g.L.Reads g.L.Counts g.L.Messages c.args.line.now) c.args.half.now (IsViewOf g.C.ConnEnd c.args.end.now);
+  leads = leads_none g.K.ExchangeKind.stands (g.L.Line.state c.args.line.now) c.args.half.now (IsViewOf g.C.ConnEnd c.args.end.now);
   tag = refl;
   ring = refl;
+  took = omega arith;
+  none = λ _. refl;
 }
 
 pub returns-then-not-take_one-clause-leads : goal.returns-then-not-take_one-clause-leads
 returns-then-not-take_one-clause-leads g c =
-    leads_then g.K.ExchangeKind.stands (state_of g.L.Reads g.L.Counts g.L.Messages c.args.line.now) (state_of g.L.Reads g.L.Counts g.L.Messages c.loop-item.line) (state_of g.L.Reads g.L.Counts g.L.Messages c.take_one.new.line)
+    leads_then g.K.ExchangeKind.stands (g.L.Line.state c.args.line.now) (g.L.Line.state c.loop-item.line) (g.L.Line.state c.take_one.new.line)
     c.args.half.now c.loop-item.half c.take_one.new.half (IsViewOf g.C.ConnEnd c.args.end.now) (IsViewOf g.C.ConnEnd c.loop-item.end) (IsViewOf g.C.ConnEnd c.take_one.new.end)
     c.loop-item.invariant.leads c.take_one.ensures.leads
 
 pub loop-item-preserved : goal.loop-item-preserved
 loop-item-preserved g c = record {
   leads =
-      leads_then g.K.ExchangeKind.stands (state_of g.L.Reads g.L.Counts g.L.Messages c.args.line.now) (state_of g.L.Reads g.L.Counts g.L.Messages c.loop-item.line) (state_of g.L.Reads g.L.Counts g.L.Messages c.take_one.new.line)
+      leads_then g.K.ExchangeKind.stands (g.L.Line.state c.args.line.now) (g.L.Line.state c.loop-item.line) (g.L.Line.state c.take_one.new.line)
       c.args.half.now c.loop-item.half c.take_one.new.half (IsViewOf g.C.ConnEnd c.args.end.now) (IsViewOf g.C.ConnEnd c.loop-item.end) (IsViewOf g.C.ConnEnd c.take_one.new.end)
       c.loop-item.invariant.leads c.take_one.ensures.leads;
   tag = c.take_one.ensures.tag.0 ∙ c.loop-item.invariant.tag;
   ring = c.take_one.ensures.tag.1 ∙ c.loop-item.invariant.ring;
+  took =
+      let more = one_longer c.take_one.result (g.C.ConnEnd.got c.loop-item.end) (g.C.ConnEnd.got c.take_one.new.end) c.if-not-take_one.false c.take_one.ensures.took in
+      let before = c.loop-item.invariant.took in
+      omega (arith, more, before);
+  none = λ no. cc;
 }

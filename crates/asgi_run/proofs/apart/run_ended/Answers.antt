@@ -3,7 +3,6 @@ use Rattle.asgi_types.specs.declared.facts.Facts.{Facts}
 use Rattle.asgi_protocol.specs.Lawful.{IsLawful}
 use Rattle.asgi_exchange.specs.Calls.{IsViewOf, view_of}
 use Rattle.asgi_exchange.proofs.MeetLemmas.{ends_make}
-use Rattle.asgi_run.specs.Lines.{state_of}
 use Rattle.asgi_run.specs.declared.runner.AppSide.TheVariants.{HasEnded}
 use Rattle.asgi_run.proofs.InlineLemmas as lemma
 use Rattle.asgi_run.proofs.apart.run_ended.Goals as goal
@@ -21,7 +20,7 @@ returns-clause-runs g c scene read view s is request =
     let side = HasEnded app kind in
     let all = lemma.goes_nowhere stands answers ends side c.requires.ended in
     let x = c.serve_half.ensures.leads scene read view s (subst (λ e. IsViewOf g.C.ConnEnd e view) (sym c.new-conn.ensures) is) in
-    let now = state_of g.L.Reads g.L.Counts g.L.Messages c.serve_half.new.line in
+    let now = g.L.Line.state c.serve_half.new.line in
     let exchange = g.H.Half.exchange scene in
     let of_end = lemma.of_request stands answers ends exchange side app kind all request in
     let keeps = g.met.H.Half.keeps scene now c.serve_half.new.half (read ++ x.0) x.1 x.2 in

@@ -6,13 +6,12 @@ use Rattle.asgi_apps.proofs.PauseLemmas.{counts_more}
 use Rattle.asgi_conversation.specs.declared.following.NextStep.{NextStep}
 use Rattle.asgi_run.specs.Limits.{IsSettled}
 use Rattle.asgi_exchange.specs.Calls.{IsViewOf}
-use Rattle.asgi_run.specs.Lines.{state_of}
 use Rattle.asgi_run.proofs.InlineLemmas as lemma
 use Rattle.asgi_run.proofs.apart.serve_half.Goals as goal
 
 pub loop-conn-init : goal.loop-conn-init
 loop-conn-init g c = record {
-  leads = lemma.leads_nowhere g.H.Half.stands (state_of g.L.Reads g.L.Counts g.L.Messages c.args.line.now) c.args.half.now (IsViewOf g.C.ConnEnd c.args.conn.now.end);
+  leads = lemma.leads_nowhere g.H.Half.stands (g.L.Line.state c.args.line.now) c.args.half.now (IsViewOf g.C.ConnEnd c.args.conn.now.end);
   tag = refl;
   turn_limit = refl;
   idle_limit = refl;
@@ -51,7 +50,7 @@ loop-conn-preserved g c =
 pub returns-clause-leads : goal.returns-clause-leads
 returns-clause-leads g c scene read view s is =
     let x = c.loop-conn.invariant.leads scene read view s is in
-    let y = c.abandon.ensures.leads scene (state_of g.L.Reads g.L.Counts g.L.Messages c.loop-conn.line) (read ++ x.0) x.1 x.2 x.3 in
+    let y = c.abandon.ensures.leads scene (g.L.Line.state c.loop-conn.line) (read ++ x.0) x.1 x.2 x.3 in
     (x.0, y.0, y.1, y.2)
 
 pub returns-clause-tag : goal.returns-clause-tag

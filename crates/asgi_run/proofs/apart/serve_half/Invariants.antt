@@ -5,12 +5,11 @@ use Rattle.asgi_io.specs.Turns.{CountsTurns}
 use Rattle.asgi_run.specs.Limits.{IsSettled}
 use Rattle.asgi_exchange.specs.Calls.{IsViewOf}
 use Rattle.asgi_run.specs.AnyHalf.{PreservesOn}
-use Rattle.asgi_run.specs.Lines.{state_of}
 use Rattle.asgi_run.proofs.apart.serve_half.Given as goal
 
 abbrev pub invariant-loop-conn : goal.invariant-loop-conn
 invariant-loop-conn g l = record {
-  leads : PreservesOn g.H.Half.stands (state_of g.L.Reads g.L.Counts g.L.Messages l.fn.line) l.fn.half (IsViewOf g.C.ConnEnd l.fn.conn.end) (state_of g.L.Reads g.L.Counts g.L.Messages l.line) l.half (IsViewOf g.C.ConnEnd l.conn.end);
+  leads : PreservesOn g.H.Half.stands (g.L.Line.state l.fn.line) l.fn.half (IsViewOf g.C.ConnEnd l.fn.conn.end) (g.L.Line.state l.line) l.half (IsViewOf g.C.ConnEnd l.conn.end);
   tag : g.C.ConnEnd.tag l.conn.end ≡ g.C.ConnEnd.tag l.fn.conn.end;
   turn_limit : l.turns.turn_limit ≡ l.fn.turns.turn_limit;
   idle_limit : l.turns.idle_limit ≡ l.fn.turns.idle_limit;

@@ -1,11 +1,10 @@
 use Rattle.std.proofs.Common.{[]}
-use Rattle.asgi_run.specs.Lines.{state_of}
 use Rattle.asgi_halves.proofs.HalfEndLemmas.{stays_there, dropped, dropped_short}
 use Rattle.asgi_halves.proofs.half.HttpHalf.finish_task.Goals as goal
 
 pub returns-in-Err-clause-leads : goal.returns-in-Err-clause-leads
 returns-in-Err-clause-leads g c scene read view x =
-    let line = state_of g.L.Reads g.L.Counts g.L.Messages c.args.line.now in (
+    let line = g.L.Line.state c.args.line.now in (
       [],
       view.arrived,
       view.written,
@@ -15,6 +14,6 @@ returns-in-Err-clause-leads g c scene read view x =
 
 pub returns-in-Ok-clause-leads : goal.returns-in-Ok-clause-leads
 returns-in-Ok-clause-leads g c scene read view x =
-    let line = state_of g.L.Reads g.L.Counts g.L.Messages c.args.line.now in
+    let line = g.L.Line.state c.args.line.now in
     c.read_rest_or_end.ensures.leads scene read view
     (dropped scene line c.args.self.now read view x c.args.kind c.requires c.drop_rest.new.self c.drop_rest.ensures.same c.in-Ok.ensures.gives c.drop_rest.ensures.limits c.drop_rest.ensures.input_broke)

@@ -1,13 +1,12 @@
-use Rattle.asgi_run.specs.Lines.{state_of}
 use Rattle.asgi_halves.proofs.HalfLemmas.{put_done, put_cut}
 use Rattle.asgi_halves.proofs.half.HttpHalf.put.Goals as goal
 
 pub returns-in-Some-clause-puts : goal.returns-in-Some-clause-puts
 returns-in-Some-clause-puts g c scene read view p =
     let wrote = c.in-Some.ensures.some in
-    (_, put_cut scene (state_of g.L.Reads g.L.Counts g.L.Messages c.args.line.now) _ c.args.self.now read view p c.put.ensures.reads.0 c.put.ensures.reads.1 c.put.ensures.session c.in-Some.n c.put.new.self c.put.ensures.same wrote.0 wrote.1 wrote.2 c.in-Some.ensures.tries)
+    (_, put_cut scene (g.L.Line.state c.args.line.now) _ c.args.self.now read view p c.put.ensures.reads.0 c.put.ensures.reads.1 c.put.ensures.session c.in-Some.n c.put.new.self c.put.ensures.same wrote.0 wrote.1 wrote.2 c.in-Some.ensures.tries)
 
 pub returns-in_default-clause-puts : goal.returns-in_default-clause-puts
 returns-in_default-clause-puts g c scene read view p =
     let wrote = c.in_default.ensures.none in
-    (_, put_done scene (state_of g.L.Reads g.L.Counts g.L.Messages c.args.line.now) _ c.args.self.now read view p c.put.ensures.reads.0 c.put.ensures.reads.1 c.put.ensures.session c.put.new.self c.put.ensures.same c.put.ensures.empty wrote.0 wrote.1 c.in_default.ensures.tries)
+    (_, put_done scene (g.L.Line.state c.args.line.now) _ c.args.self.now read view p c.put.ensures.reads.0 c.put.ensures.reads.1 c.put.ensures.session c.put.new.self c.put.ensures.same c.put.ensures.empty wrote.0 wrote.1 c.in_default.ensures.tries)

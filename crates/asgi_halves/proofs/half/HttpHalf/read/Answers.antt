@@ -1,4 +1,3 @@
-use Rattle.asgi_run.specs.Lines.{state_of}
 use Rattle.std.proofs.Common.{◌++◌, []}
 use Rattle.asgi_halves.proofs.HalfLemmas.{stands_still}
 use Rattle.asgi_halves.proofs.HalfInLemmas.{read_more, read_short}
@@ -6,7 +5,7 @@ use Rattle.asgi_halves.proofs.half.HttpHalf.read.Goals as goal
 
 pub returns-then-not-reads_on-clause-leads : goal.returns-then-not-reads_on-clause-leads
 returns-then-not-reads_on-clause-leads g c scene read view x =
-    ([], view.arrived, view.written, stands_still scene (state_of g.L.Reads g.L.Counts g.L.Messages c.args.line.now) c.args.self.now read view x)
+    ([], view.arrived, view.written, stands_still scene (g.L.Line.state c.args.line.now) c.args.self.now read view x)
 
 pub returns-in-Ok-clause-leads : goal.returns-in-Ok-clause-leads
 returns-in-Ok-clause-leads g c scene read view x =
@@ -14,7 +13,7 @@ returns-in-Ok-clause-leads g c scene read view x =
       more,
       view.arrived ++ more,
       view.written,
-      read_more scene (state_of g.L.Reads g.L.Counts g.L.Messages c.args.line.now) (state_of g.L.Reads g.L.Counts g.L.Messages c.read.new.line) c.args.self.now read view x c.requires.running
+      read_more scene (g.L.Line.state c.args.line.now) (g.L.Line.state c.read.new.line) c.args.self.now read view x c.requires.running
           (c.reads_on.ensures.open c.if-not-reads_on.false) (c.reads_on.ensures.free c.if-not-reads_on.false) c.requires.asked (c.reads_on.ensures.few c.if-not-reads_on.false) more c.in-Ok.ensures.moved.3 c.read.new.self c.read.ensures.same c.read.ensures.limits
           (c.in-Ok.ensures.moved.1 scene.start read _ 0) c.in-Ok.ensures.moved.2,
     )
@@ -25,7 +24,7 @@ returns-in-Err-clause-leads g c scene read view x =
       more,
       view.arrived ++ more,
       view.written,
-      read_short scene (state_of g.L.Reads g.L.Counts g.L.Messages c.args.line.now) (state_of g.L.Reads g.L.Counts g.L.Messages c.read.new.line) c.args.self.now read view x c.requires.running
+      read_short scene (g.L.Line.state c.args.line.now) (g.L.Line.state c.read.new.line) c.args.self.now read view x c.requires.running
           (c.reads_on.ensures.open c.if-not-reads_on.false) (c.reads_on.ensures.free c.if-not-reads_on.false) c.requires.asked (c.reads_on.ensures.few c.if-not-reads_on.false) more c.read.ensures.moved.3 c.read.new.self c.read.ensures.same c.read.ensures.limits
           (c.read.ensures.moved.1 scene.start read _ 0),
     )

@@ -1,7 +1,6 @@
 use Rattle.std.proofs.Common.{[], sym, refl, ◌∙◌}
 use Rattle.asgi_halves.specs.declared.stage.Stage.TheVariants as stage
 use Rattle.asgi_halves.specs.Half.{failures_at}
-use Rattle.asgi_run.specs.Lines.{state_of}
 use Rattle.asgi_halves.proofs.HalfLemmas.{unfailed}
 use Rattle.asgi_halves.proofs.HalfEndLemmas.{stays_there, rest_read, rest_short}
 use Rattle.asgi_halves.proofs.half.HttpHalf.read_rest.Goals as goal
@@ -12,24 +11,24 @@ returns-then-has_ended-clause-leads g c scene read view x = ([], view.arrived, v
 pub returns-in-Ok-clause-leads : goal.returns-in-Ok-clause-leads
 returns-in-Ok-clause-leads g c scene read view x =
     let half = c.args.self.now in
-    let line = state_of g.L.Reads g.L.Counts g.L.Messages c.args.line.now in
+    let line = g.L.Line.state c.args.line.now in
     let m = c.in-Ok.ensures.moved in (
       m.0,
       _,
       view.written,
-      rest_read scene line half read view x c.requires.ending.0 c.requires.ending.1 c.requires.open c.requires.asked (state_of g.L.Reads g.L.Counts g.L.Messages c.read.new.line) c.read.new.self m.0 m.3
+      rest_read scene line half read view x c.requires.ending.0 c.requires.ending.1 c.requires.open c.requires.asked (g.L.Line.state c.read.new.line) c.read.new.self m.0 m.3
           c.in-Ok.ensures.same c.in-Ok.ensures.limits (sym c.has_ended.ensures ∙ c.if-has_ended.false) (m.1 scene.start read _ (failures_at half.stage) x.moved) m.2,
     )
 
 pub returns-in-Err-clause-leads : goal.returns-in-Err-clause-leads
 returns-in-Err-clause-leads g c scene read view x =
     let half = c.args.self.now in
-    let line = state_of g.L.Reads g.L.Counts g.L.Messages c.args.line.now in
+    let line = g.L.Line.state c.args.line.now in
     let m = c.in-Err.ensures.moved in (
       m.0,
       _,
       view.written,
-      rest_short scene line half read view x c.requires.ending.0 c.requires.ending.1 c.requires.open c.requires.asked (state_of g.L.Reads g.L.Counts g.L.Messages c.read.new.line) c.read.new.self m.0 m.3
+      rest_short scene line half read view x c.requires.ending.0 c.requires.ending.1 c.requires.open c.requires.asked (g.L.Line.state c.read.new.line) c.read.new.self m.0 m.3
           c.in-Err.ensures.same c.in-Err.ensures.limits (sym c.has_ended.ensures ∙ c.if-has_ended.false)
           (m.1 scene.start read _ 0 (unfailed scene line half read view x (stage.Ending c.requires.ending.0) c.requires.ending.1 refl)),
     )

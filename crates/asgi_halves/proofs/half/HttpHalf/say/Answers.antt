@@ -1,12 +1,11 @@
 use Rattle.std.proofs.Common.{refl}
-use Rattle.asgi_run.specs.Lines.{state_of}
 use Rattle.asgi_exchange.specs.Views.{taken_of}
 use Rattle.asgi_halves.proofs.HalfLemmas.{said_pending, said_short, running_of}
 use Rattle.asgi_halves.proofs.half.HttpHalf.say.Goals as goal
 
 pub returns-in-Ok-clause-says : goal.returns-in-Ok-clause-says
 returns-in-Ok-clause-says g c scene read view x =
-    let line = state_of g.L.Reads g.L.Counts g.L.Messages c.args.line.now in
+    let line = g.L.Line.state c.args.line.now in
     let half = c.args.self.now in
     let r = running_of scene line half read view x c.requires in
     c.put.ensures.puts scene read _
@@ -16,4 +15,4 @@ returns-in-Ok-clause-says g c scene read view x =
 pub returns-in-Err-clause-says : goal.returns-in-Err-clause-says
 returns-in-Err-clause-says g c scene read view x =
     let half = c.args.self.now in
-    (_, said_short scene (state_of g.L.Reads g.L.Counts g.L.Messages c.args.line.now) half read view x c.requires c.args.event.now c.take.new.self (record half.wire { out = c.take.new.out }))
+    (_, said_short scene (g.L.Line.state c.args.line.now) half read view x c.requires c.args.event.now c.take.new.self (record half.wire { out = c.take.new.out }))

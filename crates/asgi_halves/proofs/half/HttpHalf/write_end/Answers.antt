@@ -2,13 +2,12 @@ use Rattle.std.proofs.Common.{[], ◌∙◌, ap, sym, refl, ◌++◌}
 use Rattle.asgi_response.specs.Exchange.{end_text}
 use Rattle.asgi_response.specs.declared.refusal.Input.{Input}
 use Rattle.asgi_exchange.specs.Views.{taken_of}
-use Rattle.asgi_run.specs.Lines.{state_of}
 use Rattle.asgi_halves.proofs.HalfEndLemmas.{stays_there, taken_text, ends_idle, ends_short, ends_written, ends_cut}
 use Rattle.asgi_halves.proofs.half.HttpHalf.write_end.Goals as goal
 
 pub returns-in-Idle-clause-leads : goal.returns-in-Idle-clause-leads
 returns-in-Idle-clause-leads g c scene read view x =
-    let line = state_of g.L.Reads g.L.Counts g.L.Messages c.args.line.now in (
+    let line = g.L.Line.state c.args.line.now in (
       [],
       view.arrived,
       view.written,
@@ -19,7 +18,7 @@ returns-in-Idle-clause-leads g c scene read view x =
 
 pub returns-in-Err-clause-leads : goal.returns-in-Err-clause-leads
 returns-in-Err-clause-leads g c scene read view x =
-    let line = state_of g.L.Reads g.L.Counts g.L.Messages c.args.line.now in (
+    let line = g.L.Line.state c.args.line.now in (
       [],
       view.arrived,
       view.written,
@@ -30,8 +29,8 @@ returns-in-Err-clause-leads g c scene read view x =
 
 pub returns-in-None-clause-leads : goal.returns-in-None-clause-leads
 returns-in-None-clause-leads g c scene read view x =
-    let line = state_of g.L.Reads g.L.Counts g.L.Messages c.args.line.now in
-    let now = state_of g.L.Reads g.L.Counts g.L.Messages c.put.new.line in
+    let line = g.L.Line.state c.args.line.now in
+    let now = g.L.Line.state c.put.new.line in
     let half = c.args.self.now in
     let wrote = c.in-None.ensures.none in
     let adds = c.in-Ok.ensures.ok scene.facts (taken_of view) (taken_text scene line half read view x c.args.kind c.requires.ending)
@@ -47,8 +46,8 @@ returns-in-None-clause-leads g c scene read view x =
 
 pub returns-in-Some-clause-leads : goal.returns-in-Some-clause-leads
 returns-in-Some-clause-leads g c scene read view x =
-    let line = state_of g.L.Reads g.L.Counts g.L.Messages c.args.line.now in
-    let now = state_of g.L.Reads g.L.Counts g.L.Messages c.put.new.line in
+    let line = g.L.Line.state c.args.line.now in
+    let now = g.L.Line.state c.put.new.line in
     let half = c.args.self.now in
     let wrote = c.in-Some.ensures.some in
     let adds = c.in-Ok.ensures.ok scene.facts (taken_of view) (taken_text scene line half read view x c.args.kind c.requires.ending)

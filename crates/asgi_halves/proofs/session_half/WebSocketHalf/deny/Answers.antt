@@ -1,5 +1,4 @@
 use Rattle.std.proofs.Common.{refl, sym, ◌∙◌}
-use Rattle.asgi_run.specs.Lines.{state_of}
 use Rattle.asgi_halves.specs.WebSocketHalf.{said_in}
 use Rattle.asgi_halves.proofs.SessionDenyLemmas.{from_ok, text_before, denied_whole, denied_part, denied_short}
 use Rattle.asgi_halves.proofs.session_half.WebSocketHalf.deny.Goals as goal
@@ -8,15 +7,15 @@ pub returns-then-is_err : goal.returns-then-is_err
 returns-then-is_err g c = record {
   speaks = λ scene read view before x pass judged.
       let half = c.args.self.now in
-      denied_short scene (state_of g.L.Reads g.L.Counts g.L.Messages c.args.line.now) half read view before x c.requires.running c.args.event.now c.requires.denies pass judged
+      denied_short scene (g.L.Line.state c.args.line.now) half read view before x c.requires.running c.args.event.now c.requires.denies pass judged
       c.take.new.self (record half.wire { out = c.take.new.out }) refl;
 }
 
 pub returns-in-Some : goal.returns-in-Some
 returns-in-Some g c = record {
   speaks = λ scene read view before x pass judged.
-      let was = state_of g.L.Reads g.L.Counts g.L.Messages c.args.line.now in
-      let now = state_of g.L.Reads g.L.Counts g.L.Messages c.put.new.line in
+      let was = g.L.Line.state c.args.line.now in
+      let now = g.L.Line.state c.put.new.line in
       let half = c.args.self.now in
       let ok = sym c.if-is_err.false ∙ c.is_err.ensures.value in
       let old = text_before scene was half read view before x c.requires.running c.args.event.now c.requires.denies pass judged in
@@ -30,8 +29,8 @@ returns-in-Some g c = record {
 pub returns-in_default : goal.returns-in_default
 returns-in_default g c = record {
   speaks = λ scene read view before x pass judged.
-      let was = state_of g.L.Reads g.L.Counts g.L.Messages c.args.line.now in
-      let now = state_of g.L.Reads g.L.Counts g.L.Messages c.put.new.line in
+      let was = g.L.Line.state c.args.line.now in
+      let now = g.L.Line.state c.put.new.line in
       let half = c.args.self.now in
       let ok = sym c.if-is_err.false ∙ c.is_err.ensures.value in
       let old = text_before scene was half read view before x c.requires.running c.args.event.now c.requires.denies pass judged in

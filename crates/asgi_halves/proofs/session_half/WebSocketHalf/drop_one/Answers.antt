@@ -1,35 +1,35 @@
 use Rattle.std.proofs.Common.{◌∙◌, true, ap, arith, refl, sym}
-use Rattle.asgi_run.specs.Lines.{state_of}
 use Rattle.asgi_halves.specs.Traffic.{is_end}
-use Rattle.asgi_halves.proofs.SessionReadLemmas.{HasRead, has_read, leads_dropped, out_none}
+use Rattle.asgi_halves.proofs.LineCallLemmas.{HasRead, has_read}
+use Rattle.asgi_halves.proofs.SessionReadLemmas.{leads_dropped, out_none}
 use Rattle.asgi_halves.proofs.session_half.WebSocketHalf.drop_one.Goals as goal
 use Rattle.asgi_halves.proofs.session_half.WebSocketHalf.drop_one.Goals.{in-Message, in-Ended, in-Failed, in-NoMemory}
 
 pub returns-then-self-clause-leads : goal.returns-then-self-clause-leads
-returns-then-self-clause-leads g c = out_none (state_of g.L.Reads g.L.Counts g.L.Messages c.args.line.now) c.args.self.now
+returns-then-self-clause-leads g c = out_none (g.L.Line.state c.args.line.now) c.args.self.now
 
 pub returns-in-Idle-clause-leads : goal.returns-in-Idle-clause-leads
 returns-in-Idle-clause-leads g c =
-    leads_dropped (state_of g.L.Reads g.L.Counts g.L.Messages c.args.line.now) (state_of g.L.Reads g.L.Counts g.L.Messages c.read_message.new.self) c.args.self.now _ c.read_message.result
+    leads_dropped (g.L.Line.state c.args.line.now) (g.L.Line.state c.read_message.new.self) c.args.self.now _ c.read_message.result
     c.args.self.now.is_over _ c.requires.may c.if-self.false
-    (has_read _ g.L.Reads g.L.Counts g.L.Messages c.args.line.now c.read_message.new.self c.read_message.result c.read_message.ensures.told c.read_message.ensures.coming.0 c.read_message.ensures.counts c.read_message.ensures.same c.read_message.ensures.text)
+    (has_read g.L.Line g.L.Reads g.L.Counts g.L.Messages g.met.L.Line.state_is c.args.line.now c.read_message.new.self c.read_message.result c.read_message.ensures.told c.read_message.ensures.coming.0 c.read_message.ensures.counts c.read_message.ensures.same c.read_message.ensures.text)
     (c.if-self.false ∙ ap is_end (sym c.in-Idle.is)) refl (omega arith)
 
 pub returns-clause-leads : goal.returns-clause-leads
 returns-clause-leads g c =
-    let call : HasRead (state_of g.L.Reads g.L.Counts g.L.Messages c.args.line.now) (state_of g.L.Reads g.L.Counts g.L.Messages c.read_message.new.self) c.read_message.result =
-    has_read _ g.L.Reads g.L.Counts g.L.Messages c.args.line.now c.read_message.new.self c.read_message.result c.read_message.ensures.told c.read_message.ensures.coming.0 c.read_message.ensures.counts c.read_message.ensures.same c.read_message.ensures.text in
+    let call : HasRead (g.L.Line.state c.args.line.now) (g.L.Line.state c.read_message.new.self) c.read_message.result =
+    has_read g.L.Line g.L.Reads g.L.Counts g.L.Messages g.met.L.Line.state_is c.args.line.now c.read_message.new.self c.read_message.result c.read_message.ensures.told c.read_message.ensures.coming.0 c.read_message.ensures.counts c.read_message.ensures.same c.read_message.ensures.text in
     elim c.match-read_message.branch [
       | in-Message w ↦
-          leads_dropped (state_of g.L.Reads g.L.Counts g.L.Messages c.args.line.now) (state_of g.L.Reads g.L.Counts g.L.Messages c.read_message.new.self) c.args.self.now c.match-read_message.self c.read_message.result
+          leads_dropped (g.L.Line.state c.args.line.now) (g.L.Line.state c.read_message.new.self) c.args.self.now c.match-read_message.self c.read_message.result
           c.args.self.now.is_over _ c.requires.may c.if-self.false call (c.if-self.false ∙ ap is_end (sym w.in-Message.is)) w.self-is (omega arith)
       | in-Ended w ↦
-          leads_dropped (state_of g.L.Reads g.L.Counts g.L.Messages c.args.line.now) (state_of g.L.Reads g.L.Counts g.L.Messages c.read_message.new.self) c.args.self.now c.match-read_message.self c.read_message.result
+          leads_dropped (g.L.Line.state c.args.line.now) (g.L.Line.state c.read_message.new.self) c.args.self.now c.match-read_message.self c.read_message.result
           true _ c.requires.may c.if-self.false call (ap is_end (sym w.in-Ended.is)) w.self-is (omega arith)
       | in-Failed w ↦
-          leads_dropped (state_of g.L.Reads g.L.Counts g.L.Messages c.args.line.now) (state_of g.L.Reads g.L.Counts g.L.Messages c.read_message.new.self) c.args.self.now c.match-read_message.self c.read_message.result
+          leads_dropped (g.L.Line.state c.args.line.now) (g.L.Line.state c.read_message.new.self) c.args.self.now c.match-read_message.self c.read_message.result
           true _ c.requires.may c.if-self.false call (ap is_end (sym w.in-Failed.is)) w.self-is (omega arith)
       | in-NoMemory w ↦
-          leads_dropped (state_of g.L.Reads g.L.Counts g.L.Messages c.args.line.now) (state_of g.L.Reads g.L.Counts g.L.Messages c.read_message.new.self) c.args.self.now c.match-read_message.self c.read_message.result
+          leads_dropped (g.L.Line.state c.args.line.now) (g.L.Line.state c.read_message.new.self) c.args.self.now c.match-read_message.self c.read_message.result
           c.args.self.now.is_over _ c.requires.may c.if-self.false call (c.if-self.false ∙ ap is_end (sym w.in-NoMemory.is)) w.self-is (omega arith)
     ]

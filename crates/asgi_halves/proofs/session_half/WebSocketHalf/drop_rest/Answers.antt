@@ -1,11 +1,10 @@
 use Rattle.std.proofs.Common.{◌∙◌, refl}
-use Rattle.asgi_run.specs.Lines.{state_of}
 use Rattle.asgi_halves.proofs.SessionReadLemmas.{out_none, out_then}
 use Rattle.asgi_halves.proofs.session_half.WebSocketHalf.drop_rest.Goals as goal
 
 pub loop-read-init : goal.loop-read-init
 loop-read-init g c = record {
-  leads = out_none (state_of g.L.Reads g.L.Counts g.L.Messages c.args.line.now) c.args.self.now;
+  leads = out_none (g.L.Line.state c.args.line.now) c.args.self.now;
   may = c.requires.may;
   stage = refl;
 }
@@ -13,7 +12,7 @@ loop-read-init g c = record {
 pub loop-read-preserved : goal.loop-read-preserved
 loop-read-preserved g c = record {
   leads =
-      out_then (state_of g.L.Reads g.L.Counts g.L.Messages c.args.line.now) (state_of g.L.Reads g.L.Counts g.L.Messages c.loop-read.line) (state_of g.L.Reads g.L.Counts g.L.Messages c.drop_one-turn.new.line)
+      out_then (g.L.Line.state c.args.line.now) (g.L.Line.state c.loop-read.line) (g.L.Line.state c.drop_one-turn.new.line)
       c.args.self.now c.loop-read.self c.drop_one-turn.new.self c.loop-read.invariant.leads c.drop_one-turn.ensures.leads;
   may = c.drop_one-turn.ensures.may;
   stage = c.drop_one-turn.ensures.stage ∙ c.loop-read.invariant.stage;

@@ -1,12 +1,11 @@
 use Rattle.std.proofs.Common.{ap, ◌∙◌}
 use Rattle.asgi_types.specs.declared.end_kind.EndKind.{EndKind}
 use Rattle.asgi_halves.specs.declared.stage.Stage.TheVariants as stage
-use Rattle.asgi_run.specs.Lines.{state_of}
 use Rattle.asgi_halves.proofs.SessionEndLemmas.{ends_idle}
 use Rattle.asgi_halves.proofs.session_half.WebSocketHalf.end_by.Goals as goal
 
 pub returns-in-Idle : goal.returns-in-Idle
 returns-in-Idle g c = record {
   leads = λ scene read view x.
-      ends_idle scene (state_of g.L.Reads g.L.Counts g.L.Messages c.args.line.now) c.args.self.now read view x (c.requires.ending ∙ ap (λ (k : EndKind). stage.Ending k) c.in-Idle.is);
+      ends_idle scene (g.L.Line.state c.args.line.now) c.args.self.now read view x (c.requires.ending ∙ ap (λ (k : EndKind). stage.Ending k) c.in-Idle.is);
 }

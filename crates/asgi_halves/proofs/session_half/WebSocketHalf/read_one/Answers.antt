@@ -1,9 +1,9 @@
 use Rattle.std.proofs.Common.{◌++◌, ◌∷◌, [], refl, subst, sym}
 use Rattle.asgi_ws.specs.declared.messages.Got.TheVariants as got
 use Rattle.asgi_halves.specs.declared.session_half.WebSocketHalf.{WebSocketHalf}
-use Rattle.asgi_run.specs.Lines.{state_of}
 use Rattle.asgi_halves.specs.WebSocketHalf.{Invariant}
-use Rattle.asgi_halves.proofs.SessionReadLemmas.{has_read, heard, nothing_yet, lost, read_short}
+use Rattle.asgi_halves.proofs.LineCallLemmas.{has_read}
+use Rattle.asgi_halves.proofs.SessionReadLemmas.{heard, nothing_yet, lost, read_short}
 use Rattle.asgi_halves.proofs.session_half.WebSocketHalf.read_one.Goals as goal
 
 pub returns-in-Idle : goal.returns-in-Idle
@@ -11,9 +11,9 @@ returns-in-Idle g c = record {
   leads = λ scene read view x. (
     view.arrived ++ [],
     view.written,
-    nothing_yet scene (state_of g.L.Reads g.L.Counts g.L.Messages c.args.line.now) (state_of g.L.Reads g.L.Counts g.L.Messages c.read_message.new.self) c.args.self.now read view x
+    nothing_yet scene (g.L.Line.state c.args.line.now) (g.L.Line.state c.read_message.new.self) c.args.self.now read view x
         c.requires.running c.requires.opened.0 c.requires.opened.1 c.requires.free
-        (has_read _ g.L.Reads g.L.Counts g.L.Messages c.args.line.now c.read_message.new.self got.Idle c.in-Idle.ensures.told c.in-Idle.ensures.coming.0 c.in-Idle.ensures.counts c.in-Idle.ensures.same c.in-Idle.ensures.text),
+        (has_read g.L.Line g.L.Reads g.L.Counts g.L.Messages g.met.L.Line.state_is c.args.line.now c.read_message.new.self got.Idle c.in-Idle.ensures.told c.in-Idle.ensures.coming.0 c.in-Idle.ensures.counts c.in-Idle.ensures.same c.in-Idle.ensures.text),
   );
 }
 
@@ -22,10 +22,10 @@ returns-in-Message g c = record {
   leads = λ scene read view x. (
     view.arrived ++ c.in-Message.message ∷ [],
     view.written,
-    subst (λ (h : WebSocketHalf). Invariant scene (state_of g.L.Reads g.L.Counts g.L.Messages c.read_message.new.self) h read (record view { arrived = view.arrived ++ c.in-Message.message ∷ [] })) (sym c.hear.ensures)
-        (heard scene (state_of g.L.Reads g.L.Counts g.L.Messages c.args.line.now) (state_of g.L.Reads g.L.Counts g.L.Messages c.read_message.new.self) c.args.self.now read view x
+    subst (λ (h : WebSocketHalf). Invariant scene (g.L.Line.state c.read_message.new.self) h read (record view { arrived = view.arrived ++ c.in-Message.message ∷ [] })) (sym c.hear.ensures)
+        (heard scene (g.L.Line.state c.args.line.now) (g.L.Line.state c.read_message.new.self) c.args.self.now read view x
         c.requires.running c.requires.opened.0 c.requires.opened.1 c.requires.free c.in-Message.message
-        (has_read _ g.L.Reads g.L.Counts g.L.Messages c.args.line.now c.read_message.new.self (got.Message c.in-Message.message) c.in-Message.ensures.told c.in-Message.ensures.coming.0 c.in-Message.ensures.counts c.in-Message.ensures.same c.in-Message.ensures.text)),
+        (has_read g.L.Line g.L.Reads g.L.Counts g.L.Messages g.met.L.Line.state_is c.args.line.now c.read_message.new.self (got.Message c.in-Message.message) c.in-Message.ensures.told c.in-Message.ensures.coming.0 c.in-Message.ensures.counts c.in-Message.ensures.same c.in-Message.ensures.text)),
   );
 }
 
@@ -34,10 +34,10 @@ returns-in-Ended g c = record {
   leads = λ scene read view x. (
     view.arrived ++ [],
     view.written,
-    subst (λ (h : WebSocketHalf). Invariant scene (state_of g.L.Reads g.L.Counts g.L.Messages c.read_message.new.self) h read (record view { arrived = view.arrived ++ [] })) (sym c.lose.ensures)
-        (lost scene (state_of g.L.Reads g.L.Counts g.L.Messages c.args.line.now) (state_of g.L.Reads g.L.Counts g.L.Messages c.read_message.new.self) c.args.self.now read view x
+    subst (λ (h : WebSocketHalf). Invariant scene (g.L.Line.state c.read_message.new.self) h read (record view { arrived = view.arrived ++ [] })) (sym c.lose.ensures)
+        (lost scene (g.L.Line.state c.args.line.now) (g.L.Line.state c.read_message.new.self) c.args.self.now read view x
         c.requires.running c.requires.opened.0 c.requires.opened.1 c.requires.free got.Ended
-        (has_read _ g.L.Reads g.L.Counts g.L.Messages c.args.line.now c.read_message.new.self got.Ended c.in-Ended.ensures.told c.in-Ended.ensures.coming.0 c.in-Ended.ensures.counts c.in-Ended.ensures.same c.in-Ended.ensures.text) refl refl),
+        (has_read g.L.Line g.L.Reads g.L.Counts g.L.Messages g.met.L.Line.state_is c.args.line.now c.read_message.new.self got.Ended c.in-Ended.ensures.told c.in-Ended.ensures.coming.0 c.in-Ended.ensures.counts c.in-Ended.ensures.same c.in-Ended.ensures.text) refl refl),
   );
 }
 
@@ -46,10 +46,10 @@ returns-in-Failed g c = record {
   leads = λ scene read view x. (
     view.arrived ++ [],
     view.written,
-    subst (λ (h : WebSocketHalf). Invariant scene (state_of g.L.Reads g.L.Counts g.L.Messages c.read_message.new.self) h read (record view { arrived = view.arrived ++ [] })) (sym c.lose-in-Failed.ensures)
-        (lost scene (state_of g.L.Reads g.L.Counts g.L.Messages c.args.line.now) (state_of g.L.Reads g.L.Counts g.L.Messages c.read_message.new.self) c.args.self.now read view x
+    subst (λ (h : WebSocketHalf). Invariant scene (g.L.Line.state c.read_message.new.self) h read (record view { arrived = view.arrived ++ [] })) (sym c.lose-in-Failed.ensures)
+        (lost scene (g.L.Line.state c.args.line.now) (g.L.Line.state c.read_message.new.self) c.args.self.now read view x
         c.requires.running c.requires.opened.0 c.requires.opened.1 c.requires.free got.Failed
-        (has_read _ g.L.Reads g.L.Counts g.L.Messages c.args.line.now c.read_message.new.self got.Failed c.in-Failed.ensures.told c.in-Failed.ensures.coming.0 c.in-Failed.ensures.counts c.in-Failed.ensures.same c.in-Failed.ensures.text) refl refl),
+        (has_read g.L.Line g.L.Reads g.L.Counts g.L.Messages g.met.L.Line.state_is c.args.line.now c.read_message.new.self got.Failed c.in-Failed.ensures.told c.in-Failed.ensures.coming.0 c.in-Failed.ensures.counts c.in-Failed.ensures.same c.in-Failed.ensures.text) refl refl),
   );
 }
 
@@ -58,8 +58,8 @@ returns-in-NoMemory g c = record {
   leads = λ scene read view x. (
     view.arrived ++ [],
     view.written,
-    read_short scene (state_of g.L.Reads g.L.Counts g.L.Messages c.args.line.now) (state_of g.L.Reads g.L.Counts g.L.Messages c.read_message.new.self) c.args.self.now read view x
+    read_short scene (g.L.Line.state c.args.line.now) (g.L.Line.state c.read_message.new.self) c.args.self.now read view x
         c.requires.running c.requires.opened.0 c.requires.opened.1 c.requires.free
-        (has_read _ g.L.Reads g.L.Counts g.L.Messages c.args.line.now c.read_message.new.self got.NoMemory c.in-NoMemory.ensures.told c.in-NoMemory.ensures.coming.0 c.in-NoMemory.ensures.counts c.in-NoMemory.ensures.same c.in-NoMemory.ensures.text),
+        (has_read g.L.Line g.L.Reads g.L.Counts g.L.Messages g.met.L.Line.state_is c.args.line.now c.read_message.new.self got.NoMemory c.in-NoMemory.ensures.told c.in-NoMemory.ensures.coming.0 c.in-NoMemory.ensures.counts c.in-NoMemory.ensures.same c.in-NoMemory.ensures.text),
   );
 }

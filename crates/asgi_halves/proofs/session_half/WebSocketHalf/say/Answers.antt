@@ -1,13 +1,12 @@
 use Rattle.std.proofs.Common.{false}
 use Rattle.asgi_types.specs.declared.scope.Kind.TheVariants.{WebSocket}
-use Rattle.asgi_run.specs.Lines.{state_of}
 use Rattle.asgi_halves.proofs.SessionTakeLemmas.{not_passed, passed, judged_after}
 use Rattle.asgi_halves.proofs.session_half.WebSocketHalf.say.Goals as goal
 
 pub returns-in-Pass : goal.returns-in-Pass
 returns-in-Pass g c = record {
   says = λ scene read view x.
-      let was = state_of g.L.Reads g.L.Counts g.L.Messages c.args.line.now in
+      let was = g.L.Line.state c.args.line.now in
       let half = c.args.self.now in
       let e = c.judge.ensures in
       c.speak.ensures.speaks scene read view half.judge x
@@ -18,7 +17,7 @@ returns-in-Pass g c = record {
 pub returns-in_default : goal.returns-in_default
 returns-in_default g c = record {
   says = λ scene read view x.
-      let was = state_of g.L.Reads g.L.Counts g.L.Messages c.args.line.now in
+      let was = g.L.Line.state c.args.line.now in
       let half = c.args.self.now in
       let e = c.judge.ensures in
       not_passed scene was half read view x c.requires.running c.args.event c.judge.result (λ said. e.verdict WebSocket said false) c.judge.new.self c.in_default.not-Pass e.kept;

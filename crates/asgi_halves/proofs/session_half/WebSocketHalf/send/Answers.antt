@@ -1,12 +1,14 @@
-use Rattle.asgi_run.specs.Lines.{state_of}
+use Rattle.asgi_ws.specs.declared.messages.SentMessage.TheVariants as item
+use Rattle.asgi_halves.proofs.LineCallLemmas.{has_sent}
 use Rattle.asgi_halves.proofs.SessionSayLemmas.{payload_sent}
 use Rattle.asgi_halves.proofs.session_half.WebSocketHalf.send.Goals as goal
 
 pub returns : goal.returns
 returns g c = record {
   speaks = λ scene read view before x pass judged.
-      let e = c.send_message.ensures in
-      payload_sent scene (state_of g.L.Reads g.L.Counts g.L.Messages c.args.line.now) (state_of g.L.Reads g.L.Counts g.L.Messages c.send_message.new.self) c.args.self.now read view before x
-      c.requires.running c.send_message.result (record { left = e.text.0; written = e.text.1; reads = e.text.2; writes = e.text.3 }) e.counts e.same.0 e.same.1 c.args.payload pass judged e.told
+      let call = c.send_message.ensures in
+      let e = has_sent g.L.Line g.L.Reads g.L.Counts g.L.Messages g.met.L.Line.state_is c.args.line.now c.send_message.new.self (item.Payload c.args.payload) c.send_message.result call.told call.counts call.same call.text in
+      payload_sent scene (g.L.Line.state c.args.line.now) (g.L.Line.state c.send_message.new.self) c.args.self.now read view before x
+      c.requires.running c.send_message.result e.text e.count e.coming e.kept c.args.payload pass judged e.told
       c.stage_after-self.result c.stage_after-self.ensures;
 }

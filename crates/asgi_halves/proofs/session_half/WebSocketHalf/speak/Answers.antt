@@ -1,12 +1,11 @@
 use Rattle.std.proofs.Common.{sym, subst}
 use Rattle.asgi_types.specs.declared.outgoing.Outgoing.{Outgoing}
-use Rattle.asgi_run.specs.Lines.{state_of}
 use Rattle.asgi_halves.specs.WebSocketHalf.{Speaks}
 use Rattle.asgi_halves.proofs.session_half.WebSocketHalf.speak.Goals as goal
 
 pub returns-in-WsSend : goal.returns-in-WsSend
 returns-in-WsSend g c = record {
   speaks =
-      subst (λ (e : Outgoing). Speaks (state_of g.L.Reads g.L.Counts g.L.Messages c.args.line.now) c.args.self.now e (state_of g.L.Reads g.L.Counts g.L.Messages c.send.new.line) c.send.new.self)
+      subst (λ (e : Outgoing). Speaks (g.L.Line.state c.args.line.now) c.args.self.now e (g.L.Line.state c.send.new.line) c.send.new.self)
       (sym c.in-WsSend.is) c.send.ensures.speaks;
 }

@@ -1,6 +1,5 @@
 use Rattle.std.proofs.Common.{sym, subst}
 use Rattle.asgi_types.specs.declared.outgoing.Outgoing.{Outgoing}
-use Rattle.asgi_run.specs.Lines.{state_of}
 use Rattle.asgi_halves.specs.WebSocketHalf.{Speaks, said_in}
 use Rattle.asgi_halves.proofs.SessionPassLemmas.{is_in_scope}
 use Rattle.asgi_halves.proofs.SessionTakeLemmas.{none_left}
@@ -9,7 +8,7 @@ use Rattle.asgi_halves.proofs.session_half.WebSocketHalf.speak_of.Goals as goal
 pub returns-in-WsClose : goal.returns-in-WsClose
 returns-in-WsClose g c = record {
   speaks =
-      subst (λ (e : Outgoing). Speaks (state_of g.L.Reads g.L.Counts g.L.Messages c.args.line.now) c.args.self.now e (state_of g.L.Reads g.L.Counts g.L.Messages c.close_by.new.line) c.close_by.new.self)
+      subst (λ (e : Outgoing). Speaks (g.L.Line.state c.args.line.now) c.args.self.now e (g.L.Line.state c.close_by.new.line) c.close_by.new.self)
       (sym c.in-WsClose.is) c.close_by.ensures.speaks;
 }
 

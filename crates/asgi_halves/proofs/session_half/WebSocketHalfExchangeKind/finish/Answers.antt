@@ -1,9 +1,8 @@
-use Rattle.asgi_run.specs.Lines.{state_of}
 use Rattle.asgi_halves.proofs.SessionKindLemmas as law
 use Rattle.asgi_halves.proofs.session_half.WebSocketHalfExchangeKind.finish.Goals as goal
 
 pub returns : goal.returns
 returns g c = record {
   leads =
-      law.alone (state_of g.L.Reads g.L.Counts g.L.Messages c.args.line.now) (state_of g.L.Reads g.L.Counts g.L.Messages c.finish_task.new.line) c.args.self.now c.finish_task.new.self c.finish_task.ensures.leads;
+      law.alone (g.L.Line.state c.args.line.now) (g.L.Line.state c.finish_task.new.line) c.args.self.now c.finish_task.new.self c.finish_task.ensures.leads;
 }

@@ -16,7 +16,6 @@ use Rattle.asgi_run.specs.declared.runner.AppSide.TheVariants.{HasEnded}
 use Rattle.asgi_exchange.proofs.MeetLemmas.{ends_make}
 use Rattle.asgi_conversation.specs.declared.following.NextStep.{NextStep}
 use Rattle.asgi_run.specs.Limits.{IsSettled}
-use Rattle.asgi_run.specs.Lines.{state_of}
 use Rattle.asgi_run.proofs.InlineLemmas as lemma
 use Rattle.asgi_run.proofs.inline.InlineRunner.run.Goals as goal
 
@@ -30,7 +29,7 @@ pub loop-half-init : goal.loop-half-init
 loop-half-init g c = record {
   pair = c.requires.pair;
   goes_on = lemma.goes_nowhere g.T.AppTask.stands g.T.AppTask.answers app_end.ghosts c.args.side c.requires.may;
-  leads = lemma.leads_nowhere g.H.Half.stands (state_of g.L.Reads g.L.Counts g.L.Messages c.args.line.now) c.args.half.now (IsViewOf conn_end.ghosts c.args.end);
+  leads = lemma.leads_nowhere g.H.Half.stands (g.L.Line.state c.args.line.now) c.args.half.now (IsViewOf conn_end.ghosts c.args.end);
   turn_limit = refl;
   idle_limit = refl;
   turned = inl (refl, refl);
@@ -114,8 +113,8 @@ returns-clause-runs g c scene read view s is request =
     let answers = g.T.AppTask.answers in
     let all = lemma.goes_further stands answers app_end.ghosts c.args.side c.loop-half.side (HasEnded app kind) c.loop-half.invariant.goes_on side in
     let x = c.loop-half.invariant.leads scene read view s is in
-    let y = c.abandon.ensures.leads scene (state_of g.L.Reads g.L.Counts g.L.Messages c.loop-half.line) (read ++ x.0) x.1 x.2 x.3 in
-    let now = state_of g.L.Reads g.L.Counts g.L.Messages c.loop-half.line in
+    let y = c.abandon.ensures.leads scene (g.L.Line.state c.loop-half.line) (read ++ x.0) x.1 x.2 x.3 in
+    let now = g.L.Line.state c.loop-half.line in
     let exchange = g.H.Half.exchange scene in
     let of_end = lemma.of_request stands answers app_end.ghosts exchange c.args.side app kind all request in
     let keeps = g.met.H.Half.keeps scene now c.abandon.new.self (read ++ x.0) y.0 y.1 in

@@ -8,7 +8,6 @@ use Rattle.asgi_pipes.specs.contracts.plain_conn.PlainConnConnEnd.TheImpl as con
 use Rattle.asgi_exchange.specs.Calls.{IsViewOf}
 use Rattle.asgi_run.specs.AnyHalf.{PreservesOn}
 use Rattle.asgi_run.specs.Limits.{IsSettled}
-use Rattle.asgi_run.specs.Lines.{state_of}
 use Rattle.asgi_run.specs.Running.{OfEnd, GoesOnAs}
 use Rattle.asgi_run.proofs.inline.InlineRunner.run.Given as goal
 
@@ -16,7 +15,7 @@ abbrev pub invariant-loop-half : goal.invariant-loop-half
 invariant-loop-half g l = record {
   pair : OfEnd l.side (λ app. IsPlainPair l.conn app);
   goes_on : GoesOnAs g.T.AppTask.stands g.T.AppTask.answers app_end.ghosts l.fn.side l.side;
-  leads : PreservesOn g.H.Half.stands (state_of g.L.Reads g.L.Counts g.L.Messages l.fn.line) l.fn.half (IsViewOf conn_end.ghosts l.fn.end) (state_of g.L.Reads g.L.Counts g.L.Messages l.line) l.half (IsViewOf conn_end.ghosts l.conn);
+  leads : PreservesOn g.H.Half.stands (g.L.Line.state l.fn.line) l.fn.half (IsViewOf conn_end.ghosts l.fn.end) (g.L.Line.state l.line) l.half (IsViewOf conn_end.ghosts l.conn);
   turn_limit : l.turns.turn_limit ≡ l.fn.turns.turn_limit;
   idle_limit : l.turns.idle_limit ≡ l.fn.turns.idle_limit;
   turned : ((g.H.Half.following l.half ≡ g.H.Half.following l.fn.half) × (l.turns.turns ≡ l.fn.turns.turns)) ⊎ (l.fn.turns.turns < l.turns.turns);

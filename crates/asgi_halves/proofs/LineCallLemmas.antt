@@ -1,0 +1,76 @@
+-- The calls of a line, by what is known of it before and after.
+use Rattle.std.proofs.Common.{◌≡◌, ℕ, List, [], ◌∷◌, ◌++◌, sym, subst}
+use Rattle.asgi_io.specs.declared.counts.Counts as counts
+use Rattle.asgi_io.specs.declared.reads.Reads as reads
+use Rattle.asgi_ws.specs.declared.line.Line as line
+use Rattle.asgi_ws.specs.declared.messages.Call.TheVariants.{Read, Send}
+use Rattle.asgi_ws.specs.declared.messages.Got.{Got}
+use Rattle.asgi_ws.specs.declared.messages.Messages as messages
+use Rattle.asgi_ws.specs.declared.messages.Put.{Put}
+use Rattle.asgi_ws.specs.declared.messages.SentMessage.{SentMessage}
+use Rattle.asgi_ws.specs.Lines.{LineState, state_of}
+use Rattle.asgi_ws.specs.Sessions.{given_by, is_failed, has_failed, count_after, kept_by, Loses}
+use Rattle.asgi_halves.proofs.TalkLemmas.{LeavesText}
+
+-- a message was read
+pub record HasRead (was now : LineState) (answer : Got) : Type 0 where
+  pub text : LeavesText was now
+  pub told : now.session.calls ≡ was.session.calls ++ Read answer ∷ []
+  pub loses : Loses was.session.coming now.session.coming (given_by answer)
+  pub count : now.failed ≡ count_after was.failed (is_failed answer)
+  pub kept : now.session.leftover ≡ was.session.leftover
+
+-- a message or a close was sent
+pub record HasSent (was now : LineState) (item : SentMessage) (answer : Put) : Type 0 where
+  pub text : LeavesText was now
+  pub told : now.session.calls ≡ was.session.calls ++ Send item answer ∷ []
+  pub count : now.failed ≡ count_after was.failed (has_failed answer)
+  pub coming : now.session.coming ≡ was.session.coming
+  pub kept : now.session.leftover ≡ was.session.leftover
+
+-- the line was switched to messages
+pub record HasUpgraded (was now : LineState) (bytes : List ℕ) : Type 0 where
+  pub text : LeavesText was now
+  pub keeps : now.session.leftover ≡ kept_by was.session.leftover bytes
+  pub count : now.failed ≡ was.failed
+  pub calls : now.session.calls ≡ was.session.calls
+  pub coming : now.session.coming ≡ was.session.coming
+
+module _ {L : Type 0} (G : line.Ghosts L) (R : reads.Ghosts L) (W : counts.Ghosts L) (M : messages.Ghosts L) (told_by : (x : L) → G.state x ≡ state_of R W M x) (old new : L) where
+  -- what holds of the members holds of what is known of the line
+  pub by_state : (P : LineState → LineState → Type 0) → P (state_of R W M old) (state_of R W M new) → P (G.state old) (G.state new)
+  by_state P p = subst (λ (s : LineState). P s (G.state new)) (sym (told_by old)) (subst (λ (s : LineState). P (state_of R W M old) s) (sym (told_by new)) p)
+
+  abbrev SameText : Type 0
+  SameText = (R.remaining new ≡ R.remaining old) × (W.written new ≡ W.written old) × (R.answers new ≡ R.answers old) × (W.answers new ≡ W.answers old)
+
+  -- by the clauses of a line
+  pub has_read : (answer : Got) → M.calls new ≡ M.calls old ++ Read answer ∷ [] → Loses (M.coming old) (M.coming new) (given_by answer)
+      → W.failed new ≡ count_after (W.failed old) (is_failed answer) → M.leftover new ≡ M.leftover old → SameText → HasRead (G.state old) (G.state new) answer
+  has_read answer told loses count kept text = by_state (λ was now. HasRead was now answer) (record {
+    text = record { left = text.0; written = text.1; reads = text.2; writes = text.3 };
+    told = told;
+    loses = loses;
+    count = count;
+    kept = kept;
+  })
+
+  pub has_sent : (item : SentMessage) (answer : Put) → M.calls new ≡ M.calls old ++ Send item answer ∷ [] → W.failed new ≡ count_after (W.failed old) (has_failed answer)
+      → (M.coming new ≡ M.coming old) × (M.leftover new ≡ M.leftover old) → SameText → HasSent (G.state old) (G.state new) item answer
+  has_sent item answer told count same text = by_state (λ was now. HasSent was now item answer) (record {
+    text = record { left = text.0; written = text.1; reads = text.2; writes = text.3 };
+    told = told;
+    count = count;
+    coming = same.0;
+    kept = same.1;
+  })
+
+  pub has_upgraded : (bytes : List ℕ) → M.leftover new ≡ kept_by (M.leftover old) bytes → W.failed new ≡ W.failed old
+      → (M.calls new ≡ M.calls old) × (M.coming new ≡ M.coming old) → SameText → HasUpgraded (G.state old) (G.state new) bytes
+  has_upgraded bytes keeps count same text = by_state (λ was now. HasUpgraded was now bytes) (record {
+    text = record { left = text.0; written = text.1; reads = text.2; writes = text.3 };
+    keeps = keeps;
+    count = count;
+    calls = same.0;
+    coming = same.1;
+  })
