@@ -56,6 +56,6 @@ returns-in-Ok-clause-turn g c =
     let a = c.answer_of-answer.result in (
       a,
       by_state g.L.Line g.L.Reads g.L.Counts g.L.Messages g.met.L.Line.state_is c.args.line.now c.read_some-read.new.self (λ was now. now.reads ≡ was.reads ++ a ∷ [])
-      (told_as _ _ buffer c.read_some-read.result a c.read_some-read.ensures.told (omega (arith, c.read_some-read.auto.buf)) c.answer_of-answer.ensures),
+          (told_as _ _ buffer c.read_some-read.result a c.read_some-read.ensures.told (omega (arith, c.read_some-read.auto.buf)) c.answer_of-answer.ensures),
       c.turn.ensures,
     )
