@@ -1,6 +1,6 @@
 // A library for LD_PRELOAD: some calls of a kind fail, as a system does at a bad moment.
 //
-// FAIL_CALL names the call: accept, setsockopt (where it asks for TCP_NODELAY), getsockname, or pthread_create. FAIL_ERROR is the
+// FAIL_CALL names the call: accept, setsockopt (where it turns TCP_NODELAY on), getsockname, or pthread_create. FAIL_ERROR is the
 // number of its error, FAIL_TIMES how many calls fail, 1 where it is not there, and FAIL_AFTER behind how many, 0 where it is not
 // there.
 #define _GNU_SOURCE
@@ -53,7 +53,8 @@ int setsockopt(int socket, int level, int name, const void *value, socklen_t siz
     static int (*next)(int, int, int, const void *, socklen_t);
     if (!next)
         next = (int (*)(int, int, int, const void *, socklen_t))dlsym(RTLD_NEXT, "setsockopt");
-    return level == IPPROTO_TCP && name == TCP_NODELAY && fails("setsockopt") ? -1 : next(socket, level, name, value, size);
+    int asks = level == IPPROTO_TCP && name == TCP_NODELAY && size >= sizeof(int) && *(const int *)value != 0;
+    return asks && fails("setsockopt") ? -1 : next(socket, level, name, value, size);
 }
 
 int getsockname(int socket, struct sockaddr *address, socklen_t *size)
