@@ -3,10 +3,12 @@
 
 - Want of memory is said only where a growth was refused: no crate builds an `AllocError` itself, but for the two places
   that docs/DECISIONS.md names, where no memory could hold so much, and where a push that was refused answers otherwise.
+- Want of memory is said (`NoMemory`) only right after something was refused, but for the places named here.
 - Nothing is kept from being let go: no `forget`, `leak` or `ManuallyDrop`.
 - A call that has no answer for want of memory takes none: it contains no `with_capacity`, `reserve` or `shrink`.
 - No answer of a call is thrown away, but for what is written on standard error.
 - docs/DECISIONS.md names only tests, edits and files that are there.
+- Each edit of tests/faults still fits its source.
 - The private words of a crate, those of its `specs/private`, are used by no other crate, and by none of its other definitions.
 
 Of the sources, tests are left out. With --self-test it reads small texts of its own, each with one such fault and one without.
@@ -24,10 +26,28 @@ TOP = os.path.dirname(os.path.dirname(os.path.realpath(__file__)))
 BUILDS = {"crates/asgi_apps/src/mounts.rt": 1, "crates/asgi_pipes/src/plain.rt": 1, "crates/asgi_pipes/src/rings.rt": 1, "crates/asgi_response/src/append.rt": 1}
 # Where an answer is thrown away: what can't be written on standard error can be told nowhere.
 THROWS = {"crates/asgi_demo/src/telling.rt": 1}
+# Where want of memory is said and no refusal stands right before it: in a function that is called where one was, and in the
+# record of a call that is made before its result is known.
+SAYS = {"crates/asgi_crew/src/sharing.rt": 1, "crates/asgi_ws/src/calls.rt": 1}
+# What stands right before want of memory: the arm of an error or of another want, the `else` of what was asked, or a test of it.
+REFUSED = [
+    re.compile(r"(?:\bErr\([^()]*(?:\([^()]*\))?\)|NoMemory(?:\([^()]*\))?) =>[^,;]*$"),
+    re.compile(r"\blet (?:Ok|Some)\([^;]*\belse \{[^;{}]*$"),
+    re.compile(r"(?:\.is_err\(\)|\bif let Err\([^;]*) \{[^;{}]*$"),
+]
 # A value of the type: not where it is brought in, nor the end of a type's arguments, nor the field that an error keeps, nor a parameter that is not read.
 BUILT = re.compile(r"(?<!\] )(?<!_: )\bAllocError\b(?!>)")
 GROWS = re.compile(r"\b(with_capacity|reserve|reserve_exact|shrink_to|shrink_to_fit)\s*\(")
 CLAUSE = re.compile(r"\b(ensures|requires|ghost|measure)\b")
+
+
+# Edits of tests/faults, each with a word of what is wrong with it.
+UNFIT = [
+    ("fails: test_a\nfile: tests/run\nold: #!/\nnew: #\n", None),
+    ("fails: test_a\nfile: tests/run\nold: what stands nowhere in it\nnew: x\n", "0 times"),
+    ("fails: test_a\nfile: tests/none\nold: x\nnew: y\n", "tests/none: "),
+    ("file: tests/run\nold: x\nnew: y\n", "form"),
+]
 
 
 def code_of(text):
@@ -65,6 +85,12 @@ def functions_in(code):
             at = end
 
 
+def wants(body):
+    """Returns how often a body says want of memory where no refusal stands right before it. Patterns are left out."""
+    said = [it for it in re.finditer(r"\b\w+::NoMemory\b(?:\([^()]*\))?", body) if not re.match(r"\)*\s*(?:=>|\|[^|])", body[it.end() :])]
+    return sum(not any(it.search(body[: found.start()]) for it in REFUSED) for found in said)
+
+
 def faults_of(path, text):
     """Returns what is wrong with the text of a source."""
     code, faults = code_of(text), []
@@ -75,6 +101,9 @@ def faults_of(path, text):
     for name, answer, body in functions_in(code):
         if "Result<" not in answer:
             faults += [f"{name} has no answer for want of memory, and calls {it}" for it in GROWS.findall(body)]
+    said = sum(wants(body) for name, _, body in functions_in(code) if name != "from")
+    if said != SAYS.get(path, 0):
+        faults.append(f"it says want of memory {said} times where nothing was refused")
     thrown = re.findall(r"\blet _ = [^;(]*\(|\.ok\(\);", code)
     if len(thrown) != THROWS.get(path, 0):
         faults.append(f"it throws {len(thrown)} answers away")
@@ -93,6 +122,15 @@ pub fn grow(held: &mut Vec<u8>) -> Result<(), AllocError>
 fn count(held: &Vec<u8>) -> usize {
     held.len()
 }
+fn end(held: &mut Vec<u8>) -> Outcome {
+    let Ok(()) = grow(held) else {
+        return Outcome::NoMemory;
+    };
+    match grow(held) {
+        Ok(()) => Outcome::Finished,
+        Err(_) => Outcome::NoMemory,
+    }
+}
 """
 # Each fault: what the text of GOOD has, what stands in its place, and a word of what must be said.
 BAD = [
@@ -104,6 +142,8 @@ BAD = [
     ("held.len()", "held.shrink_to_fit()", "count has no answer"),
     ("held.reserve(1)?;", "let _ = held.reserve(1);", "throws"),
     ("held.reserve(1)?;", "held.reserve(1).ok();", "throws"),
+    ("Outcome::Finished,", "Outcome::NoMemory,", "says want of memory 1"),
+    ("held.len()", "if held.len() > 9 { return Outcome::NoMemory; } 0", "says want of memory 1"),
 ]
 
 
@@ -127,7 +167,11 @@ def self_test():
         said = private_uses(path, "use Rattle.a.specs.private.A.{x}\nuse Rattle.b.specs.private.B.{y}\nuse Rattle.b.specs.C.{z}\n")
         if len(said) != count:
             failed.append(f"self-test: of private words in {path} is said: {said}")
-    return failed, 6 + len(BAD)
+    for edit, word in UNFIT:
+        said = unfit(edit, TOP)
+        if (word or said) and (not word or word not in (said or "")):
+            failed.append(f"self-test: of the edit '{edit}' is said: {said}")
+    return failed, 6 + len(BAD) + len(UNFIT)
 
 
 def names_there():
@@ -144,6 +188,19 @@ def unknown_names(text, names):
     """Returns what a text names after 'Shown by:' that is neither a function, nor an edit, nor a file."""
     shown = [name for line in re.findall(r"Shown by: (.*)", text) for name in re.findall(r"`([^`]+)`", line)]
     return [it for it in shown if it not in names and not os.path.exists(f"{TOP}/{it}")]
+
+
+def unfit(edit, root):
+    """Returns what is wrong with an edit of tests/faults: no form of one, or its old text does not stand once in its file."""
+    found = re.fullmatch(r"fails: (\w+)\nfile: (\S+)\nold: (.*)\nnew: (.*)\n", edit)
+    if not found:
+        return "it has not the form of an edit"
+    try:
+        with open(f"{root}/{found[2]}", encoding="utf-8") as it:
+            times = it.read().count(found[3])
+    except OSError as error:
+        return f"{found[2]}: {error.strerror}"
+    return None if times == 1 else f"its old text is in {found[2]} {times} times"
 
 
 def is_source(path):
@@ -169,7 +226,12 @@ def main(words):
         with open(f"{TOP}/docs/DECISIONS.md", encoding="utf-8") as it:
             unknown = unknown_names(it.read(), names_there())
         failed += [f"docs/DECISIONS.md names what is not there: {', '.join(unknown)}"] * bool(unknown)
-        count = len(files) + len(words) + 1
+        edits = sorted(glob.glob("tests/faults/*.edit", root_dir=TOP))
+        for path in edits:
+            with open(f"{TOP}/{path}", encoding="utf-8") as it:
+                said = unfit(it.read(), TOP)
+            failed += [f"{path}: {said}"] * bool(said)
+        count = len(files) + len(words) + len(edits) + 1
     for it in failed:
         print(f"FAILED: {it}")
     print(f"{count - len(failed)} passed, {len(failed)} failed")
