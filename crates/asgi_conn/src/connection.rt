@@ -136,7 +136,8 @@ fn step<A: Application, L: Line, U: Runner<A::Task>, P: Pause>(
     ensures room { IsBetween result → HasRoom tally.new }
     ensures takes { IsBetween result → tally.old.turns.turns < tally.new.turns.turns }
     ensures idle { result ≡ ConnState.Ended Outcome.Idle → IsAtLimit tally.new.turns }
-    ensures counts { (turned : List Turn) (pauses : ℕ) → CountsTurns tally.old.turns.turn_limit tally.old.turns.idle_limit turned pauses (P.count pause.old) tally.old.turns.turns tally.old.turns.idle
+    ensures counts { (turned : List Turn) (pauses : ℕ)
+        → CountsTurns tally.old.turns.turn_limit tally.old.turns.idle_limit turned pauses (P.count pause.old) tally.old.turns.turns tally.old.turns.idle
         → (more : List Turn) × CountsTurns tally.old.turns.turn_limit tally.old.turns.idle_limit (turned ++ more) pauses (P.count pause.new) tally.new.turns.turns tally.new.turns.idle }
     ensures turn_limits { (tally.new.turns.turn_limit ≡ tally.old.turns.turn_limit) × (tally.new.turns.idle_limit ≡ tally.old.turns.idle_limit) }
 {
@@ -312,7 +313,8 @@ fn answer<A: Application, L: Line, U: Runner<A::Task>, P: Pause>(
     ensures room { IsBetween result → HasRoom tally.new }
     ensures takes { IsBetween result → tally.old.turns.turns < tally.new.turns.turns }
     ensures idle { result ≡ ConnState.Ended Outcome.Idle → IsAtLimit tally.new.turns }
-    ensures counts { (turned : List Turn) (pauses : ℕ) → CountsTurns tally.old.turns.turn_limit tally.old.turns.idle_limit turned pauses (P.count pause.old) tally.old.turns.turns tally.old.turns.idle
+    ensures counts { (turned : List Turn) (pauses : ℕ)
+        → CountsTurns tally.old.turns.turn_limit tally.old.turns.idle_limit turned pauses (P.count pause.old) tally.old.turns.turns tally.old.turns.idle
         → (more : List Turn) × CountsTurns tally.old.turns.turn_limit tally.old.turns.idle_limit (turned ++ more) pauses (P.count pause.new) tally.new.turns.turns tally.new.turns.idle }
     ensures turn_limits { (tally.new.turns.turn_limit ≡ tally.old.turns.turn_limit) × (tally.new.turns.idle_limit ≡ tally.old.turns.idle_limit) }
 {
@@ -401,7 +403,8 @@ fn open<A: Application, L: Line, U: Runner<A::Task>, P: Pause>(
         → ConnInvariant (A.answers app.now) scene.limits client server state scene.start (L.state line.new) tally.new result }
     ensures ends { ¬ (IsBetween result) }
     ensures idle { result ≡ ConnState.Ended Outcome.Idle → IsAtLimit tally.new.turns }
-    ensures counts { (turned : List Turn) (pauses : ℕ) → CountsTurns tally.old.turns.turn_limit tally.old.turns.idle_limit turned pauses (P.count pause.old) tally.old.turns.turns tally.old.turns.idle
+    ensures counts { (turned : List Turn) (pauses : ℕ)
+        → CountsTurns tally.old.turns.turn_limit tally.old.turns.idle_limit turned pauses (P.count pause.old) tally.old.turns.turns tally.old.turns.idle
         → (more : List Turn) × CountsTurns tally.old.turns.turn_limit tally.old.turns.idle_limit (turned ++ more) pauses (P.count pause.new) tally.new.turns.turns tally.new.turns.idle }
     ensures turn_limits { (tally.new.turns.turn_limit ≡ tally.old.turns.turn_limit) × (tally.new.turns.idle_limit ≡ tally.old.turns.idle_limit) }
 {

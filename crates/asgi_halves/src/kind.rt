@@ -57,9 +57,11 @@ pub trait ExchangeKind {
     /// dropped.
     fn cut_disconnect(&self) -> Incoming
         ensures event { result ≡ cut_event }
-        ensures waits { (outcome : Outcome) → reached self.now ≡ Stage.Cut outcome → (scene : Scene) (now : LineState) (read : List ℕ) (view later : ConnView In Out) → stands scene now self.now read view
+        ensures waits { (outcome : Outcome) → reached self.now ≡ Stage.Cut outcome
+            → (scene : Scene) (now : LineState) (read : List ℕ) (view later : ConnView In Out) → stands scene now self.now read view
             → IsCutOff cut_event view later → stands scene now self.now read later }
-        ensures drops { (outcome : Outcome) → reached self.now ≡ Stage.Cut outcome → (scene : Scene) (now : LineState) (read : List ℕ) (view : ConnView In Out) (event : Outgoing) → stands scene now self.now read view
+        ensures drops { (outcome : Outcome) → reached self.now ≡ Stage.Cut outcome
+            → (scene : Scene) (now : LineState) (read : List ℕ) (view : ConnView In Out) (event : Outgoing) → stands scene now self.now read view
             → stands scene now self.now read (record view { got = view.got ++ OutItem.Event event ∷ [] }) };
 
     /// Ends the exchange: the connection ends with this outcome, that of the cut if it is cut short.
@@ -71,7 +73,8 @@ pub trait ExchangeKind {
         // the exchange is given up, and the disconnect is offered
         ensures cut { reached self.old ≡ Stage.Cut outcome → (scene : Scene) (now : LineState) (read : List ℕ) (view later : ConnView In Out) → stands scene now self.old read view
             → IsCutOff cut_event view later → stands scene now self.new read later }
-        ensures stops { IsOpen (reached self.old) → outcome ≡ Outcome.Idle → (scene : Scene) (now : LineState) (read : List ℕ) (view later : ConnView In Out) → stands scene now self.old read view
+        ensures stops { IsOpen (reached self.old) → outcome ≡ Outcome.Idle
+            → (scene : Scene) (now : LineState) (read : List ℕ) (view later : ConnView In Out) → stands scene now self.old read view
             → IsCutOff cut_event view later → stands scene now self.new read later };
 
     /// Takes note that the end of the task was taken.

@@ -122,7 +122,8 @@ impl Wire {
     /// write failed, how many did.
     pub fn put<L: Line>(&mut self, line: &mut L) -> Option<usize>
         ensures none { IfNone result (Appends (L.state line.old).written (L.state line.new).written self.old.out.items × RoseBy 0 (L.state line.old).failed (L.state line.new).failed) }
-        ensures some { IfSome result (λ n. (n < length self.old.out.items) × Appends (L.state line.old).written (L.state line.new).written (take n self.old.out.items) × RoseBy 1 (L.state line.old).failed (L.state line.new).failed) }
+        ensures some { IfSome result (λ n. (n < length self.old.out.items)
+            × Appends (L.state line.old).written (L.state line.new).written (take n self.old.out.items) × RoseBy 1 (L.state line.old).failed (L.state line.new).failed) }
         ensures tries { TriesWrites (L.state line.old).writes (L.state line.new).writes (out_of self.old.out.items (how_put result)) (how_put result) }
         ensures reads { ((L.state line.new).left ≡ (L.state line.old).left) × ((L.state line.new).reads ≡ (L.state line.old).reads) }
         ensures session { (L.state line.new).session ≡ (L.state line.old).session }
@@ -138,7 +139,8 @@ impl Wire {
 /// Writes a text. Returns None if all of its bytes went out; if a write failed, how many did.
 pub fn write<L: Line>(line: &mut L, text: &[u8]) -> Option<usize>
     ensures none { IfNone result (Appends (L.state line.old).written (L.state line.new).written text.now × RoseBy 0 (L.state line.old).failed (L.state line.new).failed) }
-    ensures some { IfSome result (λ n. (n < length text.now) × Appends (L.state line.old).written (L.state line.new).written (take n text.now) × RoseBy 1 (L.state line.old).failed (L.state line.new).failed) }
+    ensures some { IfSome result (λ n. (n < length text.now)
+        × Appends (L.state line.old).written (L.state line.new).written (take n text.now) × RoseBy 1 (L.state line.old).failed (L.state line.new).failed) }
     ensures tries { TriesWrites (L.state line.old).writes (L.state line.new).writes (out_of text.now (how_put result)) (how_put result) }
     ensures reads { ((L.state line.new).left ≡ (L.state line.old).left) × ((L.state line.new).reads ≡ (L.state line.old).reads) }
     ensures session { (L.state line.new).session ≡ (L.state line.old).session }

@@ -67,9 +67,12 @@ pub trait Runner<T: AppTask> {
         facts: Facts,
         ring: usize,
     ) -> Result<(<Self::Pipes as Pipes>::Conn, <Self::Pipes as Pipes>::App), NoEnds>
-        ensures inward { IfOk result (λ ends. (Self.Pipes.Conn.offered ends.0 ≡ []) × (Self.Pipes.Conn.is_broken ends.0 ≡ false) × (Self.Pipes.App.heard ends.1 ≡ []) × (Self.Pipes.App.pulled ends.1 ≡ []) × (Self.Pipes.App.seen ends.1 ≡ [])) }
-        ensures outward { IfOk result (λ ends. (Self.Pipes.App.said ends.1 ≡ []) × (Self.Pipes.App.ended ends.1 ≡ None) × (Self.Pipes.Conn.got ends.0 ≡ []) × (Self.Pipes.Conn.seen ends.0 ≡ [])) }
-        ensures places { IfOk result (λ ends. (Self.Pipes.Conn.ring ends.0 ≡ ring) × (Self.Pipes.Conn.room ends.0 ≡ ring) × (Self.Pipes.App.ring ends.1 ≡ ring) × (Self.Pipes.App.room ends.1 ≡ ring)) }
+        ensures inward { IfOk result (λ ends. (Self.Pipes.Conn.offered ends.0 ≡ []) × (Self.Pipes.Conn.is_broken ends.0 ≡ false)
+            × (Self.Pipes.App.heard ends.1 ≡ []) × (Self.Pipes.App.pulled ends.1 ≡ []) × (Self.Pipes.App.seen ends.1 ≡ [])) }
+        ensures outward { IfOk result (λ ends. (Self.Pipes.App.said ends.1 ≡ []) × (Self.Pipes.App.ended ends.1 ≡ None)
+            × (Self.Pipes.Conn.got ends.0 ≡ []) × (Self.Pipes.Conn.seen ends.0 ≡ [])) }
+        ensures places { IfOk result (λ ends. (Self.Pipes.Conn.ring ends.0 ≡ ring) × (Self.Pipes.Conn.room ends.0 ≡ ring)
+            × (Self.Pipes.App.ring ends.1 ≡ ring) × (Self.Pipes.App.room ends.1 ≡ ring)) }
         ensures capacity { IfOk result (λ ends. (Self.Pipes.Conn.capacity ends.0 ≡ (ring + 1, ring + 1)) × (Self.Pipes.App.capacity ends.1 ≡ (ring + 1, ring + 1))) }
         ensures scope { IfOk result (λ ends. (Self.Pipes.App.kind ends.1 ≡ kind) × (Self.Pipes.App.facts ends.1 ≡ facts) × (Self.Pipes.App.has_moved ends.1 ≡ false)) }
         ensures pair { IfOk result (λ ends. Self.Pipes.is_pair ends.0 ends.1) }
