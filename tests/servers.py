@@ -279,6 +279,24 @@ class Program(unittest.TestCase):
             self.assertRegex(lines[0], r"^1 1 (write-failed \d+|input-broke)$")
             self.assertEqual((lines[1:], errors, status), (["2 1 finished"], "", 0))
 
+    def test_a_client_that_aborts_before_it_is_accepted_is_reported_and_the_next_is_served(self):
+        with Server("hello", 3, workers=1) as server:
+            with server.connect() as first:
+                first.sendall(GET)
+                answer = b""
+                while not answer.endswith(GREETING):
+                    answer += first.recv(1 << 16)
+                # The only worker is with the first client while the second one comes, and is gone at once.
+                with server.connect() as second:
+                    second.setsockopt(socket.SOL_SOCKET, socket.SO_LINGER, struct.pack("ii", 1, 0))
+                first.shutdown(socket.SHUT_WR)
+                self.assertEqual(read_all(first), b"")
+            with server.connect() as third:
+                third.sendall(GET)
+                third.shutdown(socket.SHUT_WR)
+                self.assertTrue(read_all(third).endswith(GREETING))
+            self.assertEqual(server.ended(), (["1 1 finished", "2 0 input-broke", "3 1 finished"], "", 0))
+
     def test_a_refused_client_gets_its_text_though_it_sends_on(self):
         with Server("echo") as server:
             with server.connect() as line:
