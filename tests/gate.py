@@ -39,6 +39,8 @@ PARTS = [
     ("tests from outside", ["python3", "tests/faults.py", PROGRAM]),
     ("tests from outside", ["python3", "tests/many.py", PROGRAM]),
     ("tests from outside", ["python3", "tests/keys.py", KEYS]),
+    ("self-tests of the gate's scripts", ["python3", "tests/fuzz.py", "--self-test", PROGRAM]),
+    ("inputs of a fuzzer", ["python3", "tests/fuzz.py", "--seconds", "60", PROGRAM]),
     ("further edits refused", ["python3", "tests/must_fail.py", "--beside"]),
 ]
 SUM = re.compile(r"(\d+) passed, (\d+) failed")
