@@ -7,7 +7,7 @@ use Rattle.tungstenite.specs.Content.{Content}
 use Rattle.tungstenite.specs.Content as wire
 use Rattle.tungstenite.specs.Connection.{Connection, Effect, write_step, close_step}
 use Rattle.tungstenite.specs.declared.error.Error.{Error}
-use Rattle.tungstenite.specs.Failure.{WriteFails}
+use Rattle.tungstenite.specs.Failure.{WriteFails, IsIo}
 use Rattle.std.specs.IoError.{error_kind}
 use Rattle.asgi_io.specs.Answers.{passes}
 use Rattle.tungstenite.specs.declared.error.Error.TheVariants.{Io, ConnectionClosed, OutOfMemory}
@@ -92,6 +92,12 @@ IfFailed put.Done P = ⊤
 IfFailed put.Failed P = P
 IfFailed put.NoMemory P = ⊤
 
+-- this holds if memory was refused
+abbrev pub IfNoMemory : Put → Type 0 → Type 0
+IfNoMemory put.Done P = ⊤
+IfNoMemory put.Failed P = ⊤
+IfNoMemory put.NoMemory P = P
+
 -- the result by the outcome of a send
 abbrev pub IsPutOf : {A : Type 0} → Result A Error → Put → Type 0
 IsPutOf (Ok done) answer = answer ≡ put.Done
@@ -122,10 +128,12 @@ module _ {S : Type 0} where
   AnswersRead remaining (Some s) None answer = ⊥
   AnswersRead remaining (Some s) (Some t) answer = AnswersBy remaining s t answer
 
-  -- a send that the layer refused, or whose bytes the stream did not take
-  abbrev pub IsRefused : Option (Socket (Tap S)) → (Connection → Result Effect FrameError) → Type 0
-  IsRefused None step = ⊤
-  IsRefused (Some s) step = (e : Error) × WriteFails (step s.conn) e × (e ≢ OutOfMemory)
+  -- a send that the layer refused, or whose bytes the stream did not take: then the rest of them waits. The session stays
+  abbrev pub IsRefused : (Tap S → Option (List ℕ)) → Option (Socket (Tap S)) → Option (Socket (Tap S)) → (Connection → Result Effect FrameError) → Type 0
+  IsRefused contents None new step = new ≡ None
+  IsRefused contents (Some s) None step = ⊥
+  IsRefused contents (Some s) (Some t) step =
+      (e : Error) × WriteFails (step s.conn) e × (e ≢ OutOfMemory) × (IsIo e → Writes contents s t (step s.conn))
 
   -- the whole frame was written, after what was waiting
   abbrev pub IsSent : (Tap S → Option (List ℕ)) → Option (Socket (Tap S)) → Option (Socket (Tap S)) → (Connection → Result Effect FrameError) → Type 0
@@ -144,6 +152,11 @@ first_of [] = []
 first_of (bytes ∷ more) = bytes
 
 module _ {S : Type 0} where
+  -- the stream of a line: its own, or that of its session
+  abbrev pub held_by : Option S → Option (Socket (Tap S)) → Option S
+  held_by stream None = stream
+  held_by stream (Some t) = Some t.stream.stream
+
   -- the bytes of a line of text: the stream's own at first, and from `upgrade` on as they were then
   abbrev pub told_by : (S → Option (List ℕ)) → Option S → List S → Option (List ℕ)
   told_by bytes (Some stream) before = bytes stream
