@@ -5,5 +5,6 @@ pub mod Lines
 pub mod Scripts
 pub mod Sessions
 pub mod Sides
+pub mod Streams
 pub mod private
 pub mod Wires

@@ -1,5 +1,5 @@
 -- How a call of a wired line relates to the call of the message layer below it.
-use Rattle.std.specs.Prelude.{◌≡◌, ◌≢◌, ℕ, ◌<◌, List, [], ◌∷◌, Option, Some, None, Result, Ok, Err, ◌⊎◌, ⊤, true}
+use Rattle.std.specs.Prelude.{◌≡◌, ◌≢◌, ℕ, ◌<◌, List, [], ◌∷◌, Option, Some, None, Result, Ok, Err, length, ◌⊎◌, ⊤, true, false}
 use Rattle.asgi_types.specs.declared.incoming.Payload.{Payload}
 use Rattle.asgi_types.specs.declared.incoming.Payload.TheVariants as payload
 use Rattle.tungstenite.specs.declared.message.Message.{Message}
@@ -7,7 +7,7 @@ use Rattle.tungstenite.specs.Content.{Content}
 use Rattle.tungstenite.specs.Content as wire
 use Rattle.tungstenite.specs.Connection.{Connection, Effect, write_step, close_step}
 use Rattle.tungstenite.specs.declared.error.Error.{Error}
-use Rattle.tungstenite.specs.Failure.{WriteFails}
+use Rattle.tungstenite.specs.Failure.{WriteFails, IsIo}
 use Rattle.std.specs.IoError.{error_kind}
 use Rattle.asgi_io.specs.Answers.{passes}
 use Rattle.tungstenite.specs.declared.error.Error.TheVariants.{Io, ConnectionClosed, OutOfMemory}
@@ -15,8 +15,9 @@ use Rattle.websocket.specs.declared.error.Error.{Error as FrameError}
 use Rattle.asgi_ws.specs.declared.tap.Tap.{Tap}
 use Rattle.asgi_ws.specs.declared.tap.Stop.{Stop}
 use Rattle.asgi_ws.specs.declared.tap.Stop.TheVariants as stopped
-use Rattle.tungstenite.specs.Socket.{Socket, Reads, Writes, IsFresh, content_of, byte_count}
+use Rattle.tungstenite.specs.Socket.{Socket, Reads, Writes, IsFresh, content_of}
 use Rattle.websocket.specs.declared.protocol.config.Role.TheVariants.{Server}
+use Rattle.websocket.specs.declared.protocol.config.WebSocketConfig.{WebSocketConfig}
 use Rattle.websocket.specs.CloseCode.{close_code_number, close_code_of}
 use Rattle.asgi_ws.specs.declared.messages.Msg.{Msg}
 use Rattle.asgi_ws.specs.declared.messages.Msg.TheVariants as msg
@@ -34,13 +35,30 @@ message_of (wire.pong s) = msg.Pong
 message_of (wire.close None) = msg.Close None
 message_of (wire.close (Some frame)) = msg.Close (Some (close_code_number frame.0, frame.1))
 
--- the result for a message of the layer: memory may be refused, and a close has at most 123 bytes of reason
+-- text or bytes, which are copied: a ping and a pong are given without their data, and a reason has a place of its own
+abbrev pub TakesMemory : Content → Type 0
+TakesMemory (wire.text s) = ⊤
+TakesMemory (wire.binary s) = ⊤
+TakesMemory (wire.ping s) = ⊥
+TakesMemory (wire.pong s) = ⊥
+TakesMemory (wire.close frame) = ⊥
+
+-- a close with a reason over 123 bytes: with its code it fits into no control frame (RFC 6455, section 5.5)
+abbrev pub HasLongReason : Content → Type 0
+HasLongReason (wire.text s) = ⊥
+HasLongReason (wire.binary s) = ⊥
+HasLongReason (wire.ping s) = ⊥
+HasLongReason (wire.pong s) = ⊥
+HasLongReason (wire.close None) = ⊥
+HasLongReason (wire.close (Some frame)) = 123 < length frame.1
+
+-- the result for a message of the layer: want of memory only if it is copied, and a failure only if its reason is too long
 abbrev pub IsGotOf : Message → Got → Type 0
 IsGotOf given (got.Message m) = m ≡ message_of (content_of given)
 IsGotOf given got.Idle = ⊥
 IsGotOf given got.Ended = ⊥
-IsGotOf given got.Failed = 123 < byte_count given
-IsGotOf given got.NoMemory = ⊤
+IsGotOf given got.Failed = HasLongReason (content_of given)
+IsGotOf given got.NoMemory = TakesMemory (content_of given)
 
 -- the stream was interrupted or would block
 abbrev pub IsPassing : Error → Type 0
@@ -74,6 +92,12 @@ IfFailed put.Done P = ⊤
 IfFailed put.Failed P = P
 IfFailed put.NoMemory P = ⊤
 
+-- this holds if memory was refused
+abbrev pub IfNoMemory : Put → Type 0 → Type 0
+IfNoMemory put.Done P = ⊤
+IfNoMemory put.Failed P = ⊤
+IfNoMemory put.NoMemory P = P
+
 -- the result by the outcome of a send
 abbrev pub IsPutOf : {A : Type 0} → Result A Error → Put → Type 0
 IsPutOf (Ok done) answer = answer ≡ put.Done
@@ -104,10 +128,12 @@ module _ {S : Type 0} where
   AnswersRead remaining (Some s) None answer = ⊥
   AnswersRead remaining (Some s) (Some t) answer = AnswersBy remaining s t answer
 
-  -- a send that the layer refused, or whose bytes the stream did not take
-  abbrev pub IsRefused : Option (Socket (Tap S)) → (Connection → Result Effect FrameError) → Type 0
-  IsRefused None step = ⊤
-  IsRefused (Some s) step = (e : Error) × WriteFails (step s.conn) e × (e ≢ OutOfMemory)
+  -- a send that the layer refused, or whose bytes the stream did not take: then the rest of them waits. The session stays
+  abbrev pub IsRefused : (Tap S → Option (List ℕ)) → Option (Socket (Tap S)) → Option (Socket (Tap S)) → (Connection → Result Effect FrameError) → Type 0
+  IsRefused contents None new step = new ≡ None
+  IsRefused contents (Some s) None step = ⊥
+  IsRefused contents (Some s) (Some t) step =
+      (e : Error) × WriteFails (step s.conn) e × (e ≢ OutOfMemory) × (IsIo e → Writes contents s t (step s.conn))
 
   -- the whole frame was written, after what was waiting
   abbrev pub IsSent : (Tap S → Option (List ℕ)) → Option (Socket (Tap S)) → Option (Socket (Tap S)) → (Connection → Result Effect FrameError) → Type 0
@@ -115,11 +141,22 @@ module _ {S : Type 0} where
   IsSent contents (Some s) None step = ⊥
   IsSent contents (Some s) (Some t) step = Writes contents s t (step s.conn) × (t.output ≡ [])
 
+-- what a session takes: a message of at most 64 MiB, a frame of at most 16 MiB, and no frame that is not masked (RFC 6455, section 5.1)
+pub record HasLimits (config : WebSocketConfig) : Type 0 where
+  pub message : config.max_message_size ≡ Some 67108864
+  pub frame : config.max_frame_size ≡ Some 16777216
+  pub masked : config.accept_unmasked_frames ≡ false
+
 abbrev pub first_of : List (List ℕ) → List ℕ
 first_of [] = []
 first_of (bytes ∷ more) = bytes
 
 module _ {S : Type 0} where
+  -- the stream of a line: its own, or that of its session
+  abbrev pub held_by : Option S → Option (Socket (Tap S)) → Option S
+  held_by stream None = stream
+  held_by stream (Some t) = Some t.stream.stream
+
   -- the bytes of a line of text: the stream's own at first, and from `upgrade` on as they were then
   abbrev pub told_by : (S → Option (List ℕ)) → Option S → List S → Option (List ℕ)
   told_by bytes (Some stream) before = bytes stream
@@ -131,9 +168,11 @@ module _ {S : Type 0} where
   leftover_by (Some stream) kept = None
   leftover_by None kept = Some (first_of kept)
 
-  -- a fresh session of a server on the stream, whose first input is the leftover
-  abbrev pub IsSessionOn : S → List ℕ → Socket (Tap S) → Type 0
-  IsSessionOn stream leftover t = IsFresh (record t { input = [] }) (record { stream = stream; stop = None }) Server × (t.input ≡ leftover)
+  -- a fresh session of a server on the stream, within the limits, whose first input is the leftover
+  pub record IsSessionOn (stream : S) (leftover : List ℕ) (t : Socket (Tap S)) : Type 0 where
+    pub fresh : IsFresh (record t { input = [] }) (record { stream = stream; stop = None }) Server
+    pub input : t.input ≡ leftover
+    pub limits : HasLimits t.conn.config
 
   -- the first upgrade begins a session on the stream
   abbrev pub BeginsSession : Option S → Option S → Option (Socket (Tap S)) → List ℕ → Type 0

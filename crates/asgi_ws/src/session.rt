@@ -1,5 +1,6 @@
 //! The calls of the message layer, on a session that may not have begun.
-ghost use Rattle.asgi_ws.specs.Wires.{AnswersRead, AnswersBy, IsSessionOn, IsSent, IfDone, IfFailed, IsRefused, IsPutOf, payload_step, closing_step};
+ghost use Rattle.std.specs.Prelude.{◌≡◌};
+ghost use Rattle.asgi_ws.specs.Wires.{AnswersRead, AnswersBy, IsSessionOn, IsSent, IfDone, IfFailed, IfNoMemory, IsRefused, IsPutOf, payload_step, closing_step};
 
 use crate::convert::{answer_to, message_with};
 use crate::messages::{Got, Put};
@@ -53,7 +54,8 @@ fn read_next<S: Stream + Drop>(alloc: Global, socket: &mut Session<S>) -> Got
 /// is refused.
 pub fn send<S: Stream + Drop>(session: &mut Option<Session<S>>, payload: Payload) -> Put
     ensures sent { IfDone result (IsSent (λ t. S.contents t.stream) session.old session.new (payload_step payload)) }
-    ensures refused { IfFailed result (IsRefused session.old (payload_step payload)) }
+    ensures refused { IfFailed result (IsRefused (λ t. S.contents t.stream) session.old session.new (payload_step payload)) }
+    ensures memory { IfNoMemory result (session.new ≡ session.old) }
 {
     let Some(socket) = session else {
         return Put::Failed;
@@ -72,7 +74,8 @@ pub fn close<S: Stream + Drop>(
     reason: &Reason,
 ) -> Put
     ensures sent { IfDone result (IsSent (λ t. S.contents t.stream) session.old session.new (closing_step code reason.now)) }
-    ensures refused { IfFailed result (IsRefused session.old (closing_step code reason.now)) }
+    ensures refused { IfFailed result (IsRefused (λ t. S.contents t.stream) session.old session.new (closing_step code reason.now)) }
+    ensures memory { IfNoMemory result (session.new ≡ session.old) }
 {
     let Some(socket) = session else {
         return Put::Failed;

@@ -1,11 +1,13 @@
 //! The stream as the message layer sees it. Once the input ended or failed, reads would block, so that messages can
 //! still be sent; and a write that would block is retried, a bounded number of times.
-ghost use Rattle.std.specs.Prelude.{◌≡◌, None};
-ghost use Rattle.std.specs.Io.{WritesAtMost};
-ghost use Rattle.std.specs.Io.KnownBytes.{WriteAppends, Keeps};
+ghost use Rattle.std.specs.Prelude.{◌≡◌, None, IsSome, false, length};
+ghost use Rattle.std.specs.Io.{ReadsAtMost, WritesAtMost};
+ghost use Rattle.std.specs.Io.KnownBytes.{ReadConsumes, WriteAppends, Keeps};
 ghost use Rattle.std.specs.IoError.{error_kind};
-ghost use Rattle.std.specs.declared.io.ErrorKind.TheVariants.{TimedOut};
-ghost use Rattle.asgi_ws.specs.private.Taps.{Lasts, stop_after, IsLeft, is_stuck};
+ghost use Rattle.std.specs.declared.io.ErrorKind.TheVariants.{TimedOut, WouldBlock};
+ghost use Rattle.asgi_ws.specs.Streams.{FailsWith};
+ghost use Rattle.asgi_ws.specs.Streams as call;
+ghost use Rattle.asgi_ws.specs.private.Taps.{Lasts, stop_after, IsLeft, is_stuck, Tries, ReadsOnce};
 
 use crate::stream::Stream;
 use asgi_io::is_passing;
@@ -73,7 +75,12 @@ fn timed_out() -> io::Error
 impl<S: Stream> Read for Tap<S> {
     ghost remaining = { λ t. S.remaining t.stream };
 
-    fn read(&mut self, buf: &mut [u8]) -> io::Result<usize> {
+    fn read(&mut self, buf: &mut [u8]) -> io::Result<usize>
+        ensures bound { ReadsAtMost result buf.new }
+        ensures bytes { ReadConsumes (S.remaining self.old.stream) (S.remaining self.new.stream) result buf.new }
+        ensures stopped { IsSome self.old.stop → (self.new ≡ self.old) × FailsWith WouldBlock result }
+        ensures reads { self.old.stop ≡ None → ReadsOnce (S.calls self.old.stream) (S.calls self.new.stream) (length buf.new) result self.new.stop }
+    {
         if self.stop.is_some() {
             return Err(io::Error::from(ErrorKind::WouldBlock));
         }
@@ -107,6 +114,7 @@ impl<S: Stream> Write for Tap<S> {
         ensures lasting { Lasts result }
         ensures stops { self.new.stop ≡ stop_after result self.old.stop }
         ensures stuck { IsLeft self.old.stop self.old.stream self.new.stream result }
+        ensures tries { is_stuck self.old.stop ≡ false → Tries (call.Write buf.now) (S.calls self.old.stream) (S.calls self.new.stream) result }
     {
         if self.is_stuck() {
             return Err(timed_out());
@@ -121,6 +129,7 @@ impl<S: Stream> Write for Tap<S> {
         ensures lasting { Lasts result }
         ensures stops { self.new.stop ≡ stop_after result self.old.stop }
         ensures stuck { IsLeft self.old.stop self.old.stream self.new.stream result }
+        ensures tries { is_stuck self.old.stop ≡ false → Tries call.Flush (S.calls self.old.stream) (S.calls self.new.stream) result }
     {
         if self.is_stuck() {
             return Err(timed_out());
@@ -136,6 +145,7 @@ fn write_retrying<S: Stream>(stream: &mut S, bytes: &[u8]) -> io::Result<usize>
     ensures bound { WritesAtMost result bytes.now }
     ensures bytes { WriteAppends (S.contents stream.old) (S.contents stream.new) result bytes.now }
     ensures lasting { Lasts result }
+    ensures tries { Tries (call.Write bytes.now) (S.calls stream.old) (S.calls stream.new) result }
 {
     for _tried in 0..TRIES {
         match stream.write_part(bytes) {
@@ -154,6 +164,7 @@ fn write_retrying<S: Stream>(stream: &mut S, bytes: &[u8]) -> io::Result<usize>
 fn flush_retrying<S: Stream>(stream: &mut S) -> io::Result<()>
     ensures kept { Keeps (S.contents stream.old) (S.contents stream.new) }
     ensures lasting { Lasts result }
+    ensures tries { Tries call.Flush (S.calls stream.old) (S.calls stream.new) result }
 {
     for _tried in 0..TRIES {
         match stream.flush_parts() {

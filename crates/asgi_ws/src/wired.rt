@@ -1,10 +1,14 @@
 //! A line over a stream: text at first, and from `upgrade` on the messages of `tungstenite`.
-ghost use Rattle.std.specs.Prelude.{◌≡◌, length, ◌++◌, [], ◌∷◌, List, ℕ, None, Some, IsSome, IsNone, IsErr};
+ghost use Rattle.std.specs.Prelude.{◌≡◌, length, ◌++◌, [], ◌∷◌, List, ℕ, None, Some, IsSome, IsNone, option_map};
 ghost use Rattle.std.specs.Io.{ReadsAtMost, WritesAtMost};
 ghost use Rattle.std.specs.Io.KnownBytes.{ReadConsumes, WriteAppends};
+ghost use Rattle.std.specs.IoError.{error_kind};
+ghost use Rattle.std.specs.declared.io.ErrorKind.TheVariants.{NotConnected};
 ghost use Rattle.asgi_io.specs.Answers.{answer_of};
 ghost use Rattle.asgi_io.specs.Counting.{CountsFailures};
-ghost use Rattle.asgi_ws.specs.Wires.{told_by, leftover_by};
+ghost use Rattle.asgi_ws.specs.Streams.{Asks, FailsWith};
+ghost use Rattle.asgi_ws.specs.Streams as asked;
+ghost use Rattle.asgi_ws.specs.Wires.{told_by, leftover_by, held_by};
 
 use crate::calls::{Sending, note_read, note_send};
 use crate::line::Line;
@@ -35,7 +39,7 @@ pub struct Wired<S> {
 impl<S> Wired<S> {
     /// A line of text over the stream. Allocates nothing.
     pub fn new(alloc: Global, stream: S) -> Self
-        ensures stream { result.stream ≡ Some stream }
+        ensures stream { (result.stream ≡ Some stream) × (result.session ≡ None) }
         ensures nothing { (result.calls.items ≡ []) × (result.tally.failures ≡ 0) × (result.tally.reads.items ≡ []) × (result.tally.writes.items ≡ []) }
     {
         Wired {
@@ -52,7 +56,9 @@ impl<S> Wired<S> {
 
 impl<S: Drop> Wired<S> {
     /// The stream below, as it is now.
-    pub fn stream(&self) -> Option<&S> {
+    pub fn stream(&self) -> Option<&S>
+        ensures { option_map (λ stream. stream.now) result ≡ held_by self.now.stream self.now.session }
+    {
         match &self.session {
             Some(socket) => Some(&socket.get_ref().stream),
             None => self.stream.as_ref(),
@@ -60,7 +66,9 @@ impl<S: Drop> Wired<S> {
     }
 }
 
-fn closed() -> io::Error {
+fn closed() -> io::Error
+    ensures { error_kind result ≡ NotConnected }
+{
     io::Error::from(ErrorKind::NotConnected)
 }
 
@@ -70,7 +78,8 @@ fn read_text<S: Stream>(stream: &mut Option<S>, buf: &mut [u8]) -> io::Result<us
     ensures bytes { (before : List S) → ReadConsumes (told_by S.remaining stream.old before) (told_by S.remaining stream.new before) result buf.new }
     ensures stays { (before : List S) → told_by S.contents stream.new before ≡ told_by S.contents stream.old before }
     ensures open { (kept : List (List ℕ)) → leftover_by stream.new kept ≡ leftover_by stream.old kept }
-    ensures closed { IsNone stream.old → IsErr result }
+    ensures asks { Asks S.calls stream.old stream.new (asked.Read (length buf.new) result) }
+    ensures closed { IsNone stream.old → FailsWith NotConnected result }
 {
     match stream {
         Some(stream) => stream.read_part(buf),
@@ -84,7 +93,8 @@ fn write_text<S: Stream>(stream: &mut Option<S>, bytes: &[u8]) -> io::Result<usi
     ensures bytes { (before : List S) → WriteAppends (told_by S.contents stream.old before) (told_by S.contents stream.new before) result bytes.now }
     ensures stays { (before : List S) → told_by S.remaining stream.new before ≡ told_by S.remaining stream.old before }
     ensures open { (kept : List (List ℕ)) → leftover_by stream.new kept ≡ leftover_by stream.old kept }
-    ensures closed { IsNone stream.old → IsErr result }
+    ensures asks { Asks S.calls stream.old stream.new (asked.Write bytes.now result) }
+    ensures closed { IsNone stream.old → FailsWith NotConnected result }
 {
     match stream {
         Some(stream) => stream.write_part(bytes),
@@ -115,7 +125,8 @@ impl<S: Stream> Reads for Wired<S> {
         ensures written { told_by S.contents self.new.stream self.new.before.items ≡ told_by S.contents self.old.stream self.old.before.items }
         ensures counts { (self.new.tally.failures ≡ self.old.tally.failures) × (self.new.tally.writes ≡ self.old.tally.writes) }
         ensures session { (self.new.calls ≡ self.old.calls) × (leftover_by self.new.stream self.new.kept.items ≡ leftover_by self.old.stream self.old.kept.items) }
-        ensures closed { IsNone self.old.stream → IsErr result }
+        ensures asks { Asks S.calls self.old.stream self.new.stream (asked.Read (length buf.new) result) }
+        ensures closed { IsNone self.old.stream → FailsWith NotConnected result }
     {
         let read = read_text(&mut self.stream, buf);
         self.tally.note_read(&read, buf.len());
@@ -152,7 +163,8 @@ impl<S: Stream> Counts for Wired<S> {
         ensures remaining { told_by S.remaining self.new.stream self.new.before.items ≡ told_by S.remaining self.old.stream self.old.before.items }
         ensures reads { self.new.tally.reads ≡ self.old.tally.reads }
         ensures session { (self.new.calls ≡ self.old.calls) × (leftover_by self.new.stream self.new.kept.items ≡ leftover_by self.old.stream self.old.kept.items) }
-        ensures closed { IsNone self.old.stream → IsErr result }
+        ensures asks { Asks S.calls self.old.stream self.new.stream (asked.Write bytes.now result) }
+        ensures closed { IsNone self.old.stream → FailsWith NotConnected result }
     {
         let wrote = write_text(&mut self.stream, bytes);
         self.tally.note_write(&wrote, bytes);
@@ -170,7 +182,7 @@ impl<S: Stream + Drop> Messages for Wired<S> {
     ghost use Rattle.asgi_ws.specs.declared.messages.SentMessage.TheVariants as item;
     ghost use Rattle.asgi_ws.specs.declared.messages.Call.TheVariants as call;
     ghost use Rattle.asgi_ws.specs.Sessions.{is_failed, has_failed, count_after};
-    ghost use Rattle.asgi_ws.specs.Wires.{AnswersRead, IsSent, IfDone, IfFailed, IsRefused, payload_step, closing_step};
+    ghost use Rattle.asgi_ws.specs.Wires.{AnswersRead, IsSent, IfDone, IfFailed, IfNoMemory, IsRefused, payload_step, closing_step};
 
     ghost calls = { λ w. w.calls.items };
 
@@ -180,7 +192,7 @@ impl<S: Stream + Drop> Messages for Wired<S> {
 
     fn read_message(&mut self) -> Got
         ensures answers { IsNone self.old.stream → AnswersRead (λ t. S.remaining t.stream) self.old.session self.new.session result }
-        ensures shut { IsSome self.old.stream → result ≡ got.Failed }
+        ensures shut { IsSome self.old.stream → (result ≡ got.Failed) × (self.new.session ≡ self.old.session) }
         ensures kept { self.new.calls.items ≡ self.old.calls.items ++ call.Read result ∷ [] }
         ensures after { self.new.tally.failures ≡ count_after self.old.tally.failures (is_failed result) }
         ensures stays { (self.new.stream ≡ self.old.stream) × (self.new.before ≡ self.old.before) × (self.new.kept ≡ self.old.kept)
@@ -199,8 +211,9 @@ impl<S: Stream + Drop> Messages for Wired<S> {
 
     fn send_message(&mut self, payload: Payload) -> Put
         ensures sent { IfDone result (IsSent (λ t. S.contents t.stream) self.old.session self.new.session (payload_step payload)) }
-        ensures refused { IsNone self.old.stream → IfFailed result (IsRefused self.old.session (payload_step payload)) }
-        ensures shut { IsSome self.old.stream → result ≡ put.Failed }
+        ensures refused { IsNone self.old.stream → IfFailed result (IsRefused (λ t. S.contents t.stream) self.old.session self.new.session (payload_step payload)) }
+        ensures memory { IfNoMemory result (self.new.session ≡ self.old.session) }
+        ensures shut { IsSome self.old.stream → (result ≡ put.Failed) × (self.new.session ≡ self.old.session) }
         ensures kept { self.new.calls.items ≡ self.old.calls.items ++ call.Send (item.Payload payload) result ∷ [] }
         ensures after { self.new.tally.failures ≡ count_after self.old.tally.failures (has_failed result) }
         ensures stays { (self.new.stream ≡ self.old.stream) × (self.new.before ≡ self.old.before) × (self.new.kept ≡ self.old.kept)
@@ -218,8 +231,9 @@ impl<S: Stream + Drop> Messages for Wired<S> {
 
     fn send_close(&mut self, code: u16, reason: Reason) -> Put
         ensures sent { IfDone result (IsSent (λ t. S.contents t.stream) self.old.session self.new.session (closing_step code reason)) }
-        ensures refused { IsNone self.old.stream → IfFailed result (IsRefused self.old.session (closing_step code reason)) }
-        ensures shut { IsSome self.old.stream → result ≡ put.Failed }
+        ensures refused { IsNone self.old.stream → IfFailed result (IsRefused (λ t. S.contents t.stream) self.old.session self.new.session (closing_step code reason)) }
+        ensures memory { IfNoMemory result (self.new.session ≡ self.old.session) }
+        ensures shut { IsSome self.old.stream → (result ≡ put.Failed) × (self.new.session ≡ self.old.session) }
         ensures kept { self.new.calls.items ≡ self.old.calls.items ++ call.Send (item.Close code reason) result ∷ [] }
         ensures after { self.new.tally.failures ≡ count_after self.old.tally.failures (has_failed result) }
         ensures stays { (self.new.stream ≡ self.old.stream) × (self.new.before ≡ self.old.before) × (self.new.kept ≡ self.old.kept)
