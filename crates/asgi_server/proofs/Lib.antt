@@ -1,1 +1,2 @@
+pub mod AcceptLemmas
 pub mod StationLemmas

@@ -1,2 +1,3 @@
-pub mod private
+pub mod Accepting
+pub mod Arrivals
 pub mod Connections

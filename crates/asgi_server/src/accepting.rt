@@ -1,8 +1,11 @@
 //! How a connection is accepted, passing over those that are lost and waiting out a want of descriptors (accept(2)).
 ghost use Rattle.std.specs.Prelude.{◌≡◌};
 ghost use Rattle.std.specs.IoError.{raw_os_error, error_kind};
-ghost use Rattle.asgi_server.specs.private.Accepting.{fault_of, fault_of_code, fault_of_kind};
+ghost use Rattle.asgi_server.specs.Accepting.{fault_of, fault_of_code, fault_of_kind};
+ghost use Rattle.asgi_server.specs.Arrivals.{Accepts, AcceptsUntil, fault_in};
+ghost use Rattle.asgi_server.specs.declared.accepting.Fault.TheVariants.{Short};
 
+use crate::system::Calls;
 use std::io::{self, ErrorKind};
 use std::net::{OpenListener, SocketAddr};
 use std::thread;
@@ -73,34 +76,42 @@ fn fault_of_kind(kind: ErrorKind) -> Fault
 pub fn accept_on<H: Clock, L: OpenListener>(
     clock: &H,
     listener: &L,
-) -> io::Result<(L::Stream, SocketAddr)> {
+    calls: &mut Calls<L::Stream>,
+) -> io::Result<(L::Stream, SocketAddr)>
+    ensures accepts { Accepts calls.old.accepted.items calls.new.accepted.items result }
+    ensures others { (calls.new.bound ≡ calls.old.bound) × (calls.new.named ≡ calls.old.named) }
+{
     for _lost in 0..LOST_IN_A_ROW {
-        match accept_in_time(clock, listener) {
+        match accept_in_time(clock, listener, calls) {
             Ok(accepted) => return Ok(accepted),
-            Err(e) => {
-                if fault_of(&e) != Fault::Passing {
-                    return Err(e);
-                }
-            }
+            Err(e) => match fault_of(&e) {
+                Fault::Passing => {}
+                Fault::Short => return Err(e),
+                Fault::Lasting => return Err(e),
+            },
         }
     }
-    listener.accept()
+    calls.accept(listener)
 }
 
+/// Accepts a connection, or answers that one is lost. A want of descriptors or memory is waited out.
 fn accept_in_time<H: Clock, L: OpenListener>(
     clock: &H,
     listener: &L,
-) -> io::Result<(L::Stream, SocketAddr)> {
+    calls: &mut Calls<L::Stream>,
+) -> io::Result<(L::Stream, SocketAddr)>
+    ensures accepts { AcceptsUntil (λ e. ¬ (fault_in e ≡ Short)) calls.old.accepted.items calls.new.accepted.items result }
+    ensures others { (calls.new.bound ≡ calls.old.bound) × (calls.new.named ≡ calls.old.named) }
+{
     for _short in 0..SHORT_IN_A_ROW {
-        match listener.accept() {
+        match calls.accept(listener) {
             Ok(accepted) => return Ok(accepted),
-            Err(e) => {
-                if fault_of(&e) != Fault::Short {
-                    return Err(e);
-                }
-                thread::sleep(clock, Duration::from_millis(SHORT_WAIT));
-            }
+            Err(e) => match fault_of(&e) {
+                Fault::Short => thread::sleep(clock, Duration::from_millis(SHORT_WAIT)),
+                Fault::Passing => return Err(e),
+                Fault::Lasting => return Err(e),
+            },
         }
     }
-    listener.accept()
+    calls.accept(listener)
 }

@@ -3,11 +3,13 @@
 
 mod accepting;
 mod listener;
+mod peers;
 mod serving;
 mod sharing;
 mod socket;
 mod sockets;
 mod station;
+mod system;
 mod waiting;
 
 pub use asgi_crew::{End, Shared, Teller, Workers};

@@ -1,16 +1,19 @@
 //! Connections from a socket of the system.
-ghost use Rattle.std.specs.Prelude.{◌≡◌, ◌+◌, ◌++◌, ◌∷◌, [], ◌⊎◌, true, false, List, Option, None, IfSome, IfNone};
+ghost use Rattle.std.specs.Prelude.{◌≡◌, ◌+◌, ◌++◌, ◌∷◌, [], ◌⊎◌, true, false, List, Option, None, is_some, IfSome, IfNone, IfOk, IsOk};
+ghost use Rattle.asgi_server.specs.Arrivals.{Arrives, Binds};
 ghost use Rattle.asgi_server.specs.Connections.{Given};
 
 use crate::accepting::accept_on;
 use crate::listener::{Accepts, Listener};
+use crate::peers::{loopback, sides_of};
 use crate::socket::Socket;
+use crate::system::Calls;
 use asgi_io::History;
-use asgi_types::{Chars, Peer};
+use asgi_types::Peer;
 use asgi_ws::Wired;
-use std::alloc::{Alloc, Global};
+use std::alloc::Global;
 use std::io;
-use std::net::{Ipv4Addr, Net, OpenStream, SocketAddr, TcpListener};
+use std::net::Net;
 use std::time::Clock;
 
 /// A connection over a socket: its line, the client and the server.
@@ -35,6 +38,7 @@ pub struct Sockets<'a, R: Net + Clock> {
     waits: bool,
     listener: Option<R::Listener>,
     has_failed: bool,
+    calls: Calls<R::Stream>,
     told: History<Option<OverSocket<'a, R>>>,
 }
 
@@ -53,6 +57,7 @@ impl<'a, R: Net + Clock> Sockets<'a, R> {
             waits: true,
             listener: None,
             has_failed: false,
+            calls: Calls::new(),
             told: History::new(),
         }
     }
@@ -86,6 +91,8 @@ impl<'a, R: Net + Clock> Sockets<'a, R> {
         ensures none { IfNone result ((self.new.left ≡ self.old.left) × ((self.old.left ≡ 0) ⊎ (self.new.has_failed ≡ true))) }
         ensures failed { self.old.has_failed ≡ true → result ≡ None }
         ensures told { self.new.told ≡ self.old.told }
+        ensures bound { IfSome result (λ _. Binds (is_some self.old.listener) self.old.port self.old.calls.bound.items self.new.calls.bound.items) }
+        ensures arrives { IfSome result (λ given. Arrives self.old.calls.accepted.items self.new.calls.accepted.items self.old.calls.named.items self.new.calls.named.items given) }
     {
         if self.has_failed {
             return None;
@@ -105,35 +112,38 @@ impl<'a, R: Net + Clock> Sockets<'a, R> {
         }
     }
 
+    /// Opens the socket of the port, if it isn't open yet.
+    fn open(&mut self) -> io::Result<()>
+        ensures told { self.new.told ≡ self.old.told }
+        ensures left { (self.new.left ≡ self.old.left) × (self.new.has_failed ≡ self.old.has_failed) }
+        ensures open { IsOk result → is_some self.new.listener ≡ true }
+        ensures bound { Binds (is_some self.old.listener) self.old.port self.old.calls.bound.items self.new.calls.bound.items }
+        ensures others { (self.new.calls.accepted ≡ self.old.calls.accepted) × (self.new.calls.named ≡ self.old.calls.named) }
+    {
+        if self.listener.is_some() {
+            return Ok(());
+        }
+        let socket = self.calls.bind(self.rt, loopback(self.port))?;
+        self.listener = Some(socket);
+        Ok(())
+    }
+
     fn accept_one(&mut self) -> io::Result<OverSocket<'a, R>>
         ensures told { self.new.told ≡ self.old.told }
         ensures left { (self.new.left ≡ self.old.left) × (self.new.has_failed ≡ self.old.has_failed) }
+        ensures bound { Binds (is_some self.old.listener) self.old.port self.old.calls.bound.items self.new.calls.bound.items }
+        ensures arrives { IfOk result (λ given. Arrives self.old.calls.accepted.items self.new.calls.accepted.items self.old.calls.named.items self.new.calls.named.items given) }
     {
-        if self.listener.is_none() {
-            let address = SocketAddr::from((Ipv4Addr::LOCALHOST, self.port));
-            self.listener = Some(TcpListener::bind(self.rt, address)?);
-        }
+        self.open()?;
         let Some(listener) = &self.listener else {
             unreachable!()
         };
-        let (stream, client) = accept_on(self.rt, listener)?;
-        let client = peer_of(self.alloc, client);
-        let server = match stream.local_addr() {
-            Ok(address) => peer_of(self.alloc, address),
-            Err(_) => None,
-        };
+        let (stream, from) = accept_on(self.rt, listener, &mut self.calls)?;
+        let own = self.calls.name(&stream);
+        let (client, server) = sides_of(self.alloc, from, own);
         let line = Wired::new(self.alloc, Socket::new(self.rt, stream, self.waits));
         Ok((line, client, server))
     }
-}
-
-/// The peer at this address, if memory suffices for it.
-fn peer_of(alloc: Global, address: SocketAddr) -> Option<Peer> {
-    let host = format!(in alloc; "{}", address.ip()).ok()?;
-    Some(Peer {
-        host: Chars::new(host),
-        port: address.port(),
-    })
 }
 
 impl<'a, R: Net + Clock> Listener for Sockets<'a, R> {
@@ -146,6 +156,8 @@ impl<'a, R: Net + Clock> Listener for Sockets<'a, R> {
         ensures some { IfSome result (λ _. (self.old.left ≡ self.new.left + 1) × (self.new.has_failed ≡ false)) }
         ensures none { IfNone result ((self.new.left ≡ self.old.left) × ((self.old.left ≡ 0) ⊎ (self.new.has_failed ≡ true))) }
         ensures failed { self.old.has_failed ≡ true → result ≡ None }
+        ensures bound { IfSome result (λ _. Binds (is_some self.old.listener) self.old.port self.old.calls.bound.items self.new.calls.bound.items) }
+        ensures arrives { IfSome result (λ given. Arrives self.old.calls.accepted.items self.new.calls.accepted.items self.old.calls.named.items self.new.calls.named.items given) }
     {
         let given = self.accept();
         self.told = History::with(&self.told, &given);

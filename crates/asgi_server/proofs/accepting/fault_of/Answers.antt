@@ -2,7 +2,7 @@ use Rattle.std.proofs.Common.{rules, ap, ◌∙◌, w32}
 use Rattle.std.proofs.lemmas.Int.{to_z-of_z}
 use Rattle.std.specs.Int.RustNames.{FitsSigned}
 use Rattle.std.specs.IoError.{error_kind}
-use Rattle.asgi_server.specs.private.Accepting.{fault_of, fault_of_code}
+use Rattle.asgi_server.specs.Accepting.{fault_of, fault_of_code}
 use Rattle.asgi_server.proofs.accepting.fault_of.Goals as goal
 
 pub returns-in-Some : goal.returns-in-Some

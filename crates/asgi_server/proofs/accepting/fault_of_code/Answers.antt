@@ -1,7 +1,7 @@
 use Rattle.std.proofs.Common.{◌≡◌, ap, ap₂, sym, subst, ◌∙◌, to_z, of_z, w32}
 use Rattle.std.proofs.lemmas.Int.{to_z-of_z}
 use Rattle.asgi_server.specs.declared.accepting.Fault.TheVariants.{Passing, Short, Lasting}
-use Rattle.asgi_server.specs.private.Accepting.{short, is_among, fault_by, fault_of_code}
+use Rattle.asgi_server.specs.Accepting.{short, is_among, fault_by, fault_of_code}
 use Rattle.asgi_server.proofs.accepting.fault_of_code.Goals as goal
 
 pub returns-then-contains : goal.returns-then-contains
