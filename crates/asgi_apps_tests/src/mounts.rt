@@ -158,6 +158,37 @@ fn paths_are_found_by_number(rt: HostRuntime) -> Result<(), Fail> {
     Ok(())
 }
 
+/// Forty prefixes, none under another one.
+const FORTY: &[&str] = &[
+    "/00", "/01", "/02", "/03", "/04", "/05", "/06", "/07", "/08", "/09", "/10", "/11", "/12",
+    "/13", "/14", "/15", "/16", "/17", "/18", "/19", "/20", "/21", "/22", "/23", "/24", "/25",
+    "/26", "/27", "/28", "/29", "/30", "/31", "/32", "/33", "/34", "/35", "/36", "/37", "/38",
+    "/39",
+];
+
+/// The number of the first prefix whose path goes to another application than its own.
+fn first_elsewhere(mounts: &Mounts<RootPath>, prefixes: &[&str]) -> Option<usize> {
+    for (at, prefix) in prefixes.iter().enumerate() {
+        if mounts.find(prefix, "") != Some(at) {
+            return Some(at);
+        }
+    }
+    None
+}
+
+/// The same if all of these are mounted, in their order.
+fn first_lost(alloc: Global, prefixes: &[&str]) -> Result<Option<usize>, MountError> {
+    let mounts = mounted(alloc, prefixes)?;
+    Ok(first_elsewhere(&mounts, prefixes))
+}
+
+#[test]
+fn each_of_nine_and_of_forty_mounts_is_found(rt: HostRuntime) -> Result<(), Fail> {
+    assert_eq!(rt; first_lost(rt.alloc(), &FORTY[..9]), Ok(None));
+    assert_eq!(rt; first_lost(rt.alloc(), FORTY), Ok(None));
+    Ok(())
+}
+
 /// A prefix, and what mounting it after those before it returns.
 const PREFIXES: &[(&str, Result<(), MountError>)] = &[
     ("a", Err(MountError::BadPrefix)),

@@ -2,6 +2,12 @@
 #![tactic(auto)]
 
 #[cfg(test)]
+mod calls;
+#[cfg(test)]
 mod conversation;
+#[cfg(test)]
+mod idle;
+#[cfg(test)]
+mod sizes;
 #[cfg(test)]
 mod turns;

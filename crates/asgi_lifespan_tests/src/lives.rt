@@ -42,7 +42,7 @@ use Step::{
 
 /// An application whose task takes these steps, and then waits for good.
 #[derive(Clone, Copy, Debug)]
-pub struct Scripted(&'static [Step]);
+pub struct Scripted(pub &'static [Step]);
 
 #[derive(Drop)]
 pub struct ScriptedTask {
@@ -291,7 +291,7 @@ pub fn run<R: RandomSource + AllocGlobal, A: Application>(
 }
 
 /// The limits of a row: idle turns in a row, and turns.
-fn limits(idle_turns: u32, turns: u64) -> Limits {
+pub fn limits(idle_turns: u32, turns: u64) -> Limits {
     match Limits::new(64, 1, 0, 1, 2, idle_turns, turns) {
         Ok(limits) => limits,
         Err(_) => Limits::usual(),
@@ -332,7 +332,7 @@ fn check<R: Abort + RandomSource + AllocGlobal>(rt: &R, rows: &[Row]) -> Result<
     Ok(())
 }
 
-const AMPLE: (u32, u64) = (3, 100);
+pub const AMPLE: (u32, u64) = (3, 100);
 
 pub const STARTED: &[Row] = &[
     (
@@ -455,6 +455,23 @@ fn answers_of<R: RandomSource + AllocGlobal, A: Application>(
 fn call_that_faults_is_unsupported(rt: HostRuntime) -> Result<(), Fail> {
     let answers = answers_of(&rt, &Refuses)?;
     assert_eq!(rt; answers, (Told::Unsupported, Told::Nothing, 0));
+    Ok(())
+}
+
+/// As many events wait each way as limits allow.
+const GREATEST_RING: usize = 1_024;
+
+/// Starts and stops the application of the first row, with this many places each way.
+fn answers_over<R: RandomSource + AllocGlobal>(rt: &R, ring: usize) -> Result<Answers, Fail> {
+    let solo = solo_of(rt)?;
+    let limits = Limits::new(64, 1, 0, 1, ring, 3, 100)?;
+    Ok(run(rt, &solo, &limits, &Scripted(STARTED[0].0)))
+}
+
+#[test]
+fn a_life_over_the_greatest_ring(rt: HostRuntime) -> Result<(), Fail> {
+    let answers = answers_over(&rt, GREATEST_RING)?;
+    assert_eq!(rt; answers, STARTED[0].2);
     Ok(())
 }
 

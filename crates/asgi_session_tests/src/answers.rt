@@ -218,6 +218,41 @@ fn a_handshake_is_accepted(rt: HostRuntime) -> Result<(), Fail> {
     check_crossing(&rt, ACCEPTS, ACCEPTS_CROSSED)
 }
 
+/// A field whose line has 32 bytes.
+const FIELD: (&str, &str) = ("x-a", "0123456789abcdefghijklmno");
+
+/// Eight of its lines.
+const EIGHT: &[u8] =
+    b"x-a: 0123456789abcdefghijklmno\r\nx-a: 0123456789abcdefghijklmno\r\nx-a: 0123456789abcdefghijklmno\r\nx-a: 0123456789abcdefghijklmno\r\nx-a: 0123456789abcdefghijklmno\r\nx-a: 0123456789abcdefghijklmno\r\nx-a: 0123456789abcdefghijklmno\r\nx-a: 0123456789abcdefghijklmno\r\n";
+
+/// The front of the response that accepts the handshake, which its own fields follow.
+const ACCEPTED_FRONT: &[u8] =
+    b"HTTP/1.1 101 Switching Protocols\r\nupgrade: websocket\r\nconnection: Upgrade\r\nsec-websocket-accept: s3pPLMBiTxaQ9kYGzzhZRbK+xOo=\r\n";
+
+/// The application adds 64 fields, of 2,048 bytes, and receives that the client is gone.
+const MANY_FIELDS: &[Row] = &[(
+    App::Scripted(&[CONNECTS, Step::Says(Said::Accept("", &[FIELD; 64])), LOSES]),
+    &[HANDSHAKE],
+    Written::Just(&[
+        ACCEPTED_FRONT,
+        EIGHT,
+        EIGHT,
+        EIGHT,
+        EIGHT,
+        EIGHT,
+        EIGHT,
+        EIGHT,
+        EIGHT,
+        b"\r\n",
+    ]),
+    (Outcome::InputBroke, 1, 0),
+)];
+
+#[test]
+fn an_accept_has_2_kib_of_fields(rt: HostRuntime) -> Result<(), Fail> {
+    check(&rt, MANY_FIELDS)
+}
+
 /// Requests before the handshake, and all of it in one read.
 const AFTER_REQUESTS: &[Row] = &[
     (

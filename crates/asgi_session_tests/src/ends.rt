@@ -522,6 +522,24 @@ fn a_message_waits_for_a_place(rt: HostRuntime) -> Result<(), Fail> {
     Ok(())
 }
 
+/// More texts than there may be places.
+const CROWD: Row = (
+    App::WsEcho,
+    &[Given::Text("a"); 1_100],
+    &[Out::Text("a"); 1_100],
+    (Outcome::InputBroke, 0),
+);
+
+#[test]
+fn a_session_over_1024_places_is_echoed(rt: HostRuntime) -> Result<(), Fail> {
+    let limits = Limits::new(16_384, 64, 0, 1, 1_024, 30_000, 1_000_000)?;
+    for way in BOTH {
+        let read = reads(&rt, *way, &limits, &CROWD)?;
+        assert_eq!(rt; read, Some(1_100));
+    }
+    Ok(())
+}
+
 fn limits_with(idle_turns: u32, turns: u64) -> Result<Limits, BadLimit> {
     Limits::new(16_384, 64, 0, 1, 2, idle_turns, turns)
 }

@@ -14,6 +14,8 @@ mod ends;
 #[cfg(test)]
 mod frames;
 #[cfg(test)]
+mod lost;
+#[cfg(test)]
 mod memory;
 #[cfg(test)]
 mod reads;
@@ -23,6 +25,8 @@ mod rows;
 mod scripts;
 #[cfg(test)]
 mod serving;
+#[cfg(test)]
+mod sizes;
 #[cfg(test)]
 mod texts;
 #[cfg(test)]

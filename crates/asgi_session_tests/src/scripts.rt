@@ -53,14 +53,16 @@ pub fn script_of(alloc: Global, text: Parts, given: &[Given]) -> Result<Script, 
     Ok(Script::new(alloc, pieces, turns))
 }
 
-fn one_piece(alloc: Global, text: Parts) -> Result<VecDeque<ScriptBytes>, AllocError> {
+/// This text in one piece.
+pub fn one_piece(alloc: Global, text: Parts) -> Result<VecDeque<ScriptBytes>, AllocError> {
     let bytes = joined(alloc, b"", text)?;
     let mut pieces = VecDeque::new(alloc);
     pieces.push_back(ScriptBytes::Bytes(bytes))?;
     Ok(pieces)
 }
 
-fn turns_of(alloc: Global, given: &[Given]) -> Result<VecDeque<ScriptRead>, AllocError> {
+/// A read for each of these.
+pub fn turns_of(alloc: Global, given: &[Given]) -> Result<VecDeque<ScriptRead>, AllocError> {
     let mut turns = VecDeque::new(alloc);
     add_turns(&mut turns, alloc, given)?;
     Ok(turns)
