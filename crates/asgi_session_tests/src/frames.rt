@@ -274,54 +274,33 @@ fn faulty_frames_are_not_heard(rt: HostRuntime) -> Result<(), Fail> {
     check_sessions(&rt, FAULTY)
 }
 
-/// Adds this many bytes, in rows of `row`.
-fn add_bytes(text: &mut Vec<u8>, count: usize, row: usize) -> Result<(), AllocError> {
+/// Adds this many bytes.
+fn add_bytes(text: &mut Vec<u8>, count: usize) -> Result<(), AllocError> {
     for at in 0..count {
-        text.push((at % row.max(1)) as u8)?;
+        text.push((at % 251) as u8)?;
     }
     Ok(())
 }
 
-/// How many bytes a message has, in rows of how many, and the head of its frame: that of the client, with the key 0, and
-/// that of the server.
-type Head = (usize, usize, &'static [u8], &'static [u8]);
+/// How many bytes a message has, and the head of its frame: that of the client, with the key 0, and that of the server.
+type Head = (usize, &'static [u8], &'static [u8]);
 
-/// On both sides of each form of a length (5.2), and far above: 100,000 is 186a0 in hexadecimal. The last one is a text,
-/// each of whose bytes is a character (RFC 3629, section 3).
+/// On both sides of each form of a length (5.2).
 const LONG: &[Head] = &[
-    (125, 251, b"\x82\xfd\0\0\0\0", b"\x82\x7d"),
-    (126, 251, b"\x82\xfe\x00\x7e\0\0\0\0", b"\x82\x7e\x00\x7e"),
-    (256, 251, b"\x82\xfe\x01\x00\0\0\0\0", b"\x82\x7e\x01\x00"),
-    (
-        65_535,
-        251,
-        b"\x82\xfe\xff\xff\0\0\0\0",
-        b"\x82\x7e\xff\xff",
-    ),
+    (125, b"\x82\xfd\0\0\0\0", b"\x82\x7d"),
+    (126, b"\x82\xfe\x00\x7e\0\0\0\0", b"\x82\x7e\x00\x7e"),
+    (256, b"\x82\xfe\x01\x00\0\0\0\0", b"\x82\x7e\x01\x00"),
+    (65_535, b"\x82\xfe\xff\xff\0\0\0\0", b"\x82\x7e\xff\xff"),
     (
         65_536,
-        251,
         b"\x82\xff\0\0\0\0\0\x01\0\0\0\0\0\0",
         b"\x82\x7f\0\0\0\0\0\x01\0\0",
     ),
-    (
-        100_000,
-        251,
-        b"\x82\xff\0\0\0\0\0\x01\x86\xa0\0\0\0\0",
-        b"\x82\x7f\0\0\0\0\0\x01\x86\xa0",
-    ),
-    (
-        100_000,
-        128,
-        b"\x81\xff\0\0\0\0\0\x01\x86\xa0\0\0\0\0",
-        b"\x81\x7f\0\0\0\0\0\x01\x86\xa0",
-    ),
 ];
 
-/// What comes before it, the head of a frame, and its bytes.
-fn frame(alloc: Global, front: &[u8], head: &[u8], row: &Head) -> Result<Vec<u8>, AllocError> {
+fn frame(alloc: Global, front: &[u8], head: &[u8], count: usize) -> Result<Vec<u8>, AllocError> {
     let mut text = joined(alloc, front, &[head])?;
-    add_bytes(&mut text, row.0, row.1)?;
+    add_bytes(&mut text, count)?;
     Ok(text)
 }
 
@@ -340,8 +319,8 @@ fn wrong_piece<H: Host>(rt: &H, input: &[u8], wanted: &[u8]) -> io::Result<Optio
 }
 
 fn fails_at<H: Host>(rt: &H, row: &Head) -> io::Result<Option<usize>> {
-    let input = frame(rt.alloc(), HANDSHAKE, row.2, row)?;
-    let wanted = frame(rt.alloc(), ACCEPTED, row.3, row)?;
+    let input = frame(rt.alloc(), HANDSHAKE, row.1, row.0)?;
+    let wanted = frame(rt.alloc(), ACCEPTED, row.2, row.0)?;
     wrong_piece(rt, &input, &wanted)
 }
 
