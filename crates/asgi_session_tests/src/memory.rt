@@ -1,12 +1,9 @@
 //! Memory refused to a session. `tests/memory.py` runs this with each allocation refused in turn; with ample memory none is
 //! refused.
-use crate::apps::{Heard, Said, Step};
 use crate::rows::{Parts, after, joined};
 use crate::scripts::{Given, Out, is_front, is_handed, script_of};
 use crate::serving::{App, serve_by};
-use crate::texts::{
-    ACCEPTED, CHAT_ACCEPTED, FORBIDDEN, HANDSHAKE, HELLO, HELLO_BACK, OFFERING, SERVER_ERROR,
-};
+use crate::texts::{ACCEPTED, FORBIDDEN, HANDSHAKE, HELLO, HELLO_BACK, OFFERING, SERVER_ERROR};
 use asgi_conn::{Host, Outcome, Report};
 use asgi_fakes::{Memory, Pieces, Way, line_of, text_of};
 use asgi_types::Limits;
@@ -80,16 +77,6 @@ const ROWS: &[Row] = &[
         Outcome::InputBroke,
     ),
     (App::Hello, &[OFFERING], &[FORBIDDEN], Outcome::Finished),
-    (
-        App::Scripted(&[
-            Step::Says(Said::Accept("chat", &[("X-A", "q")])),
-            Step::Hears(Heard::Connect),
-            Step::Hears(Heard::Disconnect(1006, "")),
-        ]),
-        &[OFFERING],
-        &[CHAT_ACCEPTED],
-        Outcome::InputBroke,
-    ),
 ];
 
 fn wired_came(row: &Row, written: &[u8], report: &Report) -> Came {
