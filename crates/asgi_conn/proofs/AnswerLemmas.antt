@@ -10,6 +10,7 @@ use Rattle.asgi_types.specs.declared.scope.Scope.{Scope}
 use Rattle.asgi_types.specs.declared.state.StateValue.{StateValue}
 use Rattle.asgi_types.specs.Scopes.{scope_with}
 use Rattle.asgi_pipes.specs.declared.ends.AppEnd.{Ghosts}
+use Rattle.asgi_pipes.specs.declared.ends.ConnEnd as conn_end
 use Rattle.asgi_apps.specs.declared.running.Lent.{Lent}
 use Rattle.asgi_apps.specs.Ends.{own_end}
 use Rattle.asgi_exchange.specs.HttpExchange.{IsHttpExchange}
@@ -26,8 +27,8 @@ use Rattle.asgi_conversation.specs.Kinds.{Converses}
 use Rattle.asgi_conversation.specs.Promised.{IsPromised, ArePromised, task_end}
 use Rattle.asgi_conversation.specs.SoFar.{exchanged}
 use Rattle.asgi_conversation.proofs.SoFarLemmas.{ends_between}
-use Rattle.asgi_conn.specs.declared.connection.ConnState.{ConnState}
-use Rattle.asgi_conn.specs.declared.connection.ConnState.TheVariants.{Ended}
+use Rattle.asgi_conn.specs.declared.place.Place.{Place}
+use Rattle.asgi_conn.specs.declared.place.Place.TheVariants.{Ended}
 use Rattle.asgi_halves.specs.declared.half.HttpHalf.{HttpHalf}
 use Rattle.asgi_run.specs.declared.runner.AppSide.{AppSide}
 use Rattle.asgi_run.specs.declared.runner.AppSide.TheVariants.{Runs, HasEnded}
@@ -40,7 +41,8 @@ use Rattle.asgi_halves.specs.Half.{Opens}
 use Rattle.asgi_ws.specs.Lines.{LineState}
 use Rattle.asgi_apps.specs.Promises.{Promise}
 use Rattle.asgi_run.specs.Lines.{Transferred}
-use Rattle.asgi_conn.specs.private.Loop.{IsAt, IsTallied, ConnInvariant, IsLeft}
+use Rattle.asgi_conn.specs.Standing.{IsAt, IsTallied, IsServing}
+use Rattle.asgi_conn.specs.private.Loop.{IsLeft}
 use Rattle.asgi_run.specs.Running.{OfEnd, IsOfRequest, IsOpened, HasRun}
 use Rattle.asgi_conn.proofs.HttpEndLemmas.{http_ends}
 use Rattle.asgi_conn.proofs.LeaveLemmas.{left_resting, left_ended}
@@ -68,8 +70,8 @@ module _ {T E : Type 0} (promise : List Incoming → List Outgoing → Option En
 
 -- ---- one more exchange
 
-module _ {T E : Type 0} (promise : Promise) (answers : T → List Incoming → List Outgoing → Option EndKind → Type 0) (ends : Ghosts E)
-    (limits : Limits) (client server : Option Peer) (state : List (List ℕ × StateValue)) (scene : Scene) (now : LineState) (half : HttpHalf) (read : List ℕ)
+module _ {T C E X : Type 0} (answers : T → List Incoming → List Outgoing → Option EndKind → Type 0) (conns : conn_end.Ghosts C) (ends : Ghosts E) (conn : X → C) (began : X → AppSide T E → Type 0)
+    (promise : Promise) (limits : Limits) (client server : Option Peer) (state : List (List ℕ × StateValue)) (scene : Scene) (now : LineState) (half : HttpHalf) (read : List ℕ)
     (side : AppSide T E) (kind : EndKind) (run : HasRun http_half.ghosts answers ends (record { limits = limits; at = scene }) now half read side kind) where
   abbrev one : ExchangeRecord
   one = exchanged scene.scope scene.facts run.world
@@ -97,18 +99,18 @@ module _ {T E : Type 0} (promise : Promise) (answers : T → List Incoming → L
         ∙ sym (faults_more scene.exchanges one),
   )
 
-  stands_at : (at : ConnState) → IsLeft half at → IsAt at limits scene.start now read (scene.exchanges ++ one ∷ []) out
+  stands_at : (at : Place X) → IsLeft half at → IsAt answers conns ends conn began promise limits client server state scene.start at now read (scene.exchanges ++ one ∷ []) out
   stands_at at (inl l) =
-      subst (λ (p : ConnState). IsAt p limits scene.start now read (scene.exchanges ++ one ∷ []) out) (sym l.1)
+      subst (λ (p : Place X). IsAt answers conns ends conn began promise limits client server state scene.start p now read (scene.exchanges ++ one ∷ []) out) (sym l.1)
       (left_resting limits scene now half read run.world run.stands.stands in_http run.stands.limits l.0)
   stands_at at (inr l) =
-      subst (λ (p : ConnState). IsAt p limits scene.start now read (scene.exchanges ++ one ∷ []) out) (sym l.2)
+      subst (λ (p : Place X). IsAt answers conns ends conn began promise limits client server state scene.start p now read (scene.exchanges ++ one ∷ []) out) (sym l.2)
       (left_ended limits scene now half read run.world run.stands.stands in_http run.stands.limits l.0 l.1)
 
-  pub serves_one : (scope : Scope) (was : E) (old new : Tally) (at : ConnState)
+  pub serves_one : (scope : Scope) (was : E) (old new : Tally) (at : Place X)
       → scope ≡ scope_with scene.scope client server state → IsOpened (promise scope) answers ends was side → ends.heard was ≡ [] → ends.said was ≡ []
       → ArePromised promise client server state scene.exchanges → IsTallied old scene.exchanges → new.exchanges ≡ old.exchanges + 1 → new.faults ≡ old.faults + fault_of (Some kind)
-      → IsLeft half at → ConnInvariant promise limits client server state scene.start now new at
+      → IsLeft half at → IsServing answers conns ends conn began promise limits client server state scene.start now new at
   serves_one scope was old new at is opened none silent promised tallied exchanges faults left = record {
     read = read;
     written = out;
@@ -126,11 +128,12 @@ pub lacks_moved : (start now : LineState) (end : InputEnd) (read written : List 
 lacks_moved start now end read written outcome (inl is) moved = subst (λ (n : ℕ). Transferred start now end read written n) (sym (ap failures_as is)) moved
 lacks_moved start now end read written outcome (inr is) moved = subst (λ (n : ℕ). Transferred start now end read written n) (sym (ap failures_as is)) moved
 
-pub serves_short : (promise : Promise) (client server : Option Peer) (state : List (List ℕ × StateValue)) (scene : Scene) (now : LineState)
+pub serves_short : {T C E X : Type 0} (answers : T → List Incoming → List Outgoing → Option EndKind → Type 0) (conns : conn_end.Ghosts C) (ends : Ghosts E) (conn : X → C) (began : X → AppSide T E → Type 0)
+    (promise : Promise) (client server : Option Peer) (state : List (List ℕ × StateValue)) (scene : Scene) (now : LineState)
     (wire : Wire) (facts : Facts) (read arrived : List ℕ) (tally : Tally) → Opens scene now wire facts read arrived
     → ArePromised promise client server state scene.exchanges → IsTallied tally scene.exchanges → (outcome : Outcome) → IsLacking outcome
-    → ConnInvariant promise wire.limits client server state scene.start now tally (Ended outcome)
-serves_short promise client server state scene now wire facts read arrived tally opens promised tallied outcome lacks = record {
+    → IsServing answers conns ends conn began promise wire.limits client server state scene.start now tally (Ended outcome)
+serves_short answers conns ends conn began promise client server state scene now wire facts read arrived tally opens promised tallied outcome lacks = record {
   read = read;
   written = scene.before;
   exchanges = scene.exchanges;

@@ -42,7 +42,7 @@ use Rattle.asgi_conversation.proofs.LoopLemmas as loop
 use Rattle.asgi_halves.specs.declared.wire.Wire.{Wire}
 use Rattle.asgi_ws.specs.Lines.{LineState}
 use Rattle.asgi_run.specs.Lines.{Transferred, piece_size}
-use Rattle.asgi_conn.specs.private.Loop.{BetweenRequests, EndsSo}
+use Rattle.asgi_conn.specs.Standing.{BetweenRequests, EndsSo}
 use Rattle.asgi_halves.specs.ReadAhead.{ReadsAhead}
 use Rattle.asgi_conn.proofs.HttpEndLemmas.{http_ends}
 use Rattle.asgi_run.proofs.LineLemmas.{moved_by_write, tries_front}

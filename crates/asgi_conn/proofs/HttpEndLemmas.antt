@@ -13,7 +13,7 @@ use Rattle.asgi_types.specs.declared.limits.Limits.{Limits}
 use Rattle.asgi_halves.specs.Traffic.{failures_of}
 use Rattle.asgi_ws.specs.Lines.{LineState}
 use Rattle.asgi_run.specs.Lines.{Transferred}
-use Rattle.asgi_conn.specs.private.Loop.{EndsSo}
+use Rattle.asgi_conn.specs.Standing.{EndsSo}
 use Rattle.asgi_halves.specs.ReadAhead.{ReadsAhead}
 use Rattle.asgi_halves.proofs.TalkLemmas.{talk_silent}
 

@@ -40,7 +40,7 @@ use Rattle.asgi_halves.specs.declared.stage.Stage.TheVariants.{Over}
 use Rattle.asgi_halves.specs.Half.{Scene, Invariant, IsAt, KeepsOn, EndsByTask, IsCutShort, known, requests_in, state_in, failures_at}
 use Rattle.asgi_ws.specs.Lines.{LineState}
 use Rattle.asgi_run.specs.Lines.{Transferred}
-use Rattle.asgi_conn.specs.private.Loop.{BetweenRequests, EndsSo}
+use Rattle.asgi_conn.specs.Standing.{BetweenRequests, EndsSo}
 use Rattle.asgi_halves.specs.ReadAhead.{ReadsAhead}
 use Rattle.asgi_conn.proofs.HttpEndLemmas.{http_ends}
 use Rattle.asgi_halves.proofs.ReadAheadLemmas.{heads_after, within_of}

@@ -6,3 +6,4 @@ pub mod AnswerLemmas
 pub mod BetweenLemmas
 pub mod SessionServeLemmas
 pub mod ServeLemmas
+pub mod TurnLemmas

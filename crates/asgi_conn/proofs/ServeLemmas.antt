@@ -36,8 +36,8 @@ use Rattle.asgi_conversation.specs.ExchangeRecord.{ExchangeRecord}
 use Rattle.asgi_conversation.specs.Promised.{IsPromised, ArePromised}
 use Rattle.asgi_conversation.specs.SoFar.{Within}
 use Rattle.asgi_conversation.proofs.LoopLemmas as loop
-use Rattle.asgi_conn.specs.declared.connection.ConnState.{ConnState}
-use Rattle.asgi_conn.specs.declared.connection.ConnState.TheVariants as place
+use Rattle.asgi_conn.specs.declared.place.Place.{Place}
+use Rattle.asgi_conn.specs.declared.place.Place.TheVariants as place
 use Rattle.asgi_conn.specs.declared.tally.Tally.{Tally}
 use Rattle.asgi_halves.specs.declared.wire.Wire.{Wire}
 use Rattle.asgi_halves.specs.Half.{Scene, WithinScene}
@@ -47,38 +47,20 @@ use Rattle.asgi_run.specs.Lines as lines
 use Rattle.asgi_ws.specs.Lines.{LineState}
 use Rattle.asgi_apps.specs.Promises.{Promise}
 use Rattle.asgi_run.specs.Lines.{Transferred}
-use Rattle.asgi_conn.specs.private.Loop.{BetweenRequests, IsAt, IsTallied, ConnInvariant}
+use Rattle.asgi_conn.specs.Standing.{BetweenRequests, IsAt, IsTallied, IsServing, IsCounted, HasRoom, Stands, IsReportOf}
+use Rattle.asgi_conn.specs.private.Loop.{IsAtRest}
+use Rattle.asgi_conn.specs.declared.connection.Connection.{Connection}
+use Rattle.asgi_types.specs.declared.end_kind.EndKind.{EndKind}
+use Rattle.asgi_types.specs.declared.incoming.Incoming.{Incoming}
+use Rattle.asgi_types.specs.declared.outgoing.Outgoing.{Outgoing}
+use Rattle.asgi_pipes.specs.declared.ends.AppEnd as app_end
+use Rattle.asgi_pipes.specs.declared.ends.ConnEnd as conn_end
+use Rattle.asgi_run.specs.declared.runner.AppSide.{AppSide}
 use Rattle.asgi_halves.specs.ReadAhead.{ReadsAhead}
 use Rattle.asgi_conn.specs.Serving.{Serves}
 use Rattle.asgi_halves.specs.WebSocketHalf.{SessionScene, OpensHandshake}
 use Rattle.asgi_conn.proofs.BetweenLemmas as between
 use Rattle.asgi_halves.proofs.ReadAheadLemmas.{nothing_ahead, more_requests, heads_more}
-
--- ---- the turns that are left
-
-abbrev pub turns_left : ConnState → Tally → ℕ
-turns_left (place.Between wire) tally = tally.turns.turn_limit - tally.turns.turns + 1
-turns_left (place.Ended outcome) tally = 0
-
--- the turns are counted on, by limits that are known under two names
-pub counts_on : (turn_limit idle_limit turn_held idle_held before now after turns idle turns_then idle_then : ℕ) (turned : List Turn)
-    → turn_held ≡ turn_limit → idle_held ≡ idle_limit → CountsTurns turn_limit idle_limit turned before now turns idle
-    → ((turned : List Turn) (pauses : ℕ) → CountsTurns turn_held idle_held turned pauses now turns idle
-    → (more : List Turn) × CountsTurns turn_held idle_held (turned ++ more) pauses after turns_then idle_then)
-    → (all : List Turn) × CountsTurns turn_limit idle_limit all before after turns_then idle_then
-counts_on turn_limit idle_limit turn_held idle_held before now after turns idle turns_then idle_then turned p q counts on =
-    let held = subst (λ (k : ℕ). CountsTurns turn_held k turned before now turns idle) (sym q) (subst (λ (k : ℕ). CountsTurns k idle_limit turned before now turns idle) (sym p) counts) in
-    let x = on turned before held in (
-      turned ++ x.0,
-      subst (λ (k : ℕ). CountsTurns k idle_limit (turned ++ x.0) before after turns_then idle_then) p
-          (subst (λ (k : ℕ). CountsTurns turn_held k (turned ++ x.0) before after turns_then idle_then) q x.1),
-    )
-
--- no turn was taken
-pub counts_still : (turn_limit idle_limit : ℕ) (turned : List Turn) (before after turns idle : ℕ) → CountsTurns turn_limit idle_limit turned before after turns idle
-    → (more : List Turn) × CountsTurns turn_limit idle_limit (turned ++ more) before after turns idle
-counts_still turn_limit idle_limit turned before after turns idle counts =
-    ([], subst (λ (l : List Turn). CountsTurns turn_limit idle_limit l before after turns idle) (sym (append-nil turned)) counts)
 
 -- ---- what the reader gave
 
@@ -110,14 +92,15 @@ moved_nothing start end still = subst (λ (e : InputEnd). Transferred start star
   quiet = refl;
 })
 
-module _ (answers : Promise) (limits : Limits) (client server : Option Peer) (state : List (List ℕ × StateValue)) where
+module _ {T C E X : Type 0} (answers : T → List Incoming → List Outgoing → Option EndKind → Type 0) (conns : conn_end.Ghosts C) (ends : app_end.Ghosts E) (conn : X → C) (began : X → AppSide T E → Type 0)
+    (promise : Promise) (limits : Limits) (client server : Option Peer) (state : List (List ℕ × StateValue)) where
   pub begins : (start : LineState) (wire : Wire) (tally : Tally) → (wire.limits ≡ limits) × (wire.requests.limits ≡ limits) → StandsFor wire.requests [] [] × (wire.input ≡ Open)
-      → wire.out.items ≡ [] → tally.exchanges ≡ 0 → tally.faults ≡ 0 → ConnInvariant answers limits client server state start start tally (place.Between wire)
+      → wire.out.items ≡ [] → tally.exchanges ≡ 0 → tally.faults ≡ 0 → IsServing answers conns ends conn began promise limits client server state start start tally (place.Between wire)
   begins start wire tally limits_are unread empty none no_faults = record {
     read = [];
     written = [];
     exchanges = [];
-    promised = All-nil (IsPromised answers client server state);
+    promised = All-nil (IsPromised promise client server state);
     counted = (none, no_faults);
     stands = (
       [],
@@ -136,16 +119,19 @@ module _ (answers : Promise) (limits : Limits) (client server : Option Peer) (st
 
   -- ---- one step
 
-  pub rested : (start now : LineState) (tally : Tally) (at : ConnState) (wire : Wire) → at ≡ place.Between wire → ConnInvariant answers limits client server state start now tally at
-      → ConnInvariant answers limits client server state start now tally (place.Between wire)
-  rested start now tally at wire is s = subst (λ (p : ConnState). ConnInvariant answers limits client server state start now tally p) is s
+  at_rest : (start now : LineState) (read : List ℕ) (exchanges : List ExchangeRecord) (written : List ℕ) (at : Place X) → IsAtRest at limits start now read exchanges written
+      → IsAt answers conns ends conn began promise limits client server state start at now read exchanges written
+  at_rest start now read exchanges written (place.Between wire) rests = rests
+  at_rest start now read exchanges written (place.Http half exchange) rests = absurd rests
+  at_rest start now read exchanges written (place.Session half exchange) rests = absurd rests
+  at_rest start now read exchanges written (place.Ended outcome) rests = rests
 
-  module _ (start now : LineState) (tally : Tally) (wire : Wire) (s : ConnInvariant answers limits client server state start now tally (place.Between wire)) where
+  module _ (start now : LineState) (tally : Tally) (wire : Wire) (s : IsServing answers conns ends conn began promise limits client server state start now tally (place.Between wire)) where
     x : BetweenRequests limits start now wire s.read s.stands.0 s.exchanges s.stands.1 s.written
     x = s.stands.2
 
     -- memory was refused
-    pub short : ConnInvariant answers limits client server state start now tally (place.Ended NoMemory)
+    pub short : IsServing answers conns ends conn began promise limits client server state start now tally (place.Ended NoMemory)
     short = record {
       read = s.read;
       written = s.written;
@@ -160,23 +146,23 @@ module _ (answers : Promise) (limits : Limits) (client server : Option Peer) (st
       limits_stay = same ∙ x.limits_are.1
 
       -- no result is there
-      pub waited : (next : LineState) (is : Tally) (result : ConnState) → is.exchanges ≡ tally.exchanges → is.faults ≡ tally.faults
+      pub waited : (result : Place X)
           → ((bytes : List ℕ) (given : List Next) → StandsFor wire.requests bytes given → StandsFor later bytes given × AllGiven later bytes given)
-          → ((limits : Limits) (start : LineState) (read : List ℕ) (given : List Next) (exchanges : List ExchangeRecord) (after written : List ℕ)
+          → ((limits : Limits) (start now : LineState) (read : List ℕ) (given : List Next) (exchanges : List ExchangeRecord) (after written : List ℕ)
           → BetweenRequests limits start now (record wire { requests = later }) read given exchanges after written → AllGiven later read given
-          → (more : List ℕ) × IsAt result limits start next (read ++ more) exchanges written)
-          → ConnInvariant answers limits client server state start next is result
-      waited next is result exchanges faults need waits =
+          → IsAtRest result limits start now read exchanges written)
+          → IsServing answers conns ends conn began promise limits client server state start now tally result
+      waited result need waits =
           let n = need s.read s.stands.0 x.stands in
-          let y = waits limits start s.read s.stands.0 s.exchanges s.stands.1 s.written
+          let y = waits limits start now s.read s.stands.0 s.exchanges s.stands.1 s.written
           (between.asked limits start now wire s.read s.stands.0 s.exchanges s.stands.1 s.written x later limits_stay n.0) n.1 in
           record {
-            read = s.read ++ y.0;
+            read = s.read;
             written = s.written;
             exchanges = s.exchanges;
             promised = s.promised;
-            counted = (exchanges ∙ s.counted.0, faults ∙ s.counted.1);
-            stands = y.1;
+            counted = s.counted;
+            stands = at_rest start now s.read s.exchanges s.written result y;
           }
 
       module _ (item : Next) (goes_on : ((status : ℕ) → IsRefused wire.requests status → ⊥) → GoesOn wire.requests later item) where
@@ -188,23 +174,23 @@ module _ (answers : Promise) (limits : Limits) (client server : Option Peer) (st
         opens = between.no_event limits start now wire s.read s.stands.0 s.exchanges s.stands.1 s.written x later item limits_stay gave
 
       -- a text was written with no exchange
-      answered_so : (next : LineState) (result : ConnState) → (text : List ℕ) × IsAt result limits start next s.read s.exchanges (s.written ++ text)
-          → ConnInvariant answers limits client server state start next tally result
+      answered_so : (next : LineState) (result : Place X) → (text : List ℕ) × IsAtRest result limits start next s.read s.exchanges (s.written ++ text)
+          → IsServing answers conns ends conn began promise limits client server state start next tally result
       answered_so next result y = record {
         read = s.read;
         written = s.written ++ y.0;
         exchanges = s.exchanges;
         promised = s.promised;
         counted = s.counted;
-        stands = y.1;
+        stands = at_rest start next s.read s.exchanges (s.written ++ y.0) result y.1;
       }
 
       -- a refusal
-      pub refused : (next : LineState) (result : ConnState) (status : ℕ) → (((status : ℕ) → IsRefused wire.requests status → ⊥) → GoesOn wire.requests later (Bad status))
+      pub refused : (next : LineState) (result : Place X) (status : ℕ) → (((status : ℕ) → IsRefused wire.requests status → ⊥) → GoesOn wire.requests later (Bad status))
           → ((limits : Limits) (start : LineState) (wire : Wire) (read : List ℕ) (given : List Next) (exchanges : List ExchangeRecord) (after written : List ℕ)
           → BetweenRequests limits start now wire read given exchanges after written → RefusesWith limits after status
-          → (text : List ℕ) × IsAt result limits start next read exchanges (written ++ text))
-          → ConnInvariant answers limits client server state start next tally result
+          → (text : List ℕ) × IsAtRest result limits start next read exchanges (written ++ text))
+          → IsServing answers conns ends conn began promise limits client server state start next tally result
       refused next result status goes_on refuses =
           answered_so next result (refuses limits start wire s.read s.stands.0 s.exchanges s.stands.1 s.written x
           (between.refused_due limits start now wire s.read s.stands.0 s.exchanges s.stands.1 s.written x later status limits_stay (gave (Bad status) goes_on)))
@@ -237,12 +223,12 @@ module _ (answers : Promise) (limits : Limits) (client server : Option Peer) (st
           empty = x.empty;
         }
 
-        pub opened : (whole : Scope) (next : LineState) (is : Tally) (result : ConnState) → whole ≡ scope_with scope client server state
-            → ((scene : SessionScene) (client server : Option Peer) (state : List (List ℕ × StateValue)) (read : List ℕ) → whole ≡ scope_with scene.scope client server state
-            → OpensHandshake scene now (record wire { requests = later }) facts read → ArePromised answers client server state scene.exchanges → IsTallied tally scene.exchanges
-            → ConnInvariant answers scene.limits client server state scene.start next is result)
-            → ConnInvariant answers limits client server state start next is result
-        opened whole next is result whole_is serves = serves handshake_scene client server state s.read whole_is opens_handshake s.promised s.counted
+        pub opened : (whole : Scope) (next : LineState) (result : Place X) → whole ≡ scope_with scope client server state
+            → ((scene : SessionScene) (client server : Option Peer) (state : List (List ℕ × StateValue)) (read : List ℕ) (tally : Tally) → whole ≡ scope_with scene.scope client server state
+            → OpensHandshake scene now (record wire { requests = later }) facts read → ArePromised promise client server state scene.exchanges → IsTallied tally scene.exchanges
+            → IsServing answers conns ends conn began promise scene.limits client server state scene.start next tally result)
+            → IsServing answers conns ends conn began promise limits client server state start next tally result
+        opened whole next result whole_is serves = serves handshake_scene client server state s.read tally whole_is opens_handshake s.promised s.counted
 
       -- a head
       module _ (scope : Scope) (facts : Facts) (goes_on : ((status : ℕ) → IsRefused wire.requests status → ⊥) → GoesOn wire.requests later (Head scope facts))
@@ -275,15 +261,15 @@ module _ (answers : Promise) (limits : Limits) (client server : Option Peer) (st
           ahead = more_requests limits s.read (requests_of s.exchanges) ((scope, facts) ∷ []) x.ahead;
         }
 
-        pub answered : (whole : Scope) (next : LineState) (is : Tally) (result : ConnState) → whole ≡ scope_with scope client server state
-            → ((scene : Scene) (client server : Option Peer) (state : List (List ℕ × StateValue)) (read arrived : List ℕ) → whole ≡ scope_with scene.scope client server state
-            → half.Opens scene now (record wire { requests = later }) facts read arrived → ArePromised answers client server state scene.exchanges → IsTallied tally scene.exchanges
-            → ConnInvariant answers wire.limits client server state scene.start next is result)
-            → ConnInvariant answers limits client server state start next is result
+        pub answered : (whole : Scope) (next : LineState) (result : Place X) → whole ≡ scope_with scope client server state
+            → ((scene : Scene) (client server : Option Peer) (state : List (List ℕ × StateValue)) (read arrived : List ℕ) (tally : Tally) → whole ≡ scope_with scene.scope client server state
+            → half.Opens scene now (record wire { requests = later }) facts read arrived → ArePromised promise client server state scene.exchanges → IsTallied tally scene.exchanges
+            → IsServing answers conns ends conn began promise wire.limits client server state scene.start next tally result)
+            → IsServing answers conns ends conn began promise limits client server state start next tally result
         unfolding scene
-        answered whole next is result whole_is serves =
-            subst (λ (l : Limits). ConnInvariant answers l client server state start next is result) x.limits_are.0
-            (serves scene client server state s.read in_one.0 whole_is (record {
+        answered whole next result whole_is serves =
+            subst (λ (l : Limits). IsServing answers conns ends conn began promise l client server state start next tally result) x.limits_are.0
+            (serves scene client server state s.read in_one.0 tally whole_is (record {
               facts_are = refl;
               moved = x.moved;
               limits = limits_stay ∙ sym x.limits_are.0;
@@ -292,35 +278,3 @@ module _ (answers : Promise) (limits : Limits) (client server : Option Peer) (st
               empty = x.empty;
               ahead = subst (λ (l : Limits). ReadsAhead l s.read (requests_of s.exchanges)) (sym x.limits_are.0) x.ahead;
             }) s.promised s.counted)
-
--- ---- the end
-
--- the connection ended with this outcome: the report holds what was counted
-abbrev pub told_of : Tally → Outcome → Report
-told_of tally outcome = record { exchanges = tally.exchanges; faults = tally.faults; turns = tally.turns.turns; idle = tally.turns.idle; outcome = outcome }
-
-pub serves : (answers : Promise) (limits : Limits) (client server : Option Peer) (state : List (List ℕ × StateValue))
-    (start now : LineState) (tally : Tally) (at : ConnState) (outcome : Outcome) (pauses_old pauses_new : ℕ)
-    → at ≡ place.Ended outcome → ConnInvariant answers limits client server state start now tally at
-    → (turned : List Turn) → CountsTurns limits.turns limits.idle_turns turned pauses_old pauses_new tally.turns.turns tally.turns.idle
-    → tally.turns.turn_limit ≡ limits.turns → tally.turns.idle_limit ≡ limits.idle_turns → (at ≡ place.Ended Idle → IsAtLimit tally.turns)
-    → Serves answers limits client server state start now pauses_old pauses_new (told_of tally outcome)
-serves answers limits client server state start now tally at outcome pauses_old pauses_new is s turned counts turn_limit idle_limit at_limit =
-    let e = subst (λ (p : ConnState). IsAt p limits start now s.read s.exchanges s.written) is s.stands in
-    record {
-      read = s.read;
-      end = e.end;
-      written = s.written;
-      traffic = e.traffic;
-      carried = e.carried;
-      exchanges = s.exchanges;
-      converses = e.converses (told_of tally outcome) refl (record { exchanges_are = s.counted.0; faults_are = s.counted.1 });
-      ahead = e.ahead;
-      promised = s.promised;
-      turned = turned;
-      counts = counts;
-      idle = λ o. elim (at_limit (is ∙ ap place.Ended o)) [
-        | inl turns ↦ inl (turns ∙ turn_limit)
-        | inr row ↦ inr (row ∙ idle_limit)
-      ];
-    }

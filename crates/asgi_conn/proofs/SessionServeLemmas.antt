@@ -17,6 +17,7 @@ use Rattle.asgi_request.specs.Reading.{StandsFor}
 use Rattle.asgi_response.specs.declared.text.ResponseText.{ResponseText}
 use Rattle.asgi_response.specs.Standing as standing
 use Rattle.asgi_pipes.specs.declared.ends.AppEnd.{Ghosts}
+use Rattle.asgi_pipes.specs.declared.ends.ConnEnd as conn_end
 use Rattle.asgi_apps.specs.Ends.{own_end}
 use Rattle.asgi_exchange.specs.SessionExchange.{IsSessionExchange}
 use Rattle.asgi_exchange.specs.Views.{said_of}
@@ -30,7 +31,7 @@ use Rattle.asgi_conversation.specs.Sessions.{handshake_of}
 use Rattle.asgi_conversation.proofs.ConversationLemmas as conversation
 use Rattle.asgi_conversation.proofs.LoopLemmas as loop
 use Rattle.asgi_conversation.proofs.RequestLemmas.{requests_join}
-use Rattle.asgi_conn.specs.declared.connection.ConnState.TheVariants.{Ended}
+use Rattle.asgi_conn.specs.declared.place.Place.TheVariants.{Ended}
 use Rattle.asgi_halves.specs.declared.stage.Stage.{Stage}
 use Rattle.asgi_halves.specs.declared.stage.Stage.TheVariants.{Over}
 use Rattle.asgi_run.specs.declared.runner.AppSide.{AppSide}
@@ -42,7 +43,7 @@ use Rattle.asgi_halves.specs.declared.wire.Wire.{Wire}
 use Rattle.asgi_halves.specs.contracts.impls.WebSocketHalfHalf.TheImpl as session_half
 use Rattle.asgi_ws.specs.Lines.{LineState}
 use Rattle.asgi_apps.specs.Promises.{Promise}
-use Rattle.asgi_conn.specs.private.Loop.{EndsSo, IsTallied, ConnInvariant}
+use Rattle.asgi_conn.specs.Standing.{EndsSo, IsTallied, IsServing}
 use Rattle.asgi_halves.specs.ReadAhead.{ReadsAhead}
 use Rattle.asgi_run.specs.Running.{IsOpened, HasRun}
 use Rattle.asgi_halves.specs.WebSocketHalf.{SessionScene, Invariant, IsAt, IsCarried, OpensHandshake, OpensSession, session_of, talk_in, text_failures}
@@ -89,10 +90,11 @@ module _ (scene : SessionScene) (now : LineState) (wire : Wire) (facts : Facts) 
       })
 
   -- memory or a thread is refused, before the application is called
-  pub opens_short : (promise : Promise) (client server : Option Peer) (state : List (List ℕ × StateValue)) (tally : Tally)
+  pub opens_short : {T C E X : Type 0} (answers : T → List Incoming → List Outgoing → Option EndKind → Type 0) (conns : conn_end.Ghosts C) (ends : Ghosts E) (conn : X → C) (began : X → AppSide T E → Type 0)
+      (promise : Promise) (client server : Option Peer) (state : List (List ℕ × StateValue)) (tally : Tally)
       → ArePromised promise client server state scene.exchanges → IsTallied tally scene.exchanges → (outcome : Outcome) → IsLacking outcome
-      → ConnInvariant promise scene.limits client server state scene.start now tally (Ended outcome)
-  opens_short promise client server state tally promised tallied outcome lacks = record {
+      → IsServing answers conns ends conn began promise scene.limits client server state scene.start now tally (Ended outcome)
+  opens_short answers conns ends conn began promise client server state tally promised tallied outcome lacks = record {
     read = read;
     written = scene.before;
     exchanges = scene.exchanges;
@@ -119,8 +121,8 @@ pub ends_connection : (scene : SessionScene) (half : WebSocketHalf) (view : _) �
 ends_connection scene half view at NextRequest is = absurd (subst (λ (s : Stage). IsAt s scene half view) is at)
 ends_connection scene half view at (ConnectionEnds outcome) is = (outcome, is)
 
-module _ {T E : Type 0} (promise : Promise) (answers : T → List Incoming → List Outgoing → Option EndKind → Type 0) (ends : Ghosts E)
-    (client server : Option Peer) (state : List (List ℕ × StateValue)) (scene : SessionScene) (now : LineState) (half : WebSocketHalf) (read : List ℕ)
+module _ {T C E X : Type 0} (answers : T → List Incoming → List Outgoing → Option EndKind → Type 0) (conns : conn_end.Ghosts C) (ends : Ghosts E) (conn : X → C) (began : X → AppSide T E → Type 0)
+    (promise : Promise) (client server : Option Peer) (state : List (List ℕ × StateValue)) (scene : SessionScene) (now : LineState) (half : WebSocketHalf) (read : List ℕ)
     (side : AppSide T E) (kind : EndKind) (run : HasRun session_half.ghosts answers ends scene now half read side kind) where
   abbrev one : ExchangeRecord
   one = session_of scene run.world
@@ -162,7 +164,7 @@ module _ {T E : Type 0} (promise : Promise) (answers : T → List Incoming → L
   pub serves_session : (scope : Scope) (was : E) (old new : Tally) (outcome : Outcome) → ReadsAhead scene.limits scene.read (requests_of scene.exchanges)
       → scope ≡ scope_with scene.scope client server state → IsOpened (promise scope) answers ends was side → ends.heard was ≡ [] → ends.said was ≡ []
       → ArePromised promise client server state scene.exchanges → IsTallied old scene.exchanges → new.exchanges ≡ old.exchanges + 1 → new.faults ≡ old.faults + fault_of (Some kind)
-      → half.stage ≡ Over (ConnectionEnds outcome) → ConnInvariant promise scene.limits client server state scene.start now new (Ended outcome)
+      → half.stage ≡ Over (ConnectionEnds outcome) → IsServing answers conns ends conn began promise scene.limits client server state scene.start now new (Ended outcome)
   serves_session scope was old new outcome ahead is opened none silent promised tallied exchanges faults over = record {
     read = read;
     written = out;

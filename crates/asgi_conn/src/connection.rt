@@ -1,79 +1,276 @@
-//! One connection from its first byte to its last.
-ghost use Rattle.std.specs.Prelude.{◌≡◌, ◌≢◌, ◌+◌, ◌<◌, ◌≤◌, ◌^◌, ◌⊎◌, ◌↔◌, ◌++◌, ◌∷◌, [], ℕ, List, Option, Some, true, IsTrue, IfOk, IfNone, IfSome, take, length};
-ghost use Rattle.std.specs.Io.KnownBytes.{Appends};
-ghost use Rattle.asgi_types.specs.declared.facts.Facts.{Facts};
+//! One connection from its first byte to its last, turn by turn.
+ghost use Rattle.std.specs.Prelude.{◌≡◌, ◌≢◌, ◌+◌, ◌⊎◌, ℕ, List, Option, Some, None, IsTrue, IsFalse, IsNone, IfSome};
 ghost use Rattle.asgi_types.specs.declared.limits.Limits.{Limits};
-ghost use Rattle.asgi_types.specs.declared.scope.Kind.TheVariants.{Http, WebSocket};
-ghost use Rattle.asgi_types.specs.declared.scope.Peer.{Peer};
-ghost use Rattle.asgi_types.specs.declared.scope.Scope.{Scope};
-ghost use Rattle.asgi_types.specs.declared.state.StateValue.{StateValue};
-ghost use Rattle.asgi_types.specs.Scopes.{scope_with};
-ghost use Rattle.asgi_io.specs.declared.turns.Turn.{Turn};
-ghost use Rattle.asgi_io.specs.Counting.{RoseBy};
-ghost use Rattle.asgi_io.specs.Turns.{CountsTurns};
-ghost use Rattle.asgi_request.specs.declared.next.Next.{Next};
-ghost use Rattle.asgi_request.specs.Reading.{AllGiven};
-ghost use Rattle.asgi_response.specs.Exchange.{refusal_text};
-ghost use Rattle.asgi_response.specs.Refusals.{is_refusal};
-ghost use Rattle.asgi_apps.specs.Scopes.{kind_of};
-ghost use Rattle.asgi_conversation.specs.declared.following.NextStep.{NextStep};
-ghost use Rattle.asgi_conversation.specs.OutcomeClasses.{IsLacking};
-ghost use Rattle.asgi_conversation.specs.After.{IsBlank};
-ghost use Rattle.asgi_conversation.specs.ExchangeRecord.{ExchangeRecord};
-ghost use Rattle.asgi_conversation.specs.Persistence.{RefusesWith};
-ghost use Rattle.asgi_conversation.specs.Promised.{ArePromised};
-ghost use Rattle.asgi_conversation.specs.TaskEnds.{has_ended};
-ghost use Rattle.asgi_halves.specs.Half.{Scene};
-ghost use Rattle.asgi_halves.specs.Half.{Opens};
-ghost use Rattle.asgi_run.specs.Limits.{IsAtLimit};
+ghost use Rattle.asgi_conversation.specs.declared.report.Report.{Report};
 ghost use Rattle.asgi_ws.specs.Lines.{LineState};
-ghost use Rattle.asgi_conn.specs.private.Loop.{BetweenRequests, EndsSo, IsAt, IsTallied, ConnInvariant, IsBetween, IsLeft, HasRoom};
-ghost use Rattle.asgi_run.specs.Running.{OfEnd, MayRun, IsOpened};
 ghost use Rattle.asgi_conn.specs.Serving.{Serves};
-ghost use Rattle.asgi_halves.specs.WebSocketHalf.{SessionScene, OpensHandshake};
+ghost use Rattle.asgi_conn.specs.Standing.{Stands, IsServing, GoesOn, IfOver, IsReportOf, TakesOne};
+ghost use Rattle.asgi_conn.specs.private.Loop.{IsNext, IsDue, IsDueOrBetween, IsBetween, IsOver, HasEnded, IsGoing};
 
+use crate::between::next;
+use crate::closing::{end_request, end_session};
+use crate::place::{Place, Setting};
 use crate::tally::Tally;
-use asgi_apps::{AppTask, Application, Running};
-use asgi_conversation::{InputEnd, NextStep, Outcome, Report};
-use asgi_halves::{HttpHalf, Stage, WebSocketHalf, Wire, write};
-use asgi_io::{Pause, Turns};
-use asgi_pipes::{AppEnd, EndKind, Pipes};
-use asgi_request::Next;
-use asgi_response::{ResponseText, refusal_text};
-use asgi_run::{AppSide, NoEnds, Runner};
-use asgi_types::{Facts, Framing, Kind, Limits, Peer, Scope, State};
+use asgi_apps::{AppTask, Application};
+use asgi_conversation::{Outcome, Report};
+use asgi_halves::Wire;
+use asgi_io::{Pause, Turn, Turns};
+use asgi_pipes::Pipes;
+use asgi_run::{Half, Runner};
+use asgi_types::{Limits, Peer, State};
 use asgi_ws::Line;
-use std::alloc::{AllocError, Global};
+use std::alloc::{AllocGlobal, Global};
+use std::mem;
 
-/// The state of a connection from request to request.
-#[derive(Drop)]
-enum ConnState {
-    /// Between two requests, or before the first one.
-    Between(Wire),
-    /// The connection has ended.
-    Ended(Outcome),
+/// What a turn of a connection did.
+#[derive(Clone, Copy, Debug, PartialEq, Eq)]
+pub enum Step {
+    /// Something moved.
+    Moved,
+    /// Nothing moved.
+    Idle,
+    /// The connection has ended, and this is its report.
+    Over(Report),
 }
 
-impl ConnState {
-    /// Whether the connection goes on.
-    fn goes_on(&self) -> bool
-        ensures { IsTrue result ↔ IsBetween self.now }
+/// One connection, between two of its turns; `X` is what its runner keeps of an exchange.
+#[derive(Drop)]
+pub struct Connection<X> {
+    place: Place<X>,
+    tally: Tally,
+}
+
+impl<X: Drop> Connection<X> {
+    /// A connection before its first byte. Making it takes no memory.
+    pub fn new<A: Application, U: Runner<A::Task, Exchange = X>>(
+        alloc: Global,
+        limits: &Limits,
+        setting: &Setting<'_, A>,
+    ) -> Self
+        ensures { (start : LineState) (before : ℕ)
+            → Stands A.Task.answers U.Pipes.Conn.ConnEnd U.Pipes.App.AppEnd U.conn U.began (A.answers setting.now.app.now)
+            limits.now setting.now.client.now setting.now.server.now setting.now.state.now start before start before result }
     {
-        match self {
-            ConnState::Between(_) => true,
-            ConnState::Ended(_) => false,
+        Connection {
+            place: Place::Between(Wire::new(alloc, *limits)),
+            tally: Tally {
+                exchanges: 0,
+                faults: 0,
+                turns: Turns::new(limits.turns, limits.idle_turns),
+            },
         }
     }
 
-    /// How the connection has ended.
-    fn outcome(&self) -> Outcome
-        requires { ¬ (IsBetween self.now) }
-        ensures { self.now ≡ ConnState.Ended result }
+    /// Takes one turn: reads once between two requests, or takes a turn of both halves of an exchange. What
+    /// is to be done before that and takes no turn is done, too: an exchange that is over is ended, and the
+    /// next one begun. If nothing moves, the pause is called.
+    ///
+    /// Once the connection has ended, it gives its report, again at each later call.
+    pub fn turn<A: Application, L: Line, U: Runner<A::Task, Exchange = X>, P: Pause>(
+        &mut self,
+        setting: &Setting<'_, A>,
+        line: &mut L,
+        runner: &mut U,
+        pause: &mut P,
+    ) -> Step
+        requires { (limits : Limits) × (start : LineState) × (before : ℕ)
+            × Stands A.Task.answers U.Pipes.Conn.ConnEnd U.Pipes.App.AppEnd U.conn U.began (A.answers setting.now.app.now)
+            limits setting.now.client.now setting.now.server.now setting.now.state.now start before (L.state line.old) (P.count pause.old) self.old }
+        ensures stands { (limits : Limits) (start : LineState) (before : ℕ)
+            → Stands A.Task.answers U.Pipes.Conn.ConnEnd U.Pipes.App.AppEnd U.conn U.began (A.answers setting.now.app.now)
+            limits setting.now.client.now setting.now.server.now setting.now.state.now start before (L.state line.old) (P.count pause.old) self.old
+            → Stands A.Task.answers U.Pipes.Conn.ConnEnd U.Pipes.App.AppEnd U.conn U.began (A.answers setting.now.app.now)
+            limits setting.now.client.now setting.now.server.now setting.now.state.now start before (L.state line.new) (P.count pause.new) self.new }
+        ensures over { IfOver result (λ report. (limits : Limits) (start : LineState) (before : ℕ)
+            → Stands A.Task.answers U.Pipes.Conn.ConnEnd U.Pipes.App.AppEnd U.conn U.began (A.answers setting.now.app.now)
+            limits setting.now.client.now setting.now.server.now setting.now.state.now start before (L.state line.old) (P.count pause.old) self.old
+            → Serves (A.answers setting.now.app.now) limits setting.now.client.now setting.now.server.now setting.now.state.now start (L.state line.new) before (P.count pause.new) report) }
+        ensures ended { IfOver result (λ report. IsReportOf self.new report) }
+        // A turn that goes on takes one of the limit.
+        ensures takes { GoesOn result → TakesOne self.old self.new }
+        // The report stays the same, and nothing is read, written or paused for any more.
+        ensures again { (report : Report) → IsReportOf self.old report → (result ≡ Step.Over report) × (self.new ≡ self.old)
+            × (L.state line.new ≡ L.state line.old) × (P.count pause.new ≡ P.count pause.old) }
     {
-        match self {
-            ConnState::Between(_) => unreachable!(),
-            ConnState::Ended(outcome) => *outcome,
+        if self.has_ended() {
+            return Step::Over(self.report());
         }
+        self.go_on(setting, line, runner);
+        match self.move_on(setting, line, runner) {
+            None => Step::Over(self.report()),
+            Some(turn) => {
+                self.tally.turns.take(turn, pause);
+                step_of(turn)
+            }
+        }
+    }
+
+    /// Whether the connection has ended.
+    fn has_ended(&self) -> bool
+        ensures yes { IsTrue result → HasEnded self.now.place }
+        ensures no { IsFalse result → IsGoing self.now.place }
+    {
+        match &self.place {
+            Place::Between(_) => false,
+            Place::Http(_, _) => false,
+            Place::Session(_, _) => false,
+            Place::Ended(_) => true,
+        }
+    }
+
+    /// The report of a connection that has ended.
+    fn report(&self) -> Report
+        requires { HasEnded self.now.place }
+        ensures { IsReportOf self.now result }
+    {
+        let Place::Ended(outcome) = &self.place else {
+            unreachable!()
+        };
+        Report {
+            exchanges: self.tally.exchanges,
+            faults: self.tally.faults,
+            turns: self.tally.turns.turns,
+            idle: self.tally.turns.idle,
+            outcome: *outcome,
+        }
+    }
+
+    // ---- what takes no turn
+
+    /// Goes to where a turn is due, or to the end.
+    fn go_on<A: Application, L: Line, U: Runner<A::Task, Exchange = X>>(
+        &mut self,
+        setting: &Setting<'_, A>,
+        line: &mut L,
+        runner: &mut U,
+    )
+        requires { (limits : Limits) × (start : LineState) × (before pauses : ℕ)
+            × Stands A.Task.answers U.Pipes.Conn.ConnEnd U.Pipes.App.AppEnd U.conn U.began (A.answers setting.now.app.now)
+            limits setting.now.client.now setting.now.server.now setting.now.state.now start before (L.state line.old) pauses self.old }
+        ensures stands { (limits : Limits) (start : LineState) (before pauses : ℕ)
+            → Stands A.Task.answers U.Pipes.Conn.ConnEnd U.Pipes.App.AppEnd U.conn U.began (A.answers setting.now.app.now)
+            limits setting.now.client.now setting.now.server.now setting.now.state.now start before (L.state line.old) pauses self.old
+            → Stands A.Task.answers U.Pipes.Conn.ConnEnd U.Pipes.App.AppEnd U.conn U.began (A.answers setting.now.app.now)
+            limits setting.now.client.now setting.now.server.now setting.now.state.now start before (L.state line.new) pauses self.new }
+        ensures due { IsDue self.new.place self.new.tally.turns }
+        ensures turns { self.new.tally.turns ≡ self.old.tally.turns }
+    {
+        self.finish(setting, runner);
+        if !self.is_between() {
+            return;
+        }
+        let Place::Between(wire) = mem::replace(&mut self.place, Place::Ended(Outcome::Finished))
+        else {
+            unreachable!()
+        };
+        self.place = next(wire, setting, &self.tally, line, runner);
+        self.finish(setting, runner);
+    }
+
+    /// Whether the connection is between two requests.
+    fn is_between(&self) -> bool
+        ensures yes { IsTrue result → IsBetween self.now.place }
+        ensures no { IsFalse result → ¬ (IsBetween self.now.place) }
+    {
+        match &self.place {
+            Place::Between(_) => true,
+            Place::Http(_, _) => false,
+            Place::Session(_, _) => false,
+            Place::Ended(_) => false,
+        }
+    }
+
+    /// Ends an exchange that is over, or for which a limit on turns is reached: then it is given up.
+    fn finish<A: Application, U: Runner<A::Task, Exchange = X>>(
+        &mut self,
+        setting: &Setting<'_, A>,
+        runner: &mut U,
+    )
+        requires { (limits : Limits) × (start now : LineState) × (before pauses : ℕ) × Stands A.Task.answers U.Pipes.Conn.ConnEnd U.Pipes.App.AppEnd U.conn U.began (A.answers setting.now.app.now)
+            limits setting.now.client.now setting.now.server.now setting.now.state.now start before now pauses self.old }
+        ensures stands { (limits : Limits) (start now : LineState) (before pauses : ℕ)
+            → Stands A.Task.answers U.Pipes.Conn.ConnEnd U.Pipes.App.AppEnd U.conn U.began (A.answers setting.now.app.now)
+            limits setting.now.client.now setting.now.server.now setting.now.state.now start before now pauses self.old
+            → Stands A.Task.answers U.Pipes.Conn.ConnEnd U.Pipes.App.AppEnd U.conn U.began (A.answers setting.now.app.now)
+            limits setting.now.client.now setting.now.server.now setting.now.state.now start before now pauses self.new }
+        ensures rests { IsDueOrBetween self.new.place self.new.tally.turns }
+        ensures due { IsNext self.old.place self.old.tally.turns → IsDue self.new.place self.new.tally.turns }
+        ensures turns { self.new.tally.turns ≡ self.old.tally.turns }
+    {
+        if self.goes_on() {
+            return;
+        }
+        match mem::replace(&mut self.place, Place::Ended(Outcome::Finished)) {
+            Place::Http(half, exchange) => {
+                self.place = end_request(half, exchange, setting, &mut self.tally, runner);
+            }
+            Place::Session(half, exchange) => {
+                self.place = end_session(half, exchange, setting, &mut self.tally, runner);
+            }
+            Place::Between(_) => unreachable!(),
+            Place::Ended(_) => unreachable!(),
+        }
+    }
+
+    /// Whether no exchange is to be ended.
+    fn goes_on(&self) -> bool
+        ensures yes { IsTrue result → IsDueOrBetween self.now.place self.now.tally.turns }
+        ensures no { IsFalse result → IsOver self.now.place self.now.tally.turns }
+    {
+        match &self.place {
+            Place::Between(_) => true,
+            Place::Http(half, _) => !self.tally.turns.is_over() && !half.is_settled(),
+            Place::Session(half, _) => !self.tally.turns.is_over() && !half.is_settled(),
+            Place::Ended(_) => true,
+        }
+    }
+
+    // ---- a turn
+
+    /// Takes the turn that is due, and returns what it did. None once the connection has ended, also for want
+    /// of memory in this turn, which is not counted then.
+    fn move_on<A: Application, L: Line, U: Runner<A::Task, Exchange = X>>(
+        &mut self,
+        setting: &Setting<'_, A>,
+        line: &mut L,
+        runner: &mut U,
+    ) -> Option<Turn>
+        requires due { IsDue self.old.place self.old.tally.turns }
+        requires stands { (limits : Limits) × (start : LineState)
+            × IsServing A.Task.answers U.Pipes.Conn.ConnEnd U.Pipes.App.AppEnd U.conn U.began (A.answers setting.now.app.now)
+            limits setting.now.client.now setting.now.server.now setting.now.state.now start (L.state line.old) self.old.tally self.old.place }
+        ensures serves { (limits : Limits) (start : LineState)
+            → IsServing A.Task.answers U.Pipes.Conn.ConnEnd U.Pipes.App.AppEnd U.conn U.began (A.answers setting.now.app.now)
+            limits setting.now.client.now setting.now.server.now setting.now.state.now start (L.state line.old) self.old.tally self.old.place
+            → IsServing A.Task.answers U.Pipes.Conn.ConnEnd U.Pipes.App.AppEnd U.conn U.began (A.answers setting.now.app.now)
+            limits setting.now.client.now setting.now.server.now setting.now.state.now start (L.state line.new) self.new.tally self.new.place }
+        ensures tally { self.new.tally ≡ self.old.tally }
+        ensures some { IfSome result (λ turn. IsGoing self.old.place × IsGoing self.new.place) }
+        ensures none { IsNone result → (self.new.place ≡ Place.Ended Outcome.NoMemory) ⊎ (HasEnded self.old.place × (self.new.place ≡ self.old.place)) }
+    {
+        match &mut self.place {
+            Place::Between(wire) => match wire.read(line) {
+                Ok(turn) => Some(turn),
+                Err(_) => {
+                    self.place = Place::Ended(Outcome::NoMemory);
+                    None
+                }
+            },
+            Place::Http(half, exchange) => Some(runner.turn(exchange, half, line)),
+            Place::Session(half, exchange) => Some(runner.turn(exchange, half, line)),
+            Place::Ended(_) => None,
+        }
+    }
+}
+
+/// What a turn that was counted did: the last one has moved something.
+fn step_of(turn: Turn) -> Step
+    ensures { GoesOn result }
+{
+    match turn {
+        Turn::Moved => Step::Moved,
+        Turn::Idle => Step::Idle,
+        Turn::Last => Step::Moved,
     }
 }
 
@@ -96,344 +293,18 @@ pub fn serve_connection<H: AllocGlobal, A: Application, L: Line, U: Runner<A::Ta
     ensures { Serves (A.answers app.now) limits.now client.now server.now state.now
         (L.state line.old) (L.state line.new) (P.count pause.old) (P.count pause.new) result }
 {
-    let mut tally = Tally {
-        exchanges: 0,
-        faults: 0,
-        turns: Turns::new(limits.turns, limits.idle_turns),
-    };
-    let mut place = ConnState::Between(Wire::new(rt.alloc(), *limits));
-    while place.goes_on() {
-        place = step(
-            place, client, server, state, app, line, runner, pause, &mut tally,
-        );
-    }
-    Report {
-        exchanges: tally.exchanges,
-        faults: tally.faults,
-        turns: tally.turns.turns,
-        idle: tally.turns.idle,
-        outcome: place.outcome(),
-    }
-}
-
-/// Asks the reader for its next result, and does what that calls for.
-fn step<A: Application, L: Line, U: Runner<A::Task>, P: Pause>(
-    place: ConnState,
-    client: &Option<Peer>,
-    server: &Option<Peer>,
-    state: &State,
-    app: &A,
-    line: &mut L,
-    runner: &mut U,
-    pause: &mut P,
-    tally: &mut Tally,
-) -> ConnState
-    requires between { IsBetween place }
-    requires stands { (limits : Limits) × (start : LineState) × ConnInvariant (A.answers app.now) limits client.now server.now state.now start (L.state line.old) tally.old place }
-    requires room { HasRoom tally.old }
-    ensures serves { (limits : Limits) (start : LineState) → ConnInvariant (A.answers app.now) limits client.now server.now state.now start (L.state line.old) tally.old place
-        → ConnInvariant (A.answers app.now) limits client.now server.now state.now start (L.state line.new) tally.new result }
-    ensures room { IsBetween result → HasRoom tally.new }
-    ensures takes { IsBetween result → tally.old.turns.turns < tally.new.turns.turns }
-    ensures idle { result ≡ ConnState.Ended Outcome.Idle → IsAtLimit tally.new.turns }
-    ensures counts { (turned : List Turn) (pauses : ℕ)
-        → CountsTurns tally.old.turns.turn_limit tally.old.turns.idle_limit turned pauses (P.count pause.old) tally.old.turns.turns tally.old.turns.idle
-        → (more : List Turn) × CountsTurns tally.old.turns.turn_limit tally.old.turns.idle_limit (turned ++ more) pauses (P.count pause.new) tally.new.turns.turns tally.new.turns.idle }
-    ensures turn_limits { (tally.new.turns.turn_limit ≡ tally.old.turns.turn_limit) × (tally.new.turns.idle_limit ≡ tally.old.turns.idle_limit) }
-{
-    let ConnState::Between(mut wire) = place else {
-        unreachable!()
-    };
-    match wire.requests.next() {
-        Err(_) => ConnState::Ended(Outcome::NoMemory),
-        Ok(Next::Need) => wait(wire, line, pause, &mut tally.turns),
-        Ok(Next::Bad(status)) => refuse(status, line),
-        Ok(Next::Head(scope, facts)) => {
-            let Ok(scope) = scope_of(wire.alloc, scope, client, server, state) else {
-                return ConnState::Ended(Outcome::NoMemory);
-            };
-            if let Framing::Upgrade = facts.framing {
-                return open(wire, &scope, facts, app, line, runner, pause, tally);
-            }
-            answer(wire, &scope, facts, app, line, runner, pause, tally)
-        }
-        Ok(Next::Event(_)) => unreachable!(),
-        Ok(Next::Whole) => unreachable!(),
-    }
-}
-
-/// The scope with what the connection knows, in memory of its own.
-fn scope_of(
-    alloc: Global,
-    scope: Scope,
-    client: &Option<Peer>,
-    server: &Option<Peer>,
-    state: &State,
-) -> Result<Scope, AllocError>
-    ensures { IfOk result (λ whole. whole ≡ scope_with scope client.now server.now state.now) }
-{
-    let ConnInfo {
+    let setting = Setting {
         client,
         server,
         state,
-    } = known_of(alloc, client, server, state)?;
-    Ok(scope.with(client, server, state))
-}
-
-/// What the connection knows besides a request.
-#[derive(Drop)]
-struct ConnInfo {
-    client: Option<Peer>,
-    server: Option<Peer>,
-    state: State,
-}
-
-/// Copies what the connection knows, apart from the scope, so that only one refusal of memory drops the scope.
-fn known_of(
-    alloc: Global,
-    client: &Option<Peer>,
-    server: &Option<Peer>,
-    state: &State,
-) -> Result<ConnInfo, AllocError>
-    ensures { IfOk result (λ known. (known.client ≡ client.now) × (known.server ≡ server.now) × (known.state ≡ state.now)) }
-{
-    let client = copy_of(client, alloc)?;
-    let server = copy_of(server, alloc)?;
-    let state = state.copy(alloc)?;
-    Ok(ConnInfo {
-        client,
-        server,
-        state,
-    })
-}
-
-fn copy_of(peer: &Option<Peer>, alloc: Global) -> Result<Option<Peer>, AllocError>
-    ensures { IfOk result (λ copied. copied ≡ peer.now) }
-{
-    match peer {
-        None => Ok(None),
-        Some(peer) => Ok(Some(peer.copy(alloc)?)),
-    }
-}
-
-// ---- between two requests
-
-/// Reads until the reader may have a result, or ends the connection at the end of the input or at a limit.
-fn wait<L: Line, P: Pause>(wire: Wire, line: &mut L, pause: &mut P, turns: &mut Turns) -> ConnState
-    ensures waits { (limits : Limits) (start : LineState) (read : List ℕ) (given : List Next) (exchanges : List ExchangeRecord) (after written : List ℕ)
-        → BetweenRequests limits start (L.state line.old) wire read given exchanges after written → AllGiven wire.requests read given
-        → (more : List ℕ) × IsAt result limits start (L.state line.new) (read ++ more) exchanges written }
-    ensures takes { IsBetween result → turns.old.turns < turns.new.turns }
-    ensures idle { result ≡ ConnState.Ended Outcome.Idle → IsAtLimit turns.new }
-    ensures counts { (turned : List Turn) (pauses : ℕ) → CountsTurns turns.old.turn_limit turns.old.idle_limit turned pauses (P.count pause.old) turns.old.turns turns.old.idle
-        → (more : List Turn) × CountsTurns turns.old.turn_limit turns.old.idle_limit (turned ++ more) pauses (P.count pause.new) turns.new.turns turns.new.idle }
-    ensures turn_limits { (turns.new.turn_limit ≡ turns.old.turn_limit) × (turns.new.idle_limit ≡ turns.old.idle_limit) }
-{
-    let mut wire = wire;
+        app,
+    };
+    let mut connection = Connection::new::<A, U>(rt.alloc(), limits, &setting);
     loop {
-        if wire.input.has_ended() {
-            return ConnState::Ended(at_end(&wire));
+        match connection.turn(&setting, line, runner, pause) {
+            Step::Moved => {}
+            Step::Idle => {}
+            Step::Over(report) => return report,
         }
-        if turns.is_over() {
-            return ConnState::Ended(Outcome::Idle);
-        }
-        let Ok(turn) = wire.read(line) else {
-            return ConnState::Ended(Outcome::NoMemory);
-        };
-        turns.take(turn, pause);
-        if !wire.requests.is_waiting() {
-            return ConnState::Between(wire);
-        }
-    }
-}
-
-/// How the connection ends at the end of the input, if nothing is due.
-fn at_end(wire: &Wire) -> Outcome
-    requires { has_ended wire.now.input ≡ true }
-    ensures ends { (limits : Limits) (start now : LineState) (read : List ℕ) (given : List Next) (exchanges : List ExchangeRecord) (after written : List ℕ)
-        → BetweenRequests limits start now wire.now read given exchanges after written → AllGiven wire.now.requests read given
-        → EndsSo limits start now read exchanges written result }
-    ensures not_idle { result ≢ Outcome.Idle }
-{
-    match wire.input {
-        InputEnd::Open => unreachable!(),
-        InputEnd::Failed => Outcome::InputBroke,
-        InputEnd::AtEnd => {
-            if is_blank(wire.requests.held()) {
-                Outcome::Finished
-            } else {
-                Outcome::InputBroke
-            }
-        }
-    }
-}
-
-/// Whether the bytes are only empty lines.
-fn is_blank(bytes: &[u8]) -> bool
-    ensures { IsTrue result ↔ IsBlank bytes.now }
-{
-    bytes.iter().all(|b| *b == b'\r' || *b == b'\n')
-}
-
-/// Writes the text of a refusal, after which the connection ends.
-fn refuse<L: Line>(status: u16, line: &mut L) -> ConnState
-    requires { IsTrue (is_refusal status) }
-    ensures refuses { (limits : Limits) (start : LineState) (wire : Wire) (read : List ℕ) (given : List Next) (exchanges : List ExchangeRecord) (after written : List ℕ)
-        → BetweenRequests limits start (L.state line.old) wire read given exchanges after written → RefusesWith limits after status
-        → (text : List ℕ) × IsAt result limits start (L.state line.new) read exchanges (written ++ text) }
-    ensures ends { ¬ (IsBetween result) }
-    ensures not_idle { result ≢ ConnState.Ended Outcome.Idle }
-{
-    match write(line, refusal_text(status)) {
-        None => ConnState::Ended(Outcome::Refused(status)),
-        Some(n) => ConnState::Ended(Outcome::WriteFailed(n)),
-    }
-}
-
-// ---- one exchange
-
-/// Answers a request: the application is called, and both halves of the exchange run to its end.
-fn answer<A: Application, L: Line, U: Runner<A::Task>, P: Pause>(
-    wire: Wire,
-    scope: &Scope,
-    facts: Facts,
-    app: &A,
-    line: &mut L,
-    runner: &mut U,
-    pause: &mut P,
-    tally: &mut Tally,
-) -> ConnState
-    requires room { HasRoom tally.old }
-    requires http { kind_of scope.now ≡ Http }
-    requires plain { facts.framing ≢ Framing.Upgrade }
-    ensures serves { (scene : Scene) (client server : Option Peer) (state : List (List ℕ × StateValue)) (read arrived : List ℕ)
-        → scope.now ≡ scope_with scene.scope client server state → Opens scene (L.state line.old) wire facts read arrived
-        → ArePromised (A.answers app.now) client server state scene.exchanges → IsTallied tally.old scene.exchanges
-        → ConnInvariant (A.answers app.now) wire.limits client server state scene.start (L.state line.new) tally.new result }
-    ensures room { IsBetween result → HasRoom tally.new }
-    ensures takes { IsBetween result → tally.old.turns.turns < tally.new.turns.turns }
-    ensures idle { result ≡ ConnState.Ended Outcome.Idle → IsAtLimit tally.new.turns }
-    ensures counts { (turned : List Turn) (pauses : ℕ)
-        → CountsTurns tally.old.turns.turn_limit tally.old.turns.idle_limit turned pauses (P.count pause.old) tally.old.turns.turns tally.old.turns.idle
-        → (more : List Turn) × CountsTurns tally.old.turns.turn_limit tally.old.turns.idle_limit (turned ++ more) pauses (P.count pause.new) tally.new.turns.turns tally.new.turns.idle }
-    ensures turn_limits { (tally.new.turns.turn_limit ≡ tally.old.turns.turn_limit) × (tally.new.turns.idle_limit ≡ tally.old.turns.idle_limit) }
-{
-    let text = ResponseText::new(wire.alloc, &facts);
-    let (end, app_end) = match runner.make(wire.alloc, Kind::Http, facts, wire.limits.ring) {
-        Err(why) => return ConnState::Ended(without_ends(why)),
-        Ok(ends) => ends,
-    };
-    let side = call(wire.alloc, app, scope, app_end);
-    let mut half = HttpHalf::begin(wire, text, line);
-    let kind = runner.run(&mut half, line, pause, &mut tally.turns, end, side);
-    tally.count(kind);
-    leave(half)
-}
-
-/// How a connection ends if its next exchange got no ends.
-fn without_ends(why: NoEnds) -> Outcome
-    ensures lacking { IsLacking result }
-    ensures reason { (why ≡ NoEnds.NoMemory → result ≡ Outcome.NoMemory) × (why ≡ NoEnds.NoThread → result ≡ Outcome.NoThread) }
-{
-    match why {
-        NoEnds::NoMemory => Outcome::NoMemory,
-        NoEnds::NoThread => Outcome::NoThread,
-    }
-}
-
-/// Calls the application. If the call faults, that is the end of its task.
-fn call<A: Application, E: AppEnd>(
-    alloc: Global,
-    app: &A,
-    scope: &Scope,
-    app_end: E,
-) -> AppSide<A::Task, E>
-    requires fresh { (E.heard app_end ≡ []) × (E.said app_end ≡ []) × (E.ended app_end ≡ None) }
-    requires kind { E.kind app_end ≡ kind_of scope.now }
-    ensures may { MayRun A.Task.stands E.AppEnd result }
-    ensures opens { IsOpened (A.answers app.now scope.now) A.Task.answers E.AppEnd app_end result }
-{
-    match app.call(alloc, scope) {
-        Ok(task) => AppSide::Runs(Running::new(task, app_end)),
-        Err(_) => {
-            let mut app_end = app_end;
-            let _first = app_end.finish(EndKind::Faulted);
-            AppSide::HasEnded {
-                app_end,
-                kind: EndKind::Faulted,
-            }
-        }
-    }
-}
-
-/// The state of the connection after the half of an exchange that is over.
-fn leave(half: HttpHalf) -> ConnState
-    requires { (following : NextStep) × (half.stage ≡ Stage.Over following) }
-    ensures { IsLeft half result }
-{
-    match half.stage {
-        Stage::Over(NextStep::NextRequest) => ConnState::Between(half.wire),
-        Stage::Over(NextStep::ConnectionEnds(outcome)) => ConnState::Ended(outcome),
-        Stage::Running => unreachable!(),
-        Stage::Ending(_) => unreachable!(),
-        Stage::Cut(_) => unreachable!(),
-    }
-}
-
-// ---- a session
-
-/// Serves the exchange of an opening handshake; the connection ends with it.
-fn open<A: Application, L: Line, U: Runner<A::Task>, P: Pause>(
-    wire: Wire,
-    scope: &Scope,
-    facts: Facts,
-    app: &A,
-    line: &mut L,
-    runner: &mut U,
-    pause: &mut P,
-    tally: &mut Tally,
-) -> ConnState
-    requires room { HasRoom tally.old }
-    requires websocket { kind_of scope.now ≡ WebSocket }
-    requires upgrade { facts.framing ≡ Framing.Upgrade }
-    requires opens { (scene : SessionScene) × (read : List ℕ) × OpensHandshake scene (L.state line.old) wire facts read }
-    ensures serves { (scene : SessionScene) (client server : Option Peer) (state : List (List ℕ × StateValue)) (read : List ℕ)
-        → scope.now ≡ scope_with scene.scope client server state → OpensHandshake scene (L.state line.old) wire facts read
-        → ArePromised (A.answers app.now) client server state scene.exchanges → IsTallied tally.old scene.exchanges
-        → ConnInvariant (A.answers app.now) scene.limits client server state scene.start (L.state line.new) tally.new result }
-    ensures ends { ¬ (IsBetween result) }
-    ensures idle { result ≡ ConnState.Ended Outcome.Idle → IsAtLimit tally.new.turns }
-    ensures counts { (turned : List Turn) (pauses : ℕ)
-        → CountsTurns tally.old.turns.turn_limit tally.old.turns.idle_limit turned pauses (P.count pause.old) tally.old.turns.turns tally.old.turns.idle
-        → (more : List Turn) × CountsTurns tally.old.turns.turn_limit tally.old.turns.idle_limit (turned ++ more) pauses (P.count pause.new) tally.new.turns.turns tally.new.turns.idle }
-    ensures turn_limits { (tally.new.turns.turn_limit ≡ tally.old.turns.turn_limit) × (tally.new.turns.idle_limit ≡ tally.old.turns.idle_limit) }
-{
-    let mut wire = wire;
-    let Ok(frames) = wire.take_frames() else {
-        return ConnState::Ended(Outcome::NoMemory);
-    };
-    let Ok(own) = facts.copy(wire.alloc) else {
-        return ConnState::Ended(Outcome::NoMemory);
-    };
-    let text = ResponseText::new(wire.alloc, &own);
-    let (end, app_end) = match runner.make(wire.alloc, Kind::WebSocket, facts, wire.limits.ring) {
-        Err(why) => return ConnState::Ended(without_ends(why)),
-        Ok(ends) => ends,
-    };
-    let side = call(wire.alloc, app, scope, app_end);
-    let mut half = WebSocketHalf::begin(wire, own, text, frames);
-    let ended = runner.run(&mut half, line, pause, &mut tally.turns, end, side);
-    tally.count(ended);
-    ConnState::Ended(outcome_of(half))
-}
-
-/// How a session that is over ends its connection.
-fn outcome_of(half: WebSocketHalf) -> Outcome
-    requires { (outcome : Outcome) × (half.stage ≡ Stage.Over (NextStep.ConnectionEnds outcome)) }
-    ensures { half.stage ≡ Stage.Over (NextStep.ConnectionEnds result) }
-{
-    match half.stage {
-        Stage::Over(NextStep::ConnectionEnds(outcome)) => outcome,
-        _ => unreachable!(),
     }
 }

@@ -1,8 +1,12 @@
 //! One connection: the bytes of its requests in, the bytes of its responses out.
 #![tactic(auto)]
 
+mod between;
+mod closing;
 mod connection;
 pub mod laws;
+mod opening;
+mod place;
 mod tally;
 
 pub use asgi_conversation::{InputEnd, NextStep, Outcome, Report};
@@ -10,4 +14,5 @@ pub use asgi_halves::{HttpHalf, WebSocketHalf};
 pub use asgi_io::{CountingPause, Pause};
 pub use asgi_run::{AppSide, Beside, Half, Host, Inline, Napping, NoEnds, NoThread, Runner};
 pub use asgi_ws::Line;
-pub use connection::serve_connection;
+pub use connection::{Connection, Step, serve_connection};
+pub use place::Setting;

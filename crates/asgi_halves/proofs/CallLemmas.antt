@@ -20,13 +20,14 @@ use Rattle.asgi_ws.specs.declared.messages.Call.TheVariants.{Read, Send}
 use Rattle.asgi_ws.specs.Sessions.{is_close, is_read, messages_in, handed_in, reads_after_close}
 use Rattle.asgi_exchange.specs.Messages.{has_close}
 use Rattle.asgi_exchange.specs.Session.{Output, Byte, Message, Handshake, message_of, output_of}
+use Rattle.asgi_halves.specs.Traffic.{FailsAs, is_end, is_failed_send, reads_after_end, says_over}
 use Rattle.asgi_halves.specs.declared.session_half.Answered.TheVariants.{Open, Closed}
 use Rattle.asgi_halves.specs.WebSocketHalf.{answer_to}
 
 -- ---- one more call
 
-counted : (calls : List Call) (c : Call) → count_by is_read (calls ++ c ∷ []) ≡ count_by is_read calls + count_by is_read (c ∷ [])
-counted calls c = sum_by-append _ calls (c ∷ [])
+pub counted : (test : Call → Bool) (calls : List Call) (c : Call) → count_by test (calls ++ c ∷ []) ≡ count_by test calls + count_by test (c ∷ [])
+counted test calls c = sum_by-append _ calls (c ∷ [])
 
 same_either : (b : Bool) (n : ℕ) → (if b then n else n) ≡ n
 same_either true n = refl
@@ -38,7 +39,7 @@ read_after [] answer = omega (arith, same_either (is_close (Read answer)) 0)
 read_after (first ∷ calls) answer =
     elim (is_close first) as
     (λ b. (if b then count_by is_read (calls ++ Read answer ∷ []) else reads_after_close (calls ++ Read answer ∷ [])) ≤ (if b then count_by is_read calls else reads_after_close calls) + 1)
-    [ true ↦ omega (arith, counted calls (Read answer)) | false ↦ read_after calls answer ]
+    [ true ↦ omega (arith, counted is_read calls (Read answer)) | false ↦ read_after calls answer ]
 
 -- a send is none
 pub send_after : (calls : List Call) (item : SentMessage) (answer : Put) → reads_after_close (calls ++ Send item answer ∷ []) ≡ reads_after_close calls
@@ -46,7 +47,42 @@ send_after [] item answer = same_either (is_close (Send item answer)) 0
 send_after (first ∷ calls) item answer =
     elim (is_close first) as
     (λ b. (if b then count_by is_read (calls ++ Send item answer ∷ []) else reads_after_close (calls ++ Send item answer ∷ [])) ≡ (if b then count_by is_read calls else reads_after_close calls))
-    [ true ↦ omega (arith, counted calls (Send item answer)) | false ↦ send_after calls item answer ]
+    [ true ↦ omega (arith, counted is_read calls (Send item answer)) | false ↦ send_after calls item answer ]
+
+-- ---- no message follows
+
+-- no read was made after a report of that, if there was none
+pub none_after_end : (calls : List Call) (answer : Got) → says_over calls ≡ false → reads_after_end (calls ++ Read answer ∷ []) ≡ 0
+none_after_end [] answer goes_on = same_either (is_end answer) 0
+none_after_end (Read first ∷ calls) answer goes_on = by (is_end first) (λ on. none_after_end calls answer on) goes_on
+  where
+    by : (b : Bool) → (says_over calls ≡ false → reads_after_end (calls ++ Read answer ∷ []) ≡ 0) → (b || says_over calls) ≡ false → (if b then count_by is_read (calls ++ Read answer ∷ []) else reads_after_end (calls ++ Read answer ∷ [])) ≡ 0
+    by true later on = cc
+    by false later on = later on
+none_after_end (Send item result ∷ calls) answer goes_on = none_after_end calls answer goes_on
+
+pub end_send : (calls : List Call) (item : SentMessage) (answer : Put) → reads_after_end (calls ++ Send item answer ∷ []) ≡ reads_after_end calls
+end_send [] item answer = refl
+end_send (Read first ∷ calls) item answer =
+    elim (is_end first) as (λ b. (if b then count_by is_read (calls ++ Send item answer ∷ []) else reads_after_end (calls ++ Send item answer ∷ [])) ≡ (if b then count_by is_read calls else reads_after_end calls))
+    [ true ↦ omega (arith, counted is_read calls (Send item answer)) | false ↦ end_send calls item answer ]
+end_send (Send other first ∷ calls) item answer = end_send calls item answer
+
+-- ---- a send that failed
+
+-- how many sends with this result failed
+abbrev pub failures_by : Put → ℕ
+failures_by put.Done = 0
+failures_by put.Failed = 1
+failures_by put.NoMemory = 0
+
+pub none_fails_after : (calls : List Call) (answer : Got) → count_by is_failed_send calls ≡ 0 → count_by is_failed_send (calls ++ Read answer ∷ []) ≡ 0
+none_fails_after calls answer none = omega (arith, none, counted is_failed_send calls (Read answer))
+
+pub fails_after : (calls : List Call) (item : SentMessage) (answer : Put) → count_by is_failed_send calls ≡ 0 → FailsAs (failures_by answer) (calls ++ Send item answer ∷ [])
+fails_after calls item put.Done none = omega (arith, none, counted is_failed_send calls (Send item put.Done))
+fails_after calls item put.Failed none = (calls, item, refl, none)
+fails_after calls item put.NoMemory none = omega (arith, none, counted is_failed_send calls (Send item put.NoMemory))
 
 -- ---- no close
 

@@ -28,7 +28,7 @@ use Rattle.asgi_conversation.specs.declared.input.InputEnd.{InputEnd}
 use Rattle.asgi_conversation.specs.declared.report.Outcome.TheVariants.{NoMemory}
 use Rattle.asgi_halves.specs.declared.wire.Wire.{Wire}
 use Rattle.asgi_halves.specs.Half.{Scene, Invariant, WithinScene, requests_in, IsRunning, HasGiven, EndsWhere, BreaksAt}
-use Rattle.asgi_halves.specs.private.HalfSteps.{KeepsBesidesBody, GivesAfter, HasAsked, HoldsFew, ReadsAt, EndsAtInput}
+use Rattle.asgi_halves.specs.private.HalfSteps.{KeepsBesidesBody, GivesAfter, HasAsked, HoldsFew, IsNoneDue, ReadsAt, EndsAtInput}
 use Rattle.asgi_ws.specs.Lines.{LineState}
 use Rattle.asgi_run.specs.Lines.{Transferred, piece_size}
 use Rattle.asgi_halves.specs.ReadAhead.{ReadsAhead}
@@ -196,6 +196,14 @@ due_at_end (Waits event) end ends is = absurd ends
 due_at_end Whole end ends is = is
 due_at_end (Refused status) end ends is = tt
 due_at_end BrokenOff end ends is = is
+
+-- before that none is due
+pub none_due_before : (body : BodyProgress) (end : InputEnd) (reader : Reading) → EndsAtInput body → has_ended end ≡ false → IsNoneDue body end reader
+none_due_before Open end reader ends is = absurd ends
+none_due_before (Waits event) end reader ends is = absurd ends
+none_due_before Whole end reader ends is = is
+none_due_before (Refused status) end reader ends is = absurd ends
+none_due_before BrokenOff end reader ends is = is
 
 -- ---- a read
 

@@ -18,3 +18,4 @@ pub mod CallLemmas
 pub mod HttpKindLemmas
 pub mod SessionKindLemmas
 pub mod TurnLemmas
+pub mod StageLemmas

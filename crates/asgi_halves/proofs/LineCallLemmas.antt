@@ -1,5 +1,5 @@
 -- The calls of a line, by what is known of it before and after.
-use Rattle.std.proofs.Common.{◌≡◌, ℕ, List, [], ◌∷◌, ◌++◌, sym, subst}
+use Rattle.std.proofs.Common.{◌≡◌, ℕ, List, [], ◌∷◌, ◌++◌, ap, arith, sym, subst, ◌∙◌}
 use Rattle.asgi_io.specs.declared.counts.Counts as counts
 use Rattle.asgi_io.specs.declared.reads.Reads as reads
 use Rattle.asgi_ws.specs.declared.line.Line as line
@@ -9,7 +9,11 @@ use Rattle.asgi_ws.specs.declared.messages.Messages as messages
 use Rattle.asgi_ws.specs.declared.messages.Put.{Put}
 use Rattle.asgi_ws.specs.declared.messages.SentMessage.{SentMessage}
 use Rattle.asgi_ws.specs.Lines.{LineState, state_of}
-use Rattle.asgi_ws.specs.Sessions.{given_by, is_failed, has_failed, count_after, kept_by, Loses}
+use Rattle.asgi_ws.specs.Sessions.{given_by, is_failed, is_read, has_failed, count_after, kept_by, Loses}
+use Rattle.asgi_io.specs.declared.turns.Turn.{Turn}
+use Rattle.asgi_halves.specs.Kinds.{IsTurnOfRead, OfMessage, ReadsNone, turn_by}
+use Rattle.std.specs.List.{count_by}
+use Rattle.asgi_halves.proofs.CallLemmas.{counted}
 use Rattle.asgi_halves.proofs.TalkLemmas.{LeavesText}
 
 -- a message was read
@@ -35,6 +39,18 @@ pub record HasUpgraded (was now : LineState) (bytes : List ℕ) : Type 0 where
   pub count : now.failed ≡ was.failed
   pub calls : now.session.calls ≡ was.session.calls
   pub coming : now.session.coming ≡ was.session.coming
+
+-- the turn of a read is that of its answer
+pub turn_of_message : (Rests : Type 0) (was now : LineState) (answer : Got) (turn : Turn) → HasRead was now answer → turn ≡ turn_by answer → IsTurnOfRead Rests was now turn
+turn_of_message Rests was now answer turn read is = OfMessage answer read.told read.text.reads is
+
+-- what is sent, and the switch to messages, reads nothing
+pub sending_reads_none : (was now : LineState) (item : SentMessage) (answer : Put) → HasSent was now item answer → ReadsNone was now
+sending_reads_none was now item answer sent =
+    (sent.text.reads, ap (count_by is_read) sent.told ∙ omega (arith, counted is_read was.session.calls (Send item answer)))
+
+pub upgrade_reads_none : (was now : LineState) (bytes : List ℕ) → HasUpgraded was now bytes → ReadsNone was now
+upgrade_reads_none was now bytes u = (u.text.reads, ap (count_by is_read) u.calls)
 
 module _ {L : Type 0} (G : line.Ghosts L) (R : reads.Ghosts L) (W : counts.Ghosts L) (M : messages.Ghosts L) (told_by : (x : L) → G.state x ≡ state_of R W M x) (old new : L) where
   -- what holds of the members holds of what is known of the line

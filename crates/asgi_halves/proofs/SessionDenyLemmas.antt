@@ -38,7 +38,8 @@ use Rattle.asgi_halves.specs.declared.session_half.WebSocketHalf.{WebSocketHalf}
 use Rattle.asgi_halves.specs.declared.wire.Wire.{Wire}
 use Rattle.asgi_ws.specs.Lines.{LineState}
 use Rattle.asgi_run.specs.Lines.{how_wrote}
-use Rattle.asgi_halves.specs.WebSocketHalf.{SessionScene, Invariant, IsDenial, Talks, IsAt, IsCarried, IsDue, IsOf, IsSilent, answer_to, exchange_of, said_in, talk_in, text_failures}
+use Rattle.asgi_halves.specs.WebSocketHalf.{SessionScene, Invariant, IsDenial, Talks, IsAt, IsCarried, IsDue, IsOf, IsSilent, answer_to, exchange_of, said_in, talk_in}
+use Rattle.asgi_halves.specs.Half.{failures_at}
 use Rattle.asgi_halves.specs.WebSocketHalf.{CarriesOn}
 use Rattle.asgi_run.proofs.LineLemmas.{tries_front}
 use Rattle.asgi_halves.proofs.SessionPassLemmas.{more_said, denial_is_first, denial_goes_on}
@@ -94,7 +95,7 @@ module _ (scene : SessionScene) (was : LineState) (half : WebSocketHalf) (read :
   line : CarriesOn scene.start was half.wire.input read (scene.before ++ x.text) 0 (talk_in half view x.leftover x.handed) half.spare_reads
   line =
       let P : ℕ → Type 0 = λ n. CarriesOn scene.start was half.wire.input read (scene.before ++ x.text) n (talk_in half view x.leftover x.handed) half.spare_reads in
-      subst (λ (a : Answered). P (text_failures a Running)) unanswered (subst (λ (s : Stage). P (text_failures half.answered s)) running x.line)
+      subst (λ (s : Stage). P (failures_at s)) running x.line
 
   silent : IsSilent (record half { judge = before }) view x.leftover x.handed × (half.leftover.items ≡ scene.frames)
   silent = subst (λ (a : Answered). IsCarried a scene (record half { judge = before }) view x.text x.leftover x.handed) unanswered x.carried
@@ -111,7 +112,7 @@ module _ (scene : SessionScene) (was : LineState) (half : WebSocketHalf) (read :
   due_on : (d : Due) (wire : Wire) (text : ResponseText) (written : List Output) → IsDue d (record half { judge = before }) view
       → IsDue d (record half { answered = Unanswered; wire = wire; text = text; stage = Running }) (later written)
   due_on due.Nothing wire text written y = λ other unbroken. y (λ e. other (sym unanswered ∙ e)) unbroken
-  due_on (due.Waits waits) wire text written y = (y.0, y.1, y.2, λ e. cc)
+  due_on (due.Waits waits) wire text written y = (y.0, y.1, y.2, λ e. cc, y.4)
   due_on (due.Left left) wire text written y = (y.0, y.1, y.2, y.3, λ e. cc)
 
   -- ---- this much of the text in hand is out
@@ -146,7 +147,7 @@ module _ (scene : SessionScene) (was : LineState) (half : WebSocketHalf) (read :
         ∙ (append_assoc view.written (map Byte front) (map Byte rest)
         ∙ ap (λ (l : List Output). view.written ++ l) (sym (map-append Byte front rest) ∙ ap (map Byte) front_is))
 
-    stands_so : CarriesOn scene.start now half.wire.input read (scene.before ++ (x.text ++ front)) (text_failures Unanswered stage) (talk_in half view x.leftover x.handed) half.spare_reads
+    stands_so : CarriesOn scene.start now half.wire.input read (scene.before ++ (x.text ++ front)) (failures_at stage) (talk_in half view x.leftover x.handed) half.spare_reads
         → IsAt stage scene new (later out) → (written : List Output) × Invariant scene now (record half { wire = wire; text = text; stage = stage }) read (later written)
     stands_so carried is_at =
         let fixed : IsOf scene half.facts (record half.wire { out = wire.out }) read = record {
@@ -187,7 +188,7 @@ module _ (scene : SessionScene) (was : LineState) (half : WebSocketHalf) (read :
       → CarriesOn scene.start now half.wire.input read (scene.before ++ (x.text ++ part)) failures (talk_in half view x.leftover x.handed) half.spare_reads
   text_moved now part failures same_left same_reads same_session appends rose tries =
       subst (λ (l : List ℕ). CarriesOn scene.start now half.wire.input read l failures (talk_in half view x.leftover x.handed) half.spare_reads) (append_assoc scene.before x.text part)
-      (talk_written scene.start was now half.wire.input read (scene.before ++ x.text) part failures (talk_in half view x.leftover x.handed) half.spare_reads line same_left same_reads same_session appends rose tries)
+      (talk_written scene.start was now half.wire.input read (scene.before ++ x.text) part failures (talk_in half view x.leftover x.handed) half.spare_reads line silent.0.kept same_left same_reads same_session appends rose tries)
 
   -- ---- the text in hand is written
 

@@ -48,9 +48,11 @@ use Rattle.asgi_halves.specs.declared.session_half.WebSocketHalf.{WebSocketHalf}
 use Rattle.asgi_halves.specs.Traffic.{failures_of}
 use Rattle.asgi_ws.specs.Lines.{LineState}
 use Rattle.asgi_run.specs.Lines.{how_wrote}
-use Rattle.asgi_halves.specs.WebSocketHalf.{SessionScene, Invariant, Talks, EndsByTask, IsAt, IsCarried, IsSilent, answer_to, exchange_of, known, outcome_after, output_in, said_in, talk_in, text_failures}
+use Rattle.asgi_halves.specs.WebSocketHalf.{SessionScene, Invariant, Talks, EndsByTask, IsAt, IsCarried, IsSilent, answer_to, exchange_of, known, outcome_after, output_in, said_in, talk_in}
 use Rattle.asgi_halves.specs.WebSocketHalf.{CarriesOn}
 use Rattle.asgi_run.proofs.LineLemmas.{tries_front}
+use Rattle.asgi_halves.specs.Half.{failures_at}
+use Rattle.asgi_halves.proofs.CallLemmas.{failures_by}
 use Rattle.asgi_halves.proofs.TalkLemmas.{LeavesText, talk_written, talk_sent}
 
 -- ---- what the end adds, by what was sent
@@ -75,7 +77,6 @@ open_or_closed : (said : List Outgoing) (b : Bool) (a : Answered) → is_closed 
 open_or_closed said b a is h = sym h ∙ ap (λ (c : Bool). if c then Closed else Open) is
 
 left_open : (said : List Outgoing) → answer_to said ≡ Open → EndsOpen said
-left_open [] h = cc
 left_open (WsAccept a b ∷ events) h = by (is_closed WebSocket (WsAccept a b ∷ events)) refl
   where
     by : (c : Bool) → is_closed WebSocket (WsAccept a b ∷ events) ≡ c → EndsOpen (WsAccept a b ∷ events)
@@ -84,19 +85,9 @@ left_open (WsAccept a b ∷ events) h = by (is_closed WebSocket (WsAccept a b �
       adds = λ code broken. ap (λ (c : Bool). if c then [] else (if broken then [] else Message (item.Close code []) ∷ [])) is;
       follows = λ input_broke received. ap (λ (c : Bool). if c then outcome.Finished else open_outcome input_broke received) is;
     }
-left_open (WsClose a b ∷ events) h = cc
-left_open (WsSend a ∷ events) h = cc
-left_open (DenialStart a b ∷ events) h = cc
-left_open (DenialBody a b ∷ events) h = cc
-left_open (ResponseStart a b ∷ events) h = cc
-left_open (ResponseBody a b ∷ events) h = cc
-left_open (StartupComplete a ∷ events) h = cc
-left_open (StartupFailed a ∷ events) h = cc
-left_open (ShutdownComplete ∷ events) h = cc
-left_open (ShutdownFailed a ∷ events) h = cc
+left_open _ h = cc
 
 was_closed : (said : List Outgoing) → answer_to said ≡ Closed → EndsWell said
-was_closed [] h = cc
 was_closed (WsAccept a b ∷ events) h = by (is_closed WebSocket (WsAccept a b ∷ events)) refl
   where
     by : (c : Bool) → is_closed WebSocket (WsAccept a b ∷ events) ≡ c → EndsWell (WsAccept a b ∷ events)
@@ -105,34 +96,16 @@ was_closed (WsAccept a b ∷ events) h = by (is_closed WebSocket (WsAccept a b �
       adds = λ code broken. ap (λ (c : Bool). if c then [] else (if broken then [] else Message (item.Close code []) ∷ [])) is;
       follows = λ input_broke received. ap (λ (c : Bool). if c then outcome.Finished else open_outcome input_broke received) is;
     }
-was_closed (WsClose a b ∷ events) h = cc
-was_closed (WsSend a ∷ events) h = cc
-was_closed (DenialStart a b ∷ events) h = cc
-was_closed (DenialBody a b ∷ events) h = cc
-was_closed (ResponseStart a b ∷ events) h = cc
-was_closed (ResponseBody a b ∷ events) h = cc
-was_closed (StartupComplete a ∷ events) h = cc
-was_closed (StartupFailed a ∷ events) h = cc
-was_closed (ShutdownComplete ∷ events) h = cc
-was_closed (ShutdownFailed a ∷ events) h = cc
+was_closed _ h = cc
 
 was_refused : (said : List Outgoing) → answer_to said ≡ Refused → EndsWell said
-was_refused [] h = cc
 was_refused (WsAccept a b ∷ events) h = by (is_closed WebSocket (WsAccept a b ∷ events)) refl
   where
     by : (c : Bool) → is_closed WebSocket (WsAccept a b ∷ events) ≡ c → EndsWell (WsAccept a b ∷ events)
     by true is = (let never : Refused ≡ Closed = open_or_closed (WsAccept a b ∷ events) true Refused is h in cc)
     by false is = (let never : Refused ≡ Open = open_or_closed (WsAccept a b ∷ events) false Refused is h in cc)
 was_refused (WsClose a b ∷ events) h = record { adds = λ code broken. refl; follows = λ input_broke received. refl }
-was_refused (WsSend a ∷ events) h = cc
-was_refused (DenialStart a b ∷ events) h = cc
-was_refused (DenialBody a b ∷ events) h = cc
-was_refused (ResponseStart a b ∷ events) h = cc
-was_refused (ResponseBody a b ∷ events) h = cc
-was_refused (StartupComplete a ∷ events) h = cc
-was_refused (StartupFailed a ∷ events) h = cc
-was_refused (ShutdownComplete ∷ events) h = cc
-was_refused (ShutdownFailed a ∷ events) h = cc
+was_refused _ h = cc
 
 -- how far a denial is
 denied_so_far : (facts : Facts) (status : ℕ) (headers : _) (bodies : List Outgoing) → IsLawful WebSocket facts (DenialStart status headers ∷ bodies)
@@ -188,18 +161,6 @@ one_begun facts (ShutdownFailed a ∷ events) lawful u h = (let never : false �
 
 -- ---- in the end
 
-unfailed : (a : Answered) (ended : EndKind) → text_failures a (stage.Ending ended) ≡ 0
-unfailed Unanswered ended = refl
-unfailed Refused ended = refl
-unfailed Open ended = refl
-unfailed Closed ended = refl
-
-unfailing : (a : Answered) (out : Outcome) → failures_of out ≡ 0 → text_failures a (stage.Over (ConnectionEnds out)) ≡ 0
-unfailing Unanswered out none = none
-unfailing Refused out none = none
-unfailing Open out none = refl
-unfailing Closed out none = refl
-
 carried_still : (a : Answered) (scene : SessionScene) (half : WebSocketHalf) (view : ConnView Msg Output) (text : List ℕ) (leftover : Option (List ℕ)) (handed : List SentMessage)
     (later : Stage) (written : List Output) → IsCarried a scene half view text leftover handed
     → IsCarried a scene (record half { stage = later }) (record view { written = written }) text leftover handed
@@ -231,7 +192,7 @@ module _ (scene : SessionScene) (was : LineState) (half : WebSocketHalf) (read :
   line : CarriesOn scene.start was half.wire.input read (scene.before ++ x.text) 0 (talk_in half view x.leftover x.handed) half.spare_reads
   line =
       let P : ℕ → Type 0 = λ n. CarriesOn scene.start was half.wire.input read (scene.before ++ x.text) n (talk_in half view x.leftover x.handed) half.spare_reads in
-      subst P (unfailed half.answered ended) (subst (λ (s : Stage). P (text_failures half.answered s)) is x.line)
+      subst (λ (s : Stage). P (failures_at s)) is x.line
 
   whole : session_text (handshake_of scene.facts) scene.facts (taken_of view) (end_of view.got) (is_by_input view.broken) ≡ view.written ++ adds
   whole =
@@ -246,7 +207,7 @@ module _ (scene : SessionScene) (was : LineState) (half : WebSocketHalf) (read :
 
   -- this much of it went out
   ends_with : (now : LineState) (out : Outcome) (text : List ℕ) (handed : List SentMessage) (front rest : List Output)
-      → CarriesOn scene.start now half.wire.input read (scene.before ++ text) (text_failures half.answered (stage.Over (ConnectionEnds out))) (talk_in half view x.leftover handed) half.spare_reads
+      → CarriesOn scene.start now half.wire.input read (scene.before ++ text) (failures_of out) (talk_in half view x.leftover handed) half.spare_reads
       → map Byte text ++ map Message handed ≡ view.written ++ front → front ++ rest ≡ adds
       → IsCarried half.answered scene half view text x.leftover handed
       → IsAt (stage.Over (ConnectionEnds out)) scene (ends_so half out) (record view { written = map Byte text ++ map Message handed })
@@ -293,7 +254,7 @@ module _ (scene : SessionScene) (was : LineState) (half : WebSocketHalf) (read :
   ends_silent out none nothing follows =
       let gone : map Byte x.text ++ map Message x.handed ≡ view.written ++ [] = sym x.written ∙ sym (append-nil view.written) in
       ends_with was out x.text x.handed [] []
-      (subst (λ (n : ℕ). CarriesOn scene.start was half.wire.input read (scene.before ++ x.text) n (talk_in half view x.leftover x.handed) half.spare_reads) (sym (unfailing half.answered out none)) line)
+      (subst (λ (n : ℕ). CarriesOn scene.start was half.wire.input read (scene.before ++ x.text) n (talk_in half view x.leftover x.handed) half.spare_reads) (sym none) line)
       gone (sym nothing) x.carried
       (inl (by_task out (map Byte x.text ++ map Message x.handed) follows (gone ∙ ap (λ (l : List Output). view.written ++ l) (sym nothing))))
 
@@ -316,12 +277,12 @@ module _ (scene : SessionScene) (was : LineState) (half : WebSocketHalf) (read :
 
     text_moved : (out : Outcome) (part : List ℕ) (failures : ℕ) → failures ≡ failures_of out → Appends was.written now.written part → RoseBy failures was.failed now.failed
         → TriesWrites was.writes now.writes (length part) (how_wrote failures (length part))
-        → CarriesOn scene.start now half.wire.input read (scene.before ++ (x.text ++ part)) (text_failures half.answered (stage.Over (ConnectionEnds out))) (talk_in half view x.leftover x.handed) half.spare_reads
+        → CarriesOn scene.start now half.wire.input read (scene.before ++ (x.text ++ part)) (failures_of out) (talk_in half view x.leftover x.handed) half.spare_reads
     text_moved out part failures count appends rose tries =
         let P : ℕ → Type 0 = λ n. CarriesOn scene.start now half.wire.input read (scene.before ++ (x.text ++ part)) n (talk_in half view x.leftover x.handed) half.spare_reads in
-        subst P (count ∙ ap (λ (a : Answered). text_failures a (stage.Over (ConnectionEnds out))) (sym unanswered))
+        subst P count
         (subst (λ (l : List ℕ). CarriesOn scene.start now half.wire.input read l failures (talk_in half view x.leftover x.handed) half.spare_reads) (append_assoc scene.before x.text part)
-        (talk_written scene.start was now half.wire.input read (scene.before ++ x.text) part failures (talk_in half view x.leftover x.handed) half.spare_reads line same_left same_reads same_session appends rose tries))
+        (talk_written scene.start was now half.wire.input read (scene.before ++ x.text) part failures (talk_in half view x.leftover x.handed) half.spare_reads line silent.0.kept same_left same_reads same_session appends rose tries))
 
     text_out : (out : Outcome) → failures_of out ≡ 0 → after_session ended (said_in scene view) (is_by_input view.broken) view.arrived ≡ out
         → Appends was.written now.written more → RoseBy 0 was.failed now.failed → TriesWrites was.writes now.writes (length more) wrote.Done → Goes scene now (ends_so half out) read view
@@ -345,20 +306,16 @@ module _ (scene : SessionScene) (was : LineState) (half : WebSocketHalf) (read :
   module _ (opened : half.answered ≡ Open) (message : SentMessage) (adds_it : adds ≡ Message message ∷ []) (now : LineState) (same : LeavesText was now) (answer : Put)
       (told : now.session.calls ≡ was.session.calls ++ Send message answer ∷ []) (count : now.failed ≡ count_after was.failed (has_failed answer))
       (coming : now.session.coming ≡ was.session.coming) (kept : now.session.leftover ≡ was.session.leftover) where
-    sent : (out : Outcome)
-        → CarriesOn scene.start now half.wire.input read (scene.before ++ x.text) (text_failures half.answered (stage.Over (ConnectionEnds out))) (talk_in half view x.leftover (x.handed ++ taken_by message answer)) half.spare_reads
-    sent out =
-        subst (λ (n : ℕ). CarriesOn scene.start now half.wire.input read (scene.before ++ x.text) n (talk_in half view x.leftover (x.handed ++ taken_by message answer)) half.spare_reads)
-        (ap (λ (a : Answered). text_failures a (stage.Over (ConnectionEnds out))) (sym opened))
-        (talk_sent scene.start was now half.wire.input read (scene.before ++ x.text) 0 (talk_in half view x.leftover x.handed)
+    sent : CarriesOn scene.start now half.wire.input read (scene.before ++ x.text) (failures_by answer) (talk_in half view x.leftover (x.handed ++ taken_by message answer)) half.spare_reads
+    sent =
+        talk_sent scene.start was now half.wire.input read (scene.before ++ x.text) 0 refl (talk_in half view x.leftover x.handed)
         (talk_in half view x.leftover (x.handed ++ taken_by message answer)) half.spare_reads line same message answer told count coming kept refl refl refl refl
-        scene.frames (subst (λ (a : Answered). IsCarried a scene half view x.text x.leftover x.handed) opened x.carried).kept)
+        scene.frames (subst (λ (a : Answered). IsCarried a scene half view x.text x.leftover x.handed) opened x.carried).kept
 
-    sent_as : (out : Outcome) (result : Put) → answer ≡ result
-        → CarriesOn scene.start now half.wire.input read (scene.before ++ x.text) (text_failures half.answered (stage.Over (ConnectionEnds out))) (talk_in half view x.leftover (x.handed ++ taken_by message result)) half.spare_reads
-    sent_as out result e =
-        subst (λ (a : Put). CarriesOn scene.start now half.wire.input read (scene.before ++ x.text) (text_failures half.answered (stage.Over (ConnectionEnds out)))
-        (talk_in half view x.leftover (x.handed ++ taken_by message a)) half.spare_reads) e (sent out)
+    sent_as : (result : Put) → answer ≡ result
+        → CarriesOn scene.start now half.wire.input read (scene.before ++ x.text) (failures_by result) (talk_in half view x.leftover (x.handed ++ taken_by message result)) half.spare_reads
+    sent_as result e =
+        subst (λ (a : Put). CarriesOn scene.start now half.wire.input read (scene.before ++ x.text) (failures_by a) (talk_in half view x.leftover (x.handed ++ taken_by message a)) half.spare_reads) e sent
 
     carried_with : (handed : List SentMessage) → IsCarried half.answered scene half view x.text x.leftover handed
     carried_with handed =
@@ -374,21 +331,21 @@ module _ (scene : SessionScene) (was : LineState) (half : WebSocketHalf) (read :
     message_out e follows =
         let handed : List SentMessage = x.handed ++ message ∷ [] in
         let gone : map Byte x.text ++ map Message handed ≡ view.written ++ Message message ∷ [] = out_with (message ∷ []) in
-        ends_with now outcome.Finished x.text handed (Message message ∷ []) [] (sent_as outcome.Finished put.Done e) gone (sym adds_it) (carried_with handed)
+        ends_with now outcome.Finished x.text handed (Message message ∷ []) [] (sent_as put.Done e) gone (sym adds_it) (carried_with handed)
         (inl (by_task outcome.Finished (map Byte x.text ++ map Message handed) follows (gone ∙ ap (λ (l : List Output). view.written ++ l) (sym adds_it))))
 
     message_cut : answer ≡ put.Failed → Goes scene now (ends_so half (outcome.WriteFailed 0)) read view
     message_cut e =
         let handed : List SentMessage = x.handed ++ [] in
         let gone : map Byte x.text ++ map Message handed ≡ view.written ++ [] = out_with [] in
-        ends_with now (outcome.WriteFailed 0) x.text handed [] adds (sent_as (outcome.WriteFailed 0) put.Failed e) gone refl (carried_with handed)
+        ends_with now (outcome.WriteFailed 0) x.text handed [] adds (sent_as put.Failed e) gone refl (carried_with handed)
         (inr (stops 0 (map Byte x.text ++ map Message handed) (subst (λ (l : List Output). 0 < length l) (sym adds_it) (omega arith)) gone))
 
     message_short : answer ≡ put.NoMemory → Goes scene now (ends_so half outcome.NoMemory) read view
     message_short e =
         let handed : List SentMessage = x.handed ++ [] in
         let gone : map Byte x.text ++ map Message handed ≡ view.written ++ [] = out_with [] in
-        ends_with now outcome.NoMemory x.text handed [] adds (sent_as outcome.NoMemory put.NoMemory e) gone refl (carried_with handed)
+        ends_with now outcome.NoMemory x.text handed [] adds (sent_as put.NoMemory e) gone refl (carried_with handed)
         (inr ([], append-nil (map Byte x.text ++ map Message handed) ∙ (gone ∙ (append-nil view.written ∙ at_end.0.written))))
 
 -- ---- by how the task ended

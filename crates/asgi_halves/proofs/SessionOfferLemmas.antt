@@ -38,7 +38,7 @@ use Rattle.asgi_halves.specs.declared.session_half.Due.TheVariants as due
 use Rattle.asgi_halves.specs.declared.session_half.WebSocketHalf.{WebSocketHalf}
 use Rattle.asgi_halves.specs.Half.{failures_at}
 use Rattle.asgi_ws.specs.Lines.{LineState}
-use Rattle.asgi_halves.specs.WebSocketHalf.{SessionScene, Invariant, Talks, IsAt, IsCarried, IsCutShort, IsCutShortAs, IsDue, exchange_of, known, output_in, said_in, talk_in, text_failures}
+use Rattle.asgi_halves.specs.WebSocketHalf.{SessionScene, Invariant, Talks, IsAt, IsCarried, IsCutShort, IsCutShortAs, IsDue, exchange_of, known, output_in, said_in, talk_in}
 use Rattle.asgi_conversation.specs.OutcomeClasses.{OutcomeClass, Uncut, ByWrite, GivenUp, Lacking, Unbegun, class_of}
 use Rattle.asgi_halves.specs.WebSocketHalf.{CarriesOn}
 use Rattle.asgi_conversation.proofs.NextLemmas.{next_on}
@@ -90,13 +90,6 @@ carried_on Open scene half later view next text leftover handed kept over closed
 carried_on Closed scene half later view next text leftover handed kept over closed arrived more c =
     record { kept = c.kept; subprotocol = c.subprotocol; headers = c.headers; events = c.events ++ more.0; said = sym more.1 ∙ ap (λ (l : List Outgoing). l ++ more.0) c.said; text_is = c.text_is }
 
--- a stage with the same count of failed writes
-pub same_failures : (answered : Answered) (s t : Stage) → failures_at s ≡ failures_at t → text_failures answered s ≡ text_failures answered t
-same_failures Unanswered s t e = e
-same_failures Refused s t e = e
-same_failures Open s t e = refl
-same_failures Closed s t e = refl
-
 unbroken : (b : Option Break) → is_by_cut b ≡ false → is_by_input b ≡ false → b ≡ None
 unbroken None c i = refl
 unbroken (Some ByInput) c i = cc
@@ -116,7 +109,7 @@ module _ (scene : SessionScene) (line : LineState) (half : WebSocketHalf) (read 
     text = x.text;
     leftover = x.leftover;
     handed = x.handed;
-    line = subst (λ (n : ℕ). CarriesOn scene.start line half.wire.input read (scene.before ++ x.text) n (talk_in half view x.leftover x.handed) half.spare_reads) (same_failures half.answered half.stage s failures) x.line;
+    line = subst (λ (n : ℕ). CarriesOn scene.start line half.wire.input read (scene.before ++ x.text) n (talk_in half view x.leftover x.handed) half.spare_reads) failures x.line;
     written = x.written;
     carried = carried_on half.answered scene half (record half { due = d; input_broke = b; stage = s }) view (record view { offered = offered; broken = broken; got = got }) x.text x.leftover x.handed refl refl refl refl more x.carried;
     keeps = keeps;
@@ -157,7 +150,7 @@ module _ (scene : SessionScene) (line : LineState) (half : WebSocketHalf) (read 
         let none = none_broke w.0 in
         runs_on due.Nothing half.input_broke (view.offered ++ event ∷ []) view.broken
         (subst (λ (b : Option Break). IsOffered (exchange_of scene) view.arrived (view.offered ++ event ∷ []) b) (sym none) ([], append-nil (view.offered ++ event ∷ []) ∙ w.1))
-        runs.0.uncut runs.0.input_broke x.breaks (λ shut unbroke. (w.1, w.2))
+        runs.0.uncut runs.0.input_broke x.breaks (λ shut unbroke. (w.1, w.2, w.4))
 
     -- the disconnect is
     pub left_on : (disconnect : Incoming) → half.due ≡ due.Left disconnect

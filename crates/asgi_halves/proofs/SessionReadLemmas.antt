@@ -37,12 +37,16 @@ use Rattle.asgi_halves.specs.declared.session_half.Due.{Due}
 use Rattle.asgi_halves.specs.declared.session_half.Due.TheVariants as due
 use Rattle.asgi_halves.specs.declared.session_half.WebSocketHalf.{WebSocketHalf}
 use Rattle.asgi_ws.specs.Lines.{LineState}
-use Rattle.asgi_halves.specs.WebSocketHalf.{SessionScene, Invariant, Talks, EndsByTask, IsAt, IsDue, IsCarrying, IsCarried, MayDrop, PreservesByLine, exchange_of, said_in, output_in, talk_in, text_failures, heard_by}
+use Rattle.asgi_io.specs.declared.turns.Turn.{Turn}
+use Rattle.asgi_halves.specs.Kinds.{IsTurnOfRead}
+use Rattle.asgi_halves.specs.WebSocketHalf.{SessionScene, Invariant, Talks, EndsByTask, HasDropped, IsAt, IsDue, IsCarrying, IsCarried, MayDrop, PreservesByLine, Rests, RestsAt, exchange_of, said_in, output_in, talk_in, heard_by}
+use Rattle.asgi_halves.specs.Half.{failures_at}
 use Rattle.asgi_halves.specs.Traffic.{drop_limit, is_end}
 use Rattle.asgi_halves.specs.WebSocketHalf.{CarriesOn}
 use Rattle.asgi_halves.proofs.CallLemmas.{closes, closes_after, none_after, open_closes, read_after}
 use Rattle.asgi_halves.proofs.LineCallLemmas.{HasRead}
 use Rattle.asgi_halves.proofs.TalkLemmas.{talk_read}
+use Rattle.asgi_halves.proofs.TurnLemmas.{rests_else}
 
 -- ---- more messages
 
@@ -127,10 +131,6 @@ follows_still kind.Idle said input_broke arrived more closed = refl
 abbrev Carries : Answered → Type 0
 Carries state = (state ≡ Open) ⊎ (state ≡ Closed)
 
-failures_still : (state : Answered) (old new : Stage) → Carries state → text_failures state old ≡ text_failures state new
-failures_still state old new (inl e) = subst (λ (a : Answered). text_failures a old ≡ text_failures a new) (sym e) refl
-failures_still state old new (inr e) = subst (λ (a : Answered). text_failures a old ≡ text_failures a new) (sym e) refl
-
 carrying_still : (scene : SessionScene) (view : ConnView Msg Output) (arrived : List Msg) (text : List ℕ) (leftover : Option (List ℕ)) → IsCarrying scene view text leftover
     → IsCarrying scene (record view { arrived = arrived }) text leftover
 carrying_still scene view arrived text leftover x =
@@ -152,25 +152,25 @@ kept_there state scene half view text leftover handed (inl e) x = (subst (λ (a 
 kept_there state scene half view text leftover handed (inr e) x = (subst (λ (a : Answered). IsCarried a scene half view text leftover handed) e x).kept
 
 module _ (scene : SessionScene) (was now : LineState) (half : WebSocketHalf) (read : List ℕ) (view : ConnView Msg Output) (x : Invariant scene was half read view)
-    (carries : Carries half.answered) (closed : is_by_input view.broken ≡ true → has_close view.arrived ≡ true) (answer : Got) (call : HasRead was now answer) where
+    (unfailed : failures_at half.stage ≡ 0) (goes_on : half.is_over ≡ false) (carries : Carries half.answered) (closed : is_by_input view.broken ≡ true → has_close view.arrived ≡ true) (answer : Got) (call : HasRead was now answer) where
   -- The messages of the outcome arrived, and all else stays: the half's invariant holds again if that of the later stage does.
-  arrives : (next : Due) (client_closed : Bool) (is_over : Bool) (spare_reads : ℕ) (stage : Stage) → is_over ≡ (half.is_over || is_end answer)
+  arrives : (next : Due) (client_closed : Bool) (is_over : Bool) (spare_reads : ℕ) (stage : Stage) → failures_at stage ≡ 0 → is_over ≡ (half.is_over || is_end answer)
       → reads_after_close (x.line.carried.calls ++ Read answer ∷ []) + spare_reads ≤ drop_limit
       → IsAt stage scene (record half { due = next; client_closed = client_closed; is_over = is_over; spare_reads = spare_reads; stage = stage }) (record view { arrived = view.arrived ++ given_by answer })
       → Invariant scene now (record half { due = next; client_closed = client_closed; is_over = is_over; spare_reads = spare_reads; stage = stage }) read (record view { arrived = view.arrived ++ given_by answer })
-  arrives next client_closed is_over spare_reads stage over few stands_at =
+  arrives next client_closed is_over spare_reads stage none over few stands_at =
       let later : WebSocketHalf = record half { due = next; client_closed = client_closed; is_over = is_over; spare_reads = spare_reads; stage = stage } in
       let seen : ConnView Msg Output = record view { arrived = view.arrived ++ given_by answer } in
-      let line : CarriesOn scene.start now half.wire.input read (scene.before ++ x.text) (text_failures half.answered half.stage) (talk_in later seen x.leftover x.handed) spare_reads =
-      talk_read scene.start was now half.wire.input read (scene.before ++ x.text) (text_failures half.answered half.stage) (talk_in half view x.leftover x.handed) (talk_in later seen x.leftover x.handed)
-      half.spare_reads x.line call.text answer call.told call.loses call.count call.kept refl over refl refl spare_reads few
+      let line : CarriesOn scene.start now half.wire.input read (scene.before ++ x.text) 0 (talk_in later seen x.leftover x.handed) spare_reads =
+      talk_read scene.start was now half.wire.input read (scene.before ++ x.text) (failures_at half.stage) unfailed (talk_in half view x.leftover x.handed) (talk_in later seen x.leftover x.handed) half.spare_reads
+      x.line call.text answer goes_on call.told call.loses call.count call.kept refl over refl refl spare_reads few
       scene.frames (kept_there half.answered scene half view x.text x.leftover x.handed carries x.carried) in
       record {
         fixed = x.fixed;
         text = x.text;
         leftover = x.leftover;
         handed = x.handed;
-        line = subst (λ (n : ℕ). CarriesOn scene.start now half.wire.input read (scene.before ++ x.text) n (talk_in later seen x.leftover x.handed) spare_reads) (failures_still half.answered half.stage stage carries) line;
+        line = subst (λ (n : ℕ). CarriesOn scene.start now half.wire.input read (scene.before ++ x.text) n (talk_in later seen x.leftover x.handed) spare_reads) (sym none) line;
         written = x.written;
         carried = carried_still half.answered scene half later view (view.arrived ++ given_by answer) x.text x.leftover x.handed carries x.carried;
         keeps = record {
@@ -218,7 +218,7 @@ module _ (scene : SessionScene) (was now : LineState) (half : WebSocketHalf) (re
   at_running : IsAt Running scene half view
   at_running = subst (λ (s : Stage). IsAt s scene half view) is x.stage
 
-  all_offered : (view.offered ≡ session_events view.arrived) × (has_close view.arrived ≡ false)
+  all_offered : (view.offered ≡ session_events view.arrived) × (has_close view.arrived ≡ false) × (half.is_over ≡ false)
   all_offered = subst (λ (d : Due). IsDue d half view) free at_running.2 (not_closed half.answered open_still) unbroke
 
   -- no close was read, and none went out
@@ -241,7 +241,7 @@ module _ (scene : SessionScene) (was now : LineState) (half : WebSocketHalf) (re
       → IsDue next (record half { due = next; client_closed = client_closed; is_over = is_over }) (record view { arrived = view.arrived ++ given_by answer })
       → Invariant scene now (record half { due = next; client_closed = client_closed; is_over = is_over }) read (record view { arrived = view.arrived ++ given_by answer })
   goes_on answer call next client_closed is_over over closed is_due =
-      arrives scene was now half read view x (inl open_still) no_break answer call next client_closed is_over half.spare_reads half.stage over (few answer)
+      arrives scene was now half read view x (ap failures_at is) all_offered.2 (inl open_still) no_break answer call next client_closed is_over half.spare_reads half.stage (ap failures_at is) over (few answer)
       (subst (λ (s : Stage). IsAt s scene (record half { due = next; client_closed = client_closed; is_over = is_over }) (record view { arrived = view.arrived ++ given_by answer })) (sym is)
       (talks_still scene half view (given_by answer) next client_closed is_over half.spare_reads half.stage at_running.0 (λ o. closed), at_running.1, is_due))
 
@@ -261,15 +261,15 @@ module _ (scene : SessionScene) (was now : LineState) (half : WebSocketHalf) (re
   passes_by message call none no_close =
       goes_on (got.Message message) call half.due half.client_closed half.is_over (still_over half.is_over) (open_before ∙ sym (after message ∙ no_close))
       (subst (λ (d : Due). IsDue d half (record view { arrived = view.arrived ++ message ∷ [] })) (sym free)
-      (λ unclosed still. (sym (append-nil view.offered) ∙ ap (λ (l : List Incoming). view.offered ++ l) (sym none) ∙ grown message, after message ∙ no_close)))
+      (λ unclosed still. (sym (append-nil view.offered) ∙ ap (λ (l : List Incoming). view.offered ++ l) (sym none) ∙ grown message, after message ∙ no_close, all_offered.2)))
 
   pub heard : (message : Msg) → HasRead was now (got.Message message) → Invariant scene now (heard_by half message) read (record view { arrived = view.arrived ++ message ∷ [] })
   heard (Text text) call =
       goes_on (got.Message (Text text)) call (due.Waits (WsReceive (payload.Text text))) half.client_closed half.is_over (still_over half.is_over) (open_before ∙ sym (after (Text text)))
-      (unbroke, grown (Text text), after (Text text), not_closed half.answered open_still)
+      (unbroke, grown (Text text), after (Text text), not_closed half.answered open_still, all_offered.2)
   heard (Bytes bytes) call =
       goes_on (got.Message (Bytes bytes)) call (due.Waits (WsReceive (payload.Bytes bytes))) half.client_closed half.is_over (still_over half.is_over) (open_before ∙ sym (after (Bytes bytes)))
-      (unbroke, grown (Bytes bytes), after (Bytes bytes), not_closed half.answered open_still)
+      (unbroke, grown (Bytes bytes), after (Bytes bytes), not_closed half.answered open_still, all_offered.2)
   heard Ping call = passes_by Ping call refl refl
   heard Pong call = passes_by Pong call refl refl
   heard (Close close) call =
@@ -294,10 +294,14 @@ module _ (scene : SessionScene) (was now : LineState) (half : WebSocketHalf) (re
   -- memory was refused
   pub read_short : HasRead was now got.NoMemory → Invariant scene now (record half { stage = Cut NoMemory }) read (record view { arrived = view.arrived ++ [] })
   read_short call =
-      arrives scene was now half read view x (inl open_still) no_break got.NoMemory call half.due half.client_closed half.is_over half.spare_reads (Cut NoMemory) (still_over half.is_over) (few got.NoMemory)
+      arrives scene was now half read view x (ap failures_at is) all_offered.2 (inl open_still) no_break got.NoMemory call half.due half.client_closed half.is_over half.spare_reads (Cut NoMemory) refl (still_over half.is_over) (few got.NoMemory)
       (prefix_same view.written (output_in scene view) at_running.0.written, at_running.1)
 
 -- ---- it is dropped
+
+unfailed_there : (half : WebSocketHalf) → MayDrop half → failures_at half.stage ≡ 0
+unfailed_there half (inl (running, free, why)) = ap failures_at running
+unfailed_there half (inr (over, why)) = ap failures_at over
 
 carries_there : (half : WebSocketHalf) → MayDrop half → Carries half.answered
 carries_there half (inl (running, free, inl closed)) = inr closed
@@ -355,7 +359,7 @@ module _ (scene : SessionScene) (was now : LineState) (half : WebSocketHalf) (re
   pub dropped : MayDrop half → (answer : Got) → HasRead was now answer → (is_over : Bool) (spare_reads : ℕ) → is_over ≡ (half.is_over || is_end answer) → spare_reads < half.spare_reads
       → Invariant scene now (record half { is_over = is_over; spare_reads = spare_reads }) read (record view { arrived = view.arrived ++ given_by answer })
   dropped may answer call is_over spare_reads over fewer =
-      arrives scene was now half read view x (carries_there half may) closed_before answer call half.due half.client_closed is_over spare_reads half.stage over
+      arrives scene was now half read view x (unfailed_there half may) still (carries_there half may) closed_before answer call half.due half.client_closed is_over spare_reads half.stage (unfailed_there half may) over
       (omega (arith, read_after x.line.carried.calls answer, x.line.within, fewer))
       (stage_on (given_by answer) is_over spare_reads may)
 
@@ -368,6 +372,20 @@ leads_dropped was now half later answer is_over spare_reads may still call over 
   subst (λ (h : WebSocketHalf). Invariant scene now h read (record view { arrived = view.arrived ++ given_by answer })) (sym same)
       (dropped scene was now half read view x still may answer call is_over spare_reads (over ∙ ap (λ (b : Bool). b || is_end answer) (sym still)) fewer),
 )
+
+-- ---- the turn of a read that is dropped
+
+module _ (was now : LineState) (half later : WebSocketHalf) (turn : Turn) (same : later ≡ record half { is_over = later.is_over; spare_reads = later.spare_reads })
+    (x : IsTurnOfRead (HasDropped later) was now turn) where
+  rests_with : (state : Answered) → half.answered ≡ state → (HasDropped later → RestsAt state later) → IsTurnOfRead (Rests later) was now turn
+  rests_with state is then =
+      rests_else was now turn (λ dropped none. subst (λ (a : Answered). RestsAt a later) (sym (ap (λ (h : WebSocketHalf). h.answered) same ∙ is)) (then dropped)) x
+
+  pub turn_closed : half.answered ≡ Closed → IsTurnOfRead (Rests later) was now turn
+  turn_closed closed = rests_with Closed closed (λ dropped. dropped)
+
+  pub turn_lost : half.answered ≡ Open → half.input_broke ≡ true → IsTurnOfRead (Rests later) was now turn
+  turn_lost opened broke = rests_with Open opened (λ dropped. (ap (λ (h : WebSocketHalf). h.input_broke) same ∙ broke, dropped))
 
 -- ---- one step after the other
 

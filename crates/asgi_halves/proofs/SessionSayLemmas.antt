@@ -47,27 +47,18 @@ use Rattle.asgi_halves.specs.declared.session_half.Due.TheVariants as due
 use Rattle.asgi_halves.specs.declared.session_half.WebSocketHalf.{WebSocketHalf}
 use Rattle.asgi_ws.specs.Lines.{LineState}
 use Rattle.asgi_run.specs.Lines.{how_wrote}
-use Rattle.asgi_halves.specs.WebSocketHalf.{SessionScene, Invariant, IsAccept, Talks, IsAt, IsCarried, IsCarrying, IsDue, IsSilent, answer_to, exchange_of, known, output_in, said_in, stage_of, talk_in, text_failures}
+use Rattle.asgi_halves.specs.WebSocketHalf.{SessionScene, Invariant, IsAccept, Talks, IsAt, IsCarried, IsCarrying, IsDue, IsSilent, answer_to, exchange_of, known, output_in, said_in, stage_of, talk_in}
 use Rattle.asgi_halves.specs.WebSocketHalf.{CarriesOn}
 use Rattle.asgi_run.proofs.LineLemmas.{tries_front}
 use Rattle.asgi_halves.proofs.SessionPassLemmas.{more_said, accept_is_first, close_has_place, send_is_in_session, open_is_accepted, not_closed, open_after_send, closed_after_close}
+use Rattle.asgi_halves.specs.Half.{failures_at}
+use Rattle.asgi_halves.proofs.CallLemmas.{failures_by}
 use Rattle.asgi_halves.proofs.TalkLemmas.{LeavesText, talk_written, talk_sent, talk_upgraded}
-
--- no write fails while the half runs
-no_failures : (answered : Answered) → text_failures answered Running ≡ 0
-no_failures Unanswered = refl
-no_failures Refused = refl
-no_failures Open = refl
-no_failures Closed = refl
 
 -- ---- the line carries messages
 
 abbrev IsUpgraded : Answered → Type 0
 IsUpgraded answered = (answered ≡ Open) ⊎ (answered ≡ Closed)
-
-quiet : (progress : Answered) (stage : Stage) → IsUpgraded progress → 0 ≡ text_failures progress stage
-quiet progress stage (inl is) = ap (λ (a : Answered). text_failures a stage) (sym is)
-quiet progress stage (inr is) = ap (λ (a : Answered). text_failures a stage) (sym is)
 
 carrying : (progress : Answered) (scene : SessionScene) (half : WebSocketHalf) (view : ConnView Msg Output) (text : List ℕ) (leftover : Option (List ℕ)) (handed : List SentMessage) → IsUpgraded progress
     → IsCarrying scene view text leftover → IsCarried progress scene half view text leftover handed
@@ -89,8 +80,8 @@ not_both e = cc
 
 due_stays : (d : Due) (old new : WebSocketHalf) (view : ConnView Msg Output) (got : List OutItem) (written : List Output) → new.input_broke ≡ old.input_broke → new.is_over ≡ old.is_over
     → old.answered ≢ Closed → new.answered ≢ Closed → IsDue d old view → IsDue d new (record view { got = got; written = written })
-due_stays due.Nothing old new view got written input_broke over was is x = λ other unbroken. x was (sym input_broke ∙ unbroken)
-due_stays (due.Waits event) old new view got written input_broke over was is x = (input_broke ∙ x.0, x.1, x.2, is)
+due_stays due.Nothing old new view got written input_broke over was is x = λ other unbroken. (let y = x was (sym input_broke ∙ unbroken) in (y.0, y.1, over ∙ y.2))
+due_stays (due.Waits event) old new view got written input_broke over was is x = (input_broke ∙ x.0, x.1, x.2, is, over ∙ x.4)
 due_stays (due.Left event) old new view got written input_broke over was is x = (input_broke ∙ x.0, x.1, x.2, over_as x.3, is)
   where
     over_as : (has_close view.arrived ≡ true) ⊎ (old.is_over ≡ true) → (has_close view.arrived ≡ true) ⊎ (new.is_over ≡ true)
@@ -119,7 +110,7 @@ module _ (scene : SessionScene) (was : LineState) (half : WebSocketHalf) (read :
   line : CarriesOn scene.start was half.wire.input read (scene.before ++ x.text) 0 (talk_in half view x.leftover x.handed) half.spare_reads
   line =
       let P : ℕ → Type 0 = λ n. CarriesOn scene.start was half.wire.input read (scene.before ++ x.text) n (talk_in half view x.leftover x.handed) half.spare_reads in
-      subst P (no_failures half.answered) (subst (λ (s : Stage). P (text_failures half.answered s)) running x.line)
+      subst (λ (s : Stage). P (failures_at s)) running x.line
 
   more_taken : (written : List Output) → taken_of (later written) ≡ taken_of view ++ event ∷ []
   more_taken written = events_append view.got (Event event ∷ [])
@@ -147,7 +138,7 @@ module _ (scene : SessionScene) (was : LineState) (half : WebSocketHalf) (read :
 
   -- this much of it went out, as text or as a message
   spoken : (now : LineState) (leftover : _) (progress : Answered) (waits : Due) (stage : Stage) (text : List ℕ) (kept : Option (List ℕ)) (handed : List SentMessage) (front rest : List Output)
-      → CarriesOn scene.start now half.wire.input read (scene.before ++ text) (text_failures progress stage) (talk_in half view kept handed) half.spare_reads
+      → CarriesOn scene.start now half.wire.input read (scene.before ++ text) (failures_at stage) (talk_in half view kept handed) half.spare_reads
       → map Byte text ++ map Message handed ≡ view.written ++ front → front ++ rest ≡ adds
       → IsCarried progress scene (record half { leftover = leftover; answered = progress; due = waits; stage = stage }) (later (map Byte text ++ map Message handed)) text kept handed
       → IsAt stage scene (record half { leftover = leftover; answered = progress; due = waits; stage = stage }) (later (map Byte text ++ map Message handed))
@@ -228,17 +219,15 @@ module _ (scene : SessionScene) (was : LineState) (half : WebSocketHalf) (read :
     module _ (now : LineState) (message : SentMessage) (adds_it : adds ≡ Message message ∷ []) (answer : Put) (same : LeavesText was now)
         (told : now.session.calls ≡ was.session.calls ++ Send message answer ∷ []) (count : now.failed ≡ count_after was.failed (has_failed answer))
         (coming : now.session.coming ≡ was.session.coming) (kept : now.session.leftover ≡ was.session.leftover) where
-      sent : CarriesOn scene.start now half.wire.input read (scene.before ++ x.text) 0 (talk_in half view x.leftover (x.handed ++ taken_by message answer)) half.spare_reads
-      sent = talk_sent scene.start was now half.wire.input read (scene.before ++ x.text) 0 (talk_in half view x.leftover x.handed)
+      sent : CarriesOn scene.start now half.wire.input read (scene.before ++ x.text) (failures_by answer) (talk_in half view x.leftover (x.handed ++ taken_by message answer)) half.spare_reads
+      sent = talk_sent scene.start was now half.wire.input read (scene.before ++ x.text) 0 refl (talk_in half view x.leftover x.handed)
           (talk_in half view x.leftover (x.handed ++ taken_by message answer)) half.spare_reads line same message answer told count coming kept refl refl refl refl
           scene.frames (subst (λ (a : Answered). IsCarried a scene (record half { judge = before }) view x.text x.leftover x.handed) opened x.carried).kept
 
-      carried : (result : Put) → answer ≡ result → (stage : Stage) (progress : Answered) → IsUpgraded progress
-          → CarriesOn scene.start now half.wire.input read (scene.before ++ x.text) (text_failures progress stage) (talk_in half view x.leftover (x.handed ++ taken_by message result)) half.spare_reads
-      carried result is stage progress upgraded =
-          subst (λ (n : ℕ). CarriesOn scene.start now half.wire.input read (scene.before ++ x.text) n (talk_in half view x.leftover (x.handed ++ taken_by message result)) half.spare_reads)
-          (quiet progress stage upgraded)
-          (subst (λ (a : Put). CarriesOn scene.start now half.wire.input read (scene.before ++ x.text) 0 (talk_in half view x.leftover (x.handed ++ taken_by message a)) half.spare_reads) is sent)
+      carried : (result : Put) → answer ≡ result
+          → CarriesOn scene.start now half.wire.input read (scene.before ++ x.text) (failures_by result) (talk_in half view x.leftover (x.handed ++ taken_by message result)) half.spare_reads
+      carried result is =
+          subst (λ (a : Put). CarriesOn scene.start now half.wire.input read (scene.before ++ x.text) (failures_by a) (talk_in half view x.leftover (x.handed ++ taken_by message a)) half.spare_reads) is sent
 
       out_with : (handed : List SentMessage) → map Byte x.text ++ map Message (x.handed ++ handed) ≡ view.written ++ map Message handed
       out_with handed =
@@ -254,21 +243,21 @@ module _ (scene : SessionScene) (was : LineState) (half : WebSocketHalf) (read :
           let handed : List SentMessage = x.handed ++ message ∷ [] in
           let written : List Output = map Byte x.text ++ map Message handed in
           let out : written ≡ view.written ++ Message message ∷ [] = out_with (message ∷ []) in
-          spoken now half.leftover progress waits Running x.text x.leftover handed (Message message ∷ []) [] (carried put.Done is Running progress upgraded) out (sym adds_it)
+          spoken now half.leftover progress waits Running x.text x.leftover handed (Message message ∷ []) [] (carried put.Done is) out (sym adds_it)
           (carrying progress scene (record half { answered = progress; due = waits; stage = Running }) (later written) x.text x.leftover handed upgraded (carries written))
           (goes_on half.leftover progress waits written becomes (is_answered progress upgraded) closed (out ∙ ap (λ (l : List Output). view.written ++ l) (sym adds_it)) (is_due written))
       answered_put progress waits upgraded becomes closed is_due put.Failed is =
           let handed : List SentMessage = x.handed ++ [] in
           let written : List Output = map Byte x.text ++ map Message handed in
           let out : written ≡ view.written ++ [] = out_with [] in
-          spoken now half.leftover progress waits (Cut (WriteFailed 0)) x.text x.leftover handed [] adds (carried put.Failed is (Cut (WriteFailed 0)) progress upgraded) out refl
+          spoken now half.leftover progress waits (Cut (WriteFailed 0)) x.text x.leftover handed [] adds (carried put.Failed is) out refl
           (carrying progress scene (record half { answered = progress; due = waits; stage = Cut (WriteFailed 0) }) (later written) x.text x.leftover handed upgraded (carries written))
           (stops 0 written (subst (λ (l : List Output). 0 < length l) (sym adds_it) (omega arith)) out, still_open)
       answered_put progress waits upgraded becomes closed is_due put.NoMemory is =
           let handed : List SentMessage = x.handed ++ [] in
           let written : List Output = map Byte x.text ++ map Message handed in
           let out : written ≡ view.written ++ [] = out_with [] in
-          spoken now half.leftover progress waits (Cut NoMemory) x.text x.leftover handed [] adds (carried put.NoMemory is (Cut NoMemory) progress upgraded) out refl
+          spoken now half.leftover progress waits (Cut NoMemory) x.text x.leftover handed [] adds (carried put.NoMemory is) out refl
           (carrying progress scene (record half { answered = progress; due = waits; stage = Cut NoMemory }) (later written) x.text x.leftover handed upgraded (carries written))
           (falls_short written [] adds out refl, still_open)
 
@@ -344,11 +333,11 @@ module _ (scene : SessionScene) (was : LineState) (half : WebSocketHalf) (read :
           → CarriesOn scene.start now half.wire.input read (scene.before ++ (x.text ++ part)) failures (talk_in half view x.leftover x.handed) half.spare_reads
       text_moved part failures appends rose tries =
           subst (λ (l : List ℕ). CarriesOn scene.start now half.wire.input read l failures (talk_in half view x.leftover x.handed) half.spare_reads) (append_assoc scene.before x.text part)
-          (talk_written scene.start was now half.wire.input read (scene.before ++ x.text) part failures (talk_in half view x.leftover x.handed) half.spare_reads line same_left same_reads same_session appends rose tries)
+          (talk_written scene.start was now half.wire.input read (scene.before ++ x.text) part failures (talk_in half view x.leftover x.handed) half.spare_reads line silent.0.kept same_left same_reads same_session appends rose tries)
 
       -- its first n bytes went out
       cut_by : (progress : Answered) (n : ℕ) → n < length more
-          → CarriesOn scene.start now half.wire.input read (scene.before ++ (x.text ++ take n more)) (text_failures progress (Cut (WriteFailed n))) (talk_in half view x.leftover x.handed) half.spare_reads
+          → CarriesOn scene.start now half.wire.input read (scene.before ++ (x.text ++ take n more)) 1 (talk_in half view x.leftover x.handed) half.spare_reads
           → IsCarried progress scene (record half { answered = progress; stage = Cut (WriteFailed n) }) (later (map Byte (x.text ++ take n more) ++ map Message x.handed)) (x.text ++ take n more) x.leftover x.handed
           → (written : List Output) × Invariant scene now (record half { answered = progress; stage = Cut (WriteFailed n) }) read (later written)
       cut_by progress n less line_is carried =
@@ -393,7 +382,7 @@ module _ (scene : SessionScene) (was : LineState) (half : WebSocketHalf) (read :
             let written : List Output = map Byte (x.text ++ more) ++ map Message x.handed in
             let none : x.text ≡ [] = no_text x.text x.handed (sym x.written ∙ (at.0.written ∙ ap (output_of (handshake_of scene.facts) scene.facts) first)) in
             let line_is : CarriesOn scene.start after half.wire.input read (scene.before ++ (x.text ++ more)) 0 (talk_in half view (Some scene.frames) x.handed) half.spare_reads =
-            talk_upgraded scene.start now after half.wire.input read (scene.before ++ (x.text ++ more)) 0 (talk_in half view x.leftover x.handed) (talk_in half view (Some scene.frames) x.handed)
+            talk_upgraded scene.start now after half.wire.input read (scene.before ++ (x.text ++ more)) 0 refl (talk_in half view x.leftover x.handed) (talk_in half view (Some scene.frames) x.handed)
             half.spare_reads (text_moved more 0 appends rose tries) same half.leftover.items silent.0.kept kept count calls coming (ap (λ (l : List ℕ). Some l) (sym silent.1)) refl refl refl in
             let carried : IsCarrying scene (later written) (x.text ++ more) (Some scene.frames) = record {
               kept = refl;

@@ -38,7 +38,7 @@ use Rattle.asgi_halves.specs.declared.session_half.WebSocketHalf.{WebSocketHalf}
 use Rattle.asgi_halves.specs.declared.wire.Wire.{Wire}
 use Rattle.asgi_halves.specs.Half.{failures_at}
 use Rattle.asgi_ws.specs.Lines.{LineState}
-use Rattle.asgi_halves.specs.WebSocketHalf.{SessionScene, Invariant, OpensSession, Talks, IsAt, IsCarried, IsCarrying, IsDue, IsSilent, answer_to, exchange_of, said_in, talk_in, text_failures}
+use Rattle.asgi_halves.specs.WebSocketHalf.{SessionScene, Invariant, OpensSession, Talks, IsAt, IsCarried, IsCarrying, IsDue, IsSilent, answer_to, exchange_of, said_in, talk_in}
 use Rattle.asgi_halves.specs.Traffic.{drop_limit}
 use Rattle.asgi_halves.specs.WebSocketHalf.{CarriesOn}
 use Rattle.asgi_halves.proofs.SessionPassLemmas.{same_said}
@@ -48,11 +48,6 @@ running_of : (scene : SessionScene) (now : LineState) (half : WebSocketHalf) (re
     → Talks scene half view × (end_of view.got ≡ None) × IsDue half.due half view
 running_of scene now half read view x is = subst (λ (s : Stage). IsAt s scene half view) is x.stage
 
-same_failures : (answered : Answered) (old new : Stage) → failures_at old ≡ failures_at new → text_failures answered old ≡ text_failures answered new
-same_failures Unanswered old new h = h
-same_failures Refused old new h = h
-same_failures Open old new h = refl
-same_failures Closed old new h = refl
 
 no_pass : (v : Verdict) → (v ≡ verdict.Pass → ⊥) → is_pass v ≡ false
 no_pass verdict.Pass h = absurd (h refl)
@@ -116,10 +111,10 @@ module _ (scene : SessionScene) (now : LineState) (half : WebSocketHalf) (read :
   at = running_of scene now half read view x is
 
   line_at : (stage : Stage) → failures_at stage ≡ 0
-      → CarriesOn scene.start now half.wire.input read (scene.before ++ x.text) (text_failures half.answered stage) (talk_in half view x.leftover x.handed) half.spare_reads
+      → CarriesOn scene.start now half.wire.input read (scene.before ++ x.text) (failures_at stage) (talk_in half view x.leftover x.handed) half.spare_reads
   line_at stage none =
       subst (λ (n : ℕ). CarriesOn scene.start now half.wire.input read (scene.before ++ x.text) n (talk_in half view x.leftover x.handed) half.spare_reads)
-      (same_failures half.answered half.stage stage (ap failures_at is ∙ sym none)) x.line
+      (ap failures_at is ∙ sym none) x.line
 
   -- the end of the task
   pub ended_taken : (kind : EndKind) → Invariant scene now (record half { stage = Ending kind }) read (record view { got = view.got ++ Ended kind ∷ []; broken_first = is_by_input view.broken })
@@ -232,6 +227,6 @@ begun scene now wire facts text leftover read judge spare_reads within o judged 
       closed = λ e. cc;
     },
     refl,
-    (refl, refl, refl, λ e. cc),
+    (refl, refl, refl, λ e. cc, refl),
   );
 }

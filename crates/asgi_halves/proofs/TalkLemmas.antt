@@ -1,7 +1,7 @@
 -- What passed over a line after one more text, and after one more call of its session.
 use Rattle.std.proofs.Common.{◌≡◌, ℕ, ◌+◌, ◌≤◌, Bool, true, false, ◌||◌, List, [], ◌∷◌, ◌++◌, length, refl, sym, ap, ◌∙◌, subst, inl, inr, append_assoc, append-nil, Option, Some, None, arith}
 use Rattle.std.specs.Io.KnownBytes.{Appends, Consumes}
-use Rattle.std.specs.List.{flat_map}
+use Rattle.std.specs.List.{count_by, flat_map}
 use Rattle.asgi_io.specs.declared.answer.Answer.{Answer}
 use Rattle.asgi_io.specs.Counting.{RoseBy}
 use Rattle.asgi_io.specs.Writing.{TriesWrites}
@@ -19,9 +19,9 @@ use Rattle.asgi_conversation.specs.declared.input.InputEnd.{InputEnd}
 use Rattle.asgi_conversation.specs.Sessions.{SessionTraffic, no_traffic}
 use Rattle.asgi_ws.specs.Lines.{LineState}
 use Rattle.asgi_run.specs.Lines.{Transferred, EndsAs, how_wrote}
-use Rattle.asgi_halves.specs.Traffic.{HasCarried, drop_limit, is_end, says_over, kept_with, text_of_line}
+use Rattle.asgi_halves.specs.Traffic.{FailsAs, HasCarried, drop_limit, in_session, in_text, is_end, is_failed_send, says_over, kept_with, text_of_line}
 use Rattle.asgi_halves.specs.WebSocketHalf.{CarriesOn}
-use Rattle.asgi_halves.proofs.CallLemmas.{send_after}
+use Rattle.asgi_halves.proofs.CallLemmas.{end_send, fails_after, failures_by, none_after_end, none_fails_after, send_after}
 use Rattle.asgi_run.proofs.LineLemmas.{moved_by_write}
 
 -- ---- the count of failures
@@ -88,6 +88,8 @@ talk_silent start now end read before failures x = record {
   handed = refl;
   few = omega arith;
   coming = subst (λ (s : Session). Loses start.session.coming s.coming []) (sym x.quiet) (loses_nothing start.session.coming);
+  fails = refl;
+  unread = refl;
   kept = ap (λ (s : Session). s.leftover) x.quiet;
   quiet = λ none. refl;
 }
@@ -100,16 +102,20 @@ talk_begins start now end read before spare within x =
 
 -- one more text
 pub talk_written : (start was now : LineState) (end : InputEnd) (read text more : List ℕ) (failures : ℕ) (traffic : SessionTraffic) (spare : ℕ)
-    → CarriesOn start was end read text 0 traffic spare → now.left ≡ was.left → now.reads ≡ was.reads → now.session ≡ was.session → Appends was.written now.written more → RoseBy failures was.failed now.failed
+    → CarriesOn start was end read text 0 traffic spare → traffic.leftover ≡ None → now.left ≡ was.left → now.reads ≡ was.reads → now.session ≡ was.session → Appends was.written now.written more → RoseBy failures was.failed now.failed
     → TriesWrites was.writes now.writes (length more) (how_wrote failures (length more))
     → CarriesOn start now end read (text ++ more) failures traffic spare
-talk_written start was now end read text more failures traffic spare on same_left same_reads same_session appends rose tries =
+talk_written start was now end read text more failures traffic spare on none same_left same_reads same_session appends rose tries =
     let x = on.carried in
     record {
       carried = record {
-        moved = moved_by_write start (text_of_line start was) (text_of_line start now) end read text more failures x.moved same_left same_reads refl appends rose tries;
+        moved = subst (λ (o : Option (List ℕ)). Transferred start (text_of_line start now) end read (text ++ more) (in_text o failures)) (sym none)
+            (moved_by_write start (text_of_line start was) (text_of_line start now) end read text more failures
+            (subst (λ (o : Option (List ℕ)). Transferred start (text_of_line start was) end read text (in_text o 0)) none x.moved) same_left same_reads refl appends rose tries);
+        fails = subst (λ (o : Option (List ℕ)). FailsAs (in_session o failures) x.calls) (sym none) (subst (λ (o : Option (List ℕ)). FailsAs (in_session o 0) x.calls) none x.fails);
         calls = x.calls;
         told = ap (λ (s : Session). s.calls) same_session ∙ x.told;
+        unread = x.unread;
         received = x.received;
         over = x.over;
         handed = x.handed;
@@ -142,19 +148,37 @@ text_kept start was now end read text failures fails x same count = record {
   quiet = refl;
 }
 
-module _ (start was now : LineState) (end : InputEnd) (read text : List ℕ) (failures : ℕ) (traffic later : SessionTraffic) (spare : ℕ) (on : CarriesOn start was end read text failures traffic spare)
+-- where no call failed, none did of either kind
+none_of_text : (kept : Option (List ℕ)) → in_text kept 0 ≡ 0
+none_of_text None = refl
+none_of_text (Some bytes) = refl
+
+none_of_session : (kept : Option (List ℕ)) → in_session kept 0 ≡ 0
+none_of_session None = refl
+none_of_session (Some bytes) = refl
+
+module _ (start was now : LineState) (end : InputEnd) (read text : List ℕ) (failures : ℕ) (unfailed : failures ≡ 0) (traffic later : SessionTraffic) (spare : ℕ) (on : CarriesOn start was end read text failures traffic spare)
     (same : LeavesText was now) where
+  text_stays : (fails : Bool) → now.failed ≡ count_after was.failed fails → Transferred start (text_of_line start now) end read text 0
+  text_stays fails count =
+      text_kept start was now end read text 0 fails (subst (λ (n : ℕ). Transferred start (text_of_line start was) end read text n) (ap (in_text traffic.leftover) unfailed ∙ none_of_text traffic.leftover) on.carried.moved) same count
+
+  none_before : count_by is_failed_send on.carried.calls ≡ 0
+  none_before = subst (λ (n : ℕ). FailsAs n on.carried.calls) (ap (in_session traffic.leftover) unfailed ∙ none_of_session traffic.leftover) on.carried.fails
+
   -- one more read of a message
-  pub talk_read : (answer : Got) → now.session.calls ≡ was.session.calls ++ Read answer ∷ [] → Loses was.session.coming now.session.coming (given_by answer)
+  pub talk_read : (answer : Got) → traffic.is_over ≡ false → now.session.calls ≡ was.session.calls ++ Read answer ∷ [] → Loses was.session.coming now.session.coming (given_by answer)
       → now.failed ≡ count_after was.failed (is_failed answer) → now.session.leftover ≡ was.session.leftover
       → later.received ≡ traffic.received ++ given_by answer → later.is_over ≡ (traffic.is_over || is_end answer) → later.handed ≡ traffic.handed → later.leftover ≡ traffic.leftover
       → (left : ℕ) → reads_after_close (on.carried.calls ++ Read answer ∷ []) + left ≤ drop_limit → (bytes : List ℕ) → later.leftover ≡ Some bytes
-      → CarriesOn start now end read text failures later left
-  talk_read answer told loses count kept received over handed leftover left within bytes carries = record {
+      → CarriesOn start now end read text 0 later left
+  talk_read answer goes_on told loses count kept received over handed leftover left within bytes carries = record {
     carried = record {
-      moved = text_kept start was now end read text failures (is_failed answer) on.carried.moved same count;
+      moved = subst (λ (n : ℕ). Transferred start (text_of_line start now) end read text n) (sym (none_of_text later.leftover)) (text_stays (is_failed answer) count);
+      fails = subst (λ (n : ℕ). FailsAs n (on.carried.calls ++ Read answer ∷ [])) (sym (none_of_session later.leftover)) (none_fails_after on.carried.calls answer none_before);
       calls = on.carried.calls ++ Read answer ∷ [];
       told = told_after start.session.calls was.session.calls now.session.calls on.carried.calls (Read answer) told on.carried.told;
+      unread = none_after_end on.carried.calls answer (sym on.carried.over ∙ goes_on);
       received = received ∙ ap (λ (l : List Msg). l ++ given_by answer) on.carried.received ∙ sym (given_after read_by on.carried.calls (Read answer));
       over = over ∙ ap (λ (b : Bool). b || is_end answer) on.carried.over ∙ sym (over_after on.carried.calls answer);
       handed = handed ∙ on.carried.handed ∙ sym (append-nil (flat_map sent_by on.carried.calls)) ∙ sym (given_after sent_by on.carried.calls (Read answer));
@@ -176,15 +200,17 @@ module _ (start was now : LineState) (end : InputEnd) (read text : List ℕ) (fa
   pub talk_sent : (item : SentMessage) (answer : Put) → now.session.calls ≡ was.session.calls ++ Send item answer ∷ [] → now.failed ≡ count_after was.failed (has_failed answer)
       → now.session.coming ≡ was.session.coming → now.session.leftover ≡ was.session.leftover
       → later.handed ≡ traffic.handed ++ taken_by item answer → later.received ≡ traffic.received → later.is_over ≡ traffic.is_over → later.leftover ≡ traffic.leftover
-      → (bytes : List ℕ) → later.leftover ≡ Some bytes → CarriesOn start now end read text failures later spare
+      → (bytes : List ℕ) → later.leftover ≡ Some bytes → CarriesOn start now end read text (failures_by answer) later spare
   talk_sent item answer told count coming kept handed received over leftover bytes carries =
       let same_reads : reads_after_close (on.carried.calls ++ Send item answer ∷ []) ≡ reads_after_close on.carried.calls = send_after on.carried.calls item answer in
       let within : reads_after_close (on.carried.calls ++ Send item answer ∷ []) + spare ≤ drop_limit = subst (λ (n : ℕ). n + spare ≤ drop_limit) (sym same_reads) on.within in
       record {
         carried = record {
-          moved = text_kept start was now end read text failures (has_failed answer) on.carried.moved same count;
+          moved = subst (λ (o : Option (List ℕ)). Transferred start (text_of_line start now) end read text (in_text o (failures_by answer))) (sym carries) (text_stays (has_failed answer) count);
+          fails = subst (λ (o : Option (List ℕ)). FailsAs (in_session o (failures_by answer)) (on.carried.calls ++ Send item answer ∷ [])) (sym carries) (fails_after on.carried.calls item answer none_before);
           calls = on.carried.calls ++ Send item answer ∷ [];
           told = told_after start.session.calls was.session.calls now.session.calls on.carried.calls (Send item answer) told on.carried.told;
+          unread = end_send on.carried.calls item answer ∙ on.carried.unread;
           received = received ∙ on.carried.received ∙ sym (append-nil (flat_map read_by on.carried.calls)) ∙ sym (given_after read_by on.carried.calls (Send item answer));
           over = over ∙ on.carried.over ∙ sym (still_over on.carried.calls item answer);
           handed = handed ∙ ap (λ (l : List SentMessage). l ++ taken_by item answer) on.carried.handed ∙ sym (given_after sent_by on.carried.calls (Send item answer));
@@ -200,14 +226,16 @@ module _ (start was now : LineState) (end : InputEnd) (read text : List ℕ) (fa
   pub talk_upgraded : (bytes : List ℕ) → traffic.leftover ≡ None → now.session.leftover ≡ kept_by was.session.leftover bytes → now.failed ≡ was.failed
       → now.session.calls ≡ was.session.calls → now.session.coming ≡ was.session.coming
       → later.leftover ≡ Some bytes → later.handed ≡ traffic.handed → later.received ≡ traffic.received → later.is_over ≡ traffic.is_over
-      → CarriesOn start now end read text failures later spare
+      → CarriesOn start now end read text 0 later spare
   talk_upgraded bytes none kept count calls coming leftover handed received over =
       let before : was.session.leftover ≡ start.session.leftover = on.carried.kept ∙ ap (λ (o : Option (List ℕ)). kept_with start.session.leftover o) none in
       record {
         carried = record {
-          moved = text_kept start was now end read text failures false on.carried.moved same count;
+          moved = subst (λ (n : ℕ). Transferred start (text_of_line start now) end read text n) (sym (none_of_text later.leftover)) (text_stays false count);
+          fails = subst (λ (n : ℕ). FailsAs n on.carried.calls) (sym (none_of_session later.leftover)) none_before;
           calls = on.carried.calls;
           told = calls ∙ on.carried.told;
+          unread = on.carried.unread;
           received = received ∙ on.carried.received;
           over = over ∙ on.carried.over;
           handed = handed ∙ on.carried.handed;

@@ -1,10 +1,13 @@
 -- What passed over a line from the first byte of a connection to the end of its session.
-use Rattle.std.specs.Prelude.{◌≡◌, ℕ, ◌≤◌, Bool, true, false, ◌||◌, List, [], ◌∷◌, ◌++◌, Option, Some, None, is_none, if◌then◌else◌}
+use Rattle.std.specs.Prelude.{◌≡◌, ℕ, ◌≤◌, Bool, true, false, ◌||◌, List, [], ◌∷◌, ◌++◌, Option, Some, None, zero, suc, if◌then◌else◌}
+use Rattle.std.specs.List.{count_by}
 use Rattle.asgi_ws.specs.declared.messages.Got.{Got}
 use Rattle.asgi_ws.specs.declared.messages.Got.TheVariants as got
 use Rattle.asgi_ws.specs.declared.messages.Call.{Call}
 use Rattle.asgi_ws.specs.declared.messages.Call.TheVariants as call
-use Rattle.asgi_ws.specs.Sessions.{messages_in, handed_in, kept_by, reads_after_close, Loses}
+use Rattle.asgi_ws.specs.declared.messages.Put.TheVariants as put
+use Rattle.asgi_ws.specs.declared.messages.SentMessage.{SentMessage}
+use Rattle.asgi_ws.specs.Sessions.{has_failed, is_read, messages_in, handed_in, kept_by, reads_after_close, Loses}
 use Rattle.asgi_conversation.specs.declared.input.InputEnd.{InputEnd}
 use Rattle.asgi_conversation.specs.declared.report.Outcome.{Outcome}
 use Rattle.asgi_conversation.specs.Sessions.{SessionTraffic}
@@ -25,6 +28,12 @@ abbrev pub says_over : List Call → Bool
 says_over [] = false
 says_over (call.Read answer ∷ calls) = is_end answer || says_over calls
 says_over (call.Send item answer ∷ calls) = says_over calls
+
+-- How many reads follow the first that reported that.
+abbrev pub reads_after_end : List Call → ℕ
+reads_after_end [] = 0
+reads_after_end (call.Read answer ∷ calls) = if is_end answer then count_by is_read calls else reads_after_end calls
+reads_after_end (call.Send item answer ∷ calls) = reads_after_end calls
 
 -- the most messages that are read, and dropped, after a close of either side
 abbrev pub drop_limit : ℕ
@@ -48,13 +57,32 @@ failures_as _ = 0
 abbrev pub failures_of : Outcome → ℕ
 failures_of outcome = failures_as (class_of outcome)
 
--- how many writes of text failed: none if the line came to carry messages
+-- how many calls failed in a conversation with this traffic, of text or of the session
 abbrev pub failures_in : Outcome → SessionTraffic → ℕ
-failures_in outcome traffic = if is_none traffic.leftover then failures_of outcome else 0
+failures_in outcome traffic = failures_of outcome
+
+-- by the first bytes of a session, if the line came to carry messages: the failed writes of text, if it did not
+abbrev pub in_text : Option (List ℕ) → ℕ → ℕ
+in_text None failures = failures
+in_text (Some bytes) failures = 0
+
+-- the failed sends of the session, if it did
+abbrev pub in_session : Option (List ℕ) → ℕ → ℕ
+in_session None failures = 0
+in_session (Some bytes) failures = failures
+
+abbrev pub is_failed_send : Call → Bool
+is_failed_send (call.Read answer) = false
+is_failed_send (call.Send item answer) = has_failed answer
+
+-- by how many sends failed: none did, or the last call, and none before it
+abbrev pub FailsAs : ℕ → List Call → Type 0
+FailsAs zero calls = count_by is_failed_send calls ≡ 0
+FailsAs (suc n) calls = (before : List Call) × (item : SentMessage) × (calls ≡ before ++ call.Send item put.Failed ∷ []) × (count_by is_failed_send before ≡ 0)
 
 -- The text was transferred, and this was the traffic of the session.
 pub record HasCarried (start now : LineState) (end : InputEnd) (read text : List ℕ) (failures : ℕ) (traffic : SessionTraffic) : Type 0 where
-  pub moved : Transferred start (text_of_line start now) end read text failures
+  pub moved : Transferred start (text_of_line start now) end read text (in_text traffic.leftover failures)
   -- the reads of messages and the sends, each with its outcome
   pub calls : List Call
   pub told : now.session.calls ≡ start.session.calls ++ calls
@@ -65,6 +93,10 @@ pub record HasCarried (start now : LineState) (end : InputEnd) (read text : List
   pub coming : Loses start.session.coming now.session.coming traffic.received
   -- what was sent
   pub handed : traffic.handed ≡ handed_in calls
+  -- a send that failed is the last call, and the failure that is counted
+  pub fails : FailsAs (in_session traffic.leftover failures) calls
+  -- no read is made once one reported that no message follows
+  pub unread : reads_after_end calls ≡ 0
   -- at most `drop_limit` reads of messages come after a close of either side, counting those that found nothing yet
   pub few : reads_after_close calls ≤ drop_limit
   pub kept : now.session.leftover ≡ kept_with start.session.leftover traffic.leftover

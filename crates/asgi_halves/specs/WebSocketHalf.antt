@@ -117,12 +117,9 @@ pub record IsOf (scene : SessionScene) (facts : Facts) (wire : Wire) (read : Lis
 abbrev pub talk_in : WebSocketHalf → ConnView Msg Output → Option (List ℕ) → List SentMessage → SessionTraffic
 talk_in half view leftover handed = record { leftover = leftover; received = view.arrived; is_over = half.is_over; handed = handed }
 
--- the writes of text that failed: once the session is open, no text is written any more
+-- the calls that failed, of text or of the session, however far the answer is
 abbrev pub text_failures : Answered → Stage → ℕ
-text_failures Unanswered stage = failures_at stage
-text_failures Refused stage = failures_at stage
-text_failures Open stage = 0
-text_failures Closed stage = 0
+text_failures state stage = failures_at stage
 
 -- no message passed by
 pub record IsSilent (half : WebSocketHalf) (view : ConnView Msg Output) (leftover : Option (List ℕ)) (handed : List SentMessage) : Type 0 where
@@ -152,9 +149,9 @@ IsCarried Closed scene half view text leftover handed = IsCarrying scene view te
 -- all that is due was offered, if the application did not close the session
 abbrev pub IsDue : Due → WebSocketHalf → ConnView Msg Output → Type 0
 IsDue due.Nothing half view =
-    half.answered ≢ Closed → half.input_broke ≡ false → (view.offered ≡ session_events view.arrived) × (has_close view.arrived ≡ false)
+    half.answered ≢ Closed → half.input_broke ≡ false → (view.offered ≡ session_events view.arrived) × (has_close view.arrived ≡ false) × (half.is_over ≡ false)
 IsDue (due.Waits event) half view =
-    (half.input_broke ≡ false) × (view.offered ++ event ∷ [] ≡ session_events view.arrived) × (has_close view.arrived ≡ false) × (half.answered ≢ Closed)
+    (half.input_broke ≡ false) × (view.offered ++ event ∷ [] ≡ session_events view.arrived) × (has_close view.arrived ≡ false) × (half.answered ≢ Closed) × (half.is_over ≡ false)
 IsDue (due.Left disconnect) half view =
     (half.input_broke ≡ false) × (view.offered ≡ session_events view.arrived) × (disconnect ≡ session_disconnect view.arrived)
     × ((has_close view.arrived ≡ true) ⊎ (half.is_over ≡ true)) × (half.answered ≢ Closed)
@@ -213,7 +210,7 @@ pub record Invariant (scene : SessionScene) (now : LineState) (half : WebSocketH
   pub text : List ℕ
   pub leftover : Option (List ℕ)
   pub handed : List SentMessage
-  pub line : CarriesOn scene.start now half.wire.input read (scene.before ++ text) (text_failures half.answered half.stage) (talk_in half view leftover handed) half.spare_reads
+  pub line : CarriesOn scene.start now half.wire.input read (scene.before ++ text) (failures_at half.stage) (talk_in half view leftover handed) half.spare_reads
   pub written : view.written ≡ map Byte text ++ map Message handed
   pub carried : IsCarried half.answered scene half view text leftover handed
   pub keeps : ConnKeeps (exchange_of scene) view
@@ -299,6 +296,25 @@ heard_by half (Close close) = record half { client_closed = true; due = due.Left
 abbrev pub outcome_after : (client_closed : Bool) → Outcome
 outcome_after true = Finished
 outcome_after false = InputBroke
+
+-- all that is due was offered
+abbrev pub NoneDue : WebSocketHalf → Type 0
+NoneDue half = half.due ≡ due.Nothing
+
+-- nothing more is read and dropped: no message follows, or as many were read as may be
+abbrev pub HasDropped : WebSocketHalf → Type 0
+HasDropped half = (half.is_over ≡ true) ⊎ (half.spare_reads ≡ 0)
+
+-- no message is read with this answer: there is no session, or it was closed or broken off and nothing more is dropped
+abbrev pub RestsAt : Answered → WebSocketHalf → Type 0
+RestsAt Unanswered half = ⊤
+RestsAt Refused half = ⊤
+RestsAt Open half = (half.input_broke ≡ true) × HasDropped half
+RestsAt Closed half = HasDropped half
+
+-- no message is read: what is due waits, or by the answer
+abbrev pub Rests : WebSocketHalf → Type 0
+Rests half = NoneDue half → RestsAt half.answered half
 
 -- Messages may be read and dropped: after a close of either side, or once the exchange is over.
 abbrev pub MayDrop : WebSocketHalf → Type 0

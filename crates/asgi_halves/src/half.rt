@@ -1,6 +1,7 @@
 //! The connection's half of an exchange: it reads, offers what is due, takes what the application sent,
 //! and writes. The half knows only its own end of the pair, whatever thread the application runs in.
-ghost use Rattle.std.specs.Prelude.{◌≡◌, ◌≢◌, ◌↔◌, true, false, [], ◌∷◌, ◌++◌, map, List, ℕ, IsTrue, IsFalse, OnOk};
+ghost use Rattle.std.specs.Prelude.{◌≡◌, ◌≢◌, ◌↔◌, ◌⊎◌, true, false, [], ◌∷◌, ◌++◌, map, List, ℕ, IsTrue, IsFalse, OnOk};
+ghost use Rattle.asgi_types.specs.declared.end_kind.EndKind.{EndKind};
 ghost use Rattle.asgi_types.specs.declared.facts.Facts.{Facts};
 ghost use Rattle.asgi_types.specs.declared.facts.Framing.{Framing};
 ghost use Rattle.asgi_types.specs.declared.incoming.Incoming.{Incoming};
@@ -13,7 +14,8 @@ ghost use Rattle.asgi_response.specs.Standing as standing;
 ghost use Rattle.asgi_exchange.specs.Calls.{IsViewOf};
 ghost use Rattle.asgi_exchange.specs.Views.{ConnView, empty_conn};
 ghost use Rattle.asgi_halves.specs.Half.{Scene, Invariant, HasGiven, EndsWhere, IsSettled, BreaksAt};
-ghost use Rattle.asgi_halves.specs.private.HalfSteps.{Pending, PreservesByLine, PreservesByEnd, KeepsBesidesBody, GivesOn, GivesAfter, GaveNext, HasAsked, HoldsFew, IsFree, ReadsAt, EndsAtInput, NeedsBody, known_input};
+ghost use Rattle.asgi_halves.specs.private.HalfSteps.{Pending, PreservesByLine, PreservesByEnd, KeepsBesidesBody, GivesOn, GivesAfter, GaveNext, HasAsked, HoldsFew, IsFree, NoneDue, OffersOne, ReadsAt, Rests, EndsAtInput, NeedsBody, known_input};
+ghost use Rattle.asgi_halves.specs.Kinds.{HasEnded, HasGrown, IsShut, IsTurnOfRead, IsTurnOfRest, OffersAll, OffersMost, ReadsNone, TakesNone};
 ghost use Rattle.asgi_halves.specs.Half.{Opens};
 ghost use Rattle.asgi_conversation.specs.declared.following.NextStep.{NextStep};
 ghost use Rattle.asgi_conversation.specs.TaskEnds.{has_ended};
@@ -94,6 +96,7 @@ impl HttpHalf {
         requires { self.old.stage ≡ Stage.Running }
         ensures says { (scene : Scene) (read : List ℕ) (view : ConnView ℕ ℕ) → Invariant scene (L.state line.old) self.old read view
             → (written : List ℕ) × Invariant scene (L.state line.new) self.new read (record view { got = view.got ++ OutItem.Event event.now ∷ []; written = written }) }
+        ensures unread { ReadsNone (L.state line.old) (L.state line.new) }
         ensures limits { self.new.wire.limits ≡ self.old.wire.limits }
     {
         match self.text.take(event, &mut self.wire.out) {
@@ -106,6 +109,7 @@ impl HttpHalf {
     fn put<L: Line>(&mut self, line: &mut L)
         ensures puts { (scene : Scene) (read : List ℕ) (view : ConnView ℕ ℕ) → Pending scene (L.state line.old) self.old read view
             → (written : List ℕ) × Invariant scene (L.state line.new) self.new read (record view { written = written }) }
+        ensures unread { ReadsNone (L.state line.old) (L.state line.new) }
         ensures limits { self.new.wire.limits ≡ self.old.wire.limits }
         ensures open { (following : NextStep) → self.new.stage ≡ Stage.Over following → self.old.stage ≡ Stage.Over following }
     {
@@ -122,6 +126,10 @@ impl HttpHalf {
         ensures tag { (C.tag end.new ≡ C.tag end.old) × (C.ring end.new ≡ C.ring end.old) }
         ensures limits { self.new.wire.limits ≡ self.old.wire.limits }
         ensures asked { IsFalse result → self.new.stage ≡ Stage.Running → HasAsked self.new }
+        ensures taken { TakesNone C.ConnEnd end.old end.new }
+        ensures grown { HasGrown result (C.offered end.old) (C.offered end.new) }
+        ensures all { self.new.stage ≡ Stage.Running
+            → OffersAll C.ConnEnd (NoneDue self.new) end.new ⊎ (IsTrue result × OffersMost C.ConnEnd self.new.wire.limits.ring end.old end.new) }
     {
         let mut offered = false;
         for _event in 0..self.wire.limits.ring {
@@ -143,6 +151,8 @@ impl HttpHalf {
         ensures tag { (C.tag end.new ≡ C.tag end.old) × (C.ring end.new ≡ C.ring end.old) }
         ensures limits { self.new.wire.limits ≡ self.old.wire.limits }
         ensures asked { IsFalse result → self.new.stage ≡ Stage.Running → HasAsked self.new }
+        ensures one { OffersOne C.ConnEnd result end.old end.new }
+        ensures all { IsFalse result → self.new.stage ≡ Stage.Running → OffersAll C.ConnEnd (NoneDue self.new) end.new }
     {
         if self.input_broke {
             return false;
@@ -161,6 +171,9 @@ impl HttpHalf {
         ensures tag { (C.tag end.new ≡ C.tag end.old) × (C.ring end.new ≡ C.ring end.old) }
         ensures limits { self.new.wire.limits ≡ self.old.wire.limits }
         ensures asked { IsFalse result → HasAsked self.old → HasAsked self.new }
+        ensures one { OffersOne C.ConnEnd result end.old end.new }
+        ensures all { IsFalse result → HasAsked self.old → OffersAll C.ConnEnd (NoneDue self.new) end.new }
+        ensures breaks { BreaksAt self.old.body self.old.wire.input → (self.new.input_broke ≡ true) × (C.is_broken end.new ≡ true) }
     {
         match self.body {
             BodyProgress::Open => false,
@@ -179,6 +192,8 @@ impl HttpHalf {
         ensures tag { (C.tag end.new ≡ C.tag end.old) × (C.ring end.new ≡ C.ring end.old) }
         ensures limits { self.new.wire.limits ≡ self.old.wire.limits }
         ensures asked { IsFalse result → HasAsked self.old → HasAsked self.new }
+        ensures one { OffersOne C.ConnEnd result end.old end.new }
+        ensures full { IsFalse result → (C.room end.new ≡ 0) ⊎ (C.is_broken end.new ≡ true) }
     {
         let BodyProgress::Waits(event) = mem::replace(&mut self.body, BodyProgress::Open) else {
             unreachable!()
@@ -200,6 +215,9 @@ impl HttpHalf {
         ensures tag { (C.tag end.new ≡ C.tag end.old) × (C.ring end.new ≡ C.ring end.old) }
         ensures limits { self.new.wire.limits ≡ self.old.wire.limits }
         ensures asked { IsFalse result → HasAsked self.old → HasAsked self.new }
+        ensures one { OffersOne C.ConnEnd result end.old end.new }
+        ensures all { IsFalse result → OffersAll C.ConnEnd (NoneDue self.new) end.new }
+        ensures breaks { has_ended self.old.wire.input ≡ true → (self.new.input_broke ≡ true) × (C.is_broken end.new ≡ true) }
     {
         if !self.wire.input.has_ended() {
             return false;
@@ -215,6 +233,8 @@ impl HttpHalf {
         ensures tag { (C.tag end.new ≡ C.tag end.old) × (C.ring end.new ≡ C.ring end.old) }
         ensures limits { self.new.wire.limits ≡ self.old.wire.limits }
         ensures asked { IsFalse result → HasAsked self.old → HasAsked self.new }
+        ensures one { OffersOne C.ConnEnd result end.old end.new }
+        ensures breaks { (self.new.input_broke ≡ true) × (C.is_broken end.new ≡ true) }
     {
         self.input_broke = true;
         end.offer_disconnect(Incoming::HttpDisconnect)
@@ -239,6 +259,9 @@ impl HttpHalf {
         requires asked { HasAsked self.old }
         ensures leads { PreservesByLine (L.state line.old) self.old (L.state line.new) self.new }
         ensures limits { self.new.wire.limits ≡ self.old.wire.limits }
+        ensures turn { self.new.stage ≡ Stage.Running → IsTurnOfRead (Rests self.new) (L.state line.old) (L.state line.new) result }
+        ensures keeps { result ≡ Turn.Idle → self.new ≡ self.old }
+        ensures moves { IsShut self.new.stage → result ≡ Turn.Moved }
     {
         if !self.reads_on() {
             return Turn::Idle;
@@ -257,6 +280,7 @@ impl HttpHalf {
         ensures open { IsTrue result → has_ended self.now.wire.input ≡ false }
         ensures free { IsTrue result → ReadsAt self.now.body }
         ensures few { IsTrue result → self.now.body ≡ BodyProgress.Whole → HoldsFew self.now.wire.requests }
+        ensures rests { IsFalse result → Rests self.now }
     {
         if self.wire.input.has_ended() {
             return false;
@@ -278,6 +302,9 @@ impl HttpHalf {
         requires { self.old.stage ≡ Stage.Ending kind }
         ensures leads { PreservesByLine (L.state line.old) self.old (L.state line.new) self.new }
         ensures limits { self.new.wire.limits ≡ self.old.wire.limits }
+        ensures ended { HasEnded self.new.stage }
+        ensures turn { (other : EndKind) → self.new.stage ≡ Stage.Ending other → IsTurnOfRest (L.state line.old) (L.state line.new) result }
+        ensures moves { IsShut self.new.stage → result ≡ Turn.Moved }
     {
         let progress = self.text.progress();
         if !needs_body(kind, progress, self.input_broke) {
@@ -299,6 +326,9 @@ impl HttpHalf {
         requires asked { HasAsked self.old }
         ensures leads { PreservesByLine (L.state line.old) self.old (L.state line.new) self.new }
         ensures limits { self.new.wire.limits ≡ self.old.wire.limits }
+        ensures ended { HasEnded self.new.stage }
+        ensures turn { (other : EndKind) → self.new.stage ≡ Stage.Ending other → IsTurnOfRest (L.state line.old) (L.state line.new) result }
+        ensures moves { IsShut self.new.stage → result ≡ Turn.Moved }
     {
         match self.body {
             BodyProgress::Open => self.read_rest(line),
@@ -352,6 +382,9 @@ impl HttpHalf {
         requires asked { HasAsked self.old }
         ensures leads { PreservesByLine (L.state line.old) self.old (L.state line.new) self.new }
         ensures limits { self.new.wire.limits ≡ self.old.wire.limits }
+        ensures ended { HasEnded self.new.stage }
+        ensures turn { (other : EndKind) → self.new.stage ≡ Stage.Ending other → IsTurnOfRest (L.state line.old) (L.state line.new) result }
+        ensures moves { IsShut self.new.stage → result ≡ Turn.Moved }
     {
         if self.wire.input.has_ended() {
             return Turn::Moved;
@@ -372,6 +405,9 @@ impl HttpHalf {
         requires known { NeedsBody kind progress self.old.input_broke → IsSettled self.old.body }
         ensures leads { PreservesByLine (L.state line.old) self.old (L.state line.new) self.new }
         ensures limits { self.new.wire.limits ≡ self.old.wire.limits }
+        ensures ended { HasEnded self.new.stage }
+        ensures turn { (other : EndKind) → self.new.stage ≡ Stage.Ending other → IsTurnOfRest (L.state line.old) (L.state line.new) result }
+        ensures moves { result ≡ Turn.Moved }
     {
         let input = input_of(&self.body);
         let following = after_task(kind, progress, input, self.input_broke);
@@ -412,6 +448,10 @@ impl ExchangeKind for HttpHalf {
     ghost reached = { λ half. half.stage };
 
     ghost may_read = { HasAsked };
+
+    ghost none_due = { NoneDue };
+
+    ghost rests = { Rests };
 
     ghost cut_event = { Incoming.HttpDisconnect };
 

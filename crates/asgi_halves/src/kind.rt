@@ -1,5 +1,5 @@
 //! What the connection's half does in an exchange of its kind, over HTTP or in a session.
-ghost use Rattle.std.specs.Prelude.{◌≡◌, ◌∷◌, [], ◌++◌, ℕ, Bool, List, IsFalse};
+ghost use Rattle.std.specs.Prelude.{◌≡◌, ◌⊎◌, ◌∷◌, [], ◌++◌, ℕ, Bool, List, IsFalse, IsTrue};
 ghost use Rattle.asgi_types.specs.declared.end_kind.EndKind.{EndKind};
 ghost use Rattle.asgi_types.specs.declared.incoming.Incoming.{Incoming};
 ghost use Rattle.asgi_types.specs.declared.outgoing.Outgoing.{Outgoing};
@@ -9,7 +9,7 @@ ghost use Rattle.asgi_conversation.specs.declared.following.NextStep.TheVariants
 ghost use Rattle.asgi_conversation.specs.declared.report.Outcome.{Outcome};
 ghost use Rattle.asgi_run.specs.AnyHalf.{PreservesInLine};
 ghost use Rattle.asgi_ws.specs.Lines.{LineState};
-ghost use Rattle.asgi_halves.specs.Kinds.{IsCutOff, IsOpen, PreservesAlone};
+ghost use Rattle.asgi_halves.specs.Kinds.{HasEnded, HasGrown, IsCutOff, IsOpen, IsShut, IsTurnOfRead, IsTurnOfRest, OffersAll, OffersMost, PreservesAlone, ReadsNone, TakesNone};
 ghost use Rattle.asgi_halves.specs.declared.stage.Stage.{Stage};
 
 use crate::stage::Stage;
@@ -38,6 +38,12 @@ pub trait ExchangeKind {
 
     // The half may read: nothing more is due of what it holds.
     ghost may_read: { Self → Type 0 };
+
+    // All that is due of what the half holds was offered.
+    ghost none_due: { Self → Type 0 };
+
+    // Nothing more is read: the input has ended, what was read waits, or enough was.
+    ghost rests: { Self → Type 0 };
 
     // What the application receives if the connection is cut short.
     ghost cut_event: { Incoming };
@@ -87,23 +93,34 @@ pub trait ExchangeKind {
     fn say<L: Line>(&mut self, event: Outgoing, line: &mut L)
         requires running { reached self.old ≡ Stage.Running }
         ensures says { (scene : Scene) (read : List ℕ) (view : ConnView In Out) → stands scene (L.state line.old) self.old read view
-            → (written : List Out) × stands scene (L.state line.new) self.new read (record view { got = view.got ++ OutItem.Event event ∷ []; written = written }) };
+            → (written : List Out) × stands scene (L.state line.new) self.new read (record view { got = view.got ++ OutItem.Event event ∷ []; written = written }) }
+        ensures unread { ReadsNone (L.state line.old) (L.state line.new) };
 
     /// Offers what is due, as far as places are free. Returns whether something was offered.
     fn offer_due<C: ConnEnd>(&mut self, end: &mut C) -> bool
         requires running { reached self.old ≡ Stage.Running }
         ensures leads { PreservesInLine stands self.old (IsViewOf C.ConnEnd end.old) self.new (IsViewOf C.ConnEnd end.new) }
         ensures tag { (C.tag end.new ≡ C.tag end.old) × (C.ring end.new ≡ C.ring end.old) }
-        ensures asked { IsFalse result → reached self.new ≡ Stage.Running → may_read self.new };
+        ensures asked { IsFalse result → reached self.new ≡ Stage.Running → may_read self.new }
+        ensures taken { TakesNone C.ConnEnd end.old end.new }
+        ensures grown { HasGrown result (C.offered end.old) (C.offered end.new) }
+        ensures all { reached self.new ≡ Stage.Running
+            → OffersAll C.ConnEnd (none_due self.new) end.new ⊎ (IsTrue result × OffersMost C.ConnEnd (ring self.new) end.old end.new) };
 
     /// Reads once, if nothing waits for a place and not too much is held.
     fn read_on<L: Line>(&mut self, line: &mut L) -> Turn
         requires running { reached self.old ≡ Stage.Running }
         requires asked { may_read self.old }
-        ensures leads { PreservesAlone stands (L.state line.old) self.old (L.state line.new) self.new };
+        ensures leads { PreservesAlone stands (L.state line.old) self.old (L.state line.new) self.new }
+        ensures turn { reached self.new ≡ Stage.Running → IsTurnOfRead (rests self.new) (L.state line.old) (L.state line.new) result }
+        ensures keeps { result ≡ Turn.Idle → none_due self.old → none_due self.new }
+        ensures moves { IsShut (reached self.new) → result ≡ Turn.Moved };
 
     /// Ends the exchange once the task has ended, or reads on before it does.
     fn finish<L: Line>(&mut self, kind: EndKind, line: &mut L) -> Turn
         requires ending { reached self.old ≡ Stage.Ending kind }
-        ensures leads { PreservesAlone stands (L.state line.old) self.old (L.state line.new) self.new };
+        ensures leads { PreservesAlone stands (L.state line.old) self.old (L.state line.new) self.new }
+        ensures ended { HasEnded (reached self.new) }
+        ensures turn { (other : EndKind) → reached self.new ≡ Stage.Ending other → IsTurnOfRest (L.state line.old) (L.state line.new) result }
+        ensures moves { IsShut (reached self.new) → result ≡ Turn.Moved };
 }

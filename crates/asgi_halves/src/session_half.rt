@@ -10,7 +10,9 @@ ghost use Rattle.asgi_exchange.specs.Views.{empty_conn};
 ghost use Rattle.asgi_conversation.specs.declared.following.NextStep.{NextStep};
 ghost use Rattle.asgi_conversation.specs.declared.following.NextStep.TheVariants.{ConnectionEnds};
 ghost use Rattle.asgi_ws.specs.Lines.{LineState};
-ghost use Rattle.asgi_halves.specs.WebSocketHalf.{SessionScene, Invariant, OpensSession, PreservesByEnd, PreservesByLine, Says, Speaks, MayDrop, IsAccept, IsDenial, heard_by, outcome_after, stage_of};
+ghost use Rattle.asgi_halves.specs.WebSocketHalf.{SessionScene, Invariant, OpensSession, PreservesByEnd, PreservesByLine, Says, Speaks, HasDropped, MayDrop, NoneDue, Rests, IsAccept, IsDenial, heard_by, outcome_after, stage_of};
+ghost use Rattle.asgi_halves.specs.Kinds.{IsShut, IsTurnOfOneRead, IsTurnOfRead, OffersAll, ReadsNone};
+ghost use Rattle.asgi_halves.specs.private.HalfSteps.{OffersOne};
 ghost use Rattle.asgi_ws.specs.declared.messages.Msg.{Msg};
 ghost use Rattle.asgi_exchange.specs.Session.{Output};
 
@@ -111,6 +113,7 @@ impl WebSocketHalf {
     fn say<L: Line>(&mut self, event: Outgoing, line: &mut L)
         requires running { self.old.stage ≡ Stage.Running }
         ensures says { Says (L.state line.old) self.old event (L.state line.new) self.new }
+        ensures unread { ReadsNone (L.state line.old) (L.state line.new) }
     {
         if let Verdict::Pass = self.judge.judge(&self.facts, &event) {
             self.speak(event, line);
@@ -121,6 +124,7 @@ impl WebSocketHalf {
     fn speak<L: Line>(&mut self, event: Outgoing, line: &mut L)
         requires running { self.old.stage ≡ Stage.Running }
         ensures speaks { Speaks (L.state line.old) self.old event (L.state line.new) self.new }
+        ensures unread { ReadsNone (L.state line.old) (L.state line.new) }
     {
         match event {
             Outgoing::WsSend { payload } => self.send(payload, line),
@@ -133,6 +137,7 @@ impl WebSocketHalf {
         requires running { self.old.stage ≡ Stage.Running }
         requires no_message { is_message event.now ≡ false }
         ensures speaks { Speaks (L.state line.old) self.old event.now (L.state line.new) self.new }
+        ensures unread { ReadsNone (L.state line.old) (L.state line.new) }
     {
         match event {
             Outgoing::WsClose { code, reason } => self.close_by(*code, reason, line),
@@ -148,6 +153,7 @@ impl WebSocketHalf {
         requires running { self.old.stage ≡ Stage.Running }
         requires accepts { IsAccept event.now }
         ensures speaks { Speaks (L.state line.old) self.old event.now (L.state line.new) self.new }
+        ensures unread { ReadsNone (L.state line.old) (L.state line.new) }
     {
         let Ok(text) = accept_text(self.wire.alloc, &self.facts, event) else {
             self.stage = Stage::Cut(Outcome::NoMemory);
@@ -165,6 +171,7 @@ impl WebSocketHalf {
     fn send<L: Line>(&mut self, payload: Payload, line: &mut L)
         requires running { self.old.stage ≡ Stage.Running }
         ensures speaks { Speaks (L.state line.old) self.old (Outgoing.WsSend payload) (L.state line.new) self.new }
+        ensures unread { ReadsNone (L.state line.old) (L.state line.new) }
     {
         self.stage = stage_after(line.send_message(payload));
     }
@@ -173,6 +180,7 @@ impl WebSocketHalf {
     fn close_by<L: Line>(&mut self, code: u16, reason: &Chars, line: &mut L)
         requires running { self.old.stage ≡ Stage.Running }
         ensures speaks { Speaks (L.state line.old) self.old (Outgoing.WsClose code reason.now) (L.state line.new) self.new }
+        ensures unread { ReadsNone (L.state line.old) (L.state line.new) }
     {
         match self.answered {
             Answered::Open => self.close(code, reason, line),
@@ -185,6 +193,7 @@ impl WebSocketHalf {
         requires running { self.old.stage ≡ Stage.Running }
         requires open { self.old.answered ≡ Answered.Open }
         ensures speaks { Speaks (L.state line.old) self.old (Outgoing.WsClose code reason.now) (L.state line.new) self.new }
+        ensures unread { ReadsNone (L.state line.old) (L.state line.new) }
     {
         let Some(reason) = Reason::new(reason.as_str()) else {
             self.stage = Stage::Cut(Outcome::WriteFailed(0));
@@ -200,6 +209,7 @@ impl WebSocketHalf {
         requires running { self.old.stage ≡ Stage.Running }
         requires shut { self.old.answered ≢ Answered.Open }
         ensures speaks { (code : ℕ) (reason : List ℕ) → Speaks (L.state line.old) self.old (Outgoing.WsClose code reason) (L.state line.new) self.new }
+        ensures unread { ReadsNone (L.state line.old) (L.state line.new) }
     {
         self.answered = Answered::Refused;
         if let Some(n) = write(line, denied_text()) {
@@ -212,6 +222,7 @@ impl WebSocketHalf {
         requires running { self.old.stage ≡ Stage.Running }
         requires denies { IsDenial event.now }
         ensures speaks { Speaks (L.state line.old) self.old event.now (L.state line.new) self.new }
+        ensures unread { ReadsNone (L.state line.old) (L.state line.new) }
     {
         if self.text.take(event, &mut self.wire.out).is_err() {
             self.stage = Stage::Cut(Outcome::NoMemory);
@@ -230,6 +241,8 @@ impl WebSocketHalf {
         ensures leads { PreservesByEnd self.old (IsViewOf C.ConnEnd end.old) self.new (IsViewOf C.ConnEnd end.new) }
         ensures running { self.new.stage ≡ Stage.Running }
         ensures tag { (C.tag end.new ≡ C.tag end.old) × (C.ring end.new ≡ C.ring end.old) }
+        ensures one { OffersOne C.ConnEnd result end.old end.new }
+        ensures all { OffersAll C.ConnEnd (NoneDue self.new) end.new }
     {
         match mem::replace(&mut self.due, Due::Nothing) {
             Due::Nothing => false,
@@ -253,6 +266,9 @@ impl WebSocketHalf {
     fn read<L: Line>(&mut self, line: &mut L) -> Turn
         requires running { self.old.stage ≡ Stage.Running }
         ensures leads { PreservesByLine (L.state line.old) self.old (L.state line.new) self.new }
+        ensures turn { IsTurnOfRead (Rests self.new) (L.state line.old) (L.state line.new) result }
+        ensures keeps { result ≡ Turn.Idle → self.new.due ≡ self.old.due }
+        ensures moves { IsShut self.new.stage → result ≡ Turn.Moved }
     {
         let Due::Nothing = self.due else {
             return Turn::Idle;
@@ -277,6 +293,9 @@ impl WebSocketHalf {
         requires opened { (self.old.answered ≡ Answered.Open) × (self.old.input_broke ≡ false) }
         requires free { self.old.due ≡ Due.Nothing }
         ensures leads { PreservesByLine (L.state line.old) self.old (L.state line.new) self.new }
+        ensures turn { IsTurnOfOneRead (L.state line.old) (L.state line.new) result }
+        ensures keeps { result ≡ Turn.Idle → self.new ≡ self.old }
+        ensures moves { IsShut self.new.stage → result ≡ Turn.Moved }
     {
         match line.read_message() {
             Got::Message(message) => self.hear(message),
@@ -318,6 +337,8 @@ impl WebSocketHalf {
         ensures leads { PreservesByLine (L.state line.old) self.old (L.state line.new) self.new }
         ensures may { MayDrop self.new }
         ensures stage { self.new.stage ≡ self.old.stage }
+        ensures turn { IsTurnOfRead (HasDropped self.new) (L.state line.old) (L.state line.new) result }
+        ensures same { self.new ≡ record self.old { is_over = self.new.is_over; spare_reads = self.new.spare_reads } }
     {
         if self.is_over || self.spare_reads == 0 {
             return Turn::Idle;
@@ -351,6 +372,8 @@ impl WebSocketHalf {
     fn finish_task<L: Line>(&mut self, kind: EndKind, line: &mut L) -> Turn
         requires ending { self.old.stage ≡ Stage.Ending kind }
         ensures leads { PreservesByLine (L.state line.old) self.old (L.state line.new) self.new }
+        ensures over { (following : NextStep) × (self.new.stage ≡ Stage.Over following) }
+        ensures moves { result ≡ Turn.Moved }
     {
         let outcome = self.end_by(kind, line);
         self.stage = Stage::Over(NextStep::ConnectionEnds(outcome));
@@ -442,6 +465,10 @@ impl ExchangeKind for WebSocketHalf {
     ghost reached = { λ half. half.stage };
 
     ghost may_read = { λ _. ⊤ };
+
+    ghost none_due = { NoneDue };
+
+    ghost rests = { Rests };
 
     ghost cut_event = { Incoming.WsDisconnect 1006 [] };
 

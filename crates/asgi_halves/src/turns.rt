@@ -1,11 +1,12 @@
 //! The turns of the connection's half, once for all kinds of exchange.
 ghost use Rattle.std.specs.Prelude.{◌≡◌, ◌≢◌, ◌↔◌, ◌⊎◌, ◌+◌, ℕ, [], length, true, IsTrue, IsFalse, IsNone, IfNone, IfSome};
+ghost use Rattle.asgi_types.specs.declared.end_kind.EndKind.{EndKind};
 ghost use Rattle.asgi_exchange.specs.Calls.{IsViewOf};
 ghost use Rattle.asgi_conversation.specs.declared.following.NextStep.{NextStep};
 ghost use Rattle.asgi_conversation.specs.declared.following.NextStep.TheVariants.{NextRequest};
 ghost use Rattle.asgi_run.specs.AnyHalf.{PreservesOn, PreservesInLine};
 ghost use Rattle.asgi_run.specs.Limits.{IsSettled};
-ghost use Rattle.asgi_halves.specs.Kinds.{IsOpen, IsCut, IsTaken, TookOne, following_of};
+ghost use Rattle.asgi_halves.specs.Kinds.{AwaitsEnd, HasGrown, HasWorked, IsCut, IsOneMore, IsOpen, IsShut, IsTurnOfRest, IsTurnOfRun, OffersAll, OffersMost, ReadsNone, TookOne, following_of};
 
 use crate::kind::ExchangeKind;
 use crate::stage::Stage;
@@ -26,6 +27,21 @@ pub fn turn<K: ExchangeKind, L: Line, C: ConnEnd>(
     ensures over { (following : NextStep) → K.reached half.old ≡ Stage.Over following → half.new ≡ half.old }
     ensures waits { (following : NextStep) → K.reached half.old ≡ Stage.Over following → result ≡ Turn.Idle }
     ensures told { IsCut (K.reached half.old) → C.is_broken end.new ≡ true }
+    // while the exchange runs
+    ensures runs { K.reached half.old ≡ Stage.Running → K.reached half.new ≡ Stage.Running
+        → IsTurnOfRun C.ConnEnd app_goes_on end.old end.new (K.rests half.new) (L.state line.old) (L.state line.new) result }
+    ensures all { K.reached half.old ≡ Stage.Running
+        → (C.seen end.new ≡ []) ⊎ (K.reached half.new ≢ Stage.Running) ⊎ (length (C.got end.new) ≡ length (C.got end.old) + K.ring half.old) }
+    ensures offers { K.reached half.old ≡ Stage.Running → K.reached half.new ≡ Stage.Running → (result ≡ Turn.Idle) ⊎ HasWorked C.ConnEnd app_goes_on end.old end.new
+        → OffersAll C.ConnEnd (K.none_due half.new) end.new ⊎ OffersMost C.ConnEnd (K.ring half.new) end.old end.new }
+    // what takes or offers does not read, nor is anything read while the application goes on
+    ensures unread { K.reached half.old ≡ Stage.Running → AwaitsEnd (K.reached half.new) → HasWorked C.ConnEnd app_goes_on end.old end.new
+        → ReadsNone (L.state line.old) (L.state line.new) }
+    // once the task has ended, or the connection is cut short
+    ensures moves { IsOpen (K.reached half.old) → IsShut (K.reached half.new) → result ≡ Turn.Moved }
+    ensures rest { (kind other : EndKind) → K.reached half.old ≡ Stage.Ending kind → K.reached half.new ≡ Stage.Ending other
+        → IsTurnOfRest (L.state line.old) (L.state line.new) result }
+    ensures drains { IsCut (K.reached half.old) → TookOne result (C.got end.old) (C.got end.new) }
     ensures tag { (C.tag end.new ≡ C.tag end.old) × (C.ring end.new ≡ C.ring end.old) }
 {
     match half.stage() {
@@ -58,6 +74,13 @@ fn run<K: ExchangeKind, L: Line, C: ConnEnd>(
 ) -> Turn
     requires running { K.reached half.old ≡ Stage.Running }
     ensures leads { PreservesOn K.stands (L.state line.old) half.old (IsViewOf C.ConnEnd end.old) (L.state line.new) half.new (IsViewOf C.ConnEnd end.new) }
+    ensures runs { K.reached half.new ≡ Stage.Running
+        → IsTurnOfRun C.ConnEnd app_goes_on end.old end.new (K.rests half.new) (L.state line.old) (L.state line.new) result }
+    ensures all { (C.seen end.new ≡ []) ⊎ (K.reached half.new ≢ Stage.Running) ⊎ (length (C.got end.new) ≡ length (C.got end.old) + K.ring half.old) }
+    ensures offers { K.reached half.new ≡ Stage.Running → (result ≡ Turn.Idle) ⊎ HasWorked C.ConnEnd app_goes_on end.old end.new
+        → OffersAll C.ConnEnd (K.none_due half.new) end.new ⊎ OffersMost C.ConnEnd (K.ring half.new) end.old end.new }
+    ensures unread { AwaitsEnd (K.reached half.new) → HasWorked C.ConnEnd app_goes_on end.old end.new → ReadsNone (L.state line.old) (L.state line.new) }
+    ensures moves { IsShut (K.reached half.new) → result ≡ Turn.Moved }
     ensures tag { (C.tag end.new ≡ C.tag end.old) × (C.ring end.new ≡ C.ring end.old) }
 {
     let took = take_all(half, line, end);
@@ -83,7 +106,10 @@ fn run<K: ExchangeKind, L: Line, C: ConnEnd>(
 fn take_all<K: ExchangeKind, L: Line, C: ConnEnd>(half: &mut K, line: &mut L, end: &mut C) -> bool
     ensures leads { PreservesOn K.stands (L.state line.old) half.old (IsViewOf C.ConnEnd end.old) (L.state line.new) half.new (IsViewOf C.ConnEnd end.new) }
     ensures all { (C.seen end.new ≡ []) ⊎ (K.reached half.new ≢ Stage.Running) ⊎ (length (C.got end.new) ≡ length (C.got end.old) + K.ring half.old) }
-    ensures none { IsFalse result → C.got end.new ≡ C.got end.old }
+    ensures grown { HasGrown result (C.got end.old) (C.got end.new) }
+    ensures still { IsFalse result → L.state line.new ≡ L.state line.old }
+    ensures unread { ReadsNone (L.state line.old) (L.state line.new) }
+    ensures offered { C.offered end.new ≡ C.offered end.old }
     ensures tag { (C.tag end.new ≡ C.tag end.old) × (C.ring end.new ≡ C.ring end.old) }
 {
     let mut took = false;
@@ -103,8 +129,11 @@ fn take_all<K: ExchangeKind, L: Line, C: ConnEnd>(half: &mut K, line: &mut L, en
 fn take_one<K: ExchangeKind, L: Line, C: ConnEnd>(half: &mut K, line: &mut L, end: &mut C) -> bool
     requires running { K.reached half.old ≡ Stage.Running }
     ensures leads { PreservesOn K.stands (L.state line.old) half.old (IsViewOf C.ConnEnd end.old) (L.state line.new) half.new (IsViewOf C.ConnEnd end.new) }
-    ensures took { IsTaken result (C.got end.old) (C.got end.new) }
+    ensures took { IsOneMore result (C.got end.old) (C.got end.new) }
     ensures none { IsFalse result → C.seen end.new ≡ [] }
+    ensures still { IsFalse result → L.state line.new ≡ L.state line.old }
+    ensures unread { ReadsNone (L.state line.old) (L.state line.new) }
+    ensures offered { C.offered end.new ≡ C.offered end.old }
     ensures tag { (C.tag end.new ≡ C.tag end.old) × (C.ring end.new ≡ C.ring end.old) }
 {
     match end.take() {

@@ -68,6 +68,8 @@ impl Wire {
             × (length more ≤ piece_size) }
         // the turn is that of the one read that was made
         ensures turn { IfOk result (λ turn. (answer : Answer) × ((L.state line.new).reads ≡ (L.state line.old).reads ++ answer ∷ []) × (turn ≡ turn_of answer)) }
+        ensures session { (L.state line.new).session ≡ (L.state line.old).session }
+        ensures idle { IfOk result (λ turn. turn ≡ Turn.Idle → self.new ≡ self.old) }
         ensures same { self.new ≡ record self.old { requests = self.new.requests; input = self.new.input } }
         ensures limits { self.new.requests.limits ≡ self.old.requests.limits }
     {
@@ -88,6 +90,7 @@ impl Wire {
         ensures fed { OnOk result ((bytes : List ℕ) (given : List Next) → StandsFor self.old.requests bytes given
             → StandsFor self.new.requests (bytes ++ take (bytes_of answer) piece.now) given) }
         ensures input { self.new.input ≡ input_after self.old.input answer }
+        ensures paused { answer ≡ Answer.Paused → self.new ≡ self.old }
         ensures same { self.new ≡ record self.old { requests = self.new.requests; input = self.new.input } }
         ensures limits { self.new.requests.limits ≡ self.old.requests.limits }
     {

@@ -7,16 +7,17 @@ use asgi_types::Incoming;
 
 /// An end of the connection which wakes the application's half with each item that it puts or takes, and counts them.
 #[derive(Drop)]
-pub struct Waking<'a, C> {
+pub struct Waking<C> {
     /// The end.
     pub end: C,
-    bell: &'a Bell,
+    /// What wakes.
+    pub bell: Bell,
     moves: u64,
 }
 
-impl<'a, C: ConnEnd> Waking<'a, C> {
+impl<C: ConnEnd> Waking<C> {
     /// Over this end. Nothing was put or taken yet.
-    pub fn new(end: C, bell: &'a Bell) -> Self
+    pub fn new(end: C, bell: Bell) -> Self
         ensures { result.end ≡ end }
     {
         Waking {
@@ -40,7 +41,7 @@ impl<'a, C: ConnEnd> Waking<'a, C> {
     }
 }
 
-impl<'a, C: ConnEnd> ConnEnd for Waking<'a, C> {
+impl<C: ConnEnd> ConnEnd for Waking<C> {
     ghost Tag = { C.Tag };
 
     ghost tag = { λ w. C.tag w.end };

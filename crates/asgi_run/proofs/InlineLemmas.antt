@@ -1,7 +1,6 @@
 -- Turn after turn, the connection's half keeps its invariant, and the application's side goes on.
-use Rattle.std.proofs.Common.{◌≡◌, ℕ, ◌+◌, ◌⊎◌, inl, inr, arith, List, [], Option, Some, None, IsSomeAnd, refl, sym, ap, ◌∙◌, subst}
+use Rattle.std.proofs.Common.{◌≡◌, ℕ, ◌+◌, ◌⊎◌, inl, inr, arith, List, Option, Some, None, IsSomeAnd, refl, sym, ap, ◌∙◌, subst}
 use Rattle.std.specs.Prelude.{◌<◌, IsSome, is_some}
-use Rattle.std.proofs.lemmas.List.{append-nil}
 use Rattle.asgi_types.specs.declared.end_kind.EndKind.{EndKind}
 use Rattle.asgi_types.specs.declared.incoming.Incoming.{Incoming}
 use Rattle.asgi_types.specs.declared.outgoing.Outgoing.{Outgoing}
@@ -13,7 +12,6 @@ use Rattle.asgi_apps.specs.Ends.{MayGoOn, IsWithin, own_end}
 use Rattle.asgi_exchange.specs.Calls.{IsExchangeOf, view_of}
 use Rattle.asgi_exchange.specs.Exchange.{Exchange}
 use Rattle.asgi_exchange.specs.Items.{events_of, end_of}
-use Rattle.asgi_exchange.specs.Views.{ConnView}
 use Rattle.asgi_exchange.proofs.EventLemmas.{events_are}
 use Rattle.asgi_exchange.proofs.CallLemmas.{end_is}
 use Rattle.asgi_io.specs.declared.turns.Turns.{Turns}
@@ -23,14 +21,7 @@ use Rattle.asgi_conversation.specs.declared.report.Outcome.TheVariants.{Idle}
 use Rattle.asgi_run.specs.Limits.{IsAtLimit, IsOverIdle, IsSettled}
 use Rattle.asgi_run.specs.declared.runner.AppSide.{AppSide}
 use Rattle.asgi_run.specs.declared.runner.AppSide.TheVariants.{Runs, HasEnded}
-use Rattle.asgi_run.specs.AnyHalf.{PreservesOn}
-use Rattle.asgi_ws.specs.Lines.{LineState}
-use Rattle.asgi_run.specs.Running.{OfEnd, MayRun, Answers, IsOfRequest, SameLists, GoesOnAs, EndsIn, TagStays}
-
--- ---- the connection's half
-
-pub leads_nowhere : {S H A W : Type 0} (stands : S → LineState → H → List ℕ → ConnView A W → Type 0) (line : LineState) (half : H) (P : ConnView A W → Type 0) → PreservesOn stands line half P line half P
-leads_nowhere {A} {W} stands line half P scene read view s is = ([], view, subst (λ (r : List ℕ). stands scene line half r view) (sym (append-nil read)) s, is)
+use Rattle.asgi_run.specs.Running.{OfEnd, MayRun, Answers, IsOfRequest, SameLists, GoesOnAs, EndsIn, IsPolled, IsNotPolled}
 
 -- ---- what holds of a borrowed end
 
@@ -46,27 +37,32 @@ some_both : {A : Type 0} (o : Option A) (P Q R : A → Type 0) → IsSomeAnd o P
 some_both (Some x) P Q R p q f = f x p q
 some_both None P Q R p q f = absurd p
 
-of_end_then : {T E : Type 0} (side : AppSide T E) (P Q : E → Type 0) → OfEnd side P → ((e : E) → P e → Q e) → OfEnd side Q
-of_end_then (Runs running) P Q p f = some_then running.lent (λ l. P l.app_end) (λ l. Q l.app_end) p (λ l x. f l.app_end x)
-of_end_then (HasEnded app_end kind) P Q p f = f app_end p
-
-of_end_gives : {T E : Type 0} (side : AppSide T E) (P Q : E → Type 0) (R : Type 0) → OfEnd side P → OfEnd side Q → ((e : E) → P e → Q e → R) → R
+pub of_end_gives : {T E : Type 0} (side : AppSide T E) (P Q : E → Type 0) (R : Type 0) → OfEnd side P → OfEnd side Q → ((e : E) → P e → Q e → R) → R
 of_end_gives (Runs running) P Q R p q f =
     some_gives running.lent (λ l. R) R (some_both running.lent (λ l. P l.app_end) (λ l. Q l.app_end) (λ l. R) p q (λ l x y. f l.app_end x y)) (λ l x. x)
 of_end_gives (HasEnded app_end kind) P Q R p q f = f app_end p q
 
 -- ---- the application's side
 
--- a task that ended in between ended before a point between them, or after it
-pub ended_by_then : {T E : Type 0} (a b c : AppSide T E) → EndsIn a c → EndsIn a b ⊎ EndsIn b c
-ended_by_then (Runs a) (Runs b) (Runs c) ends = absurd ends
-ended_by_then (Runs a) (Runs b) (HasEnded c kind) ends = inr tt
-ended_by_then (Runs a) (HasEnded b kind) c ends = inl tt
-ended_by_then (HasEnded a kind) b c ends = absurd ends
+-- a task that ended ended where it was polled
+pub ends_between : {T E : Type 0} (a b c d : AppSide T E) → IsNotPolled a b → IsNotPolled c d → EndsIn a d → EndsIn b c
+ends_between (Runs a) (Runs b) (Runs c) (Runs d) first last ends = absurd ends
+ends_between (Runs a) (Runs b) (Runs c) (HasEnded d kind) first last ends = absurd last
+ends_between (Runs a) (Runs b) (HasEnded c kind) d first last ends = tt
+ends_between (Runs a) (HasEnded b kind) c d first last ends = absurd first
+ends_between (HasEnded a kind) b c d first last ends = absurd ends
 
-pub ends_nowhere : {T E : Type 0} (side : AppSide T E) (R : Type 0) → EndsIn side side → R
-ends_nowhere (Runs running) R ends = absurd ends
-ends_nowhere (HasEnded app_end kind) R ends = absurd ends
+-- a poll in between is one from before to after
+pub polled_between : {T E : Type 0} (a b c d : AppSide T E) → IsNotPolled a b → IsPolled b c → IsNotPolled c d → IsPolled a d
+polled_between (Runs a) (Runs b) (Runs c) (Runs d) first polled last = rw (last, sym first) polled
+polled_between (Runs a) (Runs b) (Runs c) (HasEnded d kind) first polled last = tt
+polled_between (Runs a) (Runs b) (HasEnded c kind) (Runs d) first polled last = absurd last
+polled_between (Runs a) (Runs b) (HasEnded c kind) (HasEnded d last_kind) first polled last = tt
+polled_between (Runs a) (HasEnded b kind) c d first polled last = absurd first
+polled_between (HasEnded a kind) (Runs b) c d first polled last = absurd first
+polled_between (HasEnded a kind) (HasEnded b now) (Runs c) d first polled last = absurd polled
+polled_between (HasEnded a kind) (HasEnded b now) (HasEnded c later) (Runs d) first polled last = absurd last
+polled_between (HasEnded a kind) (HasEnded b now) (HasEnded c later) (HasEnded d last_kind) first polled last = tt
 
 module _ {T E : Type 0} (stands : T → Kind → List Incoming → List Outgoing → Type 0) (answers : T → List Incoming → List Outgoing → Option EndKind → Type 0) (ends : Ghosts E) where
   -- a running task may be polled, by another one before
@@ -127,20 +123,6 @@ module _ {T E : Type 0} (stands : T → Kind → List Incoming → List Outgoing
   goes_further (HasEnded a before) (HasEnded b kind) (HasEnded c last) x y =
       (y.0, y.1 ∙ x.1, (y.2.0 ∙ x.2.0, y.2.1 ∙ x.2.1, y.2.2 ∙ x.2.2), same_request a b c x.3 y.3)
 
-  tag_of : (lent : Option (Lent T E)) → IsSomeAnd lent (λ is. MayGoOn stands ends is.task is.app_end) → IsSomeAnd lent (λ was. IsSomeAnd lent (λ is. ends.tag is.app_end ≡ ends.tag was.app_end))
-  tag_of (Some is) may = refl
-  tag_of None may = absurd may
-
-  pub tag_nowhere : (side : AppSide T E) → MayRun stands ends side → TagStays ends side side
-  tag_nowhere (Runs running) may = tag_of running.lent may
-  tag_nowhere (HasEnded app_end kind) may = refl
-
-  pub tag_further : (a b c : AppSide T E) → TagStays ends a b → TagStays ends b c → TagStays ends a c
-  tag_further a b c x y =
-      of_end_then a (λ was. OfEnd b (λ is. ends.tag is ≡ ends.tag was)) (λ was. OfEnd c (λ now. ends.tag now ≡ ends.tag was)) x
-      (λ was p. of_end_gives b (λ is. ends.tag is ≡ ends.tag was) (λ is. OfEnd c (λ now. ends.tag now ≡ ends.tag is)) (OfEnd c (λ now. ends.tag now ≡ ends.tag was)) p y
-      (λ is u v. of_end_then c (λ now. ends.tag now ≡ ends.tag is) (λ now. ends.tag now ≡ ends.tag was) v (λ now w. w ∙ u)))
-
   -- ---- in the end
 
   -- what holds of the end by its request holds in the end
@@ -163,30 +145,6 @@ module _ {T E : Type 0} (stands : T → Kind → List Incoming → List Outgoing
 
   pub ended_as : (side : AppSide T E) (app_end : E) (kind : EndKind) → GoesOnAs stands answers ends side (HasEnded app_end kind) → end_of (items_of (ends.said app_end) (ends.ended app_end)) ≡ Some kind
   ended_as side app_end kind on = end_is (ends.said app_end) (ends.ended app_end) ∙ may_run side (HasEnded app_end kind) on
-
--- ---- the pair
-
-module _ {T E Tag : Type 0} (tag : E → Tag) where
-  pub pair_stays : (side : AppSide T E) (old new : Tag) → OfEnd side (λ app. old ≡ tag app) → new ≡ old → OfEnd side (λ app. new ≡ tag app)
-  pair_stays (Runs running) old new pair same = some_then running.lent (λ is. old ≡ tag is.app_end) (λ is. new ≡ tag is.app_end) pair (λ is x. same ∙ x)
-  pair_stays (HasEnded app_end kind) old new pair same = same ∙ pair
-
-  -- the end went on to the application's side of now
-  on_to : (new : AppSide T E) (conn : Tag) (was : E) → conn ≡ tag was → OfEnd new (λ is. tag is ≡ tag was) → OfEnd new (λ is. conn ≡ tag is)
-  on_to (Runs new) conn was pair same = some_then new.lent (λ is. tag is.app_end ≡ tag was) (λ is. conn ≡ tag is.app_end) same (λ is x. pair ∙ sym x)
-  on_to (HasEnded app_end kind) conn was pair same = pair ∙ sym same
-
-  pub pair_of : (old new : AppSide T E) (conn : Tag) → OfEnd old (λ app. conn ≡ tag app) → OfEnd old (λ was. OfEnd new (λ is. tag is ≡ tag was)) → OfEnd new (λ app. conn ≡ tag app)
-  pair_of (Runs old) new conn pair same =
-      let both = some_both old.lent (λ was. conn ≡ tag was.app_end) (λ was. OfEnd new (λ is. tag is ≡ tag was.app_end)) (λ was. OfEnd new (λ is. conn ≡ tag is)) pair same (λ was x y. on_to new conn was.app_end x y) in
-      some_gives old.lent (λ was. OfEnd new (λ is. conn ≡ tag is)) (OfEnd new (λ is. conn ≡ tag is)) both (λ was x. x)
-  pair_of (HasEnded was before) new conn pair same = on_to new conn was pair same
-
-  pub last_pair : (side : AppSide T E) (app_end : E) (conn : Tag) → OfEnd side (λ app. conn ≡ tag app) → OfEnd side (λ was. tag app_end ≡ tag was) → conn ≡ tag app_end
-  last_pair (Runs running) app_end conn pair same =
-      let both = some_both running.lent (λ was. conn ≡ tag was.app_end) (λ was. tag app_end ≡ tag was.app_end) (λ was. conn ≡ tag app_end) pair same (λ was x y. x ∙ sym y) in
-      some_gives running.lent (λ was. conn ≡ tag app_end) (conn ≡ tag app_end) both (λ was x. x)
-  last_pair (HasEnded was before) app_end conn pair same = pair ∙ sym same
 
 -- ---- the turns
 

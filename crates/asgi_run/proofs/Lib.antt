@@ -1,4 +1,5 @@
 pub mod LineLemmas
 pub mod LeadsLemmas
 pub mod InlineLemmas
+pub mod FinishLemmas
 pub mod ApartLemmas

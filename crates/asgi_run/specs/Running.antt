@@ -1,5 +1,6 @@
 -- The two halves of one exchange, run until it is over.
-use Rattle.std.specs.Prelude.{◌≡◌, ◌⊎◌, ℕ, List, [], ◌++◌, Option, Some, None, IsSomeAnd, ⊤}
+use Rattle.std.specs.Prelude.{◌≡◌, ◌⊎◌, ℕ, List, [], ◌++◌, Option, Some, None, IsSomeAnd, true, ⊤}
+use Rattle.asgi_io.specs.Counting.{RoseBy}
 use Rattle.asgi_types.specs.declared.end_kind.EndKind.{EndKind}
 use Rattle.asgi_types.specs.declared.end_kind.EndKind.TheVariants.{Faulted}
 use Rattle.asgi_types.specs.declared.incoming.Incoming.{Incoming}
@@ -9,7 +10,7 @@ use Rattle.asgi_pipes.specs.declared.ends.AppEnd.{Ghosts}
 use Rattle.asgi_pipes.specs.declared.ends.ConnEnd as conn_end
 use Rattle.asgi_pipes.specs.Items.{items_of}
 use Rattle.asgi_apps.specs.Driving.{IsDriven}
-use Rattle.asgi_apps.specs.Ends.{IsWithin, MayGoOn, own_end}
+use Rattle.asgi_apps.specs.Ends.{GoesOn, IsWithin, MayGoOn, own_end}
 use Rattle.asgi_exchange.specs.Calls.{view_of}
 use Rattle.asgi_exchange.specs.Items.{end_of}
 use Rattle.asgi_exchange.specs.Keeps.{IsExchange}
@@ -96,11 +97,41 @@ GoesOnAs stands answers ends (HasEnded was before) (Runs new) = ⊥
 GoesOnAs stands answers ends (HasEnded was before) (HasEnded app_end kind) =
     (ends.ended app_end ≡ Some kind) × (kind ≡ before) × SameLists ends was app_end × IsOfRequest ends was app_end
 
+-- An exchange goes on: its ends are of one pair, and the application's side has come to `now` from the one that it began with.
+abbrev pub HasCome : {C T E : Type 0} → (C → E → Type 0) → (T → Kind → List Incoming → List Outgoing → Type 0) → (T → List Incoming → List Outgoing → Option EndKind → Type 0)
+    → Ghosts E → C → (side now : AppSide T E) → Type 0
+HasCome is_pair stands answers ends conn side now = OfEnd now (λ app. is_pair conn app) × GoesOnAs stands answers ends side now × MayRun stands ends side
+
+-- a task that still runs was polled in between
+abbrev pub IsPolled : {T E : Type 0} → AppSide T E → AppSide T E → Type 0
+IsPolled (Runs old) (Runs new) = RoseBy 1 old.turns new.turns
+IsPolled (Runs old) (HasEnded app_end kind) = ⊤
+IsPolled (HasEnded was before) (Runs new) = ⊥
+IsPolled (HasEnded was before) (HasEnded app_end kind) = ⊤
+
+-- no poll was made in between, and the task did not end
+abbrev pub IsNotPolled : {T E : Type 0} → AppSide T E → AppSide T E → Type 0
+IsNotPolled (Runs old) (Runs new) = new.turns ≡ old.turns
+IsNotPolled (Runs old) (HasEnded app_end kind) = ⊥
+IsNotPolled (HasEnded was before) (Runs new) = ⊥
+IsNotPolled (HasEnded was before) (HasEnded app_end kind) = ⊤
+
+-- In between the task ended, or its end went on to where it says that an item went through a queue.
+abbrev pub HasMoved : {T E : Type 0} → Ghosts E → AppSide T E → AppSide T E → Type 0
+HasMoved ends (Runs old) (Runs new) = IsSomeAnd old.lent (λ was. (polled : _) × GoesOn ends None was.app_end polled × (ends.has_moved polled ≡ true))
+HasMoved ends (Runs old) (HasEnded app_end kind) = ⊤
+HasMoved ends (HasEnded was before) new = ⊥
+
 -- the task ended in between
 abbrev pub EndsIn : {T E : Type 0} → AppSide T E → AppSide T E → Type 0
 EndsIn (Runs old) (Runs new) = ⊥
 EndsIn (Runs old) (HasEnded app_end kind) = ⊤
 EndsIn (HasEnded was before) new = ⊥
+
+-- the task has ended as `kind`, with its end as it is now
+abbrev pub EndsSo : {T E : Type 0} → (T → Kind → List Incoming → List Outgoing → Type 0) → (T → List Incoming → List Outgoing → Option EndKind → Type 0)
+    → Ghosts E → AppSide T E → E → EndKind → Type 0
+EndsSo stands answers ends side app_end kind = GoesOnAs stands answers ends side (HasEnded app_end kind) × OfEnd side (λ was. ends.tag app_end ≡ ends.tag was)
 
 -- all that was put at each end is at the other one: what that has taken, and what waits there
 abbrev pub HasPassed : {C E : Type 0} → conn_end.Ghosts C → Ghosts E → C → E → Type 0

@@ -1,173 +1,133 @@
-//! The halves of an exchange in two threads: the connection's in this one, the task in a thread that is kept.
-ghost use Rattle.std.specs.Prelude.{◌≡◌, ◌<◌, ◌⊎◌, ◌++◌, ℕ, List, Some, IsSome, IsSomeAnd};
-ghost use Rattle.asgi_io.specs.declared.turns.Turn.{Turn};
-ghost use Rattle.asgi_io.specs.Turns.{CountsTurns};
-ghost use Rattle.asgi_apps.specs.Driving.{IsDriven};
-ghost use Rattle.asgi_apps.specs.Ends.{MayGoOn};
+//! The task of an exchange with a thread that is kept, and how it is taken back from there.
+ghost use Rattle.std.specs.Prelude.{◌≡◌, ℕ, List, Some, IsSome};
 ghost use Rattle.asgi_exchange.specs.Calls.{IsViewOf, IsExchangeOf};
 ghost use Rattle.asgi_exchange.specs.Views.{ConnView};
 ghost use Rattle.asgi_conversation.specs.declared.following.NextStep.TheVariants.{NextRequest};
-ghost use Rattle.asgi_run.specs.AnyHalf.{PreservesOn};
-ghost use Rattle.asgi_run.specs.Limits.{IsAtLimit, IsOverIdle, IsSettled};
-ghost use Rattle.asgi_run.specs.Running.{OfEnd, HasRun};
-ghost use Rattle.asgi_run.specs.declared.runner.AppSide.TheVariants.{HasEnded, Runs};
+ghost use Rattle.asgi_ws.specs.Lines.{LineState};
+ghost use Rattle.asgi_run.specs.Jobs.{HasJob, HasLimits, IsApart};
+ghost use Rattle.asgi_run.specs.Running.{OfEnd, MayRun, HasRun, Drives, DrivesRunning, EndsSo};
+ghost use Rattle.asgi_run.specs.declared.runner.AppSide.{AppSide};
 
 use crate::exchange_half::Half;
-use crate::runner::goes_on;
-use asgi_apps::{AppTask, Ended, Running};
+use crate::runner::AppSide;
+use asgi_apps::{AppTask, Ended};
 use asgi_exchange::join;
 use asgi_io::{Pause, Turns};
-use asgi_kept::{Bell, Job, Kept, Returned, Waking};
+use asgi_kept::{Job, Kept, Returned, Waking, Working};
 use asgi_pipes::{AppEnd, ConnEnd, EndKind, Pipes};
-use asgi_ws::Line;
 use std::sync::Wait;
 
-/// For this many turns after the last item that was put or taken, the half waits for the application
-/// before it reads on: most applications answer within them.
-const PATIENCE: u32 = 64;
-
-/// Runs the connection's half until the exchange is over there, or a limit is reached and the exchange is given up.
-fn serve_half<H: Half, L: Line, P: Pause, C: ConnEnd>(
-    half: &mut H,
-    line: &mut L,
-    pause: &mut P,
-    turns: &mut Turns,
-    conn: &mut Waking<'_, C>,
-)
-    ensures leads { PreservesOn H.stands (L.state line.old) half.old (IsViewOf C.ConnEnd conn.old.end) (L.state line.new) half.new (IsViewOf C.ConnEnd conn.new.end) }
-    ensures tag { C.tag conn.new.end ≡ C.tag conn.old.end }
-    ensures over { IsSome (H.following half.new) }
-    ensures counts { (turned : List Turn) (pauses : ℕ) → CountsTurns turns.old.turn_limit turns.old.idle_limit turned pauses (P.count pause.old) turns.old.turns turns.old.idle
-        → (more : List Turn) × CountsTurns turns.old.turn_limit turns.old.idle_limit (turned ++ more) pauses (P.count pause.new) turns.new.turns turns.new.idle }
-    ensures turn_limits { (turns.new.turn_limit ≡ turns.old.turn_limit) × (turns.new.idle_limit ≡ turns.old.idle_limit) }
-    ensures takes_a_turn { H.following half.new ≡ Some NextRequest → (H.following half.old ≡ Some NextRequest) ⊎ (turns.old.turns < turns.new.turns) }
-    ensures settled { IsSettled (H.following half.old) → (half.new ≡ half.old) × (turns.new.turns ≡ turns.old.turns) }
-    ensures idle { IsOverIdle (H.following half.new) → IsAtLimit turns.new }
-{
-    let mut patience = 0u32;
-    while goes_on(half, turns) {
-        let before = conn.moves();
-        let moved = half.turn(line, conn, patience > 0);
-        patience = if conn.moves() == before {
-            patience.saturating_sub(1)
-        } else {
-            PATIENCE
-        };
-        turns.take(moved, pause);
-    }
-    half.abandon(conn);
+/// The task of an exchange.
+#[derive(Drop)]
+pub enum JobState<T: AppTask, E: AppEnd, Q: Pause> {
+    /// The thread works on it.
+    Works(Working<T, E, Q>),
+    /// It has ended, and the thread is at rest.
+    Done(Ran<T, E, Q>),
 }
 
-/// How a task ended in the kept thread, which is idle again.
+/// How a task ended, with its end, and the thread at rest with its pause.
 #[derive(Drop)]
 pub struct Ran<T: AppTask, E: AppEnd, Q: Pause> {
     pub kept: Kept<T, E, Q>,
-    pub kind: EndKind,
     pub pause: Q,
+    pub app_end: E,
+    pub kind: EndKind,
+    /// The turns of the last task that the thread worked on.
     pub turns: u64,
 }
 
-/// Runs both halves of an exchange whose task runs. The task's limits are those of `turns`.
-pub fn run_apart<
+impl<T: AppTask, E: AppEnd, Q: Pause + Drop> JobState<T, E, Q> {
+    /// Gives a task that runs to the thread. Its limits are those of `turns`. The task before it took
+    /// `driven` turns.
+    pub fn begin<R: Wait>(
+        rt: &R,
+        kept: Kept<T, E, Q>,
+        pause: Q,
+        side: AppSide<T, E>,
+        turns: &Turns,
+        driven: u64,
+    ) -> Self
+        requires { MayRun T.stands E.AppEnd side }
+        ensures job { HasJob result side }
+        ensures limits { HasLimits Q.count result turns.now.turn_limit turns.now.idle_limit (Q.count pause) driven }
+    {
+        match side {
+            AppSide::HasEnded { app_end, kind } => JobState::Done(Ran {
+                kept,
+                pause,
+                app_end,
+                kind,
+                turns: driven,
+            }),
+            AppSide::Runs(running) => {
+                let job = Job {
+                    running,
+                    pause,
+                    idle_turns: turns.idle_limit,
+                    turns: turns.turn_limit,
+                };
+                JobState::Works(kept.give(rt, job))
+            }
+        }
+    }
+
+    /// Takes the task back, once it has ended.
+    fn end<R: Wait>(self, rt: &R) -> Ran<T, E, Q>
+        ensures side { (side : AppSide T E) → HasJob self side → MayRun T.stands E.AppEnd side → EndsSo T.stands T.answers E.AppEnd side result.app_end result.kind }
+        ensures drives { (turn_limit idle_limit paused turned : ℕ) → HasLimits Q.count self turn_limit idle_limit paused turned
+            → Drives turn_limit idle_limit paused (Q.count result.pause) turned result.turns result.kind }
+        ensures drove { (side : AppSide T E) (turn_limit idle_limit paused turned : ℕ) → HasJob self side → HasLimits Q.count self turn_limit idle_limit paused turned
+            → DrivesRunning side turn_limit idle_limit paused (Q.count result.pause) turned result.turns result.kind }
+    {
+        match self {
+            JobState::Done(ran) => ran,
+            JobState::Works(working) => {
+                let (kept, returned) = working.take_back(rt);
+                let Returned { ended, pause } = returned;
+                let Ended {
+                    app_end,
+                    kind,
+                    turns,
+                    ..
+                } = ended;
+                Ran {
+                    kept,
+                    pause,
+                    app_end,
+                    kind,
+                    turns,
+                }
+            }
+        }
+    }
+}
+
+/// Gives an exchange up if it is not over, waits for the end of its task, and brings the ends together.
+pub fn finish_apart<
     H: Half,
-    L: Line,
-    P: Pause,
     Q: Pause + Drop,
     T: AppTask,
     E: AppEnd,
     C: ConnEnd,
     N: Pipes<Conn = C, App = E>,
     R: Wait,
->(
-    rt: &R,
-    bell: &Bell,
-    kept: Kept<T, E, Q>,
-    half: &mut H,
-    line: &mut L,
-    pause: &mut P,
-    turns: &mut Turns,
-    end: C,
-    running: Running<T, E>,
-    napping: Q,
-) -> Ran<T, E, Q>
-    requires pair { IsSomeAnd running.lent (λ was. N.is_pair end was.app_end) }
-    requires may { IsSomeAnd running.lent (λ was. MayGoOn T.stands E.AppEnd was.task was.app_end) }
-    ensures runs { (scene : H.Scene) (read : List ℕ) (view : ConnView H.In H.Out) → H.stands scene (L.state line.old) half.old read view
-        → IsViewOf C.ConnEnd end view → OfEnd (Runs running) (λ app. IsExchangeOf E.AppEnd app (H.exchange scene))
-        → (more : List ℕ) × HasRun H.Half T.answers E.AppEnd scene (L.state line.new) half.new (read ++ more) (Runs running) result.kind }
+>(rt: &R, half: &mut H, conn: &mut Waking<C>, job: JobState<T, E, Q>) -> Ran<T, E, Q>
+    requires { (side : AppSide T E) × IsApart N.is_pair T.stands E.AppEnd conn.old.end job side }
+    ensures runs { (side : AppSide T E) (scene : H.Scene) (now : LineState) (read : List ℕ) (view : ConnView H.In H.Out)
+        → IsApart N.is_pair T.stands E.AppEnd conn.old.end job side → H.stands scene now half.old read view
+        → IsViewOf C.ConnEnd conn.old.end view → OfEnd side (λ app. IsExchangeOf E.AppEnd app (H.exchange scene))
+        → HasRun H.Half T.answers E.AppEnd scene now half.new read side result.kind }
     ensures over { IsSome (H.following half.new) }
-    ensures counts { (turned : List Turn) (pauses : ℕ) → CountsTurns turns.old.turn_limit turns.old.idle_limit turned pauses (P.count pause.old) turns.old.turns turns.old.idle
-        → (more : List Turn) × CountsTurns turns.old.turn_limit turns.old.idle_limit (turned ++ more) pauses (P.count pause.new) turns.new.turns turns.new.idle }
-    ensures turn_limits { (turns.new.turn_limit ≡ turns.old.turn_limit) × (turns.new.idle_limit ≡ turns.old.idle_limit) }
-    ensures takes_a_turn { H.following half.new ≡ Some NextRequest → (H.following half.old ≡ Some NextRequest) ⊎ (turns.old.turns < turns.new.turns) }
-    ensures settled { IsSettled (H.following half.old) → (half.new ≡ half.old) × (turns.new.turns ≡ turns.old.turns) }
-    ensures idle { IsOverIdle (H.following half.new) → IsAtLimit turns.new }
-    ensures drove { IsDriven turns.old.turn_limit turns.old.idle_limit (Q.count napping) (Q.count result.pause) result.turns result.kind }
+    ensures stays { IsSome (H.following half.old) → half.new ≡ half.old }
+    ensures follows { H.following half.new ≡ Some NextRequest → H.following half.old ≡ Some NextRequest }
+    ensures drives { (turn_limit idle_limit paused turned : ℕ) → HasLimits Q.count job turn_limit idle_limit paused turned
+        → Drives turn_limit idle_limit paused (Q.count result.pause) turned result.turns result.kind }
+    ensures drove { (side : AppSide T E) (turn_limit idle_limit paused turned : ℕ) → HasJob job side → HasLimits Q.count job turn_limit idle_limit paused turned
+        → DrivesRunning side turn_limit idle_limit paused (Q.count result.pause) turned result.turns result.kind }
 {
-    let mut conn = Waking::new(end, bell);
-    let job = Job {
-        running,
-        pause: napping,
-        idle_turns: turns.idle_limit,
-        turns: turns.turn_limit,
-    };
-    let working = kept.give(rt, job);
-    serve_half(half, line, pause, turns, &mut conn);
-    let (kept, returned) = working.take_back(rt);
-    let Returned {
-        ended,
-        pause: napped,
-    } = returned;
-    let Ended {
-        mut app_end,
-        kind,
-        turns: driven,
-        ..
-    } = ended;
-    let _met = join::<N>(&mut conn.end, &mut app_end);
-    Ran {
-        kept,
-        kind,
-        pause: napped,
-        turns: driven,
-    }
-}
-
-/// Runs the connection's half of an exchange whose task has ended.
-pub fn run_ended<
-    H: Half,
-    L: Line,
-    P: Pause,
-    T: AppTask,
-    E: AppEnd,
-    C: ConnEnd,
-    N: Pipes<Conn = C, App = E>,
->(
-    bell: &Bell,
-    half: &mut H,
-    line: &mut L,
-    pause: &mut P,
-    turns: &mut Turns,
-    end: C,
-    app_end: E,
-    kind: EndKind,
-) -> EndKind
-    requires pair { N.is_pair end app_end }
-    requires ended { E.ended app_end ≡ Some kind }
-    ensures runs { (scene : H.Scene) (read : List ℕ) (view : ConnView H.In H.Out) → H.stands scene (L.state line.old) half.old read view
-        → IsViewOf C.ConnEnd end view → IsExchangeOf E.AppEnd app_end (H.exchange scene)
-        → (more : List ℕ) × HasRun H.Half T.answers E.AppEnd scene (L.state line.new) half.new (read ++ more) (HasEnded app_end kind) result }
-    ensures over { IsSome (H.following half.new) }
-    ensures counts { (turned : List Turn) (pauses : ℕ) → CountsTurns turns.old.turn_limit turns.old.idle_limit turned pauses (P.count pause.old) turns.old.turns turns.old.idle
-        → (more : List Turn) × CountsTurns turns.old.turn_limit turns.old.idle_limit (turned ++ more) pauses (P.count pause.new) turns.new.turns turns.new.idle }
-    ensures turn_limits { (turns.new.turn_limit ≡ turns.old.turn_limit) × (turns.new.idle_limit ≡ turns.old.idle_limit) }
-    ensures takes_a_turn { H.following half.new ≡ Some NextRequest → (H.following half.old ≡ Some NextRequest) ⊎ (turns.old.turns < turns.new.turns) }
-    ensures settled { IsSettled (H.following half.old) → (half.new ≡ half.old) × (turns.new.turns ≡ turns.old.turns) }
-    ensures idle { IsOverIdle (H.following half.new) → IsAtLimit turns.new }
-{
-    let mut conn = Waking::new(end, bell);
-    let mut app_end = app_end;
-    serve_half(half, line, pause, turns, &mut conn);
-    let _met = join::<N>(&mut conn.end, &mut app_end);
-    kind
+    half.abandon(conn);
+    let mut ran = job.end(rt);
+    let _met = join::<N>(&mut conn.end, &mut ran.app_end);
+    ran
 }

@@ -1,21 +1,22 @@
 //! Both halves of an exchange at the same time, in two threads.
-ghost use Rattle.std.specs.Prelude.{◌≡◌, ◌<◌, ◌⊎◌, ◌++◌, ℕ, List, Some, IsSome, true, is_some, IfOk, IsOk};
-ghost use Rattle.asgi_io.specs.declared.turns.Turn.{Turn};
-ghost use Rattle.asgi_io.specs.Turns.{CountsTurns};
-ghost use Rattle.asgi_apps.specs.Driving.{IsDriven};
+ghost use Rattle.std.specs.Prelude.{◌≡◌, ℕ, List, Some, IsSome, true, is_some, IfOk, IsOk};
 ghost use Rattle.asgi_pipes.specs.RingEnds.{IsRingPair};
+ghost use Rattle.asgi_pipes.specs.declared.ring_app.RingApp.{RingApp};
 ghost use Rattle.asgi_exchange.specs.Calls.{IsViewOf, IsExchangeOf};
 ghost use Rattle.asgi_exchange.specs.Views.{ConnView};
 ghost use Rattle.asgi_conversation.specs.declared.following.NextStep.TheVariants.{NextRequest};
-ghost use Rattle.asgi_run.specs.Limits.{IsAtLimit, IsOverIdle, IsSettled};
+ghost use Rattle.asgi_ws.specs.Lines.{LineState};
+ghost use Rattle.asgi_run.specs.declared.runner.AppSide.{AppSide};
+ghost use Rattle.asgi_run.specs.AnyHalf.{PreservesOn};
+ghost use Rattle.asgi_run.specs.Jobs.{HasJob, HasLimits, IsApart};
 ghost use Rattle.asgi_run.specs.Running.{OfEnd, MayRun, HasRun, Drives, DrivesRunning, paused_by};
 
-use crate::apart::{Ran, run_apart, run_ended};
+use crate::apart::{JobState, Ran, finish_apart};
 use crate::exchange_half::Half;
 use crate::runner::{AppSide, NoEnds, Runner};
 use asgi_apps::AppTask;
-use asgi_io::{Pause, Turns};
-use asgi_kept::{Bell, Host, Kept, Napping, NoThread, Resting, start};
+use asgi_io::{Pause, Turn, Turns};
+use asgi_kept::{Bell, Host, Kept, Napping, NoThread, Resting, Waking, start};
 use asgi_pipes::{AppEnd, ConnEnd, EndKind, Pipes, RingApp, RingConn, Rings};
 use asgi_types::{Facts, Kind};
 use asgi_ws::Line;
@@ -32,14 +33,28 @@ pub struct Beside<T: AppTask, Q: Pause, R> {
     /// How this thread waits for the other one, and the other one for this.
     here: Resting,
     there: Resting,
-    /// What wakes the task's thread.
-    bell: Bell,
-    /// What pauses after the idle polls of a task; kept here while no task runs.
+    /// What wakes the task's thread. An exchange takes it along, as the thread.
+    bell: Option<Bell>,
+    /// What pauses after the idle polls of a task. An exchange takes it along.
     napping: Option<Q>,
     /// The turns of the last task.
     driven: u64,
-    ghost naps: { is_some napping ≡ true },
+    ghost naps: { is_some kept ≡ true → is_some napping ≡ true },
+    ghost wakes: { is_some kept ≡ true → is_some bell ≡ true },
 }
+
+/// An exchange whose task has a thread of its own, with that thread.
+#[derive(Drop)]
+pub struct BesideExchange<T: AppTask, Q: Pause> {
+    conn: Waking<RingConn>,
+    /// For so many turns the half waits for the application before it reads on.
+    patience: u32,
+    job: JobState<T, RingApp, Q>,
+}
+
+/// For this many turns after the last item that was put or taken, the half waits for the application
+/// before it reads on: most applications answer within them.
+const PATIENCE: u32 = 64;
 
 impl<T: AppTask, Q: Pause + Drop, R: Wait + Threads + Drop> Beside<T, Q, R> {
     /// A runner whose thread is not made yet. This thread waits as `here` does, and that one as `there`,
@@ -52,7 +67,7 @@ impl<T: AppTask, Q: Pause + Drop, R: Wait + Threads + Drop> Beside<T, Q, R> {
             kept: None,
             here,
             there,
-            bell,
+            bell: Some(bell),
             napping: Some(napping),
             driven: 0,
         }
@@ -83,7 +98,7 @@ impl<T: AppTask + Send + 'static, R: Host> Beside<T, Napping<R>, R> {
 
 impl<T: AppTask + Send + 'static, Q: Pause + Drop + Send + 'static, R: Host> Beside<T, Q, R> {
     /// Makes the thread, if there is none: to be called before each connection. If the thread, or memory
-    /// for it, is refused, the exchanges of that connection are not begun.
+    /// for it, is refused, or an exchange has it, the exchanges of that connection are not begun.
     pub fn ready(&mut self) -> Result<(), NoThread>
         ensures ready { IsOk result → is_some self.new.kept ≡ true }
         ensures kept { is_some self.old.kept ≡ true → is_some self.new.kept ≡ true }
@@ -91,6 +106,9 @@ impl<T: AppTask + Send + 'static, Q: Pause + Drop + Send + 'static, R: Host> Bes
     {
         if self.kept.is_some() {
             return Ok(());
+        }
+        if self.napping.is_none() || self.bell.is_none() {
+            return Err(NoThread);
         }
         let Ok(here) = self.here.again() else {
             return Err(NoThread);
@@ -106,6 +124,8 @@ impl<T: AppTask + Send + 'static, Q: Pause + Drop + Send + 'static, R: Host> Bes
 impl<T: AppTask, Q: Pause + Drop, R: Wait + Drop> Runner<T> for Beside<T, Q, R> {
     type Pipes = Rings;
 
+    type Exchange = BesideExchange<T, Q>;
+
     ghost not_met = { λ _. 0 };
 
     ghost pauses = { λ s. paused_by Q.count s.napping };
@@ -114,6 +134,12 @@ impl<T: AppTask, Q: Pause + Drop, R: Wait + Drop> Runner<T> for Beside<T, Q, R> 
 
     // The thread is there.
     ghost is_ready = { λ s. is_some s.kept ≡ true };
+
+    ghost conn = { λ x. x.conn.end };
+
+    ghost began = { λ x side. IsApart IsRingPair T.stands ⟦<RingApp as AppEnd>⟧ x.conn.end x.job side };
+
+    ghost limited = { λ x turn_limit idle_limit paused turned. HasLimits Q.count x.job turn_limit idle_limit paused turned };
 
     fn make(
         &mut self,
@@ -128,60 +154,95 @@ impl<T: AppTask, Q: Pause + Drop, R: Wait + Drop> Runner<T> for Beside<T, Q, R> 
         Ok(Rings.make(alloc, kind, facts, ring)?)
     }
 
-    fn run<H: Half, L: Line, P: Pause>(
+    fn begin(
         &mut self,
-        half: &mut H,
-        line: &mut L,
-        pause: &mut P,
-        turns: &mut Turns,
         end: RingConn,
         side: AppSide<T, RingApp>,
-    ) -> EndKind
+        turns: &Turns,
+    ) -> BesideExchange<T, Q>
         requires ready { is_some self.old.kept ≡ true }
         requires pair { OfEnd side (λ app. IsRingPair end app) }
         requires may { MayRun T.stands ⟦<RingApp as AppEnd>⟧ side }
-        ensures runs { (scene : H.Scene) (read : List ℕ) (view : ConnView H.In H.Out) → H.stands scene (L.state line.old) half.old read view
-            → IsViewOf ⟦<RingConn as ConnEnd>⟧ end view → OfEnd side (λ app. IsExchangeOf ⟦<RingApp as AppEnd>⟧ app (H.exchange scene))
-            → (more : List ℕ) × HasRun H.Half T.answers ⟦<RingApp as AppEnd>⟧ scene (L.state line.new) half.new (read ++ more) side result }
-        ensures over { IsSome (H.following half.new) }
-        ensures counts { (turned : List Turn) (pauses : ℕ) → CountsTurns turns.old.turn_limit turns.old.idle_limit turned pauses (P.count pause.old) turns.old.turns turns.old.idle
-            → (more : List Turn) × CountsTurns turns.old.turn_limit turns.old.idle_limit (turned ++ more) pauses (P.count pause.new) turns.new.turns turns.new.idle }
-        ensures turn_limits { (turns.new.turn_limit ≡ turns.old.turn_limit) × (turns.new.idle_limit ≡ turns.old.idle_limit) }
-        ensures takes_a_turn { H.following half.new ≡ Some NextRequest → (H.following half.old ≡ Some NextRequest) ⊎ (turns.old.turns < turns.new.turns) }
-        ensures settled { IsSettled (H.following half.old) → (half.new ≡ half.old) × (turns.new.turns ≡ turns.old.turns) }
-        ensures idle { IsOverIdle (H.following half.new) → IsAtLimit turns.new }
-        ensures drives { Drives turns.old.turn_limit turns.old.idle_limit (paused_by Q.count self.old.napping) (paused_by Q.count self.new.napping) self.old.driven self.new.driven result }
-        // Each task that runs is driven in the other thread.
-        ensures drove { DrivesRunning side turns.old.turn_limit turns.old.idle_limit (paused_by Q.count self.old.napping) (paused_by Q.count self.new.napping) self.old.driven self.new.driven result }
+        ensures conn { result.conn.end ≡ end }
+        ensures began { IsApart IsRingPair T.stands ⟦<RingApp as AppEnd>⟧ result.conn.end result.job side }
+        ensures limits { HasLimits Q.count result.job turns.now.turn_limit turns.now.idle_limit (paused_by Q.count self.old.napping) self.old.driven }
         ensures met { ◌≡◌ {A = ℕ} 0 0 }
     {
-        match side {
-            AppSide::HasEnded { app_end, kind } => {
-                run_ended::<H, L, P, T, RingApp, RingConn, Rings>(
-                    &self.bell, half, line, pause, turns, end, app_end, kind,
-                )
-            }
-            AppSide::Runs(running) => {
-                let Some(napping) = self.napping.take() else {
-                    unreachable!()
-                };
-                let Some(kept) = self.kept.take() else {
-                    unreachable!()
-                };
-                let Ran {
-                    kept,
-                    kind,
-                    pause,
-                    turns,
-                } = run_apart::<H, L, P, Q, T, RingApp, RingConn, Rings, R>(
-                    &self.rt, &self.bell, kept, half, line, pause, turns, end, running, napping,
-                );
-                self.kept = Some(kept);
-                self.napping = Some(pause);
-                self.driven = turns;
-                kind
-            }
+        let Some(kept) = self.kept.take() else {
+            unreachable!()
+        };
+        let Some(napping) = self.napping.take() else {
+            unreachable!()
+        };
+        let Some(bell) = self.bell.take() else {
+            unreachable!()
+        };
+        BesideExchange {
+            conn: Waking::new(end, bell),
+            patience: 0,
+            job: JobState::begin(&self.rt, kept, napping, side, turns, self.driven),
         }
+    }
+
+    fn turn<H: Half, L: Line>(
+        &mut self,
+        exchange: &mut BesideExchange<T, Q>,
+        half: &mut H,
+        line: &mut L,
+    ) -> Turn
+        requires began { (side : AppSide T RingApp) × IsApart IsRingPair T.stands ⟦<RingApp as AppEnd>⟧ exchange.old.conn.end exchange.old.job side }
+        ensures leads { PreservesOn H.stands (L.state line.old) half.old (IsViewOf ⟦<RingConn as ConnEnd>⟧ exchange.old.conn.end)
+            (L.state line.new) half.new (IsViewOf ⟦<RingConn as ConnEnd>⟧ exchange.new.conn.end) }
+        ensures began { (side : AppSide T RingApp) → IsApart IsRingPair T.stands ⟦<RingApp as AppEnd>⟧ exchange.old.conn.end exchange.old.job side
+            → IsApart IsRingPair T.stands ⟦<RingApp as AppEnd>⟧ exchange.new.conn.end exchange.new.job side }
+        ensures limits { (turn_limit idle_limit paused turned : ℕ) → HasLimits Q.count exchange.old.job turn_limit idle_limit paused turned
+            → HasLimits Q.count exchange.new.job turn_limit idle_limit paused turned }
+        ensures over { IsSome (H.following half.old) → half.new ≡ half.old }
+        ensures met { ◌≡◌ {A = ℕ} 0 0 }
+    {
+        let before = exchange.conn.moves();
+        let moved = half.turn(line, &mut exchange.conn, exchange.patience > 0);
+        exchange.patience = if exchange.conn.moves() == before {
+            exchange.patience.saturating_sub(1)
+        } else {
+            PATIENCE
+        };
+        moved
+    }
+
+    fn finish<H: Half>(&mut self, exchange: BesideExchange<T, Q>, half: &mut H) -> EndKind
+        requires began { (side : AppSide T RingApp) × IsApart IsRingPair T.stands ⟦<RingApp as AppEnd>⟧ exchange.conn.end exchange.job side }
+        ensures runs { (side : AppSide T RingApp) (scene : H.Scene) (now : LineState) (read : List ℕ) (view : ConnView H.In H.Out)
+            → IsApart IsRingPair T.stands ⟦<RingApp as AppEnd>⟧ exchange.conn.end exchange.job side → H.stands scene now half.old read view
+            → IsViewOf ⟦<RingConn as ConnEnd>⟧ exchange.conn.end view → OfEnd side (λ app. IsExchangeOf ⟦<RingApp as AppEnd>⟧ app (H.exchange scene))
+            → HasRun H.Half T.answers ⟦<RingApp as AppEnd>⟧ scene now half.new read side result }
+        ensures over { IsSome (H.following half.new) }
+        ensures stays { IsSome (H.following half.old) → half.new ≡ half.old }
+        ensures follows { H.following half.new ≡ Some NextRequest → H.following half.old ≡ Some NextRequest }
+        ensures drives { (turn_limit idle_limit paused turned : ℕ) → HasLimits Q.count exchange.job turn_limit idle_limit paused turned
+            → Drives turn_limit idle_limit paused (paused_by Q.count self.new.napping) turned self.new.driven result }
+        // Each task that runs is driven in the other thread.
+        ensures drove { (side : AppSide T RingApp) (turn_limit idle_limit paused turned : ℕ) → HasJob exchange.job side
+            → HasLimits Q.count exchange.job turn_limit idle_limit paused turned
+            → DrivesRunning side turn_limit idle_limit paused (paused_by Q.count self.new.napping) turned self.new.driven result }
+        ensures ready { is_some self.new.kept ≡ true }
+        ensures met { ◌≡◌ {A = ℕ} 0 0 }
+    {
+        let BesideExchange { conn, job, .. } = exchange;
+        let mut conn = conn;
+        let Ran {
+            kept,
+            pause,
+            kind,
+            turns,
+            ..
+        } = finish_apart::<H, Q, T, RingApp, RingConn, Rings, R>(&self.rt, half, &mut conn, job);
+        let Waking { bell, .. } = conn;
+        self.napping = Some(pause);
+        self.bell = Some(bell);
+        self.kept = Some(kept);
+        self.driven = turns;
+        kind
     }
 
     fn unmet(&self) -> u64 {

@@ -1,20 +1,21 @@
 //! Both halves of an exchange in one thread, turn by turn.
-ghost use Rattle.std.specs.Prelude.{◌≡◌, ◌≢◌, ◌<◌, ◌⊎◌, ◌++◌, ℕ, List, Some, IsSome, ⊤};
-ghost use Rattle.asgi_io.specs.declared.turns.Turn.{Turn};
-ghost use Rattle.asgi_io.specs.Turns.{CountsTurns};
+ghost use Rattle.std.specs.Prelude.{◌≡◌, ◌≢◌, ◌<◌, ◌⊎◌, ◌↔◌, ℕ, List, Some, IsSome, ⊤};
 ghost use Rattle.asgi_pipes.specs.PlainPairs.{IsPlainPair};
+ghost use Rattle.asgi_pipes.specs.declared.plain_app.PlainApp.{PlainApp};
 ghost use Rattle.asgi_apps.specs.Ends.{MayGoOn, IsWithin};
 ghost use Rattle.asgi_exchange.specs.Calls.{IsViewOf, IsExchangeOf};
 ghost use Rattle.asgi_exchange.specs.Views.{ConnView};
 ghost use Rattle.asgi_conversation.specs.declared.following.NextStep.TheVariants.{NextRequest};
-ghost use Rattle.asgi_run.specs.Limits.{IsAtLimit, IsOverIdle, IsSettled};
-ghost use Rattle.asgi_run.specs.Running.{OfEnd, MayRun, HasRun, Drives, HasPassed, IsOfRequest, EndsIn, GoesOnAs, TagStays};
+ghost use Rattle.asgi_ws.specs.Lines.{LineState};
+ghost use Rattle.asgi_run.specs.declared.runner.AppSide.{AppSide};
+ghost use Rattle.asgi_run.specs.AnyHalf.{PreservesOn};
+ghost use Rattle.asgi_run.specs.Running.{OfEnd, MayRun, HasRun, Drives, HasCome, HasPassed, HasMoved, IsOfRequest, IsPolled, IsNotPolled, EndsIn, GoesOnAs, TagStays};
 
 use crate::exchange_half::Half;
-use crate::runner::{AppSide, NoEnds, Runner, goes_on};
+use crate::runner::{AppSide, NoEnds, Runner};
 use asgi_apps::{AppTask, Lent, Running};
 use asgi_exchange::join;
-use asgi_io::{Pause, Turn, Turns};
+use asgi_io::{Turn, Turns};
 use asgi_pipes::{AppEnd, ConnEnd, EndKind, Pipes, Plain, PlainApp, PlainConn};
 use asgi_types::{Facts, Kind};
 use asgi_ws::Line;
@@ -43,8 +44,19 @@ impl<'q> Inline<'q> {
     }
 }
 
+/// An exchange whose two halves run in this thread.
+#[derive(Drop)]
+pub struct InlineExchange<T> {
+    conn: PlainConn,
+    side: AppSide<T, PlainApp>,
+    /// The task moved something in the turn before.
+    app_goes_on: bool,
+}
+
 impl<'q, T: AppTask> Runner<T> for Inline<'q> {
     type Pipes = Plain;
+
+    type Exchange = InlineExchange<T>;
 
     ghost not_met = { λ _. 0 };
 
@@ -53,6 +65,13 @@ impl<'q, T: AppTask> Runner<T> for Inline<'q> {
     ghost driven = { λ _. 0 };
 
     ghost is_ready = { λ _. ⊤ };
+
+    ghost conn = { λ x. x.conn };
+
+    ghost began = { λ x side. HasCome IsPlainPair T.stands T.answers ⟦<PlainApp as AppEnd>⟧ x.conn side x.side };
+
+    // It drives no task by itself.
+    ghost limited = { λ _ _ _ paused turned. (paused ≡ 0) × (turned ≡ 0) };
 
     fn make(
         &mut self,
@@ -67,42 +86,73 @@ impl<'q, T: AppTask> Runner<T> for Inline<'q> {
         Ok(Plain.renew(alloc, conn, app, kind, facts, ring)?)
     }
 
-    fn run<H: Half, L: Line, P: Pause>(
+    fn begin(
         &mut self,
-        half: &mut H,
-        line: &mut L,
-        pause: &mut P,
-        turns: &mut Turns,
         end: PlainConn,
         side: AppSide<T, PlainApp>,
-    ) -> EndKind
+        _turns: &Turns,
+    ) -> InlineExchange<T>
         requires ready { ⊤ }
         requires pair { OfEnd side (λ app. IsPlainPair end app) }
         requires may { MayRun T.stands ⟦<PlainApp as AppEnd>⟧ side }
-        ensures runs { (scene : H.Scene) (read : List ℕ) (view : ConnView H.In H.Out) → H.stands scene (L.state line.old) half.old read view
-            → IsViewOf ⟦<PlainConn as ConnEnd>⟧ end view → OfEnd side (λ app. IsExchangeOf ⟦<PlainApp as AppEnd>⟧ app (H.exchange scene))
-            → (more : List ℕ) × HasRun H.Half T.answers ⟦<PlainApp as AppEnd>⟧ scene (L.state line.new) half.new (read ++ more) side result }
-        ensures over { IsSome (H.following half.new) }
-        ensures counts { (turned : List Turn) (pauses : ℕ) → CountsTurns turns.old.turn_limit turns.old.idle_limit turned pauses (P.count pause.old) turns.old.turns turns.old.idle
-            → (more : List Turn) × CountsTurns turns.old.turn_limit turns.old.idle_limit (turned ++ more) pauses (P.count pause.new) turns.new.turns turns.new.idle }
-        ensures turn_limits { (turns.new.turn_limit ≡ turns.old.turn_limit) × (turns.new.idle_limit ≡ turns.old.idle_limit) }
-        ensures takes_a_turn { H.following half.new ≡ Some NextRequest → (H.following half.old ≡ Some NextRequest) ⊎ (turns.old.turns < turns.new.turns) }
-        ensures settled { IsSettled (H.following half.old) → (half.new ≡ half.old) × (turns.new.turns ≡ turns.old.turns) }
-        ensures idle { IsOverIdle (H.following half.new) → IsAtLimit turns.new }
-        ensures drives { Drives turns.old.turn_limit turns.old.idle_limit 0 0 0 0 result }
+        ensures conn { result.conn ≡ end }
+        ensures began { HasCome IsPlainPair T.stands T.answers ⟦<PlainApp as AppEnd>⟧ result.conn side result.side }
+        ensures limits { (◌≡◌ {A = ℕ} 0 0) × (◌≡◌ {A = ℕ} 0 0) }
         ensures met { ◌≡◌ {A = ℕ} 0 0 }
     {
-        let mut conn = end;
-        let mut side = side;
-        let mut app_goes_on = true;
-        while goes_on(half, turns) {
-            let moved = half.turn(line, &mut conn, app_goes_on);
-            carry(&mut conn, &mut side);
-            let polled = poll_on(&mut self.cx, &mut side, half.ring());
-            carry(&mut conn, &mut side);
-            app_goes_on = polled == Turn::Moved;
-            turns.take(both(moved, polled), pause);
+        InlineExchange {
+            conn: end,
+            side,
+            app_goes_on: true,
         }
+    }
+
+    fn turn<H: Half, L: Line>(
+        &mut self,
+        exchange: &mut InlineExchange<T>,
+        half: &mut H,
+        line: &mut L,
+    ) -> Turn
+        requires began { (side : AppSide T PlainApp) × HasCome IsPlainPair T.stands T.answers ⟦<PlainApp as AppEnd>⟧ exchange.old.conn side exchange.old.side }
+        ensures leads { PreservesOn H.stands (L.state line.old) half.old (IsViewOf ⟦<PlainConn as ConnEnd>⟧ exchange.old.conn)
+            (L.state line.new) half.new (IsViewOf ⟦<PlainConn as ConnEnd>⟧ exchange.new.conn) }
+        ensures began { (side : AppSide T PlainApp) → HasCome IsPlainPair T.stands T.answers ⟦<PlainApp as AppEnd>⟧ exchange.old.conn side exchange.old.side
+            → HasCome IsPlainPair T.stands T.answers ⟦<PlainApp as AppEnd>⟧ exchange.new.conn side exchange.new.side }
+        ensures limits { (turn_limit idle_limit paused turned : ℕ) → (paused ≡ 0) × (turned ≡ 0) → (paused ≡ 0) × (turned ≡ 0) }
+        ensures over { IsSome (H.following half.old) → half.new ≡ half.old }
+        ensures met { ◌≡◌ {A = ℕ} 0 0 }
+        // A turn in which the task ended has moved something.
+        ensures ends { EndsIn exchange.old.side exchange.new.side → result ≡ Turn.Moved }
+        // If the queues of the exchange have places, a task that runs is polled.
+        ensures polls { (scene : H.Scene) (read : List ℕ) (view : ConnView H.In H.Out) → H.stands scene (L.state line.old) half.old read view
+            → IsViewOf ⟦<PlainConn as ConnEnd>⟧ exchange.old.conn view → 0 < (H.exchange scene).ring → IsPolled exchange.old.side exchange.new.side }
+    {
+        let moved = half.turn(line, &mut exchange.conn, exchange.app_goes_on);
+        carry(&mut exchange.conn, &mut exchange.side);
+        let polled = poll_on(&mut self.cx, &mut exchange.side, half.ring());
+        carry(&mut exchange.conn, &mut exchange.side);
+        exchange.app_goes_on = polled == Turn::Moved;
+        both(moved, polled)
+    }
+
+    fn finish<H: Half>(&mut self, exchange: InlineExchange<T>, half: &mut H) -> EndKind
+        requires began { (side : AppSide T PlainApp) × HasCome IsPlainPair T.stands T.answers ⟦<PlainApp as AppEnd>⟧ exchange.conn side exchange.side }
+        ensures runs { (side : AppSide T PlainApp) (scene : H.Scene) (now : LineState) (read : List ℕ) (view : ConnView H.In H.Out)
+            → HasCome IsPlainPair T.stands T.answers ⟦<PlainApp as AppEnd>⟧ exchange.conn side exchange.side → H.stands scene now half.old read view
+            → IsViewOf ⟦<PlainConn as ConnEnd>⟧ exchange.conn view → OfEnd side (λ app. IsExchangeOf ⟦<PlainApp as AppEnd>⟧ app (H.exchange scene))
+            → HasRun H.Half T.answers ⟦<PlainApp as AppEnd>⟧ scene now half.new read side result }
+        ensures over { IsSome (H.following half.new) }
+        ensures stays { IsSome (H.following half.old) → half.new ≡ half.old }
+        ensures follows { H.following half.new ≡ Some NextRequest → H.following half.old ≡ Some NextRequest }
+        ensures drives { (turn_limit idle_limit paused turned : ℕ) → (paused ≡ 0) × (turned ≡ 0) → Drives turn_limit idle_limit paused 0 turned 0 result }
+        ensures ready { ⊤ }
+        ensures met { ◌≡◌ {A = ℕ} 0 0 }
+    {
+        let InlineExchange {
+            mut conn,
+            side,
+            app_goes_on: _,
+        } = exchange;
         half.abandon(&mut conn);
         let mut last = end_of(side);
         let _met = join::<Plain>(&mut conn, &mut last.app_end);
@@ -125,7 +175,8 @@ impl<'q, T: AppTask> Runner<T> for Inline<'q> {
 
 /// What both halves did in a turn: idle if neither moved anything.
 fn both(half: Turn, app: Turn) -> Turn
-    ensures idle { result ≡ Turn.Idle → (half ≡ Turn.Idle) × (app ≢ Turn.Moved) }
+    ensures idle { result ≡ Turn.Idle ↔ (half ≡ Turn.Idle) × (app ≢ Turn.Moved) }
+    ensures moved { result ≡ Turn.Moved ↔ (half ≡ Turn.Moved) ⊎ (app ≡ Turn.Moved) }
 {
     if app == Turn::Moved {
         return Turn::Moved;
@@ -143,6 +194,7 @@ fn carry<T: AppTask>(conn: &mut PlainConn, side: &mut AppSide<T, PlainApp>)
         × (End.is_broken conn.new ≡ End.is_broken conn.old) }
     ensures side { GoesOnAs T.stands T.answers ⟦<PlainApp as AppEnd>⟧ side.old side.new }
     ensures passed { OfEnd side.new (λ app. HasPassed ⟦<PlainConn as ConnEnd>⟧ ⟦<PlainApp as AppEnd>⟧ conn.new app) }
+    ensures task { IsNotPolled side.old side.new }
 {
     match side {
         AppSide::HasEnded { app_end, kind: _ } => Plain::carry(conn, app_end),
@@ -160,6 +212,7 @@ fn carry_running<T: AppTask>(conn: &mut PlainConn, running: &mut Running<T, Plai
         × (End.is_broken conn.new ≡ End.is_broken conn.old) }
     ensures side { GoesOnAs T.stands T.answers ⟦<PlainApp as AppEnd>⟧ (AppSide.Runs running.old) (AppSide.Runs running.new) }
     ensures passed { OfEnd (AppSide.Runs running.new) (λ app. HasPassed ⟦<PlainConn as ConnEnd>⟧ ⟦<PlainApp as AppEnd>⟧ conn.new app) }
+    ensures task { running.new.turns ≡ running.old.turns }
 {
     let Some(lent) = &mut running.lent else {
         unreachable!()
@@ -193,15 +246,21 @@ fn poll_on<T: AppTask, E: AppEnd>(
     ensures side { GoesOnAs T.stands T.answers E.AppEnd side.old side.new }
     ensures tag { TagStays E.AppEnd side.old side.new }
     ensures ends { EndsIn side.old side.new → result ≡ Turn.Moved }
+    ensures moved { result ≡ Turn.Moved → HasMoved E.AppEnd side.old side.new }
+    ensures polls { 0 < most → IsPolled side.old side.new }
 {
-    let mut turn = Turn::Idle;
-    for _poll in 0..most {
-        if poll(cx, side) != Turn::Moved {
-            return turn;
-        }
-        turn = Turn::Moved;
+    if most == 0 {
+        return Turn::Idle;
     }
-    turn
+    if poll(cx, side) != Turn::Moved {
+        return Turn::Idle;
+    }
+    for _poll in 1..most {
+        if poll(cx, side) != Turn::Moved {
+            return Turn::Moved;
+        }
+    }
+    Turn::Moved
 }
 
 /// Polls the task once, if it still runs. A poll that ends it has moved something.
@@ -210,6 +269,8 @@ fn poll<T: AppTask, E: AppEnd>(cx: &mut Context<'_>, side: &mut AppSide<T, E>) -
     ensures side { GoesOnAs T.stands T.answers E.AppEnd side.old side.new }
     ensures tag { TagStays E.AppEnd side.old side.new }
     ensures ends { EndsIn side.old side.new → result ≡ Turn.Moved }
+    ensures moved { result ≡ Turn.Moved → HasMoved E.AppEnd side.old side.new }
+    ensures polls { IsPolled side.old side.new }
 {
     let AppSide::Runs(running) = side else {
         return Turn::Idle;

@@ -1,16 +1,16 @@
-//! What runs the two halves of an exchange.
-ghost use Rattle.std.specs.Prelude.{◌≡◌, ◌+◌, ◌<◌, ◌⊎◌, false, [], ◌++◌, ℕ, List, Some, None, IfOk, IsOk, IsSome, IsTrue, IsFalse};
-ghost use Rattle.asgi_io.specs.declared.turns.Turn.{Turn};
-ghost use Rattle.asgi_io.specs.Turns.{CountsTurns};
+//! What takes up the two halves of an exchange, turn by turn.
+ghost use Rattle.std.specs.Prelude.{◌≡◌, ◌+◌, false, [], ℕ, List, Some, None, IfOk, IsOk, IsSome};
 ghost use Rattle.asgi_exchange.specs.Calls.{IsViewOf, IsExchangeOf};
 ghost use Rattle.asgi_exchange.specs.Views.{ConnView};
 ghost use Rattle.asgi_conversation.specs.declared.following.NextStep.TheVariants.{NextRequest};
-ghost use Rattle.asgi_run.specs.Limits.{IsAtLimit, IsOverIdle, IsSettled};
+ghost use Rattle.asgi_ws.specs.Lines.{LineState};
+ghost use Rattle.asgi_run.specs.AnyHalf.{PreservesOn};
+ghost use Rattle.asgi_run.specs.declared.runner.AppSide.{AppSide};
 ghost use Rattle.asgi_run.specs.Running.{OfEnd, MayRun, HasRun, Drives};
 
 use crate::exchange_half::Half;
 use asgi_apps::{AppTask, Running};
-use asgi_io::{Pause, Turns};
+use asgi_io::{Turn, Turns};
 use asgi_pipes::{EndKind, Pipes};
 use asgi_types::{Facts, Kind};
 use asgi_ws::Line;
@@ -40,10 +40,13 @@ impl From<AllocError> for NoEnds {
     }
 }
 
-/// Runs the two halves of an exchange whose task is of this type.
+/// Takes up exchanges whose task is of this type, turn by turn.
 pub trait Runner<T: AppTask> {
     /// The pairs of ends between the halves.
     type Pipes: Pipes + Drop;
+
+    /// What runs of one exchange.
+    type Exchange: Drop;
 
     // The number of exchanges whose ends did not meet.
     ghost not_met: { Self → ℕ };
@@ -56,6 +59,15 @@ pub trait Runner<T: AppTask> {
 
     // The runner has what the exchange needs whose ends it made last.
     ghost is_ready: { Self → Type 0 };
+
+    // The connection's end of an exchange.
+    ghost conn: { Self.Exchange → Self.Pipes.Conn };
+
+    // The exchange began with this side of the application.
+    ghost began: { Self.Exchange → AppSide T Self.Pipes.App → Type 0 };
+
+    // It began within these limits on turns and on idle ones in a row, when the runner had counted these pauses and turns.
+    ghost limited: { Self.Exchange → (turn_limit idle_limit paused turned : ℕ) → Type 0 };
 
     /// The ends of an exchange, as `make` of those pairs gives them, with `ring` places for events each
     /// way. Memory of the exchange before may be reused. Refused if memory is, or a thread that the
@@ -79,35 +91,57 @@ pub trait Runner<T: AppTask> {
         ensures ready { IsOk result → is_ready self.new }
         ensures counts { (not_met self.new ≡ not_met self.old) × (pauses self.new ≡ pauses self.old) × (driven self.new ≡ driven self.old) };
 
-    /// Runs both halves of an exchange until it is over, or a limit on turns is reached: then it is given
-    /// up, and a task that still runs is ended as idle. Returns how the task ended.
-    fn run<H: Half, L: Line, P: Pause>(
+    /// Begins an exchange with these ends. If the runner itself drives the task, it does so within the limits
+    /// of these turns.
+    fn begin(
         &mut self,
-        half: &mut H,
-        line: &mut L,
-        pause: &mut P,
-        turns: &mut Turns,
         end: <Self::Pipes as Pipes>::Conn,
         side: AppSide<T, <Self::Pipes as Pipes>::App>,
-    ) -> EndKind
+        turns: &Turns,
+    ) -> Self::Exchange
         requires ready { is_ready self.old }
         requires pair { OfEnd side (λ app. Self.Pipes.is_pair end app) }
         requires may { MayRun T.stands Self.Pipes.App.AppEnd side }
-        // If the half's invariant held in an exchange of these ends, it holds after it.
-        ensures runs { (scene : H.Scene) (read : List ℕ) (view : ConnView H.In H.Out) → H.stands scene (L.state line.old) half.old read view
-            → IsViewOf Self.Pipes.Conn.ConnEnd end view → OfEnd side (λ app. IsExchangeOf Self.Pipes.App.AppEnd app (H.exchange scene))
-            → (more : List ℕ) × HasRun H.Half T.answers Self.Pipes.App.AppEnd scene (L.state line.new) half.new (read ++ more) side result }
+        ensures conn { conn result ≡ end }
+        ensures began { began result side }
+        ensures limits { limited result turns.now.turn_limit turns.now.idle_limit (pauses self.old) (driven self.old) }
+        ensures met { not_met self.new ≡ not_met self.old };
+
+    /// Takes one turn of the connection's half, and of the application's if that runs in this thread. Returns
+    /// whether anything moved.
+    fn turn<H: Half, L: Line>(
+        &mut self,
+        exchange: &mut Self::Exchange,
+        half: &mut H,
+        line: &mut L,
+    ) -> Turn
+        requires began { (side : AppSide T Self.Pipes.App) × began exchange.old side }
+        ensures leads { PreservesOn H.stands (L.state line.old) half.old (IsViewOf Self.Pipes.Conn.ConnEnd (conn exchange.old))
+            (L.state line.new) half.new (IsViewOf Self.Pipes.Conn.ConnEnd (conn exchange.new)) }
+        ensures began { (side : AppSide T Self.Pipes.App) → began exchange.old side → began exchange.new side }
+        ensures limits { (turn_limit idle_limit paused turned : ℕ) → limited exchange.old turn_limit idle_limit paused turned
+            → limited exchange.new turn_limit idle_limit paused turned }
+        // What is over stays as it is.
+        ensures over { IsSome (H.following half.old) → half.new ≡ half.old }
+        ensures met { not_met self.new ≡ not_met self.old };
+
+    /// Gives the exchange up if it is not over, ends a task that still runs here or waits for it, and brings
+    /// the ends together. Returns how the task ended.
+    fn finish<H: Half>(&mut self, exchange: Self::Exchange, half: &mut H) -> EndKind
+        requires began { (side : AppSide T Self.Pipes.App) × began exchange side }
+        // If the half's invariant holds with these ends, it holds after it, and both halves ran.
+        ensures runs { (side : AppSide T Self.Pipes.App) (scene : H.Scene) (now : LineState) (read : List ℕ) (view : ConnView H.In H.Out)
+            → began exchange side → H.stands scene now half.old read view
+            → IsViewOf Self.Pipes.Conn.ConnEnd (conn exchange) view → OfEnd side (λ app. IsExchangeOf Self.Pipes.App.AppEnd app (H.exchange scene))
+            → HasRun H.Half T.answers Self.Pipes.App.AppEnd scene now half.new read side result }
         ensures over { IsSome (H.following half.new) }
-        ensures counts { (turned : List Turn) (pauses : ℕ) → CountsTurns turns.old.turn_limit turns.old.idle_limit turned pauses (P.count pause.old) turns.old.turns turns.old.idle
-            → (more : List Turn) × CountsTurns turns.old.turn_limit turns.old.idle_limit (turned ++ more) pauses (P.count pause.new) turns.new.turns turns.new.idle }
-        ensures turn_limits { (turns.new.turn_limit ≡ turns.old.turn_limit) × (turns.new.idle_limit ≡ turns.old.idle_limit) }
-        ensures takes_a_turn { H.following half.new ≡ Some NextRequest → (H.following half.old ≡ Some NextRequest) ⊎ (turns.old.turns < turns.new.turns) }
-        // Once an exchange is over, and not as idle, no turn is taken, and it is not given up.
-        ensures settled { IsSettled (H.following half.old) → (half.new ≡ half.old) × (turns.new.turns ≡ turns.old.turns) }
-        // An exchange is over as idle only at a limit.
-        ensures idle { IsOverIdle (H.following half.new) → IsAtLimit turns.new }
-        // If the runner itself drives the task, its turns and pauses are those of this task.
-        ensures drives { Drives turns.old.turn_limit turns.old.idle_limit (pauses self.old) (pauses self.new) (driven self.old) (driven self.new) result }
+        ensures stays { IsSome (H.following half.old) → half.new ≡ half.old }
+        ensures follows { H.following half.new ≡ Some NextRequest → H.following half.old ≡ Some NextRequest }
+        // If the runner itself drove the task, its turns and pauses are those of this task.
+        ensures drives { (turn_limit idle_limit paused turned : ℕ) → limited exchange turn_limit idle_limit paused turned
+            → Drives turn_limit idle_limit paused (pauses self.new) turned (driven self.new) result }
+        // The runner may begin the next exchange.
+        ensures ready { is_ready self.new }
         // The ends of a pair always meet.
         ensures met { not_met self.new ≡ not_met self.old };
 
@@ -122,14 +156,4 @@ pub trait Runner<T: AppTask> {
     /// How many turns the last task took that the runner itself drove.
     fn turned(&self) -> u64
         ensures { result ≡ driven self.now };
-}
-
-/// Whether one more turn is taken: until the exchange is over, or a limit is reached. An exchange that is
-/// over as idle waits for the limit.
-pub(crate) fn goes_on<H: Half>(half: &H, turns: &Turns) -> bool
-    ensures yes { IsTrue result → (turns.now.turns < turns.now.turn_limit) × (turns.now.idle < turns.now.idle_limit) }
-    ensures open { IsTrue result → ¬ (IsSettled (H.following half.now)) }
-    ensures over { IsFalse result → IsAtLimit turns.now ⊎ IsSettled (H.following half.now) }
-{
-    !turns.is_over() && !half.is_settled()
 }

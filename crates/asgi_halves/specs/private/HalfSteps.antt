@@ -1,5 +1,5 @@
 -- The clauses of the steps of the connection's half: words of private functions. No promise is stated by them.
-use Rattle.std.specs.Prelude.{◌≡◌, ◌<◌, ⊤, ℕ, Bool, true, false, List, [], ◌∷◌, ◌++◌, length, None}
+use Rattle.std.specs.Prelude.{◌≡◌, ◌⊎◌, ◌<◌, ◌≤◌, ⊤, ℕ, Bool, true, false, List, [], ◌∷◌, ◌++◌, length, None}
 use Rattle.asgi_types.specs.declared.end_kind.EndKind.{EndKind}
 use Rattle.asgi_types.specs.declared.end_kind.EndKind.TheVariants as kind
 use Rattle.asgi_types.specs.declared.facts.Framing.{Framing}
@@ -14,6 +14,7 @@ use Rattle.asgi_response.specs.declared.refusal.Input.{Input}
 use Rattle.asgi_response.specs.declared.refusal.Input.TheVariants as input
 use Rattle.asgi_response.specs.Response.{response_text}
 use Rattle.asgi_response.specs.Standing as standing
+use Rattle.asgi_pipes.specs.declared.ends.ConnEnd as conn_end
 use Rattle.asgi_exchange.specs.Halves.{IsOffered}
 use Rattle.asgi_exchange.specs.Http.{http}
 use Rattle.asgi_exchange.specs.Items.{end_of}
@@ -22,6 +23,7 @@ use Rattle.asgi_exchange.specs.Views.{ConnView, taken_of}
 use Rattle.asgi_halves.specs.declared.half.BodyProgress.{BodyProgress}
 use Rattle.asgi_halves.specs.declared.half.BodyProgress.TheVariants.{Open, Waits, Whole, Refused, BrokenOff}
 use Rattle.asgi_halves.specs.declared.half.HttpHalf.{HttpHalf}
+use Rattle.asgi_halves.specs.Kinds.{IsOneMore, TakesNone}
 use Rattle.asgi_halves.specs.declared.stage.Stage.TheVariants.{Running}
 use Rattle.asgi_run.specs.AnyHalf.{PreservesInLine}
 use Rattle.asgi_halves.specs.Half.{Scene, Invariant, WithinScene, HasGiven, EndsWhere, BreaksAt, alone, known}
@@ -30,6 +32,8 @@ use Rattle.asgi_run.specs.Lines.{Transferred}
 use Rattle.asgi_halves.specs.ReadAhead.{ahead_limit}
 use Rattle.asgi_conversation.specs.Persistence.{InHand}
 use Rattle.asgi_conversation.specs.SoFar.{HasBrokenIn}
+use Rattle.asgi_conversation.specs.TaskEnds.{has_ended}
+use Rattle.asgi_conversation.specs.declared.input.InputEnd.{InputEnd}
 
 -- Before the end of the task: a text is in hand, which goes on from what is written.
 pub record Pending (scene : Scene) (now : LineState) (half : HttpHalf) (read : List ℕ) (view : ConnView ℕ ℕ) : Type 0 where
@@ -100,10 +104,43 @@ ReadsAt _ = ⊥
 abbrev pub HasAsked : HttpHalf → Type 0
 HasAsked half = half.input_broke ≡ false → half.body ≡ Open → IsWaiting half.wire.requests
 
+-- no more of this body is to be offered by what is held: no event waits, the reader has no more of it, and no disconnect is due
+abbrev pub IsNoneDue : BodyProgress → InputEnd → Reading → Type 0
+IsNoneDue Open end reader = IsWaiting reader
+IsNoneDue (Waits event) end reader = ⊥
+IsNoneDue Whole end reader = has_ended end ≡ false
+IsNoneDue (Refused status) end reader = ⊥
+IsNoneDue BrokenOff end reader = has_ended end ≡ false
+
+-- all that is due of what is held was offered; after the disconnect nothing is due
+abbrev pub NoneDue : HttpHalf → Type 0
+NoneDue half = half.input_broke ≡ false → IsNoneDue half.body half.wire.input half.wire.requests
+
+-- one event was offered or none, as is said, and what is there to take stays
+abbrev pub OffersOne : {C : Type 0} → conn_end.Ghosts C → Bool → C → C → Type 0
+OffersOne E said old new = IsOneMore said (E.offered old) (E.offered new) × TakesNone E old new
+
 -- few bytes are held after whole requests
 abbrev pub HoldsFew : Reading → Type 0
 HoldsFew reader =
     (read : List ℕ) (given : List Next) → StandsFor reader read given → EndsWhole given → (rest : List ℕ) × WholeGiven reader read given rest × (length rest < ahead_limit)
+
+-- as many bytes as may be are held after whole requests
+abbrev pub HoldsEnough : Reading → Type 0
+HoldsEnough reader =
+    (read : List ℕ) (given : List Next) → StandsFor reader read given → EndsWhole given → (rest : List ℕ) × WholeGiven reader read given rest × (ahead_limit ≤ length rest)
+
+-- no more is read at this body: an event waits, it was refused or broken off, or enough is held after it
+abbrev pub RestsAt : BodyProgress → Reading → Type 0
+RestsAt Open reader = ⊥
+RestsAt (Waits event) reader = ⊤
+RestsAt Whole reader = HoldsEnough reader
+RestsAt (Refused status) reader = ⊤
+RestsAt BrokenOff reader = ⊤
+
+-- no more is read: the input has ended, or by the body
+abbrev pub Rests : HttpHalf → Type 0
+Rests half = (has_ended half.wire.input ≡ true) ⊎ RestsAt half.body half.wire.requests
 
 -- the rest of the body decides what comes after the end of the task
 abbrev pub NeedsBody : EndKind → Progress → Bool → Type 0

@@ -1,7 +1,7 @@
 use Rattle.std.proofs.Common.{◌∙◌, refl, arith}
 use Rattle.asgi_exchange.specs.Calls.{IsViewOf}
 use Rattle.asgi_run.proofs.LeadsLemmas.{leads_none, leads_then}
-use Rattle.asgi_halves.proofs.TurnLemmas.{one_longer}
+use Rattle.asgi_halves.proofs.TurnLemmas.{one_longer, unread_then}
 use Rattle.asgi_halves.proofs.turns.take_all.Goals as goal
 
 pub loop-item-init : goal.loop-item-init
@@ -10,7 +10,10 @@ loop-item-init g c = record {
   tag = refl;
   ring = refl;
   took = omega arith;
-  none = λ _. refl;
+  grown = refl;
+  still = λ _. refl;
+  unread = (refl, refl);
+  offered = refl;
 }
 
 pub returns-then-not-take_one-clause-leads : goal.returns-then-not-take_one-clause-leads
@@ -31,5 +34,15 @@ loop-item-preserved g c = record {
       let more = one_longer c.take_one.result (g.C.ConnEnd.got c.loop-item.end) (g.C.ConnEnd.got c.take_one.new.end) c.if-not-take_one.false c.take_one.ensures.took in
       let before = c.loop-item.invariant.took in
       omega (arith, more, before);
-  none = λ no. cc;
+  grown =
+      let more = one_longer c.take_one.result (g.C.ConnEnd.got c.loop-item.end) (g.C.ConnEnd.got c.take_one.new.end) c.if-not-take_one.false c.take_one.ensures.took in
+      let before = c.loop-item.invariant.took in
+      omega (arith, more, before);
+  still = λ no. cc;
+  unread = unread_then (g.L.Line.state c.args.line.now) (g.L.Line.state c.loop-item.line) (g.L.Line.state c.take_one.new.line) c.loop-item.invariant.unread c.take_one.ensures.unread;
+  offered = c.take_one.ensures.offered ∙ c.loop-item.invariant.offered;
 }
+
+pub returns-then-not-take_one-clause-unread : goal.returns-then-not-take_one-clause-unread
+returns-then-not-take_one-clause-unread g c =
+    unread_then (g.L.Line.state c.args.line.now) (g.L.Line.state c.loop-item.line) (g.L.Line.state c.take_one.new.line) c.loop-item.invariant.unread c.take_one.ensures.unread

@@ -1,5 +1,6 @@
 use Rattle.std.proofs.Common.{◌≡◌, ◌+◌, false, length}
 use Rattle.asgi_exchange.specs.Calls.{IsViewOf}
+use Rattle.asgi_halves.specs.Kinds.{HasGrown, ReadsNone}
 use Rattle.asgi_run.specs.AnyHalf.{PreservesOn}
 use Rattle.asgi_halves.proofs.turns.take_all.Given as goal
 
@@ -9,5 +10,8 @@ invariant-loop-item g l = record {
   tag : g.C.ConnEnd.tag l.end ≡ g.C.ConnEnd.tag l.fn.end;
   ring : g.C.ConnEnd.ring l.end ≡ g.C.ConnEnd.ring l.fn.end;
   took : length (g.C.ConnEnd.got l.end) ≡ length (g.C.ConnEnd.got l.fn.end) + l._item;
-  none : l.took ≡ false → g.C.ConnEnd.got l.end ≡ g.C.ConnEnd.got l.fn.end;
+  grown : HasGrown l.took (g.C.ConnEnd.got l.fn.end) (g.C.ConnEnd.got l.end);
+  still : l.took ≡ false → g.L.Line.state l.line ≡ g.L.Line.state l.fn.line;
+  unread : ReadsNone (g.L.Line.state l.fn.line) (g.L.Line.state l.line);
+  offered : g.C.ConnEnd.offered l.end ≡ g.C.ConnEnd.offered l.fn.end;
 }

@@ -12,3 +12,6 @@ returns-in-Cut-clause-leads g c =
 
 pub returns-in-Over-clause-leads : goal.returns-in-Over-clause-leads
 returns-in-Over-clause-leads g c = leads_none g.K.ExchangeKind.stands (g.L.Line.state c.args.line.now) c.args.half.now (IsViewOf g.C.ConnEnd c.args.end.now)
+
+pub returns-in-Ending-clause-rest : goal.returns-in-Ending-clause-rest
+returns-in-Ending-clause-rest g c kind other was is = c.finish.ensures.turn other is

@@ -1,6 +1,10 @@
-use Rattle.std.proofs.Common.{◌++◌, []}
+use Rattle.std.proofs.Common.{◌++◌, [], ap, refl}
+use Rattle.asgi_halves.specs.declared.half.HttpHalf.{HttpHalf}
+use Rattle.asgi_halves.specs.declared.wire.Wire.{Wire}
+use Rattle.asgi_halves.specs.Kinds.{NoRead, OfBytes}
 use Rattle.asgi_halves.proofs.HalfLemmas.{stands_still}
 use Rattle.asgi_halves.proofs.HalfInLemmas.{read_more, read_short}
+use Rattle.asgi_halves.proofs.StageLemmas.{running_moves}
 use Rattle.asgi_halves.proofs.half.HttpHalf.read.Goals as goal
 
 pub returns-then-not-reads_on-clause-leads : goal.returns-then-not-reads_on-clause-leads
@@ -28,3 +32,18 @@ returns-in-Err-clause-leads g c scene read view x =
           (c.reads_on.ensures.open c.if-not-reads_on.false) (c.reads_on.ensures.free c.if-not-reads_on.false) c.requires.asked (c.reads_on.ensures.few c.if-not-reads_on.false) more c.read.ensures.moved.3 c.read.new.self c.read.ensures.same c.read.ensures.limits
           (c.read.ensures.moved.1 scene.start read _ 0),
     )
+
+pub returns-then-not-reads_on-clause-turn : goal.returns-then-not-reads_on-clause-turn
+returns-then-not-reads_on-clause-turn g c is = NoRead (c.reads_on.ensures.rests c.if-not-reads_on.true) refl refl
+
+pub returns-in-Ok-clause-turn : goal.returns-in-Ok-clause-turn
+returns-in-Ok-clause-turn g c is = let t = c.in-Ok.ensures.turn in OfBytes t.0 t.1 c.read.ensures.session t.2
+
+pub returns-in-Ok-clause-keeps : goal.returns-in-Ok-clause-keeps
+returns-in-Ok-clause-keeps g c idle = ap (λ (w : Wire). let half : HttpHalf = record c.args.self.now { wire = w } in half) (c.in-Ok.ensures.idle idle)
+
+pub returns-then-not-reads_on-clause-moves : goal.returns-then-not-reads_on-clause-moves
+returns-then-not-reads_on-clause-moves g c = running_moves c.args.self.now.stage _ c.requires.running
+
+pub returns-in-Ok-clause-moves : goal.returns-in-Ok-clause-moves
+returns-in-Ok-clause-moves g c = running_moves c.args.self.now.stage _ c.requires.running

@@ -1,8 +1,10 @@
-use Rattle.std.proofs.Common.{[], sym, refl, ◌∙◌}
+use Rattle.std.proofs.Common.{[], inl, sym, refl, ◌∙◌}
 use Rattle.asgi_halves.specs.declared.stage.Stage.TheVariants as stage
 use Rattle.asgi_halves.specs.Half.{failures_at}
+use Rattle.asgi_halves.specs.Kinds.{OfBytes}
 use Rattle.asgi_halves.proofs.HalfLemmas.{unfailed}
 use Rattle.asgi_halves.proofs.HalfEndLemmas.{stays_there, rest_read, rest_short}
+use Rattle.asgi_halves.proofs.StageLemmas.{ending_has_ended, ending_moves}
 use Rattle.asgi_halves.proofs.half.HttpHalf.read_rest.Goals as goal
 
 pub returns-then-has_ended-clause-leads : goal.returns-then-has_ended-clause-leads
@@ -32,3 +34,15 @@ returns-in-Err-clause-leads g c scene read view x =
           c.in-Err.ensures.same c.in-Err.ensures.limits (sym c.has_ended.ensures ∙ c.if-has_ended.false)
           (m.1 scene.start read _ 0 (unfailed scene line half read view x (stage.Ending c.requires.ending.0) c.requires.ending.1 refl)),
     )
+
+pub returns-in-Ok-clause-turn : goal.returns-in-Ok-clause-turn
+returns-in-Ok-clause-turn g c kind is = let t = c.in-Ok.ensures.turn in inl (OfBytes t.0 t.1 c.read.ensures.session t.2)
+
+pub returns-then-has_ended-clause-ended : goal.returns-then-has_ended-clause-ended
+returns-then-has_ended-clause-ended g c = ending_has_ended c.args.self.now.stage c.requires.ending
+
+pub returns-in-Ok-clause-ended : goal.returns-in-Ok-clause-ended
+returns-in-Ok-clause-ended g c = ending_has_ended c.args.self.now.stage c.requires.ending
+
+pub returns-in-Ok-clause-moves : goal.returns-in-Ok-clause-moves
+returns-in-Ok-clause-moves g c = ending_moves c.args.self.now.stage _ c.requires.ending

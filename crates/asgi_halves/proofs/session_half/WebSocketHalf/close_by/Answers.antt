@@ -1,4 +1,4 @@
 use Rattle.asgi_halves.proofs.session_half.WebSocketHalf.close_by.Goals as goal
 
-pub returns-in_default : goal.returns-in_default
-returns-in_default g c = record { speaks = c.refuse.ensures.speaks c.args.code c.args.reason.now }
+pub returns-in_default-clause-speaks : goal.returns-in_default-clause-speaks
+returns-in_default-clause-speaks g c = c.refuse.ensures.speaks c.args.code c.args.reason.now

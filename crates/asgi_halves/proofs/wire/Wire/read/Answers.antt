@@ -1,14 +1,24 @@
-use Rattle.std.proofs.Common.{◌≡◌, ℕ, List, [], ◌∷◌, ◌++◌, take, arith, subst, sym, inl, ◌∙◌}
+use Rattle.std.proofs.Common.{◌≡◌, ℕ, List, [], ◌∷◌, ◌++◌, take, arith, refl, subst, sym, inl, ◌∙◌}
 use Rattle.std.proofs.lemmas.List.{take_at}
 use Rattle.asgi_request.specs.declared.next.Next.{Next}
 use Rattle.asgi_request.specs.Reading.{StandsFor}
-use Rattle.asgi_io.specs.Answers.{bytes_of}
+use Rattle.asgi_io.specs.declared.answer.Answer.{Answer}
+use Rattle.asgi_io.specs.declared.answer.Answer.TheVariants as answer
+use Rattle.asgi_io.specs.declared.turns.Turn.TheVariants as turn
+use Rattle.asgi_io.specs.Answers.{bytes_of, turn_of}
 use Rattle.asgi_conversation.specs.declared.input.InputEnd.{InputEnd}
 use Rattle.asgi_run.specs.Lines.{Transferred, input_after}
 use Rattle.asgi_run.proofs.LineLemmas.{gave, session_is, told_as, moved_by_open_read}
 use Rattle.asgi_halves.proofs.LineCallLemmas.{by_state}
 use Rattle.asgi_halves.proofs.ReadAheadLemmas.{short_piece}
 use Rattle.asgi_halves.proofs.wire.Wire.read.Goals as goal
+
+-- an idle turn is that of a read that paused
+paused : (a : Answer) → turn_of a ≡ turn.Idle → a ≡ answer.Paused
+paused answer.Paused idle = refl
+paused (answer.Moved n) idle = cc
+paused answer.Nothing idle = cc
+paused answer.Failed idle = cc
 
 pub returns-in-Ok-clause-moved : goal.returns-in-Ok-clause-moved
 returns-in-Ok-clause-moved g c =
@@ -59,3 +69,16 @@ returns-in-Ok-clause-turn g c =
           (told_as _ _ buffer c.read_some-read.result a c.read_some-read.ensures.told (omega (arith, c.read_some-read.auto.buf)) c.answer_of-answer.ensures),
       c.turn.ensures,
     )
+
+pub returns-in-Ok-clause-session : goal.returns-in-Ok-clause-session
+returns-in-Ok-clause-session g c =
+    by_state g.L.Line g.L.Reads g.L.Counts g.L.Messages g.met.L.Line.state_is c.args.line.now c.read_some-read.new.self (λ was now. now.session ≡ was.session)
+    (session_is _ _ (g.met.L.Line.session_stays _ _ (inl c.read_some-read.ensures.beside)))
+
+pub returns-in-Err-clause-session : goal.returns-in-Err-clause-session
+returns-in-Err-clause-session g c =
+    by_state g.L.Line g.L.Reads g.L.Counts g.L.Messages g.met.L.Line.state_is c.args.line.now c.read_some-read.new.self (λ was now. now.session ≡ was.session)
+    (session_is _ _ (g.met.L.Line.session_stays _ _ (inl c.read_some-read.ensures.beside)))
+
+pub returns-in-Ok-clause-idle : goal.returns-in-Ok-clause-idle
+returns-in-Ok-clause-idle g c idle = c.take_in-taken.ensures.paused (paused c.answer_of-answer.result (sym c.turn.ensures ∙ idle))

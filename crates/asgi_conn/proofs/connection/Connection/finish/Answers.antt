@@ -1,0 +1,72 @@
+use Rattle.std.proofs.Common.{◌≡◌, sym, ◌∙◌, subst, inr}
+use Rattle.asgi_conn.specs.declared.place.Place.{Place}
+use Rattle.asgi_conn.specs.declared.place.Place.TheVariants as place
+use Rattle.asgi_conn.specs.Standing.{IsServing, IsCounted}
+use Rattle.asgi_conn.specs.private.Loop.{IsOver, IsNext, IsGoing}
+use Rattle.asgi_conn.proofs.TurnLemmas as lemma
+use Rattle.asgi_conn.proofs.connection.Connection.finish.Goals as goal
+
+pub returns-then-goes_on-clause-due : goal.returns-then-goes_on-clause-due
+returns-then-goes_on-clause-due g c next = lemma.due_next c.args.self.now.place c.args.self.now.tally.turns (c.goes_on.ensures.yes c.if-goes_on.true) next
+
+pub unreachable-requires : goal.unreachable-requires
+unreachable-requires g c =
+    subst (λ (p : Place g.row.X.Denot). IsOver p c.args.self.now.tally.turns) (sym c.replace.ensures.value ∙ c.in-Between.is) (c.goes_on.ensures.no c.if-goes_on.false)
+
+pub unreachable-requires-in-Ended : goal.unreachable-requires-in-Ended
+unreachable-requires-in-Ended g c =
+    subst (λ (p : Place g.row.X.Denot). IsOver p c.args.self.now.tally.turns) (sym c.replace.ensures.value ∙ c.in-Ended.is) (c.goes_on.ensures.no c.if-goes_on.false)
+
+pub end_request-requires-clause-room : goal.end_request-requires-clause-room
+end_request-requires-clause-room g c =
+    let s = c.requires in
+    lemma.room_48 s.0 s.3 s.4 (place.Http c.in-Http.half c.in-Http.exchange) c.args.self.now.tally
+    (subst (λ (p : Place g.row.X.Denot). IsCounted s.0 s.3 s.4 p c.args.self.now.tally) (sym c.replace.ensures.value ∙ c.in-Http.is) s.5.counted) tt c.args.self.now.tally.turns.in_turns
+
+pub end_request-requires-clause-stands : goal.end_request-requires-clause-stands
+end_request-requires-clause-stands g c =
+    let s = c.requires in
+    (s.0, s.1, s.2, subst (λ (p : Place g.row.X.Denot). IsServing g.A.Task.AppTask.answers g.U.Pipes.Conn.ConnEnd g.U.Pipes.App.AppEnd g.U.Runner.conn g.U.Runner.began (g.A.Application.answers c.args.setting.now.app.now) s.0 c.args.setting.now.client.now c.args.setting.now.server.now c.args.setting.now.state.now s.1 s.2 c.args.self.now.tally p) (sym c.replace.ensures.value ∙ c.in-Http.is) s.5.serving)
+
+pub returns-in-Http-clause-stands : goal.returns-in-Http-clause-stands
+returns-in-Http-clause-stands g c limits start now before pauses s = record {
+  serving = c.end_request.ensures.serves limits start now
+      (subst (λ (p : Place g.row.X.Denot). IsServing g.A.Task.AppTask.answers g.U.Pipes.Conn.ConnEnd g.U.Pipes.App.AppEnd g.U.Runner.conn g.U.Runner.began (g.A.Application.answers c.args.setting.now.app.now) limits c.args.setting.now.client.now c.args.setting.now.server.now c.args.setting.now.state.now start now c.args.self.now.tally p) (sym c.replace.ensures.value ∙ c.in-Http.is) s.serving);
+  counted = c.end_request.ensures.counts limits before pauses
+      (subst (λ (p : Place g.row.X.Denot). IsCounted limits before pauses p c.args.self.now.tally) (sym c.replace.ensures.value ∙ c.in-Http.is) s.counted)
+      (subst (λ (p : Place g.row.X.Denot). IsOver p c.args.self.now.tally.turns) (sym c.replace.ensures.value ∙ c.in-Http.is) (c.goes_on.ensures.no c.if-goes_on.false));
+}
+
+pub end_session-requires-clause-room : goal.end_session-requires-clause-room
+end_session-requires-clause-room g c =
+    let s = c.requires in
+    lemma.room_48 s.0 s.3 s.4 (place.Session c.in-Session.half c.in-Session.exchange) c.args.self.now.tally
+    (subst (λ (p : Place g.row.X.Denot). IsCounted s.0 s.3 s.4 p c.args.self.now.tally) (sym c.replace.ensures.value ∙ c.in-Session.is) s.5.counted) tt c.args.self.now.tally.turns.in_turns
+
+pub end_session-requires-clause-stands : goal.end_session-requires-clause-stands
+end_session-requires-clause-stands g c =
+    let s = c.requires in
+    (s.0, s.1, s.2, subst (λ (p : Place g.row.X.Denot). IsServing g.A.Task.AppTask.answers g.U.Pipes.Conn.ConnEnd g.U.Pipes.App.AppEnd g.U.Runner.conn g.U.Runner.began (g.A.Application.answers c.args.setting.now.app.now) s.0 c.args.setting.now.client.now c.args.setting.now.server.now c.args.setting.now.state.now s.1 s.2 c.args.self.now.tally p) (sym c.replace.ensures.value ∙ c.in-Session.is) s.5.serving)
+
+pub returns-in-Session-clause-stands : goal.returns-in-Session-clause-stands
+returns-in-Session-clause-stands g c limits start now before pauses s = record {
+  serving = c.end_session.ensures.serves limits start now
+      (subst (λ (p : Place g.row.X.Denot). IsServing g.A.Task.AppTask.answers g.U.Pipes.Conn.ConnEnd g.U.Pipes.App.AppEnd g.U.Runner.conn g.U.Runner.began (g.A.Application.answers c.args.setting.now.app.now) limits c.args.setting.now.client.now c.args.setting.now.server.now c.args.setting.now.state.now start now c.args.self.now.tally p) (sym c.replace.ensures.value ∙ c.in-Session.is) s.serving);
+  counted = c.end_session.ensures.counts limits before pauses
+      (subst (λ (p : Place g.row.X.Denot). IsCounted limits before pauses p c.args.self.now.tally) (sym c.replace.ensures.value ∙ c.in-Session.is) s.counted)
+      (subst (λ (p : Place g.row.X.Denot). IsOver p c.args.self.now.tally.turns) (sym c.replace.ensures.value ∙ c.in-Session.is) (c.goes_on.ensures.no c.if-goes_on.false));
+}
+
+pub returns-in-Http-clause-rests : goal.returns-in-Http-clause-rests
+returns-in-Http-clause-rests g c = lemma.rest_left c.end_request.result c.end_request.new.tally.turns c.end_request.ensures.left
+
+pub returns-in-Http-clause-due : goal.returns-in-Http-clause-due
+returns-in-Http-clause-due g c next =
+    lemma.due_rest c.end_request.result c.end_request.new.tally.turns (lemma.rest_left c.end_request.result c.end_request.new.tally.turns c.end_request.ensures.left)
+    (λ between. (subst (λ (p : Place g.row.X.Denot). IsNext p c.args.self.now.tally.turns) (sym c.replace.ensures.value ∙ c.in-Http.is) next) (c.end_request.ensures.rests between))
+
+pub returns-in-Session-clause-rests : goal.returns-in-Session-clause-rests
+returns-in-Session-clause-rests g c = lemma.rest_left c.end_session.result c.end_session.new.tally.turns (inr c.end_session.ensures.ended)
+
+pub returns-in-Session-clause-due : goal.returns-in-Session-clause-due
+returns-in-Session-clause-due g c next = lemma.due_ended c.end_session.result c.end_session.new.tally.turns c.end_session.ensures.ended

@@ -1,0 +1,147 @@
+//! An exchange begins: its ends are made, the application is called, and the half takes the wire.
+ghost use Rattle.std.specs.Prelude.{◌≡◌, ◌≢◌, ℕ, [], List, Option, None, IfOk, IfErr};
+ghost use Rattle.asgi_types.specs.declared.facts.Facts.{Facts};
+ghost use Rattle.asgi_types.specs.declared.scope.Kind.TheVariants.{Http, WebSocket};
+ghost use Rattle.asgi_types.specs.declared.scope.Peer.{Peer};
+ghost use Rattle.asgi_types.specs.declared.scope.Scope.{Scope};
+ghost use Rattle.asgi_types.specs.declared.state.StateValue.{StateValue};
+ghost use Rattle.asgi_types.specs.Scopes.{scope_with};
+ghost use Rattle.asgi_apps.specs.Scopes.{kind_of};
+ghost use Rattle.asgi_conversation.specs.OutcomeClasses.{IsLacking};
+ghost use Rattle.asgi_conversation.specs.Promised.{ArePromised};
+ghost use Rattle.asgi_halves.specs.Half.{Scene, Opens};
+ghost use Rattle.asgi_halves.specs.WebSocketHalf.{SessionScene, OpensHandshake};
+ghost use Rattle.asgi_run.specs.Running.{MayRun, IsOpened};
+ghost use Rattle.asgi_conn.specs.Standing.{IsServing, IsTallied};
+ghost use Rattle.asgi_conn.specs.private.Loop.{IsNext, HasBegun};
+ghost use Rattle.asgi_conn.specs.declared.tally.Tally.{Tally};
+
+use crate::place::{Place, Setting};
+use asgi_apps::{AppTask, Application, Running};
+use asgi_conversation::Outcome;
+use asgi_halves::{HttpHalf, WebSocketHalf, Wire};
+use asgi_io::Turns;
+use asgi_pipes::{AppEnd, EndKind, Pipes};
+use asgi_response::ResponseText;
+use asgi_run::{AppSide, NoEnds, Runner};
+use asgi_types::{Facts, Framing, Kind, Scope};
+use asgi_ws::Line;
+use std::alloc::Global;
+
+/// Begins the exchange of a request.
+pub(crate) fn answer<A: Application, L: Line, X: Drop, U: Runner<A::Task, Exchange = X>>(
+    wire: Wire,
+    scope: &Scope,
+    facts: Facts,
+    setting: &Setting<'_, A>,
+    turns: &Turns,
+    line: &mut L,
+    runner: &mut U,
+) -> Place<X>
+    requires http { kind_of scope.now ≡ Http }
+    requires plain { facts.framing ≢ Framing.Upgrade }
+    ensures serves { (scene : Scene) (client server : Option Peer) (state : List (List ℕ × StateValue)) (read arrived : List ℕ) (tally : Tally)
+        → scope.now ≡ scope_with scene.scope client server state → Opens scene (L.state line.old) wire facts read arrived
+        → ArePromised (A.answers setting.now.app.now) client server state scene.exchanges → IsTallied tally scene.exchanges
+        → IsServing A.Task.answers U.Pipes.Conn.ConnEnd U.Pipes.App.AppEnd U.conn U.began
+        (A.answers setting.now.app.now) wire.limits client server state scene.start (L.state line.new) tally result }
+    ensures next { IsNext result turns.now }
+{
+    let text = ResponseText::new(wire.alloc, &facts);
+    match begin(&wire, Kind::Http, scope, facts, setting, turns, runner) {
+        Err(outcome) => Place::Ended(outcome),
+        Ok(exchange) => Place::Http(HttpHalf::begin(wire, text, line), exchange),
+    }
+}
+
+/// Begins the exchange of an opening handshake; the connection ends with it.
+pub(crate) fn open<A: Application, L: Line, X: Drop, U: Runner<A::Task, Exchange = X>>(
+    wire: Wire,
+    scope: &Scope,
+    facts: Facts,
+    setting: &Setting<'_, A>,
+    turns: &Turns,
+    line: &mut L,
+    runner: &mut U,
+) -> Place<X>
+    requires websocket { kind_of scope.now ≡ WebSocket }
+    requires upgrade { facts.framing ≡ Framing.Upgrade }
+    ensures serves { (scene : SessionScene) (client server : Option Peer) (state : List (List ℕ × StateValue)) (read : List ℕ) (tally : Tally)
+        → scope.now ≡ scope_with scene.scope client server state → OpensHandshake scene (L.state line.old) wire facts read
+        → ArePromised (A.answers setting.now.app.now) client server state scene.exchanges → IsTallied tally scene.exchanges
+        → IsServing A.Task.answers U.Pipes.Conn.ConnEnd U.Pipes.App.AppEnd U.conn U.began
+        (A.answers setting.now.app.now) scene.limits client server state scene.start (L.state line.new) tally result }
+    ensures next { IsNext result turns.now }
+{
+    let mut wire = wire;
+    let Ok(frames) = wire.take_frames() else {
+        return Place::Ended(Outcome::NoMemory);
+    };
+    let Ok(own) = facts.copy(wire.alloc) else {
+        return Place::Ended(Outcome::NoMemory);
+    };
+    let text = ResponseText::new(wire.alloc, &own);
+    match begin(&wire, Kind::WebSocket, scope, facts, setting, turns, runner) {
+        Err(outcome) => Place::Ended(outcome),
+        Ok(exchange) => Place::Session(WebSocketHalf::begin(wire, own, text, frames), exchange),
+    }
+}
+
+/// Makes the ends of an exchange, calls the application over one of them, and begins it. If memory or a
+/// thread is refused, the application is not called, and the connection ends like this.
+fn begin<A: Application, X: Drop, U: Runner<A::Task, Exchange = X>>(
+    wire: &Wire,
+    kind: Kind,
+    scope: &Scope,
+    facts: Facts,
+    setting: &Setting<'_, A>,
+    turns: &Turns,
+    runner: &mut U,
+) -> Result<X, Outcome>
+    requires { kind_of scope.now ≡ kind }
+    ensures lacking { IfErr result (λ outcome. IsLacking outcome) }
+    ensures begun { IfOk result (λ exchange. HasBegun A.Task.answers U.Pipes.Conn.ConnEnd U.Pipes.App.AppEnd U.conn U.began (A.answers setting.now.app.now scope.now) kind facts exchange) }
+{
+    let (end, app_end) = match runner.make(wire.alloc, kind, facts, wire.limits.ring) {
+        Err(why) => return Err(without_ends(why)),
+        Ok(ends) => ends,
+    };
+    let side = call(wire.alloc, setting.app, scope, app_end);
+    Ok(runner.begin(end, side, turns))
+}
+
+/// How a connection ends if its next exchange got no ends.
+fn without_ends(why: NoEnds) -> Outcome
+    ensures lacking { IsLacking result }
+    ensures reason { (why ≡ NoEnds.NoMemory → result ≡ Outcome.NoMemory) × (why ≡ NoEnds.NoThread → result ≡ Outcome.NoThread) }
+{
+    match why {
+        NoEnds::NoMemory => Outcome::NoMemory,
+        NoEnds::NoThread => Outcome::NoThread,
+    }
+}
+
+/// Calls the application. If the call faults, that is the end of its task.
+fn call<A: Application, E: AppEnd>(
+    alloc: Global,
+    app: &A,
+    scope: &Scope,
+    app_end: E,
+) -> AppSide<A::Task, E>
+    requires fresh { (E.heard app_end ≡ []) × (E.said app_end ≡ []) × (E.ended app_end ≡ None) }
+    requires kind { E.kind app_end ≡ kind_of scope.now }
+    ensures may { MayRun A.Task.stands E.AppEnd result }
+    ensures opens { IsOpened (A.answers app.now scope.now) A.Task.answers E.AppEnd app_end result }
+{
+    match app.call(alloc, scope) {
+        Ok(task) => AppSide::Runs(Running::new(task, app_end)),
+        Err(_) => {
+            let mut app_end = app_end;
+            let _first = app_end.finish(EndKind::Faulted);
+            AppSide::HasEnded {
+                app_end,
+                kind: EndKind::Faulted,
+            }
+        }
+    }
+}
