@@ -1,3 +1,4 @@
+pub mod private
 pub mod Answers
 pub mod Driving
 pub mod Echo

@@ -2,6 +2,8 @@
 //! that are ready.
 #![tactic(auto)]
 
+mod calls;
+mod driving;
 mod echo;
 mod echoing;
 mod hello;
@@ -18,13 +20,15 @@ mod task;
 mod ws_echo;
 
 pub use asgi_io::Pause;
+pub use calls::Calls;
+pub use driving::drive;
 pub use echo::{Echo, EchoTask};
 pub use hello::Hello;
 pub use life::{Life, LifeTask};
 pub use mounts::{MountError, MountTask, Mounts};
 pub use not_found::NotFound;
 pub use root_path::RootPath;
-pub use running::{Ended, Lent, Running, drive};
+pub use running::{Ended, Lent, Running};
 pub use says::Says;
 pub use task::{AppFault, AppTask, Application};
 pub use ws_echo::{WsEcho, WsEchoTask};

@@ -1,16 +1,16 @@
 //! A task with the end that it borrows: as a future, and driven by hand.
-ghost use Rattle.std.specs.Prelude.{◌≡◌, ◌≢◌, ◌≤◌, ◌⊎◌, ◌+◌, ℕ, List, Option, Some, None, IsSome, IsSomeAnd};
+ghost use Rattle.std.specs.Prelude.{◌≡◌, ◌≢◌, ◌++◌, ◌∷◌, [], ℕ, ◌+◌, List, Option, Some, None, IsSome, IsSomeAnd};
 ghost use Rattle.futures.specs.Poll.{IfReady, OnPending};
 ghost use Rattle.futures.specs.Task.{IsArmed, Keeps};
-ghost use Rattle.asgi_io.specs.Counting.{RoseBy, counted};
+ghost use Rattle.asgi_io.specs.Counting.{counted};
 ghost use Rattle.asgi_types.specs.declared.incoming.Incoming.{Incoming};
 ghost use Rattle.asgi_types.specs.declared.outgoing.Outgoing.{Outgoing};
 ghost use Rattle.asgi_types.specs.declared.end_kind.EndKind.{EndKind};
-ghost use Rattle.asgi_apps.specs.Driving.{IsDriven};
-ghost use Rattle.asgi_apps.specs.Ends.{GoesOn, IsWithin, MayGoOn, end_of, own_end, turn_of};
+ghost use Rattle.asgi_apps.specs.Ends.{GoesOn, IsStill, IsTurn, IsWithin, MayGoOn, TellsMoves, end_of, own_end, turn_of};
+ghost use Rattle.asgi_apps.specs.private.Driven.{IfEnds, IfRuns, RunsOn, turn_in};
 
 use crate::task::{AppFault, AppTask};
-use asgi_io::{Pause, Turn, Turns};
+use asgi_io::{History, Turn};
 use asgi_pipes::{AppEnd, EndKind};
 use futures::Future;
 use futures::task::{Context, Poll};
@@ -44,6 +44,25 @@ pub struct Ended<T, E> {
     pub kind: EndKind,
     /// How many polls were made.
     pub turns: u64,
+    /// What each poll did that `drive` made.
+    did: History<Turn>,
+}
+
+/// A task that is driven. Only `turn` polls it.
+#[derive(Drop)]
+pub struct Driven<T, E> {
+    lent: Lent<T, E>,
+    /// What each turn did.
+    did: History<Turn>,
+}
+
+/// What a turn did to the task that is driven.
+#[derive(Drop)]
+pub enum Took {
+    /// The task runs on.
+    Runs(Turn),
+    /// The task has ended.
+    Ends(EndKind),
 }
 
 impl<T: AppTask, E: AppEnd> Lent<T, E> {
@@ -54,6 +73,7 @@ impl<T: AppTask, E: AppEnd> Lent<T, E> {
         ensures answers { IfReady result (λ kind. T.answers self.old.task (E.heard self.new.app_end) (E.said self.new.app_end) (own_end kind)) }
         ensures not_idle { IfReady result (λ kind. kind ≢ EndKind.Idle) }
         ensures pending { OnPending result (GoesOn E.AppEnd None self.old.app_end self.new.app_end) }
+        ensures moves { OnPending result (TellsMoves E.AppEnd self.old.app_end self.new.app_end) }
         ensures same { OnPending result (IsWithin T.answers self.new.task self.old.task) }
         ensures again { OnPending result (MayGoOn T.stands E.AppEnd self.new.task self.new.app_end) }
         ensures armed { OnPending result (IsArmed cx.new) }
@@ -72,6 +92,7 @@ impl<T: AppTask, E: AppEnd> Lent<T, E> {
         requires { MayGoOn T.stands E.AppEnd self.old.task self.old.app_end }
         ensures turn { result ≡ turn_of (E.has_moved self.old.app_end) }
         ensures same { (self.new.task ≡ self.old.task) × GoesOn E.AppEnd None self.old.app_end self.new.app_end }
+        ensures lists { IsStill E.AppEnd self.old.app_end self.new.app_end }
         ensures again { MayGoOn T.stands E.AppEnd self.new.task self.new.app_end }
     {
         if self.app_end.moved() {
@@ -103,6 +124,7 @@ impl<T: AppTask, E: AppEnd> Running<T, E> {
         ensures answers { IfReady result (λ kind. IsSomeAnd self.old.lent (λ was. IsSomeAnd self.new.lent (λ is. T.answers was.task (E.heard is.app_end) (E.said is.app_end) (own_end kind)))) }
         ensures not_idle { IfReady result (λ kind. kind ≢ EndKind.Idle) }
         ensures pending { OnPending result (IsSomeAnd self.old.lent (λ was. IsSomeAnd self.new.lent (λ is. GoesOn E.AppEnd None was.app_end is.app_end))) }
+        ensures moves { OnPending result (IsSomeAnd self.old.lent (λ was. IsSomeAnd self.new.lent (λ is. TellsMoves E.AppEnd was.app_end is.app_end))) }
         ensures same { OnPending result (IsSomeAnd self.old.lent (λ was. IsSomeAnd self.new.lent (λ is. IsWithin T.answers is.task was.task))) }
         ensures again { OnPending result (IsSomeAnd self.new.lent (λ is. MayGoOn T.stands E.AppEnd is.task is.app_end)) }
         ensures turns { self.new.turns ≡ counted (self.old.turns + 1) }
@@ -121,6 +143,7 @@ impl<T: AppTask, E: AppEnd> Running<T, E> {
         requires { IsSomeAnd self.old.lent (λ was. MayGoOn T.stands E.AppEnd was.task was.app_end) }
         ensures turn { IsSomeAnd self.old.lent (λ was. result ≡ turn_of (E.has_moved was.app_end)) }
         ensures same { IsSomeAnd self.old.lent (λ was. IsSomeAnd self.new.lent (λ is. (is.task ≡ was.task) × GoesOn E.AppEnd None was.app_end is.app_end)) }
+        ensures lists { IsSomeAnd self.old.lent (λ was. IsSomeAnd self.new.lent (λ is. IsStill E.AppEnd was.app_end is.app_end)) }
         ensures again { IsSomeAnd self.new.lent (λ is. MayGoOn T.stands E.AppEnd is.task is.app_end) }
         ensures turns { self.new.turns ≡ self.old.turns }
     {
@@ -130,12 +153,12 @@ impl<T: AppTask, E: AppEnd> Running<T, E> {
         lent.moved()
     }
 
-    /// Returns the task and its end, after `turns` polls.
-    fn give_back(&mut self, kind: EndKind, turns: u64) -> Ended<T, E>
+    /// Returns the task and its end, after all polls.
+    fn give_back(&mut self, kind: EndKind) -> Ended<T, E>
         requires { IsSome self.old.lent }
         ensures task { IsSomeAnd self.old.lent (λ was. result.task ≡ was.task) }
         ensures end { IsSomeAnd self.old.lent (λ was. result.app_end ≡ was.app_end) }
-        ensures kind { (result.kind ≡ kind) × (result.turns ≡ turns) }
+        ensures kind { (result.kind ≡ kind) × (result.turns ≡ self.old.turns) }
     {
         let Some(lent) = self.lent.take() else {
             unreachable!()
@@ -145,16 +168,84 @@ impl<T: AppTask, E: AppEnd> Running<T, E> {
             task,
             app_end,
             kind,
+            turns: self.turns,
+            did: History::new(),
+        }
+    }
+}
+
+impl<T: AppTask, E: AppEnd> Driven<T, E> {
+    /// The task is driven from now on.
+    pub fn new(running: Running<T, E>) -> Self
+        requires { IsSome running.lent }
+        ensures lent { running.lent ≡ Some result.lent }
+        ensures none { result.did.items ≡ [] }
+    {
+        let Some(lent) = running.lent else {
+            unreachable!()
+        };
+        Driven {
+            lent,
+            did: History::new(),
+        }
+    }
+
+    /// Polls the task once.
+    pub fn turn(&mut self, cx: &mut Context<'_>) -> Took
+        requires { MayGoOn T.stands E.AppEnd self.old.lent.task self.old.lent.app_end }
+        ensures did { self.new.did.items ≡ self.old.did.items ++ turn_in result ∷ [] }
+        ensures turn { IsTurn E.AppEnd (turn_in result) (E.ended self.new.lent.app_end) self.old.lent.app_end self.new.lent.app_end }
+        ensures runs { IfRuns result (RunsOn T.stands T.answers E.AppEnd self.old.lent self.new.lent) }
+        ensures armed { IfRuns result (IsArmed cx.new) }
+        ensures ends { IfEnds result (λ kind. GoesOn E.AppEnd (Some kind) self.old.lent.app_end self.new.lent.app_end) }
+        ensures answers { IfEnds result (λ kind. T.answers self.old.lent.task (E.heard self.new.lent.app_end) (E.said self.new.lent.app_end) (own_end kind)) }
+        ensures not_idle { IfEnds result (λ kind. kind ≢ EndKind.Idle) }
+        ensures kept { Keeps cx.old cx.new }
+    {
+        match self.lent.turn(cx) {
+            Poll::Ready(kind) => {
+                self.add(Turn::Last);
+                Took::Ends(kind)
+            }
+            Poll::Pending => {
+                let turn = self.lent.moved();
+                self.add(turn);
+                Took::Runs(turn)
+            }
+        }
+    }
+
+    /// One more turn was taken, and did this.
+    fn add(&mut self, turn: Turn)
+        ensures did { self.new.did.items ≡ self.old.did.items ++ turn ∷ [] }
+        ensures same { self.new.lent ≡ self.old.lent }
+    {
+        self.did = History::with(&self.did, &turn);
+    }
+
+    /// Returns the task and its end, after this many polls.
+    pub fn give_back(self, kind: EndKind, turns: u64) -> Ended<T, E>
+        ensures same { (result.task ≡ self.lent.task) × (result.app_end ≡ self.lent.app_end) × (result.did ≡ self.did) }
+        ensures kind { (result.kind ≡ kind) × (result.turns ≡ turns) }
+    {
+        let Driven { lent, did } = self;
+        let Lent { task, app_end } = lent;
+        Ended {
+            task,
+            app_end,
+            kind,
             turns,
+            did,
         }
     }
 
     /// Ends a task that a limit stops.
-    fn stop(&mut self, turns: u64) -> Ended<T, E>
-        requires { IsSomeAnd self.old.lent (λ was. E.ended was.app_end ≡ None) }
-        ensures end { IsSomeAnd self.old.lent (λ was. GoesOn E.AppEnd (Some EndKind.Idle) was.app_end result.app_end) }
-        ensures lists { IsSomeAnd self.old.lent (λ was. (E.heard result.app_end ≡ E.heard was.app_end) × (E.said result.app_end ≡ E.said was.app_end)) }
-        ensures task { IsSomeAnd self.old.lent (λ was. result.task ≡ was.task) }
+    pub fn stop(self, turns: u64) -> Ended<T, E>
+        requires { E.ended self.lent.app_end ≡ None }
+        ensures end { GoesOn E.AppEnd (Some EndKind.Idle) self.lent.app_end result.app_end }
+        ensures heard { E.heard result.app_end ≡ E.heard self.lent.app_end }
+        ensures still { IsStill E.AppEnd self.lent.app_end result.app_end }
+        ensures same { (result.task ≡ self.lent.task) × (result.did ≡ self.did) }
         ensures kind { (result.kind ≡ EndKind.Idle) × (result.turns ≡ turns) }
     {
         let mut ended = self.give_back(EndKind::Idle, turns);
@@ -178,7 +269,8 @@ fn kind_of(answer: Result<(), AppFault>) -> EndKind
 fn finish<E: AppEnd>(end: &mut E, kind: EndKind)
     requires { E.ended end.old ≡ None }
     ensures end { GoesOn E.AppEnd (Some kind) end.old end.new }
-    ensures lists { (E.heard end.new ≡ E.heard end.old) × (E.said end.new ≡ E.said end.old) }
+    ensures heard { E.heard end.new ≡ E.heard end.old }
+    ensures still { IsStill E.AppEnd end.old end.new }
 {
     let _first = end.finish(kind);
 }
@@ -193,37 +285,7 @@ impl<T: AppTask, E: AppEnd> Future for Running<T, E> {
     fn poll(&mut self, cx: &mut Context<'_>) -> Poll<Ended<T, E>> {
         match self.turn(cx) {
             Poll::Pending => Poll::Pending,
-            Poll::Ready(kind) => Poll::Ready(self.give_back(kind, self.turns)),
+            Poll::Ready(kind) => Poll::Ready(self.give_back(kind)),
         }
     }
-}
-
-/// Polls the task until it ends. Once `turns` polls were made, or `idle_turns` polls in a row moved
-/// nothing, the task is ended as `Idle`. Pauses after each poll that moved nothing. `turns` of the
-/// result counts the polls of this call.
-pub fn drive<T: AppTask, E: AppEnd, P: Pause>(
-    cx: &mut Context<'_>,
-    running: Running<T, E>,
-    pause: &mut P,
-    idle_turns: u32,
-    turns: u64,
-) -> Ended<T, E>
-    requires { IsSomeAnd running.lent (λ was. MayGoOn T.stands E.AppEnd was.task was.app_end) }
-    ensures end { IsSomeAnd running.lent (λ was. GoesOn E.AppEnd (Some result.kind) was.app_end result.app_end) }
-    ensures answers { IsSomeAnd running.lent (λ was. T.answers was.task (E.heard result.app_end) (E.said result.app_end) (own_end result.kind)) }
-    ensures turns { IsDriven turns idle_turns (P.count pause.old) (P.count pause.new) result.turns result.kind }
-    ensures at_most { result.turns ≤ turns }
-    ensures idle { result.kind ≡ EndKind.Idle → RoseBy idle_turns (P.count pause.old) (P.count pause.new) ⊎ (result.turns ≡ turns) }
-    ensures kept { Keeps cx.old cx.new }
-{
-    let mut running = running;
-    let mut taken = Turns::new(turns, idle_turns);
-    while !taken.is_over() {
-        if let Poll::Ready(kind) = running.turn(cx) {
-            taken.take(Turn::Last, pause);
-            return running.give_back(kind, taken.turns);
-        }
-        taken.take(running.moved(), pause);
-    }
-    running.stop(taken.turns)
 }

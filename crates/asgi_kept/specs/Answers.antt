@@ -1,5 +1,6 @@
 -- What a kept thread hands back of a job, by what its two rings carried.
 use Rattle.std.specs.Prelude.{◌≡◌, ℕ, List, [], ◌∷◌, Option, Some, None, IsSomeAnd}
+use Rattle.asgi_io.specs.Turns.{CountsTurns, idle_in_a_row}
 use Rattle.asgi_types.specs.declared.incoming.Incoming.{Incoming}
 use Rattle.asgi_types.specs.declared.outgoing.Outgoing.{Outgoing}
 use Rattle.asgi_types.specs.declared.scope.Kind.{Kind}
@@ -8,7 +9,7 @@ use Rattle.asgi_pipes.specs.declared.ends.AppEnd.{Ghosts}
 use Rattle.asgi_pipes.specs.RingPairs.{Ring}
 use Rattle.asgi_apps.specs.declared.running.Ended.{Ended}
 use Rattle.asgi_apps.specs.Driving.{IsDriven}
-use Rattle.asgi_apps.specs.Ends.{GoesOn, MayGoOn, own_end}
+use Rattle.asgi_apps.specs.Ends.{GoesOn, IsStill, MayGoOn, TakeTurns, own_end}
 use Rattle.asgi_kept.specs.declared.job.Job.{Job}
 
 abbrev pub last_of : {A : Type 0} → List A → Option A
@@ -27,6 +28,9 @@ pub record Answered {T E P : Type 0} (answers : T → List Incoming → List Out
   pub end : IsSomeAnd job.running.lent (λ was. GoesOn ends (Some ended.kind) was.app_end ended.app_end)
   pub promise : IsSomeAnd job.running.lent (λ was. answers was.task (ends.heard ended.app_end) (ends.said ended.app_end) (own_end ended.kind))
   pub turns : IsDriven job.turns job.idle_turns (count job.pause) (count pause) ended.turns ended.kind
+  -- the turns that are counted are those that the polls were
+  pub did : CountsTurns job.turns job.idle_turns ended.did.items (count job.pause) (count pause) ended.turns (idle_in_a_row ended.did.items)
+  pub took : IsSomeAnd job.running.lent (λ was. (last : E) × TakeTurns ends ended.did.items was.app_end last × IsStill ends last ended.app_end)
 
 -- the last of these jobs was driven, and its task kept its promise
 abbrev pub HasAnswered : {T E P : Type 0} → (T → List Incoming → List Outgoing → Option EndKind → Type 0) → Ghosts E → (P → ℕ) → List (Job T E P) → Ended T E → P → Type 0

@@ -17,10 +17,10 @@ use Rattle.asgi_lifespan.specs.declared.hosted.Hosted.{Hosted}
 use Rattle.asgi_lifespan.specs.declared.lifespan.Lifespan.{Lifespan}
 use Rattle.asgi_lifespan.specs.declared.lifespan.Start.{Start}
 use Rattle.asgi_lifespan.specs.declared.lifespan.Start.TheVariants as start
-use Rattle.asgi_lifespan.specs.Facts.{no_request}
+use Rattle.asgi_lifespan.specs.Facts.{lifespan_scope, no_request}
 use Rattle.asgi_lifespan.specs.Hosting.{Follows, IsHosted, IsLeft, Promises, heard_by, offered_to, said_by}
-use Rattle.asgi_lifespan.specs.Lifespan.{start_answer}
-use Rattle.asgi_lifespan.specs.Starting.{Starts, IfStarted, IsAnswer, turns_in}
+use Rattle.asgi_lifespan.specs.Lifespan.{StartAnswer, start_answer}
+use Rattle.asgi_lifespan.specs.Starting.{Starts, IfStarted, IsAnswer, scopes_of, turns_in}
 use Rattle.asgi_lifespan.specs.Turning.{TakesTurns}
 use Rattle.asgi_lifespan.proofs.HostLemmas.{hears, keeps_promise, lawful, left_within}
 
@@ -57,6 +57,14 @@ module _ {T : Type 0} {g : Ghosts T} where
   started_then start.Unsupported P Q p f = tt
   started_then (start.Idle turns) P Q p f = tt
   started_then start.NoMemory P Q p f = tt
+
+  -- whatever is answered, the application was called with the one scope
+  pub called_once : (result : Start T g) (answer : Option StartAnswer) → IsAnswer result answer → scopes_of result ≡ lifespan_scope ∷ []
+  called_once (start.Started life state) answer is = refl
+  called_once (start.Failed message) answer is = refl
+  called_once start.Unsupported answer is = refl
+  called_once (start.Idle turns) answer is = refl
+  called_once start.NoMemory answer is = absurd is
 
   -- a call that faulted
   pub refused : (promise : List Incoming → List Outgoing → Option EndKind → Type 0) (limits : Limits) (pauses : ℕ) → promise [] [] (Some Faulted)

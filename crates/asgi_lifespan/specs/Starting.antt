@@ -7,12 +7,13 @@ use Rattle.asgi_types.specs.declared.incoming.Incoming.TheVariants.{LifespanStar
 use Rattle.asgi_types.specs.declared.limits.Limits.{Limits}
 use Rattle.asgi_types.specs.declared.outgoing.Outgoing.{Outgoing}
 use Rattle.asgi_types.specs.declared.scope.Kind.TheVariants as kind
+use Rattle.asgi_types.specs.declared.scope.Scope.{Scope}
 use Rattle.asgi_protocol.specs.Lawful.{IsLawful}
 use Rattle.asgi_apps.specs.declared.task.AppTask.{Ghosts}
 use Rattle.asgi_lifespan.specs.declared.lifespan.Lifespan.{Lifespan}
 use Rattle.asgi_lifespan.specs.declared.lifespan.Start.{Start}
 use Rattle.asgi_lifespan.specs.declared.lifespan.Start.TheVariants as start
-use Rattle.asgi_lifespan.specs.Facts.{no_request}
+use Rattle.asgi_lifespan.specs.Facts.{lifespan_scope, no_request}
 use Rattle.asgi_lifespan.specs.Hosting.{Promises, heard_by, said_by}
 use Rattle.asgi_lifespan.specs.Lifespan.{StartAnswer, started, failed, unsupported, start_answer}
 use Rattle.asgi_lifespan.specs.Turning.{TakesTurns}
@@ -40,6 +41,14 @@ module _ {T : Type 0} {g : Ghosts T} where
   IfStarted start.Unsupported P = ⊤
   IfStarted (start.Idle turns) P = ⊤
   IfStarted start.NoMemory P = ⊤
+
+  -- the scopes that the application was called with
+  abbrev pub scopes_of : Start T g → List Scope
+  scopes_of (start.Started life state) = lifespan_scope ∷ []
+  scopes_of (start.Failed message) = lifespan_scope ∷ []
+  scopes_of start.Unsupported = lifespan_scope ∷ []
+  scopes_of (start.Idle turns) = lifespan_scope ∷ []
+  scopes_of start.NoMemory = []
 
   abbrev pub IsNoMemory : Start T g → Type 0
   IsNoMemory (start.Started life state) = ⊥

@@ -1,17 +1,16 @@
 //! A lifespan task with both of its ends, turn by turn.
 ghost use Rattle.std.specs.Prelude.{◌≡◌, ◌≢◌, ◌≤◌, ◌++◌, ◌∷◌, [], List, Option, Some, None, IfSome, length};
-ghost use Rattle.futures.specs.Task.{Keeps};
-ghost use Rattle.asgi_apps.specs.Ends.{end_of, turn_of};
+ghost use Rattle.futures.specs.Task.{IsArmed, Keeps};
+ghost use Rattle.asgi_apps.specs.Ends.{IsStill, IsTurn, end_of, turn_of};
 ghost use Rattle.asgi_pipes.specs.PlainPairs.{IsPlainPair};
 ghost use Rattle.asgi_lifespan.specs.private.Ends.{AreNew, IsSameEnd};
 ghost use Rattle.asgi_types.specs.declared.end_kind.EndKind.{EndKind};
 ghost use Rattle.asgi_types.specs.declared.incoming.Incoming.{Incoming};
 ghost use Rattle.asgi_types.specs.declared.outgoing.Outgoing.{Outgoing};
 ghost use Rattle.asgi_types.specs.declared.scope.Kind.TheVariants as kind;
-ghost use Rattle.asgi_lifespan.specs.Turning.{TakesTurns};
 
-use asgi_apps::{AppFault, AppTask, Pause};
-use asgi_io::{Turn, Turns};
+use asgi_apps::{AppFault, AppTask};
+use asgi_io::{History, Turn};
 use asgi_pipes::{AppEnd, ConnEnd, EndKind, OutItem, Plain, PlainApp, PlainConn};
 use asgi_types::{Incoming, Outgoing};
 use futures::task::{Context, Poll};
@@ -20,13 +19,15 @@ use futures::task::{Context, Poll};
 #[derive(Drop)]
 pub struct Hosted<T> {
     /// The task.
-    pub task: T,
+    task: T,
     /// Its own end of the pair.
-    pub app_end: PlainApp,
+    app_end: PlainApp,
     /// The server's end of the pair.
-    pub conn: PlainConn,
+    conn: PlainConn,
     /// How the task ended; None while it runs.
-    pub ended: Option<EndKind>,
+    ended: Option<EndKind>,
+    /// What each turn did.
+    did: History<Turn>,
 }
 
 /// What a server learns of the task.
@@ -56,6 +57,7 @@ impl<T: AppTask> Hosted<T> {
             app_end,
             conn,
             ended: None,
+            did: History::new(),
         }
     }
 
@@ -79,6 +81,8 @@ impl<T: AppTask> Hosted<T> {
     fn carry(&mut self)
         requires { IsPlainPair self.old.conn self.old.app_end }
         ensures carried { IsCarried self.new }
+        ensures still { IsStill ⟦<PlainApp as AppEnd>⟧ self.old.app_end self.new.app_end }
+        ensures did { self.new.did ≡ self.old.did }
         ensures offered { offered_to self.new ≡ offered_to self.old }
         ensures got { got_of self.new ≡ got_of self.old }
         ensures left { IsLeft self.old self.new }
@@ -86,38 +90,11 @@ impl<T: AppTask> Hosted<T> {
         Plain::carry(&mut self.conn, &mut self.app_end);
     }
 
-    /// Takes turns until the task sends something or has ended, or `turns` turns or `idle_turns`
-    /// idle ones in a row were taken. Pauses after each idle turn.
-    pub fn run<P: Pause>(
-        &mut self,
-        cx: &mut Context<'_>,
-        pause: &mut P,
-        idle_turns: u32,
-        turns: u64,
-    ) -> Word
-        requires { IsHosted T.stands self.old }
-        ensures follows { Follows T.stands T.answers self.old self.new }
-        ensures tells { Tells self.old self.new (Some result) }
-        ensures turns { TakesTurns turns idle_turns (P.count pause.old) (P.count pause.new) (turns_in result) }
-        ensures kept { Keeps cx.old cx.new }
-    {
-        let mut taken = Turns::new(turns, idle_turns);
-        loop {
-            if let Some(word) = self.next() {
-                return word;
-            }
-            if taken.is_over() {
-                return Word::Idle(taken.turns);
-            }
-            let turn = self.turn(cx);
-            taken.take(turn, pause);
-        }
-    }
-
     /// The next event that the task sent, or after all of them how it ended.
-    fn next(&mut self) -> Option<Word>
+    pub fn next(&mut self) -> Option<Word>
         requires { IsHosted T.stands self.old }
         ensures hosted { IsHosted T.stands self.new }
+        ensures did { self.new.did ≡ self.old.did }
         ensures tells { Tells self.old self.new result }
         ensures turns { IfSome result (λ word. turns_in word ≡ None) }
         ensures left { IsLeft self.old self.new }
@@ -135,14 +112,18 @@ impl<T: AppTask> Hosted<T> {
     }
 
     /// Polls the task once, and carries what it sent to the other end.
-    fn turn(&mut self, cx: &mut Context<'_>) -> Turn
+    pub fn turn(&mut self, cx: &mut Context<'_>) -> Turn
         requires hosted { IsHosted T.stands self.old }
         requires runs { self.old.ended ≡ None }
+        ensures turn { IsTurn ⟦<PlainApp as AppEnd>⟧ result self.new.ended self.old.app_end self.new.app_end }
+        ensures did { self.new.did.items ≡ self.old.did.items ++ result ∷ [] }
+        ensures armed { self.new.ended ≡ None → IsArmed cx.new }
         ensures follows { Follows T.stands T.answers self.old self.new }
         ensures got { got_of self.new ≡ got_of self.old }
         ensures kept { Keeps cx.old cx.new }
     {
         let turn = self.poll(cx);
+        self.did = History::with(&self.did, &turn);
         self.carry();
         turn
     }
@@ -152,6 +133,9 @@ impl<T: AppTask> Hosted<T> {
         requires hosted { IsHosted T.stands self.old }
         requires runs { self.old.ended ≡ None }
         ensures polled { IsPolled T.stands T.answers self.old self.new }
+        ensures turn { IsTurn ⟦<PlainApp as AppEnd>⟧ result self.new.ended self.old.app_end self.new.app_end }
+        ensures did { self.new.did ≡ self.old.did }
+        ensures armed { self.new.ended ≡ None → IsArmed cx.new }
         ensures kept { Keeps cx.old cx.new }
     {
         let Poll::Ready(answer) = self.task.poll(cx, &mut self.app_end) else {

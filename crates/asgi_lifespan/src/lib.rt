@@ -5,6 +5,7 @@
 mod hosted;
 mod lifespan;
 mod stop;
+mod waiting;
 
 pub use lifespan::{Lifespan, Start};
 pub use stop::Stop;

@@ -1,6 +1,6 @@
 //! An application between its start and its stop.
-ghost use Rattle.std.specs.Prelude.{◌≡◌, ◌≢◌, ◌≤◌, ◌⊎◌, ◌∷◌, [], List, Option, Some, None, IfOk, OnErr};
-ghost use Rattle.futures.specs.Task.{Keeps};
+ghost use Rattle.std.specs.Prelude.{◌≡◌, ◌≢◌, ◌≤◌, ◌⊎◌, ℕ, ◌∷◌, ◌++◌, [], List, Option, Some, None, IfOk, OnErr};
+ghost use Rattle.futures.specs.Task.{IsArmed, Keeps};
 ghost use Rattle.asgi_lifespan.specs.Facts.{lifespan_scope, no_request};
 ghost use Rattle.asgi_lifespan.specs.Hosting.{IsStarted, IsHosted, Promises, offered_to, got_of};
 ghost use Rattle.asgi_lifespan.specs.private.Ends.{AreNew};
@@ -12,7 +12,7 @@ ghost use Rattle.asgi_types.specs.declared.end_kind.EndKind.{EndKind};
 
 use crate::hosted::{Hosted, Word};
 use crate::stop::Stop;
-use asgi_apps::{AppFault, AppTask, Application, Pause};
+use asgi_apps::{AppFault, AppTask, Application, Calls, Pause};
 use asgi_pipes::{EndKind, OutItem, Pipes, Plain, PlainApp, PlainConn};
 use asgi_types::{
     Asgi, Chars, Facts, Framing, HttpVersion, Incoming, Kind, LifespanScope, Limits, Names,
@@ -49,7 +49,7 @@ pub enum Start<T: AppTask> {
 }
 
 impl<T: AppTask> Lifespan<T> {
-    ghost use Rattle.asgi_lifespan.specs.Starting.{Starts, StandsFor, PromiseOf, IsNoMemory, IfStarted, IsAnswer, turns_in};
+    ghost use Rattle.asgi_lifespan.specs.Starting.{Starts, StandsFor, PromiseOf, IsNoMemory, IfStarted, IsAnswer, scopes_of, turns_in};
     ghost use Rattle.asgi_lifespan.specs.Stopping.{Stops};
 
     /// Starts an application: it is called, offered "Startup", and polled until it answers, within
@@ -63,12 +63,30 @@ impl<T: AppTask> Lifespan<T> {
         pause: &mut P,
     ) -> Start<T>
         ensures starts { (IsNoMemory result × (pause.new ≡ pause.old)) ⊎ Starts (A.answers app.now lifespan_scope) limits.now (P.count pause.old) (P.count pause.new) result }
+        ensures armed { (told : ℕ) → turns_in result ≡ Some told → (told ≡ 0) ⊎ IsArmed cx.new }
+        ensures kept { Keeps cx.old cx.new }
+    {
+        let mut calls = Calls::of(app);
+        Self::start_by(alloc, &mut calls, limits, cx, pause)
+    }
+
+    /// Starts an application, which is called once, but not if memory for the two ends is refused.
+    fn start_by<A: Application<Task = T>, P: Pause>(
+        alloc: Global,
+        calls: &mut Calls<'_, A>,
+        limits: &Limits,
+        cx: &mut Context<'_>,
+        pause: &mut P,
+    ) -> Start<T>
+        ensures starts { (IsNoMemory result × (pause.new ≡ pause.old)) ⊎ Starts (A.answers calls.old.app.now lifespan_scope) limits.now (P.count pause.old) (P.count pause.new) result }
+        ensures called { calls.new.scopes.items ≡ calls.old.scopes.items ++ scopes_of result }
+        ensures armed { (told : ℕ) → turns_in result ≡ Some told → (told ≡ 0) ⊎ IsArmed cx.new }
         ensures kept { Keeps cx.old cx.new }
     {
         let Ok((conn, app_end)) = ends(alloc, limits.ring) else {
             return Start::NoMemory;
         };
-        let Ok(task) = called(alloc, app) else {
+        let Ok(task) = called(alloc, calls) else {
             return Start::Unsupported;
         };
         Self::begin(alloc, limits, Hosted::new(task, conn, app_end), cx, pause)
@@ -85,6 +103,7 @@ impl<T: AppTask> Lifespan<T> {
         requires hosted { IsHosted T.stands hosted }
         requires silent { (offered_to hosted ≡ []) × (got_of hosted ≡ []) }
         ensures starts { Starts (Promises T.answers hosted) limits.now (P.count pause.old) (P.count pause.new) result }
+        ensures armed { (told : ℕ) → turns_in result ≡ Some told → (told ≡ 0) ⊎ IsArmed cx.new }
         ensures kept { Keeps cx.old cx.new }
     {
         let mut hosted = hosted;
@@ -102,6 +121,7 @@ impl<T: AppTask> Lifespan<T> {
     pub fn stop<P: Pause>(self, cx: &mut Context<'_>, pause: &mut P) -> Stop
         ensures stops { (limits : _) (heard : _) (said : _) (ended : _) → StandsFor limits self heard said ended
             → Stops (PromiseOf self) limits heard said (P.count pause.old) (P.count pause.new) result }
+        ensures armed { (told : ℕ) → stop.turns_in result ≡ Some told → (told ≡ 0) ⊎ IsArmed cx.new }
         ensures kept { Keeps cx.old cx.new }
     {
         let alloc = self.alloc;
@@ -169,13 +189,14 @@ fn ends(alloc: Global, ring: usize) -> Result<(PlainConn, PlainApp), AllocError>
 }
 
 /// Calls the application with the scope that it is started in.
-fn called<A: Application>(alloc: Global, app: &A) -> Result<A::Task, AppFault>
+fn called<A: Application>(alloc: Global, calls: &mut Calls<'_, A>) -> Result<A::Task, AppFault>
+    ensures once { calls.new.scopes.items ≡ calls.old.scopes.items ++ lifespan_scope ∷ [] }
     ensures stands { IfOk result (λ task. A.Task.stands task Kind.Lifespan [] []) }
-    ensures answers { IfOk result (λ task. (heard : List Incoming) (said : List Outgoing) (end : Option EndKind) → A.Task.answers task heard said end → A.answers app.now lifespan_scope heard said end) }
-    ensures fault { OnErr result (A.answers app.now lifespan_scope [] [] (Some EndKind.Faulted)) }
+    ensures answers { IfOk result (λ task. (heard : List Incoming) (said : List Outgoing) (end : Option EndKind) → A.Task.answers task heard said end → A.answers calls.old.app.now lifespan_scope heard said end) }
+    ensures fault { OnErr result (A.answers calls.old.app.now lifespan_scope [] [] (Some EndKind.Faulted)) }
 {
     let scope = scope(alloc);
-    app.call(alloc, &scope)
+    calls.call(alloc, &scope)
 }
 
 /// The scope that an application is started in.

@@ -2,7 +2,7 @@
 ghost use Rattle.std.specs.Prelude.{◌≡◌, None};
 ghost use Rattle.futures.specs.Poll.{OnPending};
 ghost use Rattle.futures.specs.Task.{IsArmed, Keeps};
-ghost use Rattle.asgi_apps.specs.Ends.{GoesOn};
+ghost use Rattle.asgi_apps.specs.Ends.{GoesOn, TellsMoves};
 
 use asgi_apps::{AppFault, AppTask, Application, Says};
 use asgi_io::{CountingPause, Pause};
@@ -110,6 +110,7 @@ impl ScriptedTask {
     ) -> Poll<Result<(), AppFault>>
         requires { E.ended end.old ≡ None }
         ensures end { GoesOn E.AppEnd None end.old end.new }
+        ensures moves { TellsMoves E.AppEnd end.old end.new }
         ensures armed { OnPending result (IsArmed cx.new) }
         ensures kept { Keeps cx.old cx.new }
     {
@@ -131,6 +132,7 @@ impl ScriptedTask {
     ) -> Poll<Result<(), AppFault>>
         requires { E.ended end.old ≡ None }
         ensures end { GoesOn E.AppEnd None end.old end.new }
+        ensures moves { TellsMoves E.AppEnd end.old end.new }
         ensures armed { OnPending result (IsArmed cx.new) }
         ensures kept { Keeps cx.old cx.new }
     {

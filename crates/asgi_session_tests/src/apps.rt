@@ -2,7 +2,7 @@
 ghost use Rattle.std.specs.Prelude.{◌≡◌, None};
 ghost use Rattle.futures.specs.Poll.{OnPending};
 ghost use Rattle.futures.specs.Task.{IsArmed, Keeps};
-ghost use Rattle.asgi_apps.specs.Ends.{GoesOn};
+ghost use Rattle.asgi_apps.specs.Ends.{GoesOn, TellsMoves};
 
 use asgi_apps::{AppFault, AppTask, Application};
 use asgi_pipes::{AppEnd, Sent};
@@ -237,6 +237,7 @@ impl AppTask for ScriptedTask {
 fn goes<E: AppEnd>(alloc: Global, cx: &mut Context<'_>, end: &mut E, step: Step) -> Poll<bool>
     requires { E.ended end.old ≡ None }
     ensures end { GoesOn E.AppEnd None end.old end.new }
+    ensures moves { TellsMoves E.AppEnd end.old end.new }
     ensures armed { OnPending result (IsArmed cx.new) }
     ensures kept { Keeps cx.old cx.new }
 {
@@ -252,6 +253,7 @@ fn goes<E: AppEnd>(alloc: Global, cx: &mut Context<'_>, end: &mut E, step: Step)
 fn hears<E: AppEnd>(cx: &mut Context<'_>, end: &mut E, wanted: Heard) -> Poll<bool>
     requires { E.ended end.old ≡ None }
     ensures end { GoesOn E.AppEnd None end.old end.new }
+    ensures moves { TellsMoves E.AppEnd end.old end.new }
     ensures armed { OnPending result (IsArmed cx.new) }
     ensures kept { Keeps cx.old cx.new }
 {
@@ -265,6 +267,7 @@ fn hears<E: AppEnd>(cx: &mut Context<'_>, end: &mut E, wanted: Heard) -> Poll<bo
 fn says<E: AppEnd>(alloc: Global, cx: &mut Context<'_>, end: &mut E, said: Said) -> Poll<bool>
     requires { E.ended end.old ≡ None }
     ensures end { GoesOn E.AppEnd None end.old end.new }
+    ensures moves { TellsMoves E.AppEnd end.old end.new }
     ensures armed { OnPending result (IsArmed cx.new) }
     ensures kept { Keeps cx.old cx.new }
 {
@@ -289,6 +292,7 @@ fn is_refused<E: AppEnd>(
 ) -> Poll<bool>
     requires { E.ended end.old ≡ None }
     ensures end { GoesOn E.AppEnd None end.old end.new }
+    ensures moves { TellsMoves E.AppEnd end.old end.new }
     ensures armed { OnPending result (IsArmed cx.new) }
     ensures kept { Keeps cx.old cx.new }
 {
@@ -368,6 +372,7 @@ impl ListeningTask {
     ) -> Poll<Result<(), AppFault>>
         requires { E.ended end.old ≡ None }
         ensures end { GoesOn E.AppEnd None end.old end.new }
+        ensures moves { TellsMoves E.AppEnd end.old end.new }
         ensures armed { OnPending result (IsArmed cx.new) }
         ensures kept { Keeps cx.old cx.new }
     {
@@ -391,6 +396,7 @@ impl ListeningTask {
     ) -> Poll<Result<(), AppFault>>
         requires { E.ended end.old ≡ None }
         ensures end { GoesOn E.AppEnd None end.old end.new }
+        ensures moves { TellsMoves E.AppEnd end.old end.new }
         ensures armed { OnPending result (IsArmed cx.new) }
         ensures kept { Keeps cx.old cx.new }
     {

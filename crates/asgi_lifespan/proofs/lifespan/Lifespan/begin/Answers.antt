@@ -21,8 +21,11 @@ offer-requires-clause-hosted g c = c.requires.hosted
 pub offer-requires-clause-first : goal.offer-requires-clause-first
 offer-requires-clause-first g c = subst (λ (l : List Incoming). length l ≤ 1) (sym c.requires.silent.0) (omega arith)
 
-pub run-requires : goal.run-requires
-run-requires g c = c.offer.ensures.hosted
+pub run-requires-clause-hosted : goal.run-requires-clause-hosted
+run-requires-clause-hosted g c = c.offer.ensures.hosted
+
+pub run-requires-clause-awaits : goal.run-requires-clause-awaits
+run-requires-clause-awaits g c = rw (c.offer.ensures.offered, c.offer.ensures.got, c.requires.silent.0, c.requires.silent.1) refl
 
 pub answered-requires-clause-hosted : goal.answered-requires-clause-hosted
 answered-requires-clause-hosted g c = c.run.ensures.follows.hosted

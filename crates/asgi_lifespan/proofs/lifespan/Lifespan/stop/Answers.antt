@@ -20,8 +20,12 @@ offer-requires-clause-hosted g c = c.into_hosted-hosted.ensures.started.hosts
 pub offer-requires-clause-first : goal.offer-requires-clause-first
 offer-requires-clause-first g c = subst (λ (l : List Incoming). length l ≤ 1) (sym c.into_hosted-hosted.ensures.started.offered) (omega arith)
 
-pub run-requires : goal.run-requires
-run-requires g c = c.offer.ensures.hosted
+pub run-requires-clause-hosted : goal.run-requires-clause-hosted
+run-requires-clause-hosted g c = c.offer.ensures.hosted
+
+pub run-requires-clause-awaits : goal.run-requires-clause-awaits
+run-requires-clause-awaits g c =
+    rw (c.offer.ensures.offered, c.offer.ensures.got, c.into_hosted-hosted.ensures.started.offered, c.into_hosted-hosted.ensures.started.got) refl
 
 pub answer_of-requires : goal.answer_of-requires
 answer_of-requires g c =

@@ -1,9 +1,9 @@
-use Rattle.std.proofs.Common.{◌≡◌, ◌-◌, List}
-use Rattle.futures.specs.Task.{Keeps}
+use Rattle.std.proofs.Common.{◌≡◌, ◌-◌, ◌++◌, ◌⊎◌, List, None}
+use Rattle.futures.specs.Task.{IsArmed, Keeps}
 use Rattle.asgi_io.specs.declared.turns.Turn.{Turn}
 use Rattle.asgi_io.specs.Turns.{CountsTurns}
 use Rattle.asgi_lifespan.specs.Hosting.{Follows, got_of}
-use Rattle.asgi_lifespan.proofs.hosted.Hosted.run.Given as goal
+use Rattle.asgi_lifespan.proofs.waiting.Hosted.run.Given as goal
 
 abbrev pub invariant-loop-word : goal.invariant-loop-word
 invariant-loop-word g l = record {
@@ -12,7 +12,9 @@ invariant-loop-word g l = record {
   turn_limit : l.taken.turn_limit ≡ l.turns;
   idle_limit : l.taken.idle_limit ≡ l.idle_turns;
   turned : List Turn;
+  did : l.self.did.items ≡ l.fn.self.did.items ++ turned;
   counts : CountsTurns l.turns l.idle_turns turned (g.P.Pause.count l.fn.pause) (g.P.Pause.count l.pause) l.taken.turns l.taken.idle;
+  armed : l.self.ended ≡ None → (l.taken.turns ≡ 0) ⊎ IsArmed l.cx;
   kept : Keeps l.fn.cx l.cx;
 }
 

@@ -1,18 +1,23 @@
-use Rattle.std.proofs.Common.{[], ◌∷◌, ◌++◌, Option, Some, inl, inr, refl, ◌∙◌, subst}
+use Rattle.std.proofs.Common.{[], ◌∷◌, ◌++◌, Option, Some, sym, append_assoc, inl, inr, List, ◌≡◌, refl, ap, ◌∙◌, subst}
+use Rattle.std.proofs.lemmas.List.{append-nil}
 use Rattle.asgi_lifespan.specs.declared.hosted.Word.{Word}
 use Rattle.asgi_lifespan.specs.Hosting.{Tells}
+use Rattle.asgi_io.specs.declared.turns.Turn.{Turn}
+use Rattle.asgi_io.specs.declared.history.History.{History}
 use Rattle.asgi_apps.proofs.PauseLemmas.{counts_more, paused_for_each}
 use Rattle.asgi_lifespan.proofs.HostLemmas.{follows_nothing, follows_then, follows_left, tells_further, tells_idle, told_none}
-use Rattle.asgi_lifespan.proofs.hosted.Hosted.run.Goals as goal
+use Rattle.asgi_lifespan.proofs.waiting.Hosted.run.Goals as goal
 
 pub loop-word-init : goal.loop-word-init
 loop-word-init g c = record {
-  follows = follows_nothing g.T.AppTask.stands g.T.AppTask.answers c.args.self.now c.requires;
+  follows = follows_nothing g.T.AppTask.stands g.T.AppTask.answers c.args.self.now c.requires.hosted;
   got = refl;
   turn_limit = c.new-taken.ensures.turn_limit;
   idle_limit = c.new-taken.ensures.idle_limit;
   turned = [];
+  did = sym (append-nil _);
   counts = c.new-taken.ensures.none (g.P.Pause.count c.args.pause.now);
+  armed = λ runs. inl (c.new-taken.ensures.none 0).turns_is;
   kept = λ fact h. h;
 }
 
@@ -37,6 +42,9 @@ returns-in-Some-clause-turns g c = record {
   counts = c.loop-word.invariant.counts;
   at_limit = λ told is. absurd (told_none _ told c.in-Some.ensures.turns is);
 }
+
+pub returns-in-Some-clause-did : goal.returns-in-Some-clause-did
+returns-in-Some-clause-did g c = (returns-in-Some-clause-turns g c, ap (λ (h : History Turn). h.items) c.next.ensures.did ∙ c.loop-word.invariant.did)
 
 pub returns-then-is_over-clause-follows : goal.returns-then-is_over-clause-follows
 returns-then-is_over-clause-follows g c =
@@ -63,6 +71,17 @@ returns-then-is_over-clause-turns g c = record {
   );
 }
 
+pub returns-then-is_over-clause-did : goal.returns-then-is_over-clause-did
+returns-then-is_over-clause-did g c = (returns-then-is_over-clause-turns g c, ap (λ (h : History Turn). h.items) c.next.ensures.did ∙ c.loop-word.invariant.did)
+
+pub returns-then-is_over-clause-armed : goal.returns-then-is_over-clause-armed
+returns-then-is_over-clause-armed g c told is =
+    let none = subst (λ (w : Option Word). Tells c.loop-word.self c.next.new.self w) c.in_default.is c.next.ensures.tells in
+    elim (c.loop-word.invariant.armed (sym c.next.ensures.left.ended ∙ none.2)) [
+      | inl zero ↦ inl (cc)
+      | inr armed ↦ inr armed
+    ]
+
 pub loop-word-preserved : goal.loop-word-preserved
 loop-word-preserved g c =
     let stands = g.T.AppTask.stands in
@@ -79,6 +98,8 @@ loop-word-preserved g c =
       turn_limit = c.take.ensures.turn_limit ∙ inv.turn_limit;
       idle_limit = c.take.ensures.idle_limit ∙ inv.idle_limit;
       turned = inv.turned ++ c.turn-turn.result ∷ [];
+      did = c.turn-turn.ensures.did ∙ ap (λ (l : List Turn). l ++ c.turn-turn.result ∷ []) (ap (λ (h : History Turn). h.items) c.next.ensures.did ∙ inv.did) ∙ append_assoc c.args.self.now.did.items inv.turned (c.turn-turn.result ∷ []);
+      armed = λ runs. inr (c.turn-turn.ensures.armed runs);
       counts = counts_more c.args.turns c.args.idle_turns _ _ _ _ _ _ _ _ _ inv.turned c.turn-turn.result inv.turn_limit inv.idle_limit inv.counts c.take.ensures.counts;
       kept = λ fact h. c.turn-turn.ensures.kept fact (inv.kept fact h);
     }
