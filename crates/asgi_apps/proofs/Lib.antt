@@ -4,7 +4,6 @@ pub mod EchoSteps
 pub mod EndLemmas
 pub mod LifeLemmas
 pub mod MountLemmas
-pub mod MoveLemmas
 pub mod PauseLemmas
 pub mod SayLemmas
 pub mod TurnLemmas

@@ -1,5 +1,5 @@
 -- What a poll does to the end that a task borrows, and how a task ends.
-use Rattle.std.specs.Prelude.{◌≡◌, ℕ, ◌+◌, ◌<◌, ◌⊎◌, ◌↔◌, Bool, true, false, List, [], ◌∷◌, length, Option, Some, None, IsSome, Result, Ok, Err}
+use Rattle.std.specs.Prelude.{◌≡◌, Bool, true, false, List, [], ◌∷◌, Option, Some, None, Result, Ok, Err}
 use mathlib.Core.List.{IsPrefix}
 use Rattle.futures.specs.declared.task.Poll.{Poll}
 use Rattle.futures.specs.declared.task.Poll.TheVariants.{Ready, Pending}
@@ -26,18 +26,9 @@ pub record GoesOn {E : Type 0} (ends : Ghosts E) (ended : Option EndKind) (old n
   pub arrivals : ends.arrivals new ≡ ends.arrivals old
   pub vacancies : ends.vacancies new ≡ ends.vacancies old
 
--- how many items went through the queues of an end: the events that came, and those that were sent
-abbrev pub items_through : {E : Type 0} → Ghosts E → E → ℕ
-items_through ends end = length (ends.pulled end) + length (ends.said end)
-
--- nothing went through its queues
+-- nothing was received or sent, and nothing came through the queue
 abbrev pub IsStill : {E : Type 0} → Ghosts E → E → E → Type 0
-IsStill ends old new = (ends.pulled new ≡ ends.pulled old) × (ends.said new ≡ ends.said old)
-
--- An application's end tells of itself whether an item went through its queues: `moved` of the end was not called in between.
-pub record TellsMoves {E : Type 0} (ends : Ghosts E) (old new : E) : Type 0 where
-  pub still : ends.has_moved new ≡ false → (ends.has_moved old ≡ false) × IsStill ends old new
-  pub moved : ends.has_moved old ≡ false → ends.has_moved new ≡ true → items_through ends old < items_through ends new
+IsStill ends old new = (ends.heard new ≡ ends.heard old) × (ends.pulled new ≡ ends.pulled old) × (ends.said new ≡ ends.said old)
 
 -- The task may be polled with this end: `finish` was not called, and the task stands for what was received and sent.
 pub record MayGoOn {T E : Type 0} (stands : T → Kind → List Incoming → List Outgoing → Type 0) (ends : Ghosts E) (task : T) (app_end : E) : Type 0 where
@@ -60,17 +51,25 @@ own_end Idle = None
 abbrev pub IsWithin : {T : Type 0} → (T → List Incoming → List Outgoing → Option EndKind → Type 0) → T → T → Type 0
 IsWithin answers now before = (heard : List Incoming) (said : List Outgoing) (ended : Option EndKind) → answers now heard said ended → answers before heard said ended
 
--- a poll is a turn, which is idle if no item went through a queue
+-- a poll is a turn, which is idle if the end did not move
 abbrev pub turn_of : Bool → Turn
 turn_of true = turn.Moved
 turn_of false = turn.Idle
 
--- What a turn of a task is, a poll: it is idle exactly if nothing went through the queues of its end. One that moved something sent or took an
--- item, or found that something had moved before it. At the last one, and at no other, the task ended.
+-- the turn at which the task ended is the last one
+abbrev pub turn_after : Option EndKind → Bool → Turn
+turn_after None moved = turn_of moved
+turn_after (Some kind) moved = turn.Last
+
+-- What a turn of a task is: a poll, and then the end was put, if the task ended so, or asked whether it moved.
 pub record IsTurn {E : Type 0} (ends : Ghosts E) (is : Turn) (ended : Option EndKind) (old new : E) : Type 0 where
-  pub idle : is ≡ turn.Idle → IsStill ends old new
-  pub moved : is ≡ turn.Moved → (ends.has_moved old ≡ true) ⊎ (items_through ends old < items_through ends new)
-  pub last : is ≡ turn.Last ↔ IsSome ended
+  -- the end as the poll left it
+  pub polled : E
+  pub poll : GoesOn ends None old polled
+  -- it was idle exactly if the end did not move, and the last exactly if the task ended
+  pub is_turn : is ≡ turn_after ended (ends.has_moved polled)
+  pub still : IsStill ends polled new
+  pub asked : ended ≡ None → ends.has_moved new ≡ false
 
 -- these turns were taken, each from the end that the one before it left
 abbrev pub TakeTurns : {E : Type 0} → Ghosts E → List Turn → E → E → Type 0

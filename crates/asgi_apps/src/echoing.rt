@@ -6,7 +6,7 @@ ghost use Rattle.futures.specs.Task.{IsArmed, Keeps};
 ghost use Rattle.asgi_protocol.specs.Verdicts.{verdict_on};
 ghost use Rattle.asgi_protocol.specs.declared.verdict.Verdict.{Verdict};
 ghost use Rattle.asgi_pipes.specs.Disconnects.{has_disconnect};
-ghost use Rattle.asgi_apps.specs.Ends.{GoesOn, TellsMoves};
+ghost use Rattle.asgi_apps.specs.Ends.{GoesOn};
 
 use asgi_pipes::{AppEnd, Sent};
 use asgi_types::{Incoming, Outgoing};
@@ -19,7 +19,6 @@ pub fn say<E: AppEnd>(cx: &mut Context<'_>, end: &mut E, event: Outgoing) -> Opt
     ensures said { E.said end.new ++ option_to_list result ≡ E.said end.old ++ event ∷ [] }
     ensures heard { E.heard end.new ≡ E.heard end.old }
     ensures end { GoesOn E.AppEnd None end.old end.new }
-    ensures moves { TellsMoves E.AppEnd end.old end.new }
     ensures armed { IsArmed cx.new }
     ensures kept { Keeps cx.old cx.new }
 {
@@ -41,7 +40,6 @@ pub fn receive<E: AppEnd>(cx: &mut Context<'_>, end: &mut E) -> Poll<Incoming>
     ensures pending { OnPending result ((E.heard end.new ≡ E.heard end.old) × IsArmed cx.new) }
     ensures said { E.said end.new ≡ E.said end.old }
     ensures end { GoesOn E.AppEnd None end.old end.new }
-    ensures moves { TellsMoves E.AppEnd end.old end.new }
     ensures kept { Keeps cx.old cx.new }
 {
     end.poll_receive(cx)

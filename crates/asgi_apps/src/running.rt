@@ -1,12 +1,13 @@
 //! A task with the end that it borrows: as a future, and driven by hand.
-ghost use Rattle.std.specs.Prelude.{◌≡◌, ◌≢◌, ◌++◌, ◌∷◌, [], ℕ, ◌+◌, List, Option, Some, None, IsSome, IsSomeAnd};
+ghost use Rattle.std.specs.Prelude.{◌≡◌, ◌≢◌, ◌++◌, ◌∷◌, [], ◌+◌, false, List, Option, Some, None, IsSome, IsSomeAnd};
 ghost use Rattle.futures.specs.Poll.{IfReady, OnPending};
 ghost use Rattle.futures.specs.Task.{IsArmed, Keeps};
 ghost use Rattle.asgi_io.specs.Counting.{counted};
+ghost use Rattle.asgi_io.specs.declared.turns.Turn.{Turn};
 ghost use Rattle.asgi_types.specs.declared.incoming.Incoming.{Incoming};
 ghost use Rattle.asgi_types.specs.declared.outgoing.Outgoing.{Outgoing};
 ghost use Rattle.asgi_types.specs.declared.end_kind.EndKind.{EndKind};
-ghost use Rattle.asgi_apps.specs.Ends.{GoesOn, IsStill, IsTurn, IsWithin, MayGoOn, TellsMoves, end_of, own_end, turn_of};
+ghost use Rattle.asgi_apps.specs.Ends.{GoesOn, IsStill, IsTurn, IsWithin, MayGoOn, end_of, own_end, turn_of};
 ghost use Rattle.asgi_apps.specs.private.Driven.{IfEnds, IfRuns, RunsOn, turn_in};
 
 use crate::task::{AppFault, AppTask};
@@ -70,10 +71,10 @@ impl<T: AppTask, E: AppEnd> Lent<T, E> {
     fn turn(&mut self, cx: &mut Context<'_>) -> Poll<EndKind>
         requires { MayGoOn T.stands E.AppEnd self.old.task self.old.app_end }
         ensures ready { IfReady result (λ kind. GoesOn E.AppEnd (Some kind) self.old.app_end self.new.app_end) }
+        ensures turn { IfReady result (λ kind. IsTurn E.AppEnd Turn.Last (Some kind) self.old.app_end self.new.app_end) }
         ensures answers { IfReady result (λ kind. T.answers self.old.task (E.heard self.new.app_end) (E.said self.new.app_end) (own_end kind)) }
         ensures not_idle { IfReady result (λ kind. kind ≢ EndKind.Idle) }
         ensures pending { OnPending result (GoesOn E.AppEnd None self.old.app_end self.new.app_end) }
-        ensures moves { OnPending result (TellsMoves E.AppEnd self.old.app_end self.new.app_end) }
         ensures same { OnPending result (IsWithin T.answers self.new.task self.old.task) }
         ensures again { OnPending result (MayGoOn T.stands E.AppEnd self.new.task self.new.app_end) }
         ensures armed { OnPending result (IsArmed cx.new) }
@@ -93,6 +94,7 @@ impl<T: AppTask, E: AppEnd> Lent<T, E> {
         ensures turn { result ≡ turn_of (E.has_moved self.old.app_end) }
         ensures same { (self.new.task ≡ self.old.task) × GoesOn E.AppEnd None self.old.app_end self.new.app_end }
         ensures lists { IsStill E.AppEnd self.old.app_end self.new.app_end }
+        ensures asked { E.has_moved self.new.app_end ≡ false }
         ensures again { MayGoOn T.stands E.AppEnd self.new.task self.new.app_end }
     {
         if self.app_end.moved() {
@@ -124,7 +126,6 @@ impl<T: AppTask, E: AppEnd> Running<T, E> {
         ensures answers { IfReady result (λ kind. IsSomeAnd self.old.lent (λ was. IsSomeAnd self.new.lent (λ is. T.answers was.task (E.heard is.app_end) (E.said is.app_end) (own_end kind)))) }
         ensures not_idle { IfReady result (λ kind. kind ≢ EndKind.Idle) }
         ensures pending { OnPending result (IsSomeAnd self.old.lent (λ was. IsSomeAnd self.new.lent (λ is. GoesOn E.AppEnd None was.app_end is.app_end))) }
-        ensures moves { OnPending result (IsSomeAnd self.old.lent (λ was. IsSomeAnd self.new.lent (λ is. TellsMoves E.AppEnd was.app_end is.app_end))) }
         ensures same { OnPending result (IsSomeAnd self.old.lent (λ was. IsSomeAnd self.new.lent (λ is. IsWithin T.answers is.task was.task))) }
         ensures again { OnPending result (IsSomeAnd self.new.lent (λ is. MayGoOn T.stands E.AppEnd is.task is.app_end)) }
         ensures turns { self.new.turns ≡ counted (self.old.turns + 1) }
@@ -143,7 +144,6 @@ impl<T: AppTask, E: AppEnd> Running<T, E> {
         requires { IsSomeAnd self.old.lent (λ was. MayGoOn T.stands E.AppEnd was.task was.app_end) }
         ensures turn { IsSomeAnd self.old.lent (λ was. result ≡ turn_of (E.has_moved was.app_end)) }
         ensures same { IsSomeAnd self.old.lent (λ was. IsSomeAnd self.new.lent (λ is. (is.task ≡ was.task) × GoesOn E.AppEnd None was.app_end is.app_end)) }
-        ensures lists { IsSomeAnd self.old.lent (λ was. IsSomeAnd self.new.lent (λ is. IsStill E.AppEnd was.app_end is.app_end)) }
         ensures again { IsSomeAnd self.new.lent (λ is. MayGoOn T.stands E.AppEnd is.task is.app_end) }
         ensures turns { self.new.turns ≡ self.old.turns }
     {
@@ -243,7 +243,6 @@ impl<T: AppTask, E: AppEnd> Driven<T, E> {
     pub fn stop(self, turns: u64) -> Ended<T, E>
         requires { E.ended self.lent.app_end ≡ None }
         ensures end { GoesOn E.AppEnd (Some EndKind.Idle) self.lent.app_end result.app_end }
-        ensures heard { E.heard result.app_end ≡ E.heard self.lent.app_end }
         ensures still { IsStill E.AppEnd self.lent.app_end result.app_end }
         ensures same { (result.task ≡ self.lent.task) × (result.did ≡ self.did) }
         ensures kind { (result.kind ≡ EndKind.Idle) × (result.turns ≡ turns) }
@@ -269,7 +268,6 @@ fn kind_of(answer: Result<(), AppFault>) -> EndKind
 fn finish<E: AppEnd>(end: &mut E, kind: EndKind)
     requires { E.ended end.old ≡ None }
     ensures end { GoesOn E.AppEnd (Some kind) end.old end.new }
-    ensures heard { E.heard end.new ≡ E.heard end.old }
     ensures still { IsStill E.AppEnd end.old end.new }
 {
     let _first = end.finish(kind);

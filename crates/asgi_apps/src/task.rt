@@ -9,7 +9,7 @@ ghost use Rattle.asgi_types.specs.declared.scope.Kind.{Kind};
 ghost use Rattle.asgi_types.specs.declared.scope.Scope.{Scope};
 ghost use Rattle.asgi_types.specs.declared.end_kind.EndKind.{EndKind};
 ghost use Rattle.asgi_types.specs.declared.end_kind.EndKind.TheVariants.{Faulted};
-ghost use Rattle.asgi_apps.specs.Ends.{GoesOn, IsWithin, TellsMoves, end_of};
+ghost use Rattle.asgi_apps.specs.Ends.{GoesOn, IsWithin, end_of};
 ghost use Rattle.asgi_apps.specs.Scopes.{kind_of};
 ghost use Rattle.asgi_apps.specs.Promises.{Promise};
 
@@ -33,7 +33,7 @@ pub enum AppFault {
 /// What an application does in one scope.
 ///
 /// A poll does what it can at once. If it must wait, it is pending and has registered with the
-/// end's source, or has asked for another poll. Only what runs the task calls `finish` and `moved`.
+/// end's source, or has asked for another poll. Only what runs the task calls `finish`.
 pub trait AppTask: Drop {
     // The task may be polled in a scope of this kind in which this was received and sent so far.
     ghost stands: { Self → Kind → List Incoming → List Outgoing → Type 0 } = { λ _ _ _ _. ⊤ };
@@ -47,7 +47,6 @@ pub trait AppTask: Drop {
         requires open { E.ended end.old ≡ None }
         requires stands { stands self.old (E.kind end.old) (E.heard end.old) (E.said end.old) }
         ensures end { GoesOn E.AppEnd None end.old end.new }
-        ensures moves { TellsMoves E.AppEnd end.old end.new }
         ensures answers { answers self.old (E.heard end.new) (E.said end.new) (end_of result) }
         ensures stands { OnPending result (stands self.new (E.kind end.new) (E.heard end.new) (E.said end.new)) }
         // The promise of the task as it is now is within the one before.

@@ -1,7 +1,7 @@
 //! A task that needs the connection to go on while it is polled.
 ghost use Rattle.std.specs.Prelude.{◌≡◌, None};
 ghost use Rattle.futures.specs.Task.{Keeps};
-ghost use Rattle.asgi_apps.specs.Ends.{GoesOn, TellsMoves};
+ghost use Rattle.asgi_apps.specs.Ends.{GoesOn};
 
 use crate::serving::is_answered;
 use asgi_apps::{AppFault, AppTask, Application};
@@ -65,7 +65,6 @@ fn is_last(event: &Incoming) -> bool {
 fn ask<R: Clock, E: AppEnd>(clock: &R, cx: &mut Context<'_>, end: &mut E) -> bool
     requires { E.ended end.old ≡ None }
     ensures end { GoesOn E.AppEnd None end.old end.new }
-    ensures moves { TellsMoves E.AppEnd end.old end.new }
     ensures kept { Keeps cx.old cx.new }
 {
     match end.poll_receive(cx) {
@@ -81,7 +80,6 @@ fn ask<R: Clock, E: AppEnd>(clock: &R, cx: &mut Context<'_>, end: &mut E) -> boo
 fn hears_all<R: Clock, E: AppEnd>(asks: &Asks<R>, cx: &mut Context<'_>, end: &mut E) -> bool
     requires { E.ended end.old ≡ None }
     ensures end { GoesOn E.AppEnd None end.old end.new }
-    ensures moves { TellsMoves E.AppEnd end.old end.new }
     ensures kept { Keeps cx.old cx.new }
 {
     for _try in 0..asks.tries {

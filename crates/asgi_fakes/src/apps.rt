@@ -2,7 +2,7 @@
 ghost use Rattle.std.specs.Prelude.{◌≡◌, None};
 ghost use Rattle.futures.specs.Poll.{OnPending};
 ghost use Rattle.futures.specs.Task.{IsArmed, Keeps};
-ghost use Rattle.asgi_apps.specs.Ends.{GoesOn, TellsMoves};
+ghost use Rattle.asgi_apps.specs.Ends.{GoesOn};
 
 use asgi_apps::{AppFault, AppTask, Application, Says};
 use asgi_pipes::{AppEnd, Sent};
@@ -148,7 +148,6 @@ impl AppTask for ScriptedTask {
 fn goes<E: AppEnd>(alloc: Global, cx: &mut Context<'_>, end: &mut E, step: Step) -> Poll<bool>
     requires { E.ended end.old ≡ None }
     ensures end { GoesOn E.AppEnd None end.old end.new }
-    ensures moves { TellsMoves E.AppEnd end.old end.new }
     ensures armed { OnPending result (IsArmed cx.new) }
     ensures kept { Keeps cx.old cx.new }
 {
@@ -163,7 +162,6 @@ fn goes<E: AppEnd>(alloc: Global, cx: &mut Context<'_>, end: &mut E, step: Step)
 fn hears<E: AppEnd>(cx: &mut Context<'_>, end: &mut E, wanted: Heard) -> Poll<bool>
     requires { E.ended end.old ≡ None }
     ensures end { GoesOn E.AppEnd None end.old end.new }
-    ensures moves { TellsMoves E.AppEnd end.old end.new }
     ensures armed { OnPending result (IsArmed cx.new) }
     ensures kept { Keeps cx.old cx.new }
 {
@@ -177,7 +175,6 @@ fn hears<E: AppEnd>(cx: &mut Context<'_>, end: &mut E, wanted: Heard) -> Poll<bo
 fn says<E: AppEnd>(alloc: Global, cx: &mut Context<'_>, end: &mut E, said: Said) -> Poll<bool>
     requires { E.ended end.old ≡ None }
     ensures end { GoesOn E.AppEnd None end.old end.new }
-    ensures moves { TellsMoves E.AppEnd end.old end.new }
     ensures armed { OnPending result (IsArmed cx.new) }
     ensures kept { Keeps cx.old cx.new }
 {

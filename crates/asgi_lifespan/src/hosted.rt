@@ -1,5 +1,5 @@
 //! A lifespan task with both of its ends, turn by turn.
-ghost use Rattle.std.specs.Prelude.{◌≡◌, ◌≢◌, ◌≤◌, ◌++◌, ◌∷◌, [], List, Option, Some, None, IfSome, length};
+ghost use Rattle.std.specs.Prelude.{◌≡◌, ◌≢◌, ◌≤◌, ◌++◌, ◌∷◌, [], false, List, Option, Some, None, IfSome, length};
 ghost use Rattle.futures.specs.Task.{IsArmed, Keeps};
 ghost use Rattle.asgi_apps.specs.Ends.{IsStill, IsTurn, end_of, turn_of};
 ghost use Rattle.asgi_pipes.specs.PlainPairs.{IsPlainPair};
@@ -42,6 +42,7 @@ pub enum Word {
 }
 
 impl<T: AppTask> Hosted<T> {
+    ghost use Rattle.asgi_lifespan.specs.Turning.{HasTurned};
     ghost use Rattle.asgi_lifespan.specs.Hosting.{Follows, IsCarried, IsHosted, IsLeft, IsPolled, Promises, Tells, got_of, offered_to, turns_in};
 
     /// A task that has received and sent nothing yet, with the ends of a new pair.
@@ -82,6 +83,7 @@ impl<T: AppTask> Hosted<T> {
         requires { IsPlainPair self.old.conn self.old.app_end }
         ensures carried { IsCarried self.new }
         ensures still { IsStill ⟦<PlainApp as AppEnd>⟧ self.old.app_end self.new.app_end }
+        ensures asked { ⟦<PlainApp as AppEnd>⟧.has_moved self.new.app_end ≡ ⟦<PlainApp as AppEnd>⟧.has_moved self.old.app_end }
         ensures did { self.new.did ≡ self.old.did }
         ensures offered { offered_to self.new ≡ offered_to self.old }
         ensures got { got_of self.new ≡ got_of self.old }
@@ -94,7 +96,7 @@ impl<T: AppTask> Hosted<T> {
     pub fn next(&mut self) -> Option<Word>
         requires { IsHosted T.stands self.old }
         ensures hosted { IsHosted T.stands self.new }
-        ensures did { self.new.did ≡ self.old.did }
+        ensures turned { HasTurned [] self.old self.new }
         ensures tells { Tells self.old self.new result }
         ensures turns { IfSome result (λ word. turns_in word ≡ None) }
         ensures left { IsLeft self.old self.new }
@@ -150,6 +152,7 @@ impl<T: AppTask> Hosted<T> {
 fn moved(app_end: &mut PlainApp) -> Turn
     ensures turn { result ≡ turn_of (⟦<PlainApp as AppEnd>⟧.has_moved app_end.old) }
     ensures lists { IsSameEnd app_end.old app_end.new }
+    ensures asked { ⟦<PlainApp as AppEnd>⟧.has_moved app_end.new ≡ false }
 {
     if app_end.moved() {
         return Turn::Moved;

@@ -1,8 +1,8 @@
 //! Turns of a lifespan task, until it replies.
-ghost use Rattle.std.specs.Prelude.{◌≡◌, ◌⊎◌, ◌++◌, ◌+◌, ℕ, Some, length};
+ghost use Rattle.std.specs.Prelude.{◌≡◌, ◌⊎◌, ◌+◌, ℕ, Some, length};
 ghost use Rattle.futures.specs.Task.{IsArmed, Keeps};
 ghost use Rattle.asgi_lifespan.specs.Hosting.{Follows, IsHosted, Tells, got_of, offered_to, turns_in};
-ghost use Rattle.asgi_lifespan.specs.Turning.{TakesTurns};
+ghost use Rattle.asgi_lifespan.specs.Turning.{HasTurned, TakesTurns};
 
 use crate::hosted::{Hosted, Word};
 use asgi_apps::{AppTask, Pause};
@@ -23,8 +23,7 @@ impl<T: AppTask> Hosted<T> {
         requires awaits { length (offered_to self.old) ≡ length (got_of self.old) + 1 }
         ensures follows { Follows T.stands T.answers self.old self.new }
         ensures tells { Tells self.old self.new (Some result) }
-        ensures turns { TakesTurns turns idle_turns (P.count pause.old) (P.count pause.new) (turns_in result) }
-        ensures did { (took : TakesTurns turns idle_turns (P.count pause.old) (P.count pause.new) (turns_in result)) × (self.new.did.items ≡ self.old.did.items ++ took.turned) }
+        ensures turns { (took : TakesTurns turns idle_turns (P.count pause.old) (P.count pause.new) (turns_in result)) × HasTurned took.turned self.old self.new }
         ensures armed { (told : ℕ) → turns_in result ≡ Some told → (told ≡ 0) ⊎ IsArmed cx.new }
         ensures kept { Keeps cx.old cx.new }
     {

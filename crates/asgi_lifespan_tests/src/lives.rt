@@ -2,7 +2,7 @@
 ghost use Rattle.std.specs.Prelude.{◌≡◌, None};
 ghost use Rattle.futures.specs.Poll.{OnPending};
 ghost use Rattle.futures.specs.Task.{IsArmed, Keeps};
-ghost use Rattle.asgi_apps.specs.Ends.{GoesOn, TellsMoves};
+ghost use Rattle.asgi_apps.specs.Ends.{GoesOn};
 
 use asgi_apps::{AppFault, AppTask, Application, Says};
 use asgi_io::{CountingPause, Pause};
@@ -110,7 +110,6 @@ impl ScriptedTask {
     ) -> Poll<Result<(), AppFault>>
         requires { E.ended end.old ≡ None }
         ensures end { GoesOn E.AppEnd None end.old end.new }
-        ensures moves { TellsMoves E.AppEnd end.old end.new }
         ensures armed { OnPending result (IsArmed cx.new) }
         ensures kept { Keeps cx.old cx.new }
     {
@@ -132,7 +131,6 @@ impl ScriptedTask {
     ) -> Poll<Result<(), AppFault>>
         requires { E.ended end.old ≡ None }
         ensures end { GoesOn E.AppEnd None end.old end.new }
-        ensures moves { TellsMoves E.AppEnd end.old end.new }
         ensures armed { OnPending result (IsArmed cx.new) }
         ensures kept { Keeps cx.old cx.new }
     {

@@ -2,7 +2,7 @@
 ghost use Rattle.std.specs.Prelude.{◌≡◌, None};
 ghost use Rattle.futures.specs.Poll.{OnPending};
 ghost use Rattle.futures.specs.Task.{IsArmed, Keeps};
-ghost use Rattle.asgi_apps.specs.Ends.{GoesOn, TellsMoves};
+ghost use Rattle.asgi_apps.specs.Ends.{GoesOn};
 
 use asgi_apps::{AppFault, AppTask, Application};
 use asgi_pipes::{AppEnd, Sent};
@@ -237,7 +237,6 @@ impl AppTask for ScriptedTask {
 fn goes<E: AppEnd>(alloc: Global, cx: &mut Context<'_>, end: &mut E, step: Step) -> Poll<bool>
     requires { E.ended end.old ≡ None }
     ensures end { GoesOn E.AppEnd None end.old end.new }
-    ensures moves { TellsMoves E.AppEnd end.old end.new }
     ensures armed { OnPending result (IsArmed cx.new) }
     ensures kept { Keeps cx.old cx.new }
 {
@@ -253,7 +252,6 @@ fn goes<E: AppEnd>(alloc: Global, cx: &mut Context<'_>, end: &mut E, step: Step)
 fn hears<E: AppEnd>(cx: &mut Context<'_>, end: &mut E, wanted: Heard) -> Poll<bool>
     requires { E.ended end.old ≡ None }
     ensures end { GoesOn E.AppEnd None end.old end.new }
-    ensures moves { TellsMoves E.AppEnd end.old end.new }
     ensures armed { OnPending result (IsArmed cx.new) }
     ensures kept { Keeps cx.old cx.new }
 {
@@ -267,7 +265,6 @@ fn hears<E: AppEnd>(cx: &mut Context<'_>, end: &mut E, wanted: Heard) -> Poll<bo
 fn says<E: AppEnd>(alloc: Global, cx: &mut Context<'_>, end: &mut E, said: Said) -> Poll<bool>
     requires { E.ended end.old ≡ None }
     ensures end { GoesOn E.AppEnd None end.old end.new }
-    ensures moves { TellsMoves E.AppEnd end.old end.new }
     ensures armed { OnPending result (IsArmed cx.new) }
     ensures kept { Keeps cx.old cx.new }
 {
@@ -292,7 +289,6 @@ fn is_refused<E: AppEnd>(
 ) -> Poll<bool>
     requires { E.ended end.old ≡ None }
     ensures end { GoesOn E.AppEnd None end.old end.new }
-    ensures moves { TellsMoves E.AppEnd end.old end.new }
     ensures armed { OnPending result (IsArmed cx.new) }
     ensures kept { Keeps cx.old cx.new }
 {
@@ -372,7 +368,6 @@ impl ListeningTask {
     ) -> Poll<Result<(), AppFault>>
         requires { E.ended end.old ≡ None }
         ensures end { GoesOn E.AppEnd None end.old end.new }
-        ensures moves { TellsMoves E.AppEnd end.old end.new }
         ensures armed { OnPending result (IsArmed cx.new) }
         ensures kept { Keeps cx.old cx.new }
     {
@@ -396,7 +391,6 @@ impl ListeningTask {
     ) -> Poll<Result<(), AppFault>>
         requires { E.ended end.old ≡ None }
         ensures end { GoesOn E.AppEnd None end.old end.new }
-        ensures moves { TellsMoves E.AppEnd end.old end.new }
         ensures armed { OnPending result (IsArmed cx.new) }
         ensures kept { Keeps cx.old cx.new }
     {

@@ -52,7 +52,7 @@ pub returns-in-Ends-clause-took : goal.returns-in-Ends-clause-took
 returns-in-Ends-clause-took g c =
     let end = c.turn.new.self.lent.app_end in
     rw (c.give_back.ensures.same.1, c.give_back.ensures.same.2)
-    (took g.E.AppEnd c.args.running.lent c.turn.new.self.did.items end end (refl, refl)
+    (took g.E.AppEnd c.args.running.lent c.turn.new.self.did.items end end (refl, refl, refl)
     (goes_on g.E.AppEnd c.args.running.lent c.loop-driven.driven.did.items c.turn.new.self.did.items Last c.loop-driven.driven.lent.app_end end
     c.in-Ends.ensures.did c.in-Ends.ensures.turn c.loop-driven.invariant.took))
 
@@ -82,7 +82,7 @@ returns-clause-answers g c =
     rw c.stop.ensures.kind.0
     (answered_further g.E.AppEnd g.T.AppTask.stands g.T.AppTask.answers c.args.running.lent (Some c.loop-driven.driven.lent) _ _ (own_end Idle) c.loop-driven.invariant.polled
     (so_far g.E.AppEnd g.T.AppTask.stands g.T.AppTask.answers g.met.T.AppTask.keeps (Some c.loop-driven.driven.lent) c.stop.result.app_end c.loop-driven.invariant.polled.may
-    (c.stop.ensures.heard, c.stop.ensures.still.1)))
+    (c.stop.ensures.still.0, c.stop.ensures.still.2)))
 
 pub returns-clause-did : goal.returns-clause-did
 returns-clause-did g c =

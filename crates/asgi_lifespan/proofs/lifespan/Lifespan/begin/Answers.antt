@@ -55,7 +55,7 @@ returns-in-Said-clause-starts g c =
     begun g.met.T.AppTask.keeps c.args.limits.now (g.P.Pause.count c.args.pause.now) (g.P.Pause.count c.run.new.pause) c.args.hosted c.offer.new.self last c.answered.result c.offer.ensures.left c.offer.ensures.offered c.requires.silent.0
     c.run.ensures.follows
     (subst (λ (l : List Outgoing). IsAnswer c.answered.result (start_answer l last.ended)) (sym said.1) (c.answered.ensures.answer said.0 last.ended))
-    (subst (λ (o : Option ℕ). TakesTurns c.args.limits.now.turns c.args.limits.now.idle_turns (g.P.Pause.count c.args.pause.now) (g.P.Pause.count c.run.new.pause) o) told c.run.ensures.turns)
+    (subst (λ (o : Option ℕ). TakesTurns c.args.limits.now.turns c.args.limits.now.idle_turns (g.P.Pause.count c.args.pause.now) (g.P.Pause.count c.run.new.pause) o) told c.run.ensures.turns.0)
     c.answered.ensures.started
 
 pub returns-in-Ended-clause-starts : goal.returns-in-Ended-clause-starts
@@ -66,7 +66,7 @@ returns-in-Ended-clause-starts g c =
     begun g.met.T.AppTask.keeps c.args.limits.now (g.P.Pause.count c.args.pause.now) (g.P.Pause.count c.run.new.pause) c.args.hosted c.offer.new.self last Unsupported c.offer.ensures.left c.offer.ensures.offered c.requires.silent.0
     c.run.ensures.follows
     (rw (silent, tells.2) refl)
-    (subst (λ (o : Option ℕ). TakesTurns c.args.limits.now.turns c.args.limits.now.idle_turns (g.P.Pause.count c.args.pause.now) (g.P.Pause.count c.run.new.pause) o) (ap turns_of c.in-Ended.is) c.run.ensures.turns)
+    (subst (λ (o : Option ℕ). TakesTurns c.args.limits.now.turns c.args.limits.now.idle_turns (g.P.Pause.count c.args.pause.now) (g.P.Pause.count c.run.new.pause) o) (ap turns_of c.in-Ended.is) c.run.ensures.turns.0)
     tt
 
 pub returns-in-Idle-clause-starts : goal.returns-in-Idle-clause-starts
@@ -77,5 +77,5 @@ returns-in-Idle-clause-starts g c =
     begun g.met.T.AppTask.keeps c.args.limits.now (g.P.Pause.count c.args.pause.now) (g.P.Pause.count c.run.new.pause) c.args.hosted c.offer.new.self last (Idle c.in-Idle.turns) c.offer.ensures.left c.offer.ensures.offered c.requires.silent.0
     c.run.ensures.follows
     (rw (silent, tells.2) refl)
-    (subst (λ (o : Option ℕ). TakesTurns c.args.limits.now.turns c.args.limits.now.idle_turns (g.P.Pause.count c.args.pause.now) (g.P.Pause.count c.run.new.pause) o) (ap turns_of c.in-Idle.is) c.run.ensures.turns)
+    (subst (λ (o : Option ℕ). TakesTurns c.args.limits.now.turns c.args.limits.now.idle_turns (g.P.Pause.count c.args.pause.now) (g.P.Pause.count c.run.new.pause) o) (ap turns_of c.in-Idle.is) c.run.ensures.turns.0)
     tt

@@ -49,7 +49,7 @@ returns-in-Said-clause-stops g c =
     stops g.met.T.AppTask.keeps c.args.self c.into_hosted-hosted.result c.offer.new.self last (g.P.Pause.count c.args.pause.now) (g.P.Pause.count c.run.new.pause) c.answer_of.result
     began.started began.same c.offer.ensures.left c.offer.ensures.offered c.run.ensures.follows
     (subst (λ (l : List Outgoing). answer_in c.answer_of.result ≡ stop_answer l last.ended) (sym said.1) (c.answer_of.ensures.answer (StartupComplete began.started.state) said.0 last.ended))
-    (subst (λ (o : Option ℕ). TakesTurns c.args.self.turns c.args.self.idle_turns (g.P.Pause.count c.args.pause.now) (g.P.Pause.count c.run.new.pause) o) told c.run.ensures.turns)
+    (subst (λ (o : Option ℕ). TakesTurns c.args.self.turns c.args.self.idle_turns (g.P.Pause.count c.args.pause.now) (g.P.Pause.count c.run.new.pause) o) told c.run.ensures.turns.0)
 
 pub returns-in-Ended-clause-stops : goal.returns-in-Ended-clause-stops
 returns-in-Ended-clause-stops g c =
@@ -61,7 +61,7 @@ returns-in-Ended-clause-stops g c =
     stops g.met.T.AppTask.keeps c.args.self c.into_hosted-hosted.result c.offer.new.self last (g.P.Pause.count c.args.pause.now) (g.P.Pause.count c.run.new.pause) c.answer_of_end.result
     began.started began.same c.offer.ensures.left c.offer.ensures.offered c.run.ensures.follows
     (rw (said, tells.2) (c.answer_of_end.ensures.answer (StartupComplete began.started.state)))
-    (subst (λ (o : Option ℕ). TakesTurns c.args.self.turns c.args.self.idle_turns (g.P.Pause.count c.args.pause.now) (g.P.Pause.count c.run.new.pause) o) told c.run.ensures.turns)
+    (subst (λ (o : Option ℕ). TakesTurns c.args.self.turns c.args.self.idle_turns (g.P.Pause.count c.args.pause.now) (g.P.Pause.count c.run.new.pause) o) told c.run.ensures.turns.0)
 
 pub returns-clause-stops : goal.returns-clause-stops
 returns-clause-stops g c =
@@ -72,4 +72,4 @@ returns-clause-stops g c =
     stops g.met.T.AppTask.keeps c.args.self c.into_hosted-hosted.result c.offer.new.self last (g.P.Pause.count c.args.pause.now) (g.P.Pause.count c.run.new.pause) (Idle c.in-Idle.turns)
     began.started began.same c.offer.ensures.left c.offer.ensures.offered c.run.ensures.follows
     (rw (said, tells.2) refl)
-    (subst (λ (o : Option ℕ). TakesTurns c.args.self.turns c.args.self.idle_turns (g.P.Pause.count c.args.pause.now) (g.P.Pause.count c.run.new.pause) o) (ap turns_of c.in-Idle.is) c.run.ensures.turns)
+    (subst (λ (o : Option ℕ). TakesTurns c.args.self.turns c.args.self.idle_turns (g.P.Pause.count c.args.pause.now) (g.P.Pause.count c.run.new.pause) o) (ap turns_of c.in-Idle.is) c.run.ensures.turns.0)

@@ -3,9 +3,9 @@ use Rattle.std.proofs.lemmas.List.{append-nil}
 use Rattle.asgi_lifespan.specs.declared.hosted.Word.{Word}
 use Rattle.asgi_lifespan.specs.Hosting.{Tells}
 use Rattle.asgi_io.specs.declared.turns.Turn.{Turn}
-use Rattle.asgi_io.specs.declared.history.History.{History}
 use Rattle.asgi_apps.proofs.PauseLemmas.{counts_more, paused_for_each}
 use Rattle.asgi_lifespan.proofs.HostLemmas.{follows_nothing, follows_then, follows_left, tells_further, tells_idle, told_none}
+use Rattle.asgi_lifespan.proofs.TurnLemmas.{turned_same, turned_then}
 use Rattle.asgi_lifespan.proofs.waiting.Hosted.run.Goals as goal
 
 pub loop-word-init : goal.loop-word-init
@@ -15,7 +15,7 @@ loop-word-init g c = record {
   turn_limit = c.new-taken.ensures.turn_limit;
   idle_limit = c.new-taken.ensures.idle_limit;
   turned = [];
-  did = sym (append-nil _);
+  took = (refl, refl);
   counts = c.new-taken.ensures.none (g.P.Pause.count c.args.pause.now);
   armed = λ runs. inl (c.new-taken.ensures.none 0).turns_is;
   kept = λ fact h. h;
@@ -35,16 +35,13 @@ returns-in-Some-clause-tells g c =
     (subst (λ (w : Option Word). Tells c.loop-word.self c.next.new.self w) c.in-Some.is c.next.ensures.tells)
 
 pub returns-in-Some-clause-turns : goal.returns-in-Some-clause-turns
-returns-in-Some-clause-turns g c = record {
+returns-in-Some-clause-turns g c = (record {
   turned = c.loop-word.invariant.turned;
   turns = c.loop-word.taken.turns;
   idle = c.loop-word.taken.idle;
   counts = c.loop-word.invariant.counts;
   at_limit = λ told is. absurd (told_none _ told c.in-Some.ensures.turns is);
-}
-
-pub returns-in-Some-clause-did : goal.returns-in-Some-clause-did
-returns-in-Some-clause-did g c = (returns-in-Some-clause-turns g c, ap (λ (h : History Turn). h.items) c.next.ensures.did ∙ c.loop-word.invariant.did)
+}, turned_same c.loop-word.invariant.turned c.args.self.now c.loop-word.self c.next.new.self c.loop-word.invariant.took c.next.ensures.turned)
 
 pub returns-then-is_over-clause-follows : goal.returns-then-is_over-clause-follows
 returns-then-is_over-clause-follows g c =
@@ -57,7 +54,7 @@ returns-then-is_over-clause-tells g c =
     (subst (λ (w : Option Word). Tells c.loop-word.self c.next.new.self w) c.in_default.is c.next.ensures.tells)
 
 pub returns-then-is_over-clause-turns : goal.returns-then-is_over-clause-turns
-returns-then-is_over-clause-turns g c = record {
+returns-then-is_over-clause-turns g c = (record {
   turned = c.loop-word.invariant.turned;
   turns = c.loop-word.taken.turns;
   idle = c.loop-word.taken.idle;
@@ -69,10 +66,7 @@ returns-then-is_over-clause-turns g c = record {
       | inr row ↦ inr (row ∙ c.loop-word.invariant.idle_limit, paused_for_each _ _ _ _ _ _ c.loop-word.invariant.turned c.loop-word.invariant.counts (row ∙ c.loop-word.invariant.idle_limit))
     ],
   );
-}
-
-pub returns-then-is_over-clause-did : goal.returns-then-is_over-clause-did
-returns-then-is_over-clause-did g c = (returns-then-is_over-clause-turns g c, ap (λ (h : History Turn). h.items) c.next.ensures.did ∙ c.loop-word.invariant.did)
+}, turned_same c.loop-word.invariant.turned c.args.self.now c.loop-word.self c.next.new.self c.loop-word.invariant.took c.next.ensures.turned)
 
 pub returns-then-is_over-clause-armed : goal.returns-then-is_over-clause-armed
 returns-then-is_over-clause-armed g c told is =
@@ -98,7 +92,9 @@ loop-word-preserved g c =
       turn_limit = c.take.ensures.turn_limit ∙ inv.turn_limit;
       idle_limit = c.take.ensures.idle_limit ∙ inv.idle_limit;
       turned = inv.turned ++ c.turn-turn.result ∷ [];
-      did = c.turn-turn.ensures.did ∙ ap (λ (l : List Turn). l ++ c.turn-turn.result ∷ []) (ap (λ (h : History Turn). h.items) c.next.ensures.did ∙ inv.did) ∙ append_assoc c.args.self.now.did.items inv.turned (c.turn-turn.result ∷ []);
+      took =
+          turned_then inv.turned c.turn-turn.result c.args.self.now c.next.new.self c.turn-turn.new.self
+          (turned_same inv.turned c.args.self.now c.loop-word.self c.next.new.self inv.took c.next.ensures.turned) c.turn-turn.ensures.turn c.turn-turn.ensures.did;
       armed = λ runs. inr (c.turn-turn.ensures.armed runs);
       counts = counts_more c.args.turns c.args.idle_turns _ _ _ _ _ _ _ _ _ inv.turned c.turn-turn.result inv.turn_limit inv.idle_limit inv.counts c.take.ensures.counts;
       kept = λ fact h. c.turn-turn.ensures.kept fact (inv.kept fact h);
