@@ -1,5 +1,5 @@
 -- What the turns of a task that is driven did to its end.
-use Rattle.std.proofs.Common.{◌≡◌, ℕ, Bool, false, List, [], ◌∷◌, ◌++◌, Option, Some, None, IsSomeAnd, refl, sym, ap, ◌∙◌, subst}
+use Rattle.std.proofs.Common.{◌≡◌, ℕ, List, [], ◌∷◌, ◌++◌, Option, Some, None, IsSomeAnd, refl, sym, subst}
 use Rattle.asgi_io.specs.declared.turns.Turn.{Turn}
 use Rattle.asgi_io.specs.Turns.{CountsTurns, idle_in_a_row}
 use Rattle.asgi_types.specs.declared.scope.Kind.{Kind}
@@ -8,7 +8,7 @@ use Rattle.asgi_types.specs.declared.outgoing.Outgoing.{Outgoing}
 use Rattle.asgi_types.specs.declared.end_kind.EndKind.{EndKind}
 use Rattle.asgi_pipes.specs.declared.ends.AppEnd.{Ghosts}
 use Rattle.asgi_apps.specs.declared.running.Lent.{Lent}
-use Rattle.asgi_apps.specs.Ends.{GoesOn, IsStill, IsTurn, IsWithin, MayGoOn, TakeTurns, turn_after, turn_of}
+use Rattle.asgi_apps.specs.Ends.{GoesOn, IsStill, IsTurn, IsWithin, MayGoOn, TakeTurns}
 use Rattle.asgi_apps.specs.private.Driven.{RunsOn}
 use Rattle.asgi_apps.proofs.EndLemmas.{Polled, goes_further}
 
@@ -19,16 +19,6 @@ counts_row turn_limit idle_limit turned before after turns idle counts =
     subst (λ (n : ℕ). CountsTurns turn_limit idle_limit turned before after turns n) counts.idle_is counts
 
 module _ {E : Type 0} (ends : Ghosts E) where
-  -- the poll at which the task ended, and one after which the end was asked
-  pub last_turn : (t : Turn) (ended : Option EndKind) (a b c : E) → GoesOn ends None a b → t ≡ turn_after ended (ends.has_moved b) → IsStill ends b c
-      → (ended ≡ None → ends.has_moved c ≡ false) → IsTurn ends t ended a c
-  last_turn t ended a b c goes is still asked = record { polled = b; poll = goes; is_turn = is; still = still; asked = asked }
-
-  pub asked_turn : (t : Turn) (a b c : E) → GoesOn ends None a b → t ≡ turn_of (ends.has_moved b) → IsStill ends b c → ends.has_moved c ≡ false
-      → ends.ended c ≡ None → IsTurn ends t (ends.ended c) a c
-  asked_turn t a b c goes is still asked runs =
-      subst (λ (e : Option EndKind). IsTurn ends t e a c) (sym runs) (record { polled = b; poll = goes; is_turn = is; still = still; asked = λ none. asked })
-
   pub takes_one : (turned : List Turn) (t : Turn) (a b c : E) → TakeTurns ends turned a b → IsTurn ends t (ends.ended c) b c → TakeTurns ends (turned ++ t ∷ []) a c
   takes_one [] t a b c x y = (c, subst (λ (e : E). IsTurn ends t (ends.ended c) e c) x y, refl)
   takes_one (is ∷ more) t a b c x y = (x.0, x.1, takes_one more t x.0 b c x.2 y)

@@ -3,6 +3,7 @@ use Rattle.std.specs.Prelude.{◌≡◌, ℕ, ◌⊎◌, List, [], ◌∷◌, �
 use Rattle.asgi_io.specs.declared.turns.Turn.{Turn}
 use Rattle.asgi_io.specs.Counting.{RoseBy}
 use Rattle.asgi_io.specs.Turns.{CountsTurns}
+use Rattle.asgi_pipes.specs.declared.plain_app.PlainApp.{PlainApp}
 use Rattle.asgi_pipes.specs.contracts.plain_app.PlainAppAppEnd.TheImpl as app_end
 use Rattle.asgi_apps.specs.Ends.{IsTurn}
 use Rattle.asgi_lifespan.specs.declared.hosted.Hosted.{Hosted}
@@ -16,7 +17,14 @@ pub record TakesTurns (turn_limit idle_limit pauses_before pauses_after : ℕ) (
   pub counts : CountsTurns turn_limit idle_limit turned pauses_before pauses_after turns idle
   pub at_limit : (told : ℕ) → gave_up ≡ Some told → (told ≡ turns) × ((turns ≡ turn_limit) ⊎ ((idle ≡ idle_limit) × RoseBy idle_limit pauses_before pauses_after))
 
--- A task was polled in these turns: each is added to the list of its turns, and goes on from where the one before it left its end.
+-- One turn of a task, which the list of its turns has, and that of its end as each poll left it.
+pub record Turned {T : Type 0} (is : Turn) (old new : Hosted T) : Type 0 where
+  pub polled : PlainApp
+  pub did : new.did.items ≡ old.did.items ++ is ∷ []
+  pub left : new.left.items ≡ old.left.items ++ polled ∷ []
+  pub turn : IsTurn app_end.ghosts is new.ended old.app_end polled new.app_end
+
+-- these turns were taken, each from where the one before it left the end of the task
 abbrev pub HasTurned : {T : Type 0} → List Turn → Hosted T → Hosted T → Type 0
-HasTurned [] old new = (new.app_end ≡ old.app_end) × (new.did.items ≡ old.did.items)
-HasTurned {T} (is ∷ more) old new = (mid : Hosted T) × IsTurn app_end.ghosts is mid.ended old.app_end mid.app_end × (mid.did.items ≡ old.did.items ++ is ∷ []) × HasTurned more mid new
+HasTurned [] old new = (new.app_end ≡ old.app_end) × (new.did.items ≡ old.did.items) × (new.left.items ≡ old.left.items)
+HasTurned {T} (is ∷ more) old new = (mid : Hosted T) × Turned is old mid × HasTurned more mid new

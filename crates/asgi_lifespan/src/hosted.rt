@@ -28,6 +28,8 @@ pub struct Hosted<T> {
     ended: Option<EndKind>,
     /// What each turn did.
     did: History<Turn>,
+    /// Its own end as each poll left it.
+    left: History<PlainApp>,
 }
 
 /// What a server learns of the task.
@@ -42,7 +44,7 @@ pub enum Word {
 }
 
 impl<T: AppTask> Hosted<T> {
-    ghost use Rattle.asgi_lifespan.specs.Turning.{HasTurned};
+    ghost use Rattle.asgi_lifespan.specs.Turning.{HasTurned, Turned};
     ghost use Rattle.asgi_lifespan.specs.Hosting.{Follows, IsCarried, IsHosted, IsLeft, IsPolled, Promises, Tells, got_of, offered_to, turns_in};
 
     /// A task that has received and sent nothing yet, with the ends of a new pair.
@@ -59,6 +61,7 @@ impl<T: AppTask> Hosted<T> {
             conn,
             ended: None,
             did: History::new(),
+            left: History::new(),
         }
     }
 
@@ -84,7 +87,7 @@ impl<T: AppTask> Hosted<T> {
         ensures carried { IsCarried self.new }
         ensures still { IsStill ⟦<PlainApp as AppEnd>⟧ self.old.app_end self.new.app_end }
         ensures asked { ⟦<PlainApp as AppEnd>⟧.has_moved self.new.app_end ≡ ⟦<PlainApp as AppEnd>⟧.has_moved self.old.app_end }
-        ensures did { self.new.did ≡ self.old.did }
+        ensures lists { (self.new.did ≡ self.old.did) × (self.new.left ≡ self.old.left) }
         ensures offered { offered_to self.new ≡ offered_to self.old }
         ensures got { got_of self.new ≡ got_of self.old }
         ensures left { IsLeft self.old self.new }
@@ -117,8 +120,7 @@ impl<T: AppTask> Hosted<T> {
     pub fn turn(&mut self, cx: &mut Context<'_>) -> Turn
         requires hosted { IsHosted T.stands self.old }
         requires runs { self.old.ended ≡ None }
-        ensures turn { IsTurn ⟦<PlainApp as AppEnd>⟧ result self.new.ended self.old.app_end self.new.app_end }
-        ensures did { self.new.did.items ≡ self.old.did.items ++ result ∷ [] }
+        ensures turn { Turned result self.old self.new }
         ensures armed { self.new.ended ≡ None → IsArmed cx.new }
         ensures follows { Follows T.stands T.answers self.old self.new }
         ensures got { got_of self.new ≡ got_of self.old }
@@ -130,17 +132,19 @@ impl<T: AppTask> Hosted<T> {
         turn
     }
 
-    /// Polls the task once. If it ended, nothing will move any more.
+    /// Polls the task once. If it ended, nothing will move any more, else its end is asked.
     fn poll(&mut self, cx: &mut Context<'_>) -> Turn
         requires hosted { IsHosted T.stands self.old }
         requires runs { self.old.ended ≡ None }
         ensures polled { IsPolled T.stands T.answers self.old self.new }
-        ensures turn { IsTurn ⟦<PlainApp as AppEnd>⟧ result self.new.ended self.old.app_end self.new.app_end }
+        ensures turn { (polled : PlainApp) × (self.new.left.items ≡ self.old.left.items ++ polled ∷ []) × IsTurn ⟦<PlainApp as AppEnd>⟧ result self.new.ended self.old.app_end polled self.new.app_end }
         ensures did { self.new.did ≡ self.old.did }
         ensures armed { self.new.ended ≡ None → IsArmed cx.new }
         ensures kept { Keeps cx.old cx.new }
     {
-        let Poll::Ready(answer) = self.task.poll(cx, &mut self.app_end) else {
+        let answer = self.task.poll(cx, &mut self.app_end);
+        self.left = History::with(&self.left, &self.app_end);
+        let Poll::Ready(answer) = answer else {
             return moved(&mut self.app_end);
         };
         self.ended = Some(kind_of(answer));

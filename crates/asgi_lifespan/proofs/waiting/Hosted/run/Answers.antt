@@ -15,7 +15,7 @@ loop-word-init g c = record {
   turn_limit = c.new-taken.ensures.turn_limit;
   idle_limit = c.new-taken.ensures.idle_limit;
   turned = [];
-  took = (refl, refl);
+  took = (refl, refl, refl);
   counts = c.new-taken.ensures.none (g.P.Pause.count c.args.pause.now);
   armed = λ runs. inl (c.new-taken.ensures.none 0).turns_is;
   kept = λ fact h. h;
@@ -94,7 +94,7 @@ loop-word-preserved g c =
       turned = inv.turned ++ c.turn-turn.result ∷ [];
       took =
           turned_then inv.turned c.turn-turn.result c.args.self.now c.next.new.self c.turn-turn.new.self
-          (turned_same inv.turned c.args.self.now c.loop-word.self c.next.new.self inv.took c.next.ensures.turned) c.turn-turn.ensures.turn c.turn-turn.ensures.did;
+          (turned_same inv.turned c.args.self.now c.loop-word.self c.next.new.self inv.took c.next.ensures.turned) c.turn-turn.ensures.turn;
       armed = λ runs. inr (c.turn-turn.ensures.armed runs);
       counts = counts_more c.args.turns c.args.idle_turns _ _ _ _ _ _ _ _ _ inv.turned c.turn-turn.result inv.turn_limit inv.idle_limit inv.counts c.take.ensures.counts;
       kept = λ fact h. c.turn-turn.ensures.kept fact (inv.kept fact h);
