@@ -7,9 +7,10 @@ use Rattle.asgi_types.specs.declared.incoming.Incoming.{Incoming}
 use Rattle.asgi_types.specs.declared.outgoing.Outgoing.{Outgoing}
 use Rattle.asgi_types.specs.declared.end_kind.EndKind.{EndKind}
 use Rattle.asgi_pipes.specs.declared.ends.AppEnd.{Ghosts}
+use Rattle.asgi_apps.specs.declared.running.Driven.{Driven}
 use Rattle.asgi_apps.specs.declared.running.Lent.{Lent}
 use Rattle.asgi_apps.specs.Ends.{GoesOn, IsStill, IsTurn, IsWithin, MayGoOn, TakeTurns}
-use Rattle.asgi_apps.specs.private.Driven.{RunsOn}
+use Rattle.asgi_apps.specs.private.Driven.{RunsOn, Turned}
 use Rattle.asgi_apps.proofs.EndLemmas.{Polled, goes_further}
 
 -- the count of the idle turns in a row is that of the list
@@ -19,25 +20,30 @@ counts_row turn_limit idle_limit turned before after turns idle counts =
     subst (λ (n : ℕ). CountsTurns turn_limit idle_limit turned before after turns n) counts.idle_is counts
 
 module _ {E : Type 0} (ends : Ghosts E) where
-  pub takes_one : (turned : List Turn) (t : Turn) (a b c : E) → TakeTurns ends turned a b → IsTurn ends t (ends.ended c) b c → TakeTurns ends (turned ++ t ∷ []) a c
-  takes_one [] t a b c x y = (c, subst (λ (e : E). IsTurn ends t (ends.ended c) e c) x y, refl)
-  takes_one (is ∷ more) t a b c x y = (x.0, x.1, takes_one more t x.0 b c x.2 y)
+  pub takes_one : (turned : List Turn) (left : List E) (t : Turn) (a b polled c : E) → TakeTurns ends turned left a b → IsTurn ends t (ends.ended c) b polled c
+      → TakeTurns ends (turned ++ t ∷ []) (left ++ polled ∷ []) a c
+  takes_one [] [] t a b polled c x y = (c, subst (λ (e : E). IsTurn ends t (ends.ended c) e polled c) x y, refl)
+  takes_one (is ∷ more) (e ∷ left) t a b polled c x y = (x.0, x.1, takes_one more left t x.0 b polled c x.2 y)
+  takes_one [] (e ∷ left) t a b polled c x y = absurd x
+  takes_one (is ∷ more) [] t a b polled c x y = absurd x
 
   module _ {T : Type 0} where
-    pub starts : (lent : Option (Lent T E)) (now : Lent T E) (did : List Turn) → lent ≡ Some now → did ≡ [] → IsSomeAnd lent (λ was. TakeTurns ends did was.app_end now.app_end)
-    starts lent now did is none =
-        subst (λ (l : Option (Lent T E)). IsSomeAnd l (λ was. TakeTurns ends did was.app_end now.app_end)) (sym is)
-        (subst (λ (l : List Turn). TakeTurns ends l now.app_end now.app_end) (sym none) refl)
+    -- what its turns so far did to the end that was given
+    abbrev pub HasTaken : Option (Lent T E) → Driven T E → Type 0
+    HasTaken lent driven = IsSomeAnd lent (λ was. TakeTurns ends driven.did.items driven.left.items was.app_end driven.lent.app_end)
 
-    pub goes_on : (lent : Option (Lent T E)) (did more : List Turn) (t : Turn) (b c : E) → more ≡ did ++ t ∷ [] → IsTurn ends t (ends.ended c) b c
-        → IsSomeAnd lent (λ was. TakeTurns ends did was.app_end b) → IsSomeAnd lent (λ was. TakeTurns ends more was.app_end c)
-    goes_on (Some was) did more t b c is turn x = subst (λ (l : List Turn). TakeTurns ends l was.app_end c) (sym is) (takes_one did t was.app_end b c x turn)
-    goes_on None did more t b c is turn x = absurd x
+    pub starts : (lent : Option (Lent T E)) (now : Driven T E) → lent ≡ Some now.lent → (now.did.items ≡ []) × (now.left.items ≡ []) → HasTaken lent now
+    starts lent now is none = rw (is, none.0, none.1) refl
 
-    pub took : (lent : Option (Lent T E)) (did : List Turn) (last end : E) → IsStill ends last end → IsSomeAnd lent (λ was. TakeTurns ends did was.app_end last)
-        → IsSomeAnd lent (λ was. (last : E) × TakeTurns ends did was.app_end last × IsStill ends last end)
-    took (Some was) did last end still x = (last, x, still)
-    took None did last end still x = absurd x
+    pub goes_on : (lent : Option (Lent T E)) (t : Turn) (b c : Driven T E) → Turned ends t b c → HasTaken lent b → HasTaken lent c
+    goes_on (Some was) t b c turn x =
+        rw (turn.did, turn.left) (takes_one b.did.items b.left.items t was.app_end b.lent.app_end turn.polled c.lent.app_end x turn.turn)
+    goes_on None t b c turn x = absurd x
+
+    pub took : (lent : Option (Lent T E)) (driven : Driven T E) (end : E) → IsStill ends driven.lent.app_end end → HasTaken lent driven
+        → IsSomeAnd lent (λ was. (last : E) × TakeTurns ends driven.did.items driven.left.items was.app_end last × IsStill ends last end)
+    took (Some was) driven end still x = (driven.lent.app_end, x, still)
+    took None driven end still x = absurd x
 
     module _ (stands : T → Kind → List Incoming → List Outgoing → Type 0) (answers : T → List Incoming → List Outgoing → Option EndKind → Type 0) where
       pub polled_on : (a b : Lent T E) → RunsOn stands answers ends a b → Polled ends stands answers (Some a) (Some b)

@@ -62,16 +62,17 @@ turn_after None moved = turn_of moved
 turn_after (Some kind) moved = turn.Last
 
 -- What a turn of a task is: a poll, and then the end was put, if the task ended so, or asked whether it moved.
-pub record IsTurn {E : Type 0} (ends : Ghosts E) (is : Turn) (ended : Option EndKind) (old new : E) : Type 0 where
+pub record IsTurn {E : Type 0} (ends : Ghosts E) (is : Turn) (ended : Option EndKind) (old polled new : E) : Type 0 where
   -- the end as the poll left it
-  pub polled : E
-  pub poll : GoesOn ends None old polled
+  pub poll : GoesOn ends (ends.ended polled) old polled
   -- it was idle exactly if the end did not move, and the last exactly if the task ended
   pub is_turn : is ≡ turn_after ended (ends.has_moved polled)
   pub still : IsStill ends polled new
   pub asked : ended ≡ None → ends.has_moved new ≡ false
 
--- these turns were taken, each from the end that the one before it left
-abbrev pub TakeTurns : {E : Type 0} → Ghosts E → List Turn → E → E → Type 0
-TakeTurns ends [] old new = new ≡ old
-TakeTurns {E} ends (is ∷ more) old new = (mid : E) × IsTurn ends is (ends.ended mid) old mid × TakeTurns ends more mid new
+-- These turns were taken, each from the end that the one before it left. The second list has the end as each poll left it.
+abbrev pub TakeTurns : {E : Type 0} → Ghosts E → List Turn → List E → E → E → Type 0
+TakeTurns ends [] [] old new = new ≡ old
+TakeTurns {E} ends (is ∷ more) (polled ∷ left) old new = (mid : E) × IsTurn ends is (ends.ended mid) old polled mid × TakeTurns ends more left mid new
+TakeTurns ends [] (polled ∷ left) old new = ⊥
+TakeTurns ends (is ∷ more) [] old new = ⊥

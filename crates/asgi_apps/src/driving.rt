@@ -30,7 +30,7 @@ pub fn drive<T: AppTask, E: AppEnd, P: Pause>(
     ensures at_most { result.turns ≤ turns }
     ensures idle { result.kind ≡ EndKind.Idle → RoseBy idle_turns (P.count pause.old) (P.count pause.new) ⊎ (result.turns ≡ turns) }
     ensures did { CountsTurns turns idle_turns result.did.items (P.count pause.old) (P.count pause.new) result.turns (idle_in_a_row result.did.items) }
-    ensures took { IsSomeAnd running.lent (λ was. (last : E) × TakeTurns E.AppEnd result.did.items was.app_end last × IsStill E.AppEnd last result.app_end) }
+    ensures took { IsSomeAnd running.lent (λ was. (last : E) × TakeTurns E.AppEnd result.did.items result.left.items was.app_end last × IsStill E.AppEnd last result.app_end) }
     ensures kept { Keeps cx.old cx.new }
 {
     let mut driven = Driven::new(running);

@@ -3,12 +3,11 @@ ghost use Rattle.std.specs.Prelude.{◌≡◌, ◌≢◌, ◌++◌, ◌∷◌, [
 ghost use Rattle.futures.specs.Poll.{IfReady, OnPending};
 ghost use Rattle.futures.specs.Task.{IsArmed, Keeps};
 ghost use Rattle.asgi_io.specs.Counting.{counted};
-ghost use Rattle.asgi_io.specs.declared.turns.Turn.{Turn};
 ghost use Rattle.asgi_types.specs.declared.incoming.Incoming.{Incoming};
 ghost use Rattle.asgi_types.specs.declared.outgoing.Outgoing.{Outgoing};
 ghost use Rattle.asgi_types.specs.declared.end_kind.EndKind.{EndKind};
-ghost use Rattle.asgi_apps.specs.Ends.{GoesOn, IsStill, IsTurn, IsWithin, MayGoOn, end_of, own_end, turn_of};
-ghost use Rattle.asgi_apps.specs.private.Driven.{IfEnds, IfRuns, RunsOn, turn_in};
+ghost use Rattle.asgi_apps.specs.Ends.{GoesOn, IsStill, IsWithin, MayGoOn, end_of, own_end, turn_of};
+ghost use Rattle.asgi_apps.specs.private.Driven.{IfEnds, IfRuns, RunsOn, Turned, turn_in};
 
 use crate::task::{AppFault, AppTask};
 use asgi_io::{History, Turn};
@@ -45,8 +44,10 @@ pub struct Ended<T, E> {
     pub kind: EndKind,
     /// How many polls were made.
     pub turns: u64,
-    /// What each poll did that `drive` made.
+    /// What each turn of `drive` did.
     did: History<Turn>,
+    /// The end as each poll of `drive` left it.
+    left: History<E>,
 }
 
 /// A task that is driven. Only `turn` polls it.
@@ -55,6 +56,8 @@ pub struct Driven<T, E> {
     lent: Lent<T, E>,
     /// What each turn did.
     did: History<Turn>,
+    /// The end as each poll left it.
+    left: History<E>,
 }
 
 /// What a turn did to the task that is driven.
@@ -71,7 +74,6 @@ impl<T: AppTask, E: AppEnd> Lent<T, E> {
     fn turn(&mut self, cx: &mut Context<'_>) -> Poll<EndKind>
         requires { MayGoOn T.stands E.AppEnd self.old.task self.old.app_end }
         ensures ready { IfReady result (λ kind. GoesOn E.AppEnd (Some kind) self.old.app_end self.new.app_end) }
-        ensures turn { IfReady result (λ kind. IsTurn E.AppEnd Turn.Last (Some kind) self.old.app_end self.new.app_end) }
         ensures answers { IfReady result (λ kind. T.answers self.old.task (E.heard self.new.app_end) (E.said self.new.app_end) (own_end kind)) }
         ensures not_idle { IfReady result (λ kind. kind ≢ EndKind.Idle) }
         ensures pending { OnPending result (GoesOn E.AppEnd None self.old.app_end self.new.app_end) }
@@ -170,6 +172,7 @@ impl<T: AppTask, E: AppEnd> Running<T, E> {
             kind,
             turns: self.turns,
             did: History::new(),
+            left: History::new(),
         }
     }
 }
@@ -179,7 +182,7 @@ impl<T: AppTask, E: AppEnd> Driven<T, E> {
     pub fn new(running: Running<T, E>) -> Self
         requires { IsSome running.lent }
         ensures lent { running.lent ≡ Some result.lent }
-        ensures none { result.did.items ≡ [] }
+        ensures none { (result.did.items ≡ []) × (result.left.items ≡ []) }
     {
         let Some(lent) = running.lent else {
             unreachable!()
@@ -187,14 +190,14 @@ impl<T: AppTask, E: AppEnd> Driven<T, E> {
         Driven {
             lent,
             did: History::new(),
+            left: History::new(),
         }
     }
 
     /// Polls the task once.
     pub fn turn(&mut self, cx: &mut Context<'_>) -> Took
         requires { MayGoOn T.stands E.AppEnd self.old.lent.task self.old.lent.app_end }
-        ensures did { self.new.did.items ≡ self.old.did.items ++ turn_in result ∷ [] }
-        ensures turn { IsTurn E.AppEnd (turn_in result) (E.ended self.new.lent.app_end) self.old.lent.app_end self.new.lent.app_end }
+        ensures turn { Turned E.AppEnd (turn_in result) self.old self.new }
         ensures runs { IfRuns result (RunsOn T.stands T.answers E.AppEnd self.old.lent self.new.lent) }
         ensures armed { IfRuns result (IsArmed cx.new) }
         ensures ends { IfEnds result (λ kind. GoesOn E.AppEnd (Some kind) self.old.lent.app_end self.new.lent.app_end) }
@@ -202,7 +205,9 @@ impl<T: AppTask, E: AppEnd> Driven<T, E> {
         ensures not_idle { IfEnds result (λ kind. kind ≢ EndKind.Idle) }
         ensures kept { Keeps cx.old cx.new }
     {
-        match self.lent.turn(cx) {
+        let answer = self.lent.turn(cx);
+        self.left = History::with(&self.left, &self.lent.app_end);
+        match answer {
             Poll::Ready(kind) => {
                 self.add(Turn::Last);
                 Took::Ends(kind)
@@ -218,17 +223,17 @@ impl<T: AppTask, E: AppEnd> Driven<T, E> {
     /// One more turn was taken, and did this.
     fn add(&mut self, turn: Turn)
         ensures did { self.new.did.items ≡ self.old.did.items ++ turn ∷ [] }
-        ensures same { self.new.lent ≡ self.old.lent }
+        ensures same { (self.new.lent ≡ self.old.lent) × (self.new.left ≡ self.old.left) }
     {
         self.did = History::with(&self.did, &turn);
     }
 
     /// Returns the task and its end, after this many polls.
     pub fn give_back(self, kind: EndKind, turns: u64) -> Ended<T, E>
-        ensures same { (result.task ≡ self.lent.task) × (result.app_end ≡ self.lent.app_end) × (result.did ≡ self.did) }
+        ensures same { (result.task ≡ self.lent.task) × (result.app_end ≡ self.lent.app_end) × (result.did ≡ self.did) × (result.left ≡ self.left) }
         ensures kind { (result.kind ≡ kind) × (result.turns ≡ turns) }
     {
-        let Driven { lent, did } = self;
+        let Driven { lent, did, left } = self;
         let Lent { task, app_end } = lent;
         Ended {
             task,
@@ -236,6 +241,7 @@ impl<T: AppTask, E: AppEnd> Driven<T, E> {
             kind,
             turns,
             did,
+            left,
         }
     }
 
@@ -244,7 +250,7 @@ impl<T: AppTask, E: AppEnd> Driven<T, E> {
         requires { E.ended self.lent.app_end ≡ None }
         ensures end { GoesOn E.AppEnd (Some EndKind.Idle) self.lent.app_end result.app_end }
         ensures still { IsStill E.AppEnd self.lent.app_end result.app_end }
-        ensures same { (result.task ≡ self.lent.task) × (result.did ≡ self.did) }
+        ensures same { (result.task ≡ self.lent.task) × (result.did ≡ self.did) × (result.left ≡ self.left) }
         ensures kind { (result.kind ≡ EndKind.Idle) × (result.turns ≡ turns) }
     {
         let mut ended = self.give_back(EndKind::Idle, turns);

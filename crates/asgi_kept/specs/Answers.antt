@@ -30,7 +30,7 @@ pub record Answered {T E P : Type 0} (answers : T → List Incoming → List Out
   pub turns : IsDriven job.turns job.idle_turns (count job.pause) (count pause) ended.turns ended.kind
   -- the turns that are counted are those that the polls were
   pub did : CountsTurns job.turns job.idle_turns ended.did.items (count job.pause) (count pause) ended.turns (idle_in_a_row ended.did.items)
-  pub took : IsSomeAnd job.running.lent (λ was. (last : E) × TakeTurns ends ended.did.items was.app_end last × IsStill ends last ended.app_end)
+  pub took : IsSomeAnd job.running.lent (λ was. (last : E) × TakeTurns ends ended.did.items ended.left.items was.app_end last × IsStill ends last ended.app_end)
 
 -- the last of these jobs was driven, and its task kept its promise
 abbrev pub HasAnswered : {T E P : Type 0} → (T → List Incoming → List Outgoing → Option EndKind → Type 0) → Ghosts E → (P → ℕ) → List (Job T E P) → Ended T E → P → Type 0

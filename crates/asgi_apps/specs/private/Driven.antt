@@ -1,5 +1,5 @@
 -- A turn of a task that is driven: words of private functions.
-use Rattle.std.specs.Prelude.{List, Option, None, ⊤}
+use Rattle.std.specs.Prelude.{◌≡◌, List, [], ◌∷◌, ◌++◌, Option, None, ⊤}
 use Rattle.asgi_io.specs.declared.turns.Turn.{Turn}
 use Rattle.asgi_io.specs.declared.turns.Turn.TheVariants.{Last}
 use Rattle.asgi_types.specs.declared.scope.Kind.{Kind}
@@ -7,10 +7,11 @@ use Rattle.asgi_types.specs.declared.incoming.Incoming.{Incoming}
 use Rattle.asgi_types.specs.declared.outgoing.Outgoing.{Outgoing}
 use Rattle.asgi_types.specs.declared.end_kind.EndKind.{EndKind}
 use Rattle.asgi_pipes.specs.declared.ends.AppEnd.{Ghosts}
+use Rattle.asgi_apps.specs.declared.running.Driven.{Driven}
 use Rattle.asgi_apps.specs.declared.running.Lent.{Lent}
 use Rattle.asgi_apps.specs.declared.running.Took.{Took}
 use Rattle.asgi_apps.specs.declared.running.Took.TheVariants.{Runs, Ends}
-use Rattle.asgi_apps.specs.Ends.{GoesOn, IsWithin, MayGoOn}
+use Rattle.asgi_apps.specs.Ends.{GoesOn, IsTurn, IsWithin, MayGoOn}
 
 -- the turn that was taken
 abbrev pub turn_in : Took → Turn
@@ -32,3 +33,10 @@ pub record RunsOn {T E : Type 0} (stands : T → Kind → List Incoming → List
   pub may : MayGoOn stands ends new.task new.app_end
   pub follows : GoesOn ends None old.app_end new.app_end
   pub within : IsWithin answers new.task old.task
+
+-- one turn, which the list of its turns has, and that of its end as each poll left it
+pub record Turned {T E : Type 0} (ends : Ghosts E) (is : Turn) (old new : Driven T E) : Type 0 where
+  pub polled : E
+  pub did : new.did.items ≡ old.did.items ++ is ∷ []
+  pub left : new.left.items ≡ old.left.items ++ polled ∷ []
+  pub turn : IsTurn ends is (ends.ended new.lent.app_end) old.lent.app_end polled new.lent.app_end

@@ -12,10 +12,10 @@ pub loop-driven-init : goal.loop-driven-init
 loop-driven-init g c = record {
   polled = subst (λ (l : Option (Lent _ _)). Polled g.E.AppEnd g.T.AppTask.stands g.T.AppTask.answers c.args.running.lent l) c.new-driven.ensures.lent
       (not_polled g.E.AppEnd g.T.AppTask.stands g.T.AppTask.answers c.args.running.lent c.requires);
-  took = starts g.E.AppEnd c.args.running.lent c.new-driven.result.lent c.new-driven.result.did.items c.new-driven.ensures.lent c.new-driven.ensures.none;
+  took = starts g.E.AppEnd c.args.running.lent c.new-driven.result c.new-driven.ensures.lent c.new-driven.ensures.none;
   turn_limit = c.new-taken.ensures.turn_limit;
   idle_limit = c.new-taken.ensures.idle_limit;
-  counts = rw c.new-driven.ensures.none (c.new-taken.ensures.none (g.P.Pause.count c.args.pause.now));
+  counts = rw c.new-driven.ensures.none.0 (c.new-taken.ensures.none (g.P.Pause.count c.args.pause.now));
   kept = λ fact h. h;
 }
 
@@ -44,17 +44,15 @@ returns-in-Ends-clause-turns g c =
 pub returns-in-Ends-clause-did : goal.returns-in-Ends-clause-did
 returns-in-Ends-clause-did g c =
     let inv = c.loop-driven.invariant in
-    rw (c.give_back.ensures.kind.1, c.give_back.ensures.same.2, c.in-Ends.ensures.did)
+    rw (c.give_back.ensures.kind.1, c.give_back.ensures.same.2, c.in-Ends.ensures.turn.did)
     (counts_row _ _ _ _ _ _ _
     (counts_more c.args.turns c.args.idle_turns _ _ _ _ _ _ _ _ _ c.loop-driven.driven.did.items Last inv.turn_limit inv.idle_limit inv.counts c.take-in-Ends.ensures.counts))
 
 pub returns-in-Ends-clause-took : goal.returns-in-Ends-clause-took
 returns-in-Ends-clause-took g c =
-    let end = c.turn.new.self.lent.app_end in
-    rw (c.give_back.ensures.same.1, c.give_back.ensures.same.2)
-    (took g.E.AppEnd c.args.running.lent c.turn.new.self.did.items end end (refl, refl, refl)
-    (goes_on g.E.AppEnd c.args.running.lent c.loop-driven.driven.did.items c.turn.new.self.did.items Last c.loop-driven.driven.lent.app_end end
-    c.in-Ends.ensures.did c.in-Ends.ensures.turn c.loop-driven.invariant.took))
+    rw (c.give_back.ensures.same.1, c.give_back.ensures.same.2, c.give_back.ensures.same.3)
+    (took g.E.AppEnd c.args.running.lent c.turn.new.self c.turn.new.self.lent.app_end (refl, refl, refl)
+    (goes_on g.E.AppEnd c.args.running.lent Last c.loop-driven.driven c.turn.new.self c.in-Ends.ensures.turn c.loop-driven.invariant.took))
 
 pub loop-driven-preserved : goal.loop-driven-preserved
 loop-driven-preserved g c =
@@ -64,10 +62,10 @@ loop-driven-preserved g c =
     record {
       polled = polled_again g.E.AppEnd g.T.AppTask.stands g.T.AppTask.answers c.args.running.lent (Some was.lent) (Some is.lent) inv.polled
           (polled_on g.E.AppEnd g.T.AppTask.stands g.T.AppTask.answers was.lent is.lent c.in-Runs.ensures.runs);
-      took = goes_on g.E.AppEnd c.args.running.lent was.did.items is.did.items c.in-Runs.turn was.lent.app_end is.lent.app_end c.in-Runs.ensures.did c.in-Runs.ensures.turn inv.took;
+      took = goes_on g.E.AppEnd c.args.running.lent c.in-Runs.turn was is c.in-Runs.ensures.turn inv.took;
       turn_limit = c.take.ensures.turn_limit ∙ inv.turn_limit;
       idle_limit = c.take.ensures.idle_limit ∙ inv.idle_limit;
-      counts = rw c.in-Runs.ensures.did (counts_more c.args.turns c.args.idle_turns _ _ _ _ _ _ _ _ _ was.did.items c.in-Runs.turn inv.turn_limit inv.idle_limit inv.counts c.take.ensures.counts);
+      counts = rw c.in-Runs.ensures.turn.did (counts_more c.args.turns c.args.idle_turns _ _ _ _ _ _ _ _ _ was.did.items c.in-Runs.turn inv.turn_limit inv.idle_limit inv.counts c.take.ensures.counts);
       kept = λ fact h. c.turn.ensures.kept fact (inv.kept fact h);
     }
 
@@ -90,8 +88,8 @@ returns-clause-did g c =
 
 pub returns-clause-took : goal.returns-clause-took
 returns-clause-took g c =
-    rw c.stop.ensures.same.1
-    (took g.E.AppEnd c.args.running.lent c.loop-driven.driven.did.items c.loop-driven.driven.lent.app_end c.stop.result.app_end c.stop.ensures.still c.loop-driven.invariant.took)
+    rw (c.stop.ensures.same.1, c.stop.ensures.same.2)
+    (took g.E.AppEnd c.args.running.lent c.loop-driven.driven c.stop.result.app_end c.stop.ensures.still c.loop-driven.invariant.took)
 
 pub returns-clause-idle : goal.returns-clause-idle
 returns-clause-idle g c idle =

@@ -1,14 +1,14 @@
 use Rattle.std.proofs.Common.{◌≡◌, ◌-◌, Some, IsSomeAnd}
 use Rattle.futures.specs.Task.{Keeps}
 use Rattle.asgi_io.specs.Turns.{CountsTurns}
-use Rattle.asgi_apps.specs.Ends.{TakeTurns}
 use Rattle.asgi_apps.proofs.EndLemmas.{Polled}
+use Rattle.asgi_apps.proofs.TurnLemmas.{HasTaken}
 use Rattle.asgi_apps.proofs.driving.drive.Given as goal
 
 abbrev pub invariant-loop-driven : goal.invariant-loop-driven
 invariant-loop-driven g l = record {
   polled : Polled g.E.AppEnd g.T.AppTask.stands g.T.AppTask.answers l.fn.running.lent (Some l.driven.lent);
-  took : IsSomeAnd l.fn.running.lent (λ was. TakeTurns g.E.AppEnd l.driven.did.items was.app_end l.driven.lent.app_end);
+  took : HasTaken g.E.AppEnd l.fn.running.lent l.driven;
   turn_limit : l.taken.turn_limit ≡ l.turns;
   idle_limit : l.taken.idle_limit ≡ l.idle_turns;
   counts : CountsTurns l.turns l.idle_turns l.driven.did.items (g.P.Pause.count l.fn.pause) (g.P.Pause.count l.pause) l.taken.turns l.taken.idle;
