@@ -1,4 +1,4 @@
-use Rattle.std.proofs.Common.{◌≡◌, ◌-◌, Some, IsSomeAnd}
+use Rattle.std.proofs.Common.{◌≡◌, ◌-◌, Some}
 use Rattle.futures.specs.Task.{Keeps}
 use Rattle.asgi_io.specs.Turns.{CountsTurns}
 use Rattle.asgi_apps.proofs.EndLemmas.{Polled}
