@@ -1,4 +1,4 @@
-use Rattle.std.proofs.Common.{◌≡◌, Some, ap, ◌∙◌, arith}
+use Rattle.std.proofs.Common.{Some, ap, ◌∙◌}
 use Rattle.asgi_pipes.specs.RingPairs.{ring_of}
 use Rattle.asgi_kept.proofs.ListLemmas.{same_ring}
 use Rattle.asgi_kept.proofs.starting.start.Goals as goal

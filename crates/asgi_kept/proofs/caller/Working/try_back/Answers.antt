@@ -1,4 +1,4 @@
-use Rattle.std.proofs.Common.{◌≡◌, IfSome, arith, refl, subst}
+use Rattle.std.proofs.Common.{IfSome, arith, refl, subst}
 use Rattle.rtrb.specs.Ring.{received}
 use Rattle.asgi_pipes.specs.RingPairs.{ring_of}
 use Rattle.asgi_kept.specs.Answers.{HasAnswered}
