@@ -1,12 +1,10 @@
-use Rattle.std.proofs.Common.{[], ◌∷◌, ◌++◌, Option, Some, sym, append_assoc, inl, inr, List, ◌≡◌, refl, ap, ◌∙◌, subst}
-use Rattle.std.proofs.lemmas.List.{append-nil}
+use Rattle.std.proofs.Common.{[], ◌∷◌, ◌++◌, Option, Some, sym, inl, inr, refl, ◌∙◌, subst}
 use Rattle.asgi_lifespan.specs.declared.hosted.Word.{Word}
 use Rattle.asgi_lifespan.specs.Hosting.{Tells}
-use Rattle.asgi_io.specs.declared.turns.Turn.{Turn}
 use Rattle.asgi_apps.proofs.PauseLemmas.{counts_more, paused_for_each}
 use Rattle.asgi_lifespan.proofs.HostLemmas.{follows_nothing, follows_then, follows_left, tells_further, tells_idle, told_none}
 use Rattle.asgi_lifespan.proofs.TurnLemmas.{turned_same, turned_then}
-use Rattle.asgi_lifespan.proofs.waiting.Hosted.run.Goals as goal
+use Rattle.asgi_lifespan.proofs.hosted.Hosted.run.Goals as goal
 
 pub loop-word-init : goal.loop-word-init
 loop-word-init g c = record {
@@ -35,13 +33,16 @@ returns-in-Some-clause-tells g c =
     (subst (λ (w : Option Word). Tells c.loop-word.self c.next.new.self w) c.in-Some.is c.next.ensures.tells)
 
 pub returns-in-Some-clause-turns : goal.returns-in-Some-clause-turns
-returns-in-Some-clause-turns g c = (record {
-  turned = c.loop-word.invariant.turned;
-  turns = c.loop-word.taken.turns;
-  idle = c.loop-word.taken.idle;
-  counts = c.loop-word.invariant.counts;
-  at_limit = λ told is. absurd (told_none _ told c.in-Some.ensures.turns is);
-}, turned_same c.loop-word.invariant.turned c.args.self.now c.loop-word.self c.next.new.self c.loop-word.invariant.took c.next.ensures.turned)
+returns-in-Some-clause-turns g c = (
+  record {
+    turned = c.loop-word.invariant.turned;
+    turns = c.loop-word.taken.turns;
+    idle = c.loop-word.taken.idle;
+    counts = c.loop-word.invariant.counts;
+    at_limit = λ told is. absurd (told_none _ told c.in-Some.ensures.turns is);
+  },
+  turned_same c.loop-word.invariant.turned c.args.self.now c.loop-word.self c.next.new.self c.loop-word.invariant.took c.next.ensures.turned,
+)
 
 pub returns-then-is_over-clause-follows : goal.returns-then-is_over-clause-follows
 returns-then-is_over-clause-follows g c =
@@ -54,19 +55,22 @@ returns-then-is_over-clause-tells g c =
     (subst (λ (w : Option Word). Tells c.loop-word.self c.next.new.self w) c.in_default.is c.next.ensures.tells)
 
 pub returns-then-is_over-clause-turns : goal.returns-then-is_over-clause-turns
-returns-then-is_over-clause-turns g c = (record {
-  turned = c.loop-word.invariant.turned;
-  turns = c.loop-word.taken.turns;
-  idle = c.loop-word.taken.idle;
-  counts = c.loop-word.invariant.counts;
-  at_limit = λ told is. (
-    cc,
-    elim (c.is_over.ensures.0 c.if-is_over.true) [
-      | inl all ↦ inl (all ∙ c.loop-word.invariant.turn_limit)
-      | inr row ↦ inr (row ∙ c.loop-word.invariant.idle_limit, paused_for_each _ _ _ _ _ _ c.loop-word.invariant.turned c.loop-word.invariant.counts (row ∙ c.loop-word.invariant.idle_limit))
-    ],
-  );
-}, turned_same c.loop-word.invariant.turned c.args.self.now c.loop-word.self c.next.new.self c.loop-word.invariant.took c.next.ensures.turned)
+returns-then-is_over-clause-turns g c = (
+  record {
+    turned = c.loop-word.invariant.turned;
+    turns = c.loop-word.taken.turns;
+    idle = c.loop-word.taken.idle;
+    counts = c.loop-word.invariant.counts;
+    at_limit = λ told is. (
+      cc,
+      elim (c.is_over.ensures.0 c.if-is_over.true) [
+        | inl all ↦ inl (all ∙ c.loop-word.invariant.turn_limit)
+        | inr row ↦ inr (row ∙ c.loop-word.invariant.idle_limit, paused_for_each _ _ _ _ _ _ c.loop-word.invariant.turned c.loop-word.invariant.counts (row ∙ c.loop-word.invariant.idle_limit))
+      ],
+    );
+  },
+  turned_same c.loop-word.invariant.turned c.args.self.now c.loop-word.self c.next.new.self c.loop-word.invariant.took c.next.ensures.turned,
+)
 
 pub returns-then-is_over-clause-armed : goal.returns-then-is_over-clause-armed
 returns-then-is_over-clause-armed g c told is =

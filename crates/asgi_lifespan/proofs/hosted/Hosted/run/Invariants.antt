@@ -4,7 +4,7 @@ use Rattle.asgi_io.specs.declared.turns.Turn.{Turn}
 use Rattle.asgi_io.specs.Turns.{CountsTurns}
 use Rattle.asgi_lifespan.specs.Hosting.{Follows, got_of}
 use Rattle.asgi_lifespan.specs.Turning.{HasTurned}
-use Rattle.asgi_lifespan.proofs.waiting.Hosted.run.Given as goal
+use Rattle.asgi_lifespan.proofs.hosted.Hosted.run.Given as goal
 
 abbrev pub invariant-loop-word : goal.invariant-loop-word
 invariant-loop-word g l = record {
