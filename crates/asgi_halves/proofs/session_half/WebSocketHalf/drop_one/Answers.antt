@@ -4,7 +4,7 @@ use Rattle.asgi_halves.specs.Traffic.{is_end}
 use Rattle.asgi_halves.proofs.LineCallLemmas.{HasRead, has_read, turn_of_message}
 use Rattle.asgi_halves.proofs.SessionReadLemmas.{leads_dropped, out_none}
 use Rattle.asgi_halves.proofs.session_half.WebSocketHalf.drop_one.Goals as goal
-use Rattle.asgi_halves.proofs.session_half.WebSocketHalf.drop_one.Goals.{in-Message, in-Ended, in-Failed, in-NoMemory}
+use Rattle.asgi_halves.proofs.session_half.WebSocketHalf.drop_one.Goals.{in-Message, in-Ended, in-Failed, in-NoMemory, then-self-via-then-self, then-self-via-else-self+then-self-eq0}
 
 pub returns-then-self-clause-leads : goal.returns-then-self-clause-leads
 returns-then-self-clause-leads g c = out_none (g.L.Line.state c.args.line.now) c.args.self.now
@@ -36,7 +36,8 @@ returns-clause-leads g c =
     ]
 
 pub returns-then-self-clause-turn : goal.returns-then-self-clause-turn
-returns-then-self-clause-turn g c = NoRead (elim c.then-self.either [ inl over ↦ inl over | inr none ↦ inr none.1 ]) refl refl
+returns-then-self-clause-turn g c =
+    NoRead (elim c.then-self.branch [ then-self-via-then-self w ↦ inl w.if-self.true | then-self-via-else-self+then-self-eq0 w ↦ inr w.if-self-eq0.true ]) refl refl
 
 pub returns-in-Idle-clause-turn : goal.returns-in-Idle-clause-turn
 returns-in-Idle-clause-turn g c =
