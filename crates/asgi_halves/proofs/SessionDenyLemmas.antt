@@ -24,15 +24,15 @@ use Rattle.asgi_exchange.specs.Views.{ConnView, taken_of}
 use Rattle.asgi_exchange.proofs.SessionLemmas.{event_adds}
 use Rattle.asgi_conversation.specs.declared.report.Outcome.TheVariants.{WriteFailed, NoMemory}
 use Rattle.asgi_conversation.specs.Sessions.{handshake_of}
-use Rattle.asgi_halves.specs.declared.stage.Stage.{Stage}
 use Rattle.asgi_halves.specs.declared.stage.Stage.TheVariants.{Running, Cut}
 use Rattle.asgi_halves.specs.declared.session_half.Answered.TheVariants.{Unanswered}
 use Rattle.asgi_halves.specs.declared.session_half.WebSocketHalf.{WebSocketHalf}
 use Rattle.asgi_halves.specs.declared.wire.Wire.{Wire}
 use Rattle.asgi_ws.specs.Lines.{LineState}
-use Rattle.asgi_halves.specs.WebSocketHalf.{SessionScene, Invariant, IsDenial, Talks, IsAt, IsDue, answer_to, said_in}
+use Rattle.asgi_halves.specs.WebSocketHalf.{SessionScene, Invariant, IsDenial, Talks, IsDue, answer_to, said_in}
 use Rattle.asgi_halves.proofs.SessionPassLemmas.{more_said, denial_is_first, denial_goes_on}
 use Rattle.asgi_halves.proofs.SessionSayLemmas.{accept_cut, denial_out, text_short}
+use Rattle.asgi_halves.proofs.SessionOfferLemmas.{runs}
 
 -- what a call promises that was not refused
 pub from_ok : {T E P : Type 0} (r : Result T E) → false ≡ is_err r → OnOk r P → P
@@ -69,7 +69,7 @@ module _ (scene : SessionScene) (was : LineState) (half : WebSocketHalf) (read :
   later written = record view { got = view.got ++ Event event ∷ []; written = written }
 
   at : Talks scene (record half { judge = before }) view × (end_of view.got ≡ None) × IsDue half.due (record half { judge = before }) view
-  at = subst (λ (s : Stage). IsAt s scene (record half { judge = before }) view) running x.stage
+  at = runs scene was (record half { judge = before }) read view x running
 
   denying : GoesOnDenying (handshake_of scene.facts) scene.facts (said_in scene view) event
   denying = goes_on_denying (handshake_of scene.facts) scene.facts (said_in scene view) event denies pass

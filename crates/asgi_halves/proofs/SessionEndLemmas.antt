@@ -54,7 +54,7 @@ use Rattle.asgi_run.proofs.LineLemmas.{tries_front}
 use Rattle.asgi_halves.specs.Half.{failures_at}
 use Rattle.asgi_halves.proofs.CallLemmas.{failures_by, as_messages, as_text}
 use Rattle.asgi_halves.proofs.TalkLemmas.{LeavesText, talk_written, talk_sent}
-use Rattle.asgi_halves.proofs.SessionOfferLemmas.{carried_on}
+use Rattle.asgi_halves.proofs.SessionOfferLemmas.{carried_on, line_at}
 use Rattle.asgi_exchange.proofs.ListLemmas.{prefix_self}
 
 -- ---- what the end adds, by what was sent
@@ -180,9 +180,7 @@ module _ (scene : SessionScene) (was : LineState) (half : WebSocketHalf) (read :
   adds = session_ending scene.facts (taken_of view) ended (is_by_input view.broken)
 
   line : CarriesOn scene.start was half.wire.input read (scene.before ++ x.text) 0 (talk_in half view x.leftover x.handed) half.spare_reads
-  line =
-      let P : ℕ → Type 0 = λ n. CarriesOn scene.start was half.wire.input read (scene.before ++ x.text) n (talk_in half view x.leftover x.handed) half.spare_reads in
-      subst (λ (s : Stage). P (failures_at s)) is x.line
+  line = line_at scene was half read view x 0 (ap failures_at is)
 
   whole : session_text (handshake_of scene.facts) scene.facts (taken_of view) (end_of view.got) (is_by_input view.broken) ≡ view.written ++ adds
   whole =

@@ -40,7 +40,7 @@ use Rattle.asgi_ws.specs.Lines.{LineState}
 use Rattle.asgi_io.specs.declared.turns.Turn.{Turn}
 use Rattle.asgi_io.specs.declared.turns.Turn.TheVariants.{Idle, Moved}
 use Rattle.asgi_halves.specs.Kinds.{IsShut, IsTurnOfRead, turn_by}
-use Rattle.asgi_halves.specs.WebSocketHalf.{SessionScene, Invariant, Talks, EndsByTask, HasDropped, IsAt, IsDue, IsCarrying, IsCarried, MayDrop, PreservesByLine, Rests, RestsAt, exchange_of, said_in, output_in, talk_in, heard_by, lost_by, noted_by}
+use Rattle.asgi_halves.specs.WebSocketHalf.{SessionScene, Invariant, Talks, EndsByTask, HasDropped, IsAt, IsDue, IsCarrying, MayDrop, PreservesByLine, Rests, RestsAt, exchange_of, said_in, output_in, talk_in, heard_by, lost_by, noted_by}
 use Rattle.asgi_halves.specs.Half.{failures_at}
 use Rattle.asgi_halves.specs.Traffic.{drop_limit, is_end}
 use Rattle.asgi_halves.specs.WebSocketHalf.{CarriesOn}
@@ -48,6 +48,7 @@ use Rattle.asgi_halves.proofs.CallLemmas.{closes, closes_after, none_after, open
 use Rattle.asgi_halves.proofs.LineCallLemmas.{HasRead}
 use Rattle.asgi_halves.proofs.TalkLemmas.{talk_read}
 use Rattle.asgi_halves.proofs.TurnLemmas.{rests_else}
+use Rattle.asgi_halves.proofs.SessionOfferLemmas.{Carries, carrying, carrying_of}
 
 -- ---- more messages
 
@@ -128,32 +129,16 @@ follows_still kind.Idle said input_broke arrived more closed = refl
 
 -- ---- a message arrives
 
--- the line carries messages
-abbrev Carries : Answered → Type 0
-Carries state = (state ≡ Open) ⊎ (state ≡ Closed)
-
 carrying_still : (scene : SessionScene) (view : ConnView Msg Output) (arrived : List Msg) (text : List ℕ) (leftover : Option (List ℕ)) → IsCarrying scene view text leftover
     → IsCarrying scene (record view { arrived = arrived }) text leftover
 carrying_still scene view arrived text leftover x =
     record { kept = x.kept; subprotocol = x.subprotocol; headers = x.headers; events = x.events; said = x.said; text_is = x.text_is }
 
-carried_still : (state : Answered) (scene : SessionScene) (old new : WebSocketHalf) (view : ConnView Msg Output) (arrived : List Msg) (text : List ℕ) (leftover : Option (List ℕ)) (handed : List SentMessage)
-    → Carries state → IsCarried state scene old view text leftover handed → IsCarried state scene new (record view { arrived = arrived }) text leftover handed
-carried_still state scene old new view arrived text leftover handed (inl e) x =
-    subst (λ (a : Answered). IsCarried a scene new (record view { arrived = arrived }) text leftover handed) (sym e)
-    (carrying_still scene view arrived text leftover (subst (λ (a : Answered). IsCarried a scene old view text leftover handed) e x))
-carried_still state scene old new view arrived text leftover handed (inr e) x =
-    subst (λ (a : Answered). IsCarried a scene new (record view { arrived = arrived }) text leftover handed) (sym e)
-    (carrying_still scene view arrived text leftover (subst (λ (a : Answered). IsCarried a scene old view text leftover handed) e x))
-
--- and was given the bytes after the handshake
-kept_there : (state : Answered) (scene : SessionScene) (half : WebSocketHalf) (view : ConnView Msg Output) (text : List ℕ) (leftover : Option (List ℕ)) (handed : List SentMessage)
-    → Carries state → IsCarried state scene half view text leftover handed → leftover ≡ Some scene.frames
-kept_there state scene half view text leftover handed (inl e) x = (subst (λ (a : Answered). IsCarried a scene half view text leftover handed) e x).kept
-kept_there state scene half view text leftover handed (inr e) x = (subst (λ (a : Answered). IsCarried a scene half view text leftover handed) e x).kept
-
 module _ (scene : SessionScene) (was now : LineState) (half : WebSocketHalf) (read : List ℕ) (view : ConnView Msg Output) (x : Invariant scene was half read view)
     (unfailed : failures_at half.stage ≡ 0) (goes_on : half.is_over ≡ false) (carries : Carries half.answered) (closed : is_by_input view.broken ≡ true → has_close view.arrived ≡ true) (answer : Got) (call : HasRead was now answer) where
+  is_carrying : IsCarrying scene view x.text x.leftover
+  is_carrying = carrying_of half.answered scene half view x.text x.leftover x.handed carries x.carried
+
   -- The messages of the outcome arrived, and all else stays: the half's invariant holds again if that of the later stage does.
   arrives : (next : Due) (client_closed : Bool) (is_over : Bool) (spare_reads : ℕ) (stage : Stage) → failures_at stage ≡ 0 → is_over ≡ (half.is_over || is_end answer)
       → reads_after_close (x.line.carried.calls ++ Read answer ∷ []) + spare_reads ≤ drop_limit
@@ -165,7 +150,7 @@ module _ (scene : SessionScene) (was now : LineState) (half : WebSocketHalf) (re
       let line : CarriesOn scene.start now half.wire.input read (scene.before ++ x.text) 0 (talk_in later seen x.leftover x.handed) spare_reads =
       talk_read scene.start was now half.wire.input read (scene.before ++ x.text) (failures_at half.stage) unfailed (talk_in half view x.leftover x.handed) (talk_in later seen x.leftover x.handed) half.spare_reads
       x.line call.text answer goes_on call.told call.loses call.count call.kept refl over refl refl spare_reads few
-      scene.frames (kept_there half.answered scene half view x.text x.leftover x.handed carries x.carried) in
+      scene.frames is_carrying.kept in
       record {
         fixed = x.fixed;
         text = x.text;
@@ -173,7 +158,7 @@ module _ (scene : SessionScene) (was now : LineState) (half : WebSocketHalf) (re
         handed = x.handed;
         line = subst (λ (n : ℕ). CarriesOn scene.start now half.wire.input read (scene.before ++ x.text) n (talk_in later seen x.leftover x.handed) spare_reads) (sym none) line;
         written = x.written;
-        carried = carried_still half.answered scene half later view (view.arrived ++ given_by answer) x.text x.leftover x.handed carries x.carried;
+        carried = carrying half.answered scene later seen x.text x.leftover x.handed carries (carrying_still scene view seen.arrived x.text x.leftover is_carrying);
         keeps = record {
           offered = offered_still scene view.arrived (given_by answer) view.offered view.broken closed x.keeps.offered;
           written = written_still scene view (view.arrived ++ given_by answer) x.keeps.written;

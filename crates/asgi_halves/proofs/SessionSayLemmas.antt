@@ -56,18 +56,11 @@ use Rattle.asgi_halves.proofs.CallLemmas.{failures_by, as_messages, as_text}
 use Rattle.asgi_halves.proofs.TalkLemmas.{LeavesText, talk_written, talk_sent, talk_upgraded}
 use Rattle.asgi_response.specs.declared.text.ResponseText.{ResponseText}
 use Rattle.asgi_response.specs.Standing as standing
+use Rattle.asgi_halves.proofs.SessionOfferLemmas.{Carries, carrying, line_at, runs}
 
 -- ---- the line carries messages
 
-abbrev IsUpgraded : Answered → Type 0
-IsUpgraded answered = (answered ≡ Open) ⊎ (answered ≡ Closed)
-
-carrying : (progress : Answered) (scene : SessionScene) (half : WebSocketHalf) (view : ConnView Msg Output) (text : List ℕ) (leftover : Option (List ℕ)) (handed : List SentMessage) → IsUpgraded progress
-    → IsCarrying scene view text leftover → IsCarried progress scene half view text leftover handed
-carrying progress scene half view text leftover handed (inl is) c = subst (λ (a : Answered). IsCarried a scene half view text leftover handed) (sym is) c
-carrying progress scene half view text leftover handed (inr is) c = subst (λ (a : Answered). IsCarried a scene half view text leftover handed) (sym is) c
-
-is_answered : (progress : Answered) → IsUpgraded progress → progress ≡ Unanswered → ⊥
+is_answered : (progress : Answered) → Carries progress → progress ≡ Unanswered → ⊥
 is_answered progress (inl is) e = let never : Open ≡ Unanswered = sym is ∙ e in cc
 is_answered progress (inr is) e = let never : Closed ≡ Unanswered = sym is ∙ e in cc
 
@@ -96,10 +89,6 @@ due_stays (due.Left event) old new view got written input_broke over was is x = 
 abbrev pub half_before : WebSocketHalf → Judge → ResponseText → Vec ℕ Global → WebSocketHalf
 half_before half judge text out = record half { judge = judge; text = text; wire = record half.wire { out = out } }
 
-pub running_of : (scene : SessionScene) (was : LineState) (half : WebSocketHalf) (read : List ℕ) (view : ConnView Msg Output) → Invariant scene was half read view → half.stage ≡ Running
-    → Talks scene half view × (end_of view.got ≡ None) × IsDue half.due half view
-running_of scene was half read view x is = subst (λ (s : Stage). IsAt s scene half view) is x.stage
-
 module _ (scene : SessionScene) (was : LineState) (half : WebSocketHalf) (read : List ℕ) (view : ConnView Msg Output) (before : Judge) (text_was : ResponseText) (out_was : Vec ℕ Global)
     (x : Invariant scene was (half_before half before text_was out_was) read view) (running : half.stage ≡ Running) (event : Outgoing) (pass : passes WebSocket scene.facts (said_in scene view) event ≡ true)
     (judged : judging.StandsFor half.judge WebSocket scene.facts (said_in scene view ++ event ∷ []) false) where
@@ -113,7 +102,7 @@ module _ (scene : SessionScene) (was : LineState) (half : WebSocketHalf) (read :
   old = half_before half before text_was out_was
 
   at : Talks scene old view × (end_of view.got ≡ None) × IsDue half.due old view
-  at = running_of scene was old read view x running
+  at = runs scene was old read view x running
 
   fixed : IsOf scene half.facts half.wire read
   fixed = record {
@@ -127,9 +116,7 @@ module _ (scene : SessionScene) (was : LineState) (half : WebSocketHalf) (read :
   }
 
   line : CarriesOn scene.start was half.wire.input read (scene.before ++ x.text) 0 (talk_in half view x.leftover x.handed) half.spare_reads
-  line =
-      let P : ℕ → Type 0 = λ n. CarriesOn scene.start was half.wire.input read (scene.before ++ x.text) n (talk_in half view x.leftover x.handed) half.spare_reads in
-      subst (λ (s : Stage). P (failures_at s)) running x.line
+  line = line_at scene was old read view x 0 (ap failures_at running)
 
   more_taken : (written : List Output) → taken_of (later written) ≡ taken_of view ++ event ∷ []
   more_taken written = events_append view.got (Event event ∷ [])
@@ -249,7 +236,7 @@ module _ (scene : SessionScene) (was : LineState) (half : WebSocketHalf) (read :
           subst (λ (a : Put). CarriesOn scene.start now half.wire.input read (scene.before ++ x.text) (failures_by a) (talk_in half view x.leftover (x.handed ++ taken_by message a)) half.spare_reads) is sent
 
       -- the half after the answer
-      answered_put : half.wire.out.items ≡ [] → (progress : Answered) (waits : Due) → IsUpgraded progress → answer_to (said_in scene view ++ event ∷ []) ≡ progress
+      answered_put : half.wire.out.items ≡ [] → (progress : Answered) (waits : Due) → Carries progress → answer_to (said_in scene view ++ event ∷ []) ≡ progress
           → (progress ≡ Open → half.client_closed ≡ has_close view.arrived)
           → ((written : List Output) → IsDue waits (record half { answered = progress; due = waits; stage = Running }) (later written))
           → (result : Put) → answer ≡ result → (written : List Output) × Invariant scene now (record half { answered = progress; due = waits; stage = stage_of result }) read (later written)
@@ -424,7 +411,7 @@ module _ (scene : SessionScene) (was now : LineState) (half : WebSocketHalf) (re
       sent_on scene was half read view before half.text half.wire.out x running (WsSend payload) pass judged
       (is_open scene was half read view before half.text half.wire.out x running (WsSend payload) pass judged s)
       now (item.Payload payload) (ap (λ (l : List Outgoing). event_output (handshake_of scene.facts) scene.facts l (WsSend payload)) s.3)
-      answer same told count coming kept (running_of scene was (record half { judge = before }) read view x running).0.empty (open_after_send scene.facts (said_in scene view) payload pass) stage is
+      answer same told count coming kept (runs scene was (record half { judge = before }) read view x running).0.empty (open_after_send scene.facts (said_in scene view) payload pass) stage is
 
   pub close_sent : (code : ℕ) (reason : List ℕ) → passes WebSocket scene.facts (said_in scene view) (WsClose code reason) ≡ true
       → judging.StandsFor half.judge WebSocket scene.facts (said_in scene view ++ WsClose code reason ∷ []) false → half.answered ≡ Open
@@ -432,7 +419,7 @@ module _ (scene : SessionScene) (was now : LineState) (half : WebSocketHalf) (re
       → (written : List Output)
       × Invariant scene now (record half { answered = Closed; due = due.Nothing; stage = stage }) read (record view { got = view.got ++ Event (WsClose code reason) ∷ []; written = written })
   close_sent code reason pass judged opened copy copied told stage is =
-      let t = running_of scene was (record half { judge = before }) read view x running in
+      let t = runs scene was (record half { judge = before }) read view x running in
       let s = open_is_accepted (said_in scene view) (sym t.0.answered ∙ opened) in
       closed_by scene was half read view before half.text half.wire.out x running (WsClose code reason) pass judged opened
       now (item.Close code reason) (ap (λ (l : List Outgoing). event_output (handshake_of scene.facts) scene.facts l (WsClose code reason)) s.3)
@@ -451,7 +438,7 @@ module _ (scene : SessionScene) (was now : LineState) (half : WebSocketHalf) (re
   ]
 
   before_it : Talks scene (record half { judge = before }) view
-  before_it = (running_of scene was (record half { judge = before }) read view x running).0
+  before_it = (runs scene was (record half { judge = before }) read view x running).0
 
   unanswered_yet : half.answered ≡ Unanswered
   unanswered_yet = before_it.answered ∙ ap answer_to unsaid
@@ -487,7 +474,7 @@ module _ (scene : SessionScene) (was : LineState) (half : WebSocketHalf) (read :
       accept_is_first scene.facts (said_in scene view) a.0 a.1 (ap (λ (e : Outgoing). passes WebSocket scene.facts (said_in scene view) e) (sym a.2) ∙ pass)
 
   talks_before : Talks scene (record half { judge = before }) view
-  talks_before = (running_of scene was (record half { judge = before }) read view x running).0
+  talks_before = (runs scene was (record half { judge = before }) read view x running).0
 
   not_answered : half.answered ≡ Unanswered
   not_answered = talks_before.answered ∙ ap answer_to none_before

@@ -36,16 +36,12 @@ use Rattle.asgi_halves.specs.declared.session_half.WebSocketHalf.{WebSocketHalf}
 use Rattle.asgi_halves.specs.declared.wire.Wire.{Wire}
 use Rattle.asgi_halves.specs.Half.{failures_at}
 use Rattle.asgi_ws.specs.Lines.{LineState}
-use Rattle.asgi_halves.specs.WebSocketHalf.{SessionScene, Invariant, OpensSession, Talks, IsAt, IsDue, answer_to, exchange_of, said_in, talk_in}
+use Rattle.asgi_halves.specs.WebSocketHalf.{SessionScene, Invariant, OpensSession, Talks, IsDue, answer_to, exchange_of, said_in}
 use Rattle.asgi_halves.specs.Traffic.{drop_limit}
 use Rattle.asgi_halves.specs.WebSocketHalf.{CarriesOn}
 use Rattle.asgi_halves.proofs.SessionPassLemmas.{same_said}
 use Rattle.asgi_halves.proofs.TalkLemmas.{talk_begins}
-use Rattle.asgi_halves.proofs.SessionOfferLemmas.{carried_on}
-
-running_of : (scene : SessionScene) (now : LineState) (half : WebSocketHalf) (read : List ℕ) (view : ConnView Msg Output) → Invariant scene now half read view → half.stage ≡ Running
-    → Talks scene half view × (end_of view.got ≡ None) × IsDue half.due half view
-running_of scene now half read view x is = subst (λ (s : Stage). IsAt s scene half view) is x.stage
+use Rattle.asgi_halves.proofs.SessionOfferLemmas.{carried_on, line_at, runs}
 
 no_pass : (v : Verdict) → (v ≡ verdict.Pass → ⊥) → is_pass v ≡ false
 no_pass verdict.Pass h = absurd (h refl)
@@ -86,13 +82,7 @@ module _ (scene : SessionScene) (half : WebSocketHalf) (view : ConnView Msg Outp
 
 module _ (scene : SessionScene) (now : LineState) (half : WebSocketHalf) (read : List ℕ) (view : ConnView Msg Output) (x : Invariant scene now half read view) (is : half.stage ≡ Running) where
   at : Talks scene half view × (end_of view.got ≡ None) × IsDue half.due half view
-  at = running_of scene now half read view x is
-
-  line_at : (stage : Stage) → failures_at stage ≡ 0
-      → CarriesOn scene.start now half.wire.input read (scene.before ++ x.text) (failures_at stage) (talk_in half view x.leftover x.handed) half.spare_reads
-  line_at stage none =
-      subst (λ (n : ℕ). CarriesOn scene.start now half.wire.input read (scene.before ++ x.text) n (talk_in half view x.leftover x.handed) half.spare_reads)
-      (ap failures_at is ∙ sym none) x.line
+  at = runs scene now half read view x is
 
   -- the end of the task
   pub ended_taken : (kind : EndKind) → Invariant scene now (record half { stage = Ending kind }) read (record view { got = view.got ++ Ended kind ∷ []; broken_first = is_by_input view.broken })
@@ -107,7 +97,7 @@ module _ (scene : SessionScene) (now : LineState) (half : WebSocketHalf) (read :
         text = x.text;
         leftover = x.leftover;
         handed = x.handed;
-        line = line_at (Ending kind) refl;
+        line = line_at scene now half read view x 0 (ap failures_at is);
         written = x.written;
         carried = carried_on half.answered scene half (record half { stage = Ending kind }) view later x.text x.leftover x.handed refl refl refl refl ([], append-nil (said_in scene view) ∙ sym same) x.carried;
         keeps = record { offered = x.keeps.offered; written = (added, ap (λ (l : List Output). l ++ added) talks.written) };
@@ -129,7 +119,7 @@ module _ (scene : SessionScene) (now : LineState) (half : WebSocketHalf) (read :
         text = x.text;
         leftover = x.leftover;
         handed = x.handed;
-        line = line_at Running refl;
+        line = line_at scene now half read view x 0 (ap failures_at is);
         written = x.written;
         carried = carried_on half.answered scene half (record half { stage = Running }) view later x.text x.leftover x.handed refl refl refl refl ([], append-nil (said_in scene view) ∙ sym same) x.carried;
         keeps = record { offered = x.keeps.offered; written = (added, ap (λ (l : List Output). l ++ added) talks.written) };
