@@ -43,6 +43,7 @@ use Rattle.asgi_conversation.specs.OutcomeClasses.{OutcomeClass, Uncut, ByWrite,
 use Rattle.asgi_halves.specs.WebSocketHalf.{CarriesOn}
 use Rattle.asgi_conversation.proofs.NextLemmas.{next_on}
 use Rattle.asgi_halves.specs.Kinds.{IsCutOff}
+use Rattle.asgi_halves.proofs.HalfBodyLemmas.{unbroken}
 
 -- ---- what was taken grows
 
@@ -103,11 +104,6 @@ pub carrying_of : (state : Answered) (scene : SessionScene) (half : WebSocketHal
     → IsCarried state scene half view text leftover handed → IsCarrying scene view text leftover
 carrying_of state scene half view text leftover handed (inl is) x = subst (λ (a : Answered). IsCarried a scene half view text leftover handed) is x
 carrying_of state scene half view text leftover handed (inr is) x = subst (λ (a : Answered). IsCarried a scene half view text leftover handed) is x
-
-unbroken : (b : Option Break) → is_by_cut b ≡ false → is_by_input b ≡ false → b ≡ None
-unbroken None c i = refl
-unbroken (Some ByInput) c i = cc
-unbroken (Some ByCut) c i = cc
 
 module _ (scene : SessionScene) (line : LineState) (half : WebSocketHalf) (read : List ℕ) (view : ConnView Msg Output) (x : Invariant scene line half read view) where
   -- by how many calls failed
