@@ -1,5 +1,5 @@
 -- How many reads of messages come after a close, with one more call.
-use Rattle.std.proofs.Common.{◌≡◌, ℕ, ◌+◌, ◌≤◌, Bool, true, false, ◌||◌, List, [], ◌∷◌, ◌++◌, map, refl, sym, ◌∙◌, arith}
+use Rattle.std.proofs.Common.{◌≡◌, ℕ, ◌+◌, ◌≤◌, Bool, true, false, ◌||◌, List, [], ◌∷◌, ◌++◌, map, refl, sym, ◌∙◌, arith, ap, append_assoc}
 use Rattle.std.specs.Prelude.{if◌then◌else◌}
 use Rattle.std.specs.List.{count_by, flat_map}
 use Rattle.std.proofs.lemmas.List.Sums.{sum_by-append}
@@ -23,6 +23,7 @@ use Rattle.asgi_exchange.specs.Session.{Output, Byte, Message, Handshake, messag
 use Rattle.asgi_halves.specs.Traffic.{FailsAs, is_end, is_failed_send, reads_after_end, says_over}
 use Rattle.asgi_halves.specs.declared.session_half.Answered.TheVariants.{Open, Closed}
 use Rattle.asgi_halves.specs.WebSocketHalf.{answer_to}
+use Rattle.std.proofs.lemmas.List.{append-nil, map-append}
 
 -- ---- one more call
 
@@ -129,3 +130,19 @@ pub open_closes : (handshake : Handshake) (facts : Facts) (said : List Outgoing)
 open_closes handshake facts (WsAccept subprotocol headers ∷ events) begins is =
     closes_after (handshake subprotocol headers) (flat_map message_of events) ∙ row_closes events begins (not_whole (shapes.is_row shapes.is_message shapes.is_close events) is)
 open_closes handshake facts _ begins is = absurd (cc is)
+
+-- ---- what is out
+
+-- with one more text, if no message was sent
+pub as_text : (text part : List ℕ) (handed : List SentMessage) (written : List Output) → handed ≡ [] → written ≡ map Byte text ++ map Message handed → map Byte (text ++ part) ++ map Message handed ≡ written ++ map Byte part
+as_text text part handed written none is =
+    ap (λ (h : List SentMessage). map Byte (text ++ part) ++ map Message h) none
+    ∙ (append-nil (map Byte (text ++ part))
+    ∙ (map-append Byte text part
+    ∙ ap (λ (l : List Output). l ++ map Byte part) (sym (is ∙ (ap (λ (h : List SentMessage). map Byte text ++ map Message h) none ∙ append-nil (map Byte text))))))
+
+-- with more messages
+pub as_messages : (text : List ℕ) (handed more : List SentMessage) (written : List Output) → written ≡ map Byte text ++ map Message handed → map Byte text ++ map Message (handed ++ more) ≡ written ++ map Message more
+as_messages text handed more written is =
+    ap (λ (l : List Output). map Byte text ++ l) (map-append Message handed more)
+    ∙ (sym (append_assoc (map Byte text) (map Message handed) (map Message more)) ∙ ap (λ (l : List Output). l ++ map Message more) (sym is))

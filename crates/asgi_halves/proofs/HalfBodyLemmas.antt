@@ -1,7 +1,6 @@
 -- What the connection's half knows of the body: what the reader gave of it, and what was offered.
-use Rattle.std.proofs.Common.{◌≡◌, ◌≢◌, ℕ, true, false, List, [], ◌∷◌, ◌++◌, map, refl, sym, ap, ◌∙◌, subst, inl, inr, append_assoc, Option, Some, None, Bool}
+use Rattle.std.proofs.Common.{◌≡◌, ◌≢◌, ℕ, true, false, List, [], ◌∷◌, ◌++◌, map, refl, ap, ◌∙◌, subst, inl, inr, append_assoc, Option, Some, None, Bool}
 use Rattle.std.specs.Prelude.{◌⊎◌}
-use Rattle.std.proofs.lemmas.List.{map-append}
 use mathlib.Core.List.{IsPrefix}
 use Rattle.asgi_types.specs.declared.facts.Facts.{Facts}
 use Rattle.asgi_types.specs.declared.facts.Framing.{Framing}
@@ -32,22 +31,6 @@ pub unbroken : (b : Option Break) → is_by_cut b ≡ false → is_by_input b �
 unbroken None uncut not_by_input = refl
 unbroken (Some ByInput) uncut not_by_input = absurd (cc (not_by_input))
 unbroken (Some ByCut) uncut not_by_input = absurd (cc (uncut))
-
--- ---- what one more result makes of the body
-
-events_more : (opened : List Next) (events : List Incoming) (event : Incoming) → (opened ++ map next.Event events) ++ next.Event event ∷ [] ≡ opened ++ map next.Event (events ++ event ∷ [])
-events_more opened events event =
-    append_assoc opened (map next.Event events) (next.Event event ∷ []) ∙ ap (λ (l : List Next). opened ++ l) (sym (map-append next.Event events (event ∷ [])))
-
-module _ (reader : Reading) (read : List ℕ) (opened : List Next) (framing : Framing) (arrived : List ℕ) (events : List Incoming) (x : HasOpened reader.limits read opened framing arrived) where
-  pub gives_event : (event : Incoming) → GaveNext reader read (opened ++ map next.Event events) (next.Event event) → HasGiven reader read opened events (Waits event)
-  gives_event event stands = subst (λ (l : List Next). StandsFor reader read l) (events_more opened events event) stands
-
-  pub gives_whole : GaveNext reader read (opened ++ map next.Event events) next.Whole → HasGiven reader read opened events Whole
-  gives_whole stands = subst (λ (l : List Next). StandsFor reader read l) (append_assoc opened (map next.Event events) (next.Whole ∷ [])) stands
-
-  pub gives_refusal : (status : ℕ) → GaveNext reader read (opened ++ map next.Event events) (next.Bad status) → HasGiven reader read opened events (Refused status)
-  gives_refusal status stands = subst (λ (l : List Next). StandsFor reader read l) (append_assoc opened (map next.Event events) (next.Bad status ∷ [])) stands
 
 -- ---- no refusal was given before
 

@@ -42,7 +42,7 @@ use Rattle.asgi_exchange.specs.ExchangeTexts.{input_of}
 use Rattle.asgi_exchange.specs.ExchangeTexts.{text_of}
 use Rattle.asgi_exchange.specs.Items.{end_of, events_of}
 use Rattle.asgi_exchange.specs.Steps.{is_by_input, is_by_cut}
-use Rattle.asgi_exchange.specs.Views.{Break, ByInput, ByCut, ConnView, output, added_by, taken_of}
+use Rattle.asgi_exchange.specs.Views.{Break, ByCut, ConnView, output, added_by, taken_of}
 use Rattle.asgi_exchange.proofs.EventLemmas.{events_append, end_event}
 use Rattle.asgi_exchange.proofs.HttpLemmas.{http_is_steady}
 use Rattle.asgi_conversation.specs.declared.following.NextStep.{NextStep}
@@ -66,6 +66,7 @@ use Rattle.asgi_conversation.specs.Persistence.{InHand, StopsWithin}
 use Rattle.asgi_conversation.specs.ExchangeRecord.{Ending}
 use Rattle.asgi_conversation.specs.OutcomeClasses.{is_cut, cuts_exchange}
 use Rattle.asgi_conversation.specs.TaskEnds.{has_ended, is_faulty, unanswered, incomplete, kept, after_response, after_task}
+use Rattle.asgi_halves.proofs.HalfBodyLemmas.{unbroken}
 use Rattle.asgi_halves.proofs.HalfLemmas.{not_written, unfailed}
 use Rattle.asgi_run.proofs.LineLemmas.{moved_by_write, tries_front}
 use Rattle.asgi_halves.proofs.ReadAheadLemmas.{reads_in, within_reads}
@@ -100,9 +101,6 @@ dropped_then a b c x y = record {
   limits = y.limits ∙ x.limits;
 }
 
-pub dropped_none : (h : HttpHalf) → Dropped h h
-dropped_none h = record { same = refl; gives = λ read opened framing arrived events o given ends. (events, given, ends); limits = refl }
-
 pub pulled : (old new : HttpHalf) → KeepsBesidesBody old new → GivesAfter old new → new.wire.requests.limits ≡ old.wire.requests.limits → Dropped old new
 pulled old new same gives limits = record {
   same = same;
@@ -111,11 +109,6 @@ pulled old new same gives limits = record {
 }
 
 -- ---- in the end
-
-unbroken : (b : Option Break) → is_by_cut b ≡ false → is_by_input b ≡ false → b ≡ None
-unbroken None c i = refl
-unbroken (Some ByInput) c i = cc
-unbroken (Some ByCut) c i = cc
 
 not_true : (b : Bool) → (b ≡ true → ⊥) → b ≡ false
 not_true false n = refl

@@ -46,20 +46,6 @@ module _ (scene : Scene) (now : LineState) (half : HttpHalf) (read : List ℕ) (
   r : IsRunning scene half read view
   r = running_of scene now half read view x is
 
-  -- the connection is cut short, whatever the reader gave
-  pub short_of_memory : (later : HttpHalf) → KeepsBesidesBody half later → later.wire.requests.limits ≡ half.wire.requests.limits
-      → Invariant scene now (record later { stage = Cut NoMemory }) read view
-  short_of_memory later same limits =
-      subst (λ (h : HttpHalf). Invariant scene now (record h { stage = Cut NoMemory }) read view) (sym same)
-      (record {
-        moved = unfailed scene now half read view x Running is refl;
-        limits = limits ∙ x.limits;
-        within = x.within;
-        keeps = x.keeps;
-        breaks = x.breaks;
-        stage = (record { cut = refl; stops = λ n e. absurd (not_written n e) }, (running_of scene now half read view x is).unended);
-      })
-
   -- the reader gave more, or needs more
   pub pulled : (later : HttpHalf) → half.input_broke ≡ false → KeepsBesidesBody half later → later.wire.requests.limits ≡ half.wire.requests.limits → GivesAfter half later
       → Invariant scene now later read view
@@ -189,13 +175,6 @@ module _ (scene : Scene) (now : LineState) (half : HttpHalf) (read : List ℕ) (
           offered = λ e. cc;
         };
       })
-
-pub due_at_end : (body : BodyProgress) (end : InputEnd) → EndsAtInput body → has_ended end ≡ true → BreaksAt body end
-due_at_end Open end ends is = absurd ends
-due_at_end (Waits event) end ends is = absurd ends
-due_at_end Whole end ends is = is
-due_at_end (Refused status) end ends is = tt
-due_at_end BrokenOff end ends is = is
 
 -- before that none is due
 pub none_due_before : (body : BodyProgress) (end : InputEnd) (reader : Reading) → EndsAtInput body → has_ended end ≡ false → IsNoneDue body end reader

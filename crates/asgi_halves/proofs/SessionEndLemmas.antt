@@ -2,7 +2,7 @@
 use Rattle.std.proofs.Common.{◌≡◌, ℕ, ◌<◌, Bool, true, false, ◌⊎◌, inl, inr, List, [], ◌∷◌, ◌++◌, length, take, drop, refl, sym, ap, ◌∙◌, subst, append_assoc, Option, Some, map, arith}
 use Rattle.std.specs.Prelude.{if◌then◌else◌}
 use Rattle.std.specs.Io.KnownBytes.{Appends}
-use Rattle.std.proofs.lemmas.List.{append-nil, length-map, map-append, take-map, take-append-drop}
+use Rattle.std.proofs.lemmas.List.{append-nil, length-map, take-map, take-append-drop}
 use Rattle.asgi_io.specs.declared.write.Wrote.TheVariants as wrote
 use Rattle.asgi_io.specs.Counting.{RoseBy}
 use Rattle.asgi_io.specs.Writing.{TriesWrites}
@@ -52,8 +52,10 @@ use Rattle.asgi_halves.specs.WebSocketHalf.{SessionScene, Invariant, Talks, Ends
 use Rattle.asgi_halves.specs.WebSocketHalf.{CarriesOn}
 use Rattle.asgi_run.proofs.LineLemmas.{tries_front}
 use Rattle.asgi_halves.specs.Half.{failures_at}
-use Rattle.asgi_halves.proofs.CallLemmas.{failures_by}
+use Rattle.asgi_halves.proofs.CallLemmas.{failures_by, as_messages, as_text}
 use Rattle.asgi_halves.proofs.TalkLemmas.{LeavesText, talk_written, talk_sent}
+use Rattle.asgi_halves.proofs.SessionOfferLemmas.{carried_on, line_at}
+use Rattle.asgi_exchange.proofs.ListLemmas.{prefix_self}
 
 -- ---- what the end adds, by what was sent
 
@@ -161,18 +163,6 @@ one_begun facts (ShutdownFailed a ∷ events) lawful u h = (let never : false �
 
 -- ---- in the end
 
-carried_still : (a : Answered) (scene : SessionScene) (half : WebSocketHalf) (view : ConnView Msg Output) (text : List ℕ) (leftover : Option (List ℕ)) (handed : List SentMessage)
-    (later : Stage) (written : List Output) → IsCarried a scene half view text leftover handed
-    → IsCarried a scene (record half { stage = later }) (record view { written = written }) text leftover handed
-carried_still Unanswered scene half view text leftover handed later written c = (silent_still scene half view leftover handed later written c.0, c.1)
-  where
-    silent_still : (scene : SessionScene) (half : WebSocketHalf) (view : ConnView Msg Output) (leftover : Option (List ℕ)) (handed : List SentMessage) (later : Stage) (written : List Output)
-        → IsSilent half view leftover handed → IsSilent (record half { stage = later }) (record view { written = written }) leftover handed
-    silent_still scene half view leftover handed later written s = record { kept = s.kept; received = s.received; over = s.over; unclosed = s.unclosed; sent = s.sent }
-carried_still Refused scene half view text leftover handed later written c = record { kept = c.kept; received = c.received; over = c.over; unclosed = c.unclosed; sent = c.sent }
-carried_still Open scene half view text leftover handed later written c = record { kept = c.kept; subprotocol = c.subprotocol; headers = c.headers; events = c.events; said = c.said; text_is = c.text_is }
-carried_still Closed scene half view text leftover handed later written c = record { kept = c.kept; subprotocol = c.subprotocol; headers = c.headers; events = c.events; said = c.said; text_is = c.text_is }
-
 -- the half after its connection ended with this outcome
 abbrev pub ends_so : WebSocketHalf → Outcome → WebSocketHalf
 ends_so half out = record half { stage = stage.Over (ConnectionEnds out) }
@@ -190,9 +180,7 @@ module _ (scene : SessionScene) (was : LineState) (half : WebSocketHalf) (read :
   adds = session_ending scene.facts (taken_of view) ended (is_by_input view.broken)
 
   line : CarriesOn scene.start was half.wire.input read (scene.before ++ x.text) 0 (talk_in half view x.leftover x.handed) half.spare_reads
-  line =
-      let P : ℕ → Type 0 = λ n. CarriesOn scene.start was half.wire.input read (scene.before ++ x.text) n (talk_in half view x.leftover x.handed) half.spare_reads in
-      subst (λ (s : Stage). P (failures_at s)) is x.line
+  line = line_at scene was half read view x 0 (ap failures_at is)
 
   whole : session_text (handshake_of scene.facts) scene.facts (taken_of view) (end_of view.got) (is_by_input view.broken) ≡ view.written ++ adds
   whole =
@@ -223,7 +211,7 @@ module _ (scene : SessionScene) (was : LineState) (half : WebSocketHalf) (read :
           handed = handed;
           line = line_is;
           written = refl;
-          carried = carried_still half.answered scene half view text x.leftover handed (stage.Over (ConnectionEnds out)) written carried;
+          carried = carried_on half.answered scene half (ends_so half out) view (record view { written = written }) text x.leftover handed refl refl refl refl (prefix_self (said_in scene view)) carried;
           keeps = record {
             offered = x.keeps.offered;
             written = (
@@ -264,41 +252,31 @@ module _ (scene : SessionScene) (was : LineState) (half : WebSocketHalf) (read :
     silent : IsSilent half view x.leftover x.handed × (half.leftover.items ≡ scene.frames)
     silent = subst (λ (a : Answered). IsCarried a scene half view x.text x.leftover x.handed) unanswered x.carried
 
-    carried_on : (text : List ℕ) → IsCarried half.answered scene half view text x.leftover x.handed
-    carried_on text = subst (λ (a : Answered). IsCarried a scene half view text x.leftover x.handed) (sym unanswered) silent
-
-    out_as_text : (part : List ℕ) → map Byte (x.text ++ part) ++ map Message x.handed ≡ view.written ++ map Byte part
-    out_as_text part =
-        ap (λ (h : List SentMessage). map Byte (x.text ++ part) ++ map Message h) silent.0.sent
-        ∙ (append-nil (map Byte (x.text ++ part))
-        ∙ (map-append Byte x.text part
-        ∙ ap (λ (l : List Output). l ++ map Byte part)
-        (sym (x.written ∙ (ap (λ (h : List SentMessage). map Byte x.text ++ map Message h) silent.0.sent ∙ append-nil (map Byte x.text))))))
+    carried_as : (text : List ℕ) → IsCarried half.answered scene half view text x.leftover x.handed
+    carried_as text = subst (λ (a : Answered). IsCarried a scene half view text x.leftover x.handed) (sym unanswered) silent
 
     text_moved : (out : Outcome) (part : List ℕ) (failures : ℕ) → failures ≡ failures_of out → Appends was.written now.written part → RoseBy failures was.failed now.failed
         → TriesWrites was.writes now.writes (length part) (how_wrote failures (length part))
         → CarriesOn scene.start now half.wire.input read (scene.before ++ (x.text ++ part)) (failures_of out) (talk_in half view x.leftover x.handed) half.spare_reads
     text_moved out part failures count appends rose tries =
-        let P : ℕ → Type 0 = λ n. CarriesOn scene.start now half.wire.input read (scene.before ++ (x.text ++ part)) n (talk_in half view x.leftover x.handed) half.spare_reads in
-        subst P count
-        (subst (λ (l : List ℕ). CarriesOn scene.start now half.wire.input read l failures (talk_in half view x.leftover x.handed) half.spare_reads) (append_assoc scene.before x.text part)
-        (talk_written scene.start was now half.wire.input read (scene.before ++ x.text) part failures (talk_in half view x.leftover x.handed) half.spare_reads line silent.0.kept same_left same_reads same_session appends rose tries))
+        subst (λ (n : ℕ). CarriesOn scene.start now half.wire.input read (scene.before ++ (x.text ++ part)) n (talk_in half view x.leftover x.handed) half.spare_reads) count
+        (talk_written scene.start was now half.wire.input read scene.before x.text part failures (talk_in half view x.leftover x.handed) half.spare_reads line silent.0.kept same_left same_reads same_session appends rose tries)
 
     text_out : (out : Outcome) → failures_of out ≡ 0 → after_session ended (said_in scene view) (is_by_input view.broken) view.arrived ≡ out
         → Appends was.written now.written more → RoseBy 0 was.failed now.failed → TriesWrites was.writes now.writes (length more) wrote.Done → Goes scene now (ends_so half out) read view
     text_out out none follows appends rose tries =
-        let gone = out_as_text more in
-        ends_with now out (x.text ++ more) x.handed (map Byte more) [] (text_moved out more 0 (sym none) appends rose tries) gone (append-nil (map Byte more) ∙ sym adds_it) (carried_on (x.text ++ more))
+        let gone = as_text x.text more x.handed view.written silent.0.sent x.written in
+        ends_with now out (x.text ++ more) x.handed (map Byte more) [] (text_moved out more 0 (sym none) appends rose tries) gone (append-nil (map Byte more) ∙ sym adds_it) (carried_as (x.text ++ more))
         (inl (by_task out (map Byte (x.text ++ more) ++ map Message x.handed) follows (gone ∙ ap (λ (l : List Output). view.written ++ l) (sym adds_it))))
 
     text_cut : (n : ℕ) → n < length more → Appends was.written now.written (take n more) → RoseBy 1 was.failed now.failed → TriesWrites was.writes now.writes n (wrote.Failed n)
         → Goes scene now (ends_so half (outcome.WriteFailed n)) read view
     text_cut n less appends rose tries =
         let part : map Byte (take n more) ≡ take n adds = sym (take-map Byte n more) ∙ ap (λ (l : List Output). take n l) (sym adds_it) in
-        let gone : map Byte (x.text ++ take n more) ++ map Message x.handed ≡ view.written ++ take n adds = out_as_text (take n more) ∙ ap (λ (l : List Output). view.written ++ l) part in
+        let gone : map Byte (x.text ++ take n more) ++ map Message x.handed ≡ view.written ++ take n adds = as_text x.text (take n more) x.handed view.written silent.0.sent x.written ∙ ap (λ (l : List Output). view.written ++ l) part in
         ends_with now (outcome.WriteFailed n) (x.text ++ take n more) x.handed (take n adds) (drop n adds)
         (text_moved (outcome.WriteFailed n) (take n more) 1 refl appends rose (tries_front was.writes now.writes n more less tries))
-        gone (take-append-drop n adds) (carried_on (x.text ++ take n more))
+        gone (take-append-drop n adds) (carried_as (x.text ++ take n more))
         (inr (stops n (map Byte (x.text ++ take n more) ++ map Message x.handed)
         (subst (λ (k : ℕ). n < k) (sym (ap (λ (l : List Output). length l) adds_it ∙ length-map more Byte)) less) gone))
 
@@ -322,29 +300,24 @@ module _ (scene : SessionScene) (was : LineState) (half : WebSocketHalf) (read :
         subst (λ (a : Answered). IsCarried a scene half view x.text x.leftover handed) (sym opened)
         (subst (λ (a : Answered). IsCarried a scene half view x.text x.leftover x.handed) opened x.carried)
 
-    out_with : (handed : List SentMessage) → map Byte x.text ++ map Message (x.handed ++ handed) ≡ view.written ++ map Message handed
-    out_with handed =
-        ap (λ (l : List Output). map Byte x.text ++ l) (map-append Message x.handed handed)
-        ∙ (sym (append_assoc (map Byte x.text) (map Message x.handed) (map Message handed)) ∙ ap (λ (l : List Output). l ++ map Message handed) (sym x.written))
-
     message_out : answer ≡ put.Done → after_session ended (said_in scene view) (is_by_input view.broken) view.arrived ≡ outcome.Finished → Goes scene now (ends_so half outcome.Finished) read view
     message_out e follows =
         let handed : List SentMessage = x.handed ++ message ∷ [] in
-        let gone : map Byte x.text ++ map Message handed ≡ view.written ++ Message message ∷ [] = out_with (message ∷ []) in
+        let gone : map Byte x.text ++ map Message handed ≡ view.written ++ Message message ∷ [] = as_messages x.text x.handed (message ∷ []) view.written x.written in
         ends_with now outcome.Finished x.text handed (Message message ∷ []) [] (sent_as put.Done e) gone (sym adds_it) (carried_with handed)
         (inl (by_task outcome.Finished (map Byte x.text ++ map Message handed) follows (gone ∙ ap (λ (l : List Output). view.written ++ l) (sym adds_it))))
 
     message_cut : answer ≡ put.Failed → Goes scene now (ends_so half (outcome.WriteFailed 0)) read view
     message_cut e =
         let handed : List SentMessage = x.handed ++ [] in
-        let gone : map Byte x.text ++ map Message handed ≡ view.written ++ [] = out_with [] in
+        let gone : map Byte x.text ++ map Message handed ≡ view.written ++ [] = as_messages x.text x.handed [] view.written x.written in
         ends_with now (outcome.WriteFailed 0) x.text handed [] adds (sent_as put.Failed e) gone refl (carried_with handed)
         (inr (stops 0 (map Byte x.text ++ map Message handed) (subst (λ (l : List Output). 0 < length l) (sym adds_it) (omega arith)) gone))
 
     message_short : answer ≡ put.NoMemory → Goes scene now (ends_so half outcome.NoMemory) read view
     message_short e =
         let handed : List SentMessage = x.handed ++ [] in
-        let gone : map Byte x.text ++ map Message handed ≡ view.written ++ [] = out_with [] in
+        let gone : map Byte x.text ++ map Message handed ≡ view.written ++ [] = as_messages x.text x.handed [] view.written x.written in
         ends_with now outcome.NoMemory x.text handed [] adds (sent_as put.NoMemory e) gone refl (carried_with handed)
         (inr ([], append-nil (map Byte x.text ++ map Message handed) ∙ (gone ∙ (append-nil view.written ∙ at_end.0.written))))
 

@@ -38,11 +38,12 @@ use Rattle.asgi_halves.specs.declared.session_half.Due.TheVariants as due
 use Rattle.asgi_halves.specs.declared.session_half.WebSocketHalf.{WebSocketHalf}
 use Rattle.asgi_halves.specs.Half.{failures_at}
 use Rattle.asgi_ws.specs.Lines.{LineState}
-use Rattle.asgi_halves.specs.WebSocketHalf.{SessionScene, Invariant, Talks, IsAt, IsCarried, IsCutShort, IsCutShortAs, IsDue, exchange_of, known, output_in, said_in, talk_in}
+use Rattle.asgi_halves.specs.WebSocketHalf.{SessionScene, Invariant, Talks, IsAt, IsCarried, IsCarrying, IsCutShort, IsCutShortAs, IsDue, exchange_of, known, output_in, said_in, talk_in}
 use Rattle.asgi_conversation.specs.OutcomeClasses.{OutcomeClass, Uncut, ByWrite, GivenUp, Lacking, Unbegun, class_of}
 use Rattle.asgi_halves.specs.WebSocketHalf.{CarriesOn}
 use Rattle.asgi_conversation.proofs.NextLemmas.{next_on}
 use Rattle.asgi_halves.specs.Kinds.{IsCutOff}
+use Rattle.asgi_halves.proofs.HalfBodyLemmas.{unbroken}
 
 -- ---- what was taken grows
 
@@ -90,12 +91,25 @@ carried_on Open scene half later view next text leftover handed kept over closed
 carried_on Closed scene half later view next text leftover handed kept over closed arrived more c =
     record { kept = c.kept; subprotocol = c.subprotocol; headers = c.headers; events = c.events ++ more.0; said = sym more.1 ∙ ap (λ (l : List Outgoing). l ++ more.0) c.said; text_is = c.text_is }
 
-unbroken : (b : Option Break) → is_by_cut b ≡ false → is_by_input b ≡ false → b ≡ None
-unbroken None c i = refl
-unbroken (Some ByInput) c i = cc
-unbroken (Some ByCut) c i = cc
+-- the line carries messages
+abbrev pub Carries : Answered → Type 0
+Carries state = (state ≡ Open) ⊎ (state ≡ Closed)
+
+pub carrying : (state : Answered) (scene : SessionScene) (half : WebSocketHalf) (view : ConnView Msg Output) (text : List ℕ) (leftover : Option (List ℕ)) (handed : List SentMessage) → Carries state
+    → IsCarrying scene view text leftover → IsCarried state scene half view text leftover handed
+carrying state scene half view text leftover handed (inl is) c = subst (λ (a : Answered). IsCarried a scene half view text leftover handed) (sym is) c
+carrying state scene half view text leftover handed (inr is) c = subst (λ (a : Answered). IsCarried a scene half view text leftover handed) (sym is) c
+
+pub carrying_of : (state : Answered) (scene : SessionScene) (half : WebSocketHalf) (view : ConnView Msg Output) (text : List ℕ) (leftover : Option (List ℕ)) (handed : List SentMessage) → Carries state
+    → IsCarried state scene half view text leftover handed → IsCarrying scene view text leftover
+carrying_of state scene half view text leftover handed (inl is) x = subst (λ (a : Answered). IsCarried a scene half view text leftover handed) is x
+carrying_of state scene half view text leftover handed (inr is) x = subst (λ (a : Answered). IsCarried a scene half view text leftover handed) is x
 
 module _ (scene : SessionScene) (line : LineState) (half : WebSocketHalf) (read : List ℕ) (view : ConnView Msg Output) (x : Invariant scene line half read view) where
+  -- by how many calls failed
+  pub line_at : (failures : ℕ) → failures_at half.stage ≡ failures → CarriesOn scene.start line half.wire.input read (scene.before ++ x.text) failures (talk_in half view x.leftover x.handed) half.spare_reads
+  line_at failures is = subst (λ (n : ℕ). CarriesOn scene.start line half.wire.input read (scene.before ++ x.text) n (talk_in half view x.leftover x.handed) half.spare_reads) is x.line
+
   -- The half's invariant holds in a stage again, if the line is the same.
   pub stands_at : (d : Due) (b : Bool) (s : Stage) (offered : List Incoming) (broken : Option Break) (got : List OutItem)
       → failures_at half.stage ≡ failures_at s
@@ -109,7 +123,7 @@ module _ (scene : SessionScene) (line : LineState) (half : WebSocketHalf) (read 
     text = x.text;
     leftover = x.leftover;
     handed = x.handed;
-    line = subst (λ (n : ℕ). CarriesOn scene.start line half.wire.input read (scene.before ++ x.text) n (talk_in half view x.leftover x.handed) half.spare_reads) failures x.line;
+    line = line_at (failures_at s) failures;
     written = x.written;
     carried = carried_on half.answered scene half (record half { due = d; input_broke = b; stage = s }) view (record view { offered = offered; broken = broken; got = got }) x.text x.leftover x.handed refl refl refl refl more x.carried;
     keeps = keeps;
@@ -120,7 +134,7 @@ module _ (scene : SessionScene) (line : LineState) (half : WebSocketHalf) (read 
   -- ---- what is due is offered
 
   module _ (is : half.stage ≡ stage.Running) where
-    runs : Talks scene half view × (end_of view.got ≡ None) × IsDue half.due half view
+    pub runs : Talks scene half view × (end_of view.got ≡ None) × IsDue half.due half view
     runs = subst (λ (s : Stage). IsAt s scene half view) is x.stage
 
     -- all that was taken is out, whatever is offered

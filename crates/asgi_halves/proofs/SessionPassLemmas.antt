@@ -1,7 +1,6 @@
 -- What an event that passes shows about those that were sent before it, in a session.
-use Rattle.std.proofs.Common.{◌≡◌, ℕ, ◌≤◌, Bool, true, false, ◌⊎◌, inl, inr, List, [], ◌∷◌, ◌++◌, length, refl, ap, sym, ◌∙◌, Option}
+use Rattle.std.proofs.Common.{◌≡◌, ℕ, Bool, true, false, ◌⊎◌, inl, inr, List, [], ◌∷◌, ◌++◌, refl, ap, sym, ◌∙◌, Option}
 use Rattle.std.specs.Prelude.{◌&&◌, ◌||◌, if◌then◌else◌}
-use Rattle.std.proofs.lemmas.Bool.{ltb-false}
 use Rattle.std.proofs.lemmas.List.Sums.{fold-append}
 use Rattle.asgi_types.specs.Fields.{HeaderField}
 use Rattle.asgi_types.specs.declared.facts.Facts.{Facts}
@@ -148,9 +147,6 @@ pub close_has_place : (facts : Facts) (said : List Outgoing) (code : ℕ) (reaso
     → (said ≡ []) ⊎ ((subprotocol : Option (List ℕ)) × (headers : List HeaderField) × (events : List Outgoing) × (said ≡ WsAccept subprotocol headers ∷ events))
 close_has_place facts said code reason h = close_follows said code reason (met facts said (WsClose code reason) h).goes
 
-pub close_is_short : (facts : Facts) (said : List Outgoing) (code : ℕ) (reason : List ℕ) → passes WebSocket facts said (WsClose code reason) ≡ true → length reason ≤ 123
-close_is_short facts said code reason h = ltb-false 123 (length reason) (met facts said (WsClose code reason) h).meets.reason
-
 pub is_in_scope : (facts : Facts) (said : List Outgoing) (event : Outgoing) → passes WebSocket facts said event ≡ true → is_of WebSocket event ≡ true
 is_in_scope facts said event h = (met facts said event h).of
 
@@ -159,9 +155,6 @@ not_closed facts said event h =
     (passing.no_line WebSocket (lines_on WebSocket facts said false event) (is_passed (verdict_on WebSocket facts said false event) h)).closed
 
 -- ---- how far the answer is
-
-pub open_after_accept : (subprotocol : Option (List ℕ)) (headers : List HeaderField) → answer_to (WsAccept subprotocol headers ∷ []) ≡ Open
-open_after_accept subprotocol headers = refl
 
 pub open_after_send : (facts : Facts) (said : List Outgoing) (payload : Payload) → passes WebSocket facts said (WsSend payload) ≡ true → answer_to (said ++ WsSend payload ∷ []) ≡ Open
 open_after_send facts said payload h =
@@ -181,8 +174,3 @@ pub open_is_accepted : (said : List Outgoing) → answer_to said ≡ Open
     → (subprotocol : Option (List ℕ)) × (headers : List HeaderField) × (events : List Outgoing) × (said ≡ WsAccept subprotocol headers ∷ events)
 open_is_accepted (WsAccept a b ∷ events) h = (a, b, events, refl)
 open_is_accepted _ h = absurd (cc)
-
-pub closed_is_accepted : (said : List Outgoing) → answer_to said ≡ Closed
-    → (subprotocol : Option (List ℕ)) × (headers : List HeaderField) × (events : List Outgoing) × (said ≡ WsAccept subprotocol headers ∷ events)
-closed_is_accepted (WsAccept a b ∷ events) h = (a, b, events, refl)
-closed_is_accepted _ h = absurd (cc)

@@ -38,8 +38,9 @@ use Rattle.asgi_halves.specs.declared.session_half.Due.TheVariants as due
 use Rattle.asgi_halves.specs.declared.session_half.WebSocketHalf.{WebSocketHalf}
 use Rattle.asgi_ws.specs.Lines.{LineState}
 use Rattle.asgi_io.specs.declared.turns.Turn.{Turn}
-use Rattle.asgi_halves.specs.Kinds.{IsTurnOfRead}
-use Rattle.asgi_halves.specs.WebSocketHalf.{SessionScene, Invariant, Talks, EndsByTask, HasDropped, IsAt, IsDue, IsCarrying, IsCarried, MayDrop, PreservesByLine, Rests, RestsAt, exchange_of, said_in, output_in, talk_in, heard_by}
+use Rattle.asgi_io.specs.declared.turns.Turn.TheVariants.{Idle, Moved}
+use Rattle.asgi_halves.specs.Kinds.{IsShut, IsTurnOfRead, turn_by}
+use Rattle.asgi_halves.specs.WebSocketHalf.{SessionScene, Invariant, Talks, EndsByTask, HasDropped, IsAt, IsDue, IsCarrying, MayDrop, PreservesByLine, Rests, RestsAt, exchange_of, said_in, output_in, talk_in, heard_by, lost_by, noted_by}
 use Rattle.asgi_halves.specs.Half.{failures_at}
 use Rattle.asgi_halves.specs.Traffic.{drop_limit, is_end}
 use Rattle.asgi_halves.specs.WebSocketHalf.{CarriesOn}
@@ -47,6 +48,7 @@ use Rattle.asgi_halves.proofs.CallLemmas.{closes, closes_after, none_after, open
 use Rattle.asgi_halves.proofs.LineCallLemmas.{HasRead}
 use Rattle.asgi_halves.proofs.TalkLemmas.{talk_read}
 use Rattle.asgi_halves.proofs.TurnLemmas.{rests_else}
+use Rattle.asgi_halves.proofs.SessionOfferLemmas.{Carries, carrying, carrying_of}
 
 -- ---- more messages
 
@@ -127,32 +129,16 @@ follows_still kind.Idle said input_broke arrived more closed = refl
 
 -- ---- a message arrives
 
--- the line carries messages
-abbrev Carries : Answered → Type 0
-Carries state = (state ≡ Open) ⊎ (state ≡ Closed)
-
 carrying_still : (scene : SessionScene) (view : ConnView Msg Output) (arrived : List Msg) (text : List ℕ) (leftover : Option (List ℕ)) → IsCarrying scene view text leftover
     → IsCarrying scene (record view { arrived = arrived }) text leftover
 carrying_still scene view arrived text leftover x =
     record { kept = x.kept; subprotocol = x.subprotocol; headers = x.headers; events = x.events; said = x.said; text_is = x.text_is }
 
-carried_still : (state : Answered) (scene : SessionScene) (old new : WebSocketHalf) (view : ConnView Msg Output) (arrived : List Msg) (text : List ℕ) (leftover : Option (List ℕ)) (handed : List SentMessage)
-    → Carries state → IsCarried state scene old view text leftover handed → IsCarried state scene new (record view { arrived = arrived }) text leftover handed
-carried_still state scene old new view arrived text leftover handed (inl e) x =
-    subst (λ (a : Answered). IsCarried a scene new (record view { arrived = arrived }) text leftover handed) (sym e)
-    (carrying_still scene view arrived text leftover (subst (λ (a : Answered). IsCarried a scene old view text leftover handed) e x))
-carried_still state scene old new view arrived text leftover handed (inr e) x =
-    subst (λ (a : Answered). IsCarried a scene new (record view { arrived = arrived }) text leftover handed) (sym e)
-    (carrying_still scene view arrived text leftover (subst (λ (a : Answered). IsCarried a scene old view text leftover handed) e x))
-
--- and was given the bytes after the handshake
-kept_there : (state : Answered) (scene : SessionScene) (half : WebSocketHalf) (view : ConnView Msg Output) (text : List ℕ) (leftover : Option (List ℕ)) (handed : List SentMessage)
-    → Carries state → IsCarried state scene half view text leftover handed → leftover ≡ Some scene.frames
-kept_there state scene half view text leftover handed (inl e) x = (subst (λ (a : Answered). IsCarried a scene half view text leftover handed) e x).kept
-kept_there state scene half view text leftover handed (inr e) x = (subst (λ (a : Answered). IsCarried a scene half view text leftover handed) e x).kept
-
 module _ (scene : SessionScene) (was now : LineState) (half : WebSocketHalf) (read : List ℕ) (view : ConnView Msg Output) (x : Invariant scene was half read view)
     (unfailed : failures_at half.stage ≡ 0) (goes_on : half.is_over ≡ false) (carries : Carries half.answered) (closed : is_by_input view.broken ≡ true → has_close view.arrived ≡ true) (answer : Got) (call : HasRead was now answer) where
+  is_carrying : IsCarrying scene view x.text x.leftover
+  is_carrying = carrying_of half.answered scene half view x.text x.leftover x.handed carries x.carried
+
   -- The messages of the outcome arrived, and all else stays: the half's invariant holds again if that of the later stage does.
   arrives : (next : Due) (client_closed : Bool) (is_over : Bool) (spare_reads : ℕ) (stage : Stage) → failures_at stage ≡ 0 → is_over ≡ (half.is_over || is_end answer)
       → reads_after_close (x.line.carried.calls ++ Read answer ∷ []) + spare_reads ≤ drop_limit
@@ -164,7 +150,7 @@ module _ (scene : SessionScene) (was now : LineState) (half : WebSocketHalf) (re
       let line : CarriesOn scene.start now half.wire.input read (scene.before ++ x.text) 0 (talk_in later seen x.leftover x.handed) spare_reads =
       talk_read scene.start was now half.wire.input read (scene.before ++ x.text) (failures_at half.stage) unfailed (talk_in half view x.leftover x.handed) (talk_in later seen x.leftover x.handed) half.spare_reads
       x.line call.text answer goes_on call.told call.loses call.count call.kept refl over refl refl spare_reads few
-      scene.frames (kept_there half.answered scene half view x.text x.leftover x.handed carries x.carried) in
+      scene.frames is_carrying.kept in
       record {
         fixed = x.fixed;
         text = x.text;
@@ -172,7 +158,7 @@ module _ (scene : SessionScene) (was now : LineState) (half : WebSocketHalf) (re
         handed = x.handed;
         line = subst (λ (n : ℕ). CarriesOn scene.start now half.wire.input read (scene.before ++ x.text) n (talk_in later seen x.leftover x.handed) spare_reads) (sym none) line;
         written = x.written;
-        carried = carried_still half.answered scene half later view (view.arrived ++ given_by answer) x.text x.leftover x.handed carries x.carried;
+        carried = carrying half.answered scene later seen x.text x.leftover x.handed carries (carrying_still scene view seen.arrived x.text x.leftover is_carrying);
         keeps = record {
           offered = offered_still scene view.arrived (given_by answer) view.offered view.broken closed x.keeps.offered;
           written = written_still scene view (view.arrived ++ given_by answer) x.keeps.written;
@@ -263,7 +249,7 @@ module _ (scene : SessionScene) (was now : LineState) (half : WebSocketHalf) (re
       (subst (λ (d : Due). IsDue d half (record view { arrived = view.arrived ++ message ∷ [] })) (sym free)
       (λ unclosed still. (sym (append-nil view.offered) ∙ ap (λ (l : List Incoming). view.offered ++ l) (sym none) ∙ grown message, after message ∙ no_close, all_offered.2)))
 
-  pub heard : (message : Msg) → HasRead was now (got.Message message) → Invariant scene now (heard_by half message) read (record view { arrived = view.arrived ++ message ∷ [] })
+  heard : (message : Msg) → HasRead was now (got.Message message) → Invariant scene now (heard_by half message) read (record view { arrived = view.arrived ++ message ∷ [] })
   heard (Text text) call =
       goes_on (got.Message (Text text)) call (due.Waits (WsReceive (payload.Text text))) half.client_closed half.is_over (still_over half.is_over) (open_before ∙ sym (after (Text text)))
       (unbroke, grown (Text text), after (Text text), not_closed half.answered open_still, all_offered.2)
@@ -277,14 +263,14 @@ module _ (scene : SessionScene) (was now : LineState) (half : WebSocketHalf) (re
       (unbroke, sym (append-nil view.offered) ∙ grown (Close close), sym (close_is_heard view.arrived close all_offered.1), inl (after (Close close)), not_closed half.answered open_still)
 
   -- nothing is there yet
-  pub nothing_yet : HasRead was now got.Idle → Invariant scene now half read (record view { arrived = view.arrived ++ [] })
+  nothing_yet : HasRead was now got.Idle → Invariant scene now half read (record view { arrived = view.arrived ++ [] })
   nothing_yet call =
       goes_on got.Idle call half.due half.client_closed half.is_over (still_over half.is_over) (at_running.0.closed open_still ∙ ap has_close (sym (append-nil view.arrived)))
       (subst (λ (l : List Msg). IsDue half.due half (record view { arrived = l })) (sym (append-nil view.arrived)) at_running.2)
 
   -- no message follows
-  pub lost : (answer : Got) → HasRead was now answer → given_by answer ≡ [] → is_end answer ≡ true
-      → Invariant scene now (record half { is_over = true; due = due.Left (WsDisconnect 1006 []) }) read (record view { arrived = view.arrived ++ given_by answer })
+  lost : (answer : Got) → HasRead was now answer → given_by answer ≡ [] → is_end answer ≡ true
+      → Invariant scene now (lost_by half) read (record view { arrived = view.arrived ++ given_by answer })
   lost answer call none ends =
       let same : view.arrived ++ given_by answer ≡ view.arrived = ap (λ (l : List Msg). view.arrived ++ l) none ∙ append-nil view.arrived in
       goes_on answer call (due.Left (WsDisconnect 1006 [])) half.client_closed true (now_over half.is_over ∙ ap (λ (b : Bool). half.is_over || b) (sym ends))
@@ -292,10 +278,32 @@ module _ (scene : SessionScene) (was now : LineState) (half : WebSocketHalf) (re
       (unbroke, all_offered.0 ∙ ap session_events (sym same), sym (none_is_heard view.arrived all_offered.1) ∙ ap session_disconnect (sym same), inr refl, not_closed half.answered open_still)
 
   -- memory was refused
-  pub read_short : HasRead was now got.NoMemory → Invariant scene now (record half { stage = Cut NoMemory }) read (record view { arrived = view.arrived ++ [] })
+  read_short : HasRead was now got.NoMemory → Invariant scene now (record half { stage = Cut NoMemory }) read (record view { arrived = view.arrived ++ [] })
   read_short call =
       arrives scene was now half read view x (ap failures_at is) all_offered.2 (inl open_still) no_break got.NoMemory call half.due half.client_closed half.is_over half.spare_reads (Cut NoMemory) refl (still_over half.is_over) (few got.NoMemory)
       (prefix_same view.written (output_in scene view) at_running.0.written, at_running.1)
+
+  pub noted : (answer : Got) → HasRead was now answer → Invariant scene now (noted_by half answer) read (record view { arrived = view.arrived ++ given_by answer })
+  noted (got.Message message) call = heard message call
+  noted got.Idle call = nothing_yet call
+  noted got.Ended call = lost got.Ended call refl refl
+  noted got.Failed call = lost got.Failed call refl refl
+  noted got.NoMemory call = read_short call
+
+-- the turn of a read that is noted: it has moved if the connection is cut short, and left the half as it was if it is idle
+pub moves_if_shut : (half : WebSocketHalf) (answer : Got) (turn : Turn) → half.stage ≡ Running → turn ≡ turn_by answer → IsShut (noted_by half answer).stage → turn ≡ Moved
+moves_if_shut half got.Idle turn running is shut = absurd (subst (λ (s : Stage). IsShut s) running shut)
+moves_if_shut half (got.Message message) turn running is shut = is
+moves_if_shut half got.Ended turn running is shut = is
+moves_if_shut half got.Failed turn running is shut = is
+moves_if_shut half got.NoMemory turn running is shut = is
+
+pub keeps_if_idle : (half : WebSocketHalf) (answer : Got) (turn : Turn) → turn ≡ turn_by answer → turn ≡ Idle → noted_by half answer ≡ half
+keeps_if_idle half got.Idle turn is idle = refl
+keeps_if_idle half (got.Message message) turn is idle = absurd (cc (is, idle))
+keeps_if_idle half got.Ended turn is idle = absurd (cc (is, idle))
+keeps_if_idle half got.Failed turn is idle = absurd (cc (is, idle))
+keeps_if_idle half got.NoMemory turn is idle = absurd (cc (is, idle))
 
 -- ---- it is dropped
 

@@ -1,8 +1,8 @@
 -- An event is sent that the judge has passed: if the invariant of the half held, it holds again.
-use Rattle.std.proofs.Common.{◌≡◌, ◌≢◌, ℕ, ◌<◌, Bool, true, false, ◌⊎◌, inl, inr, List, [], ◌∷◌, ◌++◌, length, take, drop, refl, sym, ap, ◌∙◌, subst, append_assoc, Option, Some, None, map, arith}
+use Rattle.std.proofs.Common.{◌≡◌, ◌≢◌, ℕ, ◌<◌, Bool, true, false, ◌⊎◌, inl, inr, List, [], ◌∷◌, ◌++◌, length, take, drop, refl, sym, ap, ◌∙◌, subst, append_assoc, Option, Some, None, map, arith, Vec, Global}
 use Rattle.std.specs.Prelude.{if◌then◌else◌}
 use Rattle.std.specs.Io.KnownBytes.{Appends}
-use Rattle.std.proofs.lemmas.List.{append-nil, length-map, map-append, take-map, take-append-drop}
+use Rattle.std.proofs.lemmas.List.{append-nil, length-map, take-map, take-append-drop}
 use mathlib.Core.List.{IsPrefix}
 use Rattle.asgi_io.specs.declared.write.Wrote.TheVariants as wrote
 use Rattle.asgi_io.specs.Counting.{RoseBy}
@@ -47,25 +47,20 @@ use Rattle.asgi_halves.specs.declared.session_half.Due.TheVariants as due
 use Rattle.asgi_halves.specs.declared.session_half.WebSocketHalf.{WebSocketHalf}
 use Rattle.asgi_ws.specs.Lines.{LineState}
 use Rattle.asgi_run.specs.Lines.{how_wrote}
-use Rattle.asgi_halves.specs.WebSocketHalf.{SessionScene, Invariant, IsAccept, Talks, IsAt, IsCarried, IsCarrying, IsDue, IsSilent, answer_to, exchange_of, known, output_in, said_in, stage_of, talk_in}
+use Rattle.asgi_halves.specs.WebSocketHalf.{SessionScene, Invariant, IsAccept, Talks, IsAt, IsCarried, IsCarrying, IsDue, IsSilent, answer_to, exchange_of, known, output_in, said_in, stage_of, talk_in, IsOf}
 use Rattle.asgi_halves.specs.WebSocketHalf.{CarriesOn}
 use Rattle.asgi_run.proofs.LineLemmas.{tries_front}
 use Rattle.asgi_halves.proofs.SessionPassLemmas.{more_said, accept_is_first, close_has_place, send_is_in_session, open_is_accepted, not_closed, open_after_send, closed_after_close}
 use Rattle.asgi_halves.specs.Half.{failures_at}
-use Rattle.asgi_halves.proofs.CallLemmas.{failures_by}
+use Rattle.asgi_halves.proofs.CallLemmas.{failures_by, as_messages, as_text}
 use Rattle.asgi_halves.proofs.TalkLemmas.{LeavesText, talk_written, talk_sent, talk_upgraded}
+use Rattle.asgi_response.specs.declared.text.ResponseText.{ResponseText}
+use Rattle.asgi_response.specs.Standing as standing
+use Rattle.asgi_halves.proofs.SessionOfferLemmas.{Carries, carrying, line_at, runs}
 
 -- ---- the line carries messages
 
-abbrev IsUpgraded : Answered → Type 0
-IsUpgraded answered = (answered ≡ Open) ⊎ (answered ≡ Closed)
-
-carrying : (progress : Answered) (scene : SessionScene) (half : WebSocketHalf) (view : ConnView Msg Output) (text : List ℕ) (leftover : Option (List ℕ)) (handed : List SentMessage) → IsUpgraded progress
-    → IsCarrying scene view text leftover → IsCarried progress scene half view text leftover handed
-carrying progress scene half view text leftover handed (inl is) c = subst (λ (a : Answered). IsCarried a scene half view text leftover handed) (sym is) c
-carrying progress scene half view text leftover handed (inr is) c = subst (λ (a : Answered). IsCarried a scene half view text leftover handed) (sym is) c
-
-is_answered : (progress : Answered) → IsUpgraded progress → progress ≡ Unanswered → ⊥
+is_answered : (progress : Answered) → Carries progress → progress ≡ Unanswered → ⊥
 is_answered progress (inl is) e = let never : Open ≡ Unanswered = sym is ∙ e in cc
 is_answered progress (inr is) e = let never : Closed ≡ Unanswered = sym is ∙ e in cc
 
@@ -90,13 +85,12 @@ due_stays (due.Left event) old new view got written input_broke over was is x = 
 
 -- ---- an event is sent
 
-pub running_of : (scene : SessionScene) (was : LineState) (half : WebSocketHalf) (read : List ℕ) (view : ConnView Msg Output) (before : Judge)
-    → Invariant scene was (record half { judge = before }) read view → half.stage ≡ Running
-    → Talks scene (record half { judge = before }) view × (end_of view.got ≡ None) × IsDue half.due (record half { judge = before }) view
-running_of scene was half read view before x is = subst (λ (s : Stage). IsAt s scene (record half { judge = before }) view) is x.stage
+-- the half before, with its judge and the text of its denial
+abbrev pub half_before : WebSocketHalf → Judge → ResponseText → Vec ℕ Global → WebSocketHalf
+half_before half judge text out = record half { judge = judge; text = text; wire = record half.wire { out = out } }
 
-module _ (scene : SessionScene) (was : LineState) (half : WebSocketHalf) (read : List ℕ) (view : ConnView Msg Output) (before : Judge) (x : Invariant scene was (record half { judge = before }) read view)
-    (running : half.stage ≡ Running) (event : Outgoing) (pass : passes WebSocket scene.facts (said_in scene view) event ≡ true)
+module _ (scene : SessionScene) (was : LineState) (half : WebSocketHalf) (read : List ℕ) (view : ConnView Msg Output) (before : Judge) (text_was : ResponseText) (out_was : Vec ℕ Global)
+    (x : Invariant scene was (half_before half before text_was out_was) read view) (running : half.stage ≡ Running) (event : Outgoing) (pass : passes WebSocket scene.facts (said_in scene view) event ≡ true)
     (judged : judging.StandsFor half.judge WebSocket scene.facts (said_in scene view ++ event ∷ []) false) where
   abbrev later : List Output → ConnView Msg Output
   later written = record view { got = view.got ++ Event event ∷ []; written = written }
@@ -104,13 +98,25 @@ module _ (scene : SessionScene) (was : LineState) (half : WebSocketHalf) (read :
   abbrev adds : List Output
   adds = event_output (handshake_of scene.facts) scene.facts (said_in scene view) event
 
-  at : Talks scene (record half { judge = before }) view × (end_of view.got ≡ None) × IsDue half.due (record half { judge = before }) view
-  at = running_of scene was half read view before x running
+  abbrev old : WebSocketHalf
+  old = half_before half before text_was out_was
+
+  at : Talks scene old view × (end_of view.got ≡ None) × IsDue half.due old view
+  at = runs scene was old read view x running
+
+  fixed : IsOf scene half.facts half.wire read
+  fixed = record {
+    facts_are = x.fixed.facts_are;
+    limits_are = x.fixed.limits_are;
+    after = x.fixed.after;
+    answered = x.fixed.answered;
+    head = x.fixed.head;
+    before_is = x.fixed.before_is;
+    read_is = x.fixed.read_is;
+  }
 
   line : CarriesOn scene.start was half.wire.input read (scene.before ++ x.text) 0 (talk_in half view x.leftover x.handed) half.spare_reads
-  line =
-      let P : ℕ → Type 0 = λ n. CarriesOn scene.start was half.wire.input read (scene.before ++ x.text) n (talk_in half view x.leftover x.handed) half.spare_reads in
-      subst (λ (s : Stage). P (failures_at s)) running x.line
+  line = line_at scene was old read view x 0 (ap failures_at running)
 
   more_taken : (written : List Output) → taken_of (later written) ≡ taken_of view ++ event ∷ []
   more_taken written = events_append view.got (Event event ∷ [])
@@ -147,7 +153,7 @@ module _ (scene : SessionScene) (was : LineState) (half : WebSocketHalf) (read :
       let written : List Output = map Byte text ++ map Message handed in (
         written,
         record {
-          fixed = x.fixed;
+          fixed = fixed;
           text = text;
           leftover = kept;
           handed = handed;
@@ -161,19 +167,19 @@ module _ (scene : SessionScene) (was : LineState) (half : WebSocketHalf) (read :
       )
 
   -- all of it did
-  goes_on : (leftover : _) (progress : Answered) (waits : Due) (written : List Output) → answer_to (said_in scene view ++ event ∷ []) ≡ progress → (progress ≡ Unanswered → ⊥)
-      → (progress ≡ Open → half.client_closed ≡ has_close view.arrived) → written ≡ view.written ++ adds
+  goes_on : half.wire.out.items ≡ [] → (leftover : _) (progress : Answered) (waits : Due) (written : List Output) → answer_to (said_in scene view ++ event ∷ []) ≡ progress
+      → (progress ≡ Unanswered → standing.StandsForSession half.text scene.facts (said_in scene view ++ event ∷ [])) → (progress ≡ Open → half.client_closed ≡ has_close view.arrived) → written ≡ view.written ++ adds
       → IsDue waits (record half { leftover = leftover; answered = progress; due = waits; stage = Running }) (later written)
       → IsAt Running scene (record half { leftover = leftover; answered = progress; due = waits; stage = Running }) (later written)
-  goes_on leftover progress waits written becomes given closed out is_due = (
+  goes_on empty leftover progress waits written becomes text closed out is_due = (
     record {
       uncut = at.0.uncut;
       input_broke = at.0.input_broke;
       judged = subst (λ (l : List Outgoing). judging.StandsFor half.judge WebSocket scene.facts l false) (sym (said_later written)) judged;
       answered = sym becomes ∙ ap answer_to (sym (said_later written));
-      text = λ e. absurd (given e);
+      text = λ e. subst (λ (l : List Outgoing). standing.StandsForSession half.text scene.facts l) (sym (said_later written)) (text e);
       written = out ∙ sym (output_later written);
-      empty = at.0.empty;
+      empty = empty;
       closed = closed;
     },
     still_open,
@@ -206,7 +212,7 @@ module _ (scene : SessionScene) (was : LineState) (half : WebSocketHalf) (read :
     carries : (written : List Output) → IsCarrying scene (later written) x.text x.leftover
     carries written =
         let c : IsCarrying scene view x.text x.leftover =
-        subst (λ (a : Answered). IsCarried a scene (record half { judge = before }) view x.text x.leftover x.handed) opened x.carried in
+        subst (λ (a : Answered). IsCarried a scene old view x.text x.leftover x.handed) opened x.carried in
         record {
           kept = c.kept;
           subprotocol = c.subprotocol;
@@ -222,73 +228,65 @@ module _ (scene : SessionScene) (was : LineState) (half : WebSocketHalf) (read :
       sent : CarriesOn scene.start now half.wire.input read (scene.before ++ x.text) (failures_by answer) (talk_in half view x.leftover (x.handed ++ taken_by message answer)) half.spare_reads
       sent = talk_sent scene.start was now half.wire.input read (scene.before ++ x.text) 0 refl (talk_in half view x.leftover x.handed)
           (talk_in half view x.leftover (x.handed ++ taken_by message answer)) half.spare_reads line same message answer told count coming kept refl refl refl refl
-          scene.frames (subst (λ (a : Answered). IsCarried a scene (record half { judge = before }) view x.text x.leftover x.handed) opened x.carried).kept
+          scene.frames (subst (λ (a : Answered). IsCarried a scene old view x.text x.leftover x.handed) opened x.carried).kept
 
       carried : (result : Put) → answer ≡ result
           → CarriesOn scene.start now half.wire.input read (scene.before ++ x.text) (failures_by result) (talk_in half view x.leftover (x.handed ++ taken_by message result)) half.spare_reads
       carried result is =
           subst (λ (a : Put). CarriesOn scene.start now half.wire.input read (scene.before ++ x.text) (failures_by a) (talk_in half view x.leftover (x.handed ++ taken_by message a)) half.spare_reads) is sent
 
-      out_with : (handed : List SentMessage) → map Byte x.text ++ map Message (x.handed ++ handed) ≡ view.written ++ map Message handed
-      out_with handed =
-          ap (λ (l : List Output). map Byte x.text ++ l) (map-append Message x.handed handed)
-          ∙ (sym (append_assoc (map Byte x.text) (map Message x.handed) (map Message handed)) ∙ ap (λ (l : List Output). l ++ map Message handed) (sym x.written))
-
       -- the half after the answer
-      answered_put : (progress : Answered) (waits : Due) → IsUpgraded progress → answer_to (said_in scene view ++ event ∷ []) ≡ progress
+      answered_put : half.wire.out.items ≡ [] → (progress : Answered) (waits : Due) → Carries progress → answer_to (said_in scene view ++ event ∷ []) ≡ progress
           → (progress ≡ Open → half.client_closed ≡ has_close view.arrived)
           → ((written : List Output) → IsDue waits (record half { answered = progress; due = waits; stage = Running }) (later written))
           → (result : Put) → answer ≡ result → (written : List Output) × Invariant scene now (record half { answered = progress; due = waits; stage = stage_of result }) read (later written)
-      answered_put progress waits upgraded becomes closed is_due put.Done is =
+      answered_put empty progress waits upgraded becomes closed is_due put.Done is =
           let handed : List SentMessage = x.handed ++ message ∷ [] in
           let written : List Output = map Byte x.text ++ map Message handed in
-          let out : written ≡ view.written ++ Message message ∷ [] = out_with (message ∷ []) in
+          let out : written ≡ view.written ++ Message message ∷ [] = as_messages x.text x.handed (message ∷ []) view.written x.written in
           spoken now half.leftover progress waits Running x.text x.leftover handed (Message message ∷ []) [] (carried put.Done is) out (sym adds_it)
           (carrying progress scene (record half { answered = progress; due = waits; stage = Running }) (later written) x.text x.leftover handed upgraded (carries written))
-          (goes_on half.leftover progress waits written becomes (is_answered progress upgraded) closed (out ∙ ap (λ (l : List Output). view.written ++ l) (sym adds_it)) (is_due written))
-      answered_put progress waits upgraded becomes closed is_due put.Failed is =
+          (goes_on empty half.leftover progress waits written becomes (λ e. absurd (is_answered progress upgraded e)) closed (out ∙ ap (λ (l : List Output). view.written ++ l) (sym adds_it)) (is_due written))
+      answered_put empty progress waits upgraded becomes closed is_due put.Failed is =
           let handed : List SentMessage = x.handed ++ [] in
           let written : List Output = map Byte x.text ++ map Message handed in
-          let out : written ≡ view.written ++ [] = out_with [] in
+          let out : written ≡ view.written ++ [] = as_messages x.text x.handed [] view.written x.written in
           spoken now half.leftover progress waits (Cut (WriteFailed 0)) x.text x.leftover handed [] adds (carried put.Failed is) out refl
           (carrying progress scene (record half { answered = progress; due = waits; stage = Cut (WriteFailed 0) }) (later written) x.text x.leftover handed upgraded (carries written))
           (stops 0 written (subst (λ (l : List Output). 0 < length l) (sym adds_it) (omega arith)) out, still_open)
-      answered_put progress waits upgraded becomes closed is_due put.NoMemory is =
+      answered_put empty progress waits upgraded becomes closed is_due put.NoMemory is =
           let handed : List SentMessage = x.handed ++ [] in
           let written : List Output = map Byte x.text ++ map Message handed in
-          let out : written ≡ view.written ++ [] = out_with [] in
+          let out : written ≡ view.written ++ [] = as_messages x.text x.handed [] view.written x.written in
           spoken now half.leftover progress waits (Cut NoMemory) x.text x.leftover handed [] adds (carried put.NoMemory is) out refl
           (carrying progress scene (record half { answered = progress; due = waits; stage = Cut NoMemory }) (later written) x.text x.leftover handed upgraded (carries written))
           (falls_short written [] adds out refl, still_open)
 
       -- a message of the session: it stays open
-      pub sent_on : answer_to (said_in scene view ++ event ∷ []) ≡ Open → (stage : Stage) → stage ≡ stage_of answer
+      pub sent_on : half.wire.out.items ≡ [] → answer_to (said_in scene view ++ event ∷ []) ≡ Open → (stage : Stage) → stage ≡ stage_of answer
           → (written : List Output) × Invariant scene now (record half { stage = stage }) read (later written)
-      sent_on becomes stage is =
+      sent_on empty becomes stage is =
           subst (λ (s : Stage). (written : List Output) × Invariant scene now (record half { stage = s }) read (later written)) (sym is)
-          (answered_put half.answered half.due (inl opened) (becomes ∙ sym opened) at.0.closed
-          (λ written. due_stays half.due (record half { judge = before }) (record half { stage = Running }) view (view.got ++ Event event ∷ []) written refl refl
+          (answered_put empty half.answered half.due (inl opened) (becomes ∙ sym opened) at.0.closed
+          (λ written. due_stays half.due old (record half { stage = Running }) view (view.got ++ Event event ∷ []) written refl refl
           (λ e. not_both (sym opened ∙ e)) (λ e. not_both (sym opened ∙ e)) at.2)
           answer refl)
 
       -- the application's close: nothing is due after it
-      pub closed_by : answer_to (said_in scene view ++ event ∷ []) ≡ Closed → (stage : Stage) → stage ≡ stage_of answer
+      pub closed_by : half.wire.out.items ≡ [] → answer_to (said_in scene view ++ event ∷ []) ≡ Closed → (stage : Stage) → stage ≡ stage_of answer
           → (written : List Output) × Invariant scene now (record half { answered = Closed; due = due.Nothing; stage = stage }) read (later written)
-      closed_by becomes stage is =
+      closed_by empty becomes stage is =
           subst (λ (s : Stage). (written : List Output) × Invariant scene now (record half { answered = Closed; due = due.Nothing; stage = s }) read (later written)) (sym is)
-          (answered_put Closed due.Nothing (inr refl) becomes (λ e. absurd (not_both (sym e))) (λ written other. absurd (other refl)) answer refl)
+          (answered_put empty Closed due.Nothing (inr refl) becomes (λ e. absurd (not_both (sym e))) (λ written other. absurd (other refl)) answer refl)
 
-  -- ---- a text, if nothing was sent before
+  -- ---- a text, before any answer or as part of a denial
 
-  module _ (first : said_in scene view ≡ []) (more : List ℕ) (adds_it : adds ≡ map Byte more) where
-    unanswered : half.answered ≡ Unanswered
-    unanswered = at.0.answered ∙ ap answer_to first
-
+  module _ (unanswered : half.answered ≡ Unanswered) where
     not_shut : half.answered ≢ Closed
     not_shut e = let never : Unanswered ≡ Closed = sym unanswered ∙ e in cc
 
-    silent : IsSilent (record half { judge = before }) view x.leftover x.handed × (half.leftover.items ≡ scene.frames)
-    silent = subst (λ (a : Answered). IsCarried a scene (record half { judge = before }) view x.text x.leftover x.handed) unanswered x.carried
+    silent : IsSilent old view x.leftover x.handed × (half.leftover.items ≡ scene.frames)
+    silent = subst (λ (a : Answered). IsCarried a scene old view x.text x.leftover x.handed) unanswered x.carried
 
     silent_still : (progress : Answered) (stage : Stage) (written : List Output) → IsSilent (record half { answered = progress; stage = stage }) (later written) x.leftover x.handed
     silent_still progress stage written = record {
@@ -302,15 +300,7 @@ module _ (scene : SessionScene) (was : LineState) (half : WebSocketHalf) (read :
     due_still : (leftover : _) (progress : Answered) (written : List Output) → progress ≢ Closed
         → IsDue half.due (record half { leftover = leftover; answered = progress; stage = Running }) (later written)
     due_still leftover progress written on =
-        due_stays half.due (record half { judge = before }) (record half { leftover = leftover; answered = progress; stage = Running }) view (view.got ++ Event event ∷ []) written refl refl not_shut on at.2
-
-    out_as_text : (part : List ℕ) → map Byte (x.text ++ part) ++ map Message x.handed ≡ view.written ++ map Byte part
-    out_as_text part =
-        ap (λ (h : List SentMessage). map Byte (x.text ++ part) ++ map Message h) silent.0.sent
-        ∙ (append-nil (map Byte (x.text ++ part))
-        ∙ (map-append Byte x.text part
-        ∙ ap (λ (l : List Output). l ++ map Byte part)
-        (sym (x.written ∙ (ap (λ (h : List SentMessage). map Byte x.text ++ map Message h) silent.0.sent ∙ append-nil (map Byte x.text))))))
+        due_stays half.due old (record half { leftover = leftover; answered = progress; stage = Running }) view (view.got ++ Event event ∷ []) written refl refl not_shut on at.2
 
     as_unanswered : (now : LineState) (stage : Stage)
         → (written : List Output) × Invariant scene now (record half { answered = Unanswered; stage = stage }) read (later written)
@@ -327,13 +317,12 @@ module _ (scene : SessionScene) (was : LineState) (half : WebSocketHalf) (read :
         (spoken was half.leftover Unanswered half.due (Cut NoMemory) x.text x.leftover x.handed [] adds line out refl
         (silent_still Unanswered (Cut NoMemory) written, silent.1) (falls_short written [] adds out refl, still_open))
 
-    module _ (now : LineState) (same_left : now.left ≡ was.left) (same_reads : now.reads ≡ was.reads) (same_session : now.session ≡ was.session) where
+    module _ (more : List ℕ) (adds_it : adds ≡ map Byte more) (now : LineState) (same_left : now.left ≡ was.left) (same_reads : now.reads ≡ was.reads) (same_session : now.session ≡ was.session) where
       text_moved : (part : List ℕ) (failures : ℕ) → Appends was.written now.written part → RoseBy failures was.failed now.failed
           → TriesWrites was.writes now.writes (length part) (how_wrote failures (length part))
           → CarriesOn scene.start now half.wire.input read (scene.before ++ (x.text ++ part)) failures (talk_in half view x.leftover x.handed) half.spare_reads
       text_moved part failures appends rose tries =
-          subst (λ (l : List ℕ). CarriesOn scene.start now half.wire.input read l failures (talk_in half view x.leftover x.handed) half.spare_reads) (append_assoc scene.before x.text part)
-          (talk_written scene.start was now half.wire.input read (scene.before ++ x.text) part failures (talk_in half view x.leftover x.handed) half.spare_reads line silent.0.kept same_left same_reads same_session appends rose tries)
+          talk_written scene.start was now half.wire.input read scene.before x.text part failures (talk_in half view x.leftover x.handed) half.spare_reads line silent.0.kept same_left same_reads same_session appends rose tries
 
       -- its first n bytes went out
       cut_by : (progress : Answered) (n : ℕ) → n < length more
@@ -343,7 +332,7 @@ module _ (scene : SessionScene) (was : LineState) (half : WebSocketHalf) (read :
       cut_by progress n less line_is carried =
           let written : List Output = map Byte (x.text ++ take n more) ++ map Message x.handed in
           let part : map Byte (take n more) ≡ take n adds = sym (take-map Byte n more) ∙ ap (λ (l : List Output). take n l) (sym adds_it) in
-          let out : written ≡ view.written ++ take n adds = out_as_text (take n more) ∙ ap (λ (l : List Output). view.written ++ l) part in
+          let out : written ≡ view.written ++ take n adds = as_text x.text (take n more) x.handed view.written silent.0.sent x.written ∙ ap (λ (l : List Output). view.written ++ l) part in
           let within : n < length adds = subst (λ (l : List Output). n < length l) (sym adds_it) (subst (λ (k : ℕ). n < k) (sym (length-map more Byte)) less) in
           spoken now half.leftover progress half.due (Cut (WriteFailed n)) (x.text ++ take n more) x.leftover x.handed (take n adds) (drop n adds) line_is out (take-append-drop n adds) carried
           (stops n written within out, still_open)
@@ -362,23 +351,34 @@ module _ (scene : SessionScene) (was : LineState) (half : WebSocketHalf) (read :
 
       module _ (appends : Appends was.written now.written more) (rose : RoseBy 0 was.failed now.failed) (tries : TriesWrites was.writes now.writes (length more) wrote.Done) where
         all_out : map Byte (x.text ++ more) ++ map Message x.handed ≡ view.written ++ adds
-        all_out = out_as_text more ∙ ap (λ (l : List Output). view.written ++ l) (sym adds_it)
+        all_out = as_text x.text more x.handed view.written silent.0.sent x.written ∙ ap (λ (l : List Output). view.written ++ l) (sym adds_it)
 
-        pub refusal_out : answer_to (said_in scene view ++ event ∷ []) ≡ Refused → (stage : Stage) → stage ≡ Running
+        pub refusal_out : half.wire.out.items ≡ [] → answer_to (said_in scene view ++ event ∷ []) ≡ Refused → (stage : Stage) → stage ≡ Running
             → (written : List Output) × Invariant scene now (record half { answered = Refused; stage = stage }) read (later written)
-        refusal_out becomes stage is =
+        refusal_out empty becomes stage is =
             let written : List Output = map Byte (x.text ++ more) ++ map Message x.handed in
             subst (λ (s : Stage). (w : List Output) × Invariant scene now (record half { answered = Refused; stage = s }) read (later w)) (sym is)
             (spoken now half.leftover Refused half.due Running (x.text ++ more) x.leftover x.handed adds [] (text_moved more 0 appends rose tries) all_out (append-nil adds)
-            (silent_still Refused Running written) (goes_on half.leftover Refused half.due written becomes (λ e. cc) (λ e. cc) all_out (due_still half.leftover Refused written (λ e. cc))))
+            (silent_still Refused Running written) (goes_on empty half.leftover Refused half.due written becomes (λ e. cc) (λ e. cc) all_out (due_still half.leftover Refused written (λ e. cc))))
+
+        -- a denial goes on
+        pub denial_out : half.wire.out.items ≡ [] → answer_to (said_in scene view ++ event ∷ []) ≡ Unanswered → standing.StandsForSession half.text scene.facts (said_in scene view ++ event ∷ [])
+            → (written : List Output) × Invariant scene now half read (later written)
+        denial_out empty becomes stands =
+            let written : List Output = map Byte (x.text ++ more) ++ map Message x.handed in
+            subst (λ (s : Stage). (w : List Output) × Invariant scene now (record half { stage = s }) read (later w)) (sym running)
+            (as_unanswered now Running
+            (spoken now half.leftover Unanswered half.due Running (x.text ++ more) x.leftover x.handed adds [] (text_moved more 0 appends rose tries) all_out (append-nil adds)
+            (silent_still Unanswered Running written, silent.1)
+            (goes_on empty half.leftover Unanswered half.due written becomes (λ e. stands) (λ e. cc) all_out (due_still half.leftover Unanswered written (λ e. cc)))))
 
         -- the line carries messages from here on
-        pub accept_out : (after : LineState) (leftover : _) → LeavesText now after → after.session.leftover ≡ kept_by now.session.leftover half.leftover.items → after.failed ≡ now.failed
+        pub accept_out : said_in scene view ≡ [] → half.wire.out.items ≡ [] → (after : LineState) (leftover : _) → LeavesText now after → after.session.leftover ≡ kept_by now.session.leftover half.leftover.items → after.failed ≡ now.failed
             → after.session.calls ≡ now.session.calls → after.session.coming ≡ now.session.coming
             → answer_to (said_in scene view ++ event ∷ []) ≡ Open → (subprotocol : Option (List ℕ)) (headers : List HeaderField) → event ≡ WsAccept subprotocol headers
             → more ≡ handshake_of scene.facts subprotocol headers → (stage : Stage) → stage ≡ Running
             → (written : List Output) × Invariant scene after (record half { leftover = leftover; answered = Open; stage = stage }) read (later written)
-        accept_out after leftover same kept count calls coming becomes subprotocol headers accepts text_is stage is =
+        accept_out first empty after leftover same kept count calls coming becomes subprotocol headers accepts text_is stage is =
             let written : List Output = map Byte (x.text ++ more) ++ map Message x.handed in
             let none : x.text ≡ [] = no_text x.text x.handed (sym x.written ∙ (at.0.written ∙ ap (output_of (handshake_of scene.facts) scene.facts) first)) in
             let line_is : CarriesOn scene.start after half.wire.input read (scene.before ++ (x.text ++ more)) 0 (talk_in half view (Some scene.frames) x.handed) half.spare_reads =
@@ -394,7 +394,7 @@ module _ (scene : SessionScene) (was : LineState) (half : WebSocketHalf) (read :
             } in
             subst (λ (s : Stage). (w : List Output) × Invariant scene after (record half { leftover = leftover; answered = Open; stage = s }) read (later w)) (sym is)
             (spoken after leftover Open half.due Running (x.text ++ more) (Some scene.frames) x.handed adds [] line_is all_out (append-nil adds) carried
-            (goes_on leftover Open half.due written becomes (λ e. cc) (λ e. silent.0.unclosed ∙ ap has_close (sym silent.0.received)) all_out
+            (goes_on empty leftover Open half.due written becomes (λ e. cc) (λ e. silent.0.unclosed ∙ ap has_close (sym silent.0.received)) all_out
             (due_still leftover Open written (λ e. cc))))
 
 -- ---- a payload, and a close
@@ -408,10 +408,10 @@ module _ (scene : SessionScene) (was now : LineState) (half : WebSocketHalf) (re
       → (written : List Output) × Invariant scene now (record half { stage = stage }) read (record view { got = view.got ++ Event (WsSend payload) ∷ []; written = written })
   payload_sent payload pass judged told stage is =
       let s = send_is_in_session scene.facts (said_in scene view) payload pass in
-      sent_on scene was half read view before x running (WsSend payload) pass judged
-      (is_open scene was half read view before x running (WsSend payload) pass judged s)
+      sent_on scene was half read view before half.text half.wire.out x running (WsSend payload) pass judged
+      (is_open scene was half read view before half.text half.wire.out x running (WsSend payload) pass judged s)
       now (item.Payload payload) (ap (λ (l : List Outgoing). event_output (handshake_of scene.facts) scene.facts l (WsSend payload)) s.3)
-      answer same told count coming kept (open_after_send scene.facts (said_in scene view) payload pass) stage is
+      answer same told count coming kept (runs scene was (record half { judge = before }) read view x running).0.empty (open_after_send scene.facts (said_in scene view) payload pass) stage is
 
   pub close_sent : (code : ℕ) (reason : List ℕ) → passes WebSocket scene.facts (said_in scene view) (WsClose code reason) ≡ true
       → judging.StandsFor half.judge WebSocket scene.facts (said_in scene view ++ WsClose code reason ∷ []) false → half.answered ≡ Open
@@ -419,11 +419,11 @@ module _ (scene : SessionScene) (was now : LineState) (half : WebSocketHalf) (re
       → (written : List Output)
       × Invariant scene now (record half { answered = Closed; due = due.Nothing; stage = stage }) read (record view { got = view.got ++ Event (WsClose code reason) ∷ []; written = written })
   close_sent code reason pass judged opened copy copied told stage is =
-      let t = running_of scene was half read view before x running in
+      let t = runs scene was (record half { judge = before }) read view x running in
       let s = open_is_accepted (said_in scene view) (sym t.0.answered ∙ opened) in
-      closed_by scene was half read view before x running (WsClose code reason) pass judged opened
+      closed_by scene was half read view before half.text half.wire.out x running (WsClose code reason) pass judged opened
       now (item.Close code reason) (ap (λ (l : List Outgoing). event_output (handshake_of scene.facts) scene.facts l (WsClose code reason)) s.3)
-      answer same (told ∙ ap (λ (r : List ℕ). was.session.calls ++ Send (item.Close code r) answer ∷ []) copied) count coming kept (closed_after_close scene.facts (said_in scene view) code reason s.0 s.1 s.2 s.3 pass) stage is
+      answer same (told ∙ ap (λ (r : List ℕ). was.session.calls ++ Send (item.Close code r) answer ∷ []) copied) count coming kept t.0.empty (closed_after_close scene.facts (said_in scene view) code reason s.0 s.1 s.2 s.3 pass) stage is
 
 -- ---- a close in place of an accept
 
@@ -434,8 +434,14 @@ module _ (scene : SessionScene) (was now : LineState) (half : WebSocketHalf) (re
   unsaid : said_in scene view ≡ []
   unsaid = elim (close_has_place scene.facts (said_in scene view) code reason pass) [
     | inl none ↦ none
-    | inr s ↦ absurd (shut (is_open scene was half read view before x running (WsClose code reason) pass judged s))
+    | inr s ↦ absurd (shut (is_open scene was half read view before half.text half.wire.out x running (WsClose code reason) pass judged s))
   ]
+
+  before_it : Talks scene (record half { judge = before }) view
+  before_it = (runs scene was (record half { judge = before }) read view x running).0
+
+  unanswered_yet : half.answered ≡ Unanswered
+  unanswered_yet = before_it.answered ∙ ap answer_to unsaid
 
   adds_refusal : event_output (handshake_of scene.facts) scene.facts (said_in scene view) (WsClose code reason) ≡ map Byte text
   adds_refusal =
@@ -444,14 +450,14 @@ module _ (scene : SessionScene) (was now : LineState) (half : WebSocketHalf) (re
   pub refused_whole : Appends was.written now.written text → RoseBy 0 was.failed now.failed → TriesWrites was.writes now.writes (length text) wrote.Done
       → (written : List Output) × Invariant scene now (record half { answered = Refused }) read (record view { got = view.got ++ Event (WsClose code reason) ∷ []; written = written })
   refused_whole appends rose tries =
-      refusal_out scene was half read view before x running (WsClose code reason) pass judged unsaid text adds_refusal now same_left same_reads same_session appends rose tries
+      refusal_out scene was half read view before half.text half.wire.out x running (WsClose code reason) pass judged unanswered_yet text adds_refusal now same_left same_reads same_session appends rose tries before_it.empty
       (ap (λ (l : List Outgoing). answer_to (l ++ WsClose code reason ∷ [])) unsaid) half.stage running
 
   pub refused_part : (n : ℕ) → n < length text → Appends was.written now.written (take n text) → RoseBy 1 was.failed now.failed → TriesWrites was.writes now.writes n (wrote.Failed n)
       → (written : List Output)
       × Invariant scene now (record half { answered = Refused; stage = Cut (WriteFailed n) }) read (record view { got = view.got ++ Event (WsClose code reason) ∷ []; written = written })
   refused_part n less appends rose tries =
-      refusal_cut scene was half read view before x running (WsClose code reason) pass judged unsaid text adds_refusal now same_left same_reads same_session n less appends rose tries
+      refusal_cut scene was half read view before half.text half.wire.out x running (WsClose code reason) pass judged unanswered_yet text adds_refusal now same_left same_reads same_session n less appends rose tries
 
 -- ---- an accept
 
@@ -467,6 +473,12 @@ module _ (scene : SessionScene) (was : LineState) (half : WebSocketHalf) (read :
       let a = accept_of event accepts in
       accept_is_first scene.facts (said_in scene view) a.0 a.1 (ap (λ (e : Outgoing). passes WebSocket scene.facts (said_in scene view) e) (sym a.2) ∙ pass)
 
+  talks_before : Talks scene (record half { judge = before }) view
+  talks_before = (runs scene was (record half { judge = before }) read view x running).0
+
+  not_answered : half.answered ≡ Unanswered
+  not_answered = talks_before.answered ∙ ap answer_to none_before
+
   adds_handshake : (text : List ℕ) → text ≡ accept_text half.facts event → event_output (handshake_of scene.facts) scene.facts (said_in scene view) event ≡ map Byte text
   adds_handshake text is =
       let a = accept_of event accepts in
@@ -477,14 +489,14 @@ module _ (scene : SessionScene) (was : LineState) (half : WebSocketHalf) (read :
 
   -- there is no memory for its text
   pub accept_short : (written : List Output) × Invariant scene was (record half { stage = Cut NoMemory }) read (record view { got = view.got ++ Event event ∷ []; written = written })
-  accept_short = text_short scene was half read view before x running event pass judged none_before (accept_text half.facts event) (adds_handshake (accept_text half.facts event) refl)
+  accept_short = text_short scene was half read view before half.text half.wire.out x running event pass judged not_answered
 
   module _ (now : LineState) (text : List ℕ) (text_is : text ≡ accept_text half.facts event) (same_left : now.left ≡ was.left) (same_reads : now.reads ≡ was.reads)
       (same_session : now.session ≡ was.session) where
     pub accept_part : (n : ℕ) → n < length text → Appends was.written now.written (take n text) → RoseBy 1 was.failed now.failed → TriesWrites was.writes now.writes n (wrote.Failed n)
         → (written : List Output) × Invariant scene now (record half { stage = Cut (WriteFailed n) }) read (record view { got = view.got ++ Event event ∷ []; written = written })
     accept_part n less appends rose tries =
-        accept_cut scene was half read view before x running event pass judged none_before text (adds_handshake text text_is) now same_left same_reads same_session n less appends rose tries
+        accept_cut scene was half read view before half.text half.wire.out x running event pass judged not_answered text (adds_handshake text text_is) now same_left same_reads same_session n less appends rose tries
 
     pub accepted : Appends was.written now.written text → RoseBy 0 was.failed now.failed → TriesWrites was.writes now.writes (length text) wrote.Done
         → (after : LineState) (new : WebSocketHalf) (bytes : List ℕ) → LeavesText now after → after.session.leftover ≡ kept_by now.session.leftover bytes → bytes ≡ half.leftover.items
@@ -494,7 +506,7 @@ module _ (scene : SessionScene) (was : LineState) (half : WebSocketHalf) (read :
         × Invariant scene after (record half { leftover = new.leftover; answered = Open }) read (record view { got = view.got ++ Event event ∷ []; written = written })
     accepted appends rose tries after new bytes same kept bytes_are count calls coming =
         let a = accept_of event accepts in
-        accept_out scene was half read view before x running event pass judged none_before text (adds_handshake text text_is) now same_left same_reads same_session appends rose tries
-        after new.leftover same (kept ∙ ap (λ (l : List ℕ). kept_by now.session.leftover l) bytes_are) count calls coming
+        accept_out scene was half read view before half.text half.wire.out x running event pass judged not_answered text (adds_handshake text text_is) now same_left same_reads same_session appends rose tries
+        none_before talks_before.empty after new.leftover same (kept ∙ ap (λ (l : List ℕ). kept_by now.session.leftover l) bytes_are) count calls coming
         (ap (λ (l : List Outgoing). answer_to (l ++ event ∷ [])) none_before ∙ ap (λ (e : Outgoing). answer_to (e ∷ [])) a.2)
         a.0 a.1 a.2 (text_is ∙ (ap (λ (f : Facts). accept_text f event) x.fixed.facts_are ∙ ap (λ (e : Outgoing). accept_text scene.facts e) a.2)) half.stage running

@@ -19,7 +19,6 @@ use Rattle.asgi_pipes.specs.declared.items.OutItem.{OutItem}
 use Rattle.asgi_pipes.specs.declared.items.OutItem.TheVariants.{Event, Ended}
 use Rattle.asgi_response.specs.Standing as standing
 use Rattle.asgi_response.specs.declared.text.ResponseText.{ResponseText}
-use Rattle.asgi_ws.specs.declared.messages.SentMessage.{SentMessage}
 use Rattle.asgi_ws.specs.declared.messages.Msg.{Msg}
 use Rattle.asgi_exchange.specs.Items.{end_of}
 use Rattle.asgi_exchange.specs.Messages.{session_events}
@@ -30,24 +29,19 @@ use Rattle.asgi_exchange.proofs.EventLemmas.{events_append, end_event, end_ended
 use Rattle.asgi_conversation.specs.Sessions.{handshake_of, no_traffic}
 use Rattle.asgi_halves.specs.declared.stage.Stage.{Stage}
 use Rattle.asgi_halves.specs.declared.stage.Stage.TheVariants.{Running, Ending}
-use Rattle.asgi_halves.specs.declared.session_half.Answered.{Answered}
-use Rattle.asgi_halves.specs.declared.session_half.Answered.TheVariants.{Unanswered, Open, Closed, Refused}
+use Rattle.asgi_halves.specs.declared.session_half.Answered.TheVariants.{Unanswered}
 use Rattle.asgi_halves.specs.declared.session_half.Due.{Due}
 use Rattle.asgi_halves.specs.declared.session_half.Due.TheVariants as due
 use Rattle.asgi_halves.specs.declared.session_half.WebSocketHalf.{WebSocketHalf}
 use Rattle.asgi_halves.specs.declared.wire.Wire.{Wire}
 use Rattle.asgi_halves.specs.Half.{failures_at}
 use Rattle.asgi_ws.specs.Lines.{LineState}
-use Rattle.asgi_halves.specs.WebSocketHalf.{SessionScene, Invariant, OpensSession, Talks, IsAt, IsCarried, IsCarrying, IsDue, IsSilent, answer_to, exchange_of, said_in, talk_in}
+use Rattle.asgi_halves.specs.WebSocketHalf.{SessionScene, Invariant, OpensSession, Talks, IsDue, answer_to, exchange_of, said_in}
 use Rattle.asgi_halves.specs.Traffic.{drop_limit}
 use Rattle.asgi_halves.specs.WebSocketHalf.{CarriesOn}
 use Rattle.asgi_halves.proofs.SessionPassLemmas.{same_said}
 use Rattle.asgi_halves.proofs.TalkLemmas.{talk_begins}
-
-running_of : (scene : SessionScene) (now : LineState) (half : WebSocketHalf) (read : List ℕ) (view : ConnView Msg Output) → Invariant scene now half read view → half.stage ≡ Running
-    → Talks scene half view × (end_of view.got ≡ None) × IsDue half.due half view
-running_of scene now half read view x is = subst (λ (s : Stage). IsAt s scene half view) is x.stage
-
+use Rattle.asgi_halves.proofs.SessionOfferLemmas.{carried_on, line_at, runs}
 
 no_pass : (v : Verdict) → (v ≡ verdict.Pass → ⊥) → is_pass v ≡ false
 no_pass verdict.Pass h = absurd (h refl)
@@ -69,26 +63,6 @@ none_left _ message accept close start body of = absurd (cc)
 
 module _ (scene : SessionScene) (half : WebSocketHalf) (view : ConnView Msg Output) (stage : Stage) (got : List OutItem) (first : Bool)
     (same : accepted_session scene.facts (taken_of (record view { got = got; broken_first = first })) ≡ said_in scene view) where
-  silent_on : (leftover : Option (List ℕ)) (handed : List SentMessage) → IsSilent half view leftover handed → IsSilent (record half { stage = stage }) (record view { got = got; broken_first = first }) leftover handed
-  silent_on leftover handed s = record { kept = s.kept; received = s.received; over = s.over; unclosed = s.unclosed; sent = s.sent }
-
-  carrying_on : (text : List ℕ) (leftover : Option (List ℕ)) → IsCarrying scene view text leftover → IsCarrying scene (record view { got = got; broken_first = first }) text leftover
-  carrying_on text leftover c = record {
-    kept = c.kept;
-    subprotocol = c.subprotocol;
-    headers = c.headers;
-    events = c.events;
-    said = same ∙ c.said;
-    text_is = c.text_is;
-  }
-
-  carried_on : (answered : Answered) (text : List ℕ) (leftover : Option (List ℕ)) (handed : List SentMessage) → IsCarried answered scene half view text leftover handed
-      → IsCarried answered scene (record half { stage = stage }) (record view { got = got; broken_first = first }) text leftover handed
-  carried_on Unanswered text leftover handed c = (silent_on leftover handed c.0, c.1)
-  carried_on Refused text leftover handed c = silent_on leftover handed c
-  carried_on Open text leftover handed c = carrying_on text leftover c
-  carried_on Closed text leftover handed c = carrying_on text leftover c
-
   due_on : (d : Due) → IsDue d half view → IsDue d (record half { stage = stage }) (record view { got = got; broken_first = first })
   due_on due.Nothing x = x
   due_on (due.Waits event) x = x
@@ -108,13 +82,7 @@ module _ (scene : SessionScene) (half : WebSocketHalf) (view : ConnView Msg Outp
 
 module _ (scene : SessionScene) (now : LineState) (half : WebSocketHalf) (read : List ℕ) (view : ConnView Msg Output) (x : Invariant scene now half read view) (is : half.stage ≡ Running) where
   at : Talks scene half view × (end_of view.got ≡ None) × IsDue half.due half view
-  at = running_of scene now half read view x is
-
-  line_at : (stage : Stage) → failures_at stage ≡ 0
-      → CarriesOn scene.start now half.wire.input read (scene.before ++ x.text) (failures_at stage) (talk_in half view x.leftover x.handed) half.spare_reads
-  line_at stage none =
-      subst (λ (n : ℕ). CarriesOn scene.start now half.wire.input read (scene.before ++ x.text) n (talk_in half view x.leftover x.handed) half.spare_reads)
-      (ap failures_at is ∙ sym none) x.line
+  at = runs scene now half read view x is
 
   -- the end of the task
   pub ended_taken : (kind : EndKind) → Invariant scene now (record half { stage = Ending kind }) read (record view { got = view.got ++ Ended kind ∷ []; broken_first = is_by_input view.broken })
@@ -129,9 +97,9 @@ module _ (scene : SessionScene) (now : LineState) (half : WebSocketHalf) (read :
         text = x.text;
         leftover = x.leftover;
         handed = x.handed;
-        line = line_at (Ending kind) refl;
+        line = line_at scene now half read view x 0 (ap failures_at is);
         written = x.written;
-        carried = carried_on scene half view (Ending kind) later.got later.broken_first same half.answered x.text x.leftover x.handed x.carried;
+        carried = carried_on half.answered scene half (record half { stage = Ending kind }) view later x.text x.leftover x.handed refl refl refl refl ([], append-nil (said_in scene view) ∙ sym same) x.carried;
         keeps = record { offered = x.keeps.offered; written = (added, ap (λ (l : List Output). l ++ added) talks.written) };
         breaks = x.breaks;
         stage = (talks, end_ended view.got kind at.1, refl);
@@ -151,9 +119,9 @@ module _ (scene : SessionScene) (now : LineState) (half : WebSocketHalf) (read :
         text = x.text;
         leftover = x.leftover;
         handed = x.handed;
-        line = line_at Running refl;
+        line = line_at scene now half read view x 0 (ap failures_at is);
         written = x.written;
-        carried = carried_on scene half view Running later.got view.broken_first same half.answered x.text x.leftover x.handed x.carried;
+        carried = carried_on half.answered scene half (record half { stage = Running }) view later x.text x.leftover x.handed refl refl refl refl ([], append-nil (said_in scene view) ∙ sym same) x.carried;
         keeps = record { offered = x.keeps.offered; written = (added, ap (λ (l : List Output). l ++ added) talks.written) };
         breaks = x.breaks;
         stage = (talks, end_event view.got event ∙ at.1, due_on scene half view Running later.got view.broken_first same half.due at.2);

@@ -101,17 +101,18 @@ talk_begins start now end read before spare within x =
     record { carried = talk_silent start now end read before 0 x; within = none }
 
 -- one more text
-pub talk_written : (start was now : LineState) (end : InputEnd) (read text more : List ℕ) (failures : ℕ) (traffic : SessionTraffic) (spare : ℕ)
-    → CarriesOn start was end read text 0 traffic spare → traffic.leftover ≡ None → now.left ≡ was.left → now.reads ≡ was.reads → now.session ≡ was.session → Appends was.written now.written more → RoseBy failures was.failed now.failed
+pub talk_written : (start was now : LineState) (end : InputEnd) (read before text more : List ℕ) (failures : ℕ) (traffic : SessionTraffic) (spare : ℕ)
+    → CarriesOn start was end read (before ++ text) 0 traffic spare → traffic.leftover ≡ None → now.left ≡ was.left → now.reads ≡ was.reads → now.session ≡ was.session → Appends was.written now.written more → RoseBy failures was.failed now.failed
     → TriesWrites was.writes now.writes (length more) (how_wrote failures (length more))
-    → CarriesOn start now end read (text ++ more) failures traffic spare
-talk_written start was now end read text more failures traffic spare on none same_left same_reads same_session appends rose tries =
+    → CarriesOn start now end read (before ++ (text ++ more)) failures traffic spare
+talk_written start was now end read before text more failures traffic spare on none same_left same_reads same_session appends rose tries =
     let x = on.carried in
-    record {
+    subst (λ (l : List ℕ). CarriesOn start now end read l failures traffic spare) (append_assoc before text more)
+    (record {
       carried = record {
-        moved = subst (λ (o : Option (List ℕ)). Transferred start (text_of_line start now) end read (text ++ more) (in_text o failures)) (sym none)
-            (moved_by_write start (text_of_line start was) (text_of_line start now) end read text more failures
-            (subst (λ (o : Option (List ℕ)). Transferred start (text_of_line start was) end read text (in_text o 0)) none x.moved) same_left same_reads refl appends rose tries);
+        moved = subst (λ (o : Option (List ℕ)). Transferred start (text_of_line start now) end read ((before ++ text) ++ more) (in_text o failures)) (sym none)
+            (moved_by_write start (text_of_line start was) (text_of_line start now) end read (before ++ text) more failures
+            (subst (λ (o : Option (List ℕ)). Transferred start (text_of_line start was) end read (before ++ text) (in_text o 0)) none x.moved) same_left same_reads refl appends rose tries);
         fails = subst (λ (o : Option (List ℕ)). FailsAs (in_session o failures) x.calls) (sym none) (subst (λ (o : Option (List ℕ)). FailsAs (in_session o 0) x.calls) none x.fails);
         calls = x.calls;
         told = ap (λ (s : Session). s.calls) same_session ∙ x.told;
@@ -125,7 +126,7 @@ talk_written start was now end read text more failures traffic spare on none sam
         quiet = x.quiet;
       };
       within = on.within;
-    }
+    })
 
 -- a call of a session leaves the text
 pub record LeavesText (was now : LineState) : Type 0 where

@@ -7,7 +7,7 @@ use Rattle.asgi_types.specs.declared.facts.Facts.{Facts}
 use Rattle.asgi_types.specs.declared.limits.Limits.{Limits}
 use Rattle.asgi_types.specs.declared.outgoing.Outgoing.{Outgoing}
 use Rattle.asgi_types.specs.declared.outgoing.Outgoing.TheVariants.{WsAccept, WsClose, DenialStart, DenialBody}
-use Rattle.asgi_types.specs.declared.incoming.Incoming.TheVariants.{WsReceive}
+use Rattle.asgi_types.specs.declared.incoming.Incoming.TheVariants.{WsReceive, WsDisconnect}
 use Rattle.asgi_types.specs.declared.incoming.Payload.TheVariants as payload
 use Rattle.asgi_types.specs.declared.scope.Kind.TheVariants.{WebSocket}
 use Rattle.asgi_types.specs.declared.scope.Scope.{Scope}
@@ -32,6 +32,8 @@ use Rattle.asgi_exchange.specs.Steps.{is_by_input, is_by_cut}
 use Rattle.asgi_exchange.specs.Views.{ConnView, World, said_of, taken_of}
 use Rattle.asgi_exchange.specs.WebSocket.{web_socket}
 use Rattle.asgi_ws.specs.declared.messages.SentMessage.{SentMessage}
+use Rattle.asgi_ws.specs.declared.messages.Got.{Got}
+use Rattle.asgi_ws.specs.declared.messages.Got.TheVariants as got
 use Rattle.asgi_ws.specs.declared.messages.Msg.{Msg}
 use Rattle.asgi_ws.specs.declared.messages.Msg.TheVariants.{Text, Bytes, Ping, Pong, Close}
 use Rattle.asgi_ws.specs.declared.messages.Put.{Put}
@@ -291,6 +293,18 @@ heard_by half (Bytes bytes) = record half { due = due.Waits (WsReceive (payload.
 heard_by half Ping = half
 heard_by half Pong = half
 heard_by half (Close close) = record half { client_closed = true; due = due.Left (disconnect_of (Some close)) }
+
+-- no message follows: the disconnect is due
+abbrev pub lost_by : WebSocketHalf → WebSocketHalf
+lost_by half = record half { is_over = true; due = due.Left (WsDisconnect 1006 []) }
+
+-- what a read of a message makes due
+abbrev pub noted_by : WebSocketHalf → Got → WebSocketHalf
+noted_by half (got.Message message) = heard_by half message
+noted_by half got.Idle = half
+noted_by half got.Ended = lost_by half
+noted_by half got.Failed = lost_by half
+noted_by half got.NoMemory = record half { stage = Cut NoMemory }
 
 -- how a session ends that the application left open, after its disconnect
 abbrev pub outcome_after : (client_closed : Bool) → Outcome

@@ -1,6 +1,6 @@
 //! The connection's half of the exchange of an opening handshake: it answers the handshake, hands over the messages
 //! that the application sends, and offers those that are read. The half knows only its own end of the pair.
-ghost use Rattle.std.specs.Prelude.{◌≡◌, ◌≢◌, ◌↔◌, ◌⊎◌, true, false, [], ℕ, List, Some, IsTrue, ⊤};
+ghost use Rattle.std.specs.Prelude.{◌≡◌, ◌≢◌, ◌↔◌, ◌⊎◌, ◌<◌, true, false, [], ℕ, List, Some, IsTrue, ⊤};
 ghost use Rattle.asgi_types.specs.declared.incoming.Incoming.{Incoming};
 ghost use Rattle.asgi_types.specs.declared.outgoing.Outgoing.{Outgoing};
 ghost use Rattle.asgi_protocol.specs.Shapes.{is_message};
@@ -10,8 +10,9 @@ ghost use Rattle.asgi_exchange.specs.Views.{empty_conn};
 ghost use Rattle.asgi_conversation.specs.declared.following.NextStep.{NextStep};
 ghost use Rattle.asgi_conversation.specs.declared.following.NextStep.TheVariants.{ConnectionEnds};
 ghost use Rattle.asgi_ws.specs.Lines.{LineState};
-ghost use Rattle.asgi_halves.specs.WebSocketHalf.{SessionScene, Invariant, OpensSession, PreservesByEnd, PreservesByLine, Says, Speaks, HasDropped, MayDrop, NoneDue, Rests, IsAccept, IsDenial, heard_by, outcome_after, stage_of};
-ghost use Rattle.asgi_halves.specs.Kinds.{IsShut, IsTurnOfOneRead, IsTurnOfRead, OffersAll, ReadsNone};
+ghost use Rattle.asgi_halves.specs.WebSocketHalf.{SessionScene, Invariant, OpensSession, PreservesByEnd, PreservesByLine, Says, Speaks, HasDropped, MayDrop, NoneDue, Rests, IsAccept, IsDenial, heard_by, lost_by, noted_by, outcome_after, stage_of};
+ghost use Rattle.asgi_halves.specs.Kinds.{IsShut, IsTurnOfOneRead, IsTurnOfRead, OffersAll, ReadsNone, turn_by};
+ghost use Rattle.asgi_halves.specs.Traffic.{is_end};
 ghost use Rattle.asgi_halves.specs.private.HalfSteps.{OffersOne};
 ghost use Rattle.asgi_ws.specs.declared.messages.Msg.{Msg};
 ghost use Rattle.asgi_exchange.specs.Session.{Output};
@@ -297,7 +298,16 @@ impl WebSocketHalf {
         ensures keeps { result ≡ Turn.Idle → self.new ≡ self.old }
         ensures moves { IsShut self.new.stage → result ≡ Turn.Moved }
     {
-        match line.read_message() {
+        let got = line.read_message();
+        self.note(got)
+    }
+
+    /// Records what a read of a message makes due.
+    fn note(&mut self, got: Got) -> Turn
+        ensures noted { self.new ≡ noted_by self.old got }
+        ensures turn { result ≡ turn_by got }
+    {
+        match got {
             Got::Message(message) => self.hear(message),
             Got::Idle => return Turn::Idle,
             Got::Ended => self.lose(),
@@ -309,7 +319,7 @@ impl WebSocketHalf {
 
     /// Records that no message follows: the disconnect is due.
     fn lose(&mut self)
-        ensures { self.new ≡ record self.old { is_over = true; due = Due.Left (Incoming.WsDisconnect 1006 []) } }
+        ensures { self.new ≡ lost_by self.old }
     {
         self.is_over = true;
         self.due = Due::Left(disconnect(1006));
@@ -343,8 +353,20 @@ impl WebSocketHalf {
         if self.is_over || self.spare_reads == 0 {
             return Turn::Idle;
         }
+        let got = line.read_message();
+        self.note_dropped(got)
+    }
+
+    /// Records a read after a close: its message is dropped.
+    fn note_dropped(&mut self, got: Got) -> Turn
+        requires goes_on { self.old.is_over ≡ false }
+        requires spare { 0 < self.old.spare_reads }
+        ensures dropped { self.new ≡ record self.old { is_over = is_end got; spare_reads = self.new.spare_reads } }
+        ensures fewer { self.new.spare_reads < self.old.spare_reads }
+        ensures turn { result ≡ turn_by got }
+    {
         self.spare_reads -= 1;
-        match line.read_message() {
+        match got {
             Got::Message(_) => {}
             Got::Idle => return Turn::Idle,
             Got::Ended => self.is_over = true,

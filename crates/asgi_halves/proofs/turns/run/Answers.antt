@@ -55,8 +55,11 @@ returns-in-Ending-clause-offers g c is worked = absurd (ended_not_running (g.K.E
 
 pub returns-then-took-clause-runs : goal.returns-then-took-clause-runs
 returns-then-took-clause-runs g c is =
-    inl (worked g.C.ConnEnd c.args.end.now c.take_all-took.new.end c.offer_due-offered.new.end c.take_all-took.result c.offer_due-offered.result c.args.app_goes_on
-    c.take_all-took.ensures.grown c.take_all-took.ensures.offered c.offer_due-offered.ensures.taken c.offer_due-offered.ensures.grown c.then-took.either, refl)
+    inl (
+      worked g.C.ConnEnd c.args.end.now c.take_all-took.new.end c.offer_due-offered.new.end c.take_all-took.result c.offer_due-offered.result c.args.app_goes_on
+          c.take_all-took.ensures.grown c.take_all-took.ensures.offered c.offer_due-offered.ensures.taken c.offer_due-offered.ensures.grown c.then-took.either,
+      refl,
+    )
 
 pub returns-then-took-clause-all : goal.returns-then-took-clause-all
 returns-then-took-clause-all g c =
@@ -69,9 +72,11 @@ returns-then-took-clause-offers g c is done =
 
 pub returns-clause-runs : goal.returns-clause-runs
 returns-clause-runs g c is =
-    inr (rested g.C.ConnEnd c.args.end.now c.take_all-took.new.end c.offer_due-offered.new.end c.take_all-took.result c.offer_due-offered.result c.args.app_goes_on
-      c.take_all-took.ensures.grown c.take_all-took.ensures.offered c.offer_due-offered.ensures.taken c.offer_due-offered.ensures.grown c.if-took.false c.if-offered.false c.if-app_goes_on.false,
-      subst (λ (s : LineState). IsTurnOfRead (g.K.ExchangeKind.rests c.read_on.new.self) s (g.L.Line.state c.read_on.new.line) c.read_on.result) (c.take_all-took.ensures.still c.if-took.false) (c.read_on.ensures.turn is))
+    inr (
+      rested g.C.ConnEnd c.args.end.now c.take_all-took.new.end c.offer_due-offered.new.end c.take_all-took.result c.offer_due-offered.result c.args.app_goes_on
+          c.take_all-took.ensures.grown c.take_all-took.ensures.offered c.offer_due-offered.ensures.taken c.offer_due-offered.ensures.grown c.if-took.false c.if-offered.false c.if-app_goes_on.false,
+      subst (λ (s : LineState). IsTurnOfRead (g.K.ExchangeKind.rests c.read_on.new.self) s (g.L.Line.state c.read_on.new.line) c.read_on.result) (c.take_all-took.ensures.still c.if-took.false) (c.read_on.ensures.turn is),
+    )
 
 pub returns-clause-all : goal.returns-clause-all
 returns-clause-all g c =

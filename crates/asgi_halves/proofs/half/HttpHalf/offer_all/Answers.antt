@@ -1,4 +1,4 @@
-use Rattle.std.proofs.Common.{List, inl, inr, refl, sym, subst, arith, ◌∙◌}
+use Rattle.std.proofs.Common.{List, inl, sym, subst, arith, ◌∙◌}
 use Rattle.asgi_types.specs.declared.incoming.Incoming.{Incoming}
 use Rattle.asgi_exchange.specs.Calls.{IsViewOf}
 use Rattle.asgi_halves.specs.Half.{Invariant}
