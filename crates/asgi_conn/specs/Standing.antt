@@ -1,5 +1,5 @@
 -- Where a connection stands between two of its turns. Own: what is promised of a whole connection is `Serves`.
-use Rattle.std.specs.Prelude.{◌≡◌, ◌⊎◌, ℕ, ◌+◌, ◌≤◌, ◌<◌, ◌^◌, ⊤, List, [], length, Option}
+use Rattle.std.specs.Prelude.{◌≡◌, ◌⊎◌, ℕ, ◌+◌, ◌≤◌, ◌<◌, ◌^◌, ⊤, List, [], ◌∷◌, ◌++◌, length, Option}
 use Rattle.asgi_types.specs.declared.end_kind.EndKind.{EndKind}
 use Rattle.asgi_types.specs.declared.facts.Facts.{Facts}
 use Rattle.asgi_types.specs.declared.incoming.Incoming.{Incoming}
@@ -9,7 +9,10 @@ use Rattle.asgi_types.specs.declared.scope.Peer.{Peer}
 use Rattle.asgi_types.specs.declared.scope.Scope.{Scope}
 use Rattle.asgi_types.specs.declared.state.StateValue.{StateValue}
 use Rattle.asgi_types.specs.Scopes.{scope_with}
+use Rattle.asgi_io.specs.declared.answer.Answer.{Answer}
+use Rattle.asgi_io.specs.Answers.{turn_of}
 use Rattle.asgi_io.specs.declared.turns.Turn.{Turn}
+use Rattle.asgi_io.specs.declared.turns.Turn.TheVariants as turn
 use Rattle.asgi_io.specs.Turns.{CountsTurns}
 use Rattle.asgi_request.specs.declared.next.Next.{Next}
 use Rattle.asgi_request.specs.Reading.{StandsFor}
@@ -159,6 +162,19 @@ abbrev pub GoesOn : Step → Type 0
 GoesOn step.Moved = ⊤
 GoesOn step.Idle = ⊤
 GoesOn (step.Over report) = ⊥
+
+-- what is answered of a turn: the last one of a task has moved something
+abbrev pub step_of : Turn → Step
+step_of turn.Moved = step.Moved
+step_of turn.Idle = step.Idle
+step_of turn.Last = step.Moved
+
+-- One turn was taken, and was this: a read between two requests, or one turn of the exchange.
+abbrev pub TakesTurn : {X : Type 0} → (X → Turn → X → Type 0) → LineState → Place X → Turn → LineState → Place X → Type 0
+TakesTurn takes was (place.Between wire) turn now (place.Between later) = (answer : Answer) × (now.reads ≡ was.reads ++ answer ∷ []) × (turn ≡ turn_of answer)
+TakesTurn takes was (place.Http half exchange) turn now (place.Http later after) = takes exchange turn after
+TakesTurn takes was (place.Session half exchange) turn now (place.Session later after) = takes exchange turn after
+TakesTurn takes was at turn now then = ⊥
 
 -- this holds of the report, if there is one
 abbrev pub IfOver : Step → (Report → Type 0) → Type 0

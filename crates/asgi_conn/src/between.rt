@@ -32,7 +32,7 @@ use asgi_ws::Line;
 use std::alloc::{AllocError, Global};
 
 /// Asks the reader for its next result, and does what that calls for and takes no turn.
-pub(crate) fn next<A: Application, L: Line, X: Drop, U: Runner<A::Task, Exchange = X>>(
+pub(crate) fn next<A: Application, L: Line, X, U: Runner<A::Task, Exchange = X>>(
     wire: Wire,
     setting: &Setting<'_, A>,
     tally: &Tally,
@@ -124,7 +124,7 @@ fn copy_of(peer: &Option<Peer>, alloc: Global) -> Result<Option<Peer>, AllocErro
 
 /// Where the connection stands if more bytes are needed: there, or at its end at the end of the input or at a
 /// limit on turns.
-fn wait<X: Drop>(wire: Wire, turns: &Turns) -> Place<X>
+fn wait<X>(wire: Wire, turns: &Turns) -> Place<X>
     requires { IsWaiting wire.requests }
     ensures waits { (limits : Limits) (start now : LineState) (read : List ℕ) (given : List Next) (exchanges : List ExchangeRecord) (after written : List ℕ)
         → BetweenRequests limits start now wire read given exchanges after written → AllGiven wire.requests read given → IsAtRest result limits start now read exchanges written }
@@ -168,7 +168,7 @@ fn is_blank(bytes: &[u8]) -> bool
 }
 
 /// Writes the text of a refusal, after which the connection ends.
-fn refuse<L: Line, X: Drop>(status: u16, line: &mut L) -> Place<X>
+fn refuse<L: Line, X>(status: u16, line: &mut L) -> Place<X>
     requires { IsTrue (is_refusal status) }
     ensures refuses { (limits : Limits) (start : LineState) (wire : Wire) (read : List ℕ) (given : List Next) (exchanges : List ExchangeRecord) (after written : List ℕ)
         → BetweenRequests limits start (L.state line.old) wire read given exchanges after written → RefusesWith limits after status

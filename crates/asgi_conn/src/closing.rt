@@ -15,7 +15,7 @@ use asgi_pipes::Pipes;
 use asgi_run::Runner;
 
 /// Ends the exchange of a request.
-pub(crate) fn end_request<A: Application, X: Drop, U: Runner<A::Task, Exchange = X>>(
+pub(crate) fn end_request<A: Application, X, U: Runner<A::Task, Exchange = X>>(
     half: HttpHalf,
     exchange: X,
     setting: &Setting<'_, A>,
@@ -43,7 +43,7 @@ pub(crate) fn end_request<A: Application, X: Drop, U: Runner<A::Task, Exchange =
 }
 
 /// Ends the exchange of an opening handshake, and with it the connection.
-pub(crate) fn end_session<A: Application, X: Drop, U: Runner<A::Task, Exchange = X>>(
+pub(crate) fn end_session<A: Application, X, U: Runner<A::Task, Exchange = X>>(
     half: WebSocketHalf,
     exchange: X,
     setting: &Setting<'_, A>,
@@ -69,7 +69,7 @@ pub(crate) fn end_session<A: Application, X: Drop, U: Runner<A::Task, Exchange =
 }
 
 /// Where the connection stands after the half of an exchange that is over.
-fn leave<X: Drop>(half: HttpHalf) -> Place<X>
+fn leave<X>(half: HttpHalf) -> Place<X>
     requires { (following : NextStep) × (half.stage ≡ Stage.Over following) }
     ensures { IsLeft half result }
 {

@@ -4,7 +4,8 @@ ghost use Rattle.asgi_types.specs.declared.limits.Limits.{Limits};
 ghost use Rattle.asgi_conversation.specs.declared.report.Report.{Report};
 ghost use Rattle.asgi_ws.specs.Lines.{LineState};
 ghost use Rattle.asgi_conn.specs.Serving.{Serves};
-ghost use Rattle.asgi_conn.specs.Standing.{Stands, IsServing, GoesOn, IfOver, IsReportOf, TakesOne};
+ghost use Rattle.asgi_conn.specs.declared.place.Place.{Place};
+ghost use Rattle.asgi_conn.specs.Standing.{Stands, IsServing, GoesOn, IfOver, IsReportOf, TakesOne, TakesTurn, step_of};
 ghost use Rattle.asgi_conn.specs.private.Loop.{IsNext, IsDue, IsDueOrBetween, IsBetween, IsOver, HasEnded, IsGoing};
 
 use crate::between::next;
@@ -40,7 +41,7 @@ pub struct Connection<X> {
     tally: Tally,
 }
 
-impl<X: Drop> Connection<X> {
+impl<X> Connection<X> {
     /// A connection before its first byte. Making it takes no memory.
     pub fn new<A: Application, U: Runner<A::Task, Exchange = X>>(
         alloc: Global,
@@ -86,8 +87,9 @@ impl<X: Drop> Connection<X> {
             limits setting.now.client.now setting.now.server.now setting.now.state.now start before (L.state line.old) (P.count pause.old) self.old
             → Serves (A.answers setting.now.app.now) limits setting.now.client.now setting.now.server.now setting.now.state.now start (L.state line.new) before (P.count pause.new) report) }
         ensures ended { IfOver result (λ report. IsReportOf self.new report) }
-        // A turn that goes on takes one of the limit.
+        // A turn that goes on takes one of the limit, and is the one that it says.
         ensures takes { GoesOn result → TakesOne self.old self.new }
+        ensures took { GoesOn result → (turn : Turn) × (was : LineState) × (at : Place X) × TakesTurn U.takes was at turn (L.state line.new) self.new.place × (result ≡ step_of turn) }
         // The report stays the same, and nothing is read, written or paused for any more.
         ensures again { (report : Report) → IsReportOf self.old report → (result ≡ Step.Over report) × (self.new ≡ self.old)
             × (L.state line.new ≡ L.state line.old) × (P.count pause.new ≡ P.count pause.old) }
@@ -135,6 +137,19 @@ impl<X: Drop> Connection<X> {
         }
     }
 
+    /// Gives up a connection that has ended: in no other place may it be dropped, unless what its runner keeps of
+    /// an exchange may.
+    pub fn end(self)
+        requires { (report : Report) × IsReportOf self report }
+    {
+        match self.place {
+            Place::Ended(_outcome) => {}
+            Place::Between(_wire) => unreachable!(),
+            Place::Http(_half, _exchange) => unreachable!(),
+            Place::Session(_half, _exchange) => unreachable!(),
+        }
+    }
+
     // ---- what takes no turn
 
     /// Goes to where a turn is due, or to the end.
@@ -159,11 +174,9 @@ impl<X: Drop> Connection<X> {
         if !self.is_between() {
             return;
         }
-        let Place::Between(wire) = mem::replace(&mut self.place, Place::Ended(Outcome::Finished))
-        else {
-            unreachable!()
-        };
-        self.place = next(wire, setting, &self.tally, line, runner);
+        let wire = self.place.leave();
+        let place = next(wire, setting, &self.tally, line, runner);
+        self.place.go_to(place);
         self.finish(setting, runner);
     }
 
@@ -202,13 +215,15 @@ impl<X: Drop> Connection<X> {
         }
         match mem::replace(&mut self.place, Place::Ended(Outcome::Finished)) {
             Place::Http(half, exchange) => {
-                self.place = end_request(half, exchange, setting, &mut self.tally, runner);
+                let place = end_request(half, exchange, setting, &mut self.tally, runner);
+                self.place.go_to(place);
             }
             Place::Session(half, exchange) => {
-                self.place = end_session(half, exchange, setting, &mut self.tally, runner);
+                let place = end_session(half, exchange, setting, &mut self.tally, runner);
+                self.place.go_to(place);
             }
-            Place::Between(_) => unreachable!(),
-            Place::Ended(_) => unreachable!(),
+            Place::Between(_wire) => unreachable!(),
+            Place::Ended(_outcome) => unreachable!(),
         }
     }
 
@@ -245,6 +260,7 @@ impl<X: Drop> Connection<X> {
             → IsServing A.Task.answers U.Pipes.Conn.ConnEnd U.Pipes.App.AppEnd U.conn U.began (A.answers setting.now.app.now)
             limits setting.now.client.now setting.now.server.now setting.now.state.now start (L.state line.new) self.new.tally self.new.place }
         ensures tally { self.new.tally ≡ self.old.tally }
+        ensures took { IfSome result (λ turn. TakesTurn U.takes (L.state line.old) self.old.place turn (L.state line.new) self.new.place) }
         ensures some { IfSome result (λ turn. IsGoing self.old.place × IsGoing self.new.place) }
         ensures none { IsNone result → (self.new.place ≡ Place.Ended Outcome.NoMemory) ⊎ (HasEnded self.old.place × (self.new.place ≡ self.old.place)) }
     {
@@ -252,7 +268,7 @@ impl<X: Drop> Connection<X> {
             Place::Between(wire) => match wire.read(line) {
                 Ok(turn) => Some(turn),
                 Err(_) => {
-                    self.place = Place::Ended(Outcome::NoMemory);
+                    self.place.go_to(Place::Ended(Outcome::NoMemory));
                     None
                 }
             },
@@ -265,7 +281,8 @@ impl<X: Drop> Connection<X> {
 
 /// What a turn that was counted did: the last one has moved something.
 fn step_of(turn: Turn) -> Step
-    ensures { GoesOn result }
+    ensures on { GoesOn result }
+    ensures step { result ≡ step_of turn }
 {
     match turn {
         Turn::Moved => Step::Moved,
@@ -304,7 +321,10 @@ pub fn serve_connection<H: AllocGlobal, A: Application, L: Line, U: Runner<A::Ta
         match connection.turn(&setting, line, runner, pause) {
             Step::Moved => {}
             Step::Idle => {}
-            Step::Over(report) => return report,
+            Step::Over(report) => {
+                connection.end();
+                return report;
+            }
         }
     }
 }

@@ -29,7 +29,7 @@ use asgi_ws::Line;
 use std::alloc::Global;
 
 /// Begins the exchange of a request.
-pub(crate) fn answer<A: Application, L: Line, X: Drop, U: Runner<A::Task, Exchange = X>>(
+pub(crate) fn answer<A: Application, L: Line, X, U: Runner<A::Task, Exchange = X>>(
     wire: Wire,
     scope: &Scope,
     facts: Facts,
@@ -55,7 +55,7 @@ pub(crate) fn answer<A: Application, L: Line, X: Drop, U: Runner<A::Task, Exchan
 }
 
 /// Begins the exchange of an opening handshake; the connection ends with it.
-pub(crate) fn open<A: Application, L: Line, X: Drop, U: Runner<A::Task, Exchange = X>>(
+pub(crate) fn open<A: Application, L: Line, X, U: Runner<A::Task, Exchange = X>>(
     wire: Wire,
     scope: &Scope,
     facts: Facts,
@@ -89,7 +89,7 @@ pub(crate) fn open<A: Application, L: Line, X: Drop, U: Runner<A::Task, Exchange
 
 /// Makes the ends of an exchange, calls the application over one of them, and begins it. If memory or a
 /// thread is refused, the application is not called, and the connection ends like this.
-fn begin<A: Application, X: Drop, U: Runner<A::Task, Exchange = X>>(
+fn begin<A: Application, X, U: Runner<A::Task, Exchange = X>>(
     wire: &Wire,
     kind: Kind,
     scope: &Scope,

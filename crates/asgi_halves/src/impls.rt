@@ -1,5 +1,5 @@
 //! The two halves, as a runner sees them.
-ghost use Rattle.std.specs.Prelude.{ℕ};
+ghost use Rattle.std.specs.Prelude.{ℕ, ⊤};
 ghost use Rattle.asgi_types.specs.declared.limits.Limits.{Limits};
 ghost use Rattle.asgi_exchange.specs.Halves.{ConnKeeps};
 ghost use Rattle.asgi_exchange.specs.Http.{http};
@@ -33,6 +33,8 @@ impl Half for HttpHalf {
     ghost stands = { StandsIn };
 
     ghost following = { λ half. following_of half.stage };
+
+    ghost takes = { λ _ _ _ _ _. ⊤ };
 
     fn turn<L: Line, C: ConnEnd>(&mut self, line: &mut L, end: &mut C, app_goes_on: bool) -> Turn {
         turn(self, line, end, app_goes_on)
@@ -70,6 +72,8 @@ impl Half for WebSocketHalf {
     ghost stands = { session.Invariant };
 
     ghost following = { λ half. following_of half.stage };
+
+    ghost takes = { λ _ _ _ _ _. ⊤ };
 
     fn turn<L: Line, C: ConnEnd>(&mut self, line: &mut L, end: &mut C, app_goes_on: bool) -> Turn {
         turn(self, line, end, app_goes_on)

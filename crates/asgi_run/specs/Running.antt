@@ -1,6 +1,8 @@
 -- The two halves of one exchange, run until it is over.
-use Rattle.std.specs.Prelude.{◌≡◌, ◌⊎◌, ℕ, List, [], ◌++◌, Option, Some, None, IsSomeAnd, true, ⊤}
+use Rattle.std.specs.Prelude.{◌≡◌, ◌⊎◌, ℕ, List, [], ◌++◌, Option, Some, None, IsSomeAnd, true, false, ⊤}
 use Rattle.asgi_io.specs.Counting.{RoseBy}
+use Rattle.asgi_io.specs.declared.turns.Turn.{Turn}
+use Rattle.asgi_io.specs.declared.turns.Turn.TheVariants.{Moved}
 use Rattle.asgi_types.specs.declared.end_kind.EndKind.{EndKind}
 use Rattle.asgi_types.specs.declared.end_kind.EndKind.TheVariants.{Faulted}
 use Rattle.asgi_types.specs.declared.incoming.Incoming.{Incoming}
@@ -66,6 +68,10 @@ pub record HasRun {H T E : Type 0} (halves : any_half.Ghosts H) (answers : T →
   pub ended : end_of world.app.put ≡ Some kind
   pub answers_for : Answers answers ends side world.app kind
 
+-- a turn of both halves is that of the connection's half, or has moved, since the application's did
+abbrev pub IsTurnWith : Turn → Turn → Type 0
+IsTurnWith half turn = (turn ≡ half) ⊎ (turn ≡ Moved)
+
 -- The runner itself drove the task within these limits, and its counts are the task's; or it did not, and they are as before.
 abbrev pub Drives : (turn_limit idle_limit pauses_old pauses_new driven_old driven_new : ℕ) → EndKind → Type 0
 Drives turn_limit idle_limit pauses_old pauses_new driven_old driven_new kind =
@@ -121,6 +127,12 @@ abbrev pub HasMoved : {T E : Type 0} → Ghosts E → AppSide T E → AppSide T 
 HasMoved ends (Runs old) (Runs new) = IsSomeAnd old.lent (λ was. (polled : _) × GoesOn ends None was.app_end polled × (ends.has_moved polled ≡ true))
 HasMoved ends (Runs old) (HasEnded app_end kind) = ⊤
 HasMoved ends (HasEnded was before) new = ⊥
+
+-- In between one poll was made of a task that runs on, and its end says that no item went through a queue.
+abbrev pub HasRested : {T E : Type 0} → Ghosts E → AppSide T E → AppSide T E → Type 0
+HasRested ends (Runs old) (Runs new) = IsSomeAnd old.lent (λ was. (polled : _) × GoesOn ends None was.app_end polled × (ends.has_moved polled ≡ false))
+HasRested ends (Runs old) (HasEnded app_end kind) = ⊥
+HasRested ends (HasEnded was before) new = ⊤
 
 -- the task ended in between
 abbrev pub EndsIn : {T E : Type 0} → AppSide T E → AppSide T E → Type 0

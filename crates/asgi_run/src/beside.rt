@@ -1,5 +1,6 @@
 //! Both halves of an exchange at the same time, in two threads.
-ghost use Rattle.std.specs.Prelude.{◌≡◌, ℕ, List, Some, IsSome, true, is_some, IfOk, IsOk};
+ghost use Rattle.std.specs.Prelude.{◌≡◌, ℕ, List, Some, IsSome, true, is_some, IfOk, IsOk, ⊤};
+ghost use Rattle.asgi_io.specs.declared.turns.Turn.{Turn};
 ghost use Rattle.asgi_pipes.specs.RingEnds.{IsRingPair};
 ghost use Rattle.asgi_pipes.specs.declared.ring_app.RingApp.{RingApp};
 ghost use Rattle.asgi_exchange.specs.Calls.{IsViewOf, IsExchangeOf};
@@ -9,7 +10,7 @@ ghost use Rattle.asgi_ws.specs.Lines.{LineState};
 ghost use Rattle.asgi_run.specs.declared.runner.AppSide.{AppSide};
 ghost use Rattle.asgi_run.specs.AnyHalf.{PreservesOn};
 ghost use Rattle.asgi_run.specs.Jobs.{HasJob, HasLimits, IsApart};
-ghost use Rattle.asgi_run.specs.Running.{OfEnd, MayRun, HasRun, Drives, DrivesRunning, paused_by};
+ghost use Rattle.asgi_run.specs.Running.{OfEnd, MayRun, HasRun, Drives, DrivesRunning, IsTurnWith, paused_by};
 
 use crate::apart::{JobState, Ran, finish_apart};
 use crate::exchange_half::Half;
@@ -135,6 +136,8 @@ impl<T: AppTask, Q: Pause + Drop, R: Wait + Drop> Runner<T> for Beside<T, Q, R> 
     // The thread is there.
     ghost is_ready = { λ s. is_some s.kept ≡ true };
 
+    ghost takes = { λ _ _ _. ⊤ };
+
     ghost conn = { λ x. x.conn.end };
 
     ghost began = { λ x side. IsApart IsRingPair T.stands ⟦<RingApp as AppEnd>⟧ x.conn.end x.job side };
@@ -197,6 +200,8 @@ impl<T: AppTask, Q: Pause + Drop, R: Wait + Drop> Runner<T> for Beside<T, Q, R> 
             → IsApart IsRingPair T.stands ⟦<RingApp as AppEnd>⟧ exchange.new.conn.end exchange.new.job side }
         ensures limits { (turn_limit idle_limit paused turned : ℕ) → HasLimits Q.count exchange.old.job turn_limit idle_limit paused turned
             → HasLimits Q.count exchange.new.job turn_limit idle_limit paused turned }
+        ensures taken { ⊤ }
+        ensures half { (moved : Turn) × H.takes (L.state line.old) half.old moved (L.state line.new) half.new × IsTurnWith moved result }
         ensures over { IsSome (H.following half.old) → half.new ≡ half.old }
         ensures met { ◌≡◌ {A = ℕ} 0 0 }
     {

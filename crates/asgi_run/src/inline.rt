@@ -1,5 +1,6 @@
 //! Both halves of an exchange in one thread, turn by turn.
 ghost use Rattle.std.specs.Prelude.{◌≡◌, ◌≢◌, ◌<◌, ◌⊎◌, ◌↔◌, ℕ, List, Some, IsSome, ⊤};
+ghost use Rattle.asgi_io.specs.declared.turns.Turn.{Turn};
 ghost use Rattle.asgi_pipes.specs.PlainPairs.{IsPlainPair};
 ghost use Rattle.asgi_pipes.specs.declared.plain_app.PlainApp.{PlainApp};
 ghost use Rattle.asgi_apps.specs.Ends.{MayGoOn, IsWithin};
@@ -9,7 +10,7 @@ ghost use Rattle.asgi_conversation.specs.declared.following.NextStep.TheVariants
 ghost use Rattle.asgi_ws.specs.Lines.{LineState};
 ghost use Rattle.asgi_run.specs.declared.runner.AppSide.{AppSide};
 ghost use Rattle.asgi_run.specs.AnyHalf.{PreservesOn};
-ghost use Rattle.asgi_run.specs.Running.{OfEnd, MayRun, HasRun, Drives, HasCome, HasPassed, HasMoved, IsOfRequest, IsPolled, IsNotPolled, EndsIn, GoesOnAs, TagStays};
+ghost use Rattle.asgi_run.specs.Running.{OfEnd, MayRun, HasRun, Drives, HasCome, HasPassed, HasMoved, IsOfRequest, IsPolled, IsNotPolled, EndsIn, GoesOnAs, HasRested, IsTurnWith, TagStays};
 
 use crate::exchange_half::Half;
 use crate::runner::{AppSide, NoEnds, Runner};
@@ -66,6 +67,8 @@ impl<'q, T: AppTask> Runner<T> for Inline<'q> {
 
     ghost is_ready = { λ _. ⊤ };
 
+    ghost takes = { λ _ _ _. ⊤ };
+
     ghost conn = { λ x. x.conn };
 
     ghost began = { λ x side. HasCome IsPlainPair T.stands T.answers ⟦<PlainApp as AppEnd>⟧ x.conn side x.side };
@@ -119,6 +122,8 @@ impl<'q, T: AppTask> Runner<T> for Inline<'q> {
         ensures began { (side : AppSide T PlainApp) → HasCome IsPlainPair T.stands T.answers ⟦<PlainApp as AppEnd>⟧ exchange.old.conn side exchange.old.side
             → HasCome IsPlainPair T.stands T.answers ⟦<PlainApp as AppEnd>⟧ exchange.new.conn side exchange.new.side }
         ensures limits { (turn_limit idle_limit paused turned : ℕ) → (paused ≡ 0) × (turned ≡ 0) → (paused ≡ 0) × (turned ≡ 0) }
+        ensures taken { ⊤ }
+        ensures half { (moved : Turn) × H.takes (L.state line.old) half.old moved (L.state line.new) half.new × IsTurnWith moved result }
         ensures over { IsSome (H.following half.old) → half.new ≡ half.old }
         ensures met { ◌≡◌ {A = ℕ} 0 0 }
         // A turn in which the task ended has moved something.
@@ -176,6 +181,7 @@ impl<'q, T: AppTask> Runner<T> for Inline<'q> {
 /// What both halves did in a turn: idle if neither moved anything.
 fn both(half: Turn, app: Turn) -> Turn
     ensures idle { result ≡ Turn.Idle ↔ (half ≡ Turn.Idle) × (app ≢ Turn.Moved) }
+    ensures with { IsTurnWith half result }
     ensures moved { result ≡ Turn.Moved ↔ (half ≡ Turn.Moved) ⊎ (app ≡ Turn.Moved) }
 {
     if app == Turn::Moved {
@@ -198,42 +204,15 @@ fn carry<T: AppTask>(conn: &mut PlainConn, side: &mut AppSide<T, PlainApp>)
 {
     match side {
         AppSide::HasEnded { app_end, kind: _ } => Plain::carry(conn, app_end),
-        AppSide::Runs(running) => carry_running(conn, running),
+        AppSide::Runs(Running {
+            lent: Some(lent),
+            turns: _,
+        }) => Plain::carry(conn, &mut lent.app_end),
+        AppSide::Runs(Running {
+            lent: None,
+            turns: _,
+        }) => unreachable!(),
     }
-}
-
-/// The same for a task that runs.
-fn carry_running<T: AppTask>(conn: &mut PlainConn, running: &mut Running<T, PlainApp>)
-    requires pair { OfEnd (AppSide.Runs running.old) (λ app. IsPlainPair conn.old app) }
-    requires may { MayRun T.stands ⟦<PlainApp as AppEnd>⟧ (AppSide.Runs running.old) }
-    ensures pair { OfEnd (AppSide.Runs running.new) (λ app. IsPlainPair conn.new app) }
-    ensures conn { let End = ⟦<PlainConn as ConnEnd>⟧ in (End.offered conn.new ≡ End.offered conn.old)
-        × (End.got conn.new ≡ End.got conn.old)
-        × (End.is_broken conn.new ≡ End.is_broken conn.old) }
-    ensures side { GoesOnAs T.stands T.answers ⟦<PlainApp as AppEnd>⟧ (AppSide.Runs running.old) (AppSide.Runs running.new) }
-    ensures passed { OfEnd (AppSide.Runs running.new) (λ app. HasPassed ⟦<PlainConn as ConnEnd>⟧ ⟦<PlainApp as AppEnd>⟧ conn.new app) }
-    ensures task { running.new.turns ≡ running.old.turns }
-{
-    let Some(lent) = &mut running.lent else {
-        unreachable!()
-    };
-    carry_lent(conn, lent);
-}
-
-/// The same, with the end that the task has borrowed.
-fn carry_lent<T: AppTask>(conn: &mut PlainConn, lent: &mut Lent<T, PlainApp>)
-    requires pair { IsPlainPair conn.old lent.old.app_end }
-    requires may { MayGoOn T.stands ⟦<PlainApp as AppEnd>⟧ lent.old.task lent.old.app_end }
-    ensures pair { IsPlainPair conn.new lent.new.app_end }
-    ensures conn { let End = ⟦<PlainConn as ConnEnd>⟧ in (End.offered conn.new ≡ End.offered conn.old)
-        × (End.got conn.new ≡ End.got conn.old)
-        × (End.is_broken conn.new ≡ End.is_broken conn.old) }
-    ensures may { MayGoOn T.stands ⟦<PlainApp as AppEnd>⟧ lent.new.task lent.new.app_end }
-    ensures within { IsWithin T.answers lent.new.task lent.old.task }
-    ensures request { IsOfRequest ⟦<PlainApp as AppEnd>⟧ lent.old.app_end lent.new.app_end }
-    ensures passed { HasPassed ⟦<PlainConn as ConnEnd>⟧ ⟦<PlainApp as AppEnd>⟧ conn.new lent.new.app_end }
-{
-    Plain::carry(conn, &mut lent.app_end);
 }
 
 /// Polls the task while each poll moves something, at most `most` times.
@@ -247,6 +226,7 @@ fn poll_on<T: AppTask, E: AppEnd>(
     ensures tag { TagStays E.AppEnd side.old side.new }
     ensures ends { EndsIn side.old side.new → result ≡ Turn.Moved }
     ensures moved { result ≡ Turn.Moved → HasMoved E.AppEnd side.old side.new }
+    ensures idle { result ≡ Turn.Idle → 0 < most → HasRested E.AppEnd side.old side.new }
     ensures polls { 0 < most → IsPolled side.old side.new }
 {
     if most == 0 {
@@ -270,6 +250,7 @@ fn poll<T: AppTask, E: AppEnd>(cx: &mut Context<'_>, side: &mut AppSide<T, E>) -
     ensures tag { TagStays E.AppEnd side.old side.new }
     ensures ends { EndsIn side.old side.new → result ≡ Turn.Moved }
     ensures moved { result ≡ Turn.Moved → HasMoved E.AppEnd side.old side.new }
+    ensures idle { result ≢ Turn.Moved → HasRested E.AppEnd side.old side.new }
     ensures polls { IsPolled side.old side.new }
 {
     let AppSide::Runs(running) = side else {

@@ -1,12 +1,13 @@
 //! What takes up the two halves of an exchange, turn by turn.
 ghost use Rattle.std.specs.Prelude.{◌≡◌, ◌+◌, false, [], ℕ, List, Some, None, IfOk, IsOk, IsSome};
+ghost use Rattle.asgi_io.specs.declared.turns.Turn.{Turn};
 ghost use Rattle.asgi_exchange.specs.Calls.{IsViewOf, IsExchangeOf};
 ghost use Rattle.asgi_exchange.specs.Views.{ConnView};
 ghost use Rattle.asgi_conversation.specs.declared.following.NextStep.TheVariants.{NextRequest};
 ghost use Rattle.asgi_ws.specs.Lines.{LineState};
 ghost use Rattle.asgi_run.specs.AnyHalf.{PreservesOn};
 ghost use Rattle.asgi_run.specs.declared.runner.AppSide.{AppSide};
-ghost use Rattle.asgi_run.specs.Running.{OfEnd, MayRun, HasRun, Drives};
+ghost use Rattle.asgi_run.specs.Running.{OfEnd, MayRun, HasRun, Drives, IsTurnWith};
 
 use crate::exchange_half::Half;
 use asgi_apps::{AppTask, Running};
@@ -46,7 +47,7 @@ pub trait Runner<T: AppTask> {
     type Pipes: Pipes + Drop;
 
     /// What runs of one exchange.
-    type Exchange: Drop;
+    type Exchange;
 
     // The number of exchanges whose ends did not meet.
     ghost not_met: { Self → ℕ };
@@ -59,6 +60,10 @@ pub trait Runner<T: AppTask> {
 
     // The runner has what the exchange needs whose ends it made last.
     ghost is_ready: { Self → Type 0 };
+
+    // One turn of an exchange, with what it was said to be. Of a runner of which nothing else is known, only `turn`
+    // shows that one was taken.
+    ghost takes: { Self.Exchange → Turn → Self.Exchange → Type 0 };
 
     // The connection's end of an exchange.
     ghost conn: { Self.Exchange → Self.Pipes.Conn };
@@ -121,6 +126,9 @@ pub trait Runner<T: AppTask> {
         ensures began { (side : AppSide T Self.Pipes.App) → began exchange.old side → began exchange.new side }
         ensures limits { (turn_limit idle_limit paused turned : ℕ) → limited exchange.old turn_limit idle_limit paused turned
             → limited exchange.new turn_limit idle_limit paused turned }
+        ensures taken { takes exchange.old result exchange.new }
+        // The connection's half took one turn. What it moved has moved, and else only the application's half did.
+        ensures half { (moved : Turn) × H.takes (L.state line.old) half.old moved (L.state line.new) half.new × IsTurnWith moved result }
         // What is over stays as it is.
         ensures over { IsSome (H.following half.old) → half.new ≡ half.old }
         ensures met { not_met self.new ≡ not_met self.old };

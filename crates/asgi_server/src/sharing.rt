@@ -81,7 +81,7 @@ pub fn serve_all<
     C: ConnEnd + Send,
     E: AppEnd + Send,
     Q: Pipes<Conn = C, App = E> + Drop + Send,
-    X: Drop + Send,
+    X: Send,
     U: Runner<T, Pipes = Q, Exchange = X> + Drop + Send,
     P: Pause + Drop + Send,
     K: Teller<Report> + Drop + Send,

@@ -72,6 +72,13 @@ IsOver (place.Http half exchange) turns = IsAtLimit turns ⊎ IsSettled (followi
 IsOver (place.Session half exchange) turns = IsAtLimit turns ⊎ IsSettled (following_of half.stage)
 IsOver (place.Ended outcome) turns = ⊥
 
+-- no exchange is there
+abbrev pub IsFree : {X : Type 0} → Place X → Type 0
+IsFree (place.Between wire) = ⊤
+IsFree (place.Http half exchange) = ⊥
+IsFree (place.Session half exchange) = ⊥
+IsFree (place.Ended outcome) = ⊤
+
 abbrev pub IsBetween : {X : Type 0} → Place X → Type 0
 IsBetween (place.Between wire) = ⊤
 IsBetween _ = ⊥

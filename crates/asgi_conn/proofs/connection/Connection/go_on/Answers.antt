@@ -20,14 +20,14 @@ next-requires g c =
     let r = c.requires in
     let now = g.L.Line.state c.args.line.now in
     let s = c.finish.ensures.stands r.0 r.1 now r.2 r.3 r.4 in
-    (r.0, r.1, subst (λ (p : Place g.row.X.Denot). IsServing g.A.Task.AppTask.answers g.U.Pipes.Conn.ConnEnd g.U.Pipes.App.AppEnd g.U.Runner.conn g.U.Runner.began (g.A.Application.answers c.args.setting.now.app.now) r.0 c.args.setting.now.client.now c.args.setting.now.server.now c.args.setting.now.state.now r.1 now c.finish.new.self.tally p) (sym c.replace.ensures.value ∙ c.in-Between.is) s.serving)
+    (r.0, r.1, subst (λ (p : Place g.row.X.Denot). IsServing g.A.Task.AppTask.answers g.U.Pipes.Conn.ConnEnd g.U.Pipes.App.AppEnd g.U.Runner.conn g.U.Runner.began (g.A.Application.answers c.args.setting.now.app.now) r.0 c.args.setting.now.client.now c.args.setting.now.server.now c.args.setting.now.state.now r.1 now c.finish.new.self.tally p) (c.leave.ensures.wire) s.serving)
 
 pub finish-requires-2 : goal.finish-requires-2
 finish-requires-2 g c =
     let r = c.requires in
     let now = g.L.Line.state c.args.line.now in
     let s = c.finish.ensures.stands r.0 r.1 now r.2 r.3 r.4 in
-    let e = sym c.replace.ensures.value ∙ c.in-Between.is in (
+    let e = c.leave.ensures.wire in (
       r.0,
       r.1,
       g.L.Line.state c.next.new.line,
@@ -35,7 +35,7 @@ finish-requires-2 g c =
       r.3,
       record {
         serving = c.next.ensures.serves r.0 r.1 (subst (λ (p : Place g.row.X.Denot). IsServing g.A.Task.AppTask.answers g.U.Pipes.Conn.ConnEnd g.U.Pipes.App.AppEnd g.U.Runner.conn g.U.Runner.began (g.A.Application.answers c.args.setting.now.app.now) r.0 c.args.setting.now.client.now c.args.setting.now.server.now c.args.setting.now.state.now r.1 now c.finish.new.self.tally p) e s.serving);
-        counted = lemma.counted_next r.0 r.2 r.3 c.in-Between.wire c.next.result c.finish.new.self.tally
+        counted = lemma.counted_next r.0 r.2 r.3 c.leave.result c.next.result c.finish.new.self.tally
             (subst (λ (p : Place g.row.X.Denot). IsCounted r.0 r.2 r.3 p c.finish.new.self.tally) e s.counted) c.next.ensures.next;
       },
     )
@@ -44,10 +44,10 @@ pub returns-clause-stands : goal.returns-clause-stands
 returns-clause-stands g c limits start before pauses stood =
     let now = g.L.Line.state c.args.line.now in
     let s = c.finish.ensures.stands limits start now before pauses stood in
-    let e = sym c.replace.ensures.value ∙ c.in-Between.is in
+    let e = c.leave.ensures.wire in
     c.finish-2.ensures.stands limits start (g.L.Line.state c.next.new.line) before pauses (record {
       serving = c.next.ensures.serves limits start (subst (λ (p : Place g.row.X.Denot). IsServing g.A.Task.AppTask.answers g.U.Pipes.Conn.ConnEnd g.U.Pipes.App.AppEnd g.U.Runner.conn g.U.Runner.began (g.A.Application.answers c.args.setting.now.app.now) limits c.args.setting.now.client.now c.args.setting.now.server.now c.args.setting.now.state.now start now c.finish.new.self.tally p) e s.serving);
-      counted = lemma.counted_next limits before pauses c.in-Between.wire c.next.result c.finish.new.self.tally
+      counted = lemma.counted_next limits before pauses c.leave.result c.next.result c.finish.new.self.tally
           (subst (λ (p : Place g.row.X.Denot). IsCounted limits before pauses p c.finish.new.self.tally) e s.counted) c.next.ensures.next;
     })
 

@@ -61,10 +61,10 @@ returns-in-Some-clause-stands g c limits start before s =
     }
 
 pub returns-in-Some-clause-over : goal.returns-in-Some-clause-over
-returns-in-Some-clause-over g c = lemma.no_report c.step_of.result _ c.step_of.ensures
+returns-in-Some-clause-over g c = lemma.no_report c.step_of.result _ c.step_of.ensures.on
 
 pub returns-in-Some-clause-ended : goal.returns-in-Some-clause-ended
-returns-in-Some-clause-ended g c = lemma.no_report c.step_of.result _ c.step_of.ensures
+returns-in-Some-clause-ended g c = lemma.no_report c.step_of.result _ c.step_of.ensures.on
 
 pub returns-in-Some-clause-takes : goal.returns-in-Some-clause-takes
 returns-in-Some-clause-takes g c going =
@@ -72,3 +72,6 @@ returns-in-Some-clause-takes g c going =
 
 pub returns-in-Some-clause-again : goal.returns-in-Some-clause-again
 returns-in-Some-clause-again g c report is = absurd (subst IsGoing is.0 (c.has_ended.ensures.no c.if-has_ended.false))
+
+pub returns-in-Some-clause-took : goal.returns-in-Some-clause-took
+returns-in-Some-clause-took g c going = (c.in-Some.turn, g.L.Line.state c.go_on.new.line, c.go_on.new.self.place, c.in-Some.ensures.took, c.step_of.ensures.step)
