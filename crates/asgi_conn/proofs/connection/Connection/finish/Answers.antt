@@ -2,7 +2,7 @@ use Rattle.std.proofs.Common.{◌≡◌, sym, ◌∙◌, subst, inr}
 use Rattle.asgi_conn.specs.declared.place.Place.{Place}
 use Rattle.asgi_conn.specs.declared.place.Place.TheVariants as place
 use Rattle.asgi_conn.specs.Standing.{IsServing, IsCounted}
-use Rattle.asgi_conn.specs.private.Loop.{IsOver, IsNext, IsGoing}
+use Rattle.asgi_conn.specs.private.Loop.{IsDue, IsDueOrBetween, IsOver, IsNext, IsGoing}
 use Rattle.asgi_conn.proofs.TurnLemmas as lemma
 use Rattle.asgi_conn.proofs.connection.Connection.finish.Goals as goal
 
@@ -30,11 +30,11 @@ end_request-requires-clause-stands g c =
 
 pub returns-in-Http-clause-stands : goal.returns-in-Http-clause-stands
 returns-in-Http-clause-stands g c limits start now before pauses s = record {
-  serving = c.end_request.ensures.serves limits start now
-      (subst (λ (p : Place g.row.X.Denot). IsServing g.A.Task.AppTask.answers g.U.Pipes.Conn.ConnEnd g.U.Pipes.App.AppEnd g.U.Runner.conn g.U.Runner.began (g.A.Application.answers c.args.setting.now.app.now) limits c.args.setting.now.client.now c.args.setting.now.server.now c.args.setting.now.state.now start now c.args.self.now.tally p) (sym c.replace.ensures.value ∙ c.in-Http.is) s.serving);
-  counted = c.end_request.ensures.counts limits before pauses
+  serving = subst (λ (p : Place g.row.X.Denot). IsServing g.A.Task.AppTask.answers g.U.Pipes.Conn.ConnEnd g.U.Pipes.App.AppEnd g.U.Runner.conn g.U.Runner.began (g.A.Application.answers c.args.setting.now.app.now) limits c.args.setting.now.client.now c.args.setting.now.server.now c.args.setting.now.state.now start now c.end_request.new.tally p) (sym c.go_to.ensures) (c.end_request.ensures.serves limits start now
+      (subst (λ (p : Place g.row.X.Denot). IsServing g.A.Task.AppTask.answers g.U.Pipes.Conn.ConnEnd g.U.Pipes.App.AppEnd g.U.Runner.conn g.U.Runner.began (g.A.Application.answers c.args.setting.now.app.now) limits c.args.setting.now.client.now c.args.setting.now.server.now c.args.setting.now.state.now start now c.args.self.now.tally p) (sym c.replace.ensures.value ∙ c.in-Http.is) s.serving));
+  counted = subst (λ (p : Place g.row.X.Denot). IsCounted limits before pauses p c.end_request.new.tally) (sym c.go_to.ensures) (c.end_request.ensures.counts limits before pauses
       (subst (λ (p : Place g.row.X.Denot). IsCounted limits before pauses p c.args.self.now.tally) (sym c.replace.ensures.value ∙ c.in-Http.is) s.counted)
-      (subst (λ (p : Place g.row.X.Denot). IsOver p c.args.self.now.tally.turns) (sym c.replace.ensures.value ∙ c.in-Http.is) (c.goes_on.ensures.no c.if-goes_on.false));
+      (subst (λ (p : Place g.row.X.Denot). IsOver p c.args.self.now.tally.turns) (sym c.replace.ensures.value ∙ c.in-Http.is) (c.goes_on.ensures.no c.if-goes_on.false)));
 }
 
 pub end_session-requires-clause-room : goal.end_session-requires-clause-room
@@ -50,23 +50,26 @@ end_session-requires-clause-stands g c =
 
 pub returns-in-Session-clause-stands : goal.returns-in-Session-clause-stands
 returns-in-Session-clause-stands g c limits start now before pauses s = record {
-  serving = c.end_session.ensures.serves limits start now
-      (subst (λ (p : Place g.row.X.Denot). IsServing g.A.Task.AppTask.answers g.U.Pipes.Conn.ConnEnd g.U.Pipes.App.AppEnd g.U.Runner.conn g.U.Runner.began (g.A.Application.answers c.args.setting.now.app.now) limits c.args.setting.now.client.now c.args.setting.now.server.now c.args.setting.now.state.now start now c.args.self.now.tally p) (sym c.replace.ensures.value ∙ c.in-Session.is) s.serving);
-  counted = c.end_session.ensures.counts limits before pauses
+  serving = subst (λ (p : Place g.row.X.Denot). IsServing g.A.Task.AppTask.answers g.U.Pipes.Conn.ConnEnd g.U.Pipes.App.AppEnd g.U.Runner.conn g.U.Runner.began (g.A.Application.answers c.args.setting.now.app.now) limits c.args.setting.now.client.now c.args.setting.now.server.now c.args.setting.now.state.now start now c.end_session.new.tally p) (sym c.go_to-in-Session.ensures) (c.end_session.ensures.serves limits start now
+      (subst (λ (p : Place g.row.X.Denot). IsServing g.A.Task.AppTask.answers g.U.Pipes.Conn.ConnEnd g.U.Pipes.App.AppEnd g.U.Runner.conn g.U.Runner.began (g.A.Application.answers c.args.setting.now.app.now) limits c.args.setting.now.client.now c.args.setting.now.server.now c.args.setting.now.state.now start now c.args.self.now.tally p) (sym c.replace.ensures.value ∙ c.in-Session.is) s.serving));
+  counted = subst (λ (p : Place g.row.X.Denot). IsCounted limits before pauses p c.end_session.new.tally) (sym c.go_to-in-Session.ensures) (c.end_session.ensures.counts limits before pauses
       (subst (λ (p : Place g.row.X.Denot). IsCounted limits before pauses p c.args.self.now.tally) (sym c.replace.ensures.value ∙ c.in-Session.is) s.counted)
-      (subst (λ (p : Place g.row.X.Denot). IsOver p c.args.self.now.tally.turns) (sym c.replace.ensures.value ∙ c.in-Session.is) (c.goes_on.ensures.no c.if-goes_on.false));
+      (subst (λ (p : Place g.row.X.Denot). IsOver p c.args.self.now.tally.turns) (sym c.replace.ensures.value ∙ c.in-Session.is) (c.goes_on.ensures.no c.if-goes_on.false)));
 }
 
 pub returns-in-Http-clause-rests : goal.returns-in-Http-clause-rests
-returns-in-Http-clause-rests g c = lemma.rest_left c.end_request.result c.end_request.new.tally.turns c.end_request.ensures.left
+returns-in-Http-clause-rests g c = subst (λ (p : Place g.row.X.Denot). IsDueOrBetween p c.end_request.new.tally.turns) (sym c.go_to.ensures) (
+    lemma.rest_left c.end_request.result c.end_request.new.tally.turns c.end_request.ensures.left)
 
 pub returns-in-Http-clause-due : goal.returns-in-Http-clause-due
-returns-in-Http-clause-due g c next =
+returns-in-Http-clause-due g c next = subst (λ (p : Place g.row.X.Denot). IsDue p c.end_request.new.tally.turns) (sym c.go_to.ensures) (
     lemma.due_rest c.end_request.result c.end_request.new.tally.turns (lemma.rest_left c.end_request.result c.end_request.new.tally.turns c.end_request.ensures.left)
-    (λ between. (subst (λ (p : Place g.row.X.Denot). IsNext p c.args.self.now.tally.turns) (sym c.replace.ensures.value ∙ c.in-Http.is) next) (c.end_request.ensures.rests between))
+    (λ between. (subst (λ (p : Place g.row.X.Denot). IsNext p c.args.self.now.tally.turns) (sym c.replace.ensures.value ∙ c.in-Http.is) next) (c.end_request.ensures.rests between)))
 
 pub returns-in-Session-clause-rests : goal.returns-in-Session-clause-rests
-returns-in-Session-clause-rests g c = lemma.rest_left c.end_session.result c.end_session.new.tally.turns (inr c.end_session.ensures.ended)
+returns-in-Session-clause-rests g c = subst (λ (p : Place g.row.X.Denot). IsDueOrBetween p c.end_session.new.tally.turns) (sym c.go_to-in-Session.ensures) (
+    lemma.rest_left c.end_session.result c.end_session.new.tally.turns (inr c.end_session.ensures.ended))
 
 pub returns-in-Session-clause-due : goal.returns-in-Session-clause-due
-returns-in-Session-clause-due g c next = lemma.due_ended c.end_session.result c.end_session.new.tally.turns c.end_session.ensures.ended
+returns-in-Session-clause-due g c next = subst (λ (p : Place g.row.X.Denot). IsDue p c.end_session.new.tally.turns) (sym c.go_to-in-Session.ensures) (
+    lemma.due_ended c.end_session.result c.end_session.new.tally.turns c.end_session.ensures.ended)

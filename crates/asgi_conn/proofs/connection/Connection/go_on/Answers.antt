@@ -2,6 +2,7 @@ use Rattle.std.proofs.Common.{◌≡◌, sym, ◌∙◌, subst}
 use Rattle.asgi_conn.specs.declared.place.Place.{Place}
 use Rattle.asgi_conn.specs.declared.place.Place.TheVariants as place
 use Rattle.asgi_conn.specs.Standing.{IsServing, IsCounted, Stands}
+use Rattle.asgi_conn.specs.private.Loop.{IsNext}
 use Rattle.asgi_conn.proofs.TurnLemmas as lemma
 use Rattle.asgi_conn.proofs.connection.Connection.go_on.Goals as goal
 
@@ -34,9 +35,11 @@ finish-requires-2 g c =
       r.2,
       r.3,
       record {
-        serving = c.next.ensures.serves r.0 r.1 (subst (λ (p : Place g.row.X.Denot). IsServing g.A.Task.AppTask.answers g.U.Pipes.Conn.ConnEnd g.U.Pipes.App.AppEnd g.U.Runner.conn g.U.Runner.began (g.A.Application.answers c.args.setting.now.app.now) r.0 c.args.setting.now.client.now c.args.setting.now.server.now c.args.setting.now.state.now r.1 now c.finish.new.self.tally p) e s.serving);
-        counted = lemma.counted_next r.0 r.2 r.3 c.leave.result c.next.result c.finish.new.self.tally
-            (subst (λ (p : Place g.row.X.Denot). IsCounted r.0 r.2 r.3 p c.finish.new.self.tally) e s.counted) c.next.ensures.next;
+        serving = subst (λ (p : Place g.row.X.Denot). IsServing g.A.Task.AppTask.answers g.U.Pipes.Conn.ConnEnd g.U.Pipes.App.AppEnd g.U.Runner.conn g.U.Runner.began (g.A.Application.answers c.args.setting.now.app.now) r.0 c.args.setting.now.client.now c.args.setting.now.server.now c.args.setting.now.state.now r.1 (g.L.Line.state c.next.new.line) c.finish.new.self.tally p) (sym c.go_to.ensures)
+          (c.next.ensures.serves r.0 r.1 (subst (λ (p : Place g.row.X.Denot). IsServing g.A.Task.AppTask.answers g.U.Pipes.Conn.ConnEnd g.U.Pipes.App.AppEnd g.U.Runner.conn g.U.Runner.began (g.A.Application.answers c.args.setting.now.app.now) r.0 c.args.setting.now.client.now c.args.setting.now.server.now c.args.setting.now.state.now r.1 now c.finish.new.self.tally p) e s.serving));
+        counted = subst (λ (p : Place g.row.X.Denot). IsCounted r.0 r.2 r.3 p c.finish.new.self.tally) (sym c.go_to.ensures)
+          (lemma.counted_next r.0 r.2 r.3 c.leave.result c.next.result c.finish.new.self.tally
+            (subst (λ (p : Place g.row.X.Denot). IsCounted r.0 r.2 r.3 p c.finish.new.self.tally) e s.counted) c.next.ensures.next);
       },
     )
 
@@ -46,10 +49,18 @@ returns-clause-stands g c limits start before pauses stood =
     let s = c.finish.ensures.stands limits start now before pauses stood in
     let e = c.leave.ensures.wire in
     c.finish-2.ensures.stands limits start (g.L.Line.state c.next.new.line) before pauses (record {
-      serving = c.next.ensures.serves limits start (subst (λ (p : Place g.row.X.Denot). IsServing g.A.Task.AppTask.answers g.U.Pipes.Conn.ConnEnd g.U.Pipes.App.AppEnd g.U.Runner.conn g.U.Runner.began (g.A.Application.answers c.args.setting.now.app.now) limits c.args.setting.now.client.now c.args.setting.now.server.now c.args.setting.now.state.now start now c.finish.new.self.tally p) e s.serving);
-      counted = lemma.counted_next limits before pauses c.leave.result c.next.result c.finish.new.self.tally
-          (subst (λ (p : Place g.row.X.Denot). IsCounted limits before pauses p c.finish.new.self.tally) e s.counted) c.next.ensures.next;
+      serving = subst (λ (p : Place g.row.X.Denot). IsServing g.A.Task.AppTask.answers g.U.Pipes.Conn.ConnEnd g.U.Pipes.App.AppEnd g.U.Runner.conn g.U.Runner.began (g.A.Application.answers c.args.setting.now.app.now) limits c.args.setting.now.client.now c.args.setting.now.server.now c.args.setting.now.state.now start (g.L.Line.state c.next.new.line) c.finish.new.self.tally p) (sym c.go_to.ensures)
+          (c.next.ensures.serves limits start (subst (λ (p : Place g.row.X.Denot). IsServing g.A.Task.AppTask.answers g.U.Pipes.Conn.ConnEnd g.U.Pipes.App.AppEnd g.U.Runner.conn g.U.Runner.began (g.A.Application.answers c.args.setting.now.app.now) limits c.args.setting.now.client.now c.args.setting.now.server.now c.args.setting.now.state.now start now c.finish.new.self.tally p) e s.serving));
+      counted = subst (λ (p : Place g.row.X.Denot). IsCounted limits before pauses p c.finish.new.self.tally) (sym c.go_to.ensures)
+          (lemma.counted_next limits before pauses c.leave.result c.next.result c.finish.new.self.tally
+          (subst (λ (p : Place g.row.X.Denot). IsCounted limits before pauses p c.finish.new.self.tally) e s.counted) c.next.ensures.next);
     })
 
 pub returns-clause-due : goal.returns-clause-due
-returns-clause-due g c = c.finish-2.ensures.due c.next.ensures.next
+returns-clause-due g c = c.finish-2.ensures.due (subst (λ (p : Place g.row.X.Denot). IsNext p c.finish.new.self.tally.turns) (sym c.go_to.ensures) c.next.ensures.next)
+
+pub leave-requires : goal.leave-requires
+leave-requires g c = c.is_between.ensures.yes c.if-not-is_between.false
+
+pub go_to-requires : goal.go_to-requires
+go_to-requires g c = c.leave.ensures.free
