@@ -6,6 +6,8 @@ mod calls;
 #[cfg(test)]
 mod conversation;
 #[cfg(test)]
+mod idle;
+#[cfg(test)]
 mod sizes;
 #[cfg(test)]
 mod turns;

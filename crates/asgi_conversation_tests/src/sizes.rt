@@ -1,8 +1,9 @@
 //! Many requests, long bodies and many places: with ample memory each is served whole.
+use asgi_apps::{AppFault, Application, Says};
 use asgi_conn::{Host, Outcome};
-use asgi_fakes::texts::{ECHO_HEAD, GET, HELLO, LAST_CHUNK};
-use asgi_fakes::{App, Pieces, Way, is_served, is_served_so};
-use asgi_types::Limits;
+use asgi_fakes::texts::{ECHO_HEAD, GET, HELLO, LAST_CHUNK, PLAIN_HEAD};
+use asgi_fakes::{App, Pieces, Way, is_served, is_served_so, line_of, serve, text_of};
+use asgi_types::{Headers, Kind, Limits, Octets, Outgoing, Scope};
 use std::alloc::{AllocError, Global};
 use std::io;
 use std::test::Fail;
@@ -128,6 +129,59 @@ fn is_echoed<H: Host>(rt: &H, limits: &Limits) -> io::Result<bool> {
 fn a_body_of_two_great_events_is_echoed(rt: HostRuntime) -> Result<(), Fail> {
     let limits = Limits::new(16_384, 64, 1_048_576, 65_536, 16, 30_000, 1_000_000)?;
     assert!(rt; is_echoed(&rt, &limits)?);
+    Ok(())
+}
+
+/// Answers each request with 100,000 bytes in one event.
+#[derive(Clone, Copy)]
+struct SaysMuch;
+
+impl Application for SaysMuch {
+    type Task = Says;
+
+    fn call(&self, alloc: Global, scope: &Scope) -> Result<Says, AppFault> {
+        let Scope::Http(_) = scope else {
+            return Err(AppFault::Failed);
+        };
+        let mut says = Says::with_room(alloc, Kind::Http, 2)?;
+        says.add(Outgoing::ResponseStart {
+            status: 200,
+            headers: Headers::new(alloc),
+        })?;
+        says.add(Outgoing::ResponseBody {
+            body: Octets::new(long_body(alloc)?),
+            more_body: false,
+        })?;
+        Ok(says)
+    }
+}
+
+/// The text of that, twice.
+fn much_twice(alloc: Global) -> Result<Vec<u8>, AllocError> {
+    let body = long_body(alloc)?;
+    let mut text = Vec::new(alloc);
+    for _time in 0..2 {
+        text.extend_from_slice(PLAIN_HEAD)?;
+        add_chunk(&mut text, b"186a0", &body)?;
+        text.extend_from_slice(LAST_CHUNK)?;
+    }
+    Ok(text)
+}
+
+/// How the connection ends, its exchanges, and whether this is written.
+fn said<H: Host>(rt: &H, way: Way, wanted: &[u8]) -> io::Result<(Outcome, u64, bool)> {
+    let input = repeated(rt.alloc(), GET, 2)?;
+    let mut line = line_of(rt, Pieces::new(&input, 4_096, 4_096))?;
+    let (report, _) = serve(rt, way, &Limits::usual(), &SaysMuch, &mut line)?;
+    Ok((report.outcome, report.exchanges, text_of(&line) == wanted))
+}
+
+#[test]
+fn an_event_of_100000_bytes_is_written(rt: HostRuntime) -> Result<(), Fail> {
+    let wanted = much_twice(rt.alloc())?;
+    for way in [Way::Inline, Way::Beside] {
+        assert_eq!(rt; said(&rt, way, &wanted)?, (Outcome::Finished, 2, true));
+    }
     Ok(())
 }
 

@@ -17,16 +17,16 @@ type Texts = &'static [&'static [u8]];
 /// A read that would block.
 const WAIT: &[u8] = b"";
 
-/// A reader whose reads give these texts, whole, and then the end.
+/// A reader whose reads give these texts from this place on, whole, and then the end.
 #[derive(Clone, Copy)]
-struct Reads(Texts);
+struct Reads(Texts, usize);
 
 impl Read for Reads {
     fn read(&mut self, buf: &mut [u8]) -> io::Result<usize> {
-        let Some((text, rest)) = self.0.split_first() else {
+        let Some(text) = self.0.get(self.1) else {
             return Ok(0);
         };
-        self.0 = rest;
+        self.1 = self.1.saturating_add(1);
         if text.is_empty() {
             return Err(io::Error::from(ErrorKind::WouldBlock));
         }
@@ -126,7 +126,7 @@ fn is_row<H: Host, T: AppTask + Send + 'static, A: Application<Task = T>>(
     row: &Row,
 ) -> Result<bool, Fail> {
     let limits = limits_of(row)?;
-    let mut line = line_of(rt, Reads(row.0))?;
+    let mut line = line_of(rt, Reads(row.0, 0))?;
     Ok(is_line_row(rt, &limits, app, &mut line, row)?)
 }
 
