@@ -108,7 +108,7 @@ pub closes_after : (text : List ℕ) (out : List Output) → closes (map Byte te
 closes_after [] out = refl
 closes_after (b ∷ text) out = closes_after text out
 
-or_none : (b : Bool) → (b || false) ≡ b
+pub or_none : (b : Bool) → (b || false) ≡ b
 or_none true = refl
 or_none false = refl
 

@@ -258,10 +258,6 @@ module _ (scene : Scene) (now : LineState) (half : HttpHalf) (read : List ℕ) (
             stage = inr (record { cut = refl; stops = λ n e. absurd (not_written n e) });
           })
 
--- nothing is read
-pub stays_there : (scene : Scene) (now : LineState) (half : HttpHalf) (read : List ℕ) (view : ConnView ℕ ℕ) → Invariant scene now half read view → Invariant scene now half (read ++ []) view
-stays_there scene now half read view x = subst (λ (l : List ℕ). Invariant scene now half l view) (sym (append-nil read)) x
-
 -- ---- the table of ends
 
 -- what the response asks of the body

@@ -44,7 +44,7 @@ use Rattle.asgi_halves.specs.WebSocketHalf.{SessionScene, Invariant, Talks, Ends
 use Rattle.asgi_halves.specs.Half.{failures_at}
 use Rattle.asgi_halves.specs.Traffic.{drop_limit, is_end}
 use Rattle.asgi_halves.specs.WebSocketHalf.{CarriesOn}
-use Rattle.asgi_halves.proofs.CallLemmas.{closes, closes_after, none_after, open_closes, read_after}
+use Rattle.asgi_halves.proofs.CallLemmas.{closes, closes_after, none_after, open_closes, read_after, or_none}
 use Rattle.asgi_halves.proofs.LineCallLemmas.{HasRead}
 use Rattle.asgi_halves.proofs.TalkLemmas.{talk_read}
 use Rattle.asgi_halves.proofs.TurnLemmas.{rests_else}
@@ -182,11 +182,6 @@ talks_still scene half view more next client_closed is_over spare_reads stage t 
   closed = closed;
 }
 
--- an outcome that reports no end
-still_over : (b : Bool) → b ≡ (b || false)
-still_over true = refl
-still_over false = refl
-
 now_over : (b : Bool) → true ≡ (b || true)
 now_over true = refl
 now_over false = refl
@@ -245,27 +240,27 @@ module _ (scene : SessionScene) (was now : LineState) (half : WebSocketHalf) (re
   passes_by : (message : Msg) → HasRead was now (got.Message message) → events_in message ≡ [] → has_close (message ∷ []) ≡ false
       → Invariant scene now half read (record view { arrived = view.arrived ++ message ∷ [] })
   passes_by message call none no_close =
-      goes_on (got.Message message) call half.due half.client_closed half.is_over (still_over half.is_over) (open_before ∙ sym (after message ∙ no_close))
+      goes_on (got.Message message) call half.due half.client_closed half.is_over (sym (or_none half.is_over)) (open_before ∙ sym (after message ∙ no_close))
       (subst (λ (d : Due). IsDue d half (record view { arrived = view.arrived ++ message ∷ [] })) (sym free)
       (λ unclosed still. (sym (append-nil view.offered) ∙ ap (λ (l : List Incoming). view.offered ++ l) (sym none) ∙ grown message, after message ∙ no_close, all_offered.2)))
 
   heard : (message : Msg) → HasRead was now (got.Message message) → Invariant scene now (heard_by half message) read (record view { arrived = view.arrived ++ message ∷ [] })
   heard (Text text) call =
-      goes_on (got.Message (Text text)) call (due.Waits (WsReceive (payload.Text text))) half.client_closed half.is_over (still_over half.is_over) (open_before ∙ sym (after (Text text)))
+      goes_on (got.Message (Text text)) call (due.Waits (WsReceive (payload.Text text))) half.client_closed half.is_over (sym (or_none half.is_over)) (open_before ∙ sym (after (Text text)))
       (unbroke, grown (Text text), after (Text text), not_closed half.answered open_still, all_offered.2)
   heard (Bytes bytes) call =
-      goes_on (got.Message (Bytes bytes)) call (due.Waits (WsReceive (payload.Bytes bytes))) half.client_closed half.is_over (still_over half.is_over) (open_before ∙ sym (after (Bytes bytes)))
+      goes_on (got.Message (Bytes bytes)) call (due.Waits (WsReceive (payload.Bytes bytes))) half.client_closed half.is_over (sym (or_none half.is_over)) (open_before ∙ sym (after (Bytes bytes)))
       (unbroke, grown (Bytes bytes), after (Bytes bytes), not_closed half.answered open_still, all_offered.2)
   heard Ping call = passes_by Ping call refl refl
   heard Pong call = passes_by Pong call refl refl
   heard (Close close) call =
-      goes_on (got.Message (Close close)) call (due.Left (disconnect_of (Some close))) true half.is_over (still_over half.is_over) (sym (after (Close close)))
+      goes_on (got.Message (Close close)) call (due.Left (disconnect_of (Some close))) true half.is_over (sym (or_none half.is_over)) (sym (after (Close close)))
       (unbroke, sym (append-nil view.offered) ∙ grown (Close close), sym (close_is_heard view.arrived close all_offered.1), inl (after (Close close)), not_closed half.answered open_still)
 
   -- nothing is there yet
   nothing_yet : HasRead was now got.Idle → Invariant scene now half read (record view { arrived = view.arrived ++ [] })
   nothing_yet call =
-      goes_on got.Idle call half.due half.client_closed half.is_over (still_over half.is_over) (at_running.0.closed open_still ∙ ap has_close (sym (append-nil view.arrived)))
+      goes_on got.Idle call half.due half.client_closed half.is_over (sym (or_none half.is_over)) (at_running.0.closed open_still ∙ ap has_close (sym (append-nil view.arrived)))
       (subst (λ (l : List Msg). IsDue half.due half (record view { arrived = l })) (sym (append-nil view.arrived)) at_running.2)
 
   -- no message follows
@@ -280,7 +275,7 @@ module _ (scene : SessionScene) (was now : LineState) (half : WebSocketHalf) (re
   -- memory was refused
   read_short : HasRead was now got.NoMemory → Invariant scene now (record half { stage = Cut NoMemory }) read (record view { arrived = view.arrived ++ [] })
   read_short call =
-      arrives scene was now half read view x (ap failures_at is) all_offered.2 (inl open_still) no_break got.NoMemory call half.due half.client_closed half.is_over half.spare_reads (Cut NoMemory) refl (still_over half.is_over) (few got.NoMemory)
+      arrives scene was now half read view x (ap failures_at is) all_offered.2 (inl open_still) no_break got.NoMemory call half.due half.client_closed half.is_over half.spare_reads (Cut NoMemory) refl (sym (or_none half.is_over)) (few got.NoMemory)
       (prefix_same view.written (output_in scene view) at_running.0.written, at_running.1)
 
   pub noted : (answer : Got) → HasRead was now answer → Invariant scene now (noted_by half answer) read (record view { arrived = view.arrived ++ given_by answer })

@@ -21,7 +21,7 @@ use Rattle.asgi_ws.specs.Lines.{LineState}
 use Rattle.asgi_run.specs.Lines.{Transferred, EndsAs, how_wrote}
 use Rattle.asgi_halves.specs.Traffic.{FailsAs, HasCarried, drop_limit, in_session, in_text, is_end, is_failed_send, says_over, kept_with, text_of_line}
 use Rattle.asgi_halves.specs.WebSocketHalf.{CarriesOn}
-use Rattle.asgi_halves.proofs.CallLemmas.{end_send, fails_after, failures_by, none_after_end, none_fails_after, send_after}
+use Rattle.asgi_halves.proofs.CallLemmas.{end_send, fails_after, failures_by, none_after_end, none_fails_after, send_after, or_none}
 use Rattle.asgi_run.proofs.LineLemmas.{moved_by_write}
 
 -- ---- the count of failures
@@ -37,10 +37,6 @@ rose_counted a b true e = rose_once a b (one_more a b e)
 rose_counted a b false e = inl (omega (arith, e))
 
 -- ---- lists
-
-or_none : (b : Bool) → (b || false) ≡ b
-or_none true = refl
-or_none false = refl
 
 or_assoc : (a b c : Bool) → (a || (b || c)) ≡ ((a || b) || c)
 or_assoc true b c = refl

@@ -1,5 +1,6 @@
 use Rattle.std.proofs.Common.{[]}
-use Rattle.asgi_halves.proofs.HalfEndLemmas.{stays_there, dropped, dropped_short}
+use Rattle.asgi_halves.proofs.HalfEndLemmas.{dropped, dropped_short}
+use Rattle.asgi_halves.proofs.HalfLemmas.{stands_still}
 use Rattle.asgi_halves.proofs.half.HttpHalf.finish_task.Goals as goal
 
 pub returns-in-Err-clause-leads : goal.returns-in-Err-clause-leads
@@ -8,7 +9,7 @@ returns-in-Err-clause-leads g c scene read view x =
       [],
       view.arrived,
       view.written,
-      stays_there scene line _ read view
+      stands_still scene line _ read view
           (dropped_short scene line c.args.self.now read view x c.args.kind c.requires c.drop_rest.new.self c.drop_rest.ensures.same c.drop_rest.ensures.limits),
     )
 

@@ -2,13 +2,13 @@ use Rattle.std.proofs.Common.{[], inl, sym, refl, ◌∙◌}
 use Rattle.asgi_halves.specs.declared.stage.Stage.TheVariants as stage
 use Rattle.asgi_halves.specs.Half.{failures_at}
 use Rattle.asgi_halves.specs.Kinds.{OfBytes}
-use Rattle.asgi_halves.proofs.HalfLemmas.{unfailed}
-use Rattle.asgi_halves.proofs.HalfEndLemmas.{stays_there, rest_read, rest_short}
+use Rattle.asgi_halves.proofs.HalfLemmas.{unfailed, stands_still}
+use Rattle.asgi_halves.proofs.HalfEndLemmas.{rest_read, rest_short}
 use Rattle.asgi_halves.proofs.StageLemmas.{ending_has_ended, ending_moves}
 use Rattle.asgi_halves.proofs.half.HttpHalf.read_rest.Goals as goal
 
 pub returns-then-has_ended-clause-leads : goal.returns-then-has_ended-clause-leads
-returns-then-has_ended-clause-leads g c scene read view x = ([], view.arrived, view.written, stays_there scene _ _ read view x)
+returns-then-has_ended-clause-leads g c scene read view x = ([], view.arrived, view.written, stands_still scene _ _ read view x)
 
 pub returns-in-Ok-clause-leads : goal.returns-in-Ok-clause-leads
 returns-in-Ok-clause-leads g c scene read view x =

@@ -2,7 +2,8 @@ use Rattle.std.proofs.Common.{[], ◌∙◌, ap, sym, refl, ◌++◌}
 use Rattle.asgi_response.specs.Exchange.{end_text}
 use Rattle.asgi_response.specs.declared.refusal.Input.{Input}
 use Rattle.asgi_exchange.specs.Views.{taken_of}
-use Rattle.asgi_halves.proofs.HalfEndLemmas.{stays_there, taken_text, ends_idle, ends_short, ends_written, ends_cut}
+use Rattle.asgi_halves.proofs.HalfEndLemmas.{taken_text, ends_idle, ends_short, ends_written, ends_cut}
+use Rattle.asgi_halves.proofs.HalfLemmas.{stands_still}
 use Rattle.asgi_halves.proofs.half.HttpHalf.write_end.Goals as goal
 
 pub returns-in-Idle-clause-leads : goal.returns-in-Idle-clause-leads
@@ -11,7 +12,7 @@ returns-in-Idle-clause-leads g c scene read view x =
       [],
       view.arrived,
       view.written,
-      stays_there scene line _ read view
+      stands_still scene line _ read view
           (ends_idle scene line c.args.self.now read view x c.args.kind c.requires.ending c.args.progress c.requires.progress c.requires.known c.after_task-following.result
           (λ state e. c.after_task-following.ensures state (e ∙ sym c.input_of-input.ensures)) c.in-Idle.is),
     )
@@ -22,7 +23,7 @@ returns-in-Err-clause-leads g c scene read view x =
       [],
       view.arrived,
       view.written,
-      stays_there scene line _ read view
+      stands_still scene line _ read view
           (ends_short scene line c.args.self.now read view x c.args.kind c.requires.ending c.args.progress c.requires.progress c.requires.known c.after_task-following.result
           (λ state e. c.after_task-following.ensures state (e ∙ sym c.input_of-input.ensures)) (record c.args.self.now.wire { out = c.end.new.out }) refl),
     )
@@ -38,7 +39,7 @@ returns-in-None-clause-leads g c scene read view x =
       [],
       view.arrived,
       _,
-      stays_there scene now _ read _
+      stands_still scene now _ read _
           (ends_written scene line half read view x c.args.kind c.requires.ending c.args.progress c.requires.progress c.requires.known c.after_task-following.result
           (λ state e. c.after_task-following.ensures state (e ∙ sym c.input_of-input.ensures)) c.in_default.not-Idle c.end.new.out.items adds now c.put.new.self c.put.ensures.same c.put.ensures.empty
           c.put.ensures.reads.0 c.put.ensures.reads.1 c.put.ensures.session wrote.0 wrote.1 c.in-None.ensures.tries),
@@ -55,7 +56,7 @@ returns-in-Some-clause-leads g c scene read view x =
       [],
       view.arrived,
       _,
-      stays_there scene now _ read _
+      stands_still scene now _ read _
           (ends_cut scene line half read view x c.args.kind c.requires.ending c.args.progress c.requires.progress c.requires.known c.after_task-following.result
           (λ state e. c.after_task-following.ensures state (e ∙ sym c.input_of-input.ensures)) c.in_default.not-Idle c.end.new.out.items adds c.in-Some.n now c.put.new.self c.put.ensures.same
           c.put.ensures.reads.0 c.put.ensures.reads.1 c.put.ensures.session wrote.0 wrote.1 wrote.2 c.in-Some.ensures.tries),
