@@ -204,14 +204,18 @@ fn carry<T: AppTask>(conn: &mut PlainConn, side: &mut AppSide<T, PlainApp>)
 {
     match side {
         AppSide::HasEnded { app_end, kind: _ } => Plain::carry(conn, app_end),
-        AppSide::Runs(Running {
-            lent: Some(lent),
-            turns: _,
-        }) => Plain::carry(conn, &mut lent.app_end),
-        AppSide::Runs(Running {
-            lent: None,
-            turns: _,
-        }) => unreachable!(),
+        AppSide::Runs(
+            Running {
+                lent: Some(lent),
+                turns: _,
+            },
+        ) => Plain::carry(conn, &mut lent.app_end),
+        AppSide::Runs(
+            Running {
+                lent: None,
+                turns: _,
+            },
+        ) => unreachable!(),
     }
 }
 

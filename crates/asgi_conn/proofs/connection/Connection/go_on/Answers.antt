@@ -36,9 +36,9 @@ finish-requires-2 g c =
       r.3,
       record {
         serving = subst (λ (p : Place g.row.X.Denot). IsServing g.A.Task.AppTask.answers g.U.Pipes.Conn.ConnEnd g.U.Pipes.App.AppEnd g.U.Runner.conn g.U.Runner.began (g.A.Application.answers c.args.setting.now.app.now) r.0 c.args.setting.now.client.now c.args.setting.now.server.now c.args.setting.now.state.now r.1 (g.L.Line.state c.next.new.line) c.finish.new.self.tally p) (sym c.go_to.ensures)
-          (c.next.ensures.serves r.0 r.1 (subst (λ (p : Place g.row.X.Denot). IsServing g.A.Task.AppTask.answers g.U.Pipes.Conn.ConnEnd g.U.Pipes.App.AppEnd g.U.Runner.conn g.U.Runner.began (g.A.Application.answers c.args.setting.now.app.now) r.0 c.args.setting.now.client.now c.args.setting.now.server.now c.args.setting.now.state.now r.1 now c.finish.new.self.tally p) e s.serving));
+            (c.next.ensures.serves r.0 r.1 (subst (λ (p : Place g.row.X.Denot). IsServing g.A.Task.AppTask.answers g.U.Pipes.Conn.ConnEnd g.U.Pipes.App.AppEnd g.U.Runner.conn g.U.Runner.began (g.A.Application.answers c.args.setting.now.app.now) r.0 c.args.setting.now.client.now c.args.setting.now.server.now c.args.setting.now.state.now r.1 now c.finish.new.self.tally p) e s.serving));
         counted = subst (λ (p : Place g.row.X.Denot). IsCounted r.0 r.2 r.3 p c.finish.new.self.tally) (sym c.go_to.ensures)
-          (lemma.counted_next r.0 r.2 r.3 c.leave.result c.next.result c.finish.new.self.tally
+            (lemma.counted_next r.0 r.2 r.3 c.leave.result c.next.result c.finish.new.self.tally
             (subst (λ (p : Place g.row.X.Denot). IsCounted r.0 r.2 r.3 p c.finish.new.self.tally) e s.counted) c.next.ensures.next);
       },
     )
