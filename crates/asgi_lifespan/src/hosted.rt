@@ -137,7 +137,7 @@ impl<T: AppTask> Hosted<T> {
         requires hosted { IsHosted T.stands self.old }
         requires runs { self.old.ended ≡ None }
         ensures polled { IsPolled T.stands T.answers self.old self.new }
-        ensures turn { (polled : PlainApp) × (self.new.left.items ≡ self.old.left.items ++ polled ∷ []) × IsTurn ⟦<PlainApp as AppEnd>⟧ result self.new.ended self.old.app_end polled self.new.app_end }
+        ensures turn { (mid : PlainApp) × (self.new.left.items ≡ self.old.left.items ++ mid ∷ []) × IsTurn ⟦<PlainApp as AppEnd>⟧ result self.new.ended self.old.app_end mid self.new.app_end }
         ensures did { self.new.did ≡ self.old.did }
         ensures armed { self.new.ended ≡ None → IsArmed cx.new }
         ensures kept { Keeps cx.old cx.new }

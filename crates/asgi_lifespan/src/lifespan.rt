@@ -192,7 +192,8 @@ fn ends(alloc: Global, ring: usize) -> Result<(PlainConn, PlainApp), AllocError>
 fn called<A: Application>(alloc: Global, calls: &mut Calls<'_, A>) -> Result<A::Task, AppFault>
     ensures once { calls.new.scopes.items ≡ calls.old.scopes.items ++ lifespan_scope ∷ [] }
     ensures stands { IfOk result (λ task. A.Task.stands task Kind.Lifespan [] []) }
-    ensures answers { IfOk result (λ task. (heard : List Incoming) (said : List Outgoing) (end : Option EndKind) → A.Task.answers task heard said end → A.answers calls.old.app.now lifespan_scope heard said end) }
+    ensures answers { IfOk result (λ task. (heard : List Incoming) (said : List Outgoing) (end : Option EndKind) → A.Task.answers task heard said end
+        → A.answers calls.old.app.now lifespan_scope heard said end) }
     ensures fault { OnErr result (A.answers calls.old.app.now lifespan_scope [] [] (Some EndKind.Faulted)) }
 {
     let scope = scope(alloc);
