@@ -248,6 +248,18 @@ class Held(unittest.TestCase):
             self.assertLess(waited, 2.5)
             self.assertEqual(server.ended(), (["1 0 refused 413", "2 1 finished"], "", 0))
 
+    def test_a_refused_client_that_says_nothing_is_left(self):
+        with Server("echo", 2, workers=1) as server:
+            with server.connect() as silent:
+                silent.sendall(b"GET / HTTP/1.1\r\n\r\n")
+                # Its answer has ended, and it neither sends nor closes; the only worker comes to the next one all the same.
+                self.assertTrue(read_all(silent).startswith(b"HTTP/1.1 400 Bad Request\r\n"))
+                with server.connect() as line:
+                    line.settimeout(HELD)
+                    line.sendall(b"GET / HTTP/1.0\r\n\r\n")
+                    self.assertTrue(read_all(line).startswith(b"HTTP/1.1 200 OK\r\n"))
+                self.assertEqual(server.ended(), (["1 0 refused 400", "2 1 finished"], "", 0))
+
     def test_a_signal_loses_no_report(self):
         with Server("hello", 500) as server:
             lines = []

@@ -109,6 +109,7 @@ pub fn give_all<C: Drop, N: Drop, G, E: Asks<G, C>, R: Wait>(
     ensures numbers { (view pass.new).given ≡ numbered 0 (items_of (view pass.new).given) }
     ensures room { (all.new.items ≡ []) × (length (view pass.new).given ≤ vec_capacity all.new) }
     ensures begun { ¬ (result ≡ NoThread) }
+    ensures source { E.source giver.new ≡ E.source giver.old }
 {
     let mut given = 0u64;
     for _ in rt.forever() {

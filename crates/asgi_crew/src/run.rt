@@ -141,6 +141,7 @@ pub fn run<
     ensures room { (result.all.items ≡ []) × (length (view result.pass).given ≤ vec_capacity result.all) }
     ensures crew { (vec_len result.crew ≡ vec_len crew) × (vec_capacity crew ≤ vec_capacity result.crew) }
     ensures refused { result.end ≡ NoThread → E.answers giver.new ≡ E.answers giver.old }
+    ensures source { E.source giver.new ≡ E.source giver.old }
 {
     let Some(worker) = crew.pop() else {
         let mut all = Vec::new(alloc);

@@ -77,6 +77,7 @@ fn run_scoped<
     ensures ran { Ran (E.serves how.now) (E.answers giver.old) (E.answers giver.new) (last_of result.end) crew.items result.crew.items (knows result.seat).put (view result.pass) }
     ensures room { (result.all.items ≡ []) × (length (view result.pass).given ≤ vec_capacity result.all) }
     ensures refused { result.end ≡ NoThread → E.answers giver.new ≡ E.answers giver.old }
+    ensures source { E.source giver.new ≡ E.source giver.old }
 {
     let lent = &mut *giver;
     let (lent, ended) = thread::scope(
@@ -94,6 +95,7 @@ fn run_scoped<
             ensures ran { Ran (E.serves how.entry.now) (E.answers lent.entry.now) (E.answers result.0.now) (last_of result.1.end) crew.items result.1.crew.items (knows result.1.seat).put (view result.1.pass) }
             ensures room { (result.1.all.items ≡ []) × (length (view result.1.pass).given ≤ vec_capacity result.1.all) }
             ensures refused { result.1.end ≡ NoThread → E.answers result.0.now ≡ E.answers lent.entry.now }
+            ensures source { E.source result.0.now ≡ E.source lent.entry.now }
         {
             let ended = run(
                 rt, scope, alloc, how, from, to, desk, &mut *lent, pass, seat, crew, 0,
@@ -139,6 +141,7 @@ pub fn share<
     ensures shared { IsShared (E.serves how.now) (E.answers giver.old) (E.answers giver.new) (last_of result.end) crew.items result.workers.items result.reports.items }
     ensures told { Told T.tells teller result.teller result.reports.items }
     ensures no_thread { result.end ≡ NoThread → E.answers giver.new ≡ E.answers giver.old }
+    ensures source { E.source giver.new ≡ E.source giver.old }
 {
     let Ok((to, from, pass)) = bounded_with::<Mark<C, N>, Hand<C>, Fair, Global>(alloc, PLACES)
     else {

@@ -51,6 +51,10 @@ pub struct Counting {
 impl Asks<Numbers, u64> for Counting {
     ghost answers = { λ giver. giver.told.items };
 
+    ghost Source = { Unit {0} };
+
+    ghost source = { λ _. tt };
+
     fn ask(&self, giver: &mut Numbers) -> Option<u64> {
         let answer = giver.answer();
         giver.told = History::with(&giver.told, &answer);
@@ -77,6 +81,10 @@ pub struct Dawdling {
 
 impl Asks<Numbers, u64> for Dawdling {
     ghost answers = { λ giver. giver.told.items };
+
+    ghost Source = { Unit {0} };
+
+    ghost source = { λ _. tt };
 
     fn ask(&self, giver: &mut Numbers) -> Option<u64> {
         let answer = giver.answer();

@@ -1,11 +1,11 @@
 -- What came after the answer to the start is what the program promises.
-use Rattle.std.proofs.Common.{◌≡◌, ◌⊎◌, inl, inr, ℕ, Bool, List, [], Option, Some, None, subst, sym}
+use Rattle.std.proofs.Common.{◌≡◌, ◌⊎◌, ◌∙◌, inl, inr, ap, ℕ, Bool, List, [], Option, Some, None, subst, sym}
 use Rattle.asgi_types.specs.declared.end_kind.EndKind.{EndKind}
 use Rattle.asgi_types.specs.declared.incoming.Incoming.{Incoming}
 use Rattle.asgi_types.specs.declared.limits.Limits.{Limits}
 use Rattle.asgi_types.specs.declared.outgoing.Outgoing.{Outgoing}
-use Rattle.asgi_types.specs.declared.state.StateValue.{StateValue}
 use Rattle.asgi_apps.specs.declared.task.AppTask as tasks
+use Rattle.asgi_types.specs.declared.state.StateValue.{StateValue}
 use Rattle.asgi_ws.specs.Lines.{LineState}
 use Rattle.asgi_apps.specs.Promises.{Promise}
 use Rattle.asgi_lifespan.specs.declared.lifespan.Lifespan.{Lifespan}
@@ -18,13 +18,13 @@ use Rattle.asgi_lifespan.specs.Lifespan.{StartAnswer, started, failed, unsupport
 use Rattle.asgi_lifespan.specs.Starting.{Starts, StandsFor, PromiseOf, IsNoMemory, turns_in}
 use Rattle.asgi_lifespan.specs.Stopping.{Stops}
 use Rattle.asgi_demo.specs.declared.ending.Ending.{Ending}
-use Rattle.asgi_demo.specs.declared.ending.Ending.TheVariants.{StartupFailed, NoStartup}
 use Rattle.asgi_demo.specs.Serving.{Around, LivesOrNot, Follows, ServesEach, ending_of}
+use Rattle.asgi_demo.specs.private.Following.{FollowsStart}
 
--- what holds besides the one case is left aside
-pub aside : {A B C : Type 0} → (A × B) ⊎ C → A ⊎ C
-aside (inl (a, b)) = inl a
-aside (inr c) = inr c
+-- in the one case nothing was counted
+pub uncounted : {A B P : Type 0} (count : P → ℕ) (was is : P) → (A × (is ≡ was)) ⊎ B → (A × (count is ≡ count was)) ⊎ B
+uncounted count was is (inl (a, same)) = inl (a, ap count same)
+uncounted count was is (inr b) = inr b
 
 -- a task that was stopped kept what is promised of it
 kept_within : (one other : List Incoming → List Outgoing → Option EndKind → Type 0) (limits : Limits) (heard : List Incoming) (said : List Outgoing) (before after : ℕ) (answer : Stop)
@@ -66,43 +66,32 @@ module _ {L T : Type 0} (line_state : L → LineState) (answers : Promise) (limi
   follows_by answer told x is follows =
       lives_by answer x (subst (λ a. Follows line_state answers limits workers has_failed a x.heard x.said old new between after ending) (sym is) follows)
 
-  as_started : (life : Lifespan T g) (state : List (List ℕ × StateValue)) (well : Bool) (reply : Stop) → Starts (answers lifespan_scope) limits before between (start.Started life state)
-      → ServesEach line_state answers limits workers has_failed state old new well
-      → ((heard : List Incoming) (said : List Outgoing) (ended : Option EndKind) → StandsFor limits life heard said ended → Stops (PromiseOf life) limits heard said between after reply)
-      → ending ≡ ending_of well reply → LivesOrNot line_state answers limits workers has_failed old new before after ending
-  as_started life state well reply x served stops ends =
+  -- what comes after each answer
+  pub lives_of : (answer : Start T g) → (IsNoMemory answer × (between ≡ before)) ⊎ Starts (answers lifespan_scope) limits before between answer
+      → FollowsStart line_state answers limits workers has_failed answer old new between after ending → LivesOrNot line_state answers limits workers has_failed old new before after ending
+  lives_of (start.Started life state) (inl none) f = absurd none.0
+  lives_of (start.Started life state) (inr x) f =
       follows_by (start.Started life state) (Some (started state)) x x.answered
-      (well, reply, served, kept_within (PromiseOf life) (answers lifespan_scope) limits x.heard x.said between after reply x.stands.1 (stops x.heard x.said x.ended x.stands.0), ends)
+      (f.0, f.1, f.2, kept_within (PromiseOf life) (answers lifespan_scope) limits x.heard x.said between after f.1 x.stands.1 (f.3 x.heard x.said x.ended x.stands.0), f.4)
+  lives_of start.Unsupported (inl none) f = absurd none.0
+  lives_of start.Unsupported (inr x) f = follows_by start.Unsupported (Some unsupported) x x.answered f
+  lives_of (start.Failed message) (inl none) f = absurd none.0
+  lives_of (start.Failed message) (inr x) f = follows_by (start.Failed message) (Some (failed message)) x x.answered f
+  lives_of (start.Idle turns) (inl none) f = absurd none.0
+  lives_of (start.Idle turns) (inr x) f = follows_by (start.Idle turns) None x x.answered f
+  lives_of start.NoMemory (inl none) f = inr (f.0, f.1 ∙ none.1, f.2)
+  lives_of start.NoMemory (inr x) f = absurd x.answered
 
-  pub lives_started : (answer : Start T g) (life : Lifespan T g) (state : List (List ℕ × StateValue)) (well : Bool) (reply : Stop) → answer ≡ start.Started life state
-      → IsNoMemory answer ⊎ Starts (answers lifespan_scope) limits before between answer
-      → ServesEach line_state answers limits workers has_failed state old new well
-      → ((heard : List Incoming) (said : List Outgoing) (ended : Option EndKind) → StandsFor limits life heard said ended → Stops (PromiseOf life) limits heard said between after reply)
-      → ending ≡ ending_of well reply → LivesOrNot line_state answers limits workers has_failed old new before after ending
-  lives_started answer life state well reply same (inl none) served stops ends = absurd (subst (λ a. IsNoMemory a) same none)
-  lives_started answer life state well reply same (inr x) served stops ends =
-      as_started life state well reply (subst (λ a. Starts (answers lifespan_scope) limits before between a) same x) served stops ends
+module _ {L T : Type 0} (line_state : L → LineState) (answers : Promise) (limits : Limits) (workers : ℕ) (has_failed : Bool) (g : tasks.Ghosts T)
+    (old new : Around L) (before after : ℕ) (ending : Ending) where
+  -- the answer is another name for this one
+  pub as_answered : (answer other : Start T g) → answer ≡ other → FollowsStart line_state answers limits workers has_failed other old new before after ending
+      → FollowsStart line_state answers limits workers has_failed answer old new before after ending
+  as_answered answer other same f = subst (λ a. FollowsStart line_state answers limits workers has_failed a old new before after ending) (sym same) f
 
-  pub lives_unsupported : (answer : Start T g) (state : List (List ℕ × StateValue)) (well : Bool) → answer ≡ start.Unsupported → state ≡ []
-      → IsNoMemory answer ⊎ Starts (answers lifespan_scope) limits before between answer
-      → ServesEach line_state answers limits workers has_failed state old new well → after ≡ between
-      → ending ≡ ending_of well stop.Stopped → LivesOrNot line_state answers limits workers has_failed old new before after ending
-  lives_unsupported answer state well same empty (inl none) served rests ends = absurd (subst (λ a. IsNoMemory a) same none)
-  lives_unsupported answer state well same empty (inr x) served rests ends =
-      let X : Starts (answers lifespan_scope) limits before between start.Unsupported = subst (λ a. Starts (answers lifespan_scope) limits before between a) same x in
-      follows_by start.Unsupported (Some unsupported) X X.answered
-      (well, subst (λ s. ServesEach line_state answers limits workers has_failed s old new well) empty served, rests, ends)
-
-  pub lives_failed : (answer : Start T g) (message : List ℕ) → answer ≡ start.Failed message → IsNoMemory answer ⊎ Starts (answers lifespan_scope) limits before between answer
-      → new ≡ old → after ≡ between → ending ≡ StartupFailed message → LivesOrNot line_state answers limits workers has_failed old new before after ending
-  lives_failed answer message same (inl none) kept rests ends = absurd (subst (λ a. IsNoMemory a) same none)
-  lives_failed answer message same (inr x) kept rests ends =
-      let X : Starts (answers lifespan_scope) limits before between (start.Failed message) = subst (λ a. Starts (answers lifespan_scope) limits before between a) same x in
-      follows_by (start.Failed message) (Some (failed message)) X X.answered (kept, rests, ends)
-
-  pub lives_idle : (answer : Start T g) (turns : ℕ) → answer ≡ start.Idle turns → IsNoMemory answer ⊎ Starts (answers lifespan_scope) limits before between answer
-      → new ≡ old → after ≡ between → ending ≡ NoStartup → LivesOrNot line_state answers limits workers has_failed old new before after ending
-  lives_idle answer turns same (inl none) kept rests ends = absurd (subst (λ a. IsNoMemory a) same none)
-  lives_idle answer turns same (inr x) kept rests ends =
-      let X : Starts (answers lifespan_scope) limits before between (start.Idle turns) = subst (λ a. Starts (answers lifespan_scope) limits before between a) same x in
-      follows_by (start.Idle turns) None X X.answered (kept, rests, ends)
+  -- an application without a lifespan was served with a state that is empty
+  pub served_unsupported : (answer : Start T g) (state : List (List ℕ × StateValue)) (well : Bool) → answer ≡ start.Unsupported → state ≡ []
+      → ServesEach line_state answers limits workers has_failed state old new well → after ≡ before → ending ≡ ending_of well stop.Stopped
+      → FollowsStart line_state answers limits workers has_failed answer old new before after ending
+  served_unsupported answer state well same empty served rests ends =
+      as_answered answer start.Unsupported same (well, subst (λ s. ServesEach line_state answers limits workers has_failed s old new well) empty served, rests, ends)

@@ -44,6 +44,10 @@ port_as_named line_state a b limits workers has_failed old new errors_old errors
     let P : App → Type 0 = λ x. ServesOn line_state (promise x) limits workers has_failed old new errors_old errors_new status in
     record { limits = limits; usual = usual; serves = subst P (sym same) serves }
 
+-- what the listener was asked for, by other names
+pub asked_for : (before told now : List (ℕ × ℕ)) (p n q m : ℕ) → now ≡ told → told ≡ before ++ (q, m) ∷ [] → p ≡ q → n ≡ m → now ≡ before ++ (p, n) ∷ []
+asked_for before told now p n q m kept is port count = kept ∙ (is ∙ ap₂ (λ (a b : ℕ). before ++ (a, b) ∷ []) (sym port) (sym count))
+
 -- the promise of applications under these prefixes
 abbrev mounted : List (Mount RootPath) → Promise
 mounted mounts = MountsAnswer (λ _ taken. Answers (root_path_answer taken)) mounts

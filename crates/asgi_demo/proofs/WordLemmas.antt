@@ -172,6 +172,18 @@ one_serving words a b p c q d w v (port, count, name, rest, n, is, of, with_thes
     let as_many : n ≡ m = cc in
     (one_name a b (sym with_these.2 ∙ named_so ∙ with_others.2), with_these.3 ∙ as_many ∙ sym with_others.3)
 
+-- and one port and one number of connections
+pub one_port : (words : List (List ℕ)) (a b : App) (p c q d : ℕ) (w v : Workers) → IsServe words (Serve p c a w) → IsServe words (Serve q d b v) → (p ≡ q) × (c ≡ d)
+one_port words a b p c q d w v (port, count, name, rest, n, is, of, with_these) (port', count', name', rest', m, is', of', with_others) =
+    let same : codes "serve" ∷ port ∷ count ∷ name ∷ rest ≡ codes "serve" ∷ port' ∷ count' ∷ name' ∷ rest' = sym is ∙ is' in
+    let port_so : port ≡ port' = cc in
+    let count_so : count ≡ count' = cc in
+    let ports : Some p ≡ Some q = sym with_these.0 ∙ (ap (λ word. number_in 1 65535 word) port_so ∙ with_others.0) in
+    let counts : Some c ≡ Some d = sym with_these.1 ∙ (ap (λ word. number_in 1 1000 word) count_so ∙ with_others.1) in
+    let one : p ≡ q = cc in
+    let other : c ≡ d = cc in
+    (one, other)
+
 bounds_of : (n k : ℕ) (b c : Bool) → nat_le 1 k ≡ b → nat_le k 8 ≡ c → ◌≡◌ {A = Option ℕ} (if b && c then Some k else None) (Some n) → (0 < n) × (n ≤ 8)
 bounds_of n k true true x y is = let same : k ≡ n = cc in (grind (arith, nat_tests), grind (arith, nat_tests))
 bounds_of n k true false x y is = cc

@@ -1,3 +1,4 @@
+pub mod private
 pub mod Words
 pub mod Command
 pub mod Telling

@@ -119,15 +119,20 @@ module _ {L : Type 0} (line_state : L → LineState) (answers : Promise) (limits
     pub turns : TakesTurns limits.turns limits.idle_turns before between gave_up
     pub follows : Follows (start_answer said ended) heard said old new between after ending
 
-  -- or memory for its start was refused, and the listener was not asked
+  -- or memory for its start was refused: no turn was taken, and the listener was not asked
   abbrev pub LivesOrNot : Around L → Around L → ℕ → ℕ → Ending → Type 0
-  LivesOrNot old new before after ending = Lives old new before after ending ⊎ ((new ≡ old) × (ending ≡ DeviceFault))
+  LivesOrNot old new before after ending = Lives old new before after ending ⊎ ((new ≡ old) × (after ≡ before) × (ending ≡ DeviceFault))
 
   -- ---- the program
 
-  -- The server ran to this end, which was written to standard error; the status is that of it. Or nothing can run a task:
-  -- this was written there, and the listener was not asked.
+  -- The server ran to this end, which was written to standard error; the status is that of it.
+  pub record RunsOn (old new : Around L) (before after : ℕ) (errors_old errors_new : Writer) (status : ℕ) : Type 0 where
+    pub ending : Ending
+    pub lives : LivesOrNot old new before after ending
+    pub tells : TellsOf (of_ending ending) errors_old errors_new
+    pub status_is : status ≡ status_of ending
+
+  -- Or nothing can run a task: this was written there, and the listener was not asked.
   abbrev pub ServesOn : Around L → Around L → Writer → Writer → ℕ → Type 0
   ServesOn old new errors_old errors_new status =
-      ((ending : Ending) × (pauses : ℕ) × LivesOrNot old new 0 pauses ending × TellsOf (of_ending ending) errors_old errors_new × (status ≡ status_of ending))
-      ⊎ ((new ≡ old) × Tells device_fault errors_old errors_new × (status ≡ 5))
+      ((pauses : ℕ) × RunsOn old new 0 pauses errors_old errors_new status) ⊎ ((new ≡ old) × Tells device_fault errors_old errors_new × (status ≡ 5))

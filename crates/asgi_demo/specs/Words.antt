@@ -55,6 +55,10 @@ IsServe words command = (port count name : List ℕ) × (rest : List (List ℕ))
 abbrev pub IsServing : List (List ℕ) → App → ℕ → Type 0
 IsServing words named workers = (port count : ℕ) × (w : Workers) × IsServe words (Serve port count named w) × (w.count ≡ workers)
 
+-- the words ask to serve this port, and this many connections
+abbrev pub IsServingAt : List (List ℕ) → ℕ → ℕ → Type 0
+IsServingAt words port count = (named : App) × (w : Workers) × IsServe words (Serve port count named w)
+
 -- the words ask for this
 abbrev pub Asks : List (List ℕ) → Command → Type 0
 Asks words (Once named) = IsOnce words named

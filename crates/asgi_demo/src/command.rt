@@ -1,5 +1,5 @@
 //! The command line.
-ghost use Rattle.std.specs.Prelude.{◌≡◌, ℕ, ◌⊎◌, ◌++◌, map, string_bytes};
+ghost use Rattle.std.specs.Prelude.{◌≡◌, ℕ, ◌⊎◌, ◌++◌, ◌∷◌, [], map, string_bytes};
 ghost use Rattle.std.specs.IoError.{error_kind};
 ghost use Rattle.std.specs.declared.io.ErrorKind.TheVariants.{OutOfMemory};
 ghost use Rattle.asgi_demo.specs.Command as spec;
@@ -7,7 +7,7 @@ ghost use Rattle.asgi_demo.specs.Command.{ServesOnce, ServesWhole, ServesPort, B
 ghost use Rattle.asgi_demo.specs.Serving.{around};
 ghost use Rattle.asgi_demo.specs.Telling as telling;
 ghost use Rattle.asgi_demo.specs.Telling.{Tells, TellsOf, writer};
-ghost use Rattle.asgi_demo.specs.Words.{Asks, IsOnce, IsServing};
+ghost use Rattle.asgi_demo.specs.Words.{Asks, IsOnce, IsServing, IsServingAt};
 ghost use Rattle.asgi_demo.specs.declared.words.App.{App};
 ghost use Rattle.asgi_demo.specs.declared.words.Command.{Command};
 
@@ -58,6 +58,7 @@ pub fn command<
         (writer E.Counts errors.new) }
     ensures kept { ((asked : Command) → ¬ (Asks (map string_bytes words.now) asked)) → (line.new ≡ line.old) × (listener.new ≡ listener.old) × (output.new ≡ output.old) }
     ensures port { (app : App) (workers : ℕ) → IsServing (map string_bytes words.now) app workers → line.new ≡ line.old }
+    ensures asked { (port count : ℕ) → IsServingAt (map string_bytes words.now) port count → N.Listener.own.asked listener.new ≡ N.Listener.own.asked listener.old ++ (port, count) ∷ [] }
     ensures once { (app : App) → IsOnce (map string_bytes words.now) app → (listener.new ≡ listener.old) × (output.new ≡ output.old) }
 {
     match command_of(words) {
@@ -111,11 +112,12 @@ fn serve_by<
     W: Counts + Send,
     E: Counts,
 >(rt: &H, app: App, workers: Workers, listener: &mut N, output: &mut W, errors: &mut E) -> u8
-    ensures { ServesPort L.state (promise app) workers.count (N.has_failed listener.new)
+    ensures serves { ServesPort L.state (promise app) workers.count (N.has_failed listener.new)
         (around (N.Listener.own.answers listener.old) (writer W.Counts output.old))
         (around (N.Listener.own.answers listener.new) (writer W.Counts output.new))
         (writer E.Counts errors.old)
         (writer E.Counts errors.new) result }
+    ensures asked { N.Listener.own.asked listener.new ≡ N.Listener.own.asked listener.old }
 {
     let limits = Limits::usual();
     match app {
@@ -181,7 +183,20 @@ fn once<H: RandomSource + AllocGlobal, A: Application, L: Line, E: Counts>(
     let Ok(solo) = Solo::new(rt, Doorbell::spinning()) else {
         return device_fault(errors);
     };
-    let report = serve(rt, &solo, app, line);
+    once_in(rt, &solo, app, line, errors)
+}
+
+/// The same, once there is what runs a task.
+fn once_in<H: AllocGlobal, A: Application, L: Line, E: Counts>(
+    rt: &H,
+    solo: &Solo,
+    app: &A,
+    line: &mut L,
+    errors: &mut E,
+) -> u8
+    ensures { ServesOnce (A.answers app.now) (streams (L.state line.old) (writer E.Counts errors.old)) (streams (L.state line.new) (writer E.Counts errors.new)) result }
+{
+    let report = serve(rt, solo, app, line);
     tell_end(report.outcome, errors)
 }
 

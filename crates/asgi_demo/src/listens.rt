@@ -1,5 +1,5 @@
 //! Where the program listens.
-ghost use Rattle.std.specs.Prelude.{◌≡◌};
+ghost use Rattle.std.specs.Prelude.{◌≡◌, ◌++◌, ◌∷◌, []};
 
 use asgi_server::{Accepts, Sockets};
 use std::net::Net;
@@ -9,7 +9,8 @@ use std::time::Clock;
 pub trait Listens: Accepts {
     /// Gives `count` connections of this port from here on.
     fn listen_on(&mut self, port: u16, count: u64)
-        ensures { Self.Listener.answers self.new ≡ Self.Listener.answers self.old };
+        ensures told { Self.Listener.answers self.new ≡ Self.Listener.answers self.old }
+        ensures asked { Self.Listener.asked self.new ≡ Self.Listener.asked self.old ++ (port, count) ∷ [] };
 }
 
 impl<'a, R: Net + Clock> Listens for Sockets<'a, R> {

@@ -1,6 +1,7 @@
 //! The server: its lifespan, its connections, and how it ended.
 ghost use Rattle.std.specs.Prelude.{◌≡◌, ◌&&◌, not, true, All, vec_len};
-ghost use Rattle.asgi_demo.specs.Serving.{LivesOrNot, ServesEach, ServesOn, around, ending_of, gave_all};
+ghost use Rattle.asgi_demo.specs.Serving.{LivesOrNot, RunsOn, ServesEach, ServesOn, around, ending_of, gave_all};
+ghost use Rattle.asgi_demo.specs.private.Following.{FollowsStart};
 ghost use Rattle.asgi_demo.specs.Telling.{writer};
 ghost use Rattle.asgi_types.specs.declared.limits.Limits.{Limits};
 
@@ -40,11 +41,12 @@ pub fn serve_on<
     output: &mut W,
     errors: &mut E,
 ) -> u8
-    ensures { ServesOn L.state (A.answers app.now) limits.now workers.count (N.has_failed listener.new)
+    ensures serves { ServesOn L.state (A.answers app.now) limits.now workers.count (N.has_failed listener.new)
         (around (N.Listener.own.answers listener.old) (writer W.Counts output.old))
         (around (N.Listener.own.answers listener.new) (writer W.Counts output.new))
         (writer E.Counts errors.old)
         (writer E.Counts errors.new) result }
+    ensures asked { N.Listener.own.asked listener.new ≡ N.Listener.own.asked listener.old }
 {
     let Ok(solo) = Solo::new(rt, Doorbell::spinning()) else {
         return device_fault(errors);
@@ -55,10 +57,46 @@ pub fn serve_on<
     let Ok(list) = stations::<T, H>(*rt, workers) else {
         return device_fault(errors);
     };
-    let mut cx = solo.begin();
     let mut pause = Napping::new(*rt, here);
+    run(
+        rt, limits, workers, app, listener, &solo, list, &mut pause, output, errors,
+    )
+}
+
+/// The same, once there is what runs a task, and a station for each worker.
+fn run<
+    H: Host + Sync,
+    T: AppTask + Send + 'static,
+    A: Application<Task = T> + Send + Sync,
+    L: Line + Drop + Send,
+    N: Accepts + Listener<L = L> + Send,
+    P: Pause,
+    W: Counts + Send,
+    E: Counts,
+>(
+    rt: &H,
+    limits: &Limits,
+    workers: Workers,
+    app: &A,
+    listener: &mut N,
+    solo: &Solo,
+    list: Vec<BesideStation<T, H>>,
+    pause: &mut P,
+    output: &mut W,
+    errors: &mut E,
+) -> u8
+    requires { (vec_len list ≡ workers.count) × All (λ s. s.pause.count ≡ 0) list.items }
+    ensures runs { RunsOn L.state (A.answers app.now) limits.now workers.count (N.has_failed listener.new)
+        (around (N.Listener.own.answers listener.old) (writer W.Counts output.old))
+        (around (N.Listener.own.answers listener.new) (writer W.Counts output.new))
+        (P.count pause.old) (P.count pause.new)
+        (writer E.Counts errors.old)
+        (writer E.Counts errors.new) result }
+    ensures asked { N.Listener.own.asked listener.new ≡ N.Listener.own.asked listener.old }
+{
+    let mut cx = solo.begin();
     let ending = live(
-        rt, limits, workers, app, listener, &mut cx, list, &mut pause, output,
+        rt, limits, workers, app, listener, &mut cx, list, pause, output,
     );
     cx.cancel();
     ending.tell(errors)
@@ -85,12 +123,47 @@ fn live<
     output: &mut W,
 ) -> Ending
     requires { (vec_len list ≡ workers.count) × All (λ s. s.pause.count ≡ 0) list.items }
-    ensures { LivesOrNot L.state (A.answers app.now) limits.now workers.count (N.has_failed listener.new)
+    ensures lives { LivesOrNot L.state (A.answers app.now) limits.now workers.count (N.has_failed listener.new)
         (around (N.Listener.own.answers listener.old) (writer W.Counts output.old))
         (around (N.Listener.own.answers listener.new) (writer W.Counts output.new))
         (P.count pause.old) (P.count pause.new) result }
+    ensures asked { N.Listener.own.asked listener.new ≡ N.Listener.own.asked listener.old }
 {
-    match Lifespan::start(rt.alloc(), app, limits, cx, pause) {
+    let answer = Lifespan::start(rt.alloc(), app, limits, cx, pause);
+    follow(
+        rt, limits, workers, app, answer, listener, cx, list, pause, output,
+    )
+}
+
+/// What comes after the start, by its answer: serves and stops the application if it started.
+fn follow<
+    H: Host + Sync,
+    T: AppTask + Send + 'static,
+    A: Application<Task = T> + Send + Sync,
+    L: Line + Drop + Send,
+    N: Accepts + Listener<L = L> + Send,
+    P: Pause,
+    W: Counts + Send,
+>(
+    rt: &H,
+    limits: &Limits,
+    workers: Workers,
+    app: &A,
+    answer: Start<T>,
+    listener: &mut N,
+    cx: &mut Context<'_>,
+    list: Vec<BesideStation<T, H>>,
+    pause: &mut P,
+    output: &mut W,
+) -> Ending
+    requires { (vec_len list ≡ workers.count) × All (λ s. s.pause.count ≡ 0) list.items }
+    ensures follows { FollowsStart L.state (A.answers app.now) limits.now workers.count (N.has_failed listener.new) answer
+        (around (N.Listener.own.answers listener.old) (writer W.Counts output.old))
+        (around (N.Listener.own.answers listener.new) (writer W.Counts output.new))
+        (P.count pause.old) (P.count pause.new) result }
+    ensures asked { N.Listener.own.asked listener.new ≡ N.Listener.own.asked listener.old }
+{
+    match answer {
         Start::Started(lifespan, state) => {
             let served = serve_each(rt, limits, workers, &state, app, listener, list, output);
             ending_of(served, lifespan.stop(cx, pause))
@@ -143,10 +216,11 @@ fn serve_each<
     output: &mut W,
 ) -> bool
     requires { (vec_len list ≡ workers.count) × All (λ s. s.pause.count ≡ 0) list.items }
-    ensures { ServesEach L.state (A.answers app.now) limits.now workers.count (N.has_failed listener.new) state.now
+    ensures served { ServesEach L.state (A.answers app.now) limits.now workers.count (N.has_failed listener.new) state.now
         (around (N.Listener.own.answers listener.old) (writer W.Counts output.old))
         (around (N.Listener.own.answers listener.new) (writer W.Counts output.new))
         result }
+    ensures asked { N.Listener.own.asked listener.new ≡ N.Listener.own.asked listener.old }
 {
     let lent = &mut *output;
     let printer = Printer {
@@ -187,6 +261,7 @@ fn serve_printing<
         (around (N.Listener.own.answers listener.new) (writer W.Counts result.1.output.now))
         result.0 }
     ensures same { result.1.output.ghost_name ≡ printer.entry.output.ghost_name }
+    ensures asked { N.Listener.own.asked listener.new ≡ N.Listener.own.asked listener.old }
 {
     let Shared {
         reports: _reports,

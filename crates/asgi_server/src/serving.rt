@@ -1,4 +1,5 @@
 //! One connection after another, in the caller's thread.
+ghost use Rattle.std.specs.Prelude.{◌≡◌};
 ghost use Rattle.asgi_server.specs.Connections.{ServesNext, IsServed, arrived};
 
 use crate::listener::Listener;
@@ -20,8 +21,9 @@ pub fn serve_next<H: AllocGlobal, A: Application, N: Listener, U: Runner<A::Task
     runner: &mut U,
     pause: &mut P,
 ) -> Option<Report>
-    ensures { ServesNext N.L.state (A.answers app.now) limits.now state.now (N.answers listener.old) (N.answers listener.new)
+    ensures serves { ServesNext N.L.state (A.answers app.now) limits.now state.now (N.answers listener.old) (N.answers listener.new)
         (P.count pause.old) (P.count pause.new) result }
+    ensures asked { N.asked listener.new ≡ N.asked listener.old }
 {
     let (line, client, server) = listener.next()?;
     Some(serve(

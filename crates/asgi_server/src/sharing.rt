@@ -1,5 +1,5 @@
 //! Many connections at the same time, each with one of several workers.
-ghost use Rattle.std.specs.Prelude.{◌≡◌, map, vec_len};
+ghost use Rattle.std.specs.Prelude.{◌≡◌, ℕ, List, map, vec_len};
 ghost use Rattle.asgi_desk.specs.Told.{Told};
 ghost use Rattle.asgi_crew.specs.Ran.{last_of};
 ghost use Rattle.asgi_crew.specs.Shared.{IsShared};
@@ -31,6 +31,10 @@ struct Serving<'a, H, A> {
 
 impl<'a, H, A, N: Listener> Asks<N, (N::L, Option<Peer>, Option<Peer>)> for Serving<'a, H, A> {
     ghost answers = { N.answers };
+
+    ghost Source = { List (ℕ × ℕ) };
+
+    ghost source = { N.asked };
 
     fn ask(&self, listener: &mut N) -> Option<(N::L, Option<Peer>, Option<Peer>)> {
         listener.next()
@@ -100,6 +104,7 @@ pub fn serve_all<
         (map (λ s. P.count s.pause) stations.items) (map (λ s. P.count s.pause) result.workers.items) result.reports.items }
     ensures told { Told K.tells teller result.teller result.reports.items }
     ensures no_thread { result.end ≡ NoThread → N.answers listener.new ≡ N.answers listener.old }
+    ensures asked { N.asked listener.new ≡ N.asked listener.old }
 {
     let _few = workers.count();
     let how = Serving {

@@ -1,5 +1,5 @@
 //! Connections from a socket of the system.
-ghost use Rattle.std.specs.Prelude.{◌≡◌, ◌+◌, ◌++◌, ◌∷◌, [], ◌⊎◌, true, false, List, Option, None, is_some, IfSome, IfNone, IfOk, IsOk};
+ghost use Rattle.std.specs.Prelude.{◌≡◌, ◌+◌, ◌++◌, ◌∷◌, [], ◌⊎◌, ℕ, true, false, List, Option, None, is_some, IfSome, IfNone, IfOk, IsOk};
 ghost use Rattle.asgi_server.specs.Arrivals.{Arrives, Binds};
 ghost use Rattle.asgi_server.specs.Connections.{Given};
 
@@ -38,6 +38,8 @@ pub struct Sockets<'a, R: Net + Clock> {
     waits: bool,
     listener: Option<R::Listener>,
     has_failed: bool,
+    // The ports, and how many connections of each.
+    asked: History<(u16, u64)>,
     calls: Calls<R::Stream>,
     told: History<Option<OverSocket<'a, R>>>,
 }
@@ -48,7 +50,9 @@ impl<'a, R: Net + Clock> Sockets<'a, R> {
     pub fn new(rt: &'a R, alloc: Global, port: u16, count: u64) -> Self
         ensures nothing { (result.told.items ≡ []) × (result.has_failed ≡ false) }
         ensures count { (result.left ≡ count) × (result.port ≡ port) }
+        ensures asked { result.asked.items ≡ (port, count) ∷ [] }
     {
+        let none = History::new();
         Sockets {
             rt,
             alloc,
@@ -57,6 +61,7 @@ impl<'a, R: Net + Clock> Sockets<'a, R> {
             waits: true,
             listener: None,
             has_failed: false,
+            asked: History::with(&none, &(port, count)),
             calls: Calls::new(),
             told: History::new(),
         }
@@ -67,6 +72,7 @@ impl<'a, R: Net + Clock> Sockets<'a, R> {
     pub fn non_blocking(rt: &'a R, alloc: Global, port: u16, count: u64) -> Self
         ensures nothing { (result.told.items ≡ []) × (result.has_failed ≡ false) }
         ensures count { (result.left ≡ count) × (result.port ≡ port) }
+        ensures asked { result.asked.items ≡ (port, count) ∷ [] }
     {
         let mut sockets = Sockets::new(rt, alloc, port, count);
         sockets.waits = false;
@@ -79,7 +85,9 @@ impl<'a, R: Net + Clock> Sockets<'a, R> {
         ensures told { self.new.told ≡ self.old.told }
         ensures count { (self.new.left ≡ count) × (self.new.port ≡ port) }
         ensures failed { self.new.has_failed ≡ self.old.has_failed }
+        ensures asked { self.new.asked.items ≡ self.old.asked.items ++ (port, count) ∷ [] }
     {
+        self.asked = History::with(&self.asked, &(port, count));
         self.port = port;
         self.left = count;
         self.listener = None;
@@ -91,6 +99,7 @@ impl<'a, R: Net + Clock> Sockets<'a, R> {
         ensures none { IfNone result ((self.new.left ≡ self.old.left) × ((self.old.left ≡ 0) ⊎ (self.new.has_failed ≡ true))) }
         ensures failed { self.old.has_failed ≡ true → result ≡ None }
         ensures told { self.new.told ≡ self.old.told }
+        ensures asked { (self.new.asked ≡ self.old.asked) × (self.new.port ≡ self.old.port) }
         ensures bound { IfSome result (λ _. Binds (is_some self.old.listener) self.old.port self.old.calls.bound.items self.new.calls.bound.items) }
         ensures arrives { IfSome result (λ given. Arrives self.old.calls.accepted.items self.new.calls.accepted.items self.old.calls.named.items self.new.calls.named.items given) }
     {
@@ -117,6 +126,7 @@ impl<'a, R: Net + Clock> Sockets<'a, R> {
         ensures told { self.new.told ≡ self.old.told }
         ensures left { (self.new.left ≡ self.old.left) × (self.new.has_failed ≡ self.old.has_failed) }
         ensures open { IsOk result → is_some self.new.listener ≡ true }
+        ensures asked { (self.new.asked ≡ self.old.asked) × (self.new.port ≡ self.old.port) }
         ensures bound { Binds (is_some self.old.listener) self.old.port self.old.calls.bound.items self.new.calls.bound.items }
         ensures others { (self.new.calls.accepted ≡ self.old.calls.accepted) × (self.new.calls.named ≡ self.old.calls.named) }
     {
@@ -131,6 +141,7 @@ impl<'a, R: Net + Clock> Sockets<'a, R> {
     fn accept_one(&mut self) -> io::Result<OverSocket<'a, R>>
         ensures told { self.new.told ≡ self.old.told }
         ensures left { (self.new.left ≡ self.old.left) × (self.new.has_failed ≡ self.old.has_failed) }
+        ensures asked { (self.new.asked ≡ self.old.asked) × (self.new.port ≡ self.old.port) }
         ensures bound { Binds (is_some self.old.listener) self.old.port self.old.calls.bound.items self.new.calls.bound.items }
         ensures arrives { IfOk result (λ given. Arrives self.old.calls.accepted.items self.new.calls.accepted.items self.old.calls.named.items self.new.calls.named.items given) }
     {
@@ -151,11 +162,15 @@ impl<'a, R: Net + Clock> Listener for Sockets<'a, R> {
 
     ghost answers = { λ s. s.told.items };
 
+    ghost asked = { λ s. s.asked.items };
+
     fn next(&mut self) -> Option<OverSocket<'a, R>>
         ensures told { self.new.told.items ≡ self.old.told.items ++ result ∷ [] }
         ensures some { IfSome result (λ _. (self.old.left ≡ self.new.left + 1) × (self.new.has_failed ≡ false)) }
         ensures none { IfNone result ((self.new.left ≡ self.old.left) × ((self.old.left ≡ 0) ⊎ (self.new.has_failed ≡ true))) }
         ensures failed { self.old.has_failed ≡ true → result ≡ None }
+        ensures asked { self.new.asked.items ≡ self.old.asked.items }
+        ensures port { self.new.port ≡ self.old.port }
         ensures bound { IfSome result (λ _. Binds (is_some self.old.listener) self.old.port self.old.calls.bound.items self.new.calls.bound.items) }
         ensures arrives { IfSome result (λ given. Arrives self.old.calls.accepted.items self.new.calls.accepted.items self.old.calls.named.items self.new.calls.named.items given) }
     {

@@ -26,13 +26,13 @@ fn address(port: u16) -> SocketAddr {
 }
 
 /// A port that nobody listens on.
-fn free_port<N: Net>(rt: &N) -> io::Result<u16> {
+pub fn free_port<N: Net>(rt: &N) -> io::Result<u16> {
     let listener = TcpListener::bind(rt, address(0))?;
     Ok(listener.local_addr()?.port())
 }
 
 /// Connects, once somebody listens.
-fn connect<N: Net + Clock>(rt: &N, port: u16) -> io::Result<N::Stream> {
+pub fn connect<N: Net + Clock>(rt: &N, port: u16) -> io::Result<N::Stream> {
     for _ in 0..TRIES {
         if let Ok(stream) = TcpStream::connect(rt, address(port)) {
             return Ok(stream);

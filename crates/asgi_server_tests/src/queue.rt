@@ -1,5 +1,5 @@
 //! Connections in memory, and workers that serve them.
-ghost use Rattle.std.specs.Prelude.{◌≡◌};
+ghost use Rattle.std.specs.Prelude.{◌≡◌, []};
 
 use asgi_apps::{AppTask, Application};
 use asgi_conn::{Host, Line, Outcome, Report};
@@ -54,6 +54,8 @@ impl<'a> Listener for Feed<'a> {
     type L = InMemory<'a>;
 
     ghost answers = { λ f. f.told.items };
+
+    ghost asked = { λ _. [] };
 
     fn next(&mut self) -> Option<(InMemory<'a>, Option<Peer>, Option<Peer>)> {
         let given = match self.pop() {

@@ -65,6 +65,7 @@ fn left_in(line: &Memory) -> usize {
 /// A listener that no connection comes from.
 #[derive(Drop)]
 struct Nowhere {
+    asked: History<(u16, u64)>,
     told: History<Option<(Memory<'static>, Option<Peer>, Option<Peer>)>>,
 }
 
@@ -72,6 +73,8 @@ impl Listener for Nowhere {
     type L = Memory<'static>;
 
     ghost answers = { λ n. n.told.items };
+
+    ghost asked = { λ n. n.asked.items };
 
     fn next(&mut self) -> Option<(Memory<'static>, Option<Peer>, Option<Peer>)> {
         let given = None;
@@ -89,7 +92,9 @@ impl Accepts for Nowhere {
 }
 
 impl Listens for Nowhere {
-    fn listen_on(&mut self, _port: u16, _count: u64) {}
+    fn listen_on(&mut self, port: u16, count: u64) {
+        self.asked = History::with(&self.asked, &(port, count));
+    }
 }
 
 /// Runs the program with a port that no connection comes from.
@@ -100,6 +105,7 @@ fn run<H: Host + Sync, L: Line, E: Counts>(
     errors: &mut E,
 ) -> u8 {
     let mut nowhere = Nowhere {
+        asked: History::new(),
         told: History::new(),
     };
     let mut output = Counted::new(Vec::new(rt.alloc()));

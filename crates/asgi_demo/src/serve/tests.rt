@@ -1,5 +1,5 @@
 //! A server of one connection at most, by how its application, its listener and its output do.
-ghost use Rattle.std.specs.Prelude.{◌≡◌, Bool};
+ghost use Rattle.std.specs.Prelude.{◌≡◌, Bool, []};
 
 use super::*;
 use asgi_apps::{AppFault, Life};
@@ -71,6 +71,8 @@ impl Listener for One {
     type L = Memory;
 
     ghost answers = { λ n. n.told.items };
+
+    ghost asked = { λ _. [] };
 
     fn next(&mut self) -> Option<(Memory, Option<Peer>, Option<Peer>)> {
         self.asked = self.asked.saturating_add(1);

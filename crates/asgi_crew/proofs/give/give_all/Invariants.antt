@@ -16,4 +16,5 @@ invariant-loop g l = record {
   count : length (view l.pass).given ≡ l.given;
   room : l.given ≤ vec_capacity l.all;
   none : l.all.items ≡ [];
+  source : g.E.Asks.source l.giver ≡ g.E.Asks.source l.fn.giver;
 }

@@ -40,7 +40,7 @@ pub returns-in-Ok-clause-ran : goal.returns-in-Ok-clause-ran
 returns-in-Ok-clause-ran g t c =
     let was : c.args.crew.items ≡ c.pop.new.self.items ++ c.in-Some.worker ∷ [] = search rules in
     let same : c.in-Ok.child.promise.worker.value ≡ c.in-Some.worker = search rules in
-    let same-how : c.in-Ok.child.promise.how.value ≡ c.args.how.now = search rules in
+    let same-how : c.in-Ok.child.promise.how.value ≡ c.args.how.now = ap (λ k. k.how.value) c.in-Ok.ensures.ok ∙ c.of.ensures in
     let worked = c.join-worked.result in let so_far = c.run-so_far.result in
     let turn = subst (λ (e : g.row.E.Denot). InTurn (g.E.Serves.serves e) c.in-Some.worker worked.worker (view worked.pass).taken (knows worked.seat).put) same-how
     (subst (λ (w : g.row.W.Denot). InTurn (g.E.Serves.serves c.in-Ok.child.promise.how.value) w worked.worker (view worked.pass).taken (knows worked.seat).put) same c.join-worked.ensures.3) in
