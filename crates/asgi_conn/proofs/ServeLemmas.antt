@@ -1,6 +1,5 @@
 -- A connection at its beginning, and what one step of it does.
-use Rattle.std.proofs.Common.{◌≡◌, ◌≢◌, ℕ, List, [], ◌∷◌, ◌++◌, ◌-◌, refl, sym, ap, ◌∙◌, append-nil, subst, Option, inl, inr}
-use Rattle.std.specs.Prelude.{◌+◌}
+use Rattle.std.proofs.Common.{◌≡◌, ◌≢◌, ℕ, List, [], ◌∷◌, ◌++◌, refl, sym, ap, ◌∙◌, append-nil, subst, Option}
 use Rattle.std.proofs.lemmas.List.Elements.{All-nil}
 use Rattle.asgi_types.specs.declared.facts.Facts.{Facts}
 use Rattle.asgi_types.specs.declared.facts.Framing.{Framing}
@@ -11,8 +10,6 @@ use Rattle.asgi_types.specs.declared.scope.Peer.{Peer}
 use Rattle.asgi_types.specs.declared.scope.Scope.{Scope}
 use Rattle.asgi_types.specs.declared.state.StateValue.{StateValue}
 use Rattle.asgi_types.specs.Scopes.{scope_with}
-use Rattle.asgi_io.specs.declared.turns.Turn.{Turn}
-use Rattle.asgi_io.specs.Turns.{CountsTurns}
 use Rattle.asgi_io.proofs.BytesLemmas.{Appends-nothing, Consumes-nothing, Keeps-same}
 use Rattle.asgi_io.proofs.CountLemmas.{never_fell}
 use Rattle.asgi_io.proofs.WriteLemmas.{no_parts, tries_all}
@@ -28,9 +25,7 @@ use Rattle.asgi_request.specs.Scopes.{scope_of}
 use Rattle.asgi_conversation.specs.Persistence.{RefusesWith}
 use Rattle.asgi_conversation.specs.declared.input.InputEnd.{InputEnd}
 use Rattle.asgi_conversation.specs.declared.input.InputEnd.TheVariants.{Open}
-use Rattle.asgi_conversation.specs.declared.report.Outcome.{Outcome}
-use Rattle.asgi_conversation.specs.declared.report.Outcome.TheVariants.{NoMemory, Idle}
-use Rattle.asgi_conversation.specs.declared.report.Report.{Report}
+use Rattle.asgi_conversation.specs.declared.report.Outcome.TheVariants.{NoMemory}
 use Rattle.asgi_conversation.specs.Exchanges.{requests_of}
 use Rattle.asgi_conversation.specs.ExchangeRecord.{ExchangeRecord}
 use Rattle.asgi_conversation.specs.Promised.{IsPromised, ArePromised}
@@ -42,14 +37,12 @@ use Rattle.asgi_conn.specs.declared.tally.Tally.{Tally}
 use Rattle.asgi_halves.specs.declared.wire.Wire.{Wire}
 use Rattle.asgi_halves.specs.Half.{Scene, WithinScene}
 use Rattle.asgi_halves.specs.Half as half
-use Rattle.asgi_run.specs.Limits.{IsAtLimit}
 use Rattle.asgi_run.specs.Lines as lines
 use Rattle.asgi_ws.specs.Lines.{LineState}
 use Rattle.asgi_apps.specs.Promises.{Promise}
 use Rattle.asgi_run.specs.Lines.{Transferred}
-use Rattle.asgi_conn.specs.Standing.{BetweenRequests, IsAt, IsTallied, IsServing, IsCounted, HasRoom, Stands, IsReportOf}
+use Rattle.asgi_conn.specs.Standing.{BetweenRequests, IsAt, IsTallied, IsServing}
 use Rattle.asgi_conn.specs.private.Loop.{IsAtRest}
-use Rattle.asgi_conn.specs.declared.connection.Connection.{Connection}
 use Rattle.asgi_types.specs.declared.end_kind.EndKind.{EndKind}
 use Rattle.asgi_types.specs.declared.incoming.Incoming.{Incoming}
 use Rattle.asgi_types.specs.declared.outgoing.Outgoing.{Outgoing}
@@ -57,7 +50,6 @@ use Rattle.asgi_pipes.specs.declared.ends.AppEnd as app_end
 use Rattle.asgi_pipes.specs.declared.ends.ConnEnd as conn_end
 use Rattle.asgi_run.specs.declared.runner.AppSide.{AppSide}
 use Rattle.asgi_halves.specs.ReadAhead.{ReadsAhead}
-use Rattle.asgi_conn.specs.Serving.{Serves}
 use Rattle.asgi_halves.specs.WebSocketHalf.{SessionScene, OpensHandshake}
 use Rattle.asgi_conn.proofs.BetweenLemmas as between
 use Rattle.asgi_halves.proofs.ReadAheadLemmas.{nothing_ahead, more_requests, heads_more}

@@ -1,5 +1,5 @@
 -- What a turn of a connection does to where it stands.
-use Rattle.std.proofs.Common.{◌≡◌, ◌≢◌, ℕ, ◌+◌, ◌≤◌, ◌<◌, ◌^◌, ◌⊎◌, inl, inr, List, [], ◌∷◌, ◌++◌, arith, refl, sym, ap, ◌∙◌, append-nil, append_assoc, subst, Option, Some, None, true, false}
+use Rattle.std.proofs.Common.{◌≡◌, ◌≢◌, ℕ, ◌+◌, ◌≤◌, ◌^◌, ◌⊎◌, inl, inr, List, [], ◌∷◌, ◌++◌, arith, refl, sym, ap, ◌∙◌, subst, Option, Some, true, false}
 use Rattle.std.specs.Prelude.{length}
 use Rattle.asgi_types.specs.declared.end_kind.EndKind.{EndKind}
 use Rattle.asgi_types.specs.declared.facts.Facts.{Facts}
@@ -16,7 +16,7 @@ use Rattle.asgi_io.specs.declared.turns.Turns.{Turns}
 use Rattle.asgi_io.specs.Turns.{CountsTurns}
 use Rattle.asgi_apps.proofs.PauseLemmas.{counts_more}
 use Rattle.asgi_apps.specs.Promises.{Promise}
-use Rattle.asgi_request.specs.Reading.{Reading, StandsFor, AllGiven}
+use Rattle.asgi_request.specs.Reading.{StandsFor, AllGiven}
 use Rattle.asgi_request.specs.declared.next.Next.{Next}
 use Rattle.asgi_pipes.specs.declared.ends.AppEnd as app_end
 use Rattle.asgi_pipes.specs.declared.ends.ConnEnd as conn_end
@@ -28,7 +28,6 @@ use Rattle.asgi_conversation.specs.declared.report.Outcome.{Outcome}
 use Rattle.asgi_conversation.specs.declared.report.Outcome.TheVariants.{Idle, NoMemory}
 use Rattle.asgi_conversation.specs.declared.report.Report.{Report}
 use Rattle.asgi_conversation.specs.Exchanges.{fault_of, requests_of}
-use Rattle.asgi_conversation.specs.ExchangeRecord.{ExchangeRecord}
 use Rattle.asgi_conversation.specs.Promised.{ArePromised}
 use Rattle.asgi_run.specs.AnyHalf.{PreservesOn}
 use Rattle.asgi_run.specs.declared.exchange_half.Half as any_half
@@ -42,7 +41,7 @@ use Rattle.asgi_halves.specs.declared.session_half.WebSocketHalf.{WebSocketHalf}
 use Rattle.asgi_halves.specs.declared.stage.Stage.{Stage}
 use Rattle.asgi_halves.specs.declared.stage.Stage.TheVariants.{Over, Running, Ending, Cut}
 use Rattle.asgi_halves.specs.declared.wire.Wire.{Wire}
-use Rattle.asgi_halves.specs.Half.{Scene, Opens, Invariant}
+use Rattle.asgi_halves.specs.Half.{Scene, Invariant}
 use Rattle.asgi_halves.specs.Kinds.{following_of}
 use Rattle.asgi_halves.specs.ReadAhead.{ReadsAhead}
 use Rattle.asgi_halves.specs.WebSocketHalf as session

@@ -1,4 +1,3 @@
-use Rattle.std.proofs.Common.{refl}
 use Rattle.asgi_request.specs.declared.next.Next.TheVariants.{Head, Event, Whole, Bad}
 use Rattle.asgi_conn.proofs.ServeLemmas as lemma
 use Rattle.asgi_conn.proofs.between.next.Goals as goal

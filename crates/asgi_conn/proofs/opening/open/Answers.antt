@@ -1,4 +1,4 @@
-use Rattle.std.proofs.Common.{◌≡◌, ℕ, List, inl, refl, subst}
+use Rattle.std.proofs.Common.{ℕ, List, inl, refl, subst}
 use Rattle.asgi_conversation.specs.declared.report.Outcome.TheVariants.{NoMemory}
 use Rattle.asgi_conversation.specs.Exchanges.{requests_of}
 use Rattle.asgi_halves.specs.ReadAhead.{ReadsAhead}

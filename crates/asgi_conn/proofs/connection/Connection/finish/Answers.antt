@@ -1,8 +1,8 @@
-use Rattle.std.proofs.Common.{◌≡◌, sym, ◌∙◌, subst, inr}
+use Rattle.std.proofs.Common.{sym, ◌∙◌, subst, inr}
 use Rattle.asgi_conn.specs.declared.place.Place.{Place}
 use Rattle.asgi_conn.specs.declared.place.Place.TheVariants as place
 use Rattle.asgi_conn.specs.Standing.{IsServing, IsCounted}
-use Rattle.asgi_conn.specs.private.Loop.{IsDue, IsDueOrBetween, IsOver, IsNext, IsGoing}
+use Rattle.asgi_conn.specs.private.Loop.{IsDue, IsDueOrBetween, IsOver, IsNext}
 use Rattle.asgi_conn.proofs.TurnLemmas as lemma
 use Rattle.asgi_conn.proofs.connection.Connection.finish.Goals as goal
 

@@ -1,7 +1,6 @@
-use Rattle.std.proofs.Common.{◌≡◌, sym, ◌∙◌, subst}
+use Rattle.std.proofs.Common.{sym, subst}
 use Rattle.asgi_conn.specs.declared.place.Place.{Place}
-use Rattle.asgi_conn.specs.declared.place.Place.TheVariants as place
-use Rattle.asgi_conn.specs.Standing.{IsServing, IsCounted, Stands}
+use Rattle.asgi_conn.specs.Standing.{IsServing, IsCounted}
 use Rattle.asgi_conn.specs.private.Loop.{IsNext}
 use Rattle.asgi_conn.proofs.TurnLemmas as lemma
 use Rattle.asgi_conn.proofs.connection.Connection.go_on.Goals as goal

@@ -1,4 +1,4 @@
-use Rattle.std.proofs.Common.{◌≡◌, sym, ◌∙◌, subst, inl, refl}
+use Rattle.std.proofs.Common.{sym, subst, inl}
 use Rattle.asgi_conn.specs.declared.place.Place.{Place}
 use Rattle.asgi_conn.specs.declared.place.Place.TheVariants as place
 use Rattle.asgi_conn.specs.Standing.{IsServing, TakesTurn}

@@ -1,4 +1,4 @@
-use Rattle.std.proofs.Common.{◌≡◌, sym, ap, ◌∙◌, subst, refl}
+use Rattle.std.proofs.Common.{sym, ap, subst, refl}
 use Rattle.asgi_conn.specs.declared.connection.Step.TheVariants as step
 use Rattle.asgi_conn.specs.declared.tally.Tally.{Tally}
 use Rattle.asgi_conn.specs.Standing.{IsCounted}
