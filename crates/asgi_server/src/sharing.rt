@@ -8,17 +8,13 @@ ghost use Rattle.asgi_server.specs.Connections.{served_by, arrived, IsServed};
 
 use crate::listener::Listener;
 use crate::serving::serve;
-use crate::station::Station;
+use crate::station::BesideStation;
 use asgi_apps::{AppTask, Application};
-use asgi_conn::{Report, Runner};
+use asgi_conn::{Host, Report};
 use asgi_crew::{Asks, Serves, Shared, Teller, Workers, share};
-use asgi_io::Pause;
-use asgi_pipes::{AppEnd, ConnEnd, Pipes};
 use asgi_types::{Limits, Peer, State};
 use asgi_ws::Line;
 use std::alloc::AllocGlobal;
-use std::sync::Wait;
-use std::thread::Threads;
 
 /// What all workers borrow: the limits, the state and the application.
 #[derive(Drop)]
@@ -43,17 +39,21 @@ impl<'a, H, A, N: Listener> Asks<N, (N::L, Option<Peer>, Option<Peer>)> for Serv
 
 impl<
     'a,
+    R: Host,
     H: AllocGlobal,
-    A: Application,
+    T: AppTask + Send + 'static,
+    A: Application<Task = T>,
     L: Line + Drop,
-    U: Runner<A::Task> + Drop,
-    P: Pause + Drop,
-> Serves<Station<U, P>, (L, Option<Peer>, Option<Peer>)> for Serving<'a, H, A> {
+> Serves<BesideStation<T, R>, (L, Option<Peer>, Option<Peer>)> for Serving<'a, H, A> {
     type Report = Report;
 
-    ghost serves = { λ how was is given report. served_by L.state (A.answers how.app.now) how.limits.now how.state.now (P.count was.pause) (P.count is.pause) given report };
+    ghost serves = { λ how was is given report. served_by L.state (A.answers how.app.now) how.limits.now how.state.now was.pause.count is.pause.count given report };
 
-    fn serve(&self, station: &mut Station<U, P>, given: (L, Option<Peer>, Option<Peer>)) -> Report {
+    fn serve(
+        &self,
+        station: &mut BesideStation<T, R>,
+        given: (L, Option<Peer>, Option<Peer>),
+    ) -> Report {
         let (line, client, server) = given;
         serve(
             self.rt,
@@ -77,17 +77,11 @@ impl<
 /// worker is refused its thread, the listener is not asked (`NoThread`). If memory for one more report is refused, no
 /// more connections are asked for, and those given are served (`NoMemory`): so none that was given is left unserved.
 pub fn serve_all<
-    H: Threads + Wait + AllocGlobal + Send + Sync,
-    T: AppTask + Send,
+    H: Host + Sync,
+    T: AppTask + Send + 'static,
     A: Application<Task = T> + Send + Sync,
     L: Line + Drop + Send,
     N: Listener<L = L> + Send,
-    C: ConnEnd + Send,
-    E: AppEnd + Send,
-    Q: Pipes<Conn = C, App = E> + Drop + Send,
-    X: Send,
-    U: Runner<T, Pipes = Q, Exchange = X> + Drop + Send,
-    P: Pause + Drop + Send,
     K: Teller<Report> + Drop + Send,
 >(
     rt: &H,
@@ -96,12 +90,12 @@ pub fn serve_all<
     app: &A,
     listener: &mut N,
     workers: Workers,
-    stations: Vec<Station<U, P>>,
+    stations: Vec<BesideStation<T, H>>,
     teller: K,
-) -> Shared<Report, Station<U, P>, K>
+) -> Shared<Report, BesideStation<T, H>, K>
     requires { vec_len stations ≡ workers.count }
     ensures served { IsShared (served_by L.state (A.answers app.now) limits.now state.now) (N.answers listener.old) (N.answers listener.new) (last_of result.end)
-        (map (λ s. P.count s.pause) stations.items) (map (λ s. P.count s.pause) result.workers.items) result.reports.items }
+        (map (λ s. s.pause.count) stations.items) (map (λ s. s.pause.count) result.workers.items) result.reports.items }
     ensures told { Told K.tells teller result.teller result.reports.items }
     ensures no_thread { result.end ≡ NoThread → N.answers listener.new ≡ N.answers listener.old }
     ensures asked { N.asked listener.new ≡ N.asked listener.old }
