@@ -27,13 +27,7 @@ struct Taken {
 }
 
 /// Takes at most this many turns, and one more after the report.
-fn take_turns<
-    A: Application,
-    L: Line,
-    X: Drop,
-    U: Runner<A::Task, Exchange = X>,
-    P: Pause,
->(
+fn take_turns<A: Application, L: Line, X: Drop, U: Runner<A::Task, Exchange = X>, P: Pause>(
     alloc: Global,
     limits: &Limits,
     setting: &Setting<'_, A>,
