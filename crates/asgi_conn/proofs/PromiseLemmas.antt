@@ -12,8 +12,7 @@ use Rattle.asgi_apps.specs.declared.running.Lent.{Lent}
 use Rattle.asgi_apps.specs.Ends.{own_end}
 use Rattle.asgi_exchange.specs.Items.{end_of, events_of}
 use Rattle.asgi_exchange.specs.Views.{AppView, said_of}
-use Rattle.asgi_exchange.proofs.EventLemmas.{events_are}
-use Rattle.asgi_exchange.proofs.CallLemmas.{end_is}
+use Rattle.asgi_exchange.proofs.EventLemmas.{events_are, end_is}
 use Rattle.asgi_conversation.specs.Exchanges.{fault_of, fault_count}
 use Rattle.asgi_conversation.specs.ExchangeRecord.{ExchangeRecord}
 use Rattle.asgi_run.specs.declared.runner.AppSide.{AppSide}

@@ -72,6 +72,11 @@ events_are [] None = refl
 events_are [] (Some kind) = refl
 events_are (e ∷ said) ended = ap (λ (l : List Outgoing). e ∷ l) (events_are said ended)
 
+pub end_is : (said : List Outgoing) (ended : Option EndKind) → end_of (items_of said ended) ≡ ended
+end_is [] None = refl
+end_is [] (Some kind) = refl
+end_is (e ∷ said) ended = end_is said ended
+
 pub items_in_order : (said : List Outgoing) (ended : Option EndKind) → IsOrdered (items_of said ended)
 items_in_order [] None = tt
 items_in_order [] (Some kind) = refl

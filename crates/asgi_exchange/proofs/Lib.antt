@@ -13,5 +13,4 @@ pub mod ResultLemmas
 pub mod MessageLemmas
 pub mod LeftOutLemmas
 pub mod MeetLemmas
-pub mod CallLemmas
 pub mod GoesOnLemmas

@@ -1,14 +1,8 @@
 //! The calls of a plain pair, each with its result.
-ghost use Rattle.std.specs.Prelude.{◌≡◌, ℕ, false, None};
+ghost use Rattle.std.specs.Prelude.{◌≡◌, false, None};
 ghost use Rattle.asgi_pipes.specs.PlainPairs.{IsPlainPair};
-ghost use Rattle.asgi_exchange.specs.Calls.{IsViewOf};
-ghost use Rattle.asgi_exchange.specs.Exchange.{Exchange};
-ghost use Rattle.asgi_exchange.specs.Items.{end_of};
-ghost use Rattle.asgi_exchange.specs.Schedules.{ConnGoesOn};
-ghost use Rattle.asgi_exchange.specs.Views.{ConnView};
 
-use asgi_exchange::calls;
-use asgi_pipes::{AppEnd, ConnEnd, EndKind, OutItem, Plain, PlainApp, PlainConn, Sent};
+use asgi_pipes::{AppEnd, ConnEnd, EndKind, OutItem, Pipes, Plain, PlainApp, PlainConn, Sent};
 use asgi_types::{Facts, Framing, Headers, HttpVersion, Incoming, Kind, Names, Octets, Outgoing};
 use futures::task::{Context, Doorbell, Poll, Solo};
 use std::alloc::{AllocError, Global};
@@ -20,7 +14,6 @@ enum Call {
     Offer(u8),
     Break,
     Take,
-    TakeEvents,
     Receive,
     Start(u16),
     LastBody(u8),
@@ -37,7 +30,6 @@ pub(crate) enum Answer {
     Body(usize),
     Disconnect,
     Start(u16),
-    Events(u8),
     Ended,
     Ignored,
     Refused(u8),
@@ -64,7 +56,8 @@ const CALLS: &[(Call, Answer)] = &[
     (Call::Finish, Answer::No),
     (Call::Carry, Answer::Nothing),
     (Call::Take, Answer::Start(200)),
-    (Call::TakeEvents, Answer::Events(1)),
+    (Call::Take, Answer::Body(7)),
+    (Call::Take, Answer::Ended),
     (Call::Take, Answer::Nothing),
 ];
 
@@ -80,18 +73,15 @@ pub(crate) struct Pair {
 
 impl Pair {
     fn offer(&mut self, event: Incoming) -> Answer {
-        yes_or_no(calls::offer::<u8, u8, PlainConn>(&mut self.conn, event).is_ok())
+        yes_or_no(self.conn.offer(event).is_ok())
     }
 
     fn break_off(&mut self) -> Answer {
-        yes_or_no(calls::offer_disconnect::<u8, u8, PlainConn>(
-            &mut self.conn,
-            Incoming::HttpDisconnect,
-        ))
+        yes_or_no(self.conn.offer_disconnect(Incoming::HttpDisconnect))
     }
 
     fn take(&mut self) -> Answer {
-        match calls::take::<u8, u8, PlainConn>(&mut self.conn) {
+        match self.conn.take() {
             Some(OutItem::Event(event)) => shown(&event),
             Some(OutItem::Ended(_)) => Answer::Ended,
             None => Answer::Nothing,
@@ -99,7 +89,7 @@ impl Pair {
     }
 
     fn receive(&mut self, cx: &mut Context<'_>) -> Answer {
-        match calls::poll_receive::<u8, u8, PlainApp>(&mut self.app, cx) {
+        match self.app.poll_receive(cx) {
             Poll::Ready(event) => shown_heard(&event),
             Poll::Pending => Answer::Nothing,
         }
@@ -109,13 +99,13 @@ impl Pair {
         if self.finished {
             return Answer::Nothing;
         }
-        let sent = calls::poll_send::<u8, u8, PlainApp>(&mut self.app, cx, event);
+        let sent = self.app.poll_send(cx, event);
         shown_sent(&sent)
     }
 
     fn finish(&mut self) -> Answer {
         self.finished = true;
-        yes_or_no(calls::finish::<PlainApp>(&mut self.app, EndKind::Returned))
+        yes_or_no(self.app.finish(EndKind::Returned))
     }
 
     pub(crate) fn carry(&mut self) -> Answer {
@@ -195,7 +185,6 @@ fn answer_at(
         Call::Offer(byte) => Ok(pair.offer(body_heard(alloc, byte)?)),
         Call::Break => Ok(pair.break_off()),
         Call::Take => Ok(pair.take()),
-        Call::TakeEvents => Ok(Answer::Events(take_events(&mut pair.conn, 9))),
         Call::Receive => Ok(pair.receive(cx)),
         Call::Start(status) => Ok(pair.say(cx, start(alloc, status))),
         Call::LastBody(byte) => Ok(pair.say(cx, last_body(alloc, byte)?)),
@@ -227,7 +216,7 @@ fn run_fresh(alloc: Global, solo: &Solo) -> Result<Other, AllocError> {
 }
 
 fn pair_of(alloc: Global) -> Result<Pair, AllocError> {
-    let (conn, app) = calls::make::<u8, u8, Plain>(&Plain, alloc, Kind::Http, facts(alloc), 2)?;
+    let (conn, app) = Plain.make(alloc, Kind::Http, facts(alloc), 2)?;
     Ok(Pair {
         conn,
         app,
@@ -245,21 +234,6 @@ pub(crate) fn facts(alloc: Global) -> Facts {
         key: [0; 24],
         subprotocols: Names::new(alloc),
     }
-}
-
-/// Takes the waiting events, up to the end. Such a loop carries its view from call to call.
-fn take_events<C: ConnEnd>(conn: &mut C, most: u8) -> u8
-    ensures tag { C.tag conn.new ≡ C.tag conn.old }
-    ensures goes_on { (x : Exchange ℕ ℕ) (view : ConnView ℕ ℕ) → IsViewOf C.ConnEnd conn.old view → end_of view.got ≡ None
-        → (new : ConnView ℕ ℕ) × ConnGoesOn x view new × IsViewOf C.ConnEnd conn.new new }
-{
-    for taken in 0..most {
-        match calls::take::<u8, u8, C>(conn) {
-            Some(OutItem::Event(_)) => {}
-            _ => return taken,
-        }
-    }
-    most
 }
 
 #[test]

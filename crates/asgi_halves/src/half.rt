@@ -74,6 +74,7 @@ impl HttpHalf {
             → (written : List ℕ) × Invariant scene (L.state line.new) result read (record empty_conn { arrived = arrived; written = written }) }
         ensures limits { result.wire.limits ≡ wire.limits }
         ensures open { (following : NextStep) → result.stage ≢ Stage.Over following }
+        ensures unread { ReadsNone (L.state line.old) (L.state line.new) }
     {
         let mut half = HttpHalf {
             wire,

@@ -12,8 +12,7 @@ use Rattle.asgi_apps.specs.Ends.{MayGoOn, IsWithin, own_end}
 use Rattle.asgi_exchange.specs.Calls.{IsExchangeOf, view_of}
 use Rattle.asgi_exchange.specs.Exchange.{Exchange}
 use Rattle.asgi_exchange.specs.Items.{events_of, end_of}
-use Rattle.asgi_exchange.proofs.EventLemmas.{events_are}
-use Rattle.asgi_exchange.proofs.CallLemmas.{end_is}
+use Rattle.asgi_exchange.proofs.EventLemmas.{events_are, end_is}
 use Rattle.asgi_io.specs.declared.turns.Turns.{Turns}
 use Rattle.asgi_conversation.specs.declared.following.NextStep.{NextStep}
 use Rattle.asgi_conversation.specs.declared.following.NextStep.TheVariants.{NextRequest, ConnectionEnds}
