@@ -7,3 +7,4 @@ pub mod BetweenLemmas
 pub mod SessionServeLemmas
 pub mod ServeLemmas
 pub mod TurnLemmas
+pub mod CallLemmas

@@ -191,3 +191,16 @@ IsReportOf connection report =
 -- one turn was taken, of the same limit
 abbrev pub TakesOne : {X : Type 0} → Connection X → Connection X → Type 0
 TakesOne old new = (new.tally.turns.turns ≡ old.tally.turns.turns + 1) × (new.tally.turns.turn_limit ≡ old.tally.turns.turn_limit)
+
+-- ---- the calls of the application
+
+-- an exchange was begun here, and is not counted yet
+abbrev pub begun_at : {X : Type 0} → Place X → ℕ
+begun_at (place.Between wire) = 0
+begun_at (place.Http half exchange) = 1
+begun_at (place.Session half exchange) = 1
+begun_at (place.Ended outcome) = 0
+
+-- the exchanges that a connection has begun: those that it has counted, and the one that it is in
+abbrev pub exchanges_of : {X : Type 0} → Connection X → ℕ
+exchanges_of connection = connection.tally.exchanges + begun_at connection.place

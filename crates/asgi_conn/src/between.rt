@@ -1,5 +1,5 @@
 //! Between two requests: the reader's next result, and what it calls for.
-ghost use Rattle.std.specs.Prelude.{◌≡◌, ◌≢◌, ◌⊎◌, ◌↔◌, ◌++◌, ℕ, List, Option, true, IsTrue, IfOk};
+ghost use Rattle.std.specs.Prelude.{◌≡◌, ◌≢◌, ◌⊎◌, ◌↔◌, ◌++◌, ◌+◌, ℕ, List, length, Option, true, IsTrue, IfOk};
 ghost use Rattle.asgi_types.specs.declared.limits.Limits.{Limits};
 ghost use Rattle.asgi_types.specs.declared.scope.Peer.{Peer};
 ghost use Rattle.asgi_types.specs.declared.state.StateValue.{StateValue};
@@ -13,14 +13,15 @@ ghost use Rattle.asgi_conversation.specs.ExchangeRecord.{ExchangeRecord};
 ghost use Rattle.asgi_conversation.specs.Persistence.{RefusesWith};
 ghost use Rattle.asgi_conversation.specs.TaskEnds.{has_ended};
 ghost use Rattle.asgi_ws.specs.Lines.{LineState};
+ghost use Rattle.asgi_halves.specs.Kinds.{ReadsNone};
 ghost use Rattle.asgi_run.specs.Limits.{IsAtLimit};
-ghost use Rattle.asgi_conn.specs.Standing.{BetweenRequests, EndsSo, IsServing};
-ghost use Rattle.asgi_conn.specs.private.Loop.{IsAtRest, IsNext};
+ghost use Rattle.asgi_conn.specs.Standing.{BetweenRequests, EndsSo, IsServing, begun_at};
+ghost use Rattle.asgi_conn.specs.private.Loop.{IsAtRest, IsNext, IsFree};
 
 use crate::opening::{answer, open};
 use crate::place::{Place, Setting};
 use crate::tally::Tally;
-use asgi_apps::Application;
+use asgi_apps::{Application, Calls};
 use asgi_conversation::{InputEnd, Outcome};
 use asgi_halves::{Wire, write};
 use asgi_io::Turns;
@@ -34,20 +35,24 @@ use std::alloc::{AllocError, Global};
 /// Asks the reader for its next result, and does what that calls for and takes no turn.
 pub(crate) fn next<A: Application, L: Line, X, U: Runner<A::Task, Exchange = X>>(
     wire: Wire,
-    setting: &Setting<'_, A>,
+    setting: &Setting<'_>,
+    calls: &mut Calls<'_, A>,
     tally: &Tally,
     line: &mut L,
     runner: &mut U,
 ) -> Place<X>
     requires { (limits : Limits) × (start : LineState)
-        × IsServing A.Task.answers U.Pipes.Conn.ConnEnd U.Pipes.App.AppEnd U.conn U.began (A.answers setting.now.app.now)
+        × IsServing A.Task.answers U.Pipes.Conn.ConnEnd U.Pipes.App.AppEnd U.conn U.began (A.answers calls.old.app.now)
         limits setting.now.client.now setting.now.server.now setting.now.state.now start (L.state line.old) tally.now (Place.Between wire) }
     ensures serves { (limits : Limits) (start : LineState)
-        → IsServing A.Task.answers U.Pipes.Conn.ConnEnd U.Pipes.App.AppEnd U.conn U.began (A.answers setting.now.app.now)
+        → IsServing A.Task.answers U.Pipes.Conn.ConnEnd U.Pipes.App.AppEnd U.conn U.began (A.answers calls.old.app.now)
         limits setting.now.client.now setting.now.server.now setting.now.state.now start (L.state line.old) tally.now (Place.Between wire)
-        → IsServing A.Task.answers U.Pipes.Conn.ConnEnd U.Pipes.App.AppEnd U.conn U.began (A.answers setting.now.app.now)
+        → IsServing A.Task.answers U.Pipes.Conn.ConnEnd U.Pipes.App.AppEnd U.conn U.began (A.answers calls.old.app.now)
         limits setting.now.client.now setting.now.server.now setting.now.state.now start (L.state line.new) tally.now result }
+    ensures unread { ReadsNone (L.state line.old) (L.state line.new) }
     ensures next { IsNext result tally.now.turns }
+    ensures called { length calls.new.scopes.items ≡ length calls.old.scopes.items + begun_at result }
+    ensures same { calls.new.app.now ≡ calls.old.app.now }
 {
     let mut wire = wire;
     match wire.requests.next() {
@@ -59,9 +64,9 @@ pub(crate) fn next<A: Application, L: Line, X, U: Runner<A::Task, Exchange = X>>
                 return Place::Ended(Outcome::NoMemory);
             };
             if let Framing::Upgrade = facts.framing {
-                return open(wire, &scope, facts, setting, &tally.turns, line, runner);
+                return open(wire, &scope, facts, calls, &tally.turns, line, runner);
             }
-            answer(wire, &scope, facts, setting, &tally.turns, line, runner)
+            answer(wire, &scope, facts, calls, &tally.turns, line, runner)
         }
         Ok(Next::Event(_)) => unreachable!(),
         Ok(Next::Whole) => unreachable!(),
@@ -69,11 +74,7 @@ pub(crate) fn next<A: Application, L: Line, X, U: Runner<A::Task, Exchange = X>>
 }
 
 /// The scope with what the connection knows, in memory of its own.
-fn scope_of<A: Application>(
-    alloc: Global,
-    scope: Scope,
-    setting: &Setting<'_, A>,
-) -> Result<Scope, AllocError>
+fn scope_of(alloc: Global, scope: Scope, setting: &Setting<'_>) -> Result<Scope, AllocError>
     ensures { IfOk result (λ whole. whole ≡ scope_with scope setting.now.client.now setting.now.server.now setting.now.state.now) }
 {
     let ConnInfo {
@@ -129,6 +130,7 @@ fn wait<X>(wire: Wire, turns: &Turns) -> Place<X>
     ensures waits { (limits : Limits) (start now : LineState) (read : List ℕ) (given : List Next) (exchanges : List ExchangeRecord) (after written : List ℕ)
         → BetweenRequests limits start now wire read given exchanges after written → AllGiven wire.requests read given → IsAtRest result limits start now read exchanges written }
     ensures next { IsNext result turns.now }
+    ensures free { IsFree result }
 {
     if wire.input.has_ended() {
         return Place::Ended(at_end(&wire));
@@ -173,7 +175,9 @@ fn refuse<L: Line, X>(status: u16, line: &mut L) -> Place<X>
     ensures refuses { (limits : Limits) (start : LineState) (wire : Wire) (read : List ℕ) (given : List Next) (exchanges : List ExchangeRecord) (after written : List ℕ)
         → BetweenRequests limits start (L.state line.old) wire read given exchanges after written → RefusesWith limits after status
         → (text : List ℕ) × IsAtRest result limits start (L.state line.new) read exchanges (written ++ text) }
+    ensures unread { ReadsNone (L.state line.old) (L.state line.new) }
     ensures next { (turns : Turns) → IsNext result turns }
+    ensures free { IsFree result }
 {
     match write(line, refusal_text(status)) {
         None => Place::Ended(Outcome::Refused(status)),

@@ -1,5 +1,5 @@
 //! An exchange is ended, and its connection goes to the next request or ends.
-ghost use Rattle.std.specs.Prelude.{◌≡◌, ◌≤◌, ◌^◌, ◌⊎◌, ℕ, List, Option};
+ghost use Rattle.std.specs.Prelude.{◌≡◌, ◌+◌, ◌≤◌, ◌^◌, ◌⊎◌, ℕ, List, Option};
 ghost use Rattle.asgi_types.specs.declared.limits.Limits.{Limits};
 ghost use Rattle.asgi_conversation.specs.declared.following.NextStep.{NextStep};
 ghost use Rattle.asgi_ws.specs.Lines.{LineState};
@@ -18,19 +18,20 @@ use asgi_run::Runner;
 pub(crate) fn end_request<A: Application, X, U: Runner<A::Task, Exchange = X>>(
     half: HttpHalf,
     exchange: X,
-    setting: &Setting<'_, A>,
+    setting: &Setting<'_>,
     tally: &mut Tally,
     runner: &mut U,
 ) -> Place<X>
     requires room { tally.old.exchanges ≤ 2 ^ 48 }
-    requires stands { (limits : Limits) × (start now : LineState) × IsServing A.Task.answers U.Pipes.Conn.ConnEnd U.Pipes.App.AppEnd U.conn U.began (A.answers setting.now.app.now)
+    requires stands { (app : A) × (limits : Limits) × (start now : LineState) × IsServing A.Task.answers U.Pipes.Conn.ConnEnd U.Pipes.App.AppEnd U.conn U.began (A.answers app)
         limits setting.now.client.now setting.now.server.now setting.now.state.now start now tally.old (Place.Http half exchange) }
-    ensures serves { (limits : Limits) (start now : LineState) → IsServing A.Task.answers U.Pipes.Conn.ConnEnd U.Pipes.App.AppEnd U.conn U.began (A.answers setting.now.app.now)
+    ensures serves { (app : A) (limits : Limits) (start now : LineState) → IsServing A.Task.answers U.Pipes.Conn.ConnEnd U.Pipes.App.AppEnd U.conn U.began (A.answers app)
         limits setting.now.client.now setting.now.server.now setting.now.state.now start now tally.old (Place.Http half exchange)
-        → IsServing A.Task.answers U.Pipes.Conn.ConnEnd U.Pipes.App.AppEnd U.conn U.began (A.answers setting.now.app.now)
+        → IsServing A.Task.answers U.Pipes.Conn.ConnEnd U.Pipes.App.AppEnd U.conn U.began (A.answers app)
         limits setting.now.client.now setting.now.server.now setting.now.state.now start now tally.new result }
     ensures counts { (limits : Limits) (before pauses : ℕ) → IsCounted limits before pauses (Place.Http half exchange) tally.old → IsOver (Place.Http half exchange) tally.old.turns
         → IsCounted limits before pauses result tally.new }
+    ensures one { tally.new.exchanges ≡ tally.old.exchanges + 1 }
     ensures turns { tally.new.turns ≡ tally.old.turns }
     // The next request follows only what was over so.
     ensures rests { IsBetween result → half.stage ≡ Stage.Over NextStep.NextRequest }
@@ -46,19 +47,20 @@ pub(crate) fn end_request<A: Application, X, U: Runner<A::Task, Exchange = X>>(
 pub(crate) fn end_session<A: Application, X, U: Runner<A::Task, Exchange = X>>(
     half: WebSocketHalf,
     exchange: X,
-    setting: &Setting<'_, A>,
+    setting: &Setting<'_>,
     tally: &mut Tally,
     runner: &mut U,
 ) -> Place<X>
     requires room { tally.old.exchanges ≤ 2 ^ 48 }
-    requires stands { (limits : Limits) × (start now : LineState) × IsServing A.Task.answers U.Pipes.Conn.ConnEnd U.Pipes.App.AppEnd U.conn U.began (A.answers setting.now.app.now)
+    requires stands { (app : A) × (limits : Limits) × (start now : LineState) × IsServing A.Task.answers U.Pipes.Conn.ConnEnd U.Pipes.App.AppEnd U.conn U.began (A.answers app)
         limits setting.now.client.now setting.now.server.now setting.now.state.now start now tally.old (Place.Session half exchange) }
-    ensures serves { (limits : Limits) (start now : LineState) → IsServing A.Task.answers U.Pipes.Conn.ConnEnd U.Pipes.App.AppEnd U.conn U.began (A.answers setting.now.app.now)
+    ensures serves { (app : A) (limits : Limits) (start now : LineState) → IsServing A.Task.answers U.Pipes.Conn.ConnEnd U.Pipes.App.AppEnd U.conn U.began (A.answers app)
         limits setting.now.client.now setting.now.server.now setting.now.state.now start now tally.old (Place.Session half exchange)
-        → IsServing A.Task.answers U.Pipes.Conn.ConnEnd U.Pipes.App.AppEnd U.conn U.began (A.answers setting.now.app.now)
+        → IsServing A.Task.answers U.Pipes.Conn.ConnEnd U.Pipes.App.AppEnd U.conn U.began (A.answers app)
         limits setting.now.client.now setting.now.server.now setting.now.state.now start now tally.new result }
     ensures counts { (limits : Limits) (before pauses : ℕ) → IsCounted limits before pauses (Place.Session half exchange) tally.old → IsOver (Place.Session half exchange) tally.old.turns
         → IsCounted limits before pauses result tally.new }
+    ensures one { tally.new.exchanges ≡ tally.old.exchanges + 1 }
     ensures turns { tally.new.turns ≡ tally.old.turns }
     ensures ended { HasEnded result }
 {

@@ -1,5 +1,5 @@
 //! An exchange begins: its ends are made, the application is called, and the half takes the wire.
-ghost use Rattle.std.specs.Prelude.{◌≡◌, ◌≢◌, ℕ, [], List, Option, None, IfOk, IfErr};
+ghost use Rattle.std.specs.Prelude.{◌≡◌, ◌≢◌, ◌++◌, ◌∷◌, ℕ, [], List, Option, None, IfOk, IfErr};
 ghost use Rattle.asgi_types.specs.declared.facts.Facts.{Facts};
 ghost use Rattle.asgi_types.specs.declared.scope.Kind.TheVariants.{Http, WebSocket};
 ghost use Rattle.asgi_types.specs.declared.scope.Peer.{Peer};
@@ -11,13 +11,14 @@ ghost use Rattle.asgi_conversation.specs.OutcomeClasses.{IsLacking};
 ghost use Rattle.asgi_conversation.specs.Promised.{ArePromised};
 ghost use Rattle.asgi_halves.specs.Half.{Scene, Opens};
 ghost use Rattle.asgi_halves.specs.WebSocketHalf.{SessionScene, OpensHandshake};
+ghost use Rattle.asgi_halves.specs.Kinds.{ReadsNone};
 ghost use Rattle.asgi_run.specs.Running.{MayRun, IsOpened};
 ghost use Rattle.asgi_conn.specs.Standing.{IsServing, IsTallied};
-ghost use Rattle.asgi_conn.specs.private.Loop.{IsNext, HasBegun};
+ghost use Rattle.asgi_conn.specs.private.Loop.{IsNext, HasBegun, CallsWith};
 ghost use Rattle.asgi_conn.specs.declared.tally.Tally.{Tally};
 
-use crate::place::{Place, Setting};
-use asgi_apps::{AppTask, Application, Running};
+use crate::place::Place;
+use asgi_apps::{AppTask, Application, Calls, Running};
 use asgi_conversation::Outcome;
 use asgi_halves::{HttpHalf, WebSocketHalf, Wire};
 use asgi_io::Turns;
@@ -33,7 +34,7 @@ pub(crate) fn answer<A: Application, L: Line, X, U: Runner<A::Task, Exchange = X
     wire: Wire,
     scope: &Scope,
     facts: Facts,
-    setting: &Setting<'_, A>,
+    calls: &mut Calls<'_, A>,
     turns: &Turns,
     line: &mut L,
     runner: &mut U,
@@ -42,13 +43,16 @@ pub(crate) fn answer<A: Application, L: Line, X, U: Runner<A::Task, Exchange = X
     requires plain { facts.framing ≢ Framing.Upgrade }
     ensures serves { (scene : Scene) (client server : Option Peer) (state : List (List ℕ × StateValue)) (read arrived : List ℕ) (tally : Tally)
         → scope.now ≡ scope_with scene.scope client server state → Opens scene (L.state line.old) wire facts read arrived
-        → ArePromised (A.answers setting.now.app.now) client server state scene.exchanges → IsTallied tally scene.exchanges
+        → ArePromised (A.answers calls.old.app.now) client server state scene.exchanges → IsTallied tally scene.exchanges
         → IsServing A.Task.answers U.Pipes.Conn.ConnEnd U.Pipes.App.AppEnd U.conn U.began
-        (A.answers setting.now.app.now) wire.limits client server state scene.start (L.state line.new) tally result }
+        (A.answers calls.old.app.now) wire.limits client server state scene.start (L.state line.new) tally result }
+    ensures unread { ReadsNone (L.state line.old) (L.state line.new) }
     ensures next { IsNext result turns.now }
+    ensures called { CallsWith scope.now result calls.old.scopes.items calls.new.scopes.items }
+    ensures same { calls.new.app.now ≡ calls.old.app.now }
 {
     let text = ResponseText::new(wire.alloc, &facts);
-    match begin(&wire, Kind::Http, scope, facts, setting, turns, runner) {
+    match begin(&wire, Kind::Http, scope, facts, calls, turns, runner) {
         Err(outcome) => Place::Ended(outcome),
         Ok(exchange) => Place::Http(HttpHalf::begin(wire, text, line), exchange),
     }
@@ -59,7 +63,7 @@ pub(crate) fn open<A: Application, L: Line, X, U: Runner<A::Task, Exchange = X>>
     wire: Wire,
     scope: &Scope,
     facts: Facts,
-    setting: &Setting<'_, A>,
+    calls: &mut Calls<'_, A>,
     turns: &Turns,
     line: &mut L,
     runner: &mut U,
@@ -68,10 +72,13 @@ pub(crate) fn open<A: Application, L: Line, X, U: Runner<A::Task, Exchange = X>>
     requires upgrade { facts.framing ≡ Framing.Upgrade }
     ensures serves { (scene : SessionScene) (client server : Option Peer) (state : List (List ℕ × StateValue)) (read : List ℕ) (tally : Tally)
         → scope.now ≡ scope_with scene.scope client server state → OpensHandshake scene (L.state line.old) wire facts read
-        → ArePromised (A.answers setting.now.app.now) client server state scene.exchanges → IsTallied tally scene.exchanges
+        → ArePromised (A.answers calls.old.app.now) client server state scene.exchanges → IsTallied tally scene.exchanges
         → IsServing A.Task.answers U.Pipes.Conn.ConnEnd U.Pipes.App.AppEnd U.conn U.began
-        (A.answers setting.now.app.now) scene.limits client server state scene.start (L.state line.new) tally result }
+        (A.answers calls.old.app.now) scene.limits client server state scene.start (L.state line.new) tally result }
+    ensures unread { ReadsNone (L.state line.old) (L.state line.new) }
     ensures next { IsNext result turns.now }
+    ensures called { CallsWith scope.now result calls.old.scopes.items calls.new.scopes.items }
+    ensures same { calls.new.app.now ≡ calls.old.app.now }
 {
     let mut wire = wire;
     let Ok(frames) = wire.take_frames() else {
@@ -81,7 +88,7 @@ pub(crate) fn open<A: Application, L: Line, X, U: Runner<A::Task, Exchange = X>>
         return Place::Ended(Outcome::NoMemory);
     };
     let text = ResponseText::new(wire.alloc, &own);
-    match begin(&wire, Kind::WebSocket, scope, facts, setting, turns, runner) {
+    match begin(&wire, Kind::WebSocket, scope, facts, calls, turns, runner) {
         Err(outcome) => Place::Ended(outcome),
         Ok(exchange) => Place::Session(WebSocketHalf::begin(wire, own, text, frames), exchange),
     }
@@ -94,19 +101,22 @@ fn begin<A: Application, X, U: Runner<A::Task, Exchange = X>>(
     kind: Kind,
     scope: &Scope,
     facts: Facts,
-    setting: &Setting<'_, A>,
+    calls: &mut Calls<'_, A>,
     turns: &Turns,
     runner: &mut U,
 ) -> Result<X, Outcome>
     requires { kind_of scope.now ≡ kind }
     ensures lacking { IfErr result (λ outcome. IsLacking outcome) }
-    ensures begun { IfOk result (λ exchange. HasBegun A.Task.answers U.Pipes.Conn.ConnEnd U.Pipes.App.AppEnd U.conn U.began (A.answers setting.now.app.now scope.now) kind facts exchange) }
+    ensures begun { IfOk result (λ exchange. HasBegun A.Task.answers U.Pipes.Conn.ConnEnd U.Pipes.App.AppEnd U.conn U.began (A.answers calls.old.app.now scope.now) kind facts exchange) }
+    ensures called { IfOk result (λ exchange. calls.new.scopes.items ≡ calls.old.scopes.items ++ scope.now ∷ []) }
+    ensures uncalled { IfErr result (λ outcome. calls.new.scopes.items ≡ calls.old.scopes.items) }
+    ensures same { calls.new.app.now ≡ calls.old.app.now }
 {
     let (end, app_end) = match runner.make(wire.alloc, kind, facts, wire.limits.ring) {
         Err(why) => return Err(without_ends(why)),
         Ok(ends) => ends,
     };
-    let side = call(wire.alloc, setting.app, scope, app_end);
+    let side = call(wire.alloc, calls, scope, app_end);
     Ok(runner.begin(end, side, turns))
 }
 
@@ -124,16 +134,18 @@ fn without_ends(why: NoEnds) -> Outcome
 /// Calls the application. If the call faults, that is the end of its task.
 fn call<A: Application, E: AppEnd>(
     alloc: Global,
-    app: &A,
+    calls: &mut Calls<'_, A>,
     scope: &Scope,
     app_end: E,
 ) -> AppSide<A::Task, E>
     requires fresh { (E.heard app_end ≡ []) × (E.said app_end ≡ []) × (E.ended app_end ≡ None) }
     requires kind { E.kind app_end ≡ kind_of scope.now }
     ensures may { MayRun A.Task.stands E.AppEnd result }
-    ensures opens { IsOpened (A.answers app.now scope.now) A.Task.answers E.AppEnd app_end result }
+    ensures opens { IsOpened (A.answers calls.old.app.now scope.now) A.Task.answers E.AppEnd app_end result }
+    ensures once { calls.new.scopes.items ≡ calls.old.scopes.items ++ scope.now ∷ [] }
+    ensures same { calls.new.app.now ≡ calls.old.app.now }
 {
-    match app.call(alloc, scope) {
+    match calls.call(alloc, scope) {
         Ok(task) => AppSide::Runs(Running::new(task, app_end)),
         Err(_) => {
             let mut app_end = app_end;

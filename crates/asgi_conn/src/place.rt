@@ -50,12 +50,11 @@ impl<X> Place<X> {
     }
 }
 
-/// What a connection is served with, the same at each of its turns: its client and its server, the state
-/// that each scope holds a copy of, and the application.
+/// What a connection is served with, the same at each of its turns: its client and its server, and the state
+/// that each scope holds a copy of.
 #[derive(Drop)]
-pub struct Setting<'a, A> {
+pub struct Setting<'a> {
     pub client: &'a Option<Peer>,
     pub server: &'a Option<Peer>,
     pub state: &'a State,
-    pub app: &'a A,
 }

@@ -1,4 +1,4 @@
-//! Tests of `asgi_exchange` on its public calls: plain ends as steps of an exchange.
+//! Tests of `asgi_exchange`: plain ends through an exchange, and as they meet.
 #![tactic(auto)]
 
 #[cfg(test)]

@@ -2,7 +2,8 @@
 //! dropped after any of its turns has written a beginning of that.
 use asgi_apps::{AppTask, Application, Echo, Hello};
 use asgi_conn::{
-    Connection, CountingPause, Host, Inline, Line, Outcome, Pause, Report, Runner, Setting, Step,
+    Calls, Connection, CountingPause, Host, Inline, Line, Outcome, Pause, Report, Runner, Setting,
+    Step,
 };
 use asgi_fakes::texts::{
     BAD_REQUEST, CONTINUE, ECHO_HEAD, GET, HELLO, HELLO_AND_CLOSE, LAST_CHUNK, TWO_REQUESTS,
@@ -30,7 +31,8 @@ struct Taken {
 fn take_turns<A: Application, L: Line, X: Drop, U: Runner<A::Task, Exchange = X>, P: Pause>(
     alloc: Global,
     limits: &Limits,
-    setting: &Setting<'_, A>,
+    setting: &Setting<'_>,
+    calls: &mut Calls<'_, A>,
     line: &mut L,
     runner: &mut U,
     pause: &mut P,
@@ -44,11 +46,11 @@ fn take_turns<A: Application, L: Line, X: Drop, U: Runner<A::Task, Exchange = X>
         is_again: false,
     };
     for _turn in 0..most {
-        match connection.turn(setting, line, runner, pause) {
+        match connection.turn(setting, calls, line, runner, pause) {
             Step::Moved => taken.moved = taken.moved.saturating_add(1),
             Step::Idle => taken.idle = taken.idle.saturating_add(1),
             Step::Over(report) => {
-                let again = connection.turn(setting, line, runner, pause);
+                let again = connection.turn(setting, calls, line, runner, pause);
                 taken.report = Some(report);
                 taken.is_again = again == Step::Over(report);
                 return taken;
@@ -73,13 +75,14 @@ fn by_hand<H: Host, A: Application, L: Line>(
         client: &None,
         server: &None,
         state: &state,
-        app,
     };
+    let mut calls = Calls::of(app);
     let limits = Limits::usual();
     let taken = take_turns(
         rt.alloc(),
         &limits,
         &setting,
+        &mut calls,
         line,
         &mut runner,
         &mut pause,

@@ -1,10 +1,11 @@
 -- The steps of a connection between two turns: words of private functions. No promise is stated by them.
-use Rattle.std.specs.Prelude.{◌≡◌, ◌≢◌, ◌⊎◌, ℕ, ◌<◌, ⊤, false, List, [], Option}
+use Rattle.std.specs.Prelude.{◌≡◌, ◌≢◌, ◌⊎◌, ℕ, ◌<◌, ⊤, false, List, [], ◌∷◌, ◌++◌, Option}
 use Rattle.asgi_types.specs.declared.end_kind.EndKind.{EndKind}
 use Rattle.asgi_types.specs.declared.facts.Facts.{Facts}
 use Rattle.asgi_types.specs.declared.incoming.Incoming.{Incoming}
 use Rattle.asgi_types.specs.declared.outgoing.Outgoing.{Outgoing}
 use Rattle.asgi_types.specs.declared.scope.Kind.{Kind}
+use Rattle.asgi_types.specs.declared.scope.Scope.{Scope}
 use Rattle.asgi_request.specs.Reading.{IsWaiting}
 use Rattle.asgi_pipes.specs.declared.ends.AppEnd as app_end
 use Rattle.asgi_pipes.specs.declared.ends.ConnEnd as conn_end
@@ -110,3 +111,10 @@ pub record HasBegun {T C E X : Type 0} (answers : T → List Incoming → List O
   pub unheard : (ends.heard fresh ≡ []) × (ends.said fresh ≡ [])
   pub request : OfEnd side (λ app. (kind ≡ ends.kind app) × (facts ≡ ends.facts app))
   pub empty : (conns.offered (conn exchange) ≡ []) × (conns.is_broken (conn exchange) ≡ false) × (conns.got (conn exchange) ≡ [])
+
+-- The application was called with this scope once if an exchange is here, and not at all otherwise.
+abbrev pub CallsWith : {X : Type 0} → Scope → Place X → List Scope → List Scope → Type 0
+CallsWith scope (place.Between wire) old new = new ≡ old
+CallsWith scope (place.Http half exchange) old new = new ≡ old ++ scope ∷ []
+CallsWith scope (place.Session half exchange) old new = new ≡ old ++ scope ∷ []
+CallsWith scope (place.Ended outcome) old new = new ≡ old

@@ -6,14 +6,14 @@ use Rattle.asgi_conn.proofs.TurnLemmas as lemma
 use Rattle.asgi_conn.proofs.closing.end_request.Goals as goal
 
 pub finish-kind-requires : goal.finish-kind-requires
-finish-kind-requires g c = let x = c.requires.stands.3.stands.3 in record { began = (x.side, x.begun) }
+finish-kind-requires g c = let x = c.requires.stands.4.stands.3 in record { began = (x.side, x.begun) }
 
 pub leave-requires : goal.leave-requires
 leave-requires g c = over_at c.finish-kind.new.half.stage c.finish-kind.ensures.over
 
 pub returns-clause-serves : goal.returns-clause-serves
-returns-clause-serves g c limits start now s =
-    lemma.http_left g.A.Task.AppTask.answers g.U.Pipes.Conn.ConnEnd g.U.Pipes.App.AppEnd g.U.Runner.conn g.U.Runner.began (g.A.Application.answers c.args.setting.now.app.now) limits c.args.setting.now.client.now c.args.setting.now.server.now c.args.setting.now.state.now start now c.args.tally.now c.args.exchange c.finish-kind.result c.count.new.self c.count.ensures.exchanges c.count.ensures.faults
+returns-clause-serves g c app limits start now s =
+    lemma.http_left g.A.Task.AppTask.answers g.U.Pipes.Conn.ConnEnd g.U.Pipes.App.AppEnd g.U.Runner.conn g.U.Runner.began (g.A.Application.answers app) limits c.args.setting.now.client.now c.args.setting.now.server.now c.args.setting.now.state.now start now c.args.tally.now c.args.exchange c.finish-kind.result c.count.new.self c.count.ensures.exchanges c.count.ensures.faults
     c.args.half c.finish-kind.new.half c.leave.result s c.finish-kind.ensures.runs c.leave.ensures
 
 pub returns-clause-counts : goal.returns-clause-counts

@@ -4,11 +4,11 @@ use Rattle.asgi_conn.proofs.opening.answer.Goals as goal
 
 pub returns-in-Err-clause-serves : goal.returns-in-Err-clause-serves
 returns-in-Err-clause-serves g c scene client server state read arrived tally scope opens promised tallied =
-    serves_short g.A.Task.AppTask.answers g.U.Pipes.Conn.ConnEnd g.U.Pipes.App.AppEnd g.U.Runner.conn g.U.Runner.began (g.A.Application.answers c.args.setting.now.app.now) client server state scene (g.L.Line.state c.args.line.now) c.args.wire c.args.facts read arrived tally
+    serves_short g.A.Task.AppTask.answers g.U.Pipes.Conn.ConnEnd g.U.Pipes.App.AppEnd g.U.Runner.conn g.U.Runner.began (g.A.Application.answers c.args.calls.now.app.now) client server state scene (g.L.Line.state c.args.line.now) c.args.wire c.args.facts read arrived tally
     opens promised tallied c.in-Err.outcome c.in-Err.ensures.lacking
 
 pub returns-in-Ok-clause-serves : goal.returns-in-Ok-clause-serves
 returns-in-Ok-clause-serves g c scene client server state read arrived tally scope opens promised tallied =
-    http_begun g.A.Task.AppTask.answers g.U.Pipes.Conn.ConnEnd g.U.Pipes.App.AppEnd g.U.Runner.conn g.U.Runner.began (g.A.Application.answers c.args.setting.now.app.now) client server state c.args.scope.now (g.L.Line.state c.begin-in-Ok.new.line) tally c.in-Ok.exchange
+    http_begun g.A.Task.AppTask.answers g.U.Pipes.Conn.ConnEnd g.U.Pipes.App.AppEnd g.U.Runner.conn g.U.Runner.began (g.A.Application.answers c.args.calls.now.app.now) client server state c.args.scope.now (g.L.Line.state c.begin-in-Ok.new.line) tally c.in-Ok.exchange
     scene c.args.facts c.args.wire.limits c.begin-in-Ok.result read arrived c.in-Ok.ensures.begun scope opens.facts_are c.begin-in-Ok.ensures.limits
     (c.begin-in-Ok.ensures.begins scene c.args.facts read arrived opens (c.new-text.ensures.response c.requires.plain)) promised tallied

@@ -20,18 +20,18 @@ unreachable-requires-in-Ended g c =
 pub end_request-place-requires-clause-room : goal.end_request-place-requires-clause-room
 end_request-place-requires-clause-room g c =
     let s = c.requires in
-    lemma.room_48 s.0 s.3 s.4 (place.Http c.in-Http.half c.in-Http.exchange) c.args.self.now.tally
-    (subst (λ (p : Place g.row.X.Denot). IsCounted s.0 s.3 s.4 p c.args.self.now.tally) (sym c.replace.ensures.value ∙ c.in-Http.is) s.5.counted) tt c.args.self.now.tally.turns.in_turns
+    lemma.room_48 s.1 s.4 s.5 (place.Http c.in-Http.half c.in-Http.exchange) c.args.self.now.tally
+    (subst (λ (p : Place g.row.X.Denot). IsCounted s.1 s.4 s.5 p c.args.self.now.tally) (sym c.replace.ensures.value ∙ c.in-Http.is) s.6.counted) tt c.args.self.now.tally.turns.in_turns
 
 pub end_request-place-requires-clause-stands : goal.end_request-place-requires-clause-stands
 end_request-place-requires-clause-stands g c =
     let s = c.requires in
-    (s.0, s.1, s.2, subst (λ (p : Place g.row.X.Denot). IsServing g.A.Task.AppTask.answers g.U.Pipes.Conn.ConnEnd g.U.Pipes.App.AppEnd g.U.Runner.conn g.U.Runner.began (g.A.Application.answers c.args.setting.now.app.now) s.0 c.args.setting.now.client.now c.args.setting.now.server.now c.args.setting.now.state.now s.1 s.2 c.args.self.now.tally p) (sym c.replace.ensures.value ∙ c.in-Http.is) s.5.serving)
+    (s.0, s.1, s.2, s.3, subst (λ (p : Place g.row.X.Denot). IsServing g.A.Task.AppTask.answers g.U.Pipes.Conn.ConnEnd g.U.Pipes.App.AppEnd g.U.Runner.conn g.U.Runner.began (g.A.Application.answers s.0) s.1 c.args.setting.now.client.now c.args.setting.now.server.now c.args.setting.now.state.now s.2 s.3 c.args.self.now.tally p) (sym c.replace.ensures.value ∙ c.in-Http.is) s.6.serving)
 
 pub returns-in-Http-clause-stands : goal.returns-in-Http-clause-stands
-returns-in-Http-clause-stands g c limits start now before pauses s = record {
-  serving = subst (λ (p : Place g.row.X.Denot). IsServing g.A.Task.AppTask.answers g.U.Pipes.Conn.ConnEnd g.U.Pipes.App.AppEnd g.U.Runner.conn g.U.Runner.began (g.A.Application.answers c.args.setting.now.app.now) limits c.args.setting.now.client.now c.args.setting.now.server.now c.args.setting.now.state.now start now c.end_request-place.new.tally p) (sym c.go_to.ensures) (c.end_request-place.ensures.serves limits start now
-      (subst (λ (p : Place g.row.X.Denot). IsServing g.A.Task.AppTask.answers g.U.Pipes.Conn.ConnEnd g.U.Pipes.App.AppEnd g.U.Runner.conn g.U.Runner.began (g.A.Application.answers c.args.setting.now.app.now) limits c.args.setting.now.client.now c.args.setting.now.server.now c.args.setting.now.state.now start now c.args.self.now.tally p) (sym c.replace.ensures.value ∙ c.in-Http.is) s.serving));
+returns-in-Http-clause-stands g c app limits start now before pauses s = record {
+  serving = subst (λ (p : Place g.row.X.Denot). IsServing g.A.Task.AppTask.answers g.U.Pipes.Conn.ConnEnd g.U.Pipes.App.AppEnd g.U.Runner.conn g.U.Runner.began (g.A.Application.answers app) limits c.args.setting.now.client.now c.args.setting.now.server.now c.args.setting.now.state.now start now c.end_request-place.new.tally p) (sym c.go_to.ensures) (c.end_request-place.ensures.serves app limits start now
+      (subst (λ (p : Place g.row.X.Denot). IsServing g.A.Task.AppTask.answers g.U.Pipes.Conn.ConnEnd g.U.Pipes.App.AppEnd g.U.Runner.conn g.U.Runner.began (g.A.Application.answers app) limits c.args.setting.now.client.now c.args.setting.now.server.now c.args.setting.now.state.now start now c.args.self.now.tally p) (sym c.replace.ensures.value ∙ c.in-Http.is) s.serving));
   counted = subst (λ (p : Place g.row.X.Denot). IsCounted limits before pauses p c.end_request-place.new.tally) (sym c.go_to.ensures) (c.end_request-place.ensures.counts limits before pauses
       (subst (λ (p : Place g.row.X.Denot). IsCounted limits before pauses p c.args.self.now.tally) (sym c.replace.ensures.value ∙ c.in-Http.is) s.counted)
       (subst (λ (p : Place g.row.X.Denot). IsOver p c.args.self.now.tally.turns) (sym c.replace.ensures.value ∙ c.in-Http.is) (c.goes_on.ensures.no c.if-goes_on.false)));
@@ -40,18 +40,18 @@ returns-in-Http-clause-stands g c limits start now before pauses s = record {
 pub end_session-place-requires-clause-room : goal.end_session-place-requires-clause-room
 end_session-place-requires-clause-room g c =
     let s = c.requires in
-    lemma.room_48 s.0 s.3 s.4 (place.Session c.in-Session.half c.in-Session.exchange) c.args.self.now.tally
-    (subst (λ (p : Place g.row.X.Denot). IsCounted s.0 s.3 s.4 p c.args.self.now.tally) (sym c.replace.ensures.value ∙ c.in-Session.is) s.5.counted) tt c.args.self.now.tally.turns.in_turns
+    lemma.room_48 s.1 s.4 s.5 (place.Session c.in-Session.half c.in-Session.exchange) c.args.self.now.tally
+    (subst (λ (p : Place g.row.X.Denot). IsCounted s.1 s.4 s.5 p c.args.self.now.tally) (sym c.replace.ensures.value ∙ c.in-Session.is) s.6.counted) tt c.args.self.now.tally.turns.in_turns
 
 pub end_session-place-requires-clause-stands : goal.end_session-place-requires-clause-stands
 end_session-place-requires-clause-stands g c =
     let s = c.requires in
-    (s.0, s.1, s.2, subst (λ (p : Place g.row.X.Denot). IsServing g.A.Task.AppTask.answers g.U.Pipes.Conn.ConnEnd g.U.Pipes.App.AppEnd g.U.Runner.conn g.U.Runner.began (g.A.Application.answers c.args.setting.now.app.now) s.0 c.args.setting.now.client.now c.args.setting.now.server.now c.args.setting.now.state.now s.1 s.2 c.args.self.now.tally p) (sym c.replace.ensures.value ∙ c.in-Session.is) s.5.serving)
+    (s.0, s.1, s.2, s.3, subst (λ (p : Place g.row.X.Denot). IsServing g.A.Task.AppTask.answers g.U.Pipes.Conn.ConnEnd g.U.Pipes.App.AppEnd g.U.Runner.conn g.U.Runner.began (g.A.Application.answers s.0) s.1 c.args.setting.now.client.now c.args.setting.now.server.now c.args.setting.now.state.now s.2 s.3 c.args.self.now.tally p) (sym c.replace.ensures.value ∙ c.in-Session.is) s.6.serving)
 
 pub returns-in-Session-clause-stands : goal.returns-in-Session-clause-stands
-returns-in-Session-clause-stands g c limits start now before pauses s = record {
-  serving = subst (λ (p : Place g.row.X.Denot). IsServing g.A.Task.AppTask.answers g.U.Pipes.Conn.ConnEnd g.U.Pipes.App.AppEnd g.U.Runner.conn g.U.Runner.began (g.A.Application.answers c.args.setting.now.app.now) limits c.args.setting.now.client.now c.args.setting.now.server.now c.args.setting.now.state.now start now c.end_session-place.new.tally p) (sym c.go_to-in-Session.ensures) (c.end_session-place.ensures.serves limits start now
-      (subst (λ (p : Place g.row.X.Denot). IsServing g.A.Task.AppTask.answers g.U.Pipes.Conn.ConnEnd g.U.Pipes.App.AppEnd g.U.Runner.conn g.U.Runner.began (g.A.Application.answers c.args.setting.now.app.now) limits c.args.setting.now.client.now c.args.setting.now.server.now c.args.setting.now.state.now start now c.args.self.now.tally p) (sym c.replace.ensures.value ∙ c.in-Session.is) s.serving));
+returns-in-Session-clause-stands g c app limits start now before pauses s = record {
+  serving = subst (λ (p : Place g.row.X.Denot). IsServing g.A.Task.AppTask.answers g.U.Pipes.Conn.ConnEnd g.U.Pipes.App.AppEnd g.U.Runner.conn g.U.Runner.began (g.A.Application.answers app) limits c.args.setting.now.client.now c.args.setting.now.server.now c.args.setting.now.state.now start now c.end_session-place.new.tally p) (sym c.go_to-in-Session.ensures) (c.end_session-place.ensures.serves app limits start now
+      (subst (λ (p : Place g.row.X.Denot). IsServing g.A.Task.AppTask.answers g.U.Pipes.Conn.ConnEnd g.U.Pipes.App.AppEnd g.U.Runner.conn g.U.Runner.began (g.A.Application.answers app) limits c.args.setting.now.client.now c.args.setting.now.server.now c.args.setting.now.state.now start now c.args.self.now.tally p) (sym c.replace.ensures.value ∙ c.in-Session.is) s.serving));
   counted = subst (λ (p : Place g.row.X.Denot). IsCounted limits before pauses p c.end_session-place.new.tally) (sym c.go_to-in-Session.ensures) (c.end_session-place.ensures.counts limits before pauses
       (subst (λ (p : Place g.row.X.Denot). IsCounted limits before pauses p c.args.self.now.tally) (sym c.replace.ensures.value ∙ c.in-Session.is) s.counted)
       (subst (λ (p : Place g.row.X.Denot). IsOver p c.args.self.now.tally.turns) (sym c.replace.ensures.value ∙ c.in-Session.is) (c.goes_on.ensures.no c.if-goes_on.false)));

@@ -2,9 +2,9 @@ use Rattle.std.proofs.Common.{ℕ, ◌≤◌, ◌^◌, [], refl, sym, subst, ari
 use Rattle.asgi_conn.proofs.ServeLemmas.{begins}
 use Rattle.asgi_conn.proofs.connection.Connection.new.Goals as goal
 
-pub returns : goal.returns
-returns g c start before = record {
-  serving = begins g.A.Task.AppTask.answers g.U.Pipes.Conn.ConnEnd g.U.Pipes.App.AppEnd g.U.Runner.conn g.U.Runner.began (g.A.Application.answers c.args.setting.now.app.now) c.args.limits.now c.args.setting.now.client.now c.args.setting.now.server.now c.args.setting.now.state.now start c.new.result _ c.new.ensures.limits c.new.ensures.unread c.new.ensures.empty refl refl;
+pub returns-clause-stands : goal.returns-clause-stands
+returns-clause-stands g c app start before = record {
+  serving = begins g.A.Task.AppTask.answers g.U.Pipes.Conn.ConnEnd g.U.Pipes.App.AppEnd g.U.Runner.conn g.U.Runner.began (g.A.Application.answers app) c.args.limits.now c.args.setting.now.client.now c.args.setting.now.server.now c.args.setting.now.state.now start c.new.result _ c.new.ensures.limits c.new.ensures.unread c.new.ensures.empty refl refl;
   counted = record {
     turn_limit = c.new-2.ensures.turn_limit;
     idle_limit = c.new-2.ensures.idle_limit;
