@@ -20,7 +20,6 @@ use Rattle.asgi_protocol.specs.Passing.{passes}
 use Rattle.asgi_protocol.specs.Shapes.{is_closed}
 use Rattle.asgi_protocol.specs.Stages as judging
 use Rattle.asgi_response.specs.Exchange.{refusal_text}
-use Rattle.asgi_pipes.specs.declared.items.OutItem.{OutItem}
 use Rattle.asgi_pipes.specs.declared.items.OutItem.TheVariants.{Event}
 use Rattle.asgi_ws.specs.declared.messages.Call.TheVariants.{Send}
 use Rattle.asgi_ws.specs.declared.messages.SentMessage.{SentMessage}

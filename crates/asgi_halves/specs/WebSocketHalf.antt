@@ -57,7 +57,6 @@ use Rattle.asgi_halves.specs.declared.session_half.Reading.{Reading}
 use Rattle.asgi_halves.specs.declared.session_half.Reading.TheVariants as reading
 use Rattle.asgi_halves.specs.declared.session_half.Session.{Session}
 use Rattle.asgi_halves.specs.declared.session_half.Session.TheVariants as session
-use Rattle.asgi_halves.specs.declared.session_half.Side.{Side}
 use Rattle.asgi_halves.specs.declared.session_half.Side.TheVariants.{Application, Client}
 use Rattle.asgi_halves.specs.declared.session_half.WebSocketHalf.{WebSocketHalf}
 use Rattle.asgi_halves.specs.declared.wire.Wire.{Wire}

@@ -1,4 +1,4 @@
-use Rattle.std.proofs.Common.{refl, sym, ap, inl, ◌∙◌}
+use Rattle.std.proofs.Common.{refl, sym, ap, ◌∙◌}
 use Rattle.asgi_halves.specs.Kinds.{NoRead}
 use Rattle.asgi_halves.specs.WebSocketHalf.{due_at}
 use Rattle.asgi_halves.specs.declared.session_half.WebSocketHalf.{WebSocketHalf}
