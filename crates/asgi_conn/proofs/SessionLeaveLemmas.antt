@@ -38,7 +38,7 @@ use Rattle.asgi_halves.specs.declared.stage.Stage.TheVariants.{Over}
 use Rattle.asgi_halves.specs.declared.session_half.Answered.{Answered}
 use Rattle.asgi_halves.specs.declared.session_half.Answered.TheVariants as answered
 use Rattle.asgi_halves.specs.declared.session_half.WebSocketHalf.{WebSocketHalf}
-use Rattle.asgi_halves.specs.WebSocketHalf.{SessionScene, Invariant, IsAt, IsCarried, IsCarrying, IsCutShort, IsCutShortAs, IsSilent, EndsByTask, known, output_in, said_in, session_of, talk_in}
+use Rattle.asgi_halves.specs.WebSocketHalf.{SessionScene, Invariant, IsAt, IsCarried, IsCarrying, IsCutShort, IsCutShortAs, IsSilent, EndsByTask, answer_of, is_over_at, known, output_in, said_in, session_of, talk_in}
 use Rattle.asgi_ws.specs.Lines.{LineState}
 
 -- ---- how an exchange may end that was not cut short
@@ -153,7 +153,7 @@ module _ (scene : SessionScene) (now : LineState) (half : WebSocketHalf) (read :
       Accepted c.subprotocol c.headers (c.events ++ i.taken.0) (sym i.taken.1 ∙ ap (λ (l : List Outgoing). l ++ i.taken.0) (sym all_lawful ∙ c.said)) c.text_is c.kept
 
   opens_silent : IsSilent half w.conn s.leftover s.handed → Opens scene.frames one traffic s.text
-  opens_silent c = Silent (is_silence s.leftover w.conn.arrived half.is_over s.handed c.kept c.received c.over c.sent)
+  opens_silent c = Silent (is_silence s.leftover w.conn.arrived (is_over_at half.session) s.handed c.kept c.received c.over c.sent)
 
   opens : (a : Answered) → IsCarried a scene half w.conn s.text s.leftover s.handed → Opens scene.frames one traffic s.text
   opens answered.Unanswered c = opens_silent c.0
@@ -184,7 +184,7 @@ module _ (scene : SessionScene) (now : LineState) (half : WebSocketHalf) (read :
   serves = record {
     frames = scene.frames;
     head = s.fixed.head;
-    opens = opens half.answered s.carried;
+    opens = opens (answer_of half.session) s.carried;
     disconnect = i.disconnect;
     hears = record { first = i.events; times = i.times; in_order = i.heard; due = i.due; cause = cause i.times i.events i.disconnect i.cause };
     lawful = i.lawful;
@@ -210,7 +210,7 @@ module _ (scene : SessionScene) (now : LineState) (half : WebSocketHalf) (read :
             ∙ ap (λ (o : Option EndKind). session_text (handshake_of scene.facts) scene.facts (said_of w.app) o (is_by_input w.conn.broken)) (i.end_is (taken_end t.kind t.taken)),
       )
 
-  no_more : (t : EndsByTask scene w.conn outcome) → outcome ≡ InputBroke → half.is_over ≡ true
+  no_more : (t : EndsByTask scene w.conn outcome) → outcome ≡ InputBroke → is_over_at half.session ≡ true
   no_more t is =
       let why = why_broken t.kind (said_in scene w.conn) (is_by_input w.conn.broken) w.conn.arrived (t.follows ∙ is) in
       elim (s.breaks why.0) [ inl closed ↦ cc (closed, why.1) | inr ends ↦ ends ]

@@ -46,7 +46,7 @@ use Rattle.asgi_apps.specs.Promises.{Promise}
 use Rattle.asgi_conn.specs.Standing.{EndsSo, IsTallied, IsServing}
 use Rattle.asgi_halves.specs.ReadAhead.{ReadsAhead}
 use Rattle.asgi_run.specs.Running.{IsOpened, HasRun}
-use Rattle.asgi_halves.specs.WebSocketHalf.{SessionScene, Invariant, IsAt, IsCarried, OpensHandshake, OpensSession, session_of, talk_in, text_failures}
+use Rattle.asgi_halves.specs.WebSocketHalf.{SessionScene, Invariant, IsAt, IsCarried, OpensHandshake, OpensSession, answer_of, session_of, spare_at, talk_in, text_failures}
 use Rattle.asgi_halves.specs.Traffic.{failures_in}
 use Rattle.asgi_halves.specs.WebSocketHalf.{CarriesOn}
 use Rattle.asgi_conn.proofs.AnswerLemmas.{lacks_moved}
@@ -151,11 +151,11 @@ module _ {T C E X : Type 0} (answers : T → List Incoming → List Outgoing →
       → EndsSo scene.limits scene.start now read (scene.exchanges ++ one ∷ []) out outcome
   ends_so outcome over ahead =
       let s = run.stands in
-      let failures = ap (text_failures half.answered) over ∙ failed_so half.answered outcome scene now half read run.world.conn s s.carried in
+      let failures = ap (text_failures (answer_of half.session)) over ∙ failed_so (answer_of half.session) outcome scene now half read run.world.conn s s.carried in
       record {
         end = half.wire.input;
         traffic = talk_in half run.world.conn s.leftover s.handed;
-        carried = (subst (λ (n : ℕ). CarriesOn scene.start now half.wire.input read out n (talk_in half run.world.conn s.leftover s.handed) half.spare_reads) failures s.line).carried;
+        carried = (subst (λ (n : ℕ). CarriesOn scene.start now half.wire.input read out n (talk_in half run.world.conn s.leftover s.handed) (spare_at half.session)) failures s.line).carried;
         converses = λ report o c. conversation.in_session scene.limits half.wire.input read (scene.exchanges ++ one ∷ []) (talk_in half run.world.conn s.leftover s.handed) out report
             (leave.converses scene now half read run.world outcome s in_session over report o c);
         ahead = subst (λ (l : List (Scope × Facts)). ReadsAhead scene.limits read l) (sym (requests_join scene.exchanges (one ∷ []))) (more_requests scene.limits read (requests_of scene.exchanges) ((scene.scope, scene.facts) ∷ []) ahead);

@@ -29,7 +29,7 @@ use Rattle.asgi_halves.specs.declared.session_half.Answered.TheVariants.{Unanswe
 use Rattle.asgi_halves.specs.declared.session_half.WebSocketHalf.{WebSocketHalf}
 use Rattle.asgi_halves.specs.declared.wire.Wire.{Wire}
 use Rattle.asgi_ws.specs.Lines.{LineState}
-use Rattle.asgi_halves.specs.WebSocketHalf.{SessionScene, Invariant, IsDenial, Talks, IsDue, answer_to, said_in}
+use Rattle.asgi_halves.specs.WebSocketHalf.{SessionScene, Invariant, IsDenial, Talks, answer_of, answer_to, said_in}
 use Rattle.asgi_halves.proofs.SessionPassLemmas.{more_said, denial_is_first, denial_goes_on}
 use Rattle.asgi_halves.proofs.SessionSayLemmas.{accept_cut, denial_out, text_short}
 use Rattle.asgi_halves.proofs.SessionOfferLemmas.{runs}
@@ -68,13 +68,13 @@ module _ (scene : SessionScene) (was : LineState) (half : WebSocketHalf) (read :
   abbrev later : List Output → ConnView Msg Output
   later written = record view { got = view.got ++ Event event ∷ []; written = written }
 
-  at : Talks scene (record half { judge = before }) view × (end_of view.got ≡ None) × IsDue half.due (record half { judge = before }) view
+  at : Talks scene (record half { judge = before }) view × (end_of view.got ≡ None)
   at = runs scene was (record half { judge = before }) read view x running
 
   denying : GoesOnDenying (handshake_of scene.facts) scene.facts (said_in scene view) event
   denying = goes_on_denying (handshake_of scene.facts) scene.facts (said_in scene view) event denies pass
 
-  unanswered : half.answered ≡ Unanswered
+  unanswered : answer_of half.session ≡ Unanswered
   unanswered = at.0.answered ∙ denying.old.answer
 
   -- the text in hand rests on those before

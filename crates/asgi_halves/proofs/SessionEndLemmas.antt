@@ -31,6 +31,7 @@ use Rattle.asgi_ws.specs.declared.messages.Put.{Put}
 use Rattle.asgi_ws.specs.declared.messages.Put.TheVariants as put
 use Rattle.asgi_ws.specs.Sessions.{taken_by, has_failed, count_after}
 use Rattle.asgi_exchange.specs.Items.{end_of}
+use Rattle.asgi_exchange.specs.Messages.{has_close}
 use Rattle.asgi_exchange.specs.Session.{Output, Byte, Message, accepted_session, ending_of, session_ending}
 use Rattle.asgi_exchange.specs.ExchangeTexts.{ending_after, session_text}
 use Rattle.asgi_exchange.specs.Steps.{is_by_input}
@@ -44,15 +45,20 @@ use Rattle.asgi_halves.specs.declared.stage.Stage.{Stage}
 use Rattle.asgi_halves.specs.declared.stage.Stage.TheVariants as stage
 use Rattle.asgi_halves.specs.declared.session_half.Answered.{Answered}
 use Rattle.asgi_halves.specs.declared.session_half.Answered.TheVariants.{Unanswered, Open, Closed, Refused}
+use Rattle.asgi_halves.specs.declared.session_half.Session.{Session}
+use Rattle.asgi_halves.specs.declared.session_half.Session.TheVariants as session
+use Rattle.asgi_halves.specs.declared.session_half.Side.{Side}
+use Rattle.asgi_halves.specs.declared.session_half.Side.TheVariants.{Application, Client}
 use Rattle.asgi_halves.specs.declared.session_half.WebSocketHalf.{WebSocketHalf}
 use Rattle.asgi_halves.specs.Traffic.{failures_of}
 use Rattle.asgi_ws.specs.Lines.{LineState}
 use Rattle.asgi_run.specs.Lines.{how_wrote}
-use Rattle.asgi_halves.specs.WebSocketHalf.{SessionScene, Invariant, Talks, EndsByTask, IsAt, IsCarried, IsSilent, answer_to, exchange_of, known, outcome_after, output_in, said_in, talk_in}
+use Rattle.asgi_halves.specs.WebSocketHalf.{SessionScene, Invariant, Talks, EndsByTask, IsAt, IsCarried, IsDue, IsSilent, IsUnended, answer_of, answer_to, exchange_of, is_over_with, known, output_in, rest_at, said_in, spare_at, spare_with, talk_in}
 use Rattle.asgi_halves.specs.WebSocketHalf.{CarriesOn}
 use Rattle.asgi_run.proofs.LineLemmas.{tries_front}
 use Rattle.asgi_halves.specs.Half.{failures_at}
 use Rattle.asgi_halves.proofs.CallLemmas.{failures_by, as_messages, as_text}
+use Rattle.asgi_halves.proofs.LineCallLemmas.{HasSent}
 use Rattle.asgi_halves.proofs.TalkLemmas.{LeavesText, talk_written, talk_sent}
 use Rattle.asgi_halves.proofs.SessionOfferLemmas.{carried_on, line_at}
 use Rattle.asgi_exchange.proofs.ListLemmas.{prefix_self}
@@ -161,11 +167,18 @@ one_begun facts (StartupFailed a ∷ events) lawful u h = (let never : false ≡
 one_begun facts (ShutdownComplete ∷ events) lawful u h = (let never : false ≡ true = unlawful facts (ShutdownComplete ∷ events) lawful in cc)
 one_begun facts (ShutdownFailed a ∷ events) lawful u h = (let never : false ≡ true = unlawful facts (ShutdownFailed a ∷ events) lawful in cc)
 
+never_open : Closed ≡ Open → ⊥
+never_open e = cc
+
 -- ---- in the end
 
 -- the half after its connection ended with this outcome
 abbrev pub ends_so : WebSocketHalf → Outcome → WebSocketHalf
 ends_so half out = record half { stage = stage.Over (ConnectionEnds out) }
+
+-- the same after the server closed the session
+abbrev pub closes_so : WebSocketHalf → Option ℕ → Outcome → WebSocketHalf
+closes_so half rest out = record half { session = session.Closed Application rest; stage = stage.Over (ConnectionEnds out) }
 
 -- the invariant holds, and the line moved on
 abbrev pub Goes : SessionScene → LineState → WebSocketHalf → List ℕ → ConnView Msg Output → Type 0
@@ -179,7 +192,7 @@ module _ (scene : SessionScene) (was : LineState) (half : WebSocketHalf) (read :
   abbrev adds : List Output
   adds = session_ending scene.facts (taken_of view) ended (is_by_input view.broken)
 
-  line : CarriesOn scene.start was half.wire.input read (scene.before ++ x.text) 0 (talk_in half view x.leftover x.handed) half.spare_reads
+  line : CarriesOn scene.start was half.wire.input read (scene.before ++ x.text) 0 (talk_in half view x.leftover x.handed) (spare_at half.session)
   line = line_at scene was half read view x 0 (ap failures_at is)
 
   whole : session_text (handshake_of scene.facts) scene.facts (taken_of view) (end_of view.got) (is_by_input view.broken) ≡ view.written ++ adds
@@ -194,13 +207,14 @@ module _ (scene : SessionScene) (was : LineState) (half : WebSocketHalf) (read :
       ∙ ap (λ (l : List Output). l ++ adds) (sym at_end.0.written))
 
   -- this much of it went out
-  ends_with : (now : LineState) (out : Outcome) (text : List ℕ) (handed : List SentMessage) (front rest : List Output)
-      → CarriesOn scene.start now half.wire.input read (scene.before ++ text) (failures_of out) (talk_in half view x.leftover handed) half.spare_reads
+  ends_with : (now : LineState) (out : Outcome) (next : Session) (text : List ℕ) (handed : List SentMessage) (front rest : List Output) → rest_at half.session ≡ rest_at next
+      → CarriesOn scene.start now half.wire.input read (scene.before ++ text) (failures_of out) (talk_in half view x.leftover handed) (spare_at half.session)
       → map Byte text ++ map Message handed ≡ view.written ++ front → front ++ rest ≡ adds
-      → IsCarried half.answered scene half view text x.leftover handed
-      → IsAt (stage.Over (ConnectionEnds out)) scene (ends_so half out) (record view { written = map Byte text ++ map Message handed })
-      → Goes scene now (ends_so half out) read view
-  ends_with now out text handed front rest line_is gone is_all carried stands =
+      → IsCarried (answer_of next) scene half view text x.leftover handed
+      → IsAt (stage.Over (ConnectionEnds out)) scene half (record view { written = map Byte text ++ map Message handed })
+      → Goes scene now (record half { session = next; stage = stage.Over (ConnectionEnds out) }) read view
+  ends_with now out next text handed front rest same line_is gone is_all carried stands =
+      let later : WebSocketHalf = record half { session = next; stage = stage.Over (ConnectionEnds out) } in
       let written : List Output = map Byte text ++ map Message handed in (
         view.arrived,
         written,
@@ -209,9 +223,10 @@ module _ (scene : SessionScene) (was : LineState) (half : WebSocketHalf) (read :
           text = text;
           leftover = x.leftover;
           handed = handed;
-          line = line_is;
+          line = subst (λ (r : Option ℕ). CarriesOn scene.start now half.wire.input read (scene.before ++ text) (failures_of out)
+              (record { leftover = x.leftover; received = view.arrived; is_over = is_over_with r; handed = handed }) (spare_with r)) same line_is;
           written = refl;
-          carried = carried_on half.answered scene half (ends_so half out) view (record view { written = written }) text x.leftover handed refl refl refl refl (prefix_self (said_in scene view)) carried;
+          carried = carried_on (answer_of next) scene half later view (record view { written = written }) text x.leftover handed refl (ap is_over_with (sym same)) refl (prefix_self (said_in scene view)) carried;
           keeps = record {
             offered = x.keeps.offered;
             written = (
@@ -219,7 +234,7 @@ module _ (scene : SessionScene) (was : LineState) (half : WebSocketHalf) (read :
               ap (λ (l : List Output). l ++ rest) gone ∙ (append_assoc view.written front rest ∙ (ap (λ (l : List Output). view.written ++ l) is_all ∙ sym all_of)),
             );
           };
-          breaks = x.breaks;
+          breaks = λ e. subst (λ (r : Option ℕ). (has_close view.arrived ≡ true) ⊎ (is_over_with r ≡ true)) same (x.breaks e);
           stage = stands;
         },
       )
@@ -241,32 +256,32 @@ module _ (scene : SessionScene) (was : LineState) (half : WebSocketHalf) (read :
   ends_silent : (out : Outcome) → failures_of out ≡ 0 → adds ≡ [] → after_session ended (said_in scene view) (is_by_input view.broken) view.arrived ≡ out → Goes scene was (ends_so half out) read view
   ends_silent out none nothing follows =
       let gone : map Byte x.text ++ map Message x.handed ≡ view.written ++ [] = sym x.written ∙ sym (append-nil view.written) in
-      ends_with was out x.text x.handed [] []
-      (subst (λ (n : ℕ). CarriesOn scene.start was half.wire.input read (scene.before ++ x.text) n (talk_in half view x.leftover x.handed) half.spare_reads) (sym none) line)
+      ends_with was out half.session x.text x.handed [] [] refl
+      (subst (λ (n : ℕ). CarriesOn scene.start was half.wire.input read (scene.before ++ x.text) n (talk_in half view x.leftover x.handed) (spare_at half.session)) (sym none) line)
       gone (sym nothing) x.carried
       (inl (by_task out (map Byte x.text ++ map Message x.handed) follows (gone ∙ ap (λ (l : List Output). view.written ++ l) (sym nothing))))
 
   -- a text is added, if no message passed by
-  module _ (unanswered : half.answered ≡ Unanswered) (more : List ℕ) (adds_it : adds ≡ map Byte more) (now : LineState)
+  module _ (unanswered : answer_of half.session ≡ Unanswered) (more : List ℕ) (adds_it : adds ≡ map Byte more) (now : LineState)
       (same_left : now.left ≡ was.left) (same_reads : now.reads ≡ was.reads) (same_session : now.session ≡ was.session) where
     silent : IsSilent half view x.leftover x.handed × (half.leftover.items ≡ scene.frames)
     silent = subst (λ (a : Answered). IsCarried a scene half view x.text x.leftover x.handed) unanswered x.carried
 
-    carried_as : (text : List ℕ) → IsCarried half.answered scene half view text x.leftover x.handed
+    carried_as : (text : List ℕ) → IsCarried (answer_of half.session) scene half view text x.leftover x.handed
     carried_as text = subst (λ (a : Answered). IsCarried a scene half view text x.leftover x.handed) (sym unanswered) silent
 
     text_moved : (out : Outcome) (part : List ℕ) (failures : ℕ) → failures ≡ failures_of out → Appends was.written now.written part → RoseBy failures was.failed now.failed
         → TriesWrites was.writes now.writes (length part) (how_wrote failures (length part))
-        → CarriesOn scene.start now half.wire.input read (scene.before ++ (x.text ++ part)) (failures_of out) (talk_in half view x.leftover x.handed) half.spare_reads
+        → CarriesOn scene.start now half.wire.input read (scene.before ++ (x.text ++ part)) (failures_of out) (talk_in half view x.leftover x.handed) (spare_at half.session)
     text_moved out part failures count appends rose tries =
-        subst (λ (n : ℕ). CarriesOn scene.start now half.wire.input read (scene.before ++ (x.text ++ part)) n (talk_in half view x.leftover x.handed) half.spare_reads) count
-        (talk_written scene.start was now half.wire.input read scene.before x.text part failures (talk_in half view x.leftover x.handed) half.spare_reads line silent.0.kept same_left same_reads same_session appends rose tries)
+        subst (λ (n : ℕ). CarriesOn scene.start now half.wire.input read (scene.before ++ (x.text ++ part)) n (talk_in half view x.leftover x.handed) (spare_at half.session)) count
+        (talk_written scene.start was now half.wire.input read scene.before x.text part failures (talk_in half view x.leftover x.handed) (spare_at half.session) line silent.0.kept same_left same_reads same_session appends rose tries)
 
     text_out : (out : Outcome) → failures_of out ≡ 0 → after_session ended (said_in scene view) (is_by_input view.broken) view.arrived ≡ out
         → Appends was.written now.written more → RoseBy 0 was.failed now.failed → TriesWrites was.writes now.writes (length more) wrote.Done → Goes scene now (ends_so half out) read view
     text_out out none follows appends rose tries =
         let gone = as_text x.text more x.handed view.written silent.0.sent x.written in
-        ends_with now out (x.text ++ more) x.handed (map Byte more) [] (text_moved out more 0 (sym none) appends rose tries) gone (append-nil (map Byte more) ∙ sym adds_it) (carried_as (x.text ++ more))
+        ends_with now out half.session (x.text ++ more) x.handed (map Byte more) [] refl (text_moved out more 0 (sym none) appends rose tries) gone (append-nil (map Byte more) ∙ sym adds_it) (carried_as (x.text ++ more))
         (inl (by_task out (map Byte (x.text ++ more) ++ map Message x.handed) follows (gone ∙ ap (λ (l : List Output). view.written ++ l) (sym adds_it))))
 
     text_cut : (n : ℕ) → n < length more → Appends was.written now.written (take n more) → RoseBy 1 was.failed now.failed → TriesWrites was.writes now.writes n (wrote.Failed n)
@@ -274,51 +289,49 @@ module _ (scene : SessionScene) (was : LineState) (half : WebSocketHalf) (read :
     text_cut n less appends rose tries =
         let part : map Byte (take n more) ≡ take n adds = sym (take-map Byte n more) ∙ ap (λ (l : List Output). take n l) (sym adds_it) in
         let gone : map Byte (x.text ++ take n more) ++ map Message x.handed ≡ view.written ++ take n adds = as_text x.text (take n more) x.handed view.written silent.0.sent x.written ∙ ap (λ (l : List Output). view.written ++ l) part in
-        ends_with now (outcome.WriteFailed n) (x.text ++ take n more) x.handed (take n adds) (drop n adds)
+        ends_with now (outcome.WriteFailed n) half.session (x.text ++ take n more) x.handed (take n adds) (drop n adds) refl
         (text_moved (outcome.WriteFailed n) (take n more) 1 refl appends rose (tries_front was.writes now.writes n more less tries))
         gone (take-append-drop n adds) (carried_as (x.text ++ take n more))
         (inr (stops n (map Byte (x.text ++ take n more) ++ map Message x.handed)
         (subst (λ (k : ℕ). n < k) (sym (ap (λ (l : List Output). length l) adds_it ∙ length-map more Byte)) less) gone))
 
-  -- a message is, in an open session
-  module _ (opened : half.answered ≡ Open) (message : SentMessage) (adds_it : adds ≡ Message message ∷ []) (now : LineState) (same : LeavesText was now) (answer : Put)
+  -- a message is, in an open session, which is closed by that
+  module _ (opened : answer_of half.session ≡ Open) (left : Option ℕ) (left_is : left ≡ rest_at half.session) (message : SentMessage) (adds_it : adds ≡ Message message ∷ []) (now : LineState) (same : LeavesText was now) (answer : Put)
       (told : now.session.calls ≡ was.session.calls ++ Send message answer ∷ []) (count : now.failed ≡ count_after was.failed (has_failed answer))
       (coming : now.session.coming ≡ was.session.coming) (kept : now.session.leftover ≡ was.session.leftover) where
-    sent : CarriesOn scene.start now half.wire.input read (scene.before ++ x.text) (failures_by answer) (talk_in half view x.leftover (x.handed ++ taken_by message answer)) half.spare_reads
+    sent : CarriesOn scene.start now half.wire.input read (scene.before ++ x.text) (failures_by answer) (talk_in half view x.leftover (x.handed ++ taken_by message answer)) (spare_at half.session)
     sent =
         talk_sent scene.start was now half.wire.input read (scene.before ++ x.text) 0 refl (talk_in half view x.leftover x.handed)
-        (talk_in half view x.leftover (x.handed ++ taken_by message answer)) half.spare_reads line same message answer told count coming kept refl refl refl refl
+        (talk_in half view x.leftover (x.handed ++ taken_by message answer)) (spare_at half.session) line same message answer told count coming kept refl refl refl refl
         scene.frames (subst (λ (a : Answered). IsCarried a scene half view x.text x.leftover x.handed) opened x.carried).kept
 
     sent_as : (result : Put) → answer ≡ result
-        → CarriesOn scene.start now half.wire.input read (scene.before ++ x.text) (failures_by result) (talk_in half view x.leftover (x.handed ++ taken_by message result)) half.spare_reads
+        → CarriesOn scene.start now half.wire.input read (scene.before ++ x.text) (failures_by result) (talk_in half view x.leftover (x.handed ++ taken_by message result)) (spare_at half.session)
     sent_as result e =
-        subst (λ (a : Put). CarriesOn scene.start now half.wire.input read (scene.before ++ x.text) (failures_by a) (talk_in half view x.leftover (x.handed ++ taken_by message a)) half.spare_reads) e sent
+        subst (λ (a : Put). CarriesOn scene.start now half.wire.input read (scene.before ++ x.text) (failures_by a) (talk_in half view x.leftover (x.handed ++ taken_by message a)) (spare_at half.session)) e sent
 
-    carried_with : (handed : List SentMessage) → IsCarried half.answered scene half view x.text x.leftover handed
-    carried_with handed =
-        subst (λ (a : Answered). IsCarried a scene half view x.text x.leftover handed) (sym opened)
-        (subst (λ (a : Answered). IsCarried a scene half view x.text x.leftover x.handed) opened x.carried)
+    carried_with : (handed : List SentMessage) → IsCarried Closed scene half view x.text x.leftover handed
+    carried_with handed = subst (λ (a : Answered). IsCarried a scene half view x.text x.leftover x.handed) opened x.carried
 
-    message_out : answer ≡ put.Done → after_session ended (said_in scene view) (is_by_input view.broken) view.arrived ≡ outcome.Finished → Goes scene now (ends_so half outcome.Finished) read view
+    message_out : answer ≡ put.Done → after_session ended (said_in scene view) (is_by_input view.broken) view.arrived ≡ outcome.Finished → Goes scene now (closes_so half left outcome.Finished) read view
     message_out e follows =
         let handed : List SentMessage = x.handed ++ message ∷ [] in
         let gone : map Byte x.text ++ map Message handed ≡ view.written ++ Message message ∷ [] = as_messages x.text x.handed (message ∷ []) view.written x.written in
-        ends_with now outcome.Finished x.text handed (Message message ∷ []) [] (sent_as put.Done e) gone (sym adds_it) (carried_with handed)
+        ends_with now outcome.Finished (session.Closed Application left) x.text handed (Message message ∷ []) [] (sym left_is) (sent_as put.Done e) gone (sym adds_it) (carried_with handed)
         (inl (by_task outcome.Finished (map Byte x.text ++ map Message handed) follows (gone ∙ ap (λ (l : List Output). view.written ++ l) (sym adds_it))))
 
-    message_cut : answer ≡ put.Failed → Goes scene now (ends_so half (outcome.WriteFailed 0)) read view
+    message_cut : answer ≡ put.Failed → Goes scene now (closes_so half left (outcome.WriteFailed 0)) read view
     message_cut e =
         let handed : List SentMessage = x.handed ++ [] in
         let gone : map Byte x.text ++ map Message handed ≡ view.written ++ [] = as_messages x.text x.handed [] view.written x.written in
-        ends_with now (outcome.WriteFailed 0) x.text handed [] adds (sent_as put.Failed e) gone refl (carried_with handed)
+        ends_with now (outcome.WriteFailed 0) (session.Closed Application left) x.text handed [] adds (sym left_is) (sent_as put.Failed e) gone refl (carried_with handed)
         (inr (stops 0 (map Byte x.text ++ map Message handed) (subst (λ (l : List Output). 0 < length l) (sym adds_it) (omega arith)) gone))
 
-    message_short : answer ≡ put.NoMemory → Goes scene now (ends_so half outcome.NoMemory) read view
+    message_short : answer ≡ put.NoMemory → Goes scene now (closes_so half left outcome.NoMemory) read view
     message_short e =
         let handed : List SentMessage = x.handed ++ [] in
         let gone : map Byte x.text ++ map Message handed ≡ view.written ++ [] = as_messages x.text x.handed [] view.written x.written in
-        ends_with now outcome.NoMemory x.text handed [] adds (sent_as put.NoMemory e) gone refl (carried_with handed)
+        ends_with now outcome.NoMemory (session.Closed Application left) x.text handed [] adds (sym left_is) (sent_as put.NoMemory e) gone refl (carried_with handed)
         (inr ([], append-nil (map Byte x.text ++ map Message handed) ∙ (gone ∙ (append-nil view.written ∙ at_end.0.written))))
 
 -- ---- by how the task ended
@@ -356,14 +369,6 @@ own half code (inr (is, e)) = record {
   follows = λ said input_broke received. refl;
 }
 
-outcome_if : (b : Bool) → (if b then outcome.Finished else outcome.InputBroke) ≡ outcome_after b
-outcome_if true = refl
-outcome_if false = refl
-
-never_fails : (b : Bool) → failures_of (outcome_after b) ≡ 0
-never_fails true = refl
-never_fails false = refl
-
 module _ (scene : SessionScene) (was : LineState) (half : WebSocketHalf) (read : List ℕ) (view : ConnView Msg Output) (x : Invariant scene was half read view)
     (code : ℕ) (ends : EndsWith half code) where
   o : Own half code
@@ -378,15 +383,15 @@ module _ (scene : SessionScene) (was : LineState) (half : WebSocketHalf) (read :
       ends_silent scene was half read view x o.ended o.at outcome.Finished refl (o.adds scene.facts (taken_of view) input_broke ∙ w.adds code input_broke)
       (o.follows (said_in scene view) input_broke view.arrived ∙ w.follows input_broke view.arrived)
 
-  pub ends_refused : half.answered ≡ Refused → Goes scene was (ends_so half outcome.Finished) read view
+  pub ends_refused : answer_of half.session ≡ Refused → Goes scene was (ends_so half outcome.Finished) read view
   ends_refused a = well (was_refused (said_in scene view) (sym talks.answered ∙ a))
 
-  pub ends_closed : half.answered ≡ Closed → Goes scene was (ends_so half outcome.Finished) read view
+  pub ends_closed : answer_of half.session ≡ Closed → Goes scene was (ends_so half outcome.Finished) read view
   ends_closed a = well (was_closed (said_in scene view) (sym talks.answered ∙ a))
 
   -- ---- no answer, or a denial
 
-  module _ (unanswered : half.answered ≡ Unanswered) (progress : Progress)
+  module _ (unanswered : answer_of half.session ≡ Unanswered) (progress : Progress)
       (is_progress : (facts : Facts) (events : List Outgoing) → standing.StandsForSession half.text facts events → progress ≡ denial_progress facts events) where
     so_far : progress ≡ denial_progress scene.facts (said_in scene view)
     so_far = is_progress scene.facts (said_in scene view) (talks.text unanswered)
@@ -418,38 +423,57 @@ module _ (scene : SessionScene) (was : LineState) (half : WebSocketHalf) (read :
 
   -- ---- an open session
 
-  module _ (opened : half.answered ≡ Open) where
+  module _ (opened : answer_of half.session ≡ Open) where
     open_still : EndsOpen (said_in scene view)
     open_still = left_open (said_in scene view) (sym talks.answered ∙ opened)
 
-    adds_by : (b : Bool) → half.input_broke ≡ b → session_ending scene.facts (taken_of view) o.ended (is_by_input view.broken) ≡ (if b then [] else Message (item.Close code []) ∷ [])
+    -- what is due in this session
+    due_there : (state : Session) → half.session ≡ state → IsDue state view.offered view.arrived (is_by_input view.broken)
+    due_there state is = subst (λ (s : Session). IsDue s view.offered view.arrived (is_by_input view.broken)) is talks.due
+
+    adds_by : (b : Bool) → is_by_input view.broken ≡ b → session_ending scene.facts (taken_of view) o.ended (is_by_input view.broken) ≡ (if b then [] else Message (item.Close code []) ∷ [])
     adds_by b e =
-        let input_broke = is_by_input view.broken in
-        o.adds scene.facts (taken_of view) input_broke ∙ (open_still.adds code input_broke ∙ ap (λ (c : Bool). if c then [] else Message (item.Close code []) ∷ []) (sym talks.input_broke ∙ e))
+        o.adds scene.facts (taken_of view) (is_by_input view.broken) ∙ open_still.adds code (is_by_input view.broken) ∙ ap (λ (c : Bool). if c then [] else Message (item.Close code []) ∷ []) e
 
-    follows_by : (b : Bool) → half.input_broke ≡ b → after_session o.ended (said_in scene view) (is_by_input view.broken) view.arrived ≡ open_outcome b view.arrived
+    follows_by : (b : Bool) → is_by_input view.broken ≡ b → after_session o.ended (said_in scene view) (is_by_input view.broken) view.arrived ≡ open_outcome b view.arrived
     follows_by b e =
-        let input_broke = is_by_input view.broken in
-        o.follows (said_in scene view) input_broke view.arrived ∙ (open_still.follows input_broke view.arrived ∙ ap (λ (c : Bool). open_outcome c view.arrived) (sym talks.input_broke ∙ e))
+        o.follows (said_in scene view) (is_by_input view.broken) view.arrived ∙ open_still.follows (is_by_input view.broken) view.arrived ∙ ap (λ (c : Bool). open_outcome c view.arrived) e
 
-    -- a disconnect was offered before
-    pub ends_left : half.input_broke ≡ true → (out : Outcome) → out ≡ outcome_after half.client_closed → Goes scene was (ends_so half out) read view
-    ends_left input_broke out is =
-        ends_silent scene was half read view x o.ended o.at out (ap failures_of is ∙ never_fails half.client_closed) (adds_by true input_broke)
-        (follows_by true input_broke ∙ (ap (λ (c : Bool). if c then outcome.Finished else outcome.InputBroke) (sym (talks.closed opened)) ∙ (outcome_if half.client_closed ∙ sym is)))
+    -- a disconnect was offered before: the client closed, or no message followed
+    left_so : (closed : Bool) → is_by_input view.broken ≡ true → has_close view.arrived ≡ closed → (out : Outcome) → failures_of out ≡ 0 → (if closed then outcome.Finished else outcome.InputBroke) ≡ out
+        → Goes scene was (ends_so half out) read view
+    left_so closed broke is out none by =
+        ends_silent scene was half read view x o.ended o.at out none (adds_by true broke)
+        (follows_by true broke ∙ ap (λ (c : Bool). if c then outcome.Finished else outcome.InputBroke) is ∙ by)
 
-    module _ (unbroke : half.input_broke ≡ false) (reason : List ℕ) (none : reason ≡ []) (now : LineState) (same : LeavesText was now) (answer : Put)
-        (told : now.session.calls ≡ was.session.calls ++ Send (item.Close code reason) answer ∷ []) (count : now.failed ≡ count_after was.failed (has_failed answer))
-        (coming : now.session.coming ≡ was.session.coming) (kept : now.session.leftover ≡ was.session.leftover) where
+    pub ends_left : (side : Side) (rest : Option ℕ) → half.session ≡ session.Closed side rest → Goes scene was (ends_so half outcome.Finished) read view
+    ends_left Application rest is = absurd (never_open (sym (ap answer_of is) ∙ opened))
+    ends_left Client rest is = (let d = due_there (session.Closed Client rest) is in left_so true d.0 d.1 outcome.Finished refl refl)
+
+    pub ends_broken : half.session ≡ session.Broken → Goes scene was (ends_so half outcome.InputBroke) read view
+    ends_broken is = (let d = due_there session.Broken is in left_so false d.0 d.1 outcome.InputBroke refl refl)
+
+    unbroken_in : (state : Session) → half.session ≡ state → IsUnended state → is_by_input view.broken ≡ false
+    unbroken_in (session.Begun reply waits) is stays = (due_there (session.Begun reply waits) is).0
+    unbroken_in (session.Leaves event) is stays = (due_there (session.Leaves event) is).0
+    unbroken_in session.Breaks is stays = (due_there session.Breaks is).0
+    unbroken_in session.Broken is stays = absurd stays
+    unbroken_in (session.Closed side rest) is stays = absurd stays
+
+    module _ (stays : IsUnended half.session) (left : Option ℕ) (left_is : left ≡ rest_at half.session) (reason : List ℕ) (none : reason ≡ []) (now : LineState) (answer : Put)
+        (s : HasSent was now (item.Close code reason) answer) where
+      unbroke : is_by_input view.broken ≡ false
+      unbroke = unbroken_in half.session refl stays
+
       told_close : now.session.calls ≡ was.session.calls ++ Send (item.Close code []) answer ∷ []
-      told_close = told ∙ ap (λ (r : List ℕ). was.session.calls ++ Send (item.Close code r) answer ∷ []) none
+      told_close = s.told ∙ ap (λ (r : List ℕ). was.session.calls ++ Send (item.Close code r) answer ∷ []) none
 
-      pub close_done : answer ≡ put.Done → Goes scene now (ends_so half outcome.Finished) read view
+      pub close_done : answer ≡ put.Done → Goes scene now (closes_so half left outcome.Finished) read view
       close_done e =
-          message_out scene was half read view x o.ended o.at opened (item.Close code []) (adds_by false unbroke) now same answer told_close count coming kept e (follows_by false unbroke)
+          message_out scene was half read view x o.ended o.at opened left left_is (item.Close code []) (adds_by false unbroke) now s.text answer told_close s.count s.coming s.kept e (follows_by false unbroke)
 
-      pub close_failed : answer ≡ put.Failed → Goes scene now (ends_so half (outcome.WriteFailed 0)) read view
-      close_failed e = message_cut scene was half read view x o.ended o.at opened (item.Close code []) (adds_by false unbroke) now same answer told_close count coming kept e
+      pub close_failed : answer ≡ put.Failed → Goes scene now (closes_so half left (outcome.WriteFailed 0)) read view
+      close_failed e = message_cut scene was half read view x o.ended o.at opened left left_is (item.Close code []) (adds_by false unbroke) now s.text answer told_close s.count s.coming s.kept e
 
-      pub close_short : answer ≡ put.NoMemory → Goes scene now (ends_so half outcome.NoMemory) read view
-      close_short e = message_short scene was half read view x o.ended o.at opened (item.Close code []) (adds_by false unbroke) now same answer told_close count coming kept e
+      pub close_short : answer ≡ put.NoMemory → Goes scene now (closes_so half left outcome.NoMemory) read view
+      close_short e = message_short scene was half read view x o.ended o.at opened left left_is (item.Close code []) (adds_by false unbroke) now s.text answer told_close s.count s.coming s.kept e

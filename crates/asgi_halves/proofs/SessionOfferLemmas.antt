@@ -16,12 +16,13 @@ use Rattle.asgi_pipes.specs.declared.items.OutItem.TheVariants.{Event, Ended}
 use Rattle.asgi_exchange.specs.Calls.{IsViewOf}
 use Rattle.asgi_exchange.specs.Halves.{ConnKeeps, IsOffered}
 use Rattle.asgi_exchange.specs.Items.{end_of, events_of}
-use Rattle.asgi_exchange.specs.Messages.{has_close, session_events}
+use Rattle.asgi_exchange.specs.Messages.{has_close, session_disconnect, session_events}
 use Rattle.asgi_exchange.specs.Session.{Output, with_session_event, accepted_session, session_output, session_ending}
 use Rattle.asgi_exchange.specs.Steps.{is_by_input, is_by_cut}
 use Rattle.asgi_exchange.specs.Views.{Break, ByInput, ByCut, ConnView, output, added_by, taken_of}
 use Rattle.asgi_exchange.proofs.EventLemmas.{events_append, end_event}
 use Rattle.asgi_exchange.proofs.ListLemmas.{prefix_self, prefix_trans}
+use Rattle.asgi_exchange.proofs.MessageLemmas.{none_is_heard}
 use Rattle.asgi_exchange.proofs.SessionLemmas.{web_socket_is_steady}
 use Rattle.asgi_ws.specs.declared.messages.SentMessage.{SentMessage}
 use Rattle.asgi_ws.specs.declared.messages.Msg.{Msg}
@@ -33,12 +34,16 @@ use Rattle.asgi_halves.specs.declared.stage.Stage.{Stage}
 use Rattle.asgi_halves.specs.declared.stage.Stage.TheVariants as stage
 use Rattle.asgi_halves.specs.declared.session_half.Answered.{Answered}
 use Rattle.asgi_halves.specs.declared.session_half.Answered.TheVariants.{Unanswered, Open, Closed, Refused}
-use Rattle.asgi_halves.specs.declared.session_half.Due.{Due}
-use Rattle.asgi_halves.specs.declared.session_half.Due.TheVariants as due
+use Rattle.asgi_halves.specs.declared.session_half.Answer.{Answer}
+use Rattle.asgi_halves.specs.declared.session_half.Answer.TheVariants as to
+use Rattle.asgi_halves.specs.declared.session_half.Session.{Session}
+use Rattle.asgi_halves.specs.declared.session_half.Session.TheVariants as session
+use Rattle.asgi_halves.specs.declared.session_half.Side.TheVariants.{Client}
 use Rattle.asgi_halves.specs.declared.session_half.WebSocketHalf.{WebSocketHalf}
 use Rattle.asgi_halves.specs.Half.{failures_at}
 use Rattle.asgi_ws.specs.Lines.{LineState}
-use Rattle.asgi_halves.specs.WebSocketHalf.{SessionScene, Invariant, Talks, IsAt, IsCarried, IsCarrying, IsCutShort, IsCutShortAs, IsDue, exchange_of, known, output_in, said_in, talk_in}
+use Rattle.asgi_halves.specs.WebSocketHalf.{SessionScene, Invariant, Talks, IsAt, IsCarried, IsCarrying, IsCutShort, IsCutShortAs, IsDue, answer_of, exchange_of, is_over_at, is_over_with, known, output_in, rest_at, said_in, spare_at, spare_with, talk_in}
+use Rattle.asgi_halves.specs.Traffic.{drop_limit}
 use Rattle.asgi_conversation.specs.OutcomeClasses.{OutcomeClass, Uncut, ByWrite, GivenUp, Lacking, Unbegun, class_of}
 use Rattle.asgi_halves.specs.WebSocketHalf.{CarriesOn}
 use Rattle.asgi_conversation.proofs.NextLemmas.{next_on}
@@ -78,18 +83,24 @@ output_after scene got (Ended kind) =
 
 -- what the line carries, if no message arrived and what was sent goes on
 pub carried_on : (answered : Answered) (scene : SessionScene) (half later : WebSocketHalf) (view next : ConnView Msg Output) (text : List ℕ) (leftover : Option (List ℕ)) (handed : List SentMessage)
-    → later.leftover ≡ half.leftover → later.is_over ≡ half.is_over → later.client_closed ≡ half.client_closed → next.arrived ≡ view.arrived → IsPrefix (said_in scene view) (said_in scene next)
+    → later.leftover ≡ half.leftover → is_over_at later.session ≡ is_over_at half.session → next.arrived ≡ view.arrived → IsPrefix (said_in scene view) (said_in scene next)
     → IsCarried answered scene half view text leftover handed → IsCarried answered scene later next text leftover handed
-carried_on Unanswered scene half later view next text leftover handed kept over closed arrived more c = (
-  record { kept = c.0.kept; received = arrived ∙ c.0.received; over = over ∙ c.0.over; unclosed = closed ∙ c.0.unclosed; sent = c.0.sent },
+carried_on Unanswered scene half later view next text leftover handed kept over arrived more c = (
+  record { kept = c.0.kept; received = arrived ∙ c.0.received; over = over ∙ c.0.over; sent = c.0.sent },
   ap (λ v. v.items) kept ∙ c.1,
 )
-carried_on Refused scene half later view next text leftover handed kept over closed arrived more c =
-    record { kept = c.kept; received = arrived ∙ c.received; over = over ∙ c.over; unclosed = closed ∙ c.unclosed; sent = c.sent }
-carried_on Open scene half later view next text leftover handed kept over closed arrived more c =
+carried_on Refused scene half later view next text leftover handed kept over arrived more c =
+    record { kept = c.kept; received = arrived ∙ c.received; over = over ∙ c.over; sent = c.sent }
+carried_on Open scene half later view next text leftover handed kept over arrived more c =
     record { kept = c.kept; subprotocol = c.subprotocol; headers = c.headers; events = c.events ++ more.0; said = sym more.1 ∙ ap (λ (l : List Outgoing). l ++ more.0) c.said; text_is = c.text_is }
-carried_on Closed scene half later view next text leftover handed kept over closed arrived more c =
+carried_on Closed scene half later view next text leftover handed kept over arrived more c =
     record { kept = c.kept; subprotocol = c.subprotocol; headers = c.headers; events = c.events ++ more.0; said = sym more.1 ∙ ap (λ (l : List Outgoing). l ++ more.0) c.said; text_is = c.text_is }
+
+-- the answer is that to the handshake, whatever waits
+pub same_answer : (reply : Answer) (one other : Option Incoming) → answer_of (session.Begun reply one) ≡ answer_of (session.Begun reply other)
+same_answer to.Awaited one other = refl
+same_answer to.Accepted one other = refl
+same_answer to.Refused one other = refl
 
 -- the line carries messages
 abbrev pub Carries : Answered → Type 0
@@ -107,111 +118,137 @@ carrying_of state scene half view text leftover handed (inr is) x = subst (λ (a
 
 module _ (scene : SessionScene) (line : LineState) (half : WebSocketHalf) (read : List ℕ) (view : ConnView Msg Output) (x : Invariant scene line half read view) where
   -- by how many calls failed
-  pub line_at : (failures : ℕ) → failures_at half.stage ≡ failures → CarriesOn scene.start line half.wire.input read (scene.before ++ x.text) failures (talk_in half view x.leftover x.handed) half.spare_reads
-  line_at failures is = subst (λ (n : ℕ). CarriesOn scene.start line half.wire.input read (scene.before ++ x.text) n (talk_in half view x.leftover x.handed) half.spare_reads) is x.line
+  pub line_at : (failures : ℕ) → failures_at half.stage ≡ failures → CarriesOn scene.start line half.wire.input read (scene.before ++ x.text) failures (talk_in half view x.leftover x.handed) (spare_at half.session)
+  line_at failures is = subst (λ (n : ℕ). CarriesOn scene.start line half.wire.input read (scene.before ++ x.text) n (talk_in half view x.leftover x.handed) (spare_at half.session)) is x.line
 
   -- The half's invariant holds in a stage again, if the line is the same.
-  pub stands_at : (d : Due) (b : Bool) (s : Stage) (offered : List Incoming) (broken : Option Break) (got : List OutItem)
-      → failures_at half.stage ≡ failures_at s
+  pub stands_at : (next : Session) (s : Stage) (offered : List Incoming) (broken : Option Break) (got : List OutItem)
+      → answer_of half.session ≡ answer_of next → rest_at half.session ≡ rest_at next → failures_at half.stage ≡ failures_at s
       → IsPrefix (said_in scene view) (said_in scene (record view { offered = offered; broken = broken; got = got }))
       → ConnKeeps (exchange_of scene) (record view { offered = offered; broken = broken; got = got })
-      → (is_by_input broken ≡ true → (has_close view.arrived ≡ true) ⊎ (half.is_over ≡ true))
-      → IsAt s scene (record half { due = d; input_broke = b; stage = s }) (record view { offered = offered; broken = broken; got = got })
-      → Invariant scene line (record half { due = d; input_broke = b; stage = s }) read (record view { offered = offered; broken = broken; got = got })
-  stands_at d b s offered broken got failures more keeps breaks at = record {
-    fixed = x.fixed;
-    text = x.text;
-    leftover = x.leftover;
-    handed = x.handed;
-    line = line_at (failures_at s) failures;
-    written = x.written;
-    carried = carried_on half.answered scene half (record half { due = d; input_broke = b; stage = s }) view (record view { offered = offered; broken = broken; got = got }) x.text x.leftover x.handed refl refl refl refl more x.carried;
-    keeps = keeps;
-    breaks = breaks;
-    stage = at;
-  }
+      → (is_by_input broken ≡ true → (has_close view.arrived ≡ true) ⊎ (is_over_at next ≡ true))
+      → IsAt s scene (record half { session = next; stage = s }) (record view { offered = offered; broken = broken; got = got })
+      → Invariant scene line (record half { session = next; stage = s }) read (record view { offered = offered; broken = broken; got = got })
+  stands_at next s offered broken got answered rest failures more keeps breaks at =
+      let later : WebSocketHalf = record half { session = next; stage = s } in
+      record {
+        fixed = x.fixed;
+        text = x.text;
+        leftover = x.leftover;
+        handed = x.handed;
+        line = subst (λ (r : Option ℕ). CarriesOn scene.start line half.wire.input read (scene.before ++ x.text) (failures_at s)
+            (record { leftover = x.leftover; received = view.arrived; is_over = is_over_with r; handed = x.handed }) (spare_with r)) rest (line_at (failures_at s) failures);
+        written = x.written;
+        carried = subst (λ (a : Answered). IsCarried a scene later (record view { offered = offered; broken = broken; got = got }) x.text x.leftover x.handed) answered
+            (carried_on (answer_of half.session) scene half later view (record view { offered = offered; broken = broken; got = got }) x.text x.leftover x.handed refl (ap is_over_with (sym rest)) refl more x.carried);
+        keeps = keeps;
+        breaks = breaks;
+        stage = at;
+      }
 
   -- ---- what is due is offered
 
   module _ (is : half.stage ≡ stage.Running) where
-    pub runs : Talks scene half view × (end_of view.got ≡ None) × IsDue half.due half view
+    pub runs : Talks scene half view × (end_of view.got ≡ None)
     runs = subst (λ (s : Stage). IsAt s scene half view) is x.stage
 
+    -- what is due in this session
+    pub due_in : (state : Session) → half.session ≡ state → IsDue state view.offered view.arrived (is_by_input view.broken)
+    due_in state in_it = subst (λ (s : Session). IsDue s view.offered view.arrived (is_by_input view.broken)) in_it runs.0.due
+
     -- all that was taken is out, whatever is offered
-    talks_on : (d : Due) (b : Bool) (offered : List Incoming) (broken : Option Break) → is_by_cut broken ≡ false → b ≡ is_by_input broken
-        → Talks scene (record half { due = d; input_broke = b }) (record view { offered = offered; broken = broken })
-    talks_on d b offered broken uncut input_broke =
+    runs_on : (next : Session) (offered : List Incoming) (broken : Option Break) → answer_of half.session ≡ answer_of next → rest_at half.session ≡ rest_at next
+        → IsOffered (exchange_of scene) view.arrived offered broken → is_by_cut broken ≡ false
+        → (is_by_input broken ≡ true → (has_close view.arrived ≡ true) ⊎ (is_over_at next ≡ true))
+        → IsDue next offered view.arrived (is_by_input broken)
+        → Invariant scene line (record half { session = next }) read (record view { offered = offered; broken = broken })
+    runs_on next offered broken answered rest offers uncut breaks is_due =
         let t = runs.0 in
-        record { uncut = uncut; input_broke = input_broke; judged = t.judged; answered = t.answered; text = t.text; written = t.written; empty = t.empty; closed = t.closed }
-
-    runs_on : (d : Due) (b : Bool) (offered : List Incoming) (broken : Option Break)
-        → IsOffered (exchange_of scene) view.arrived offered broken → is_by_cut broken ≡ false → b ≡ is_by_input broken
-        → (is_by_input broken ≡ true → (has_close view.arrived ≡ true) ⊎ (half.is_over ≡ true))
-        → IsDue d (record half { due = d; input_broke = b }) (record view { offered = offered; broken = broken })
-        → Invariant scene line (record half { due = d; input_broke = b }) read (record view { offered = offered; broken = broken })
-    runs_on d b offered broken offers uncut input_broke breaks is_due =
-        stands_at d b half.stage offered broken view.got refl (prefix_self (said_in scene view)) (record { offered = offers; written = x.keeps.written }) breaks
-        (subst (λ (s : Stage). IsAt s scene (record half { due = d; input_broke = b }) (record view { offered = offered; broken = broken })) (sym is) (talks_on d b offered broken uncut input_broke, runs.1, is_due))
-
-    none_broke : half.input_broke ≡ false → view.broken ≡ None
-    none_broke unbroke = unbroken view.broken runs.0.uncut (sym runs.0.input_broke ∙ unbroke)
+        stands_at next half.stage offered broken view.got answered rest refl (prefix_self (said_in scene view)) (record { offered = offers; written = x.keeps.written }) breaks
+        (subst (λ (s : Stage). IsAt s scene (record half { session = next }) (record view { offered = offered; broken = broken })) (sym is) (
+          record {
+            uncut = uncut;
+            due = is_due;
+            judged = t.judged;
+            answered = sym answered ∙ t.answered;
+            text = λ e. t.text (answered ∙ e);
+            written = t.written;
+            empty = t.empty;
+          },
+          runs.1,
+        ))
 
     -- the event that waits is offered
-    pub offered_on : (event : Incoming) → half.due ≡ due.Waits event
-        → Invariant scene line (record half { due = due.Nothing }) read (record view { offered = view.offered ++ event ∷ [] })
-    offered_on event waits =
-        let w = subst (λ (d : Due). IsDue d half view) waits runs.2 in
-        let none = none_broke w.0 in
-        runs_on due.Nothing half.input_broke (view.offered ++ event ∷ []) view.broken
-        (subst (λ (b : Option Break). IsOffered (exchange_of scene) view.arrived (view.offered ++ event ∷ []) b) (sym none) ([], append-nil (view.offered ++ event ∷ []) ∙ w.1))
-        runs.0.uncut runs.0.input_broke x.breaks (λ shut unbroke. (w.1, w.2, w.4))
+    offered_on : (reply : Answer) (event : Incoming) → half.session ≡ session.Begun reply (Some event)
+        → Invariant scene line (record half { session = session.Begun reply None }) read (record view { offered = view.offered ++ event ∷ [] })
+    offered_on reply event waits =
+        let w = due_in (session.Begun reply (Some event)) waits in
+        let none : view.broken ≡ None = unbroken view.broken runs.0.uncut w.0 in
+        let all : (view.offered ++ event ∷ []) ++ [] ≡ session_events view.arrived = append-nil (view.offered ++ event ∷ []) ∙ w.1 in
+        runs_on (session.Begun reply None) (view.offered ++ event ∷ []) view.broken (ap answer_of waits ∙ same_answer reply (Some event) None) (ap rest_at waits)
+        (subst (λ (b : Option Break). IsOffered (exchange_of scene) view.arrived (view.offered ++ event ∷ []) b) (sym none) ([], all))
+        runs.0.uncut (λ e. cc (w.0, e)) (w.0, all, w.2)
 
     -- the disconnect is
-    pub left_on : (disconnect : Incoming) → half.due ≡ due.Left disconnect
-        → (view.broken ≡ None) × Invariant scene line (record half { due = due.Nothing; input_broke = true }) read (record view { offered = view.offered ++ disconnect ∷ []; broken = Some ByInput })
-    left_on disconnect left =
-        let w = subst (λ (d : Due). IsDue d half view) left runs.2 in (
-          none_broke w.0,
-          runs_on due.Nothing true (view.offered ++ disconnect ∷ []) (Some ByInput)
-              (ap (λ (l : List Incoming). l ++ disconnect ∷ []) w.1 ∙ ap (λ (e : Incoming). session_events view.arrived ++ e ∷ []) w.2)
-              refl refl (λ e. w.3) (λ shut unbroke. cc),
-        )
+    left_on : (next : Session) (event : Incoming) → answer_of half.session ≡ answer_of next → rest_at half.session ≡ rest_at next → is_by_input view.broken ≡ false
+        → view.offered ≡ session_events view.arrived → event ≡ session_disconnect view.arrived → (has_close view.arrived ≡ true) ⊎ (is_over_at next ≡ true)
+        → IsDue next (view.offered ++ event ∷ []) view.arrived true
+        → (view.broken ≡ None) × Invariant scene line (record half { session = next }) read (record view { offered = view.offered ++ event ∷ []; broken = Some ByInput })
+    left_on next event answered rest unbroke all is why is_due = (
+      unbroken view.broken runs.0.uncut unbroke,
+      runs_on next (view.offered ++ event ∷ []) (Some ByInput) answered rest
+          (ap (λ (l : List Incoming). l ++ event ∷ []) all ∙ ap (λ (e : Incoming). session_events view.arrived ++ e ∷ []) is) refl (λ e. why) is_due,
+    )
 
-    -- the same, with the clauses of the end's calls: what is due was taken out of the half before
-    module _ {E : Type 0} (C : conn_end.Ghosts E) (old new : E) (taken left : Due) (value : taken ≡ half.due) (after : left ≡ due.Nothing) (v : IsViewOf C old view) where
-      pub offered_view : (event : Incoming) → taken ≡ due.Waits event → C.offered new ≡ C.offered old ++ event ∷ [] → C.is_broken new ≡ C.is_broken old → C.got new ≡ C.got old
-          → (later : ConnView Msg Output) × Invariant scene line (record half { due = left }) read later × IsViewOf C new later
-      offered_view event waits offered broken got =
-          let later : ConnView Msg Output = record view { offered = view.offered ++ event ∷ [] } in (
-            later,
-            subst (λ (d : Due). Invariant scene line (record half { due = d }) read later) (sym after) (offered_on event (sym value ∙ waits)),
-            (ap (λ (l : List Incoming). l ++ event ∷ []) v.0 ∙ sym offered, v.1 ∙ sym broken, v.2 ∙ sym got),
-          )
-
-      pub left_view : (first : Bool) (disconnect : Incoming) → taken ≡ due.Left disconnect
-          → first ≡ not (C.is_broken old) → (IsTrue first → C.offered new ≡ C.offered old ++ disconnect ∷ []) → C.is_broken new ≡ true → C.got new ≡ C.got old
-          → (later : ConnView Msg Output) × Invariant scene line (record half { due = left; input_broke = true }) read later × IsViewOf C new later
-      left_view first disconnect is_left is_first on_first broken got =
-          let on = left_on disconnect (sym value ∙ is_left) in
-          let later : ConnView Msg Output = record view { offered = view.offered ++ disconnect ∷ []; broken = Some ByInput } in
-          let unbroken : C.is_broken old ≡ false = sym v.1 ∙ ap is_some on.0 in (
-            later,
-            subst (λ (d : Due). Invariant scene line (record half { due = d; input_broke = true }) read later) (sym after) on.1,
-            (ap (λ (l : List Incoming). l ++ disconnect ∷ []) v.0 ∙ sym (on_first (is_first ∙ ap not unbroken)), sym broken, v.2 ∙ sym got),
-          )
+    -- the same, with the clauses of the end's calls: the session was taken out of the half before
+    module _ {E : Type 0} (C : conn_end.Ghosts E) (old new : E) (taken : Session) (value : taken ≡ half.session) (v : IsViewOf C old view) where
+      pub offered_view : (reply : Answer) (event : Incoming) → taken ≡ session.Begun reply (Some event) → C.offered new ≡ C.offered old ++ event ∷ [] → C.is_broken new ≡ C.is_broken old
+          → C.got new ≡ C.got old → (later : ConnView Msg Output) × Invariant scene line (record half { session = session.Begun reply None }) read later × IsViewOf C new later
+      offered_view reply event waits offered broken got = (
+        record view { offered = view.offered ++ event ∷ [] },
+        offered_on reply event (sym value ∙ waits),
+        (ap (λ (l : List Incoming). l ++ event ∷ []) v.0 ∙ sym offered, v.1 ∙ sym broken, v.2 ∙ sym got),
+      )
 
       -- no place is free, and it is due again
-      pub waits_view : (event back : Incoming) → taken ≡ due.Waits event → back ≡ event → C.offered new ≡ C.offered old → C.is_broken new ≡ C.is_broken old → C.got new ≡ C.got old
-          → (later : ConnView Msg Output) × Invariant scene line (record half { due = due.Waits back }) read later × IsViewOf C new later
-      waits_view event back waits same offered broken got = (
+      pub waits_view : (reply : Answer) (event back : Incoming) → taken ≡ session.Begun reply (Some event) → back ≡ event → C.offered new ≡ C.offered old → C.is_broken new ≡ C.is_broken old
+          → C.got new ≡ C.got old → (later : ConnView Msg Output) × Invariant scene line (record half { session = session.Begun reply (Some back) }) read later × IsViewOf C new later
+      waits_view reply event back waits same offered broken got = (
         view,
-        subst (λ (d : Due). Invariant scene line (record half { due = d }) read view) (sym value ∙ waits ∙ ap (λ (e : Incoming). due.Waits e) (sym same)) x,
+        subst (λ (s : Session). Invariant scene line (record half { session = s }) read view)
+            (sym value ∙ waits ∙ ap (λ (e : Incoming). session.Begun reply (Some e)) (sym same)) x,
         (v.0 ∙ sym offered, v.1 ∙ sym broken, v.2 ∙ sym got),
       )
 
       -- nothing is due
-      pub none_view : taken ≡ due.Nothing → (later : ConnView Msg Output) × Invariant scene line (record half { due = left }) read later × IsViewOf C old later
-      none_view none = (view, subst (λ (d : Due). Invariant scene line (record half { due = d }) read view) (sym value ∙ none ∙ sym after) x, v)
+      pub none_view : (next : Session) → taken ≡ next → (later : ConnView Msg Output) × Invariant scene line (record half { session = next }) read later × IsViewOf C old later
+      none_view next none = (view, subst (λ (s : Session). Invariant scene line (record half { session = s }) read view) (sym value ∙ none) x, v)
+
+      module _ (first : Bool) (event : Incoming) (is_first : first ≡ not (C.is_broken old)) (on_first : IsTrue first → C.offered new ≡ C.offered old ++ event ∷ []) (broken : C.is_broken new ≡ true)
+          (got : C.got new ≡ C.got old) where
+        seen : view.broken ≡ None → IsViewOf C new (record view { offered = view.offered ++ event ∷ []; broken = Some ByInput })
+        seen none =
+            let unbroke : C.is_broken old ≡ false = sym v.1 ∙ ap is_some none in
+            (ap (λ (l : List Incoming). l ++ event ∷ []) v.0 ∙ sym (on_first (is_first ∙ ap not unbroke)), sym broken, v.2 ∙ sym got)
+
+        -- the client has closed
+        pub left_view : taken ≡ session.Leaves event
+            → (later : ConnView Msg Output) × Invariant scene line (record half { session = session.Closed Client (Some drop_limit) }) read later × IsViewOf C new later
+        left_view leaves =
+            let is_left : half.session ≡ session.Leaves event = sym value ∙ leaves in
+            let w = due_in (session.Leaves event) is_left in
+            let on = left_on (session.Closed Client (Some drop_limit)) event (ap answer_of is_left) (ap rest_at is_left) w.0 w.1 w.3 (inl w.2) (refl, w.2) in
+            (record view { offered = view.offered ++ event ∷ []; broken = Some ByInput }, on.1, seen on.0)
+
+        -- no message follows
+        pub broken_view : taken ≡ session.Breaks → event ≡ WsDisconnect 1006 [] → (next : Session) → next ≡ session.Broken
+            → (later : ConnView Msg Output) × Invariant scene line (record half { session = next }) read later × IsViewOf C new later
+        broken_view breaks is next after =
+            let is_left : half.session ≡ session.Breaks = sym value ∙ breaks in
+            let w = due_in session.Breaks is_left in
+            let on = left_on session.Broken event (ap answer_of is_left) (ap rest_at is_left) w.0 w.1 (is ∙ sym (none_is_heard view.arrived w.2)) (inr refl) (refl, w.2) in
+            let later : ConnView Msg Output = record view { offered = view.offered ++ event ∷ []; broken = Some ByInput } in
+            (later, subst (λ (s : Session). Invariant scene line (record half { session = s }) read later) (sym after) on.1, seen on.0)
 
 -- ---- the connection is cut short
 
@@ -268,11 +305,11 @@ module _ (scene : SessionScene) (line : LineState) (half : WebSocketHalf) (read 
       → (later : ConnView Msg Output) → IsCutOff (WsDisconnect 1006 []) view later → Invariant scene line (record half { stage = s }) read later
   stands_cut out s failures short at later (inl e) =
       subst (λ (v : ConnView Msg Output). Invariant scene line (record half { stage = s }) read v) (sym e)
-      (stands_at scene line half read view x half.due half.input_broke s view.offered view.broken view.got failures (prefix_self (said_in scene view)) x.keeps x.breaks (at view short refl))
+      (stands_at scene line half read view x half.session s view.offered view.broken view.got refl refl failures (prefix_self (said_in scene view)) x.keeps x.breaks (at view short refl))
   stands_cut out s failures short at later (inr (none, e)) =
       let offered = view.offered ++ WsDisconnect 1006 [] ∷ [] in
       subst (λ (v : ConnView Msg Output). Invariant scene line (record half { stage = s }) read v) (sym e)
-      (stands_at scene line half read view x half.due half.input_broke s offered (Some ByCut) view.got failures (prefix_self (said_in scene view)) (offers_of_cut scene view none x.keeps) (λ b. cc)
+      (stands_at scene line half read view x half.session s offered (Some ByCut) view.got refl refl failures (prefix_self (said_in scene view)) (offers_of_cut scene view none x.keeps) (λ b. cc)
       (at (record view { offered = offered; broken = Some ByCut }) (short_on scene view out offered (Some ByCut) (sym (ap is_by_input none)) short) refl))
 
   -- the exchange is given up when all that was taken is written
@@ -321,11 +358,11 @@ module _ (scene : SessionScene) (line : LineState) (half : WebSocketHalf) (read 
 
     pub took_event : (event : Outgoing) → Invariant scene line half read (record view { got = view.got ++ Event event ∷ [] })
     took_event event =
-        stands_at scene line half read view x half.due half.input_broke half.stage view.offered view.broken (view.got ++ Event event ∷ []) refl (accepted_after scene.facts view.got (Event event)) (keeps_after (Event event)) x.breaks
+        stands_at scene line half read view x half.session half.stage view.offered view.broken (view.got ++ Event event ∷ []) refl refl refl (accepted_after scene.facts view.got (Event event)) (keeps_after (Event event)) x.breaks
         (subst (λ (s : Stage). IsAt s scene half (record view { got = view.got ++ Event event ∷ [] })) (sym is)
         (short_after scene view out (Event event) unended.1 unended.0, end_event view.got event ∙ unended.1))
 
     pub took_end : (kind : EndKind) → Invariant scene line (record half { stage = stage.Over (ConnectionEnds out) }) read (record view { got = view.got ++ Ended kind ∷ [] })
     took_end kind =
-        stands_at scene line half read view x half.due half.input_broke (stage.Over (ConnectionEnds out)) view.offered view.broken (view.got ++ Ended kind ∷ []) (ap failures_at is) (accepted_after scene.facts view.got (Ended kind))
+        stands_at scene line half read view x half.session (stage.Over (ConnectionEnds out)) view.offered view.broken (view.got ++ Ended kind ∷ []) refl refl (ap failures_at is) (accepted_after scene.facts view.got (Ended kind))
         (keeps_after (Ended kind)) x.breaks (inr (short_after scene view out (Ended kind) unended.1 unended.0))

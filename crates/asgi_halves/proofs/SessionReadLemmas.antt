@@ -1,10 +1,10 @@
 -- The reads of a session: a message arrives and is heard, or it is dropped after a close.
-use Rattle.std.proofs.Common.{◌≡◌, ℕ, ◌+◌, ◌<◌, ◌≤◌, Bool, true, false, ◌||◌, List, [], ◌∷◌, ◌++◌, ◌⊎◌, inl, inr, refl, sym, ap, ◌∙◌, subst, append-nil, map, arith, Option, Some, None}
+use Rattle.std.proofs.Common.{◌≡◌, ℕ, ◌+◌, ◌<◌, ◌≤◌, Bool, true, false, ◌||◌, List, [], ◌∷◌, ◌++◌, inl, inr, refl, sym, ap, ◌∙◌, subst, append-nil, map, arith, Option, Some, None, zero, suc}
 use mathlib.Core.List.{IsPrefix}
 use Rattle.asgi_types.specs.declared.end_kind.EndKind.{EndKind}
 use Rattle.asgi_types.specs.declared.end_kind.EndKind.TheVariants as kind
 use Rattle.asgi_types.specs.declared.incoming.Incoming.{Incoming}
-use Rattle.asgi_types.specs.declared.incoming.Incoming.TheVariants.{WsReceive, WsDisconnect}
+use Rattle.asgi_types.specs.declared.incoming.Incoming.TheVariants.{WsReceive}
 use Rattle.asgi_types.specs.declared.incoming.Payload.TheVariants as payload
 use Rattle.asgi_types.specs.declared.outgoing.Outgoing.{Outgoing}
 use Rattle.asgi_types.specs.declared.outgoing.Outgoing.TheVariants.{ResponseStart, ResponseBody, WsAccept, WsSend, WsClose, DenialStart, DenialBody, StartupComplete, StartupFailed, ShutdownComplete, ShutdownFailed}
@@ -17,7 +17,7 @@ use Rattle.asgi_exchange.specs.Session.{Output, Message}
 use Rattle.asgi_exchange.specs.Steps.{is_by_input}
 use Rattle.asgi_exchange.specs.Views.{Break, ByInput, ByCut, ConnView, output, added_by, taken_of}
 use Rattle.asgi_exchange.proofs.ListLemmas.{prefix_same, prefix_trans}
-use Rattle.asgi_exchange.proofs.MessageLemmas.{events_grow, close_is_heard, none_is_heard}
+use Rattle.asgi_exchange.proofs.MessageLemmas.{events_grow, close_is_heard}
 use Rattle.asgi_exchange.proofs.SessionLemmas.{web_socket_is_steady}
 use Rattle.asgi_ws.specs.declared.messages.Got.{Got}
 use Rattle.asgi_ws.specs.declared.messages.Got.TheVariants as got
@@ -26,29 +26,31 @@ use Rattle.asgi_ws.specs.declared.messages.SentMessage.{SentMessage}
 use Rattle.asgi_ws.specs.declared.messages.Msg.{Msg}
 use Rattle.asgi_ws.specs.declared.messages.Msg.TheVariants.{Text, Bytes, Ping, Pong, Close}
 use Rattle.asgi_ws.specs.Sessions.{given_by, reads_after_close}
-use Rattle.asgi_conversation.specs.declared.following.NextStep.TheVariants.{ConnectionEnds}
 use Rattle.asgi_conversation.specs.declared.report.Outcome.TheVariants.{Finished, NoMemory}
 use Rattle.asgi_conversation.specs.Sessions.{handshake_of, session_outcome, after_session}
 use Rattle.asgi_halves.specs.declared.stage.Stage.{Stage}
-use Rattle.asgi_halves.specs.declared.stage.Stage.TheVariants.{Running, Cut, Over}
+use Rattle.asgi_halves.specs.declared.stage.Stage.TheVariants.{Running, Cut}
 use Rattle.asgi_halves.specs.declared.session_half.Answered.{Answered}
-use Rattle.asgi_halves.specs.declared.session_half.Answered.TheVariants.{Open, Closed}
-use Rattle.asgi_halves.specs.declared.session_half.Due.{Due}
-use Rattle.asgi_halves.specs.declared.session_half.Due.TheVariants as due
+use Rattle.asgi_halves.specs.declared.session_half.Answered.TheVariants.{Open}
+use Rattle.asgi_halves.specs.declared.session_half.Answer.TheVariants.{Awaited, Accepted, Refused}
+use Rattle.asgi_halves.specs.declared.session_half.Session.{Session}
+use Rattle.asgi_halves.specs.declared.session_half.Session.TheVariants as session
+use Rattle.asgi_halves.specs.declared.session_half.Reading.TheVariants as reading
+use Rattle.asgi_halves.specs.declared.session_half.Side.{Side}
+use Rattle.asgi_halves.specs.declared.session_half.Side.TheVariants.{Application, Client}
 use Rattle.asgi_halves.specs.declared.session_half.WebSocketHalf.{WebSocketHalf}
 use Rattle.asgi_ws.specs.Lines.{LineState}
 use Rattle.asgi_io.specs.declared.turns.Turn.{Turn}
 use Rattle.asgi_io.specs.declared.turns.Turn.TheVariants.{Idle, Moved}
-use Rattle.asgi_halves.specs.Kinds.{IsShut, IsTurnOfRead, turn_by}
-use Rattle.asgi_halves.specs.WebSocketHalf.{SessionScene, Invariant, Talks, EndsByTask, HasDropped, IsAt, IsDue, IsCarrying, MayDrop, PreservesByLine, Rests, RestsAt, exchange_of, said_in, output_in, talk_in, heard_by, lost_by, noted_by}
+use Rattle.asgi_halves.specs.Kinds.{IsShut, turn_by}
+use Rattle.asgi_halves.specs.WebSocketHalf.{SessionScene, Invariant, Talks, EndsByTask, IsAt, IsDue, IsCarrying, MayDrop, PreservesByLine, answer_of, exchange_of, heard_by, is_over_at, is_over_with, lost_by, noted_by, output_in, reads_at, rest_after, said_in, spare_at, spare_with, talk_in}
 use Rattle.asgi_halves.specs.Half.{failures_at}
 use Rattle.asgi_halves.specs.Traffic.{drop_limit, is_end}
 use Rattle.asgi_halves.specs.WebSocketHalf.{CarriesOn}
-use Rattle.asgi_halves.proofs.CallLemmas.{closes, closes_after, none_after, open_closes, read_after, or_none}
+use Rattle.asgi_halves.proofs.CallLemmas.{closes, closes_after, none_after, open_closes, read_after}
 use Rattle.asgi_halves.proofs.LineCallLemmas.{HasRead}
 use Rattle.asgi_halves.proofs.TalkLemmas.{talk_read}
-use Rattle.asgi_halves.proofs.TurnLemmas.{rests_else}
-use Rattle.asgi_halves.proofs.SessionOfferLemmas.{Carries, carrying, carrying_of}
+use Rattle.asgi_halves.proofs.SessionOfferLemmas.{Carries, carrying, carrying_of, due_in, runs}
 
 -- ---- more messages
 
@@ -135,30 +137,31 @@ carrying_still scene view arrived text leftover x =
     record { kept = x.kept; subprotocol = x.subprotocol; headers = x.headers; events = x.events; said = x.said; text_is = x.text_is }
 
 module _ (scene : SessionScene) (was now : LineState) (half : WebSocketHalf) (read : List ℕ) (view : ConnView Msg Output) (x : Invariant scene was half read view)
-    (unfailed : failures_at half.stage ≡ 0) (goes_on : half.is_over ≡ false) (carries : Carries half.answered) (closed : is_by_input view.broken ≡ true → has_close view.arrived ≡ true) (answer : Got) (call : HasRead was now answer) where
+    (unfailed : failures_at half.stage ≡ 0) (follows : is_over_at half.session ≡ false) (carries : Carries (answer_of half.session))
+    (closed : is_by_input view.broken ≡ true → has_close view.arrived ≡ true) (answer : Got) (call : HasRead was now answer) where
   is_carrying : IsCarrying scene view x.text x.leftover
-  is_carrying = carrying_of half.answered scene half view x.text x.leftover x.handed carries x.carried
+  is_carrying = carrying_of (answer_of half.session) scene half view x.text x.leftover x.handed carries x.carried
 
   -- The messages of the outcome arrived, and all else stays: the half's invariant holds again if that of the later stage does.
-  arrives : (next : Due) (client_closed : Bool) (is_over : Bool) (spare_reads : ℕ) (stage : Stage) → failures_at stage ≡ 0 → is_over ≡ (half.is_over || is_end answer)
-      → reads_after_close (x.line.carried.calls ++ Read answer ∷ []) + spare_reads ≤ drop_limit
-      → IsAt stage scene (record half { due = next; client_closed = client_closed; is_over = is_over; spare_reads = spare_reads; stage = stage }) (record view { arrived = view.arrived ++ given_by answer })
-      → Invariant scene now (record half { due = next; client_closed = client_closed; is_over = is_over; spare_reads = spare_reads; stage = stage }) read (record view { arrived = view.arrived ++ given_by answer })
-  arrives next client_closed is_over spare_reads stage none over few stands_at =
-      let later : WebSocketHalf = record half { due = next; client_closed = client_closed; is_over = is_over; spare_reads = spare_reads; stage = stage } in
+  arrives : (next : Session) (stage : Stage) → failures_at stage ≡ 0 → answer_of half.session ≡ answer_of next → is_over_at next ≡ is_end answer
+      → reads_after_close (x.line.carried.calls ++ Read answer ∷ []) + spare_at next ≤ drop_limit
+      → IsAt stage scene (record half { session = next; stage = stage }) (record view { arrived = view.arrived ++ given_by answer })
+      → Invariant scene now (record half { session = next; stage = stage }) read (record view { arrived = view.arrived ++ given_by answer })
+  arrives next stage none answered over few stands_at =
+      let later : WebSocketHalf = record half { session = next; stage = stage } in
       let seen : ConnView Msg Output = record view { arrived = view.arrived ++ given_by answer } in
-      let line : CarriesOn scene.start now half.wire.input read (scene.before ++ x.text) 0 (talk_in later seen x.leftover x.handed) spare_reads =
-      talk_read scene.start was now half.wire.input read (scene.before ++ x.text) (failures_at half.stage) unfailed (talk_in half view x.leftover x.handed) (talk_in later seen x.leftover x.handed) half.spare_reads
-      x.line call.text answer goes_on call.told call.loses call.count call.kept refl over refl refl spare_reads few
+      let line : CarriesOn scene.start now half.wire.input read (scene.before ++ x.text) 0 (talk_in later seen x.leftover x.handed) (spare_at next) =
+      talk_read scene.start was now half.wire.input read (scene.before ++ x.text) (failures_at half.stage) unfailed (talk_in half view x.leftover x.handed) (talk_in later seen x.leftover x.handed)
+      (spare_at half.session) x.line call.text answer follows call.told call.loses call.count call.kept refl (over ∙ ap (λ (b : Bool). b || is_end answer) (sym follows)) refl refl (spare_at next) few
       scene.frames is_carrying.kept in
       record {
         fixed = x.fixed;
         text = x.text;
         leftover = x.leftover;
         handed = x.handed;
-        line = subst (λ (n : ℕ). CarriesOn scene.start now half.wire.input read (scene.before ++ x.text) n (talk_in later seen x.leftover x.handed) spare_reads) (sym none) line;
+        line = subst (λ (n : ℕ). CarriesOn scene.start now half.wire.input read (scene.before ++ x.text) n (talk_in later seen x.leftover x.handed) (spare_at next)) (sym none) line;
         written = x.written;
-        carried = carrying half.answered scene later seen x.text x.leftover x.handed carries (carrying_still scene view seen.arrived x.text x.leftover is_carrying);
+        carried = carrying (answer_of next) scene later seen x.text x.leftover x.handed (subst (λ (a : Answered). Carries a) answered carries) (carrying_still scene view seen.arrived x.text x.leftover is_carrying);
         keeps = record {
           offered = offered_still scene view.arrived (given_by answer) view.offered view.broken closed x.keeps.offered;
           written = written_still scene view (view.arrived ++ given_by answer) x.keeps.written;
@@ -167,27 +170,19 @@ module _ (scene : SessionScene) (was now : LineState) (half : WebSocketHalf) (re
         stage = stands_at;
       }
 
--- what arrives changes nothing but whether the client closed
-talks_still : (scene : SessionScene) (half : WebSocketHalf) (view : ConnView Msg Output) (more : List Msg) (next : Due) (client_closed : Bool) (is_over : Bool) (spare_reads : ℕ) (stage : Stage)
-    → Talks scene half view → (half.answered ≡ Open → client_closed ≡ has_close (view.arrived ++ more))
-    → Talks scene (record half { due = next; client_closed = client_closed; is_over = is_over; spare_reads = spare_reads; stage = stage }) (record view { arrived = view.arrived ++ more })
-talks_still scene half view more next client_closed is_over spare_reads stage t closed = record {
+-- what arrives changes nothing but what is due
+talks_still : (scene : SessionScene) (half : WebSocketHalf) (view : ConnView Msg Output) (more : List Msg) (next : Session) (stage : Stage)
+    → Talks scene half view → answer_of half.session ≡ answer_of next → IsDue next view.offered (view.arrived ++ more) (is_by_input view.broken)
+    → Talks scene (record half { session = next; stage = stage }) (record view { arrived = view.arrived ++ more })
+talks_still scene half view more next stage t answered is_due = record {
   uncut = t.uncut;
-  input_broke = t.input_broke;
+  due = is_due;
   judged = t.judged;
-  answered = t.answered;
-  text = t.text;
+  answered = sym answered ∙ t.answered;
+  text = λ e. t.text (answered ∙ e);
   written = t.written;
   empty = t.empty;
-  closed = closed;
 }
-
-now_over : (b : Bool) → true ≡ (b || true)
-now_over true = refl
-now_over false = refl
-
-not_closed : (a : Answered) → a ≡ Open → a ≡ Closed → ⊥
-not_closed a opened shut = cc (opened, shut)
 
 not_both : (b : Bool) → b ≡ false → b ≡ true → ⊥
 not_both b is_false is_true = cc (is_false, is_true)
@@ -195,95 +190,92 @@ not_both b is_false is_true = cc (is_false, is_true)
 -- ---- it is heard
 
 module _ (scene : SessionScene) (was now : LineState) (half : WebSocketHalf) (read : List ℕ) (view : ConnView Msg Output) (x : Invariant scene was half read view)
-    (is : half.stage ≡ Running) (open_still : half.answered ≡ Open) (unbroke : half.input_broke ≡ false) (free : half.due ≡ due.Nothing) where
-  at_running : IsAt Running scene half view
-  at_running = subst (λ (s : Stage). IsAt s scene half view) is x.stage
+    (is : half.stage ≡ Running) (open_still : half.session ≡ session.Begun Accepted None) where
+  at_running : Talks scene half view × (end_of view.got ≡ None)
+  at_running = runs scene was half read view x is
 
-  all_offered : (view.offered ≡ session_events view.arrived) × (has_close view.arrived ≡ false) × (half.is_over ≡ false)
-  all_offered = subst (λ (d : Due). IsDue d half view) free at_running.2 (not_closed half.answered open_still) unbroke
+  due_here : (is_by_input view.broken ≡ false) × (view.offered ++ [] ≡ session_events view.arrived) × (has_close view.arrived ≡ false)
+  due_here = due_in scene was half read view x is (session.Begun Accepted None) open_still
+
+  all_offered : view.offered ≡ session_events view.arrived
+  all_offered = sym (append-nil view.offered) ∙ due_here.1
 
   -- no close was read, and none went out
-  few : (answer : Got) → reads_after_close (x.line.carried.calls ++ Read answer ∷ []) + half.spare_reads ≤ drop_limit
+  few : (answer : Got) → reads_after_close (x.line.carried.calls ++ Read answer ∷ []) ≡ 0
   few answer =
       let t = at_running.0 in
       let out : closes (map Message x.handed) ≡ false =
       sym (closes_after x.text (map Message x.handed)) ∙ ap closes (sym x.written ∙ t.written)
-      ∙ open_closes (handshake_of scene.facts) scene.facts (said_in scene view) (test_of_beginning WebSocket (said_in scene view) t.judged.lawful.begins) (sym t.answered ∙ open_still) in
-      let none : reads_after_close (x.line.carried.calls ++ Read answer ∷ []) ≡ 0 =
-      none_after x.line.carried.calls (sym (ap has_close x.line.carried.received) ∙ all_offered.1) (sym (ap (λ (l : List SentMessage). closes (map Message l)) x.line.carried.handed) ∙ out) answer in
-      omega (arith, none, x.line.within)
+      ∙ open_closes (handshake_of scene.facts) scene.facts (said_in scene view) (test_of_beginning WebSocket (said_in scene view) t.judged.lawful.begins) (sym t.answered ∙ ap answer_of open_still) in
+      none_after x.line.carried.calls (sym (ap has_close x.line.carried.received) ∙ due_here.2) (sym (ap (λ (l : List SentMessage). closes (map Message l)) x.line.carried.handed) ∙ out) answer
 
-  no_break : is_by_input view.broken ≡ true → has_close view.arrived ≡ true
-  no_break e = absurd (not_both half.input_broke unbroke (at_running.0.input_broke ∙ e))
+  -- the half's invariant holds again in a later stage, and if this is due of the message
+  goes_so : (answer : Got) → HasRead was now answer → (next : Session) (stage : Stage) → failures_at stage ≡ 0 → Open ≡ answer_of next → is_over_at next ≡ is_end answer → spare_at next ≤ drop_limit
+      → IsAt stage scene (record half { session = next; stage = stage }) (record view { arrived = view.arrived ++ given_by answer })
+      → Invariant scene now (record half { session = next; stage = stage }) read (record view { arrived = view.arrived ++ given_by answer })
+  goes_so answer call next stage none answered over within at =
+      arrives scene was now half read view x (ap failures_at is) (ap is_over_at open_still) (inl (ap answer_of open_still)) (λ e. absurd (not_both (is_by_input view.broken) due_here.0 e)) answer call next stage none
+      (ap answer_of open_still ∙ answered) over (omega (arith, few answer, within)) at
 
-  -- the half's invariant holds again if this is due of the message
-  goes_on : (answer : Got) → HasRead was now answer → (next : Due) (client_closed : Bool) (is_over : Bool) → is_over ≡ (half.is_over || is_end answer)
-      → client_closed ≡ has_close (view.arrived ++ given_by answer)
-      → IsDue next (record half { due = next; client_closed = client_closed; is_over = is_over }) (record view { arrived = view.arrived ++ given_by answer })
-      → Invariant scene now (record half { due = next; client_closed = client_closed; is_over = is_over }) read (record view { arrived = view.arrived ++ given_by answer })
-  goes_on answer call next client_closed is_over over closed is_due =
-      arrives scene was now half read view x (ap failures_at is) all_offered.2 (inl open_still) no_break answer call next client_closed is_over half.spare_reads half.stage (ap failures_at is) over (few answer)
-      (subst (λ (s : Stage). IsAt s scene (record half { due = next; client_closed = client_closed; is_over = is_over }) (record view { arrived = view.arrived ++ given_by answer })) (sym is)
-      (talks_still scene half view (given_by answer) next client_closed is_over half.spare_reads half.stage at_running.0 (λ o. closed), at_running.1, is_due))
-
-  grown : (message : Msg) → view.offered ++ events_in message ≡ session_events (view.arrived ++ message ∷ [])
-  grown message = ap (λ (l : List Incoming). l ++ events_in message) all_offered.0 ∙ sym (events_grow view.arrived message all_offered.1)
-
-  after : (message : Msg) → has_close (view.arrived ++ message ∷ []) ≡ has_close (message ∷ [])
-  after message = close_later view.arrived (message ∷ []) all_offered.1
-
-  -- the client has not closed yet
-  open_before : half.client_closed ≡ false
-  open_before = at_running.0.closed open_still ∙ all_offered.1
+  goes_on : (answer : Got) → HasRead was now answer → (next : Session) → Open ≡ answer_of next → is_over_at next ≡ is_end answer → spare_at next ≤ drop_limit
+      → IsDue next view.offered (view.arrived ++ given_by answer) (is_by_input view.broken)
+      → Invariant scene now (record half { session = next }) read (record view { arrived = view.arrived ++ given_by answer })
+  goes_on answer call next answered over within is_due =
+      goes_so answer call next half.stage (ap failures_at is) answered over within
+      (subst (λ (s : Stage). IsAt s scene (record half { session = next }) (record view { arrived = view.arrived ++ given_by answer })) (sym is)
+      (talks_still scene half view (given_by answer) next half.stage at_running.0 (ap answer_of open_still ∙ answered) is_due, at_running.1))
 
   -- nothing is heard of it
+  stays_so : (answer : Got) → HasRead was now answer → is_end answer ≡ false → session_events view.arrived ≡ session_events (view.arrived ++ given_by answer) → has_close (view.arrived ++ given_by answer) ≡ false
+      → Invariant scene now half read (record view { arrived = view.arrived ++ given_by answer })
+  stays_so answer call on same unclosed =
+      subst (λ (s : Session). Invariant scene now (record half { session = s }) read (record view { arrived = view.arrived ++ given_by answer })) (sym open_still)
+      (goes_on answer call (session.Begun Accepted None) refl (sym on) (omega arith) (due_here.0, due_here.1 ∙ same, unclosed))
+
+  grown : (message : Msg) → view.offered ++ events_in message ≡ session_events (view.arrived ++ message ∷ [])
+  grown message = ap (λ (l : List Incoming). l ++ events_in message) all_offered ∙ sym (events_grow view.arrived message due_here.2)
+
+  after : (message : Msg) → has_close (view.arrived ++ message ∷ []) ≡ has_close (message ∷ [])
+  after message = close_later view.arrived (message ∷ []) due_here.2
+
+  -- its event waits
+  waits : (message : Msg) (event : Incoming) → HasRead was now (got.Message message) → events_in message ≡ event ∷ [] → has_close (message ∷ []) ≡ false
+      → Invariant scene now (record half { session = session.Begun Accepted (Some event) }) read (record view { arrived = view.arrived ++ message ∷ [] })
+  waits message event call gives unclosed =
+      goes_on (got.Message message) call (session.Begun Accepted (Some event)) refl refl (omega arith)
+      (due_here.0, ap (λ (l : List Incoming). view.offered ++ l) (sym gives) ∙ grown message, after message ∙ unclosed)
+
   passes_by : (message : Msg) → HasRead was now (got.Message message) → events_in message ≡ [] → has_close (message ∷ []) ≡ false
       → Invariant scene now half read (record view { arrived = view.arrived ++ message ∷ [] })
-  passes_by message call none no_close =
-      goes_on (got.Message message) call half.due half.client_closed half.is_over (sym (or_none half.is_over)) (open_before ∙ sym (after message ∙ no_close))
-      (subst (λ (d : Due). IsDue d half (record view { arrived = view.arrived ++ message ∷ [] })) (sym free)
-      (λ unclosed still. (sym (append-nil view.offered) ∙ ap (λ (l : List Incoming). view.offered ++ l) (sym none) ∙ grown message, after message ∙ no_close, all_offered.2)))
+  passes_by message call none unclosed =
+      stays_so (got.Message message) call refl (sym due_here.1 ∙ ap (λ (l : List Incoming). view.offered ++ l) (sym none) ∙ grown message) (after message ∙ unclosed)
 
   heard : (message : Msg) → HasRead was now (got.Message message) → Invariant scene now (heard_by half message) read (record view { arrived = view.arrived ++ message ∷ [] })
-  heard (Text text) call =
-      goes_on (got.Message (Text text)) call (due.Waits (WsReceive (payload.Text text))) half.client_closed half.is_over (sym (or_none half.is_over)) (open_before ∙ sym (after (Text text)))
-      (unbroke, grown (Text text), after (Text text), not_closed half.answered open_still, all_offered.2)
-  heard (Bytes bytes) call =
-      goes_on (got.Message (Bytes bytes)) call (due.Waits (WsReceive (payload.Bytes bytes))) half.client_closed half.is_over (sym (or_none half.is_over)) (open_before ∙ sym (after (Bytes bytes)))
-      (unbroke, grown (Bytes bytes), after (Bytes bytes), not_closed half.answered open_still, all_offered.2)
+  heard (Text text) call = waits (Text text) (WsReceive (payload.Text text)) call refl refl
+  heard (Bytes bytes) call = waits (Bytes bytes) (WsReceive (payload.Bytes bytes)) call refl refl
   heard Ping call = passes_by Ping call refl refl
   heard Pong call = passes_by Pong call refl refl
   heard (Close close) call =
-      goes_on (got.Message (Close close)) call (due.Left (disconnect_of (Some close))) true half.is_over (sym (or_none half.is_over)) (sym (after (Close close)))
-      (unbroke, sym (append-nil view.offered) ∙ grown (Close close), sym (close_is_heard view.arrived close all_offered.1), inl (after (Close close)), not_closed half.answered open_still)
-
-  -- nothing is there yet
-  nothing_yet : HasRead was now got.Idle → Invariant scene now half read (record view { arrived = view.arrived ++ [] })
-  nothing_yet call =
-      goes_on got.Idle call half.due half.client_closed half.is_over (sym (or_none half.is_over)) (at_running.0.closed open_still ∙ ap has_close (sym (append-nil view.arrived)))
-      (subst (λ (l : List Msg). IsDue half.due half (record view { arrived = l })) (sym (append-nil view.arrived)) at_running.2)
+      goes_on (got.Message (Close close)) call (session.Leaves (disconnect_of (Some close))) refl refl (omega arith)
+      (due_here.0, sym (append-nil view.offered) ∙ grown (Close close), after (Close close), sym (close_is_heard view.arrived close due_here.2))
 
   -- no message follows
   lost : (answer : Got) → HasRead was now answer → given_by answer ≡ [] → is_end answer ≡ true
       → Invariant scene now (lost_by half) read (record view { arrived = view.arrived ++ given_by answer })
   lost answer call none ends =
-      let same : view.arrived ++ given_by answer ≡ view.arrived = ap (λ (l : List Msg). view.arrived ++ l) none ∙ append-nil view.arrived in
-      goes_on answer call (due.Left (WsDisconnect 1006 [])) half.client_closed true (now_over half.is_over ∙ ap (λ (b : Bool). half.is_over || b) (sym ends))
-      (at_running.0.closed open_still ∙ ap has_close (sym same))
-      (unbroke, all_offered.0 ∙ ap session_events (sym same), sym (none_is_heard view.arrived all_offered.1) ∙ ap session_disconnect (sym same), inr refl, not_closed half.answered open_still)
-
-  -- memory was refused
-  read_short : HasRead was now got.NoMemory → Invariant scene now (record half { stage = Cut NoMemory }) read (record view { arrived = view.arrived ++ [] })
-  read_short call =
-      arrives scene was now half read view x (ap failures_at is) all_offered.2 (inl open_still) no_break got.NoMemory call half.due half.client_closed half.is_over half.spare_reads (Cut NoMemory) refl (sym (or_none half.is_over)) (few got.NoMemory)
-      (prefix_same view.written (output_in scene view) at_running.0.written, at_running.1)
+      let same : view.arrived ≡ view.arrived ++ given_by answer = sym (append-nil view.arrived) ∙ ap (λ (l : List Msg). view.arrived ++ l) (sym none) in
+      goes_on answer call session.Breaks refl (sym ends) (omega arith) (due_here.0, all_offered ∙ ap session_events same, ap has_close (sym same) ∙ due_here.2)
 
   pub noted : (answer : Got) → HasRead was now answer → Invariant scene now (noted_by half answer) read (record view { arrived = view.arrived ++ given_by answer })
   noted (got.Message message) call = heard message call
-  noted got.Idle call = nothing_yet call
+  noted got.Idle call =
+      let same : view.arrived ++ [] ≡ view.arrived = append-nil view.arrived in
+      stays_so got.Idle call refl (ap session_events (sym same)) (ap has_close same ∙ due_here.2)
   noted got.Ended call = lost got.Ended call refl refl
   noted got.Failed call = lost got.Failed call refl refl
-  noted got.NoMemory call = read_short call
+  noted got.NoMemory call =
+      subst (λ (s : Session). Invariant scene now (record half { session = s; stage = Cut NoMemory }) read (record view { arrived = view.arrived ++ [] })) (sym open_still)
+      (goes_so got.NoMemory call (session.Begun Accepted None) (Cut NoMemory) refl refl refl (omega arith) (prefix_same view.written (output_in scene view) at_running.0.written, at_running.1))
 
 -- the turn of a read that is noted: it has moved if the connection is cut short, and left the half as it was if it is idle
 pub moves_if_shut : (half : WebSocketHalf) (answer : Got) (turn : Turn) → half.stage ≡ Running → turn ≡ turn_by answer → IsShut (noted_by half answer).stage → turn ≡ Moved
@@ -300,95 +292,114 @@ keeps_if_idle half got.Ended turn is idle = absurd (cc (is, idle))
 keeps_if_idle half got.Failed turn is idle = absurd (cc (is, idle))
 keeps_if_idle half got.NoMemory turn is idle = absurd (cc (is, idle))
 
+-- ---- what is read, by the session
+
+pub hears_in : (state : Session) → reads_at state ≡ reading.Hears → state ≡ session.Begun Accepted None
+hears_in (session.Begun Accepted None) is = refl
+hears_in (session.Begun Awaited waits) is = absurd (cc)
+hears_in (session.Begun Refused waits) is = absurd (cc)
+hears_in (session.Begun Accepted (Some event)) is = absurd (cc)
+hears_in (session.Closed side None) is = absurd (cc)
+hears_in (session.Closed side (Some zero)) is = absurd (cc)
+hears_in (session.Closed side (Some (suc n))) is = absurd (cc)
+hears_in _ is = absurd (cc)
+
+pub drops_in : (state : Session) (side : Side) (spare : ℕ) → reads_at state ≡ reading.Drops side spare → (state ≡ session.Closed side (Some spare)) × (0 < spare)
+drops_in (session.Closed at (Some (suc n))) side spare is =
+    let same : (at ≡ side) × (suc n ≡ spare) = (cc, cc) in
+    (ap (λ (s : Side). session.Closed s (Some (suc n))) same.0 ∙ ap (λ (m : ℕ). session.Closed side (Some m)) same.1, subst (λ (m : ℕ). 0 < m) same.1 (omega arith))
+drops_in (session.Begun Awaited waits) side spare is = absurd (cc)
+drops_in (session.Begun Refused waits) side spare is = absurd (cc)
+drops_in (session.Begun Accepted (Some event)) side spare is = absurd (cc)
+drops_in (session.Begun Accepted None) side spare is = absurd (cc)
+drops_in (session.Closed at None) side spare is = absurd (cc)
+drops_in (session.Closed at (Some zero)) side spare is = absurd (cc)
+drops_in _ side spare is = absurd (cc)
+
 -- ---- it is dropped
 
-unfailed_there : (half : WebSocketHalf) → MayDrop half → failures_at half.stage ≡ 0
-unfailed_there half (inl (running, free, why)) = ap failures_at running
-unfailed_there half (inr (over, why)) = ap failures_at over
+-- exactly one read less is left, or none
+over_after : (spare : ℕ) (answer : Got) → is_over_with (rest_after spare answer) ≡ is_end answer
+over_after spare (got.Message message) = refl
+over_after spare got.Idle = refl
+over_after spare got.Ended = refl
+over_after spare got.Failed = refl
+over_after spare got.NoMemory = refl
 
-carries_there : (half : WebSocketHalf) → MayDrop half → Carries half.answered
-carries_there half (inl (running, free, inl closed)) = inr closed
-carries_there half (inl (running, free, inr (open_still, input_broke))) = inl open_still
-carries_there half (inr (over, inl open_still)) = inl open_still
-carries_there half (inr (over, inr closed)) = inr closed
+one_less : (spare : ℕ) (answer : Got) → 0 < spare → spare_with (rest_after spare answer) + 1 ≤ spare
+one_less spare (got.Message message) some = omega arith
+one_less spare got.Idle some = omega arith
+one_less spare got.Ended some = omega arith
+one_less spare got.Failed some = omega arith
+one_less spare got.NoMemory some = omega arith
 
-module _ (scene : SessionScene) (was now : LineState) (half : WebSocketHalf) (read : List ℕ) (view : ConnView Msg Output) (x : Invariant scene was half read view)
-    (still : half.is_over ≡ false) where
-  -- more messages may follow, so that a break by the input was by a close
-  closed_before : is_by_input view.broken ≡ true → has_close view.arrived ≡ true
-  closed_before e = elim (x.breaks e) [ inl closed ↦ closed | inr over ↦ absurd (not_both half.is_over still over) ]
+same_side : (side : Side) (rest later : Option ℕ) → answer_of (session.Closed side rest) ≡ answer_of (session.Closed side later)
+same_side Application rest later = refl
+same_side Client rest later = refl
 
-  -- while the application goes on
-  talks_on : (more : List Msg) (is_over : Bool) (spare_reads : ℕ) → half.stage ≡ Running → half.due ≡ due.Nothing → (half.answered ≡ Closed) ⊎ ((half.answered ≡ Open) × (half.input_broke ≡ true))
-      → IsAt Running scene (record half { is_over = is_over; spare_reads = spare_reads }) (record view { arrived = view.arrived ++ more })
-  talks_on more is_over spare_reads is free (inl closed) =
-      let at : IsAt Running scene half view = subst (λ (s : Stage). IsAt s scene half view) is x.stage in (
-        talks_still scene half view more half.due half.client_closed is_over spare_reads half.stage at.0 (λ o. absurd (not_closed half.answered o closed)),
-        at.1,
-        subst (λ (d : Due). IsDue d (record half { is_over = is_over; spare_reads = spare_reads }) (record view { arrived = view.arrived ++ more })) (sym free) (λ unclosed unbroke. absurd (unclosed closed)),
-      )
-  talks_on more is_over spare_reads is free (inr (open_still, input_broke)) =
-      let at : IsAt Running scene half view = subst (λ (s : Stage). IsAt s scene half view) is x.stage in
-      let closed : has_close view.arrived ≡ true = closed_before (sym at.0.input_broke ∙ input_broke) in (
-        talks_still scene half view more half.due half.client_closed is_over spare_reads half.stage at.0 (λ o. at.0.closed o ∙ closed ∙ sym (close_stays view.arrived more closed)),
-        at.1,
-        subst (λ (d : Due). IsDue d (record half { is_over = is_over; spare_reads = spare_reads }) (record view { arrived = view.arrived ++ more })) (sym free)
-            (λ unclosed unbroke. absurd (not_both half.input_broke unbroke input_broke)),
-      )
+carries_closed : (side : Side) (rest : Option ℕ) → Carries (answer_of (session.Closed side rest))
+carries_closed Application rest = inr refl
+carries_closed Client rest = inl refl
 
-  -- once the exchange is over
-  ends_on : (more : List Msg) → EndsByTask scene view Finished → EndsByTask scene (record view { arrived = view.arrived ++ more }) Finished
-  ends_on more ends = record {
-    kind = ends.kind;
-    taken = ends.taken;
-    uncut = ends.uncut;
-    follows = follows_still ends.kind (said_in scene view) (is_by_input view.broken) view.arrived more closed_before ∙ ends.follows;
-    out = ends.out;
-  }
+closed_still : (side : Side) (rest later : Option ℕ) (offered : List Incoming) (arrived more : List Msg) (broke : Bool) → IsDue (session.Closed side rest) offered arrived broke
+    → IsDue (session.Closed side later) offered (arrived ++ more) broke
+closed_still Application rest later offered arrived more broke d = tt
+closed_still Client rest later offered arrived more broke d = (d.0, close_stays arrived more d.1)
 
-  over_on : (more : List Msg) (later : WebSocketHalf) → IsAt (Over (ConnectionEnds Finished)) scene half view → IsAt (Over (ConnectionEnds Finished)) scene later (record view { arrived = view.arrived ++ more })
-  over_on more later (inl ends) = inl (ends_on more ends)
-  over_on more later (inr cut) = absurd cut
+module _ (was now : LineState) (half : WebSocketHalf) (may : MayDrop half.stage) (side : Side) (spare : ℕ) (is : half.session ≡ session.Closed side (Some spare)) (some : 0 < spare) (answer : Got)
+    (call : HasRead was now answer) where
+  unfailed : failures_at half.stage ≡ 0
+  unfailed = elim may [ inl running ↦ ap failures_at running | inr over ↦ ap failures_at over ]
 
-  stage_on : (more : List Msg) (is_over : Bool) (spare_reads : ℕ) → MayDrop half
-      → IsAt half.stage scene (record half { is_over = is_over; spare_reads = spare_reads }) (record view { arrived = view.arrived ++ more })
-  stage_on more is_over spare_reads (inl (running, free, why)) =
-      subst (λ (s : Stage). IsAt s scene (record half { is_over = is_over; spare_reads = spare_reads }) (record view { arrived = view.arrived ++ more })) (sym running)
-      (talks_on more is_over spare_reads running free why)
-  stage_on more is_over spare_reads (inr (over, why)) =
-      subst (λ (s : Stage). IsAt s scene (record half { is_over = is_over; spare_reads = spare_reads }) (record view { arrived = view.arrived ++ more })) (sym over)
-      (over_on more (record half { is_over = is_over; spare_reads = spare_reads }) (subst (λ (s : Stage). IsAt s scene half view) over x.stage))
+  module _ (scene : SessionScene) (read : List ℕ) (view : ConnView Msg Output) (x : Invariant scene was half read view) where
+    abbrev next : Session
+    next = session.Closed side (rest_after spare answer)
 
-  pub dropped : MayDrop half → (answer : Got) → HasRead was now answer → (is_over : Bool) (spare_reads : ℕ) → is_over ≡ (half.is_over || is_end answer) → spare_reads < half.spare_reads
-      → Invariant scene now (record half { is_over = is_over; spare_reads = spare_reads }) read (record view { arrived = view.arrived ++ given_by answer })
-  dropped may answer call is_over spare_reads over fewer =
-      arrives scene was now half read view x (unfailed_there half may) still (carries_there half may) closed_before answer call half.due half.client_closed is_over spare_reads half.stage (unfailed_there half may) over
-      (omega (arith, read_after x.line.carried.calls answer, x.line.within, fewer))
-      (stage_on (given_by answer) is_over spare_reads may)
+    abbrev seen : ConnView Msg Output
+    seen = record view { arrived = view.arrived ++ given_by answer }
 
--- the half after a read that is dropped: only whether more may follow, and how many more are read
-pub leads_dropped : (was now : LineState) (half later : WebSocketHalf) (answer : Got) (is_over : Bool) (spare_reads : ℕ) → MayDrop half → half.is_over ≡ false → HasRead was now answer
-    → is_over ≡ is_end answer → later ≡ record half { is_over = is_over; spare_reads = spare_reads } → spare_reads < half.spare_reads → PreservesByLine was half now later
-leads_dropped was now half later answer is_over spare_reads may still call over same fewer scene read view x = (
-  view.arrived ++ given_by answer,
-  view.written,
-  subst (λ (h : WebSocketHalf). Invariant scene now h read (record view { arrived = view.arrived ++ given_by answer })) (sym same)
-      (dropped scene was now half read view x still may answer call is_over spare_reads (over ∙ ap (λ (b : Bool). b || is_end answer) (sym still)) fewer),
-)
+    same : answer_of half.session ≡ answer_of next
+    same = ap answer_of is ∙ same_side side (Some spare) (rest_after spare answer)
 
--- ---- the turn of a read that is dropped
+    -- more messages may follow, so that a break by the input was by a close
+    closed_before : is_by_input view.broken ≡ true → has_close view.arrived ≡ true
+    closed_before e = elim (x.breaks e) [ inl closed ↦ closed | inr over ↦ absurd (not_both (is_over_at half.session) (ap is_over_at is) over) ]
 
-module _ (was now : LineState) (half later : WebSocketHalf) (turn : Turn) (same : later ≡ record half { is_over = later.is_over; spare_reads = later.spare_reads })
-    (x : IsTurnOfRead (HasDropped later) was now turn) where
-  rests_with : (state : Answered) → half.answered ≡ state → (HasDropped later → RestsAt state later) → IsTurnOfRead (Rests later) was now turn
-  rests_with state is then =
-      rests_else was now turn (λ dropped none. subst (λ (a : Answered). RestsAt a later) (sym (ap (λ (h : WebSocketHalf). h.answered) same ∙ is)) (then dropped)) x
+    over_on : EndsByTask scene view Finished → EndsByTask scene seen Finished
+    over_on ends = record {
+      kind = ends.kind;
+      taken = ends.taken;
+      uncut = ends.uncut;
+      follows = follows_still ends.kind (said_in scene view) (is_by_input view.broken) view.arrived (given_by answer) closed_before ∙ ends.follows;
+      out = ends.out;
+    }
 
-  pub turn_closed : half.answered ≡ Closed → IsTurnOfRead (Rests later) was now turn
-  turn_closed closed = rests_with Closed closed (λ dropped. dropped)
+    -- while the application goes on, or once the exchange is over
+    stage_on : MayDrop half.stage → IsAt half.stage scene (record half { session = next }) seen
+    stage_on (inl running) =
+        let r = runs scene was half read view x running in
+        subst (λ (s : Stage). IsAt s scene (record half { session = next }) seen) (sym running) (
+          talks_still scene half view (given_by answer) next half.stage r.0 same
+              (closed_still side (Some spare) (rest_after spare answer) view.offered view.arrived (given_by answer) (is_by_input view.broken) (due_in scene was half read view x running (session.Closed side (Some spare)) is)),
+          r.1,
+        )
+    stage_on (inr over) =
+        subst (λ (s : Stage). IsAt s scene (record half { session = next }) seen) (sym over)
+        (elim (subst (λ (s : Stage). IsAt s scene half view) over x.stage) [ inl ends ↦ inl (over_on ends) | inr cut ↦ absurd cut ])
 
-  pub turn_lost : half.answered ≡ Open → half.input_broke ≡ true → IsTurnOfRead (Rests later) was now turn
-  turn_lost opened broke = rests_with Open opened (λ dropped. (ap (λ (h : WebSocketHalf). h.input_broke) same ∙ broke, dropped))
+    dropped : Invariant scene now (record half { session = next }) read seen
+    dropped =
+        arrives scene was now half read view x unfailed (ap is_over_at is) (subst (λ (s : Session). Carries (answer_of s)) (sym is) (carries_closed side (Some spare))) closed_before answer call next half.stage unfailed same
+        (over_after spare answer)
+        (omega (arith, read_after x.line.carried.calls answer, subst (λ (s : Session). reads_after_close x.line.carried.calls + spare_at s ≤ drop_limit) is x.line.within, one_less spare answer some))
+        (stage_on may)
+
+  pub leads_dropped : (later : WebSocketHalf) → later ≡ record half { session = session.Closed side (rest_after spare answer) } → PreservesByLine was half now later
+  leads_dropped later same scene read view x = (
+    view.arrived ++ given_by answer,
+    view.written,
+    subst (λ (h : WebSocketHalf). Invariant scene now h read (record view { arrived = view.arrived ++ given_by answer })) (sym same) (dropped scene read view x),
+  )
 
 -- ---- one step after the other
 

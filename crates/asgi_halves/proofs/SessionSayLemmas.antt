@@ -10,6 +10,7 @@ use Rattle.asgi_io.specs.Writing.{TriesWrites}
 use Rattle.asgi_types.specs.Fields.{HeaderField}
 use Rattle.asgi_types.specs.declared.end_kind.EndKind.{EndKind}
 use Rattle.asgi_types.specs.declared.facts.Facts.{Facts}
+use Rattle.asgi_types.specs.declared.incoming.Incoming.{Incoming}
 use Rattle.asgi_types.specs.declared.incoming.Payload.{Payload}
 use Rattle.asgi_types.specs.declared.outgoing.Outgoing.{Outgoing}
 use Rattle.asgi_types.specs.declared.outgoing.Outgoing.TheVariants.{WsAccept, WsSend, WsClose}
@@ -19,7 +20,6 @@ use Rattle.asgi_protocol.specs.Passing.{passes}
 use Rattle.asgi_protocol.specs.Shapes.{is_closed}
 use Rattle.asgi_protocol.specs.Stages as judging
 use Rattle.asgi_response.specs.Exchange.{refusal_text}
-use Rattle.asgi_pipes.specs.declared.items.OutItem.{OutItem}
 use Rattle.asgi_pipes.specs.declared.items.OutItem.TheVariants.{Event}
 use Rattle.asgi_ws.specs.declared.messages.Call.TheVariants.{Send}
 use Rattle.asgi_ws.specs.declared.messages.SentMessage.{SentMessage}
@@ -32,6 +32,7 @@ use Rattle.asgi_ws.specs.Sessions.{taken_by, has_failed, count_after, kept_by}
 use Rattle.asgi_exchange.specs.Items.{end_of}
 use Rattle.asgi_exchange.specs.Messages.{has_close}
 use Rattle.asgi_exchange.specs.Session.{Output, Byte, Message, accepted_session, event_output, output_of, session_output}
+use Rattle.asgi_exchange.specs.Steps.{is_by_input}
 use Rattle.asgi_exchange.specs.Views.{ConnView, added_by, output, taken_of}
 use Rattle.asgi_exchange.proofs.EventLemmas.{events_append, end_event}
 use Rattle.asgi_exchange.proofs.SessionLemmas.{event_adds}
@@ -42,12 +43,15 @@ use Rattle.asgi_halves.specs.declared.stage.Stage.{Stage}
 use Rattle.asgi_halves.specs.declared.stage.Stage.TheVariants.{Running, Cut}
 use Rattle.asgi_halves.specs.declared.session_half.Answered.{Answered}
 use Rattle.asgi_halves.specs.declared.session_half.Answered.TheVariants.{Unanswered, Open, Closed, Refused}
-use Rattle.asgi_halves.specs.declared.session_half.Due.{Due}
-use Rattle.asgi_halves.specs.declared.session_half.Due.TheVariants as due
+use Rattle.asgi_halves.specs.declared.session_half.Answer.{Answer}
+use Rattle.asgi_halves.specs.declared.session_half.Answer.TheVariants as to
+use Rattle.asgi_halves.specs.declared.session_half.Session.{Session}
+use Rattle.asgi_halves.specs.declared.session_half.Session.TheVariants as session
+use Rattle.asgi_halves.specs.declared.session_half.Side.TheVariants.{Application, Client}
 use Rattle.asgi_halves.specs.declared.session_half.WebSocketHalf.{WebSocketHalf}
 use Rattle.asgi_ws.specs.Lines.{LineState}
 use Rattle.asgi_run.specs.Lines.{how_wrote}
-use Rattle.asgi_halves.specs.WebSocketHalf.{SessionScene, Invariant, IsAccept, Talks, IsAt, IsCarried, IsCarrying, IsDue, IsSilent, answer_to, exchange_of, known, output_in, said_in, stage_of, talk_in, IsOf}
+use Rattle.asgi_halves.specs.WebSocketHalf.{SessionScene, Invariant, IsAccept, Talks, IsAt, IsCarried, IsCarrying, IsDue, IsOf, IsSilent, answer_of, answer_to, answered_with, exchange_of, is_over_with, known, output_in, rest_at, said_in, spare_at, spare_with, stage_of, talk_in}
 use Rattle.asgi_halves.specs.WebSocketHalf.{CarriesOn}
 use Rattle.asgi_run.proofs.LineLemmas.{tries_front}
 use Rattle.asgi_halves.proofs.SessionPassLemmas.{more_said, accept_is_first, close_has_place, send_is_in_session, open_is_accepted, not_closed, open_after_send, closed_after_close}
@@ -56,7 +60,7 @@ use Rattle.asgi_halves.proofs.CallLemmas.{failures_by, as_messages, as_text}
 use Rattle.asgi_halves.proofs.TalkLemmas.{LeavesText, talk_written, talk_sent, talk_upgraded}
 use Rattle.asgi_response.specs.declared.text.ResponseText.{ResponseText}
 use Rattle.asgi_response.specs.Standing as standing
-use Rattle.asgi_halves.proofs.SessionOfferLemmas.{Carries, carrying, line_at, runs}
+use Rattle.asgi_halves.proofs.SessionOfferLemmas.{Carries, carrying, line_at, runs, same_answer}
 
 -- ---- the line carries messages
 
@@ -64,24 +68,40 @@ is_answered : (progress : Answered) → Carries progress → progress ≡ Unansw
 is_answered progress (inl is) e = let never : Open ≡ Unanswered = sym is ∙ e in cc
 is_answered progress (inr is) e = let never : Closed ≡ Unanswered = sym is ∙ e in cc
 
+refused_is_none : Refused ≡ Unanswered → ⊥
+refused_is_none e = cc
+
+open_is_some : Open ≡ Unanswered → ⊥
+open_is_some e = cc
+
 no_text : (text : List ℕ) (handed : List SentMessage) → map Byte text ++ map Message handed ≡ [] → text ≡ []
 no_text [] handed e = refl
 no_text (b ∷ text) handed e = absurd (cc)
 
-not_both : Open ≡ Closed → ⊥
-not_both e = cc
+-- ---- the handshake is answered
 
--- ---- what is due
+-- nothing else changes
+same_rest : (reply : Answer) (state : Session) → rest_at state ≡ rest_at (answered_with reply state)
+same_rest reply (session.Begun before waits) = refl
+same_rest reply (session.Leaves event) = refl
+same_rest reply session.Breaks = refl
+same_rest reply session.Broken = refl
+same_rest reply (session.Closed side rest) = refl
 
-due_stays : (d : Due) (old new : WebSocketHalf) (view : ConnView Msg Output) (got : List OutItem) (written : List Output) → new.input_broke ≡ old.input_broke → new.is_over ≡ old.is_over
-    → old.answered ≢ Closed → new.answered ≢ Closed → IsDue d old view → IsDue d new (record view { got = got; written = written })
-due_stays due.Nothing old new view got written input_broke over was is x = λ other unbroken. (let y = x was (sym input_broke ∙ unbroken) in (y.0, y.1, over ∙ y.2))
-due_stays (due.Waits event) old new view got written input_broke over was is x = (input_broke ∙ x.0, x.1, x.2, is, over ∙ x.4)
-due_stays (due.Left event) old new view got written input_broke over was is x = (input_broke ∙ x.0, x.1, x.2, over_as x.3, is)
-  where
-    over_as : (has_close view.arrived ≡ true) ⊎ (old.is_over ≡ true) → (has_close view.arrived ≡ true) ⊎ (new.is_over ≡ true)
-    over_as (inl h) = inl h
-    over_as (inr h) = inr (over ∙ h)
+same_due : (reply : Answer) (state : Session) (offered : List Incoming) (arrived : List Msg) (broke : Bool) → IsDue state offered arrived broke → IsDue (answered_with reply state) offered arrived broke
+same_due reply (session.Begun before waits) offered arrived broke d = d
+same_due reply (session.Leaves event) offered arrived broke d = d
+same_due reply session.Breaks offered arrived broke d = d
+same_due reply session.Broken offered arrived broke d = d
+same_due reply (session.Closed side rest) offered arrived broke d = d
+
+answers_so : (reply : Answer) (state : Session) → answer_of state ≡ Unanswered → answer_of (answered_with reply state) ≡ answer_of (session.Begun reply None)
+answers_so reply (session.Begun to.Awaited waits) is = same_answer reply waits None
+answers_so reply (session.Begun to.Accepted waits) is = absurd (cc)
+answers_so reply (session.Begun to.Refused waits) is = absurd (cc)
+answers_so reply (session.Closed Application rest) is = absurd (cc)
+answers_so reply (session.Closed Client rest) is = absurd (cc)
+answers_so reply _ is = absurd (cc)
 
 -- ---- an event is sent
 
@@ -101,7 +121,7 @@ module _ (scene : SessionScene) (was : LineState) (half : WebSocketHalf) (read :
   abbrev old : WebSocketHalf
   old = half_before half before text_was out_was
 
-  at : Talks scene old view × (end_of view.got ≡ None) × IsDue half.due old view
+  at : Talks scene old view × (end_of view.got ≡ None)
   at = runs scene was old read view x running
 
   fixed : IsOf scene half.facts half.wire read
@@ -115,7 +135,7 @@ module _ (scene : SessionScene) (was : LineState) (half : WebSocketHalf) (read :
     read_is = x.fixed.read_is;
   }
 
-  line : CarriesOn scene.start was half.wire.input read (scene.before ++ x.text) 0 (talk_in half view x.leftover x.handed) half.spare_reads
+  line : CarriesOn scene.start was half.wire.input read (scene.before ++ x.text) 0 (talk_in half view x.leftover x.handed) (spare_at half.session)
   line = line_at scene was old read view x 0 (ap failures_at running)
 
   more_taken : (written : List Output) → taken_of (later written) ≡ taken_of view ++ event ∷ []
@@ -143,13 +163,13 @@ module _ (scene : SessionScene) (was : LineState) (half : WebSocketHalf) (read :
       ap (λ (l : List Output). l ++ rest) out ∙ (append_assoc view.written front rest ∙ ap (λ (l : List Output). view.written ++ l) is)
 
   -- this much of it went out, as text or as a message
-  spoken : (now : LineState) (leftover : _) (progress : Answered) (waits : Due) (stage : Stage) (text : List ℕ) (kept : Option (List ℕ)) (handed : List SentMessage) (front rest : List Output)
-      → CarriesOn scene.start now half.wire.input read (scene.before ++ text) (failures_at stage) (talk_in half view kept handed) half.spare_reads
+  spoken : (now : LineState) (leftover : _) (next : Session) (stage : Stage) (text : List ℕ) (kept : Option (List ℕ)) (handed : List SentMessage) (front rest : List Output)
+      → rest_at half.session ≡ rest_at next → CarriesOn scene.start now half.wire.input read (scene.before ++ text) (failures_at stage) (talk_in half view kept handed) (spare_at half.session)
       → map Byte text ++ map Message handed ≡ view.written ++ front → front ++ rest ≡ adds
-      → IsCarried progress scene (record half { leftover = leftover; answered = progress; due = waits; stage = stage }) (later (map Byte text ++ map Message handed)) text kept handed
-      → IsAt stage scene (record half { leftover = leftover; answered = progress; due = waits; stage = stage }) (later (map Byte text ++ map Message handed))
-      → (written : List Output) × Invariant scene now (record half { leftover = leftover; answered = progress; due = waits; stage = stage }) read (later written)
-  spoken now leftover progress waits stage text kept handed front rest line_is out is carried stands =
+      → IsCarried (answer_of next) scene (record half { leftover = leftover; session = next; stage = stage }) (later (map Byte text ++ map Message handed)) text kept handed
+      → IsAt stage scene (record half { leftover = leftover; session = next; stage = stage }) (later (map Byte text ++ map Message handed))
+      → (written : List Output) × Invariant scene now (record half { leftover = leftover; session = next; stage = stage }) read (later written)
+  spoken now leftover next stage text kept handed front rest same line_is out is carried stands =
       let written : List Output = map Byte text ++ map Message handed in (
         written,
         record {
@@ -157,33 +177,31 @@ module _ (scene : SessionScene) (was : LineState) (half : WebSocketHalf) (read :
           text = text;
           leftover = kept;
           handed = handed;
-          line = line_is;
+          line = subst (λ (r : Option ℕ). CarriesOn scene.start now half.wire.input read (scene.before ++ text) (failures_at stage)
+              (record { leftover = kept; received = view.arrived; is_over = is_over_with r; handed = handed }) (spare_with r)) same line_is;
           written = refl;
           carried = carried;
           keeps = record { offered = x.keeps.offered; written = (rest, front_of written front rest out is ∙ sym (all_later written)) };
-          breaks = x.breaks;
+          breaks = λ e. subst (λ (r : Option ℕ). (has_close view.arrived ≡ true) ⊎ (is_over_with r ≡ true)) same (x.breaks e);
           stage = stands;
         },
       )
 
   -- all of it did
-  goes_on : half.wire.out.items ≡ [] → (leftover : _) (progress : Answered) (waits : Due) (written : List Output) → answer_to (said_in scene view ++ event ∷ []) ≡ progress
-      → (progress ≡ Unanswered → standing.StandsForSession half.text scene.facts (said_in scene view ++ event ∷ [])) → (progress ≡ Open → half.client_closed ≡ has_close view.arrived) → written ≡ view.written ++ adds
-      → IsDue waits (record half { leftover = leftover; answered = progress; due = waits; stage = Running }) (later written)
-      → IsAt Running scene (record half { leftover = leftover; answered = progress; due = waits; stage = Running }) (later written)
-  goes_on empty leftover progress waits written becomes text closed out is_due = (
+  goes_on : half.wire.out.items ≡ [] → (leftover : _) (next : Session) (written : List Output) → answer_to (said_in scene view ++ event ∷ []) ≡ answer_of next
+      → (answer_of next ≡ Unanswered → standing.StandsForSession half.text scene.facts (said_in scene view ++ event ∷ [])) → written ≡ view.written ++ adds
+      → IsDue next view.offered view.arrived (is_by_input view.broken) → IsAt Running scene (record half { leftover = leftover; session = next; stage = Running }) (later written)
+  goes_on empty leftover next written becomes text out is_due = (
     record {
       uncut = at.0.uncut;
-      input_broke = at.0.input_broke;
+      due = is_due;
       judged = subst (λ (l : List Outgoing). judging.StandsFor half.judge WebSocket scene.facts l false) (sym (said_later written)) judged;
       answered = sym becomes ∙ ap answer_to (sym (said_later written));
       text = λ e. subst (λ (l : List Outgoing). standing.StandsForSession half.text scene.facts l) (sym (said_later written)) (text e);
       written = out ∙ sym (output_later written);
       empty = empty;
-      closed = closed;
     },
     still_open,
-    is_due,
   )
 
   -- a write failed after its first n bytes
@@ -201,14 +219,14 @@ module _ (scene : SessionScene) (was : LineState) (half : WebSocketHalf) (read :
   falls_short written front rest out is = (rest, front_of written front rest out is ∙ sym (output_later written))
 
   -- after an accept the session is open, as long as something passes
-  pub is_open : (subprotocol : Option (List ℕ)) × (headers : List HeaderField) × (events : List Outgoing) × (said_in scene view ≡ WsAccept subprotocol headers ∷ events) → half.answered ≡ Open
+  pub is_open : (subprotocol : Option (List ℕ)) × (headers : List HeaderField) × (events : List Outgoing) × (said_in scene view ≡ WsAccept subprotocol headers ∷ events) → answer_of half.session ≡ Open
   is_open s =
       at.0.answered ∙ (ap answer_to s.3 ∙ (ap (λ (l : List Outgoing). if is_closed WebSocket l then Closed else Open) (sym s.3)
       ∙ ap (λ (b : Bool). if b then Closed else Open) (not_closed scene.facts (said_in scene view) event pass)))
 
   -- ---- a message
 
-  module _ (opened : half.answered ≡ Open) where
+  module _ (opened : answer_of half.session ≡ Open) where
     carries : (written : List Output) → IsCarrying scene (later written) x.text x.leftover
     carries written =
         let c : IsCarrying scene view x.text x.leftover =
@@ -225,41 +243,40 @@ module _ (scene : SessionScene) (was : LineState) (half : WebSocketHalf) (read :
     module _ (now : LineState) (message : SentMessage) (adds_it : adds ≡ Message message ∷ []) (answer : Put) (same : LeavesText was now)
         (told : now.session.calls ≡ was.session.calls ++ Send message answer ∷ []) (count : now.failed ≡ count_after was.failed (has_failed answer))
         (coming : now.session.coming ≡ was.session.coming) (kept : now.session.leftover ≡ was.session.leftover) where
-      sent : CarriesOn scene.start now half.wire.input read (scene.before ++ x.text) (failures_by answer) (talk_in half view x.leftover (x.handed ++ taken_by message answer)) half.spare_reads
+      sent : CarriesOn scene.start now half.wire.input read (scene.before ++ x.text) (failures_by answer) (talk_in half view x.leftover (x.handed ++ taken_by message answer)) (spare_at half.session)
       sent = talk_sent scene.start was now half.wire.input read (scene.before ++ x.text) 0 refl (talk_in half view x.leftover x.handed)
-          (talk_in half view x.leftover (x.handed ++ taken_by message answer)) half.spare_reads line same message answer told count coming kept refl refl refl refl
+          (talk_in half view x.leftover (x.handed ++ taken_by message answer)) (spare_at half.session) line same message answer told count coming kept refl refl refl refl
           scene.frames (subst (λ (a : Answered). IsCarried a scene old view x.text x.leftover x.handed) opened x.carried).kept
 
       carried : (result : Put) → answer ≡ result
-          → CarriesOn scene.start now half.wire.input read (scene.before ++ x.text) (failures_by result) (talk_in half view x.leftover (x.handed ++ taken_by message result)) half.spare_reads
+          → CarriesOn scene.start now half.wire.input read (scene.before ++ x.text) (failures_by result) (talk_in half view x.leftover (x.handed ++ taken_by message result)) (spare_at half.session)
       carried result is =
-          subst (λ (a : Put). CarriesOn scene.start now half.wire.input read (scene.before ++ x.text) (failures_by a) (talk_in half view x.leftover (x.handed ++ taken_by message a)) half.spare_reads) is sent
+          subst (λ (a : Put). CarriesOn scene.start now half.wire.input read (scene.before ++ x.text) (failures_by a) (talk_in half view x.leftover (x.handed ++ taken_by message a)) (spare_at half.session)) is sent
 
       -- the half after the answer
-      answered_put : half.wire.out.items ≡ [] → (progress : Answered) (waits : Due) → Carries progress → answer_to (said_in scene view ++ event ∷ []) ≡ progress
-          → (progress ≡ Open → half.client_closed ≡ has_close view.arrived)
-          → ((written : List Output) → IsDue waits (record half { answered = progress; due = waits; stage = Running }) (later written))
-          → (result : Put) → answer ≡ result → (written : List Output) × Invariant scene now (record half { answered = progress; due = waits; stage = stage_of result }) read (later written)
-      answered_put empty progress waits upgraded becomes closed is_due put.Done is =
+      answered_put : half.wire.out.items ≡ [] → (next : Session) → Carries (answer_of next) → rest_at half.session ≡ rest_at next → answer_to (said_in scene view ++ event ∷ []) ≡ answer_of next
+          → IsDue next view.offered view.arrived (is_by_input view.broken)
+          → (result : Put) → answer ≡ result → (written : List Output) × Invariant scene now (record half { session = next; stage = stage_of result }) read (later written)
+      answered_put empty next upgraded rest becomes is_due put.Done is =
           let handed : List SentMessage = x.handed ++ message ∷ [] in
           let written : List Output = map Byte x.text ++ map Message handed in
           let out : written ≡ view.written ++ Message message ∷ [] = as_messages x.text x.handed (message ∷ []) view.written x.written in
-          spoken now half.leftover progress waits Running x.text x.leftover handed (Message message ∷ []) [] (carried put.Done is) out (sym adds_it)
-          (carrying progress scene (record half { answered = progress; due = waits; stage = Running }) (later written) x.text x.leftover handed upgraded (carries written))
-          (goes_on empty half.leftover progress waits written becomes (λ e. absurd (is_answered progress upgraded e)) closed (out ∙ ap (λ (l : List Output). view.written ++ l) (sym adds_it)) (is_due written))
-      answered_put empty progress waits upgraded becomes closed is_due put.Failed is =
+          spoken now half.leftover next Running x.text x.leftover handed (Message message ∷ []) [] rest (carried put.Done is) out (sym adds_it)
+          (carrying (answer_of next) scene (record half { session = next; stage = Running }) (later written) x.text x.leftover handed upgraded (carries written))
+          (goes_on empty half.leftover next written becomes (λ e. absurd (is_answered (answer_of next) upgraded e)) (out ∙ ap (λ (l : List Output). view.written ++ l) (sym adds_it)) is_due)
+      answered_put empty next upgraded rest becomes is_due put.Failed is =
           let handed : List SentMessage = x.handed ++ [] in
           let written : List Output = map Byte x.text ++ map Message handed in
           let out : written ≡ view.written ++ [] = as_messages x.text x.handed [] view.written x.written in
-          spoken now half.leftover progress waits (Cut (WriteFailed 0)) x.text x.leftover handed [] adds (carried put.Failed is) out refl
-          (carrying progress scene (record half { answered = progress; due = waits; stage = Cut (WriteFailed 0) }) (later written) x.text x.leftover handed upgraded (carries written))
+          spoken now half.leftover next (Cut (WriteFailed 0)) x.text x.leftover handed [] adds rest (carried put.Failed is) out refl
+          (carrying (answer_of next) scene (record half { session = next; stage = Cut (WriteFailed 0) }) (later written) x.text x.leftover handed upgraded (carries written))
           (stops 0 written (subst (λ (l : List Output). 0 < length l) (sym adds_it) (omega arith)) out, still_open)
-      answered_put empty progress waits upgraded becomes closed is_due put.NoMemory is =
+      answered_put empty next upgraded rest becomes is_due put.NoMemory is =
           let handed : List SentMessage = x.handed ++ [] in
           let written : List Output = map Byte x.text ++ map Message handed in
           let out : written ≡ view.written ++ [] = as_messages x.text x.handed [] view.written x.written in
-          spoken now half.leftover progress waits (Cut NoMemory) x.text x.leftover handed [] adds (carried put.NoMemory is) out refl
-          (carrying progress scene (record half { answered = progress; due = waits; stage = Cut NoMemory }) (later written) x.text x.leftover handed upgraded (carries written))
+          spoken now half.leftover next (Cut NoMemory) x.text x.leftover handed [] adds rest (carried put.NoMemory is) out refl
+          (carrying (answer_of next) scene (record half { session = next; stage = Cut NoMemory }) (later written) x.text x.leftover handed upgraded (carries written))
           (falls_short written [] adds out refl, still_open)
 
       -- a message of the session: it stays open
@@ -267,135 +284,129 @@ module _ (scene : SessionScene) (was : LineState) (half : WebSocketHalf) (read :
           → (written : List Output) × Invariant scene now (record half { stage = stage }) read (later written)
       sent_on empty becomes stage is =
           subst (λ (s : Stage). (written : List Output) × Invariant scene now (record half { stage = s }) read (later written)) (sym is)
-          (answered_put empty half.answered half.due (inl opened) (becomes ∙ sym opened) at.0.closed
-          (λ written. due_stays half.due old (record half { stage = Running }) view (view.got ++ Event event ∷ []) written refl refl
-          (λ e. not_both (sym opened ∙ e)) (λ e. not_both (sym opened ∙ e)) at.2)
-          answer refl)
+          (answered_put empty half.session (inl opened) refl (becomes ∙ sym opened) at.0.due answer refl)
 
       -- the application's close: nothing is due after it
-      pub closed_by : half.wire.out.items ≡ [] → answer_to (said_in scene view ++ event ∷ []) ≡ Closed → (stage : Stage) → stage ≡ stage_of answer
-          → (written : List Output) × Invariant scene now (record half { answered = Closed; due = due.Nothing; stage = stage }) read (later written)
-      closed_by empty becomes stage is =
-          subst (λ (s : Stage). (written : List Output) × Invariant scene now (record half { answered = Closed; due = due.Nothing; stage = s }) read (later written)) (sym is)
-          (answered_put empty Closed due.Nothing (inr refl) becomes (λ e. absurd (not_both (sym e))) (λ written other. absurd (other refl)) answer refl)
+      pub closed_by : half.wire.out.items ≡ [] → answer_to (said_in scene view ++ event ∷ []) ≡ Closed → (rest : Option ℕ) → rest ≡ rest_at half.session → (stage : Stage) → stage ≡ stage_of answer
+          → (written : List Output) × Invariant scene now (record half { session = session.Closed Application rest; stage = stage }) read (later written)
+      closed_by empty becomes rest same stage is =
+          subst (λ (s : Stage). (written : List Output) × Invariant scene now (record half { session = session.Closed Application rest; stage = s }) read (later written)) (sym is)
+          (answered_put empty (session.Closed Application rest) (inr refl) (sym same) becomes tt answer refl)
 
   -- ---- a text, before any answer or as part of a denial
 
-  module _ (unanswered : half.answered ≡ Unanswered) where
-    not_shut : half.answered ≢ Closed
-    not_shut e = let never : Unanswered ≡ Closed = sym unanswered ∙ e in cc
-
+  module _ (unanswered : answer_of half.session ≡ Unanswered) where
     silent : IsSilent old view x.leftover x.handed × (half.leftover.items ≡ scene.frames)
     silent = subst (λ (a : Answered). IsCarried a scene old view x.text x.leftover x.handed) unanswered x.carried
 
-    silent_still : (progress : Answered) (stage : Stage) (written : List Output) → IsSilent (record half { answered = progress; stage = stage }) (later written) x.leftover x.handed
-    silent_still progress stage written = record {
+    silent_still : (next : Session) (stage : Stage) (written : List Output) → rest_at half.session ≡ rest_at next → IsSilent (record half { session = next; stage = stage }) (later written) x.leftover x.handed
+    silent_still next stage written rest = record {
       kept = silent.0.kept;
       received = silent.0.received;
-      over = silent.0.over;
-      unclosed = silent.0.unclosed;
+      over = ap is_over_with (sym rest) ∙ silent.0.over;
       sent = silent.0.sent;
     }
 
-    due_still : (leftover : _) (progress : Answered) (written : List Output) → progress ≢ Closed
-        → IsDue half.due (record half { leftover = leftover; answered = progress; stage = Running }) (later written)
-    due_still leftover progress written on =
-        due_stays half.due old (record half { leftover = leftover; answered = progress; stage = Running }) view (view.got ++ Event event ∷ []) written refl refl not_shut on at.2
+    unanswered_still : (stage : Stage) (text : List ℕ) (written : List Output) → IsCarried (answer_of half.session) scene (record half { stage = stage }) (later written) text x.leftover x.handed
+    unanswered_still stage text written =
+        subst (λ (a : Answered). IsCarried a scene (record half { stage = stage }) (later written) text x.leftover x.handed) (sym unanswered) (silent_still half.session stage written refl, silent.1)
 
-    as_unanswered : (now : LineState) (stage : Stage)
-        → (written : List Output) × Invariant scene now (record half { answered = Unanswered; stage = stage }) read (later written)
-        → (written : List Output) × Invariant scene now (record half { stage = stage }) read (later written)
-    as_unanswered now stage s =
-        subst (λ (a : Answered). (written : List Output) × Invariant scene now (record half { answered = a; stage = stage }) read (later written)) (sym unanswered) s
+    abbrev refused : Session
+    refused = answered_with to.Refused half.session
+
+    refused_still : (stage : Stage) (text : List ℕ) (written : List Output) → IsCarried (answer_of refused) scene (record half { session = refused; stage = stage }) (later written) text x.leftover x.handed
+    refused_still stage text written =
+        subst (λ (a : Answered). IsCarried a scene (record half { session = refused; stage = stage }) (later written) text x.leftover x.handed) (sym (answers_so to.Refused half.session unanswered))
+        (silent_still refused stage written (same_rest to.Refused half.session))
 
     -- there is no memory for it
     pub text_short : (written : List Output) × Invariant scene was (record half { stage = Cut NoMemory }) read (later written)
     text_short =
         let written : List Output = map Byte x.text ++ map Message x.handed in
         let out : written ≡ view.written ++ [] = sym x.written ∙ sym (append-nil view.written) in
-        as_unanswered was (Cut NoMemory)
-        (spoken was half.leftover Unanswered half.due (Cut NoMemory) x.text x.leftover x.handed [] adds line out refl
-        (silent_still Unanswered (Cut NoMemory) written, silent.1) (falls_short written [] adds out refl, still_open))
+        spoken was half.leftover half.session (Cut NoMemory) x.text x.leftover x.handed [] adds refl line out refl
+        (unanswered_still (Cut NoMemory) x.text written) (falls_short written [] adds out refl, still_open)
 
     module _ (more : List ℕ) (adds_it : adds ≡ map Byte more) (now : LineState) (same_left : now.left ≡ was.left) (same_reads : now.reads ≡ was.reads) (same_session : now.session ≡ was.session) where
       text_moved : (part : List ℕ) (failures : ℕ) → Appends was.written now.written part → RoseBy failures was.failed now.failed
           → TriesWrites was.writes now.writes (length part) (how_wrote failures (length part))
-          → CarriesOn scene.start now half.wire.input read (scene.before ++ (x.text ++ part)) failures (talk_in half view x.leftover x.handed) half.spare_reads
+          → CarriesOn scene.start now half.wire.input read (scene.before ++ (x.text ++ part)) failures (talk_in half view x.leftover x.handed) (spare_at half.session)
       text_moved part failures appends rose tries =
-          talk_written scene.start was now half.wire.input read scene.before x.text part failures (talk_in half view x.leftover x.handed) half.spare_reads line silent.0.kept same_left same_reads same_session appends rose tries
+          talk_written scene.start was now half.wire.input read scene.before x.text part failures (talk_in half view x.leftover x.handed) (spare_at half.session) line silent.0.kept same_left same_reads same_session appends rose tries
 
       -- its first n bytes went out
-      cut_by : (progress : Answered) (n : ℕ) → n < length more
-          → CarriesOn scene.start now half.wire.input read (scene.before ++ (x.text ++ take n more)) 1 (talk_in half view x.leftover x.handed) half.spare_reads
-          → IsCarried progress scene (record half { answered = progress; stage = Cut (WriteFailed n) }) (later (map Byte (x.text ++ take n more) ++ map Message x.handed)) (x.text ++ take n more) x.leftover x.handed
-          → (written : List Output) × Invariant scene now (record half { answered = progress; stage = Cut (WriteFailed n) }) read (later written)
-      cut_by progress n less line_is carried =
-          let written : List Output = map Byte (x.text ++ take n more) ++ map Message x.handed in
-          let part : map Byte (take n more) ≡ take n adds = sym (take-map Byte n more) ∙ ap (λ (l : List Output). take n l) (sym adds_it) in
-          let out : written ≡ view.written ++ take n adds = as_text x.text (take n more) x.handed view.written silent.0.sent x.written ∙ ap (λ (l : List Output). view.written ++ l) part in
-          let within : n < length adds = subst (λ (l : List Output). n < length l) (sym adds_it) (subst (λ (k : ℕ). n < k) (sym (length-map more Byte)) less) in
-          spoken now half.leftover progress half.due (Cut (WriteFailed n)) (x.text ++ take n more) x.leftover x.handed (take n adds) (drop n adds) line_is out (take-append-drop n adds) carried
-          (stops n written within out, still_open)
-
       module _ (n : ℕ) (less : n < length more) (appends : Appends was.written now.written (take n more)) (rose : RoseBy 1 was.failed now.failed) (tries : TriesWrites was.writes now.writes n (wrote.Failed n)) where
-        moved_part : CarriesOn scene.start now half.wire.input read (scene.before ++ (x.text ++ take n more)) 1 (talk_in half view x.leftover x.handed) half.spare_reads
-        moved_part = text_moved (take n more) 1 appends rose (tries_front was.writes now.writes n more less tries)
+        abbrev part_out : List Output
+        part_out = map Byte (x.text ++ take n more) ++ map Message x.handed
+
+        cut_by : (next : Session) → rest_at half.session ≡ rest_at next
+            → IsCarried (answer_of next) scene (record half { session = next; stage = Cut (WriteFailed n) }) (later part_out) (x.text ++ take n more) x.leftover x.handed
+            → (written : List Output) × Invariant scene now (record half { session = next; stage = Cut (WriteFailed n) }) read (later written)
+        cut_by next rest carried =
+            let part : map Byte (take n more) ≡ take n adds = sym (take-map Byte n more) ∙ ap (λ (l : List Output). take n l) (sym adds_it) in
+            let out : part_out ≡ view.written ++ take n adds = as_text x.text (take n more) x.handed view.written silent.0.sent x.written ∙ ap (λ (l : List Output). view.written ++ l) part in
+            let within : n < length adds = subst (λ (l : List Output). n < length l) (sym adds_it) (subst (λ (k : ℕ). n < k) (sym (length-map more Byte)) less) in
+            spoken now half.leftover next (Cut (WriteFailed n)) (x.text ++ take n more) x.leftover x.handed (take n adds) (drop n adds) rest
+            (text_moved (take n more) 1 appends rose (tries_front was.writes now.writes n more less tries)) out (take-append-drop n adds) carried (stops n part_out within out, still_open)
 
         pub accept_cut : (written : List Output) × Invariant scene now (record half { stage = Cut (WriteFailed n) }) read (later written)
-        accept_cut =
-            as_unanswered now (Cut (WriteFailed n))
-            (cut_by Unanswered n less moved_part (silent_still Unanswered (Cut (WriteFailed n)) (map Byte (x.text ++ take n more) ++ map Message x.handed), silent.1))
+        accept_cut = cut_by half.session refl (unanswered_still (Cut (WriteFailed n)) (x.text ++ take n more) part_out)
 
-        pub refusal_cut : (written : List Output) × Invariant scene now (record half { answered = Refused; stage = Cut (WriteFailed n) }) read (later written)
-        refusal_cut = cut_by Refused n less moved_part (silent_still Refused (Cut (WriteFailed n)) (map Byte (x.text ++ take n more) ++ map Message x.handed))
+        pub refusal_cut : (written : List Output) × Invariant scene now (record half { session = refused; stage = Cut (WriteFailed n) }) read (later written)
+        refusal_cut = cut_by refused (same_rest to.Refused half.session) (refused_still (Cut (WriteFailed n)) (x.text ++ take n more) part_out)
 
       module _ (appends : Appends was.written now.written more) (rose : RoseBy 0 was.failed now.failed) (tries : TriesWrites was.writes now.writes (length more) wrote.Done) where
-        all_out : map Byte (x.text ++ more) ++ map Message x.handed ≡ view.written ++ adds
+        abbrev whole_out : List Output
+        whole_out = map Byte (x.text ++ more) ++ map Message x.handed
+
+        all_out : whole_out ≡ view.written ++ adds
         all_out = as_text x.text more x.handed view.written silent.0.sent x.written ∙ ap (λ (l : List Output). view.written ++ l) (sym adds_it)
 
         pub refusal_out : half.wire.out.items ≡ [] → answer_to (said_in scene view ++ event ∷ []) ≡ Refused → (stage : Stage) → stage ≡ Running
-            → (written : List Output) × Invariant scene now (record half { answered = Refused; stage = stage }) read (later written)
+            → (written : List Output) × Invariant scene now (record half { session = refused; stage = stage }) read (later written)
         refusal_out empty becomes stage is =
-            let written : List Output = map Byte (x.text ++ more) ++ map Message x.handed in
-            subst (λ (s : Stage). (w : List Output) × Invariant scene now (record half { answered = Refused; stage = s }) read (later w)) (sym is)
-            (spoken now half.leftover Refused half.due Running (x.text ++ more) x.leftover x.handed adds [] (text_moved more 0 appends rose tries) all_out (append-nil adds)
-            (silent_still Refused Running written) (goes_on empty half.leftover Refused half.due written becomes (λ e. cc) (λ e. cc) all_out (due_still half.leftover Refused written (λ e. cc))))
+            let by : answer_of refused ≡ Refused = answers_so to.Refused half.session unanswered in
+            subst (λ (s : Stage). (w : List Output) × Invariant scene now (record half { session = refused; stage = s }) read (later w)) (sym is)
+            (spoken now half.leftover refused Running (x.text ++ more) x.leftover x.handed adds [] (same_rest to.Refused half.session) (text_moved more 0 appends rose tries) all_out (append-nil adds)
+            (refused_still Running (x.text ++ more) whole_out)
+            (goes_on empty half.leftover refused whole_out (becomes ∙ sym by) (λ e. absurd (refused_is_none (sym by ∙ e))) all_out
+            (same_due to.Refused half.session view.offered view.arrived (is_by_input view.broken) at.0.due)))
 
         -- a denial goes on
         pub denial_out : half.wire.out.items ≡ [] → answer_to (said_in scene view ++ event ∷ []) ≡ Unanswered → standing.StandsForSession half.text scene.facts (said_in scene view ++ event ∷ [])
             → (written : List Output) × Invariant scene now half read (later written)
         denial_out empty becomes stands =
-            let written : List Output = map Byte (x.text ++ more) ++ map Message x.handed in
             subst (λ (s : Stage). (w : List Output) × Invariant scene now (record half { stage = s }) read (later w)) (sym running)
-            (as_unanswered now Running
-            (spoken now half.leftover Unanswered half.due Running (x.text ++ more) x.leftover x.handed adds [] (text_moved more 0 appends rose tries) all_out (append-nil adds)
-            (silent_still Unanswered Running written, silent.1)
-            (goes_on empty half.leftover Unanswered half.due written becomes (λ e. stands) (λ e. cc) all_out (due_still half.leftover Unanswered written (λ e. cc)))))
+            (spoken now half.leftover half.session Running (x.text ++ more) x.leftover x.handed adds [] refl (text_moved more 0 appends rose tries) all_out (append-nil adds)
+            (unanswered_still Running (x.text ++ more) whole_out)
+            (goes_on empty half.leftover half.session whole_out (becomes ∙ sym unanswered) (λ e. stands) all_out at.0.due))
 
         -- the line carries messages from here on
         pub accept_out : said_in scene view ≡ [] → half.wire.out.items ≡ [] → (after : LineState) (leftover : _) → LeavesText now after → after.session.leftover ≡ kept_by now.session.leftover half.leftover.items → after.failed ≡ now.failed
             → after.session.calls ≡ now.session.calls → after.session.coming ≡ now.session.coming
             → answer_to (said_in scene view ++ event ∷ []) ≡ Open → (subprotocol : Option (List ℕ)) (headers : List HeaderField) → event ≡ WsAccept subprotocol headers
             → more ≡ handshake_of scene.facts subprotocol headers → (stage : Stage) → stage ≡ Running
-            → (written : List Output) × Invariant scene after (record half { leftover = leftover; answered = Open; stage = stage }) read (later written)
+            → (written : List Output) × Invariant scene after (record half { leftover = leftover; session = answered_with to.Accepted half.session; stage = stage }) read (later written)
         accept_out first empty after leftover same kept count calls coming becomes subprotocol headers accepts text_is stage is =
-            let written : List Output = map Byte (x.text ++ more) ++ map Message x.handed in
+            let next : Session = answered_with to.Accepted half.session in
+            let by : answer_of next ≡ Open = answers_so to.Accepted half.session unanswered in
             let none : x.text ≡ [] = no_text x.text x.handed (sym x.written ∙ (at.0.written ∙ ap (output_of (handshake_of scene.facts) scene.facts) first)) in
-            let line_is : CarriesOn scene.start after half.wire.input read (scene.before ++ (x.text ++ more)) 0 (talk_in half view (Some scene.frames) x.handed) half.spare_reads =
+            let line_is : CarriesOn scene.start after half.wire.input read (scene.before ++ (x.text ++ more)) 0 (talk_in half view (Some scene.frames) x.handed) (spare_at half.session) =
             talk_upgraded scene.start now after half.wire.input read (scene.before ++ (x.text ++ more)) 0 refl (talk_in half view x.leftover x.handed) (talk_in half view (Some scene.frames) x.handed)
-            half.spare_reads (text_moved more 0 appends rose tries) same half.leftover.items silent.0.kept kept count calls coming (ap (λ (l : List ℕ). Some l) (sym silent.1)) refl refl refl in
-            let carried : IsCarrying scene (later written) (x.text ++ more) (Some scene.frames) = record {
+            (spare_at half.session) (text_moved more 0 appends rose tries) same half.leftover.items silent.0.kept kept count calls coming (ap (λ (l : List ℕ). Some l) (sym silent.1)) refl refl refl in
+            let carried : IsCarrying scene (later whole_out) (x.text ++ more) (Some scene.frames) = record {
               kept = refl;
               subprotocol = subprotocol;
               headers = headers;
               events = [];
-              said = said_later written ∙ (ap (λ (l : List Outgoing). l ++ event ∷ []) first ∙ ap (λ (e : Outgoing). e ∷ []) accepts);
+              said = said_later whole_out ∙ (ap (λ (l : List Outgoing). l ++ event ∷ []) first ∙ ap (λ (e : Outgoing). e ∷ []) accepts);
               text_is = ap (λ (l : List ℕ). l ++ more) none ∙ text_is;
             } in
-            subst (λ (s : Stage). (w : List Output) × Invariant scene after (record half { leftover = leftover; answered = Open; stage = s }) read (later w)) (sym is)
-            (spoken after leftover Open half.due Running (x.text ++ more) (Some scene.frames) x.handed adds [] line_is all_out (append-nil adds) carried
-            (goes_on empty leftover Open half.due written becomes (λ e. cc) (λ e. silent.0.unclosed ∙ ap has_close (sym silent.0.received)) all_out
-            (due_still leftover Open written (λ e. cc))))
+            subst (λ (s : Stage). (w : List Output) × Invariant scene after (record half { leftover = leftover; session = next; stage = s }) read (later w)) (sym is)
+            (spoken after leftover next Running (x.text ++ more) (Some scene.frames) x.handed adds [] (same_rest to.Accepted half.session) line_is all_out (append-nil adds)
+            (carrying (answer_of next) scene (record half { leftover = leftover; session = next; stage = Running }) (later whole_out) (x.text ++ more) (Some scene.frames) x.handed (inl by) carried)
+            (goes_on empty leftover next whole_out (becomes ∙ sym by) (λ e. absurd (open_is_some (sym by ∙ e))) all_out
+            (same_due to.Accepted half.session view.offered view.arrived (is_by_input view.broken) at.0.due)))
 
 -- ---- a payload, and a close
 
@@ -414,22 +425,22 @@ module _ (scene : SessionScene) (was now : LineState) (half : WebSocketHalf) (re
       answer same told count coming kept (runs scene was (record half { judge = before }) read view x running).0.empty (open_after_send scene.facts (said_in scene view) payload pass) stage is
 
   pub close_sent : (code : ℕ) (reason : List ℕ) → passes WebSocket scene.facts (said_in scene view) (WsClose code reason) ≡ true
-      → judging.StandsFor half.judge WebSocket scene.facts (said_in scene view ++ WsClose code reason ∷ []) false → half.answered ≡ Open
+      → judging.StandsFor half.judge WebSocket scene.facts (said_in scene view ++ WsClose code reason ∷ []) false → answer_of half.session ≡ Open → (rest : Option ℕ) → rest ≡ rest_at half.session
       → (copy : List ℕ) → copy ≡ reason → now.session.calls ≡ was.session.calls ++ Send (item.Close code copy) answer ∷ [] → (stage : Stage) → stage ≡ stage_of answer
       → (written : List Output)
-      × Invariant scene now (record half { answered = Closed; due = due.Nothing; stage = stage }) read (record view { got = view.got ++ Event (WsClose code reason) ∷ []; written = written })
-  close_sent code reason pass judged opened copy copied told stage is =
+      × Invariant scene now (record half { session = session.Closed Application rest; stage = stage }) read (record view { got = view.got ++ Event (WsClose code reason) ∷ []; written = written })
+  close_sent code reason pass judged opened rest same_as copy copied told stage is =
       let t = runs scene was (record half { judge = before }) read view x running in
       let s = open_is_accepted (said_in scene view) (sym t.0.answered ∙ opened) in
       closed_by scene was half read view before half.text half.wire.out x running (WsClose code reason) pass judged opened
       now (item.Close code reason) (ap (λ (l : List Outgoing). event_output (handshake_of scene.facts) scene.facts l (WsClose code reason)) s.3)
-      answer same (told ∙ ap (λ (r : List ℕ). was.session.calls ++ Send (item.Close code r) answer ∷ []) copied) count coming kept t.0.empty (closed_after_close scene.facts (said_in scene view) code reason s.0 s.1 s.2 s.3 pass) stage is
+      answer same (told ∙ ap (λ (r : List ℕ). was.session.calls ++ Send (item.Close code r) answer ∷ []) copied) count coming kept t.0.empty (closed_after_close scene.facts (said_in scene view) code reason s.0 s.1 s.2 s.3 pass) rest same_as stage is
 
 -- ---- a close in place of an accept
 
 module _ (scene : SessionScene) (was now : LineState) (half : WebSocketHalf) (read : List ℕ) (view : ConnView Msg Output) (before : Judge) (x : Invariant scene was (record half { judge = before }) read view)
     (running : half.stage ≡ Running) (code : ℕ) (reason : List ℕ) (pass : passes WebSocket scene.facts (said_in scene view) (WsClose code reason) ≡ true)
-    (judged : judging.StandsFor half.judge WebSocket scene.facts (said_in scene view ++ WsClose code reason ∷ []) false) (shut : half.answered ≢ Open) (text : List ℕ) (text_is : text ≡ refusal_text 403)
+    (judged : judging.StandsFor half.judge WebSocket scene.facts (said_in scene view ++ WsClose code reason ∷ []) false) (shut : answer_of half.session ≢ Open) (text : List ℕ) (text_is : text ≡ refusal_text 403)
     (same_left : now.left ≡ was.left) (same_reads : now.reads ≡ was.reads) (same_session : now.session ≡ was.session) where
   unsaid : said_in scene view ≡ []
   unsaid = elim (close_has_place scene.facts (said_in scene view) code reason pass) [
@@ -440,7 +451,7 @@ module _ (scene : SessionScene) (was now : LineState) (half : WebSocketHalf) (re
   before_it : Talks scene (record half { judge = before }) view
   before_it = (runs scene was (record half { judge = before }) read view x running).0
 
-  unanswered_yet : half.answered ≡ Unanswered
+  unanswered_yet : answer_of half.session ≡ Unanswered
   unanswered_yet = before_it.answered ∙ ap answer_to unsaid
 
   adds_refusal : event_output (handshake_of scene.facts) scene.facts (said_in scene view) (WsClose code reason) ≡ map Byte text
@@ -448,14 +459,14 @@ module _ (scene : SessionScene) (was now : LineState) (half : WebSocketHalf) (re
       ap (λ (l : List Outgoing). event_output (handshake_of scene.facts) scene.facts l (WsClose code reason)) unsaid ∙ ap (λ (l : List ℕ). map Byte l) (sym text_is)
 
   pub refused_whole : Appends was.written now.written text → RoseBy 0 was.failed now.failed → TriesWrites was.writes now.writes (length text) wrote.Done
-      → (written : List Output) × Invariant scene now (record half { answered = Refused }) read (record view { got = view.got ++ Event (WsClose code reason) ∷ []; written = written })
+      → (written : List Output) × Invariant scene now (record half { session = answered_with to.Refused half.session }) read (record view { got = view.got ++ Event (WsClose code reason) ∷ []; written = written })
   refused_whole appends rose tries =
       refusal_out scene was half read view before half.text half.wire.out x running (WsClose code reason) pass judged unanswered_yet text adds_refusal now same_left same_reads same_session appends rose tries before_it.empty
       (ap (λ (l : List Outgoing). answer_to (l ++ WsClose code reason ∷ [])) unsaid) half.stage running
 
   pub refused_part : (n : ℕ) → n < length text → Appends was.written now.written (take n text) → RoseBy 1 was.failed now.failed → TriesWrites was.writes now.writes n (wrote.Failed n)
       → (written : List Output)
-      × Invariant scene now (record half { answered = Refused; stage = Cut (WriteFailed n) }) read (record view { got = view.got ++ Event (WsClose code reason) ∷ []; written = written })
+      × Invariant scene now (record half { session = answered_with to.Refused half.session; stage = Cut (WriteFailed n) }) read (record view { got = view.got ++ Event (WsClose code reason) ∷ []; written = written })
   refused_part n less appends rose tries =
       refusal_cut scene was half read view before half.text half.wire.out x running (WsClose code reason) pass judged unanswered_yet text adds_refusal now same_left same_reads same_session n less appends rose tries
 
@@ -476,7 +487,7 @@ module _ (scene : SessionScene) (was : LineState) (half : WebSocketHalf) (read :
   talks_before : Talks scene (record half { judge = before }) view
   talks_before = (runs scene was (record half { judge = before }) read view x running).0
 
-  not_answered : half.answered ≡ Unanswered
+  not_answered : answer_of half.session ≡ Unanswered
   not_answered = talks_before.answered ∙ ap answer_to none_before
 
   adds_handshake : (text : List ℕ) → text ≡ accept_text half.facts event → event_output (handshake_of scene.facts) scene.facts (said_in scene view) event ≡ map Byte text
@@ -503,7 +514,7 @@ module _ (scene : SessionScene) (was : LineState) (half : WebSocketHalf) (read :
         → after.failed ≡ now.failed
         → after.session.calls ≡ now.session.calls → after.session.coming ≡ now.session.coming
         → (written : List Output)
-        × Invariant scene after (record half { leftover = new.leftover; answered = Open }) read (record view { got = view.got ++ Event event ∷ []; written = written })
+        × Invariant scene after (record half { leftover = new.leftover; session = answered_with to.Accepted half.session }) read (record view { got = view.got ++ Event event ∷ []; written = written })
     accepted appends rose tries after new bytes same kept bytes_are count calls coming =
         let a = accept_of event accepts in
         accept_out scene was half read view before half.text half.wire.out x running event pass judged not_answered text (adds_handshake text text_is) now same_left same_reads same_session appends rose tries

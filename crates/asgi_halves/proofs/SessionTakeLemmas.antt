@@ -1,5 +1,5 @@
 -- What the half of a session takes: nothing, the end of the task, or an event, which adds nothing if the judge does not pass it.
-use Rattle.std.proofs.Common.{◌≡◌, ◌≢◌, ◌≤◌, ℕ, true, false, Bool, List, [], ◌∷◌, ◌++◌, refl, sym, ap, ◌∙◌, subst, Option, None, Vec, Global}
+use Rattle.std.proofs.Common.{◌≡◌, ◌≢◌, ℕ, true, false, Bool, arith, List, [], ◌∷◌, ◌++◌, refl, sym, ap, ◌∙◌, subst, Option, Some, None, Vec, Global}
 use Rattle.std.proofs.lemmas.List.{append-nil}
 use Rattle.asgi_types.specs.Fields.{HeaderField}
 use Rattle.asgi_types.specs.declared.end_kind.EndKind.{EndKind}
@@ -29,14 +29,13 @@ use Rattle.asgi_exchange.proofs.EventLemmas.{events_append, end_event, end_ended
 use Rattle.asgi_conversation.specs.Sessions.{handshake_of, no_traffic}
 use Rattle.asgi_halves.specs.declared.stage.Stage.{Stage}
 use Rattle.asgi_halves.specs.declared.stage.Stage.TheVariants.{Running, Ending}
-use Rattle.asgi_halves.specs.declared.session_half.Answered.TheVariants.{Unanswered}
-use Rattle.asgi_halves.specs.declared.session_half.Due.{Due}
-use Rattle.asgi_halves.specs.declared.session_half.Due.TheVariants as due
+use Rattle.asgi_halves.specs.declared.session_half.Answer.TheVariants.{Awaited}
+use Rattle.asgi_halves.specs.declared.session_half.Session.TheVariants as session
 use Rattle.asgi_halves.specs.declared.session_half.WebSocketHalf.{WebSocketHalf}
 use Rattle.asgi_halves.specs.declared.wire.Wire.{Wire}
 use Rattle.asgi_halves.specs.Half.{failures_at}
 use Rattle.asgi_ws.specs.Lines.{LineState}
-use Rattle.asgi_halves.specs.WebSocketHalf.{SessionScene, Invariant, OpensSession, Talks, IsDue, answer_to, exchange_of, said_in}
+use Rattle.asgi_halves.specs.WebSocketHalf.{SessionScene, Invariant, OpensSession, Talks, answer_of, answer_to, exchange_of, said_in}
 use Rattle.asgi_halves.specs.Traffic.{drop_limit}
 use Rattle.asgi_halves.specs.WebSocketHalf.{CarriesOn}
 use Rattle.asgi_halves.proofs.SessionPassLemmas.{same_said}
@@ -63,25 +62,19 @@ none_left _ message accept close start body of = absurd (cc)
 
 module _ (scene : SessionScene) (half : WebSocketHalf) (view : ConnView Msg Output) (stage : Stage) (got : List OutItem) (first : Bool)
     (same : accepted_session scene.facts (taken_of (record view { got = got; broken_first = first })) ≡ said_in scene view) where
-  due_on : (d : Due) → IsDue d half view → IsDue d (record half { stage = stage }) (record view { got = got; broken_first = first })
-  due_on due.Nothing x = x
-  due_on (due.Waits event) x = x
-  due_on (due.Left event) x = x
-
   talks_on : Talks scene half view → Talks scene (record half { stage = stage }) (record view { got = got; broken_first = first })
   talks_on t = record {
     uncut = t.uncut;
-    input_broke = t.input_broke;
+    due = t.due;
     judged = subst (λ (l : List Outgoing). judging.StandsFor half.judge WebSocket scene.facts l false) (sym same) t.judged;
     answered = t.answered ∙ ap answer_to (sym same);
     text = λ e. subst (λ (l : List Outgoing). standing.StandsForSession half.text scene.facts l) (sym same) (t.text e);
     written = t.written ∙ ap (output_of (handshake_of scene.facts) scene.facts) (sym same);
     empty = t.empty;
-    closed = t.closed;
   }
 
 module _ (scene : SessionScene) (now : LineState) (half : WebSocketHalf) (read : List ℕ) (view : ConnView Msg Output) (x : Invariant scene now half read view) (is : half.stage ≡ Running) where
-  at : Talks scene half view × (end_of view.got ≡ None) × IsDue half.due half view
+  at : Talks scene half view × (end_of view.got ≡ None)
   at = runs scene now half read view x is
 
   -- the end of the task
@@ -99,7 +92,7 @@ module _ (scene : SessionScene) (now : LineState) (half : WebSocketHalf) (read :
         handed = x.handed;
         line = line_at scene now half read view x 0 (ap failures_at is);
         written = x.written;
-        carried = carried_on half.answered scene half (record half { stage = Ending kind }) view later x.text x.leftover x.handed refl refl refl refl ([], append-nil (said_in scene view) ∙ sym same) x.carried;
+        carried = carried_on (answer_of half.session) scene half (record half { stage = Ending kind }) view later x.text x.leftover x.handed refl refl refl ([], append-nil (said_in scene view) ∙ sym same) x.carried;
         keeps = record { offered = x.keeps.offered; written = (added, ap (λ (l : List Output). l ++ added) talks.written) };
         breaks = x.breaks;
         stage = (talks, end_ended view.got kind at.1, refl);
@@ -121,10 +114,10 @@ module _ (scene : SessionScene) (now : LineState) (half : WebSocketHalf) (read :
         handed = x.handed;
         line = line_at scene now half read view x 0 (ap failures_at is);
         written = x.written;
-        carried = carried_on half.answered scene half (record half { stage = Running }) view later x.text x.leftover x.handed refl refl refl refl ([], append-nil (said_in scene view) ∙ sym same) x.carried;
+        carried = carried_on (answer_of half.session) scene half (record half { stage = Running }) view later x.text x.leftover x.handed refl refl refl ([], append-nil (said_in scene view) ∙ sym same) x.carried;
         keeps = record { offered = x.keeps.offered; written = (added, ap (λ (l : List Output). l ++ added) talks.written) };
         breaks = x.breaks;
-        stage = (talks, end_event view.got event ∙ at.1, due_on scene half view Running later.got view.broken_first same half.due at.2);
+        stage = (talks, end_event view.got event ∙ at.1);
       })
 
   -- the judge knows the facts of the half, which are those of the scene
@@ -155,8 +148,8 @@ module _ (scene : SessionScene) (now : LineState) (half : WebSocketHalf) (read :
 
 -- ---- an exchange begins
 
-pub begun : (scene : SessionScene) (now : LineState) (wire : Wire) (facts : Facts) (text : ResponseText) (leftover : Vec ℕ Global) (read : List ℕ) (judge : Judge) (spare_reads : ℕ)
-    → spare_reads ≤ drop_limit → OpensSession scene now wire facts text leftover.items read → judging.StandsFor judge WebSocket scene.facts [] false
+pub begun : (scene : SessionScene) (now : LineState) (wire : Wire) (facts : Facts) (text : ResponseText) (leftover : Vec ℕ Global) (read : List ℕ) (judge : Judge)
+    → OpensSession scene now wire facts text leftover.items read → judging.StandsFor judge WebSocket scene.facts [] false
     → Invariant scene now
     (record {
       wire = wire;
@@ -164,37 +157,30 @@ pub begun : (scene : SessionScene) (now : LineState) (wire : Wire) (facts : Fact
       judge = judge;
       text = text;
       leftover = leftover;
-      answered = Unanswered;
-      due = due.Waits WsConnect;
-      input_broke = false;
-      client_closed = false;
-      is_over = false;
-      spare_reads = spare_reads;
+      session = session.Begun Awaited (Some WsConnect);
       stage = Running;
     })
     read empty_conn
-begun scene now wire facts text leftover read judge spare_reads within o judged = record {
+begun scene now wire facts text leftover read judge o judged = record {
   fixed = o.fixed;
   text = [];
   leftover = None;
   handed = [];
-  line = subst (λ (l : List ℕ). CarriesOn scene.start now wire.input read l 0 no_traffic spare_reads) (sym (append-nil scene.before)) (talk_begins scene.start now wire.input read scene.before spare_reads within o.moved);
+  line = subst (λ (l : List ℕ). CarriesOn scene.start now wire.input read l 0 no_traffic drop_limit) (sym (append-nil scene.before)) (talk_begins scene.start now wire.input read scene.before drop_limit (omega arith) o.moved);
   written = refl;
-  carried = (record { kept = refl; received = refl; over = refl; unclosed = refl; sent = refl }, o.frames);
+  carried = (record { kept = refl; received = refl; over = refl; sent = refl }, o.frames);
   keeps = record { offered = (session_events [], refl); written = (output (exchange_of scene) empty_conn, refl) };
   breaks = λ e. cc;
   stage = (
     record {
       uncut = refl;
-      input_broke = refl;
+      due = (refl, refl, refl);
       judged = judged;
       answered = refl;
       text = λ e. o.denial;
       written = refl;
       empty = o.empty;
-      closed = λ e. cc;
     },
     refl,
-    (refl, refl, refl, λ e. cc, refl),
   );
 }

@@ -1,5 +1,5 @@
 -- The invariant of the half of an opening handshake's exchange, which the members of its `Half` name.
-use Rattle.std.specs.Prelude.{◌≡◌, ◌≢◌, ◌⊎◌, ℕ, ⊤, Bool, true, false, List, [], ◌∷◌, ◌++◌, map, Option, Some, None, if◌then◌else◌, ◌≤◌, ◌+◌}
+use Rattle.std.specs.Prelude.{◌≡◌, ◌⊎◌, ℕ, ⊤, Bool, true, false, List, [], ◌∷◌, ◌++◌, map, Option, Some, None, if◌then◌else◌, ◌≤◌, ◌+◌, ◌-◌, zero, suc}
 use mathlib.Core.List.{IsPrefix}
 use Rattle.asgi_types.specs.Fields.{HeaderField}
 use Rattle.asgi_types.specs.declared.end_kind.EndKind.{EndKind}
@@ -7,6 +7,7 @@ use Rattle.asgi_types.specs.declared.facts.Facts.{Facts}
 use Rattle.asgi_types.specs.declared.limits.Limits.{Limits}
 use Rattle.asgi_types.specs.declared.outgoing.Outgoing.{Outgoing}
 use Rattle.asgi_types.specs.declared.outgoing.Outgoing.TheVariants.{WsAccept, WsClose, DenialStart, DenialBody}
+use Rattle.asgi_types.specs.declared.incoming.Incoming.{Incoming}
 use Rattle.asgi_types.specs.declared.incoming.Incoming.TheVariants.{WsReceive, WsDisconnect}
 use Rattle.asgi_types.specs.declared.incoming.Payload.TheVariants as payload
 use Rattle.asgi_types.specs.declared.scope.Kind.TheVariants.{WebSocket}
@@ -40,7 +41,7 @@ use Rattle.asgi_ws.specs.declared.messages.Put.{Put}
 use Rattle.asgi_ws.specs.declared.messages.Put.TheVariants as put
 use Rattle.asgi_conversation.specs.declared.following.NextStep.TheVariants.{NextRequest, ConnectionEnds}
 use Rattle.asgi_conversation.specs.declared.report.Outcome.{Outcome}
-use Rattle.asgi_conversation.specs.declared.report.Outcome.TheVariants.{Finished, InputBroke, WriteFailed, NoMemory}
+use Rattle.asgi_conversation.specs.declared.report.Outcome.TheVariants.{Finished, WriteFailed, NoMemory}
 use Rattle.asgi_conversation.specs.OutcomeClasses.{OutcomeClass, Uncut, ByWrite, GivenUp, Lacking, Unbegun, class_of}
 use Rattle.asgi_conversation.specs.Exchanges.{AreAnswered, answer_texts, requests_of}
 use Rattle.asgi_conversation.specs.ExchangeRecord.{ExchangeRecord}
@@ -50,8 +51,13 @@ use Rattle.asgi_halves.specs.declared.stage.Stage.{Stage}
 use Rattle.asgi_halves.specs.declared.stage.Stage.TheVariants.{Running, Ending, Cut, Over}
 use Rattle.asgi_halves.specs.declared.session_half.Answered.{Answered}
 use Rattle.asgi_halves.specs.declared.session_half.Answered.TheVariants.{Unanswered, Open, Closed, Refused}
-use Rattle.asgi_halves.specs.declared.session_half.Due.{Due}
-use Rattle.asgi_halves.specs.declared.session_half.Due.TheVariants as due
+use Rattle.asgi_halves.specs.declared.session_half.Answer.{Answer}
+use Rattle.asgi_halves.specs.declared.session_half.Answer.TheVariants as to
+use Rattle.asgi_halves.specs.declared.session_half.Reading.{Reading}
+use Rattle.asgi_halves.specs.declared.session_half.Reading.TheVariants as reading
+use Rattle.asgi_halves.specs.declared.session_half.Session.{Session}
+use Rattle.asgi_halves.specs.declared.session_half.Session.TheVariants as session
+use Rattle.asgi_halves.specs.declared.session_half.Side.TheVariants.{Application, Client}
 use Rattle.asgi_halves.specs.declared.session_half.WebSocketHalf.{WebSocketHalf}
 use Rattle.asgi_halves.specs.declared.wire.Wire.{Wire}
 use Rattle.asgi_run.specs.AnyHalf.{PreservesInLine}
@@ -114,10 +120,80 @@ pub record IsOf (scene : SessionScene) (facts : Facts) (wire : Wire) (read : Lis
   pub before_is : scene.before ≡ answer_texts scene.exchanges
   pub read_is : read ≡ scene.read
 
+-- ---- the session
+
+-- how far the application's answer to the handshake is
+abbrev pub answer_of : Session → Answered
+answer_of (session.Begun to.Awaited waits) = Unanswered
+answer_of (session.Begun to.Accepted waits) = Open
+answer_of (session.Begun to.Refused waits) = Refused
+answer_of (session.Leaves event) = Open
+answer_of session.Breaks = Open
+answer_of session.Broken = Open
+answer_of (session.Closed Client rest) = Open
+answer_of (session.Closed Application rest) = Closed
+
+-- the same session, with this answer to its handshake
+abbrev pub answered_with : Answer → Session → Session
+answered_with answer (session.Begun before waits) = session.Begun answer waits
+answered_with answer other = other
+
+-- how many messages may be read after a close; None once no message follows
+abbrev pub rest_at : Session → Option ℕ
+rest_at (session.Begun answer waits) = Some drop_limit
+rest_at (session.Leaves event) = Some drop_limit
+rest_at session.Breaks = None
+rest_at session.Broken = None
+rest_at (session.Closed side rest) = rest
+
+-- no message follows
+abbrev pub is_over_with : Option ℕ → Bool
+is_over_with None = true
+is_over_with (Some spare) = false
+
+abbrev pub spare_with : Option ℕ → ℕ
+spare_with None = 0
+spare_with (Some spare) = spare
+
+abbrev pub is_over_at : Session → Bool
+is_over_at at = is_over_with (rest_at at)
+
+abbrev pub spare_at : Session → ℕ
+spare_at at = spare_with (rest_at at)
+
+-- what is due to the application
+abbrev pub due_at : Session → Option Incoming
+due_at (session.Begun answer waits) = waits
+due_at (session.Leaves event) = Some event
+due_at session.Breaks = Some (WsDisconnect 1006 [])
+due_at session.Broken = None
+due_at (session.Closed side rest) = None
+
+-- what is read: nothing where an event or a disconnect is due, or as many messages were dropped as may be
+abbrev pub reads_at : Session → Reading
+reads_at (session.Begun to.Awaited waits) = reading.Rests
+reads_at (session.Begun to.Refused waits) = reading.Rests
+reads_at (session.Begun to.Accepted None) = reading.Hears
+reads_at (session.Begun to.Accepted (Some event)) = reading.Rests
+reads_at (session.Leaves event) = reading.Rests
+reads_at session.Breaks = reading.Rests
+reads_at session.Broken = reading.Rests
+reads_at (session.Closed side None) = reading.Rests
+reads_at (session.Closed side (Some zero)) = reading.Rests
+reads_at (session.Closed side (Some (suc spare))) = reading.Drops side (suc spare)
+
+-- what is read after a close once this was: one message less, and none if none follows or memory was refused
+abbrev pub rest_after : ℕ → Got → Option ℕ
+rest_after spare (got.Message message) = Some (spare - 1)
+rest_after spare got.Idle = Some (spare - 1)
+rest_after spare got.Ended = None
+rest_after spare got.Failed = None
+rest_after spare got.NoMemory = Some 0
+
 -- ---- the line
 
 abbrev pub talk_in : WebSocketHalf → ConnView Msg Output → Option (List ℕ) → List SentMessage → SessionTraffic
-talk_in half view leftover handed = record { leftover = leftover; received = view.arrived; is_over = half.is_over; handed = handed }
+talk_in half view leftover handed = record { leftover = leftover; received = view.arrived; is_over = is_over_at half.session; handed = handed }
 
 -- the calls that failed, of text or of the session, however far the answer is
 abbrev pub text_failures : Answered → Stage → ℕ
@@ -127,8 +203,7 @@ text_failures state stage = failures_at stage
 pub record IsSilent (half : WebSocketHalf) (view : ConnView Msg Output) (leftover : Option (List ℕ)) (handed : List SentMessage) : Type 0 where
   pub kept : leftover ≡ None
   pub received : view.arrived ≡ []
-  pub over : half.is_over ≡ false
-  pub unclosed : half.client_closed ≡ false
+  pub over : is_over_at half.session ≡ false
   pub sent : handed ≡ []
 
 -- the accept is written whole, and the line carries messages, those in the bytes after the handshake first
@@ -148,15 +223,21 @@ IsCarried Closed scene half view text leftover handed = IsCarrying scene view te
 
 -- ---- what is due
 
--- all that is due was offered, if the application did not close the session
-abbrev pub IsDue : Due → WebSocketHalf → ConnView Msg Output → Type 0
-IsDue due.Nothing half view =
-    half.answered ≢ Closed → half.input_broke ≡ false → (view.offered ≡ session_events view.arrived) × (has_close view.arrived ≡ false) × (half.is_over ≡ false)
-IsDue (due.Waits event) half view =
-    (half.input_broke ≡ false) × (view.offered ++ event ∷ [] ≡ session_events view.arrived) × (has_close view.arrived ≡ false) × (half.answered ≢ Closed) × (half.is_over ≡ false)
-IsDue (due.Left disconnect) half view =
-    (half.input_broke ≡ false) × (view.offered ≡ session_events view.arrived) × (disconnect ≡ session_disconnect view.arrived)
-    × ((has_close view.arrived ≡ true) ⊎ (half.is_over ≡ true)) × (half.answered ≢ Closed)
+abbrev pub waiting : Option Incoming → List Incoming
+waiting None = []
+waiting (Some event) = event ∷ []
+
+-- What is due, by what was offered, the messages that arrived, and whether the disconnect for the client's close or for a broken
+-- input was offered. All that is due was offered but for what waits, if the application did not close the session.
+abbrev pub IsDue : Session → List Incoming → List Msg → (input_broke : Bool) → Type 0
+IsDue (session.Begun answer waits) offered arrived input_broke =
+    (input_broke ≡ false) × (offered ++ waiting waits ≡ session_events arrived) × (has_close arrived ≡ false)
+IsDue (session.Leaves event) offered arrived input_broke =
+    (input_broke ≡ false) × (offered ≡ session_events arrived) × (has_close arrived ≡ true) × (event ≡ session_disconnect arrived)
+IsDue session.Breaks offered arrived input_broke = (input_broke ≡ false) × (offered ≡ session_events arrived) × (has_close arrived ≡ false)
+IsDue session.Broken offered arrived input_broke = (input_broke ≡ true) × (has_close arrived ≡ false)
+IsDue (session.Closed Client rest) offered arrived input_broke = (input_broke ≡ true) × (has_close arrived ≡ true)
+IsDue (session.Closed Application rest) offered arrived input_broke = ⊤
 
 -- ---- the stages
 
@@ -169,13 +250,12 @@ answer_to _ = Unanswered
 -- Not cut short, and all that was taken is written.
 pub record Talks (scene : SessionScene) (half : WebSocketHalf) (view : ConnView Msg Output) : Type 0 where
   pub uncut : is_by_cut view.broken ≡ false
-  pub input_broke : half.input_broke ≡ is_by_input view.broken
+  pub due : IsDue half.session view.offered view.arrived (is_by_input view.broken)
   pub judged : judging.StandsFor half.judge WebSocket scene.facts (said_in scene view) false
-  pub answered : half.answered ≡ answer_to (said_in scene view)
-  pub text : half.answered ≡ Unanswered → standing.StandsForSession half.text scene.facts (said_in scene view)
+  pub answered : answer_of half.session ≡ answer_to (said_in scene view)
+  pub text : answer_of half.session ≡ Unanswered → standing.StandsForSession half.text scene.facts (said_in scene view)
   pub written : view.written ≡ output_in scene view
   pub empty : half.wire.out.items ≡ []
-  pub closed : half.answered ≡ Open → half.client_closed ≡ has_close view.arrived
 
 -- The connection is cut short: if a write failed, n bytes of what was next are out, else nothing.
 abbrev pub IsCutShortAs : OutcomeClass → SessionScene → ConnView Msg Output → Type 0
@@ -197,7 +277,7 @@ pub record EndsByTask (scene : SessionScene) (view : ConnView Msg Output) (outco
   pub out : view.written ≡ session_text (handshake_of scene.facts) scene.facts (taken_of view) (end_of view.got) (is_by_input view.broken)
 
 abbrev pub IsAt : Stage → SessionScene → WebSocketHalf → ConnView Msg Output → Type 0
-IsAt Running scene half view = Talks scene half view × (end_of view.got ≡ None) × IsDue half.due half view
+IsAt Running scene half view = Talks scene half view × (end_of view.got ≡ None)
 -- what the end adds depends on the breaks before it
 IsAt (Ending kind) scene half view = Talks scene half view × (end_of view.got ≡ Some kind) × (view.broken_first ≡ is_by_input view.broken)
 IsAt (Cut outcome) scene half view = IsCutShort scene view outcome × (end_of view.got ≡ None)
@@ -212,12 +292,12 @@ pub record Invariant (scene : SessionScene) (now : LineState) (half : WebSocketH
   pub text : List ℕ
   pub leftover : Option (List ℕ)
   pub handed : List SentMessage
-  pub line : CarriesOn scene.start now half.wire.input read (scene.before ++ text) (failures_at half.stage) (talk_in half view leftover handed) half.spare_reads
+  pub line : CarriesOn scene.start now half.wire.input read (scene.before ++ text) (failures_at half.stage) (talk_in half view leftover handed) (spare_at half.session)
   pub written : view.written ≡ map Byte text ++ map Message handed
-  pub carried : IsCarried half.answered scene half view text leftover handed
+  pub carried : IsCarried (answer_of half.session) scene half view text leftover handed
   pub keeps : ConnKeeps (exchange_of scene) view
   -- a disconnect was offered because the client closed, or because no message follows
-  pub breaks : is_by_input view.broken ≡ true → (has_close view.arrived ≡ true) ⊎ (half.is_over ≡ true)
+  pub breaks : is_by_input view.broken ≡ true → (has_close view.arrived ≡ true) ⊎ (is_over_at half.session ≡ true)
   pub stage : IsAt half.stage scene half view
 
 -- The exchange may begin.
@@ -288,15 +368,15 @@ stage_of put.NoMemory = Cut NoMemory
 
 -- what a message makes due
 abbrev pub heard_by : WebSocketHalf → Msg → WebSocketHalf
-heard_by half (Text text) = record half { due = due.Waits (WsReceive (payload.Text text)) }
-heard_by half (Bytes bytes) = record half { due = due.Waits (WsReceive (payload.Bytes bytes)) }
+heard_by half (Text text) = record half { session = session.Begun to.Accepted (Some (WsReceive (payload.Text text))) }
+heard_by half (Bytes bytes) = record half { session = session.Begun to.Accepted (Some (WsReceive (payload.Bytes bytes))) }
 heard_by half Ping = half
 heard_by half Pong = half
-heard_by half (Close close) = record half { client_closed = true; due = due.Left (disconnect_of (Some close)) }
+heard_by half (Close close) = record half { session = session.Leaves (disconnect_of (Some close)) }
 
 -- no message follows: the disconnect is due
 abbrev pub lost_by : WebSocketHalf → WebSocketHalf
-lost_by half = record half { is_over = true; due = due.Left (WsDisconnect 1006 []) }
+lost_by half = record half { session = session.Breaks }
 
 -- what a read of a message makes due
 abbrev pub noted_by : WebSocketHalf → Got → WebSocketHalf
@@ -306,32 +386,22 @@ noted_by half got.Ended = lost_by half
 noted_by half got.Failed = lost_by half
 noted_by half got.NoMemory = record half { stage = Cut NoMemory }
 
--- how a session ends that the application left open, after its disconnect
-abbrev pub outcome_after : (client_closed : Bool) → Outcome
-outcome_after true = Finished
-outcome_after false = InputBroke
-
 -- all that is due was offered
 abbrev pub NoneDue : WebSocketHalf → Type 0
-NoneDue half = half.due ≡ due.Nothing
+NoneDue half = due_at half.session ≡ None
 
--- nothing more is read and dropped: no message follows, or as many were read as may be
-abbrev pub HasDropped : WebSocketHalf → Type 0
-HasDropped half = (half.is_over ≡ true) ⊎ (half.spare_reads ≡ 0)
-
--- no message is read with this answer: there is no session, or it was closed or broken off and nothing more is dropped
-abbrev pub RestsAt : Answered → WebSocketHalf → Type 0
-RestsAt Unanswered half = ⊤
-RestsAt Refused half = ⊤
-RestsAt Open half = (half.input_broke ≡ true) × HasDropped half
-RestsAt Closed half = HasDropped half
-
--- no message is read: what is due waits, or by the answer
+-- no message is read
 abbrev pub Rests : WebSocketHalf → Type 0
-Rests half = NoneDue half → RestsAt half.answered half
+Rests half = reads_at half.session ≡ reading.Rests
 
--- Messages may be read and dropped: after a close of either side, or once the exchange is over.
-abbrev pub MayDrop : WebSocketHalf → Type 0
-MayDrop half =
-    ((half.stage ≡ Running) × (half.due ≡ due.Nothing) × ((half.answered ≡ Closed) ⊎ ((half.answered ≡ Open) × (half.input_broke ≡ true))))
-    ⊎ ((half.stage ≡ Over (ConnectionEnds Finished)) × ((half.answered ≡ Open) ⊎ (half.answered ≡ Closed)))
+-- Messages may be read and dropped: while the application goes on, or once the exchange is over.
+abbrev pub MayDrop : Stage → Type 0
+MayDrop at = (at ≡ Running) ⊎ (at ≡ Over (ConnectionEnds Finished))
+
+-- the application did not close the session, and no disconnect was offered
+abbrev pub IsUnended : Session → Type 0
+IsUnended (session.Begun answer waits) = ⊤
+IsUnended (session.Leaves event) = ⊤
+IsUnended session.Breaks = ⊤
+IsUnended session.Broken = ⊥
+IsUnended (session.Closed side rest) = ⊥

@@ -13,7 +13,7 @@ mod wire;
 pub use half::{BodyProgress, HttpHalf};
 pub use kind::ExchangeKind;
 pub use piece::{PIECE, Piece};
-pub use session_half::{Answered, Due, WebSocketHalf};
+pub use session_half::{Answer, Answered, Reading, Session, Side, WebSocketHalf};
 pub use stage::Stage;
 pub use turns::{abandon, is_settled, turn};
 pub use wire::{Wire, write};

@@ -1,6 +1,6 @@
 //! The connection's half of the exchange of an opening handshake: it answers the handshake, hands over the messages
 //! that the application sends, and offers those that are read. The half knows only its own end of the pair.
-ghost use Rattle.std.specs.Prelude.{◌≡◌, ◌≢◌, ◌↔◌, ◌⊎◌, ◌<◌, true, false, [], ℕ, List, Some, IsTrue, ⊤};
+ghost use Rattle.std.specs.Prelude.{◌≡◌, ◌≢◌, ◌↔◌, ◌⊎◌, ◌<◌, false, [], ℕ, List, Option, Some, None, ⊤};
 ghost use Rattle.asgi_types.specs.declared.incoming.Incoming.{Incoming};
 ghost use Rattle.asgi_types.specs.declared.outgoing.Outgoing.{Outgoing};
 ghost use Rattle.asgi_protocol.specs.Shapes.{is_message};
@@ -10,9 +10,8 @@ ghost use Rattle.asgi_exchange.specs.Views.{empty_conn};
 ghost use Rattle.asgi_conversation.specs.declared.following.NextStep.{NextStep};
 ghost use Rattle.asgi_conversation.specs.declared.following.NextStep.TheVariants.{ConnectionEnds};
 ghost use Rattle.asgi_ws.specs.Lines.{LineState};
-ghost use Rattle.asgi_halves.specs.WebSocketHalf.{SessionScene, Invariant, OpensSession, PreservesByEnd, PreservesByLine, Says, Speaks, HasDropped, MayDrop, NoneDue, Rests, IsAccept, IsDenial, heard_by, lost_by, noted_by, outcome_after, stage_of};
+ghost use Rattle.asgi_halves.specs.WebSocketHalf.{SessionScene, Invariant, OpensSession, PreservesByEnd, PreservesByLine, Says, Speaks, IsUnended, MayDrop, NoneDue, Rests, IsAccept, IsDenial, answer_of, answered_with, due_at, heard_by, lost_by, noted_by, reads_at, rest_after, rest_at, stage_of};
 ghost use Rattle.asgi_halves.specs.Kinds.{IsShut, IsTurnOfOneRead, IsTurnOfRead, OffersAll, ReadsNone, turn_by};
-ghost use Rattle.asgi_halves.specs.Traffic.{is_end};
 ghost use Rattle.asgi_halves.specs.private.HalfSteps.{OffersOne};
 ghost use Rattle.asgi_ws.specs.declared.messages.Msg.{Msg};
 ghost use Rattle.asgi_exchange.specs.Session.{Output};
@@ -32,28 +31,63 @@ use std::mem;
 /// The most messages that are read and dropped after a close.
 const SPARE_READS: u32 = 64;
 
-/// How far the answer to a handshake is.
+/// How far a session is, from its handshake to its close.
+#[derive(Debug, Drop)]
+pub enum Session {
+    /// Neither side has closed it, and messages may follow. This event waits for a free place in the queue.
+    Begun(Answer, Option<Incoming>),
+    /// The client closed it: this disconnect is due.
+    Leaves(Incoming),
+    /// No message follows: the disconnect for that is due.
+    Breaks,
+    /// That disconnect was offered.
+    Broken,
+    /// It was closed. At most so many more messages are read and dropped; None once no message follows.
+    Closed(Side, Option<u32>),
+}
+
+/// How a handshake is answered.
+#[derive(Clone, Copy, Debug, PartialEq, Eq)]
+pub enum Answer {
+    /// No answer yet, or a denial, whose text records how far it is.
+    Awaited,
+    /// It was accepted.
+    Accepted,
+    /// The application refused it, and the answer is 403.
+    Refused,
+}
+
+/// Who closed a session.
+#[derive(Clone, Copy, Debug, PartialEq, Eq)]
+pub enum Side {
+    /// The application, or the server for it.
+    Application,
+    /// The client, and the disconnect for that was offered.
+    Client,
+}
+
+/// How far the application's answer to a handshake is.
 #[derive(Clone, Copy, Debug, PartialEq, Eq)]
 pub enum Answered {
-    /// No answer yet, or a denial, whose text records how far it is.
+    /// No answer yet, or a denial.
     Unanswered,
     /// The handshake was accepted, and the application did not close the session.
     Open,
     /// The handshake was accepted, and the application closed the session.
     Closed,
-    /// The application refused the handshake, and the answer is 403.
+    /// The application refused the handshake.
     Refused,
 }
 
-/// What is due to the application.
-#[derive(Debug, Drop)]
-pub enum Due {
-    /// Nothing, until a message is read.
-    Nothing,
-    /// This event waits for a free place in the queue.
-    Waits(Incoming),
-    /// This disconnect: the client closed, or no message follows.
-    Left(Incoming),
+/// What is read in a session.
+#[derive(Clone, Copy, Debug, PartialEq, Eq)]
+pub enum Reading {
+    /// Nothing.
+    Rests,
+    /// A message, for the application.
+    Hears,
+    /// A message, which is dropped: one of so many.
+    Drops(Side, u32),
 }
 
 /// The connection's half of the exchange of an opening handshake.
@@ -69,18 +103,8 @@ pub struct WebSocketHalf {
     pub text: ResponseText,
     /// The bytes after the handshake, which the line gets with the accept: the first of its frames.
     pub leftover: Vec<u8>,
-    /// How far the answer to the handshake is.
-    pub answered: Answered,
-    /// What is due to the application.
-    pub due: Due,
-    /// A disconnect was offered because the client closed or no message follows.
-    pub input_broke: bool,
-    /// The client closed the session, before the application did.
-    pub client_closed: bool,
-    /// The line reported that no message follows.
-    pub is_over: bool,
-    /// How many more messages are read and dropped after a close.
-    pub spare_reads: u32,
+    /// How far the session is.
+    pub session: Session,
     /// How far the exchange is.
     pub stage: Stage,
 }
@@ -98,13 +122,65 @@ impl WebSocketHalf {
             judge: Judge::new(Kind::WebSocket),
             text,
             leftover,
-            answered: Answered::Unanswered,
-            due: Due::Waits(Incoming::WsConnect),
-            input_broke: false,
-            client_closed: false,
-            is_over: false,
-            spare_reads: SPARE_READS,
+            session: Session::Begun(Answer::Awaited, Some(Incoming::WsConnect)),
             stage: Stage::Running,
+        }
+    }
+
+    // ---- how far it is
+
+    /// How far the application's answer to the handshake is.
+    fn answered(&self) -> Answered
+        ensures { result ≡ answer_of self.now.session }
+    {
+        match &self.session {
+            Session::Begun(Answer::Awaited, _) => Answered::Unanswered,
+            Session::Begun(Answer::Accepted, _) => Answered::Open,
+            Session::Begun(Answer::Refused, _) => Answered::Refused,
+            Session::Leaves(_) => Answered::Open,
+            Session::Breaks => Answered::Open,
+            Session::Broken => Answered::Open,
+            Session::Closed(Side::Client, _) => Answered::Open,
+            Session::Closed(Side::Application, _) => Answered::Closed,
+        }
+    }
+
+    /// How many messages may be read after a close; None once no message follows.
+    fn rest(&self) -> Option<u32>
+        ensures { result ≡ rest_at self.now.session }
+    {
+        match &self.session {
+            Session::Begun(_, _) => Some(SPARE_READS),
+            Session::Leaves(_) => Some(SPARE_READS),
+            Session::Breaks => None,
+            Session::Broken => None,
+            Session::Closed(_, rest) => *rest,
+        }
+    }
+
+    /// What is read next.
+    fn reading(&self) -> Reading
+        ensures { result ≡ reads_at self.now.session }
+    {
+        match &self.session {
+            Session::Begun(Answer::Accepted, None) => Reading::Hears,
+            Session::Begun(Answer::Accepted, Some(_)) => Reading::Rests,
+            Session::Begun(Answer::Awaited, _) => Reading::Rests,
+            Session::Begun(Answer::Refused, _) => Reading::Rests,
+            Session::Leaves(_) => Reading::Rests,
+            Session::Breaks => Reading::Rests,
+            Session::Broken => Reading::Rests,
+            Session::Closed(side, rest) => dropping(*side, *rest),
+        }
+    }
+
+    /// Answers the handshake so. The event that waits waits on.
+    fn answer_with(&mut self, answer: Answer)
+        ensures { self.new ≡ record self.old { session = answered_with answer self.old.session } }
+    {
+        if let Session::Begun(_, waits) = &mut self.session {
+            let waits = waits.take();
+            self.session = Session::Begun(answer, waits);
         }
     }
 
@@ -165,7 +241,7 @@ impl WebSocketHalf {
             return;
         }
         line.upgrade(mem::replace(&mut self.leftover, Vec::new(self.wire.alloc)));
-        self.answered = Answered::Open;
+        self.answer_with(Answer::Accepted);
     }
 
     /// Hands a message over to the line.
@@ -183,7 +259,7 @@ impl WebSocketHalf {
         ensures speaks { Speaks (L.state line.old) self.old (Outgoing.WsClose code reason.now) (L.state line.new) self.new }
         ensures unread { ReadsNone (L.state line.old) (L.state line.new) }
     {
-        match self.answered {
+        match self.answered() {
             Answered::Open => self.close(code, reason, line),
             _ => self.refuse(line),
         }
@@ -192,7 +268,7 @@ impl WebSocketHalf {
     /// Hands the application's close over. Nothing is due after it.
     fn close<L: Line>(&mut self, code: u16, reason: &Chars, line: &mut L)
         requires running { self.old.stage ≡ Stage.Running }
-        requires open { self.old.answered ≡ Answered.Open }
+        requires open { answer_of self.old.session ≡ Answered.Open }
         ensures speaks { Speaks (L.state line.old) self.old (Outgoing.WsClose code reason.now) (L.state line.new) self.new }
         ensures unread { ReadsNone (L.state line.old) (L.state line.new) }
     {
@@ -200,19 +276,18 @@ impl WebSocketHalf {
             self.stage = Stage::Cut(Outcome::WriteFailed(0));
             return;
         };
-        self.answered = Answered::Closed;
-        self.due = Due::Nothing;
+        self.session = Session::Closed(Side::Application, self.rest());
         self.stage = stage_after(line.send_close(code, reason));
     }
 
     /// Writes the text that refuses the handshake.
     fn refuse<L: Line>(&mut self, line: &mut L)
         requires running { self.old.stage ≡ Stage.Running }
-        requires shut { self.old.answered ≢ Answered.Open }
+        requires shut { answer_of self.old.session ≢ Answered.Open }
         ensures speaks { (code : ℕ) (reason : List ℕ) → Speaks (L.state line.old) self.old (Outgoing.WsClose code reason) (L.state line.new) self.new }
         ensures unread { ReadsNone (L.state line.old) (L.state line.new) }
     {
-        self.answered = Answered::Refused;
+        self.answer_with(Answer::Refused);
         if let Some(n) = write(line, denied_text()) {
             self.stage = Stage::Cut(Outcome::WriteFailed(n));
         }
@@ -245,18 +320,30 @@ impl WebSocketHalf {
         ensures one { OffersOne C.ConnEnd result end.old end.new }
         ensures all { OffersAll C.ConnEnd (NoneDue self.new) end.new }
     {
-        match mem::replace(&mut self.due, Due::Nothing) {
-            Due::Nothing => false,
-            Due::Waits(event) => match end.offer(event) {
-                Ok(()) => true,
+        match mem::replace(&mut self.session, Session::Broken) {
+            Session::Begun(answer, Some(event)) => match end.offer(event) {
+                Ok(()) => {
+                    self.session = Session::Begun(answer, None);
+                    true
+                }
                 Err(back) => {
-                    self.due = Due::Waits(back);
+                    self.session = Session::Begun(answer, Some(back));
                     false
                 }
             },
-            Due::Left(disconnect) => {
-                self.input_broke = true;
+            Session::Leaves(disconnect) => {
+                self.session = Session::Closed(Side::Client, Some(SPARE_READS));
                 end.offer_disconnect(disconnect)
+            }
+            Session::Breaks => end.offer_disconnect(disconnect(1006)),
+            Session::Begun(answer, None) => {
+                self.session = Session::Begun(answer, None);
+                false
+            }
+            Session::Broken => false,
+            Session::Closed(side, rest) => {
+                self.session = Session::Closed(side, rest);
+                false
             }
         }
     }
@@ -268,31 +355,20 @@ impl WebSocketHalf {
         requires running { self.old.stage ≡ Stage.Running }
         ensures leads { PreservesByLine (L.state line.old) self.old (L.state line.new) self.new }
         ensures turn { IsTurnOfRead (Rests self.new) (L.state line.old) (L.state line.new) result }
-        ensures keeps { result ≡ Turn.Idle → self.new.due ≡ self.old.due }
+        ensures keeps { result ≡ Turn.Idle → due_at self.new.session ≡ due_at self.old.session }
         ensures moves { IsShut self.new.stage → result ≡ Turn.Moved }
     {
-        let Due::Nothing = self.due else {
-            return Turn::Idle;
-        };
-        match self.answered {
-            Answered::Unanswered => Turn::Idle,
-            Answered::Refused => Turn::Idle,
-            Answered::Closed => self.drop_one(line),
-            Answered::Open => {
-                if self.input_broke {
-                    self.drop_one(line)
-                } else {
-                    self.read_one(line)
-                }
-            }
+        match self.reading() {
+            Reading::Rests => Turn::Idle,
+            Reading::Hears => self.read_one(line),
+            Reading::Drops(side, spare) => self.drop_one(side, spare, line),
         }
     }
 
     /// Reads a message, and records what it makes due.
     fn read_one<L: Line>(&mut self, line: &mut L) -> Turn
         requires running { self.old.stage ≡ Stage.Running }
-        requires opened { (self.old.answered ≡ Answered.Open) × (self.old.input_broke ≡ false) }
-        requires free { self.old.due ≡ Due.Nothing }
+        requires open { self.old.session ≡ Session.Begun Answer.Accepted None }
         ensures leads { PreservesByLine (L.state line.old) self.old (L.state line.new) self.new }
         ensures turn { IsTurnOfOneRead (L.state line.old) (L.state line.new) result }
         ensures keeps { result ≡ Turn.Idle → self.new ≡ self.old }
@@ -321,8 +397,7 @@ impl WebSocketHalf {
     fn lose(&mut self)
         ensures { self.new ≡ lost_by self.old }
     {
-        self.is_over = true;
-        self.due = Due::Left(disconnect(1006));
+        self.session = Session::Breaks;
     }
 
     /// Records what a message makes due.
@@ -330,60 +405,59 @@ impl WebSocketHalf {
         ensures { self.new ≡ heard_by self.old message }
     {
         match message {
-            Msg::Text(text) => self.due = Due::Waits(received(Payload::Text(text))),
-            Msg::Bytes(bytes) => self.due = Due::Waits(received(Payload::Bytes(bytes))),
+            Msg::Text(text) => self.session = heard(Payload::Text(text)),
+            Msg::Bytes(bytes) => self.session = heard(Payload::Bytes(bytes)),
             Msg::Ping => {}
             Msg::Pong => {}
-            Msg::Close(close) => {
-                self.client_closed = true;
-                self.due = Due::Left(disconnect_of(close));
-            }
+            Msg::Close(close) => self.session = Session::Leaves(disconnect_of(close)),
         }
     }
 
-    /// Reads and drops a message after a close, as long as `spare_reads` are left.
-    fn drop_one<L: Line>(&mut self, line: &mut L) -> Turn
-        requires may { MayDrop self.old }
+    /// Reads a message after a close, one of so many, and drops it.
+    fn drop_one<L: Line>(&mut self, side: Side, spare: u32, line: &mut L) -> Turn
+        requires may { MayDrop self.old.stage }
+        requires closed { self.old.session ≡ Session.Closed side (Some spare) }
+        requires spare { 0 < spare }
         ensures leads { PreservesByLine (L.state line.old) self.old (L.state line.new) self.new }
-        ensures may { MayDrop self.new }
         ensures stage { self.new.stage ≡ self.old.stage }
-        ensures turn { IsTurnOfRead (HasDropped self.new) (L.state line.old) (L.state line.new) result }
-        ensures same { self.new ≡ record self.old { is_over = self.new.is_over; spare_reads = self.new.spare_reads } }
+        ensures turn { IsTurnOfOneRead (L.state line.old) (L.state line.new) result }
+        ensures closed { (rest : Option ℕ) × (self.new.session ≡ Session.Closed side rest) }
     {
-        if self.is_over || self.spare_reads == 0 {
-            return Turn::Idle;
-        }
         let got = line.read_message();
-        self.note_dropped(got)
+        self.note_dropped(side, spare, got)
     }
 
-    /// Records a read after a close: its message is dropped.
-    fn note_dropped(&mut self, got: Got) -> Turn
-        requires goes_on { self.old.is_over ≡ false }
-        requires spare { 0 < self.old.spare_reads }
-        ensures dropped { self.new ≡ record self.old { is_over = is_end got; spare_reads = self.new.spare_reads } }
-        ensures fewer { self.new.spare_reads < self.old.spare_reads }
+    /// Records a read after a close: its message is dropped, and one read less is left.
+    fn note_dropped(&mut self, side: Side, spare: u32, got: Got) -> Turn
+        requires spare { 0 < spare }
+        ensures dropped { self.new ≡ record self.old { session = Session.Closed side (rest_after spare got) } }
         ensures turn { result ≡ turn_by got }
     {
-        self.spare_reads -= 1;
+        let left = Some(spare - 1);
         match got {
-            Got::Message(_) => {}
-            Got::Idle => return Turn::Idle,
-            Got::Ended => self.is_over = true,
-            Got::Failed => self.is_over = true,
-            Got::NoMemory => self.spare_reads = 0,
+            Got::Message(_) => self.session = Session::Closed(side, left),
+            Got::Idle => {
+                self.session = Session::Closed(side, left);
+                return Turn::Idle;
+            }
+            Got::Ended => self.session = Session::Closed(side, None),
+            Got::Failed => self.session = Session::Closed(side, None),
+            Got::NoMemory => self.session = Session::Closed(side, Some(0)),
         }
         Turn::Moved
     }
 
-    /// Makes at most `spare_reads` more reads after a close, and drops their messages. Such reads are not counted as turns.
+    /// Makes the reads that are left after a close, and drops their messages. Such reads are not counted as turns.
     fn drop_rest<L: Line>(&mut self, line: &mut L)
-        requires may { MayDrop self.old }
+        requires may { MayDrop self.old.stage }
         ensures leads { PreservesByLine (L.state line.old) self.old (L.state line.new) self.new }
         ensures stage { self.new.stage ≡ self.old.stage }
     {
-        for _read in 0..self.spare_reads {
-            let _turn = self.drop_one(line);
+        for _read in 0..SPARE_READS {
+            let Reading::Drops(side, spare) = self.reading() else {
+                return;
+            };
+            let _turn = self.drop_one(side, spare, line);
         }
     }
 
@@ -399,21 +473,10 @@ impl WebSocketHalf {
     {
         let outcome = self.end_by(kind, line);
         self.stage = Stage::Over(NextStep::ConnectionEnds(outcome));
-        if outcome == Outcome::Finished && self.carries() {
+        if outcome == Outcome::Finished {
             self.drop_rest(line);
         }
         Turn::Moved
-    }
-
-    /// Whether the line carries messages.
-    fn carries(&self) -> bool
-        ensures { IsTrue result ↔ ((self.now.answered ≡ Answered.Open) ⊎ (self.now.answered ≡ Answered.Closed)) }
-    {
-        match self.answered {
-            Answered::Open => true,
-            Answered::Closed => true,
-            _ => false,
-        }
     }
 
     /// Writes what the end of the task adds, and returns how the connection ends.
@@ -433,7 +496,7 @@ impl WebSocketHalf {
         requires ending { ((self.old.stage ≡ Stage.Ending EndKind.Returned) × (code ≡ 1000)) ⊎ ((self.old.stage ≡ Stage.Ending EndKind.Faulted) × (code ≡ 1011)) }
         ensures leads { PreservesByLine (L.state line.old) self.old (L.state line.new) (record self.new { stage = Stage.Over (NextStep.ConnectionEnds result) }) }
     {
-        match self.answered {
+        match self.answered() {
             Answered::Unanswered => self.answer(line),
             Answered::Refused => Outcome::Finished,
             Answered::Closed => Outcome::Finished,
@@ -444,7 +507,7 @@ impl WebSocketHalf {
     /// Answers in place of the application: 500, if no body of a denial was sent.
     fn answer<L: Line>(&mut self, line: &mut L) -> Outcome
         requires ending { (self.old.stage ≡ Stage.Ending EndKind.Returned) ⊎ (self.old.stage ≡ Stage.Ending EndKind.Faulted) }
-        requires unanswered { self.old.answered ≡ Answered.Unanswered }
+        requires unanswered { answer_of self.old.session ≡ Answered.Unanswered }
         ensures leads { PreservesByLine (L.state line.old) self.old (L.state line.new) (record self.new { stage = Stage.Over (NextStep.ConnectionEnds result) }) }
     {
         match self.text.progress() {
@@ -461,12 +524,26 @@ impl WebSocketHalf {
     /// closed it, or the input ended or failed).
     fn finish_open<L: Line>(&mut self, code: u16, line: &mut L) -> Outcome
         requires ending { ((self.old.stage ≡ Stage.Ending EndKind.Returned) × (code ≡ 1000)) ⊎ ((self.old.stage ≡ Stage.Ending EndKind.Faulted) × (code ≡ 1011)) }
-        requires open { self.old.answered ≡ Answered.Open }
+        requires open { answer_of self.old.session ≡ Answered.Open }
         ensures leads { PreservesByLine (L.state line.old) self.old (L.state line.new) (record self.new { stage = Stage.Over (NextStep.ConnectionEnds result) }) }
     {
-        if self.input_broke {
-            return left(self.client_closed);
+        match &self.session {
+            Session::Broken => Outcome::InputBroke,
+            Session::Closed(_, _) => Outcome::Finished,
+            Session::Begun(_, _) => self.close_last(code, line),
+            Session::Leaves(_) => self.close_last(code, line),
+            Session::Breaks => self.close_last(code, line),
         }
+    }
+
+    /// Closes a session of which no disconnect was offered.
+    fn close_last<L: Line>(&mut self, code: u16, line: &mut L) -> Outcome
+        requires ending { ((self.old.stage ≡ Stage.Ending EndKind.Returned) × (code ≡ 1000)) ⊎ ((self.old.stage ≡ Stage.Ending EndKind.Faulted) × (code ≡ 1011)) }
+        requires open { answer_of self.old.session ≡ Answered.Open }
+        requires stays { IsUnended self.old.session }
+        ensures leads { PreservesByLine (L.state line.old) self.old (L.state line.new) (record self.new { stage = Stage.Over (NextStep.ConnectionEnds result) }) }
+    {
+        self.session = Session::Closed(Side::Application, self.rest());
         match line.send_close(code, no_reason()) {
             Put::Failed => Outcome::WriteFailed(0),
             Put::NoMemory => Outcome::NoMemory,
@@ -544,17 +621,6 @@ fn stage_after(put: Put) -> Stage
     }
 }
 
-/// How the connection of a session ends after its disconnect: well, if the client closed it.
-fn left(client_closed: bool) -> Outcome
-    ensures { result ≡ outcome_after client_closed }
-{
-    if client_closed {
-        Outcome::Finished
-    } else {
-        Outcome::InputBroke
-    }
-}
-
 fn no_reason() -> Reason
     ensures { result ≡ [] }
 {
@@ -564,11 +630,27 @@ fn no_reason() -> Reason
     reason
 }
 
-/// The event that the application gets for a message.
-fn received(payload: Payload) -> Incoming
-    ensures { result ≡ Incoming.WsReceive payload }
+/// The session once a message was read: its event waits.
+fn heard(payload: Payload) -> Session
+    ensures { result ≡ Session.Begun Answer.Accepted (Some (Incoming.WsReceive payload)) }
 {
-    Incoming::WsReceive { payload }
+    Session::Begun(Answer::Accepted, Some(Incoming::WsReceive { payload }))
+}
+
+/// What is read after a close.
+fn dropping(side: Side, rest: Option<u32>) -> Reading
+    ensures { result ≡ reads_at (Session.Closed side rest) }
+{
+    match rest {
+        None => Reading::Rests,
+        Some(spare) => {
+            if spare == 0 {
+                Reading::Rests
+            } else {
+                Reading::Drops(side, spare)
+            }
+        }
+    }
 }
 
 /// A disconnect that the server makes: 1005 for a close without a code, 1006 for no close (RFC 6455, section 7.1.5).

@@ -1,40 +1,12 @@
-use Rattle.asgi_ws.specs.declared.messages.SentMessage.TheVariants as item
-use Rattle.asgi_halves.proofs.LineCallLemmas.{has_sent}
-use Rattle.asgi_halves.proofs.SessionEndLemmas.{ends_left, close_done, close_failed, close_short}
+use Rattle.asgi_halves.proofs.SessionEndLemmas.{ends_left, ends_broken}
 use Rattle.asgi_halves.proofs.session_half.WebSocketHalf.finish_open.Goals as goal
 
-pub returns-then-self : goal.returns-then-self
-returns-then-self g c = record {
-  leads = λ scene read view x.
-      ends_left scene (g.L.Line.state c.args.line.now) c.args.self.now read view x c.args.code c.requires.ending c.requires.open c.if-self.true c.left.result c.left.ensures;
+pub returns-in-Broken : goal.returns-in-Broken
+returns-in-Broken g c = record {
+  leads = λ scene read view x. ends_broken scene (g.L.Line.state c.args.line.now) c.args.self.now read view x c.args.code c.requires.ending c.requires.open c.in-Broken.is;
 }
 
-pub returns-in-Failed : goal.returns-in-Failed
-returns-in-Failed g c = record {
-  leads = λ scene read view x.
-      let call = c.send_close.ensures in
-      let s = has_sent g.L.Line g.L.Reads g.L.Counts g.L.Messages g.met.L.Line.state_is c.args.line.now c.send_close.new.self (item.Close c.args.code c.no_reason.result) c.send_close.result call.told call.counts call.same call.text in
-      close_failed scene (g.L.Line.state c.args.line.now) c.args.self.now read view x c.args.code c.requires.ending c.requires.open c.if-self.false c.no_reason.result c.no_reason.ensures
-      (g.L.Line.state c.send_close.new.self) s.text
-      c.send_close.result s.told s.count s.coming s.kept c.in-Failed.is;
-}
-
-pub returns-in-NoMemory : goal.returns-in-NoMemory
-returns-in-NoMemory g c = record {
-  leads = λ scene read view x.
-      let call = c.send_close.ensures in
-      let s = has_sent g.L.Line g.L.Reads g.L.Counts g.L.Messages g.met.L.Line.state_is c.args.line.now c.send_close.new.self (item.Close c.args.code c.no_reason.result) c.send_close.result call.told call.counts call.same call.text in
-      close_short scene (g.L.Line.state c.args.line.now) c.args.self.now read view x c.args.code c.requires.ending c.requires.open c.if-self.false c.no_reason.result c.no_reason.ensures
-      (g.L.Line.state c.send_close.new.self) s.text
-      c.send_close.result s.told s.count s.coming s.kept c.in-NoMemory.is;
-}
-
-pub returns-in-Done : goal.returns-in-Done
-returns-in-Done g c = record {
-  leads = λ scene read view x.
-      let call = c.send_close.ensures in
-      let s = has_sent g.L.Line g.L.Reads g.L.Counts g.L.Messages g.met.L.Line.state_is c.args.line.now c.send_close.new.self (item.Close c.args.code c.no_reason.result) c.send_close.result call.told call.counts call.same call.text in
-      close_done scene (g.L.Line.state c.args.line.now) c.args.self.now read view x c.args.code c.requires.ending c.requires.open c.if-self.false c.no_reason.result c.no_reason.ensures
-      (g.L.Line.state c.send_close.new.self) s.text
-      c.send_close.result s.told s.count s.coming s.kept c.in-Done.is;
+pub returns-in-Closed : goal.returns-in-Closed
+returns-in-Closed g c = record {
+  leads = λ scene read view x. ends_left scene (g.L.Line.state c.args.line.now) c.args.self.now read view x c.args.code c.requires.ending c.requires.open c.in-Closed.field-0 c.in-Closed.field-1 c.in-Closed.is;
 }

@@ -14,7 +14,7 @@ returns-clause-leads g c scene read view x =
       view.arrived ++ given_by got,
       view.written,
       subst (λ (h : WebSocketHalf). Invariant scene (g.L.Line.state c.read_message-got.new.self) h read (record view { arrived = view.arrived ++ given_by got })) (sym c.note.ensures.noted)
-          (noted scene (g.L.Line.state c.args.line.now) (g.L.Line.state c.read_message-got.new.self) c.args.self.now read view x c.requires.running c.requires.opened.0 c.requires.opened.1 c.requires.free got
+          (noted scene (g.L.Line.state c.args.line.now) (g.L.Line.state c.read_message-got.new.self) c.args.self.now read view x c.requires.running c.requires.open got
           (has_read g.L.Line g.L.Reads g.L.Counts g.L.Messages g.met.L.Line.state_is c.args.line.now c.read_message-got.new.self got r.told r.coming.0 r.counts r.same r.text)),
     )
 
