@@ -1,48 +1,18 @@
 -- The steps of the connection's half on its input: it reads, and offers what is due.
-use Rattle.std.proofs.Common.{◌≡◌, ℕ, true, false, List, [], ◌∷◌, ◌++◌, map, refl, sym, ap, ◌∙◌, subst, Option, Some, None, Bool}
-use Rattle.std.specs.Prelude.{◌⊎◌, ◌≤◌, length}
-use Rattle.std.proofs.lemmas.List.{append-nil}
-use mathlib.Core.List.{IsPrefix}
-use Rattle.asgi_types.specs.declared.incoming.Incoming.{Incoming}
-use Rattle.asgi_types.specs.declared.incoming.Incoming.TheVariants.{HttpDisconnect}
-use Rattle.asgi_types.specs.declared.limits.Limits.{Limits}
-use Rattle.asgi_request.specs.declared.next.Next.{Next}
-use Rattle.asgi_request.specs.declared.next.Next.TheVariants as next
-use Rattle.asgi_request.specs.BodyOf.{body_events, body_state}
-use Rattle.asgi_request.specs.Opened.{HasOpened}
-use Rattle.asgi_request.specs.Reading.{Reading, StandsFor}
-use Rattle.asgi_pipes.specs.declared.ends.ConnEnd as conn_end
-use Rattle.asgi_exchange.specs.Calls.{IsViewOf}
-use Rattle.asgi_exchange.specs.Halves.{IsOffered}
-use Rattle.asgi_exchange.specs.Http.{http}
-use Rattle.asgi_exchange.specs.Steps.{is_by_input}
-use Rattle.asgi_exchange.specs.Views.{Break, ByInput, ConnView, output}
-use Rattle.asgi_exchange.proofs.HttpLemmas.{http_is_steady}
-use Rattle.asgi_exchange.proofs.ListLemmas.{prefix_trans}
-use Rattle.asgi_halves.specs.declared.half.BodyProgress.{BodyProgress}
-use Rattle.asgi_halves.specs.declared.half.BodyProgress.TheVariants.{Open, Waits, Whole, Refused, BrokenOff}
-use Rattle.asgi_halves.specs.declared.half.HttpHalf.{HttpHalf}
-use Rattle.asgi_halves.specs.declared.stage.Stage.{Stage}
-use Rattle.asgi_halves.specs.declared.stage.Stage.TheVariants.{Running, Cut}
-use Rattle.asgi_conversation.specs.declared.input.InputEnd.{InputEnd}
-use Rattle.asgi_conversation.specs.declared.report.Outcome.TheVariants.{NoMemory}
-use Rattle.asgi_halves.specs.declared.wire.Wire.{Wire}
-use Rattle.asgi_halves.specs.Half.{Scene, Invariant, WithinScene, requests_in, IsRunning, HasGiven, EndsWhere, BreaksAt}
-use Rattle.asgi_halves.specs.private.HalfSteps.{KeepsBesidesBody, GivesAfter, HasAsked, HoldsFew, IsNoneDue, ReadsAt, EndsAtInput}
-use Rattle.asgi_ws.specs.Lines.{LineState}
-use Rattle.asgi_run.specs.Lines.{Transferred, piece_size}
-use Rattle.asgi_halves.specs.ReadAhead.{ReadsAhead}
-use Rattle.asgi_conversation.specs.TaskEnds.{has_ended, is_faulty}
-use Rattle.asgi_halves.proofs.HalfBodyLemmas.{unbroken, first_due, all_due, why_broken}
-use Rattle.asgi_halves.proofs.HalfLemmas.{running_of, unfailed, not_written, part_written}
-use Rattle.asgi_halves.proofs.ReadAheadLemmas.{reads_in, within_reads}
+use Rattle.asgi_halves.proofs.HalfWords.{◌≡◌, ℕ, true, false, List, [], ◌∷◌, ◌++◌, map, refl, sym, ap, ◌∙◌, subst, Option, Some, None, Bool, ◌⊎◌, ◌≤◌, length, append-nil, IsPrefix, Incoming, Limits}
+use Rattle.asgi_halves.proofs.HalfWords.{Next, body_events, body_state, HasOpened, Reading, StandsFor, IsViewOf, IsOffered, http, is_by_input, Break, ByInput, ConnView, output, http_is_steady}
+use Rattle.asgi_halves.proofs.HalfWords.{prefix_trans, BodyProgress, HttpHalf, Stage, InputEnd, Outcome, Wire, Scene, Invariant, WithinScene, requests_in, IsRunning, HasGiven, EndsWhere, BreaksAt}
+use Rattle.asgi_halves.proofs.HalfWords.{KeepsBesidesBody, GivesAfter, HasAsked, HoldsFew, IsNoneDue, ReadsAt, LineState, Transferred, piece_size, ReadsAhead, has_ended, is_faulty, ConnGhosts}
+use Rattle.asgi_halves.specs.private.HalfSteps.{EndsAtInput}
+use Rattle.asgi_halves.proofs.{HalfBodyLemmas.unbroken, HalfBodyLemmas.first_due, HalfBodyLemmas.all_due, HalfBodyLemmas.why_broken, HalfLemmas.running_of, HalfLemmas.unfailed}
+use Rattle.asgi_halves.proofs.{HalfLemmas.not_written, HalfLemmas.part_written, ReadAheadLemmas.reads_in, ReadAheadLemmas.within_reads}
 
 pub not_both : (b : Bool) → b ≡ false → b ≡ true → ⊥
 not_both b is_false is_true = cc (is_false, is_true)
 
 -- ---- want of memory
 
-module _ (scene : Scene) (now : LineState) (half : HttpHalf) (read : List ℕ) (view : ConnView ℕ ℕ) (x : Invariant scene now half read view) (is : half.stage ≡ Running) where
+module _ (scene : Scene) (now : LineState) (half : HttpHalf) (read : List ℕ) (view : ConnView ℕ ℕ) (x : Invariant scene now half read view) (is : half.stage ≡ Stage.Running) where
   r : IsRunning scene half read view
   r = running_of scene now half read view x is
 
@@ -57,7 +27,7 @@ module _ (scene : Scene) (now : LineState) (half : HttpHalf) (read : List ℕ) (
       subst (λ (h : HttpHalf). Invariant scene now h read view) (sym same)
       (subst (λ (s : Stage). Invariant scene now (record half { wire = record half.wire { requests = later.wire.requests }; body = later.body; stage = s }) read view) (sym is)
       (record {
-        moved = unfailed scene now half read view x Running is refl;
+        moved = unfailed scene now half read view x Stage.Running is refl;
         limits = limits ∙ x.limits;
         within = x.within;
         keeps = x.keeps;
@@ -83,8 +53,8 @@ module _ (scene : Scene) (now : LineState) (half : HttpHalf) (read : List ℕ) (
   none_broke unbroke = unbroken view.broken r.talks.uncut (sym r.talks.input_broke ∙ unbroke)
 
   -- the event that waits is offered
-  pub offered_on : (event : Incoming) → half.input_broke ≡ false → half.body ≡ Waits event
-      → Invariant scene now (record half { body = Open }) read (record view { offered = view.offered ++ event ∷ [] })
+  pub offered_on : (event : Incoming) → half.input_broke ≡ false → half.body ≡ BodyProgress.Waits event
+      → Invariant scene now (record half { body = BodyProgress.Open }) read (record view { offered = view.offered ++ event ∷ [] })
   offered_on event unbroke waits =
       let t = r.talks in
       let given = subst (λ (b : BodyProgress). HasGiven half.wire.requests read scene.opened t.events b) waits t.given in
@@ -92,9 +62,9 @@ module _ (scene : Scene) (now : LineState) (half : HttpHalf) (read : List ℕ) (
       let all : view.offered ++ event ∷ [] ≡ t.events ++ event ∷ [] = ap (λ (l : List Incoming). l ++ event ∷ []) (r.offered unbroke) in
       let due = first_due half.wire.requests read scene.opened scene.facts.framing view.arrived opens (t.events ++ event ∷ []) given in
       let front = subst (λ (l : Limits). IsPrefix (t.events ++ event ∷ []) (body_events l scene.facts.framing view.arrived)) x.limits due in
-      subst (λ (s : Stage). Invariant scene now (record half { body = Open; stage = s }) read (record view { offered = view.offered ++ event ∷ [] })) (sym is)
+      subst (λ (s : Stage). Invariant scene now (record half { body = BodyProgress.Open; stage = s }) read (record view { offered = view.offered ++ event ∷ [] })) (sym is)
       (record {
-        moved = unfailed scene now half read view x Running is refl;
+        moved = unfailed scene now half read view x Stage.Running is refl;
         limits = x.limits;
         within = x.within;
         keeps = record {
@@ -121,9 +91,9 @@ module _ (scene : Scene) (now : LineState) (half : HttpHalf) (read : List ℕ) (
       })
 
   -- the same, with the clauses of the end's calls
-  pub offered_view : (E : Type 0) (C : conn_end.Ghosts E) (old new : E) (event : Incoming) → half.input_broke ≡ false → half.body ≡ Waits event → IsViewOf C old view
+  pub offered_view : (E : Type 0) (C : ConnGhosts E) (old new : E) (event : Incoming) → half.input_broke ≡ false → half.body ≡ BodyProgress.Waits event → IsViewOf C old view
       → C.offered new ≡ C.offered old ++ event ∷ [] → C.is_broken new ≡ C.is_broken old → C.got new ≡ C.got old
-      → (later : ConnView ℕ ℕ) × Invariant scene now (record half { body = Open }) read later × IsViewOf C new later
+      → (later : ConnView ℕ ℕ) × Invariant scene now (record half { body = BodyProgress.Open }) read later × IsViewOf C new later
   offered_view E C old new event unbroke waits is_view offered broken got = (
     record view { offered = view.offered ++ event ∷ [] },
     offered_on event unbroke waits,
@@ -131,31 +101,31 @@ module _ (scene : Scene) (now : LineState) (half : HttpHalf) (read : List ℕ) (
   )
 
   -- it waits on
-  pub waits_view : (E : Type 0) (C : conn_end.Ghosts E) (old new : E) (event back : Incoming) → half.body ≡ Waits event → back ≡ event → IsViewOf C old view
+  pub waits_view : (E : Type 0) (C : ConnGhosts E) (old new : E) (event back : Incoming) → half.body ≡ BodyProgress.Waits event → back ≡ event → IsViewOf C old view
       → C.offered new ≡ C.offered old → C.is_broken new ≡ C.is_broken old → C.got new ≡ C.got old
-      → (later : ConnView ℕ ℕ) × Invariant scene now (record half { body = Waits back }) read later × IsViewOf C new later
+      → (later : ConnView ℕ ℕ) × Invariant scene now (record half { body = BodyProgress.Waits back }) read later × IsViewOf C new later
   waits_view E C old new event back waits same is_view offered broken got = (
     view,
-    subst (λ (b : BodyProgress). Invariant scene now (record half { body = b }) read view) (waits ∙ ap (λ (e : Incoming). Waits e) (sym same)) x,
+    subst (λ (b : BodyProgress). Invariant scene now (record half { body = b }) read view) (waits ∙ ap (λ (e : Incoming). BodyProgress.Waits e) (sym same)) x,
     (is_view.0 ∙ sym offered, is_view.1 ∙ sym broken, is_view.2 ∙ sym got),
   )
 
   -- the disconnect is offered
   pub broken_off : half.input_broke ≡ false → BreaksAt half.body half.wire.input
-      → Invariant scene now (record half { input_broke = true }) read (record view { offered = view.offered ++ HttpDisconnect ∷ []; broken = Some ByInput })
+      → Invariant scene now (record half { input_broke = true }) read (record view { offered = view.offered ++ Incoming.HttpDisconnect ∷ []; broken = Some ByInput })
   broken_off unbroke breaks =
       let t = r.talks in
       let opens = subst (λ (l : Limits). HasOpened l read scene.opened scene.facts.framing view.arrived) (sym x.limits) x.within.opens in
       let all = all_due half.wire.requests read scene.opened scene.facts.framing view.arrived opens t.events half.body half.wire.input t.given breaks in
       let due = subst (λ (l : Limits). t.events ≡ body_events l scene.facts.framing view.arrived) x.limits all in
       let why = why_broken half.wire.requests read scene.opened scene.facts.framing view.arrived opens t.events half.body half.wire.input t.given breaks in
-      subst (λ (s : Stage). Invariant scene now (record half { input_broke = true; stage = s }) read (record view { offered = view.offered ++ HttpDisconnect ∷ []; broken = Some ByInput })) (sym is)
+      subst (λ (s : Stage). Invariant scene now (record half { input_broke = true; stage = s }) read (record view { offered = view.offered ++ Incoming.HttpDisconnect ∷ []; broken = Some ByInput })) (sym is)
       (record {
-        moved = unfailed scene now half read view x Running is refl;
+        moved = unfailed scene now half read view x Stage.Running is refl;
         limits = x.limits;
         within = x.within;
         keeps = record {
-          offered = ap (λ (l : List Incoming). l ++ HttpDisconnect ∷ []) (r.offered unbroke ∙ due);
+          offered = ap (λ (l : List Incoming). l ++ Incoming.HttpDisconnect ∷ []) (r.offered unbroke ∙ due);
           written = x.keeps.written;
         };
         breaks = λ e. subst (λ (l : Limits). (has_ended half.wire.input ≡ true) ⊎ (is_faulty (body_state l scene.facts.framing view.arrived) ≡ true)) x.limits why;
@@ -178,40 +148,40 @@ module _ (scene : Scene) (now : LineState) (half : HttpHalf) (read : List ℕ) (
 
 -- before that none is due
 pub none_due_before : (body : BodyProgress) (end : InputEnd) (reader : Reading) → EndsAtInput body → has_ended end ≡ false → IsNoneDue body end reader
-none_due_before Open end reader ends is = absurd ends
-none_due_before (Waits event) end reader ends is = absurd ends
-none_due_before Whole end reader ends is = is
-none_due_before (Refused status) end reader ends is = absurd ends
-none_due_before BrokenOff end reader ends is = is
+none_due_before BodyProgress.Open end reader ends is = absurd ends
+none_due_before (BodyProgress.Waits event) end reader ends is = absurd ends
+none_due_before BodyProgress.Whole end reader ends is = is
+none_due_before (BodyProgress.Refused status) end reader ends is = absurd ends
+none_due_before BodyProgress.BrokenOff end reader ends is = is
 
 -- ---- a read
 
 reads_unbroken : (input_broke : Bool) (body : BodyProgress) (end : InputEnd) → ReadsAt body → has_ended end ≡ false → (input_broke ≡ true → BreaksAt body end) → input_broke ≡ false
 reads_unbroken false body end reads still settled = refl
-reads_unbroken true Open end reads still settled = absurd (settled refl)
-reads_unbroken true Whole end reads still settled = absurd (not_both (has_ended end) still (settled refl))
-reads_unbroken true (Waits event) end reads still settled = absurd reads
-reads_unbroken true (Refused status) end reads still settled = absurd reads
-reads_unbroken true BrokenOff end reads still settled = absurd reads
+reads_unbroken true BodyProgress.Open end reads still settled = absurd (settled refl)
+reads_unbroken true BodyProgress.Whole end reads still settled = absurd (not_both (has_ended end) still (settled refl))
+reads_unbroken true (BodyProgress.Waits event) end reads still settled = absurd reads
+reads_unbroken true (BodyProgress.Refused status) end reads still settled = absurd reads
+reads_unbroken true BodyProgress.BrokenOff end reads still settled = absurd reads
 
 given_fed : (old new : Reading) (read more : List ℕ) (opened : List Next) (events : List Incoming) (body : BodyProgress) → ReadsAt body
     → ((bytes : List ℕ) (given : List Next) → StandsFor old bytes given → StandsFor new (bytes ++ more) given)
     → HasGiven old read opened events body → HasGiven new (read ++ more) opened events body
-given_fed old new read more opened events Open reads fed given = fed read (opened ++ map next.Event events) given
-given_fed old new read more opened events Whole reads fed given = fed read (opened ++ (map next.Event events ++ next.Whole ∷ [])) given
-given_fed old new read more opened events (Waits event) reads fed given = absurd reads
-given_fed old new read more opened events (Refused status) reads fed given = absurd reads
-given_fed old new read more opened events BrokenOff reads fed given = absurd reads
+given_fed old new read more opened events BodyProgress.Open reads fed given = fed read (opened ++ map Next.Event events) given
+given_fed old new read more opened events BodyProgress.Whole reads fed given = fed read (opened ++ (map Next.Event events ++ Next.Whole ∷ [])) given
+given_fed old new read more opened events (BodyProgress.Waits event) reads fed given = absurd reads
+given_fed old new read more opened events (BodyProgress.Refused status) reads fed given = absurd reads
+given_fed old new read more opened events BodyProgress.BrokenOff reads fed given = absurd reads
 
 ends_anywhere : (body : BodyProgress) (end : InputEnd) → ReadsAt body → EndsWhere body end
-ends_anywhere Open end reads = tt
-ends_anywhere Whole end reads = tt
-ends_anywhere (Waits event) end reads = absurd reads
-ends_anywhere (Refused status) end reads = absurd reads
-ends_anywhere BrokenOff end reads = absurd reads
+ends_anywhere BodyProgress.Open end reads = tt
+ends_anywhere BodyProgress.Whole end reads = tt
+ends_anywhere (BodyProgress.Waits event) end reads = absurd reads
+ends_anywhere (BodyProgress.Refused status) end reads = absurd reads
+ends_anywhere BodyProgress.BrokenOff end reads = absurd reads
 
-module _ (scene : Scene) (was now : LineState) (half : HttpHalf) (read : List ℕ) (view : ConnView ℕ ℕ) (x : Invariant scene was half read view) (is : half.stage ≡ Running)
-    (open_still : has_ended half.wire.input ≡ false) (reads : ReadsAt half.body) (asked : HasAsked half) (few : half.body ≡ Whole → HoldsFew half.wire.requests)
+module _ (scene : Scene) (was now : LineState) (half : HttpHalf) (read : List ℕ) (view : ConnView ℕ ℕ) (x : Invariant scene was half read view) (is : half.stage ≡ Stage.Running)
+    (open_still : has_ended half.wire.input ≡ false) (reads : ReadsAt half.body) (asked : HasAsked half) (few : half.body ≡ BodyProgress.Whole → HoldsFew half.wire.requests)
     (more : List ℕ) (short : length more ≤ piece_size) (wire : Wire) (same : wire ≡ record half.wire { requests = wire.requests; input = wire.input })
     (limits : wire.requests.limits ≡ half.wire.requests.limits)
     (moved : Transferred scene.start was half.wire.input read (scene.before ++ view.written) 0 → Transferred scene.start now wire.input (read ++ more) (scene.before ++ view.written) 0) where
@@ -251,7 +221,7 @@ module _ (scene : Scene) (was now : LineState) (half : HttpHalf) (read : List �
       subst (λ (w : Wire). Invariant scene now (record half { wire = w }) (read ++ more) (record view { arrived = view.arrived ++ more })) (sym same)
       (subst (λ (s : Stage). Invariant scene now (record half { wire = record half.wire { requests = wire.requests; input = wire.input }; stage = s }) (read ++ more) (record view { arrived = view.arrived ++ more })) (sym is)
       (record {
-        moved = moved (unfailed scene was half read view x Running is refl);
+        moved = moved (unfailed scene was half read view x Stage.Running is refl);
         limits = limits ∙ x.limits;
         within = more_within;
         keeps = record { offered = offers_more; written = written_more };
@@ -274,11 +244,11 @@ module _ (scene : Scene) (was now : LineState) (half : HttpHalf) (read : List �
       }))
 
   -- there is no memory for it
-  pub read_short : Invariant scene now (record half { wire = wire; stage = Cut NoMemory }) (read ++ more) (record view { arrived = view.arrived ++ more })
+  pub read_short : Invariant scene now (record half { wire = wire; stage = Stage.Cut Outcome.NoMemory }) (read ++ more) (record view { arrived = view.arrived ++ more })
   read_short =
-      subst (λ (w : Wire). Invariant scene now (record half { wire = w; stage = Cut NoMemory }) (read ++ more) (record view { arrived = view.arrived ++ more })) (sym same)
+      subst (λ (w : Wire). Invariant scene now (record half { wire = w; stage = Stage.Cut Outcome.NoMemory }) (read ++ more) (record view { arrived = view.arrived ++ more })) (sym same)
       (record {
-        moved = moved (unfailed scene was half read view x Running is refl);
+        moved = moved (unfailed scene was half read view x Stage.Running is refl);
         limits = limits ∙ x.limits;
         within = more_within;
         keeps = record { offered = offers_more; written = written_more };

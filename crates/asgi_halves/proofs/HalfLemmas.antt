@@ -1,43 +1,13 @@
 -- The steps of the connection's half: if the invariant held, it holds again.
-use Rattle.std.proofs.Common.{◌≡◌, ℕ, false, ◌<◌, List, [], ◌∷◌, ◌++◌, length, take, drop, refl, sym, ap, ◌∙◌, subst, append_assoc, Option, None}
-use Rattle.std.specs.Io.KnownBytes.{Appends}
-use Rattle.std.proofs.lemmas.List.{append-nil, take-append-drop}
-use mathlib.Core.List.{IsPrefix}
-use Rattle.asgi_io.specs.declared.write.Wrote.TheVariants as wrote
-use Rattle.asgi_io.specs.Counting.{RoseBy}
-use Rattle.asgi_io.specs.Writing.{TriesWrites}
-use Rattle.asgi_types.specs.declared.end_kind.EndKind.{EndKind}
-use Rattle.asgi_types.specs.declared.facts.Facts.{Facts}
-use Rattle.asgi_types.specs.declared.limits.Limits.{Limits}
-use Rattle.asgi_types.specs.declared.outgoing.Outgoing.{Outgoing}
-use Rattle.asgi_request.specs.declared.next.Next.{Next}
-use Rattle.asgi_request.specs.BodyOf.{body_events}
-use Rattle.asgi_request.specs.Reading as reading
-use Rattle.asgi_response.specs.declared.text.ResponseText.{ResponseText}
-use Rattle.asgi_response.specs.Response.{response_text}
-use Rattle.asgi_response.specs.Standing as standing
-use Rattle.asgi_pipes.specs.declared.items.OutItem.TheVariants.{Event, Ended}
-use Rattle.asgi_exchange.specs.Http.{http}
-use Rattle.asgi_exchange.specs.ExchangeTexts.{input_of}
-use Rattle.asgi_exchange.specs.Items.{end_of}
-use Rattle.asgi_exchange.specs.Views.{ConnView, empty_conn, output, added_by, taken_of}
-use Rattle.asgi_exchange.proofs.EventLemmas.{events_append, end_event, end_ended}
-use Rattle.asgi_halves.specs.declared.half.BodyProgress.TheVariants.{Open}
-use Rattle.asgi_halves.specs.declared.half.HttpHalf.{HttpHalf}
-use Rattle.asgi_halves.specs.declared.stage.Stage.{Stage}
-use Rattle.asgi_halves.specs.declared.stage.Stage.TheVariants.{Running, Ending, Cut}
-use Rattle.asgi_conversation.specs.declared.report.Outcome.{Outcome}
-use Rattle.asgi_conversation.specs.declared.report.Outcome.TheVariants.{WriteFailed, NoMemory}
-use Rattle.asgi_halves.specs.declared.wire.Wire.{Wire}
-use Rattle.asgi_halves.specs.Half.{Scene, Invariant, IsRunning, IsAt, failures_at, known, state_in}
-use Rattle.asgi_halves.specs.private.HalfSteps.{Pending}
-use Rattle.asgi_halves.specs.Half.{Opens}
-use Rattle.asgi_ws.specs.Lines.{LineState}
-use Rattle.asgi_run.specs.Lines.{Transferred, how_wrote}
-use Rattle.asgi_conversation.specs.Persistence.{StopsWithin}
+use Rattle.asgi_halves.proofs.HalfWords.{◌≡◌, ℕ, false, ◌<◌, List, [], ◌∷◌, ◌++◌, length, take, drop, refl, sym, ap, ◌∙◌, subst, append_assoc, Option, None, Appends, append-nil, take-append-drop}
+use Rattle.asgi_halves.proofs.HalfWords.{IsPrefix, RoseBy, TriesWrites, EndKind, Facts, Limits, Outgoing, Next, body_events, response_text, OutItem, http, input_of, end_of, ConnView, output}
+use Rattle.asgi_halves.proofs.HalfWords.{added_by, taken_of, events_append, end_event, BodyProgress, HttpHalf, Stage, Outcome, Wire, Scene, Invariant, IsRunning, IsAt, failures_at, known, state_in}
+use Rattle.asgi_halves.proofs.HalfWords.{LineState, Transferred, how_wrote, StopsWithin, moved_by_write, tries_front, text_front, Wrote, StandsFor, StandsForText}
 use Rattle.asgi_conversation.specs.ExchangeRecord.{Beginning, Saying}
-use Rattle.asgi_run.proofs.LineLemmas.{moved_by_write, tries_front}
-use Rattle.asgi_conversation.proofs.SoFarLemmas.{text_front}
+use Rattle.asgi_exchange.proofs.EventLemmas.{end_ended}
+use Rattle.asgi_exchange.specs.Views.{empty_conn}
+use Rattle.asgi_halves.specs.{Half.Opens, private.HalfSteps.Pending}
+use Rattle.asgi_response.specs.{Standing.Grows, declared.text.ResponseText.ResponseText}
 
 -- ---- what is written
 
@@ -60,15 +30,15 @@ moved_on scene was now half read written text failures moved same_left same_read
     (moved_by_write scene.start was now half.wire.input read (scene.before ++ written) text failures moved same_left same_reads same_session appends rose tries)
 
 abbrev failed_at : Outcome → ℕ
-failed_at (WriteFailed n) = n
+failed_at (Outcome.WriteFailed n) = n
 failed_at _ = 0
 
 module _ (scene : Scene) (was now : LineState) (half : HttpHalf) (read : List ℕ) (view : ConnView ℕ ℕ) (p : Pending scene was half read view)
     (same_left : now.left ≡ was.left) (same_reads : now.reads ≡ was.reads) (same_session : now.session ≡ was.session) where
   -- all of the text in hand went out
   put_whole : (wire : Wire) → wire ≡ record half.wire { out = wire.out } → wire.out.items ≡ [] → Appends was.written now.written half.wire.out.items → RoseBy 0 was.failed now.failed
-      → TriesWrites was.writes now.writes (length half.wire.out.items) wrote.Done
-      → Invariant scene now (record half { wire = record half.wire { out = wire.out }; stage = Running }) read (record view { written = view.written ++ half.wire.out.items })
+      → TriesWrites was.writes now.writes (length half.wire.out.items) Wrote.Done
+      → Invariant scene now (record half { wire = record half.wire { out = wire.out }; stage = Stage.Running }) read (record view { written = view.written ++ half.wire.out.items })
   put_whole wire same empty appends rose tries = record {
     moved = moved_on scene was now half read view.written half.wire.out.items 0 p.moved same_left same_reads same_session appends rose tries;
     limits = p.limits;
@@ -97,8 +67,8 @@ module _ (scene : Scene) (was now : LineState) (half : HttpHalf) (read : List �
 
   -- its first n bytes did
   put_part : (n : ℕ) (wire : Wire) → n < length half.wire.out.items → Appends was.written now.written (take n half.wire.out.items) → RoseBy 1 was.failed now.failed
-      → TriesWrites was.writes now.writes n (wrote.Failed n)
-      → Invariant scene now (record half { wire = record half.wire { out = wire.out }; stage = Cut (WriteFailed n) }) read (record view { written = view.written ++ take n half.wire.out.items })
+      → TriesWrites was.writes now.writes n (Wrote.Failed n)
+      → Invariant scene now (record half { wire = record half.wire { out = wire.out }; stage = Stage.Cut (Outcome.WriteFailed n) }) read (record view { written = view.written ++ take n half.wire.out.items })
   put_part n wire less appends rose tries = record {
     moved = moved_on scene was now half read view.written (take n half.wire.out.items) 1 p.moved same_left same_reads same_session appends rose
         (tries_front was.writes now.writes n half.wire.out.items less tries);
@@ -129,7 +99,7 @@ module _ (scene : Scene) (was now : LineState) (half : HttpHalf) (read : List �
   }
 
   pub put_done : (wire : Wire) → wire ≡ record half.wire { out = wire.out } → wire.out.items ≡ [] → Appends was.written now.written half.wire.out.items → RoseBy 0 was.failed now.failed
-      → TriesWrites was.writes now.writes (length half.wire.out.items) wrote.Done
+      → TriesWrites was.writes now.writes (length half.wire.out.items) Wrote.Done
       → Invariant scene now (record half { wire = wire }) read (record view { written = view.written ++ half.wire.out.items })
   put_done wire same empty appends rose tries =
       subst (λ (w : Wire). Invariant scene now (record half { wire = w }) read (record view { written = view.written ++ half.wire.out.items })) (sym same)
@@ -137,18 +107,18 @@ module _ (scene : Scene) (was now : LineState) (half : HttpHalf) (read : List �
       (sym p.running) (put_whole wire same empty appends rose tries))
 
   pub put_cut : (n : ℕ) (wire : Wire) → wire ≡ record half.wire { out = wire.out } → n < length half.wire.out.items → Appends was.written now.written (take n half.wire.out.items)
-      → RoseBy 1 was.failed now.failed → TriesWrites was.writes now.writes n (wrote.Failed n)
-      → Invariant scene now (record half { wire = wire; stage = Cut (WriteFailed n) }) read (record view { written = view.written ++ take n half.wire.out.items })
+      → RoseBy 1 was.failed now.failed → TriesWrites was.writes now.writes n (Wrote.Failed n)
+      → Invariant scene now (record half { wire = wire; stage = Stage.Cut (Outcome.WriteFailed n) }) read (record view { written = view.written ++ take n half.wire.out.items })
   put_cut n wire same less appends rose tries =
-      subst (λ (w : Wire). Invariant scene now (record half { wire = w; stage = Cut (WriteFailed n) }) read (record view { written = view.written ++ take n half.wire.out.items })) (sym same)
+      subst (λ (w : Wire). Invariant scene now (record half { wire = w; stage = Stage.Cut (Outcome.WriteFailed n) }) read (record view { written = view.written ++ take n half.wire.out.items })) (sym same)
       (put_part n wire less appends rose tries)
 
 -- ---- an event is sent
 
-pub not_written : (n : ℕ) → NoMemory ≡ WriteFailed n → ⊥
+pub not_written : (n : ℕ) → Outcome.NoMemory ≡ Outcome.WriteFailed n → ⊥
 not_written n e = cc
 
-pub running_of : (scene : Scene) (now : LineState) (half : HttpHalf) (read : List ℕ) (view : ConnView ℕ ℕ) → Invariant scene now half read view → half.stage ≡ Running
+pub running_of : (scene : Scene) (now : LineState) (half : HttpHalf) (read : List ℕ) (view : ConnView ℕ ℕ) → Invariant scene now half read view → half.stage ≡ Stage.Running
     → IsRunning scene half read view
 running_of scene now half read view x is = subst (λ (s : Stage). IsAt s scene half read view) is x.stage
 
@@ -158,17 +128,17 @@ unfailed scene now half read view x stage is none =
     let P : ℕ → Type 0 = λ n. Transferred scene.start now half.wire.input read (scene.before ++ view.written) n in
     subst P none (subst (λ (s : Stage). P (failures_at s)) is x.moved)
 
-module _ (scene : Scene) (now : LineState) (half : HttpHalf) (read : List ℕ) (view : ConnView ℕ ℕ) (x : Invariant scene now half read view) (is : half.stage ≡ Running) (event : Outgoing) where
-  more_taken : taken_of (record view { got = view.got ++ Event event ∷ [] }) ≡ taken_of view ++ event ∷ []
-  more_taken = events_append view.got (Event event ∷ [])
+module _ (scene : Scene) (now : LineState) (half : HttpHalf) (read : List ℕ) (view : ConnView ℕ ℕ) (x : Invariant scene now half read view) (is : half.stage ≡ Stage.Running) (event : Outgoing) where
+  more_taken : taken_of (record view { got = view.got ++ OutItem.Event event ∷ [] }) ≡ taken_of view ++ event ∷ []
+  more_taken = events_append view.got (OutItem.Event event ∷ [])
 
-  still_open : end_of (view.got ++ Event event ∷ []) ≡ None
+  still_open : end_of (view.got ++ OutItem.Event event ∷ []) ≡ None
   still_open = end_event view.got event ∙ (running_of scene now half read view x is).unended
 
   -- its text is in hand
-  pub said_pending : (text : ResponseText) (wire : Wire) → wire ≡ record half.wire { out = wire.out } → standing.StandsFor text scene.facts (taken_of view ++ event ∷ [])
-      → standing.Grows (response_text scene.facts (taken_of view)) (response_text scene.facts (taken_of view ++ event ∷ [])) half.wire.out.items wire.out.items
-      → Pending scene now (record half { wire = record half.wire { out = wire.out }; text = text }) read (record view { got = view.got ++ Event event ∷ [] })
+  pub said_pending : (text : ResponseText) (wire : Wire) → wire ≡ record half.wire { out = wire.out } → StandsForText text scene.facts (taken_of view ++ event ∷ [])
+      → Grows (response_text scene.facts (taken_of view)) (response_text scene.facts (taken_of view ++ event ∷ [])) half.wire.out.items wire.out.items
+      → Pending scene now (record half { wire = record half.wire { out = wire.out }; text = text }) read (record view { got = view.got ++ OutItem.Event event ∷ [] })
   said_pending text wire same stands grows =
       let r = running_of scene now half read view x is in
       let t = r.talks in
@@ -176,7 +146,7 @@ module _ (scene : Scene) (now : LineState) (half : HttpHalf) (read : List ℕ) (
       let adds : response_text scene.facts (taken_of view ++ event ∷ []) ≡ view.written ++ wire.out.items =
       grows.text ∙ (ap (λ (l : List ℕ). l ++ grows.added) (sym t.written) ∙ ap (λ (l : List ℕ). view.written ++ l) (sym in_hand)) in
       record {
-        moved = unfailed scene now half read view x Running is refl;
+        moved = unfailed scene now half read view x Stage.Running is refl;
         limits = x.limits;
         within = x.within;
         offers = x.keeps.offered;
@@ -190,24 +160,24 @@ module _ (scene : Scene) (now : LineState) (half : HttpHalf) (read : List ℕ) (
         ends_where = t.ends_where;
         unended = still_open;
         offered = r.offered;
-        text = subst (λ (l : List Outgoing). standing.StandsFor text scene.facts l) (sym more_taken) stands;
+        text = subst (λ (l : List Outgoing). StandsForText text scene.facts l) (sym more_taken) stands;
         grows = ap (response_text scene.facts) more_taken ∙ adds;
         hand = λ input. Saying (taken_of view) [] event more_taken t.written (adds);
       }
 
   -- there is no memory for its text
   pub said_short : (text : ResponseText) (wire : Wire)
-      → Invariant scene now (record half { wire = record half.wire { out = wire.out }; text = text; stage = Cut NoMemory }) read (record view { got = view.got ++ Event event ∷ [] })
+      → Invariant scene now (record half { wire = record half.wire { out = wire.out }; text = text; stage = Stage.Cut Outcome.NoMemory }) read (record view { got = view.got ++ OutItem.Event event ∷ [] })
   said_short text wire =
       let r = running_of scene now half read view x is in
       let front = text_front scene.facts (taken_of view) (taken_of view ++ event ∷ []) (event ∷ [], refl) in
       record {
-        moved = unfailed scene now half read view x Running is refl;
+        moved = unfailed scene now half read view x Stage.Running is refl;
         limits = x.limits;
         within = x.within;
         keeps = record {
           offered = x.keeps.offered;
-          written = part_written half.wire.limits scene.facts (record view { got = view.got ++ Event event ∷ [] }) front.0 still_open
+          written = part_written half.wire.limits scene.facts (record view { got = view.got ++ OutItem.Event event ∷ [] }) front.0 still_open
               (ap (λ (l : List ℕ). l ++ front.0) r.talks.written ∙ (front.1 ∙ sym (ap (response_text scene.facts) more_taken)));
         };
         breaks = x.breaks;
@@ -217,8 +187,8 @@ module _ (scene : Scene) (now : LineState) (half : HttpHalf) (read : List ℕ) (
 -- ---- an exchange begins
 
 pub begun_pending : (scene : Scene) (now : LineState) (facts : Facts) (read arrived : List ℕ) (old wire : Wire) (text : ResponseText) → Opens scene now old facts read arrived
-    → standing.StandsFor text facts [] → wire.out.items ≡ old.out.items ++ response_text facts []
-    → Pending scene now (record { wire = record old { out = wire.out }; body = Open; text = text; input_broke = false; stage = Running }) read (record empty_conn { arrived = arrived })
+    → StandsForText text facts [] → wire.out.items ≡ old.out.items ++ response_text facts []
+    → Pending scene now (record { wire = record old { out = wire.out }; body = BodyProgress.Open; text = text; input_broke = false; stage = Stage.Running }) read (record empty_conn { arrived = arrived })
 begun_pending scene now facts read arrived old wire text o stands adds =
     let in_hand : wire.out.items ≡ response_text scene.facts [] = adds ∙ (ap (λ (l : List ℕ). l ++ response_text facts []) o.empty ∙ ap (λ (f : Facts). response_text f []) o.facts_are) in
     record {
@@ -232,17 +202,17 @@ begun_pending scene now facts read arrived old wire text o stands adds =
       input_broke = refl;
       settled = λ e. cc;
       events = [];
-      given = subst (λ (l : List Next). reading.StandsFor old.requests read l) (sym (append-nil scene.opened)) o.given;
+      given = subst (λ (l : List Next). StandsFor old.requests read l) (sym (append-nil scene.opened)) o.given;
       ends_where = tt;
       unended = refl;
       offered = λ e. refl;
-      text = subst (λ (f : Facts). standing.StandsFor text f []) o.facts_are stands;
+      text = subst (λ (f : Facts). StandsForText text f []) o.facts_are stands;
       grows = sym in_hand;
       hand = λ input. Beginning refl in_hand;
     }
 
 pub begun_short : (scene : Scene) (now : LineState) (facts : Facts) (read arrived : List ℕ) (old wire : Wire) (text : ResponseText) → Opens scene now old facts read arrived
-    → Invariant scene now (record { wire = record old { out = wire.out }; body = Open; text = text; input_broke = false; stage = Cut NoMemory }) read (record empty_conn { arrived = arrived })
+    → Invariant scene now (record { wire = record old { out = wire.out }; body = BodyProgress.Open; text = text; input_broke = false; stage = Stage.Cut Outcome.NoMemory }) read (record empty_conn { arrived = arrived })
 begun_short scene now facts read arrived old wire text o = record {
   moved = subst (λ (l : List ℕ). Transferred scene.start now old.input read l 0) (sym (append-nil scene.before)) o.moved;
   limits = o.limits;
@@ -257,17 +227,17 @@ begun_short scene now facts read arrived old wire text o = record {
 
 -- ---- the end of the task is taken
 
-pub ended_taken : (scene : Scene) (now : LineState) (half : HttpHalf) (read : List ℕ) (view : ConnView ℕ ℕ) (kind : EndKind) → Invariant scene now half read view → half.stage ≡ Running
-    → Invariant scene now (record half { stage = Ending kind }) (read ++ []) (record view { got = view.got ++ Ended kind ∷ [] })
+pub ended_taken : (scene : Scene) (now : LineState) (half : HttpHalf) (read : List ℕ) (view : ConnView ℕ ℕ) (kind : EndKind) → Invariant scene now half read view → half.stage ≡ Stage.Running
+    → Invariant scene now (record half { stage = Stage.Ending kind }) (read ++ []) (record view { got = view.got ++ OutItem.Ended kind ∷ [] })
 ended_taken scene now half read view kind x is =
     let r = running_of scene now half read view x is in
     let t = r.talks in
-    let later = record view { got = view.got ++ Ended kind ∷ [] } in
-    let same : taken_of later ≡ taken_of view = events_append view.got (Ended kind ∷ []) ∙ append-nil (taken_of view) in
+    let later = record view { got = view.got ++ OutItem.Ended kind ∷ [] } in
+    let same : taken_of later ≡ taken_of view = events_append view.got (OutItem.Ended kind ∷ []) ∙ append-nil (taken_of view) in
     let out : view.written ≡ response_text scene.facts (taken_of later) = t.written ∙ ap (response_text scene.facts) (sym same) in
-    subst (λ (l : List ℕ). Invariant scene now (record half { stage = Ending kind }) l later) (sym (append-nil read))
+    subst (λ (l : List ℕ). Invariant scene now (record half { stage = Stage.Ending kind }) l later) (sym (append-nil read))
     (record {
-      moved = unfailed scene now half read view x Running is refl;
+      moved = unfailed scene now half read view x Stage.Running is refl;
       limits = x.limits;
       within = x.within;
       keeps = record {
@@ -286,7 +256,7 @@ ended_taken scene now half read view kind x is =
           events = t.events;
           given = t.given;
           ends_where = t.ends_where;
-          text = subst (λ (l : List Outgoing). standing.StandsFor half.text scene.facts l) (sym same) t.text;
+          text = subst (λ (l : List Outgoing). StandsForText half.text scene.facts l) (sym same) t.text;
           written = out;
           empty = t.empty;
         },

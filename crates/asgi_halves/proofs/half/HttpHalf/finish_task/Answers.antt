@@ -1,6 +1,5 @@
 use Rattle.std.proofs.Common.{[]}
-use Rattle.asgi_halves.proofs.HalfEndLemmas.{dropped, dropped_short}
-use Rattle.asgi_halves.proofs.HalfLemmas.{stands_still}
+use Rattle.asgi_halves.proofs.{HalfEndLemmas.dropped, HalfEndLemmas.dropped_short, HalfLemmas.stands_still}
 use Rattle.asgi_halves.proofs.half.HttpHalf.finish_task.Goals as goal
 
 pub returns-in-Err-clause-leads : goal.returns-in-Err-clause-leads

@@ -1,8 +1,4 @@
-use Rattle.std.proofs.Common.{ℕ, sym, subst, ◌∙◌}
-use Rattle.asgi_exchange.specs.Calls.{IsViewOf}
-use Rattle.asgi_exchange.specs.Views.{ConnView}
-use Rattle.asgi_halves.specs.declared.half.BodyProgress.{BodyProgress}
-use Rattle.asgi_halves.specs.Half.{Invariant}
+use Rattle.asgi_halves.proofs.HalfWords.{ℕ, sym, subst, ◌∙◌, IsViewOf, ConnView, BodyProgress, Invariant}
 use Rattle.asgi_halves.proofs.HalfInLemmas.{offered_view, waits_view}
 use Rattle.asgi_halves.proofs.half.HttpHalf.offer.Goals as goal
 

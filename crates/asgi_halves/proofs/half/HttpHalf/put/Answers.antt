@@ -1,5 +1,4 @@
-use Rattle.asgi_halves.proofs.HalfLemmas.{put_done, put_cut}
-use Rattle.asgi_halves.proofs.TurnLemmas.{writing_reads_none}
+use Rattle.asgi_halves.proofs.{HalfLemmas.put_done, HalfLemmas.put_cut, TurnLemmas.writing_reads_none}
 use Rattle.asgi_halves.proofs.half.HttpHalf.put.Goals as goal
 
 pub returns-in-Some-clause-puts : goal.returns-in-Some-clause-puts

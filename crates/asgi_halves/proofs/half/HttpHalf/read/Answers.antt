@@ -1,10 +1,5 @@
-use Rattle.std.proofs.Common.{◌++◌, [], ap, refl}
-use Rattle.asgi_halves.specs.declared.half.HttpHalf.{HttpHalf}
-use Rattle.asgi_halves.specs.declared.wire.Wire.{Wire}
-use Rattle.asgi_halves.specs.Kinds.{NoRead, OfBytes}
-use Rattle.asgi_halves.proofs.HalfLemmas.{stands_still}
-use Rattle.asgi_halves.proofs.HalfInLemmas.{read_more, read_short}
-use Rattle.asgi_halves.proofs.StageLemmas.{running_moves}
+use Rattle.asgi_halves.proofs.HalfWords.{◌++◌, [], ap, refl, HttpHalf, Wire, NoRead, OfBytes}
+use Rattle.asgi_halves.proofs.{HalfLemmas.stands_still, HalfInLemmas.read_more, HalfInLemmas.read_short, StageLemmas.running_moves}
 use Rattle.asgi_halves.proofs.half.HttpHalf.read.Goals as goal
 
 pub returns-then-not-reads_on-clause-leads : goal.returns-then-not-reads_on-clause-leads

@@ -1,10 +1,5 @@
-use Rattle.std.proofs.Common.{[], inl, sym, refl, ◌∙◌}
-use Rattle.asgi_halves.specs.declared.stage.Stage.TheVariants as stage
-use Rattle.asgi_halves.specs.Half.{failures_at}
-use Rattle.asgi_halves.specs.Kinds.{OfBytes}
-use Rattle.asgi_halves.proofs.HalfLemmas.{unfailed, stands_still}
-use Rattle.asgi_halves.proofs.HalfEndLemmas.{rest_read, rest_short}
-use Rattle.asgi_halves.proofs.StageLemmas.{ending_has_ended, ending_moves}
+use Rattle.asgi_halves.proofs.HalfWords.{[], inl, sym, refl, ◌∙◌, failures_at, OfBytes, Stage}
+use Rattle.asgi_halves.proofs.{HalfLemmas.unfailed, HalfLemmas.stands_still, HalfEndLemmas.rest_read, HalfEndLemmas.rest_short, StageLemmas.ending_has_ended, StageLemmas.ending_moves}
 use Rattle.asgi_halves.proofs.half.HttpHalf.read_rest.Goals as goal
 
 pub returns-then-has_ended-clause-leads : goal.returns-then-has_ended-clause-leads
@@ -32,7 +27,7 @@ returns-in-Err-clause-leads g c scene read view x =
       view.written,
       rest_short scene line half read view x c.requires.ending.0 c.requires.ending.1 c.requires.open c.requires.asked (g.L.Line.state c.read.new.line) c.read.new.self m.0 m.3
           c.in-Err.ensures.same c.in-Err.ensures.limits (sym c.has_ended.ensures ∙ c.if-has_ended.false)
-          (m.1 scene.start read _ 0 (unfailed scene line half read view x (stage.Ending c.requires.ending.0) c.requires.ending.1 refl)),
+          (m.1 scene.start read _ 0 (unfailed scene line half read view x (Stage.Ending c.requires.ending.0) c.requires.ending.1 refl)),
     )
 
 pub returns-in-Ok-clause-turn : goal.returns-in-Ok-clause-turn

@@ -1,6 +1,5 @@
 use Rattle.std.proofs.Common.{[]}
-use Rattle.asgi_halves.proofs.StageLemmas.{ending_has_ended}
-use Rattle.asgi_halves.proofs.HalfLemmas.{stands_still}
+use Rattle.asgi_halves.proofs.{StageLemmas.ending_has_ended, HalfLemmas.stands_still}
 use Rattle.asgi_halves.proofs.half.HttpHalf.read_rest_or_end.Goals as goal
 
 pub returns-in-Waits-clause-leads : goal.returns-in-Waits-clause-leads

@@ -1,5 +1,4 @@
-use Rattle.std.proofs.Common.{refl}
-use Rattle.asgi_exchange.specs.Views.{taken_of}
+use Rattle.asgi_halves.proofs.HalfWords.{refl, taken_of}
 use Rattle.asgi_halves.proofs.HalfLemmas.{said_pending, said_short, running_of}
 use Rattle.asgi_halves.proofs.half.HttpHalf.say.Goals as goal
 

@@ -1,9 +1,5 @@
-use Rattle.std.proofs.Common.{[], ◌∙◌, ap, sym, refl, ◌++◌}
-use Rattle.asgi_response.specs.Exchange.{end_text}
-use Rattle.asgi_response.specs.declared.refusal.Input.{Input}
-use Rattle.asgi_exchange.specs.Views.{taken_of}
-use Rattle.asgi_halves.proofs.HalfEndLemmas.{taken_text, ends_idle, ends_short, ends_written, ends_cut}
-use Rattle.asgi_halves.proofs.HalfLemmas.{stands_still}
+use Rattle.asgi_halves.proofs.HalfWords.{[], ◌∙◌, ap, sym, refl, ◌++◌, end_text, Input, taken_of}
+use Rattle.asgi_halves.proofs.{HalfEndLemmas.taken_text, HalfEndLemmas.ends_idle, HalfEndLemmas.ends_short, HalfEndLemmas.ends_written, HalfEndLemmas.ends_cut, HalfLemmas.stands_still}
 use Rattle.asgi_halves.proofs.half.HttpHalf.write_end.Goals as goal
 
 pub returns-in-Idle-clause-leads : goal.returns-in-Idle-clause-leads
