@@ -1,10 +1,10 @@
 -- How many reads of messages come after a close, with one more call.
 use Rattle.asgi_halves.proofs.HalfWords.{◌≡◌, ℕ, ◌+◌, ◌≤◌, Bool, true, false, List, [], ◌∷◌, ◌++◌, map, refl, sym, ◌∙◌, arith, ap, append_assoc, count_by, Facts, Outgoing, Got, Put, SentMessage}
 use Rattle.asgi_halves.proofs.HalfWords.{Call, is_read, append-nil}
-use Rattle.asgi_exchange.specs.{Messages.has_close, Session.Output, Session.Byte, Session.Message, Session.Handshake, Session.message_of, Session.output_of}
+use Rattle.asgi_exchange.specs.{Messages.has_close, Session.Byte, Session.Handshake, Session.Message, Session.Output, Session.message_of, Session.output_of}
 use Rattle.asgi_halves.specs.{Traffic.FailsAs, Traffic.is_end, Traffic.is_failed_send, Traffic.reads_after_end, Traffic.says_over, WebSocketHalf.answer_to, declared.session_half.Answered.Answered}
 use Rattle.asgi_types.specs.declared.scope.Kind.{Kind}
-use Rattle.asgi_ws.specs.{Sessions.is_close, Sessions.messages_in, Sessions.handed_in, Sessions.reads_after_close, declared.messages.Msg.Msg}
+use Rattle.asgi_ws.specs.{Sessions.handed_in, Sessions.is_close, Sessions.messages_in, Sessions.reads_after_close, declared.messages.Msg.Msg}
 use Rattle.std.proofs.Common.{◌||◌}
 use Rattle.std.proofs.lemmas.List.{map-append, Sums.sum_by-append}
 use Rattle.std.specs.{List.flat_map, Prelude.if◌then◌else◌}

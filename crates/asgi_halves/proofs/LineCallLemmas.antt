@@ -1,7 +1,7 @@
 -- The calls of a line, by what is known of it before and after.
 use Rattle.asgi_halves.proofs.HalfWords.{◌≡◌, ℕ, List, [], ◌∷◌, ◌++◌, ap, arith, sym, subst, ◌∙◌, Call, Got, Put, SentMessage, LineState, is_read, Turn, IsTurnOfRead, OfMessage, ReadsNone, count_by}
 use Rattle.asgi_halves.specs.Kinds.{turn_by}
-use Rattle.asgi_ws.specs.{Lines.state_of, Sessions.given_by, Sessions.is_failed, Sessions.has_failed, Sessions.count_after, Sessions.kept_by, Sessions.Loses}
+use Rattle.asgi_ws.specs.{Lines.state_of, Sessions.Loses, Sessions.count_after, Sessions.given_by, Sessions.has_failed, Sessions.is_failed, Sessions.kept_by}
 use Rattle.asgi_halves.proofs.{CallLemmas.counted, TalkLemmas.LeavesText}
 use Rattle.asgi_io.specs.declared.counts.Counts as counts
 use Rattle.asgi_io.specs.declared.reads.Reads as reads

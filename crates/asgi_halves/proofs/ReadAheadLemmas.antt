@@ -1,14 +1,13 @@
 -- What is read ahead of the requests in hand is bounded, wherever more is read.
 use Rattle.asgi_halves.proofs.HalfWords.{◌≡◌, ℕ, ◌<◌, ◌≤◌, true, List, [], ◌∷◌, ◌++◌, map, take, length, length-append, refl, sym, ap, ◌∙◌, subst, inr, append_assoc, append-nil, arith, Facts}
-use Rattle.asgi_halves.proofs.HalfWords.{Framing, Incoming, Limits, Scope, Next, body_events, body_state, BodyState, complete, HasOpened, Reading, StandsFor, GivesResults, body_is_read}
-use Rattle.asgi_halves.proofs.HalfWords.{whole_is_complete, opened_at, opened_plain, prefix_trans, has_ended, InputEnd, BodyProgress, Scene, WithinScene, requests_in, HasGiven, ReadsAt, HoldsFew}
-use Rattle.asgi_halves.proofs.HalfWords.{piece_size, ReadsAhead}
-use Rattle.asgi_conversation.proofs.{LoopLemmas.within_reads_more, LoopLemmas.end_seen_within, RequestLemmas.heads_join}
+use Rattle.asgi_halves.proofs.HalfWords.{Framing, Incoming, Limits, Scope, Next, body_events, body_state, BodyState, complete, HasOpened, Reading, StandsFor, body_is_read, whole_is_complete}
+use Rattle.asgi_halves.proofs.HalfWords.{opened_at, opened_plain, prefix_trans, has_ended, InputEnd, BodyProgress, Scene, requests_in, HasGiven, ReadsAt, HoldsFew, piece_size, ReadsAhead, ReadsBody}
+use Rattle.asgi_conversation.proofs.{LoopLemmas.end_seen_within, LoopLemmas.within_reads_more, RequestLemmas.heads_join}
 use Rattle.asgi_conversation.specs.{Exchanges.heads_of, SoFar.Within}
 use Rattle.asgi_exchange.proofs.ListLemmas.{prefix_same}
-use Rattle.asgi_halves.specs.ReadAhead.{ahead_limit}
+use Rattle.asgi_halves.specs.{Half.WithinScene, ReadAhead.ahead_limit}
 use Rattle.asgi_request.proofs.{FirstLemmas.none_gives, FirstLemmas.whole_alone, OpenedLemmas.closed_at, OpenedLemmas.whole_closes, OpenedLemmas.whole_is_closed, StandardLemmas.all_results}
-use Rattle.asgi_request.specs.{Opened.HasClosed, Reading.EndsWhole, Reading.IsWaiting, RequestEvents.ReadsBody}
+use Rattle.asgi_request.specs.{Opened.HasClosed, Reading.EndsWhole, Reading.IsWaiting, Results.GivesResults}
 use Rattle.std.proofs.lemmas.List.{length-take-le}
 
 -- ---- at the beginning, and before more requests

@@ -4,7 +4,7 @@ use Rattle.asgi_halves.proofs.HalfWords.{count_by, ◌⊎◌, not, is_some, EndK
 use Rattle.asgi_halves.proofs.HalfWords.{HasGrown, IsCutOff, IsTurnOfRead, NoRead, OfBytes, OfMessage, ReadsNone, TakesNone, ConnGhosts}
 use Rattle.asgi_halves.specs.Kinds.{AwaitsEnd, HasRested, HasWorked, IsOneMore, OffersAll, OffersMost}
 use Rattle.asgi_ws.specs.Sides.{Session}
-use Rattle.std.specs.Prelude.{IsTrue, IsFalse}
+use Rattle.std.specs.Prelude.{IsFalse, IsTrue}
 
 module _ {S H A W : Type 0} (stands : S → LineState → H → List ℕ → ConnView A W → Type 0) where
   still : (scene : S) (now : LineState) (half : H) (read : List ℕ) (view : ConnView A W) → stands scene now half read view → stands scene now half (read ++ []) view

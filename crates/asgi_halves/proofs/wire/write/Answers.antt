@@ -1,4 +1,5 @@
-use Rattle.asgi_halves.proofs.HalfWords.{◌≡◌, ◌<◌, inr, take, length, Appends, Wrote, RoseBy, TriesWrites, session_is}
+use Rattle.asgi_halves.proofs.HalfWords.{◌≡◌, ◌<◌, inr, take, length, Appends, RoseBy, TriesWrites, session_is}
+use Rattle.asgi_io.specs.declared.write.Wrote.{Wrote}
 use Rattle.asgi_halves.proofs.LineCallLemmas.{by_state}
 use Rattle.asgi_halves.proofs.wire.write.Goals as goal
 

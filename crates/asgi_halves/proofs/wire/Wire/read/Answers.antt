@@ -1,6 +1,6 @@
 use Rattle.asgi_halves.proofs.HalfWords.{◌≡◌, ℕ, List, [], ◌∷◌, ◌++◌, take, arith, refl, subst, sym, inl, ◌∙◌, Next, StandsFor, InputEnd, Transferred, session_is, Turn}
 use Rattle.asgi_io.specs.{Answers.bytes_of, Answers.turn_of, declared.answer.Answer.Answer}
-use Rattle.asgi_run.proofs.LineLemmas.{gave, told_as, moved_by_open_read}
+use Rattle.asgi_run.proofs.LineLemmas.{gave, moved_by_open_read, told_as}
 use Rattle.asgi_run.specs.Lines.{input_after}
 use Rattle.std.proofs.lemmas.List.{take_at}
 use Rattle.asgi_halves.proofs.{LineCallLemmas.by_state, ReadAheadLemmas.short_piece}
