@@ -1,29 +1,10 @@
 -- What the connection's half knows of the body: what the reader gave of it, and what was offered.
-use Rattle.std.proofs.Common.{◌≡◌, ◌≢◌, ℕ, true, false, List, [], ◌∷◌, ◌++◌, map, refl, ap, ◌∙◌, subst, inl, inr, append_assoc, Option, Some, None, Bool}
-use Rattle.std.specs.Prelude.{◌⊎◌}
-use mathlib.Core.List.{IsPrefix}
-use Rattle.asgi_types.specs.declared.facts.Facts.{Facts}
-use Rattle.asgi_types.specs.declared.facts.Framing.{Framing}
-use Rattle.asgi_types.specs.declared.incoming.Incoming.{Incoming}
-use Rattle.asgi_types.specs.declared.scope.Scope.{Scope}
-use Rattle.asgi_request.specs.declared.next.Next.{Next}
-use Rattle.asgi_request.specs.declared.next.Next.TheVariants as next
-use Rattle.asgi_request.specs.BodyOf.{body_events, body_state}
-use Rattle.asgi_request.specs.Opened.{HasOpened}
-use Rattle.asgi_request.specs.Reading.{Reading, StandsFor, AllGiven, IsRefused, GoesOn}
-use Rattle.asgi_request.specs.Refusals.{status_of}
-use Rattle.asgi_request.proofs.BodyOfLemmas.{body_is_read}
-use Rattle.asgi_request.proofs.DueLemmas.{events_are_due, whole_is_complete, bad_is_faulty, need_is_partial, no_head as none_inside}
-use Rattle.asgi_request.proofs.OpenedLemmas.{opened_at, opened_plain}
-use Rattle.asgi_request.proofs.RefusalLemmas.{refused_last}
-use Rattle.asgi_exchange.specs.Views.{Break, ByInput, ByCut}
-use Rattle.asgi_exchange.specs.Steps.{is_by_input, is_by_cut}
-use Rattle.asgi_halves.specs.declared.half.BodyProgress.{BodyProgress}
-use Rattle.asgi_halves.specs.declared.half.BodyProgress.TheVariants.{Open, Waits, Whole, Refused, BrokenOff}
-use Rattle.asgi_conversation.specs.declared.input.InputEnd.{InputEnd}
-use Rattle.asgi_halves.specs.Half.{HasGiven, BreaksAt}
-use Rattle.asgi_halves.specs.private.HalfSteps.{GaveNext}
-use Rattle.asgi_conversation.specs.TaskEnds.{has_ended, is_faulty}
+use Rattle.asgi_halves.proofs.HalfWords.{◌≡◌, ◌≢◌, ℕ, true, false, List, [], ◌∷◌, ◌++◌, map, refl, sym, ap, ◌∙◌, subst, inl, inr, append_assoc, Option, Some, None, Bool, ◌⊎◌, IsPrefix, Facts}
+use Rattle.asgi_halves.proofs.HalfWords.{Framing, Incoming, Scope, Next, body_events, body_state, BodyState, complete, HasOpened, Reading, StandsFor, Break, ByInput, ByCut, is_by_input, is_by_cut}
+use Rattle.asgi_halves.proofs.HalfWords.{BodyProgress, InputEnd, Input, HasGiven, BreaksAt, GaveNext, has_ended, is_faulty, input_of, IsSettled, known_input, body_is_read, whole_is_complete}
+use Rattle.asgi_halves.proofs.HalfWords.{opened_at, opened_plain, partial, faulty, ReadsBody}
+use Rattle.asgi_request.proofs.{DueLemmas.OpensAt, DueLemmas.bad_is_faulty, DueLemmas.events_are_due, DueLemmas.need_is_partial, DueLemmas.no_head as none_inside, RefusalLemmas.refused_last}
+use Rattle.asgi_request.specs.{Reading.AllGiven, Reading.GoesOn, Reading.IsRefused, Refusals.status_of}
 
 -- ---- breaks
 
@@ -35,7 +16,7 @@ unbroken (Some ByCut) uncut not_by_input = absurd (cc (uncut))
 -- ---- no refusal was given before
 
 is_bad : Next → Bool
-is_bad (next.Bad status) = true
+is_bad (Next.Bad status) = true
 is_bad _ = false
 
 ends_bad : List Next → Bool
@@ -49,75 +30,83 @@ ends_after [] x m = refl
 ends_after (y ∷ []) x m = refl
 ends_after (y ∷ z ∷ l) x m = ends_after (z ∷ l) x m
 
-no_bad_events : (x : Next) (events : List Incoming) → is_bad x ≡ false → ends_bad (x ∷ map next.Event events) ≡ false
+no_bad_events : (x : Next) (events : List Incoming) → is_bad x ≡ false → ends_bad (x ∷ map Next.Event events) ≡ false
 unfolding ends_bad is_bad
 no_bad_events x [] no_bad = no_bad
-no_bad_events x (e ∷ events) no_bad = no_bad_events (next.Event e) events refl
+no_bad_events x (e ∷ events) no_bad = no_bad_events (Next.Event e) events refl
 
 -- a reader that gave a head and events after it has not refused
 pub not_refused : (reader : Reading) (read : List ℕ) (opened : List Next) (framing : Framing) (arrived : List ℕ) (events : List Incoming) (status : ℕ)
-    → HasOpened reader.limits read opened framing arrived → StandsFor reader read (opened ++ map next.Event events) → IsRefused reader status → ⊥
+    → HasOpened reader.limits read opened framing arrived → StandsFor reader read (opened ++ map Next.Event events) → IsRefused reader status → ⊥
 unfolding ends_bad is_bad
 not_refused reader read opened framing arrived events status x stands refused =
-    let last = refused_last reader.limits read (opened ++ map next.Event events) reader.place reader.held refused.0 stands refused.1 in
-    let bad : ends_bad (opened ++ map next.Event events) ≡ true = ap ends_bad last.1 ∙ ends_after last.0 (next.Bad (status_of refused.0)) [] in
-    let good : ends_bad (opened ++ map next.Event events) ≡ false =
-    ap (λ (l : List Next). ends_bad (l ++ map next.Event events)) x.opened_is
-    ∙ (ap ends_bad (append_assoc x.closed (next.Head x.scope x.facts ∷ []) (map next.Event events))
-    ∙ (ends_after x.closed (next.Head x.scope x.facts) (map next.Event events) ∙ no_bad_events (next.Head x.scope x.facts) events refl)) in
+    let last = refused_last reader.limits read (opened ++ map Next.Event events) reader.place reader.held refused.0 stands refused.1 in
+    let bad : ends_bad (opened ++ map Next.Event events) ≡ true = ap ends_bad last.1 ∙ ends_after last.0 (Next.Bad (status_of refused.0)) [] in
+    let good : ends_bad (opened ++ map Next.Event events) ≡ false =
+    ap (λ (l : List Next). ends_bad (l ++ map Next.Event events)) x.opened_is
+    ∙ (ap ends_bad (append_assoc x.closed (Next.Head x.scope x.facts ∷ []) (map Next.Event events))
+    ∙ (ends_after x.closed (Next.Head x.scope x.facts) (map Next.Event events) ∙ no_bad_events (Next.Head x.scope x.facts) events refl)) in
     cc (bad, good)
 
--- ---- what was offered is all that is due
+-- ---- the body, by what the reader gave of it
 
 module _ (reader : Reading) (read : List ℕ) (opened : List Next) (framing : Framing) (arrived : List ℕ) (x : HasOpened reader.limits read opened framing arrived) where
-  pub first_due : (events : List Incoming) → StandsFor reader read (opened ++ map next.Event events) → IsPrefix events (body_events reader.limits framing arrived)
-  first_due events stands =
-      events_are_due reader.limits read opened framing arrived (body_events reader.limits framing arrived) (body_state reader.limits framing arrived) reader.place reader.held
-      (opened_at reader.limits read opened framing arrived x) (opened_plain reader.limits read opened framing arrived x) (body_is_read reader.limits framing arrived) events stands
+  abbrev due : List Incoming
+  due = body_events reader.limits framing arrived
 
-  pub all_due : (events : List Incoming) (body : BodyProgress) (end : InputEnd) → HasGiven reader read opened events body → BreaksAt body end → events ≡ body_events reader.limits framing arrived
-  all_due events Open end given breaks = absurd breaks
-  all_due events (Waits event) end given breaks = absurd breaks
-  all_due events Whole end given breaks =
-      (whole_is_complete reader.limits read opened framing arrived (body_events reader.limits framing arrived) (body_state reader.limits framing arrived) reader.place reader.held
-      (opened_at reader.limits read opened framing arrived x) (opened_plain reader.limits read opened framing arrived x) (body_is_read reader.limits framing arrived) events given).0
-  all_due events (Refused status) end given breaks =
-      (bad_is_faulty reader.limits read opened framing arrived (body_events reader.limits framing arrived) (body_state reader.limits framing arrived) reader.place reader.held
-      (opened_at reader.limits read opened framing arrived x) (opened_plain reader.limits read opened framing arrived x) (body_is_read reader.limits framing arrived) events status given).0
-  all_due events BrokenOff end given breaks =
-      (need_is_partial reader.limits read opened framing arrived (body_events reader.limits framing arrived) (body_state reader.limits framing arrived) events given.0
-      (opened_at reader.limits read opened framing arrived x) (opened_plain reader.limits read opened framing arrived x) (body_is_read reader.limits framing arrived) given.1).0
+  abbrev state : BodyState
+  state = body_state reader.limits framing arrived
 
-  pub why_broken : (events : List Incoming) (body : BodyProgress) (end : InputEnd) → HasGiven reader read opened events body → BreaksAt body end
-      → (has_ended end ≡ true) ⊎ (is_faulty (body_state reader.limits framing arrived) ≡ true)
-  why_broken events Open end given breaks = absurd breaks
-  why_broken events (Waits event) end given breaks = absurd breaks
-  why_broken events Whole end given breaks = inl breaks
-  why_broken events BrokenOff end given breaks = inl breaks
-  why_broken events (Refused status) end given breaks =
-      let f = (bad_is_faulty reader.limits read opened framing arrived (body_events reader.limits framing arrived) (body_state reader.limits framing arrived) reader.place reader.held
-      (opened_at reader.limits read opened framing arrived x) (opened_plain reader.limits read opened framing arrived x) (body_is_read reader.limits framing arrived) events status given).1 in
-      inr (ap is_faulty f.1)
+  at : OpensAt reader.limits read opened framing arrived
+  at = opened_at reader.limits read opened framing arrived x
 
-  pub no_head : (events : List Incoming) (scope : Scope) (facts : Facts) → StandsFor reader read ((opened ++ map next.Event events) ++ next.Head scope facts ∷ []) → ⊥
+  plain : framing ≢ Framing.Upgrade
+  plain = opened_plain reader.limits read opened framing arrived x
+
+  body_read : ReadsBody reader.limits framing arrived due state
+  body_read = body_is_read reader.limits framing arrived
+
+  pub first_due : (events : List Incoming) → StandsFor reader read (opened ++ map Next.Event events) → IsPrefix events due
+  first_due events stands = events_are_due reader.limits read opened framing arrived due state reader.place reader.held at plain body_read events stands
+
+  pub whole_is : (events : List Incoming) → StandsFor reader read (opened ++ (map Next.Event events ++ Next.Whole ∷ [])) → (events ≡ due) × ((after : List ℕ) × (state ≡ complete after))
+  whole_is events given = whole_is_complete reader.limits read opened framing arrived due state reader.place reader.held at plain body_read events given
+
+  -- the state that its ends show, if nothing more is due
+  pub state_by : (events : List Incoming) (body : BodyProgress) → HasGiven reader read opened events body → IsSettled body
+      → (events ≡ due) × ((known : BodyState) × (input_of known ≡ known_input body) × (state ≡ known))
+  state_by events BodyProgress.Whole given settled = let w = whole_is events given in (w.0, (complete w.1.0, refl, w.1.1))
+  state_by events (BodyProgress.Refused status) given settled =
+      let w = bad_is_faulty reader.limits read opened framing arrived due state reader.place reader.held at plain body_read events status given in
+      (w.0, (faulty w.1.0, ap Input.Faulty (sym w.1.2), w.1.1))
+  state_by events BodyProgress.BrokenOff given settled =
+      let w = need_is_partial reader.limits read opened framing arrived due state events given.0 at plain body_read given.1 in (w.0, (partial, refl, w.1))
+  state_by events _ given settled = absurd settled
+
+  pub all_due : (events : List Incoming) (body : BodyProgress) (end : InputEnd) → HasGiven reader read opened events body → BreaksAt body end → events ≡ due
+  all_due events BodyProgress.Open end given breaks = absurd breaks
+  all_due events (BodyProgress.Waits event) end given breaks = absurd breaks
+  all_due events body end given breaks = (state_by events body given tt).0
+
+  pub why_broken : (events : List Incoming) (body : BodyProgress) (end : InputEnd) → HasGiven reader read opened events body → BreaksAt body end → (has_ended end ≡ true) ⊎ (is_faulty state ≡ true)
+  why_broken events BodyProgress.Whole end given breaks = inl breaks
+  why_broken events BodyProgress.BrokenOff end given breaks = inl breaks
+  why_broken events (BodyProgress.Refused status) end given breaks =
+      let w = bad_is_faulty reader.limits read opened framing arrived due state reader.place reader.held at plain body_read events status given in inr (ap is_faulty w.1.1)
+  why_broken events _ end given breaks = absurd breaks
+
+  pub no_head : (events : List Incoming) (scope : Scope) (facts : Facts) → StandsFor reader read ((opened ++ map Next.Event events) ++ Next.Head scope facts ∷ []) → ⊥
   no_head events scope facts stands =
-      none_inside reader.limits read opened framing arrived (body_events reader.limits framing arrived) (body_state reader.limits framing arrived) reader.place reader.held
-      (opened_at reader.limits read opened framing arrived x) (opened_plain reader.limits read opened framing arrived x) (body_is_read reader.limits framing arrived) events scope facts
-      (subst (λ (l : List Next). StandsFor reader read l) (append_assoc opened (map next.Event events) (next.Head scope facts ∷ [])) stands)
+      none_inside reader.limits read opened framing arrived due state reader.place reader.held at plain body_read events scope facts
+      (subst (λ (l : List Next). StandsFor reader read l) (append_assoc opened (map Next.Event events) (Next.Head scope facts ∷ [])) stands)
 
 -- ---- from what the reader gave
 
 pub gave_next : (old new : Reading) (item : Next) (read : List ℕ) (opened : List Next) (framing : Framing) (arrived : List ℕ) (events : List Incoming)
-    → HasOpened old.limits read opened framing arrived → StandsFor old read (opened ++ map next.Event events)
-    → (item ≡ next.Need → (bytes : List ℕ) (given : List Next) → StandsFor old bytes given → StandsFor new bytes given × AllGiven new bytes given)
-    → (item ≢ next.Need → ((status : ℕ) → IsRefused old status → ⊥) → GoesOn old new item)
-    → GaveNext new read (opened ++ map next.Event events) item
-gave_next old new next.Need read opened framing arrived events x stands need given = need refl read (opened ++ map next.Event events) stands
-gave_next old new (next.Head scope facts) read opened framing arrived events x stands need given =
-    given (λ e. cc) (λ status. not_refused old read opened framing arrived events status x stands) read (opened ++ map next.Event events) stands
-gave_next old new (next.Event event) read opened framing arrived events x stands need given =
-    given (λ e. cc) (λ status. not_refused old read opened framing arrived events status x stands) read (opened ++ map next.Event events) stands
-gave_next old new next.Whole read opened framing arrived events x stands need given =
-    given (λ e. cc) (λ status. not_refused old read opened framing arrived events status x stands) read (opened ++ map next.Event events) stands
-gave_next old new (next.Bad status) read opened framing arrived events x stands need given =
-    given (λ e. cc) (λ status. not_refused old read opened framing arrived events status x stands) read (opened ++ map next.Event events) stands
+    → HasOpened old.limits read opened framing arrived → StandsFor old read (opened ++ map Next.Event events)
+    → (item ≡ Next.Need → (bytes : List ℕ) (given : List Next) → StandsFor old bytes given → StandsFor new bytes given × AllGiven new bytes given)
+    → (item ≢ Next.Need → ((status : ℕ) → IsRefused old status → ⊥) → GoesOn old new item)
+    → GaveNext new read (opened ++ map Next.Event events) item
+gave_next old new Next.Need read opened framing arrived events x stands need given = need refl read (opened ++ map Next.Event events) stands
+gave_next old new _ read opened framing arrived events x stands need given =
+    given (λ e. cc) (λ status. not_refused old read opened framing arrived events status x stands) read (opened ++ map Next.Event events) stands

@@ -1,287 +1,172 @@
 -- The steps of the connection's half on its input: it reads, and offers what is due.
-use Rattle.std.proofs.Common.{◌≡◌, ℕ, true, false, List, [], ◌∷◌, ◌++◌, map, refl, sym, ap, ◌∙◌, subst, Option, Some, None, Bool}
-use Rattle.std.specs.Prelude.{◌⊎◌, ◌≤◌, length}
-use Rattle.std.proofs.lemmas.List.{append-nil}
-use mathlib.Core.List.{IsPrefix}
-use Rattle.asgi_types.specs.declared.incoming.Incoming.{Incoming}
-use Rattle.asgi_types.specs.declared.incoming.Incoming.TheVariants.{HttpDisconnect}
-use Rattle.asgi_types.specs.declared.limits.Limits.{Limits}
-use Rattle.asgi_request.specs.declared.next.Next.{Next}
-use Rattle.asgi_request.specs.declared.next.Next.TheVariants as next
-use Rattle.asgi_request.specs.BodyOf.{body_events, body_state}
-use Rattle.asgi_request.specs.Opened.{HasOpened}
-use Rattle.asgi_request.specs.Reading.{Reading, StandsFor}
-use Rattle.asgi_pipes.specs.declared.ends.ConnEnd as conn_end
-use Rattle.asgi_exchange.specs.Calls.{IsViewOf}
-use Rattle.asgi_exchange.specs.Halves.{IsOffered}
-use Rattle.asgi_exchange.specs.Http.{http}
-use Rattle.asgi_exchange.specs.Steps.{is_by_input}
-use Rattle.asgi_exchange.specs.Views.{Break, ByInput, ConnView, output}
+use Rattle.asgi_halves.proofs.HalfWords.{◌≡◌, ℕ, true, false, List, [], ◌∷◌, ◌++◌, map, refl, sym, ap, ◌∙◌, subst, Option, Some, None, Bool, ◌⊎◌, ◌≤◌, length, IsPrefix, Incoming, Limits, Next}
+use Rattle.asgi_halves.proofs.HalfWords.{body_events, body_state, Reading, StandsFor, IsViewOf, IsOffered, http, Break, ByInput, ConnView, prefix_trans, BodyProgress, HttpHalf, Stage, InputEnd}
+use Rattle.asgi_halves.proofs.HalfWords.{Outcome, Wire, Scene, Invariant, requests_in, IsRunning, HasGiven, EndsWhere, BreaksAt, KeepsBesidesBody, GivesAfter, HasAsked, HoldsFew, IsNoneDue, ReadsAt}
+use Rattle.asgi_halves.proofs.HalfWords.{LineState, Transferred, piece_size, ReadsAhead, has_ended, is_faulty, ConnGhosts, IsAt, NextStep, end_of, failures_at, EndKind, inr, Talks}
 use Rattle.asgi_exchange.proofs.HttpLemmas.{http_is_steady}
-use Rattle.asgi_exchange.proofs.ListLemmas.{prefix_trans}
-use Rattle.asgi_halves.specs.declared.half.BodyProgress.{BodyProgress}
-use Rattle.asgi_halves.specs.declared.half.BodyProgress.TheVariants.{Open, Waits, Whole, Refused, BrokenOff}
-use Rattle.asgi_halves.specs.declared.half.HttpHalf.{HttpHalf}
-use Rattle.asgi_halves.specs.declared.stage.Stage.{Stage}
-use Rattle.asgi_halves.specs.declared.stage.Stage.TheVariants.{Running, Cut}
-use Rattle.asgi_conversation.specs.declared.input.InputEnd.{InputEnd}
-use Rattle.asgi_conversation.specs.declared.report.Outcome.TheVariants.{NoMemory}
-use Rattle.asgi_halves.specs.declared.wire.Wire.{Wire}
-use Rattle.asgi_halves.specs.Half.{Scene, Invariant, WithinScene, requests_in, IsRunning, HasGiven, EndsWhere, BreaksAt}
-use Rattle.asgi_halves.specs.private.HalfSteps.{KeepsBesidesBody, GivesAfter, HasAsked, HoldsFew, IsNoneDue, ReadsAt, EndsAtInput}
-use Rattle.asgi_ws.specs.Lines.{LineState}
-use Rattle.asgi_run.specs.Lines.{Transferred, piece_size}
-use Rattle.asgi_halves.specs.ReadAhead.{ReadsAhead}
-use Rattle.asgi_conversation.specs.TaskEnds.{has_ended, is_faulty}
-use Rattle.asgi_halves.proofs.HalfBodyLemmas.{unbroken, first_due, all_due, why_broken}
-use Rattle.asgi_halves.proofs.HalfLemmas.{running_of, unfailed, not_written, part_written}
-use Rattle.asgi_halves.proofs.ReadAheadLemmas.{reads_in, within_reads}
+use Rattle.asgi_halves.specs.private.HalfSteps.{EndsAtInput}
+use Rattle.asgi_halves.proofs.{HalfBodyLemmas.unbroken, HalfBodyLemmas.first_due, HalfBodyLemmas.all_due, HalfBodyLemmas.why_broken, HalfLemmas.running_of, HalfLemmas.unfailed}
+use Rattle.asgi_halves.proofs.{ReadAheadLemmas.reads_in, ReadAheadLemmas.within_reads, HalfLemmas.restage, HalfLemmas.lacks, HalfLemmas.talks_on, HalfLemmas.opens_in, HalfLemmas.all_written}
 
 pub not_both : (b : Bool) → b ≡ false → b ≡ true → ⊥
 not_both b is_false is_true = cc (is_false, is_true)
 
--- ---- want of memory
-
-module _ (scene : Scene) (now : LineState) (half : HttpHalf) (read : List ℕ) (view : ConnView ℕ ℕ) (x : Invariant scene now half read view) (is : half.stage ≡ Running) where
+module _ {scene : Scene} {now : LineState} {half : HttpHalf} {read : List ℕ} {view : ConnView ℕ ℕ} (x : Invariant scene now half read view) (is : half.stage ≡ Stage.Running) where
   r : IsRunning scene half read view
-  r = running_of scene now half read view x is
+  r = running_of x is
 
   -- the reader gave more, or needs more
   pub pulled : (later : HttpHalf) → half.input_broke ≡ false → KeepsBesidesBody half later → later.wire.requests.limits ≡ half.wire.requests.limits → GivesAfter half later
       → Invariant scene now later read view
   pulled later unbroke same limits gives =
-      let r = running_of scene now half read view x is in
       let t = r.talks in
-      let opens = subst (λ (l : Limits). HasOpened l read scene.opened scene.facts.framing view.arrived) (sym x.limits) x.within.opens in
-      let on = gives read scene.opened scene.facts.framing view.arrived t.events opens t.given t.ends_where in
+      let on = gives read scene.opened scene.facts.framing view.arrived t.events (opens_in x) t.given t.ends_where in
+      let new : HttpHalf = record half { body = later.body; wire = record half.wire { requests = later.wire.requests } } in
+      let talks = talks_on t later.wire.requests half.wire.input later.body read view.arrived view.offered (λ e. absurd (not_both half.input_broke unbroke e)) t.events on.0 on.1 in
       subst (λ (h : HttpHalf). Invariant scene now h read view) (sym same)
-      (subst (λ (s : Stage). Invariant scene now (record half { wire = record half.wire { requests = later.wire.requests }; body = later.body; stage = s }) read view) (sym is)
-      (record {
-        moved = unfailed scene now half read view x Running is refl;
-        limits = limits ∙ x.limits;
-        within = x.within;
-        keeps = x.keeps;
-        breaks = x.breaks;
-        stage = record {
-          talks = record {
-            uncut = t.uncut;
-            input_broke = t.input_broke;
-            settled = λ e. absurd (not_both half.input_broke unbroke e);
-            events = t.events;
-            given = on.0;
-            ends_where = on.1;
-            text = t.text;
-            written = t.written;
-            empty = t.empty;
-          };
-          unended = r.unended;
-          offered = r.offered;
-        };
-      }))
+      (restage x new limits refl (subst (λ (s : Stage). IsAt s scene new read view) (sym is) (record { talks = talks; unended = r.unended; offered = r.offered })))
 
   pub none_broke : half.input_broke ≡ false → view.broken ≡ None
   none_broke unbroke = unbroken view.broken r.talks.uncut (sym r.talks.input_broke ∙ unbroke)
 
   -- the event that waits is offered
-  pub offered_on : (event : Incoming) → half.input_broke ≡ false → half.body ≡ Waits event
-      → Invariant scene now (record half { body = Open }) read (record view { offered = view.offered ++ event ∷ [] })
+  pub offered_on : (event : Incoming) → half.input_broke ≡ false → half.body ≡ BodyProgress.Waits event
+      → Invariant scene now (record half { body = BodyProgress.Open }) read (record view { offered = view.offered ++ event ∷ [] })
   offered_on event unbroke waits =
       let t = r.talks in
+      let later : ConnView ℕ ℕ = record view { offered = view.offered ++ event ∷ [] } in
       let given = subst (λ (b : BodyProgress). HasGiven half.wire.requests read scene.opened t.events b) waits t.given in
-      let opens = subst (λ (l : Limits). HasOpened l read scene.opened scene.facts.framing view.arrived) (sym x.limits) x.within.opens in
-      let all : view.offered ++ event ∷ [] ≡ t.events ++ event ∷ [] = ap (λ (l : List Incoming). l ++ event ∷ []) (r.offered unbroke) in
-      let due = first_due half.wire.requests read scene.opened scene.facts.framing view.arrived opens (t.events ++ event ∷ []) given in
+      let all : later.offered ≡ t.events ++ event ∷ [] = ap (λ (l : List Incoming). l ++ event ∷ []) (r.offered unbroke) in
+      let due = first_due half.wire.requests read scene.opened scene.facts.framing view.arrived (opens_in x) (t.events ++ event ∷ []) given in
       let front = subst (λ (l : Limits). IsPrefix (t.events ++ event ∷ []) (body_events l scene.facts.framing view.arrived)) x.limits due in
-      subst (λ (s : Stage). Invariant scene now (record half { body = Open; stage = s }) read (record view { offered = view.offered ++ event ∷ [] })) (sym is)
-      (record {
-        moved = unfailed scene now half read view x Running is refl;
+      let talks = talks_on t half.wire.requests half.wire.input BodyProgress.Open read view.arrived later.offered (λ e. absurd (not_both half.input_broke unbroke e)) (t.events ++ event ∷ []) given tt in
+      record {
+        moved = x.moved;
         limits = x.limits;
         within = x.within;
         keeps = record {
-          offered = subst (λ (b : Option Break). IsOffered (http half.wire.limits scene.facts) view.arrived (view.offered ++ event ∷ []) b) (sym (none_broke unbroke))
+          offered = subst (λ (b : Option Break). IsOffered (http half.wire.limits scene.facts) view.arrived later.offered b) (sym (none_broke unbroke))
               (subst (λ (l : List Incoming). IsPrefix l (body_events half.wire.limits scene.facts.framing view.arrived)) (sym all) front);
           written = x.keeps.written;
         };
         breaks = x.breaks;
-        stage = record {
-          talks = record {
-            uncut = t.uncut;
-            input_broke = t.input_broke;
-            settled = λ e. absurd (not_both half.input_broke unbroke e);
-            events = t.events ++ event ∷ [];
-            given = given;
-            ends_where = tt;
-            text = t.text;
-            written = t.written;
-            empty = t.empty;
-          };
-          unended = r.unended;
-          offered = λ e. all;
-        };
-      })
+        stage = subst (λ (s : Stage). IsAt s scene (record half { body = BodyProgress.Open }) read later) (sym is) (record { talks = talks; unended = r.unended; offered = λ e. all });
+      }
 
   -- the same, with the clauses of the end's calls
-  pub offered_view : (E : Type 0) (C : conn_end.Ghosts E) (old new : E) (event : Incoming) → half.input_broke ≡ false → half.body ≡ Waits event → IsViewOf C old view
+  pub offered_view : (E : Type 0) (C : ConnGhosts E) (old new : E) (event : Incoming) → half.input_broke ≡ false → half.body ≡ BodyProgress.Waits event → IsViewOf C old view
       → C.offered new ≡ C.offered old ++ event ∷ [] → C.is_broken new ≡ C.is_broken old → C.got new ≡ C.got old
-      → (later : ConnView ℕ ℕ) × Invariant scene now (record half { body = Open }) read later × IsViewOf C new later
-  offered_view E C old new event unbroke waits is_view offered broken got = (
-    record view { offered = view.offered ++ event ∷ [] },
-    offered_on event unbroke waits,
-    (ap (λ (l : List Incoming). l ++ event ∷ []) is_view.0 ∙ sym offered, is_view.1 ∙ sym broken, is_view.2 ∙ sym got),
-  )
+      → (later : ConnView ℕ ℕ) × Invariant scene now (record half { body = BodyProgress.Open }) read later × IsViewOf C new later
+  offered_view E C old new event unbroke waits is_view offered broken got =
+      (_, offered_on event unbroke waits, (ap (λ (l : List Incoming). l ++ event ∷ []) is_view.0 ∙ sym offered, is_view.1 ∙ sym broken, is_view.2 ∙ sym got))
 
   -- it waits on
-  pub waits_view : (E : Type 0) (C : conn_end.Ghosts E) (old new : E) (event back : Incoming) → half.body ≡ Waits event → back ≡ event → IsViewOf C old view
+  pub waits_view : (E : Type 0) (C : ConnGhosts E) (old new : E) (event back : Incoming) → half.body ≡ BodyProgress.Waits event → back ≡ event → IsViewOf C old view
       → C.offered new ≡ C.offered old → C.is_broken new ≡ C.is_broken old → C.got new ≡ C.got old
-      → (later : ConnView ℕ ℕ) × Invariant scene now (record half { body = Waits back }) read later × IsViewOf C new later
+      → (later : ConnView ℕ ℕ) × Invariant scene now (record half { body = BodyProgress.Waits back }) read later × IsViewOf C new later
   waits_view E C old new event back waits same is_view offered broken got = (
     view,
-    subst (λ (b : BodyProgress). Invariant scene now (record half { body = b }) read view) (waits ∙ ap (λ (e : Incoming). Waits e) (sym same)) x,
+    subst (λ (b : BodyProgress). Invariant scene now (record half { body = b }) read view) (waits ∙ ap (λ (e : Incoming). BodyProgress.Waits e) (sym same)) x,
     (is_view.0 ∙ sym offered, is_view.1 ∙ sym broken, is_view.2 ∙ sym got),
   )
 
   -- the disconnect is offered
   pub broken_off : half.input_broke ≡ false → BreaksAt half.body half.wire.input
-      → Invariant scene now (record half { input_broke = true }) read (record view { offered = view.offered ++ HttpDisconnect ∷ []; broken = Some ByInput })
+      → Invariant scene now (record half { input_broke = true }) read (record view { offered = view.offered ++ Incoming.HttpDisconnect ∷ []; broken = Some ByInput })
   broken_off unbroke breaks =
       let t = r.talks in
-      let opens = subst (λ (l : Limits). HasOpened l read scene.opened scene.facts.framing view.arrived) (sym x.limits) x.within.opens in
-      let all = all_due half.wire.requests read scene.opened scene.facts.framing view.arrived opens t.events half.body half.wire.input t.given breaks in
+      let later : ConnView ℕ ℕ = record view { offered = view.offered ++ Incoming.HttpDisconnect ∷ []; broken = Some ByInput } in
+      let all = all_due half.wire.requests read scene.opened scene.facts.framing view.arrived (opens_in x) t.events half.body half.wire.input t.given breaks in
       let due = subst (λ (l : Limits). t.events ≡ body_events l scene.facts.framing view.arrived) x.limits all in
-      let why = why_broken half.wire.requests read scene.opened scene.facts.framing view.arrived opens t.events half.body half.wire.input t.given breaks in
-      subst (λ (s : Stage). Invariant scene now (record half { input_broke = true; stage = s }) read (record view { offered = view.offered ++ HttpDisconnect ∷ []; broken = Some ByInput })) (sym is)
-      (record {
-        moved = unfailed scene now half read view x Running is refl;
+      let why = why_broken half.wire.requests read scene.opened scene.facts.framing view.arrived (opens_in x) t.events half.body half.wire.input t.given breaks in
+      let talks : Talks scene (record half { input_broke = true }) read later =
+      record { uncut = refl; input_broke = refl; settled = λ e. breaks; events = t.events; given = t.given; ends_where = t.ends_where; text = t.text; written = t.written; empty = t.empty } in
+      record {
+        moved = x.moved;
         limits = x.limits;
         within = x.within;
-        keeps = record {
-          offered = ap (λ (l : List Incoming). l ++ HttpDisconnect ∷ []) (r.offered unbroke ∙ due);
-          written = x.keeps.written;
-        };
+        keeps = record { offered = ap (λ (l : List Incoming). l ++ Incoming.HttpDisconnect ∷ []) (r.offered unbroke ∙ due); written = x.keeps.written };
         breaks = λ e. subst (λ (l : Limits). (has_ended half.wire.input ≡ true) ⊎ (is_faulty (body_state l scene.facts.framing view.arrived) ≡ true)) x.limits why;
-        stage = record {
-          talks = record {
-            uncut = refl;
-            input_broke = refl;
-            settled = λ e. breaks;
-            events = t.events;
-            given = t.given;
-            ends_where = t.ends_where;
-            text = t.text;
-            written = t.written;
-            empty = t.empty;
-          };
-          unended = r.unended;
-          offered = λ e. cc;
-        };
-      })
+        stage = subst (λ (s : Stage). IsAt s scene (record half { input_broke = true }) read later) (sym is) (record { talks = talks; unended = r.unended; offered = λ e. cc });
+      }
 
 -- before that none is due
 pub none_due_before : (body : BodyProgress) (end : InputEnd) (reader : Reading) → EndsAtInput body → has_ended end ≡ false → IsNoneDue body end reader
-none_due_before Open end reader ends is = absurd ends
-none_due_before (Waits event) end reader ends is = absurd ends
-none_due_before Whole end reader ends is = is
-none_due_before (Refused status) end reader ends is = absurd ends
-none_due_before BrokenOff end reader ends is = is
+none_due_before BodyProgress.Whole end reader ends is = is
+none_due_before BodyProgress.BrokenOff end reader ends is = is
+none_due_before _ end reader ends is = absurd ends
 
 -- ---- a read
 
 reads_unbroken : (input_broke : Bool) (body : BodyProgress) (end : InputEnd) → ReadsAt body → has_ended end ≡ false → (input_broke ≡ true → BreaksAt body end) → input_broke ≡ false
 reads_unbroken false body end reads still settled = refl
-reads_unbroken true Open end reads still settled = absurd (settled refl)
-reads_unbroken true Whole end reads still settled = absurd (not_both (has_ended end) still (settled refl))
-reads_unbroken true (Waits event) end reads still settled = absurd reads
-reads_unbroken true (Refused status) end reads still settled = absurd reads
-reads_unbroken true BrokenOff end reads still settled = absurd reads
+reads_unbroken true BodyProgress.Open end reads still settled = absurd (settled refl)
+reads_unbroken true BodyProgress.Whole end reads still settled = absurd (not_both (has_ended end) still (settled refl))
+reads_unbroken true _ end reads still settled = absurd reads
 
 given_fed : (old new : Reading) (read more : List ℕ) (opened : List Next) (events : List Incoming) (body : BodyProgress) → ReadsAt body
     → ((bytes : List ℕ) (given : List Next) → StandsFor old bytes given → StandsFor new (bytes ++ more) given)
     → HasGiven old read opened events body → HasGiven new (read ++ more) opened events body
-given_fed old new read more opened events Open reads fed given = fed read (opened ++ map next.Event events) given
-given_fed old new read more opened events Whole reads fed given = fed read (opened ++ (map next.Event events ++ next.Whole ∷ [])) given
-given_fed old new read more opened events (Waits event) reads fed given = absurd reads
-given_fed old new read more opened events (Refused status) reads fed given = absurd reads
-given_fed old new read more opened events BrokenOff reads fed given = absurd reads
+given_fed old new read more opened events BodyProgress.Open reads fed given = fed read (opened ++ map Next.Event events) given
+given_fed old new read more opened events BodyProgress.Whole reads fed given = fed read (opened ++ (map Next.Event events ++ Next.Whole ∷ [])) given
+given_fed old new read more opened events _ reads fed given = absurd reads
 
 ends_anywhere : (body : BodyProgress) (end : InputEnd) → ReadsAt body → EndsWhere body end
-ends_anywhere Open end reads = tt
-ends_anywhere Whole end reads = tt
-ends_anywhere (Waits event) end reads = absurd reads
-ends_anywhere (Refused status) end reads = absurd reads
-ends_anywhere BrokenOff end reads = absurd reads
+ends_anywhere BodyProgress.BrokenOff end reads = absurd reads
+ends_anywhere _ end reads = tt
 
-module _ (scene : Scene) (was now : LineState) (half : HttpHalf) (read : List ℕ) (view : ConnView ℕ ℕ) (x : Invariant scene was half read view) (is : half.stage ≡ Running)
-    (open_still : has_ended half.wire.input ≡ false) (reads : ReadsAt half.body) (asked : HasAsked half) (few : half.body ≡ Whole → HoldsFew half.wire.requests)
+-- before or after the end of the task
+module _ {scene : Scene} {was now : LineState} {half : HttpHalf} {read : List ℕ} {view : ConnView ℕ ℕ} (x : Invariant scene was half read view) (t : Talks scene half read view)
+    (failed : failures_at half.stage ≡ 0) (still : has_ended half.wire.input ≡ false) (reads : ReadsAt half.body) (asked : HasAsked half) (few : half.body ≡ BodyProgress.Whole → HoldsFew half.wire.requests)
     (more : List ℕ) (short : length more ≤ piece_size) (wire : Wire) (same : wire ≡ record half.wire { requests = wire.requests; input = wire.input })
     (limits : wire.requests.limits ≡ half.wire.requests.limits)
     (moved : Transferred scene.start was half.wire.input read (scene.before ++ view.written) 0 → Transferred scene.start now wire.input (read ++ more) (scene.before ++ view.written) 0) where
+  abbrev reading : HttpHalf
+  reading = record half { wire = record half.wire { requests = wire.requests; input = wire.input } }
+
+  abbrev longer : ConnView ℕ ℕ
+  longer = record view { arrived = view.arrived ++ more }
+
   unbroke : half.input_broke ≡ false
-  unbroke = reads_unbroken half.input_broke half.body half.wire.input reads open_still (running_of scene was half read view x is).talks.settled
+  unbroke = reads_unbroken half.input_broke half.body half.wire.input reads still t.settled
 
-  more_within : WithinScene scene half.wire.limits wire.input (read ++ more) (view.arrived ++ more)
-  more_within =
-      let t = (running_of scene was half read view x is).talks in
-      within_reads scene half.wire.limits half.wire.input wire.input read more view.arrived x.within (λ e. absurd (not_both (has_ended half.wire.input) open_still e))
-      (subst (λ (l : Limits). ReadsAhead l (read ++ more) (requests_in scene)) x.limits
-      (reads_in half.wire.requests read more scene.opened scene.facts.framing view.arrived
-      (subst (λ (l : Limits). HasOpened l read scene.opened scene.facts.framing view.arrived) (sym x.limits) x.within.opens) t.events (requests_in scene) x.within.heads short half.body reads t.given (asked unbroke) few))
-
-  offers_more : IsOffered (http half.wire.limits scene.facts) (view.arrived ++ more) view.offered view.broken
-  offers_more =
-      let none = none_broke scene was half read view x is unbroke in
-      let front = subst (λ (b : Option Break). IsOffered (http half.wire.limits scene.facts) view.arrived view.offered b) none x.keeps.offered in
-      subst (λ (b : Option Break). IsOffered (http half.wire.limits scene.facts) (view.arrived ++ more) view.offered b) (sym none)
-      (prefix_trans view.offered (body_events half.wire.limits scene.facts.framing view.arrived) (body_events half.wire.limits scene.facts.framing (view.arrived ++ more)) front
-      ((http_is_steady half.wire.limits scene.facts).due_grows view.arrived more))
-
-  no_break : is_by_input view.broken ≡ true → ⊥
-  no_break e = not_both half.input_broke unbroke ((running_of scene was half read view x is).talks.input_broke ∙ e)
-
-  written_more : IsPrefix view.written (output (http half.wire.limits scene.facts) (record view { arrived = view.arrived ++ more }))
-  written_more =
-      let r = running_of scene was half read view x is in
-      part_written half.wire.limits scene.facts (record view { arrived = view.arrived ++ more }) [] r.unended (append-nil view.written ∙ r.talks.written)
-
-  -- more arrives
-  pub read_more : ((bytes : List ℕ) (given : List Next) → StandsFor half.wire.requests bytes given → StandsFor wire.requests (bytes ++ more) given)
-      → Invariant scene now (record half { wire = wire }) (read ++ more) (record view { arrived = view.arrived ++ more })
-  read_more fed =
-      let r = running_of scene was half read view x is in
-      let t = r.talks in
-      subst (λ (w : Wire). Invariant scene now (record half { wire = w }) (read ++ more) (record view { arrived = view.arrived ++ more })) (sym same)
-      (subst (λ (s : Stage). Invariant scene now (record half { wire = record half.wire { requests = wire.requests; input = wire.input }; stage = s }) (read ++ more) (record view { arrived = view.arrived ++ more })) (sym is)
+  arrives : (s : Stage) → failures_at s ≡ 0 → IsAt s scene (record reading { stage = s }) (read ++ more) longer → Invariant scene now (record half { wire = wire; stage = s }) (read ++ more) longer
+  arrives s none at =
+      let never = unbroken view.broken t.uncut (sym t.input_broke ∙ unbroke) in
+      let front = subst (λ (b : Option Break). IsOffered (http half.wire.limits scene.facts) view.arrived view.offered b) never x.keeps.offered in
+      let ahead = subst (λ (l : Limits). ReadsAhead l (read ++ more) (requests_in scene)) x.limits
+      (reads_in half.wire.requests read more scene.opened scene.facts.framing view.arrived (opens_in x) t.events (requests_in scene) x.within.heads short half.body reads t.given (asked unbroke) few) in
+      subst (λ (w : Wire). Invariant scene now (record half { wire = w; stage = s }) (read ++ more) longer) (sym same)
       (record {
-        moved = moved (unfailed scene was half read view x Running is refl);
+        moved = subst (λ (n : ℕ). Transferred scene.start now wire.input (read ++ more) (scene.before ++ view.written) n) (sym none) (moved (unfailed x failed));
         limits = limits ∙ x.limits;
-        within = more_within;
-        keeps = record { offered = offers_more; written = written_more };
-        breaks = λ e. absurd (no_break e);
-        stage = record {
-          talks = record {
-            uncut = t.uncut;
-            input_broke = t.input_broke;
-            settled = λ e. absurd (not_both half.input_broke unbroke e);
-            events = t.events;
-            given = given_fed half.wire.requests wire.requests read more scene.opened t.events half.body reads fed t.given;
-            ends_where = ends_anywhere half.body wire.input reads;
-            text = t.text;
-            written = t.written;
-            empty = t.empty;
-          };
-          unended = r.unended;
-          offered = r.offered;
+        within = within_reads scene half.wire.limits half.wire.input wire.input read more view.arrived x.within (λ e. absurd (not_both (has_ended half.wire.input) still e)) ahead;
+        keeps = record {
+          offered = subst (λ (b : Option Break). IsOffered (http half.wire.limits scene.facts) (view.arrived ++ more) view.offered b) (sym never)
+              (prefix_trans view.offered (body_events half.wire.limits scene.facts.framing view.arrived) (body_events half.wire.limits scene.facts.framing (view.arrived ++ more)) front
+              ((http_is_steady half.wire.limits scene.facts).due_grows view.arrived more));
+          written = all_written half.wire.limits scene.facts longer t.written;
         };
-      }))
+        breaks = λ e. absurd (not_both half.input_broke unbroke (t.input_broke ∙ e));
+        stage = at;
+      })
+
+  module _ (fed : (bytes : List ℕ) (given : List Next) → StandsFor half.wire.requests bytes given → StandsFor wire.requests (bytes ++ more) given) where
+    abbrev talks_more : Talks scene reading (read ++ more) longer
+    talks_more =
+        talks_on t wire.requests wire.input half.body (read ++ more) (view.arrived ++ more) view.offered (λ e. absurd (not_both half.input_broke unbroke e)) t.events
+        (given_fed half.wire.requests wire.requests read more scene.opened t.events half.body reads fed t.given) (ends_anywhere half.body wire.input reads)
+
+    pub read_more : half.stage ≡ Stage.Running → end_of view.got ≡ None → (half.input_broke ≡ false → view.offered ≡ t.events) → Invariant scene now (record half { wire = wire }) (read ++ more) longer
+    read_more is unended offered =
+        arrives half.stage failed (subst (λ (s : Stage). IsAt s scene reading (read ++ more) longer) (sym is) (record { talks = talks_more; unended = unended; offered = offered }))
+
+    pub rest_read : (kind : EndKind) → half.stage ≡ Stage.Ending kind → end_of view.got ≡ Some kind → Invariant scene now (record half { wire = wire }) (read ++ more) longer
+    rest_read kind is ended = arrives half.stage failed (subst (λ (s : Stage). IsAt s scene reading (read ++ more) longer) (sym is) (talks_more, ended))
 
   -- there is no memory for it
-  pub read_short : Invariant scene now (record half { wire = wire; stage = Cut NoMemory }) (read ++ more) (record view { arrived = view.arrived ++ more })
-  read_short =
-      subst (λ (w : Wire). Invariant scene now (record half { wire = w; stage = Cut NoMemory }) (read ++ more) (record view { arrived = view.arrived ++ more })) (sym same)
-      (record {
-        moved = moved (unfailed scene was half read view x Running is refl);
-        limits = limits ∙ x.limits;
-        within = more_within;
-        keeps = record { offered = offers_more; written = written_more };
-        breaks = λ e. absurd (no_break e);
-        stage = (record { cut = refl; stops = λ n e. absurd (not_written n e) }, (running_of scene was half read view x is).unended);
-      })
+  pub read_short : end_of view.got ≡ None → Invariant scene now (record half { wire = wire; stage = Stage.Cut Outcome.NoMemory }) (read ++ more) longer
+  read_short unended = arrives (Stage.Cut Outcome.NoMemory) refl (lacks, unended)
+
+  pub rest_short : Invariant scene now (record half { wire = wire; stage = Stage.Over (NextStep.ConnectionEnds Outcome.NoMemory) }) (read ++ more) longer
+  rest_short = arrives (Stage.Over (NextStep.ConnectionEnds Outcome.NoMemory)) refl (inr lacks)

@@ -1,43 +1,64 @@
 -- The steps of the connection's half: if the invariant held, it holds again.
-use Rattle.std.proofs.Common.{◌≡◌, ℕ, false, ◌<◌, List, [], ◌∷◌, ◌++◌, length, take, drop, refl, sym, ap, ◌∙◌, subst, append_assoc, Option, None}
-use Rattle.std.specs.Io.KnownBytes.{Appends}
-use Rattle.std.proofs.lemmas.List.{append-nil, take-append-drop}
-use mathlib.Core.List.{IsPrefix}
-use Rattle.asgi_io.specs.declared.write.Wrote.TheVariants as wrote
-use Rattle.asgi_io.specs.Counting.{RoseBy}
-use Rattle.asgi_io.specs.Writing.{TriesWrites}
-use Rattle.asgi_types.specs.declared.end_kind.EndKind.{EndKind}
-use Rattle.asgi_types.specs.declared.facts.Facts.{Facts}
-use Rattle.asgi_types.specs.declared.limits.Limits.{Limits}
-use Rattle.asgi_types.specs.declared.outgoing.Outgoing.{Outgoing}
-use Rattle.asgi_request.specs.declared.next.Next.{Next}
-use Rattle.asgi_request.specs.BodyOf.{body_events}
-use Rattle.asgi_request.specs.Reading as reading
-use Rattle.asgi_response.specs.declared.text.ResponseText.{ResponseText}
-use Rattle.asgi_response.specs.Response.{response_text}
-use Rattle.asgi_response.specs.Standing as standing
-use Rattle.asgi_pipes.specs.declared.items.OutItem.TheVariants.{Event, Ended}
-use Rattle.asgi_exchange.specs.Http.{http}
-use Rattle.asgi_exchange.specs.ExchangeTexts.{input_of}
-use Rattle.asgi_exchange.specs.Items.{end_of}
-use Rattle.asgi_exchange.specs.Views.{ConnView, empty_conn, output, added_by, taken_of}
-use Rattle.asgi_exchange.proofs.EventLemmas.{events_append, end_event, end_ended}
-use Rattle.asgi_halves.specs.declared.half.BodyProgress.TheVariants.{Open}
-use Rattle.asgi_halves.specs.declared.half.HttpHalf.{HttpHalf}
-use Rattle.asgi_halves.specs.declared.stage.Stage.{Stage}
-use Rattle.asgi_halves.specs.declared.stage.Stage.TheVariants.{Running, Ending, Cut}
-use Rattle.asgi_conversation.specs.declared.report.Outcome.{Outcome}
-use Rattle.asgi_conversation.specs.declared.report.Outcome.TheVariants.{WriteFailed, NoMemory}
-use Rattle.asgi_halves.specs.declared.wire.Wire.{Wire}
-use Rattle.asgi_halves.specs.Half.{Scene, Invariant, IsRunning, IsAt, failures_at, known, state_in}
-use Rattle.asgi_halves.specs.private.HalfSteps.{Pending}
-use Rattle.asgi_halves.specs.Half.{Opens}
-use Rattle.asgi_ws.specs.Lines.{LineState}
-use Rattle.asgi_run.specs.Lines.{Transferred, how_wrote}
-use Rattle.asgi_conversation.specs.Persistence.{StopsWithin}
-use Rattle.asgi_conversation.specs.ExchangeRecord.{Beginning, Saying}
-use Rattle.asgi_run.proofs.LineLemmas.{moved_by_write, tries_front}
+use Rattle.asgi_halves.proofs.HalfWords.{◌≡◌, ℕ, false, ◌<◌, List, [], ◌∷◌, ◌++◌, length, take, drop, refl, sym, ap, ◌∙◌, subst, append_assoc, Option, None, Appends, append-nil, take-append-drop}
+use Rattle.asgi_halves.proofs.HalfWords.{IsPrefix, RoseBy, TriesWrites, EndKind, Facts, Limits, Outgoing, Next, body_events, response_text, OutItem, http, input_of, end_of, ConnView, output}
+use Rattle.asgi_halves.proofs.HalfWords.{added_by, taken_of, events_append, end_event, BodyProgress, HttpHalf, Stage, Outcome, Wire, Scene, Invariant, IsRunning, IsAt, failures_at, known, state_in}
+use Rattle.asgi_halves.proofs.HalfWords.{LineState, Transferred, StopsWithin, StandsFor, StandsForText, IsCutShort, HasOpened, InputEnd, Incoming, Reading, BreaksAt, HasGiven, EndsWhere}
+use Rattle.asgi_halves.proofs.HalfWords.{prefix_trans, events_of, Talks, true}
 use Rattle.asgi_conversation.proofs.SoFarLemmas.{text_front}
+use Rattle.asgi_conversation.specs.ExchangeRecord.{Beginning, Saying}
+use Rattle.asgi_exchange.proofs.EventLemmas.{end_ended}
+use Rattle.asgi_exchange.specs.Views.{empty_conn}
+use Rattle.asgi_halves.specs.{Half.Opens, private.HalfSteps.Pending}
+use Rattle.asgi_response.specs.{Standing.Grows, declared.text.ResponseText.ResponseText}
+use Rattle.asgi_run.proofs.LineLemmas.{moved_by_write}
+use Rattle.asgi_run.specs.Lines.{how_wrote}
+
+-- ---- what holds of any step
+
+-- a half of the same connection
+abbrev pub among : HttpHalf → HttpHalf → HttpHalf
+among half later = record later { wire = record half.wire { requests = later.wire.requests; out = later.wire.out } }
+
+module _ {scene : Scene} {now : LineState} {half : HttpHalf} {read : List ℕ} {view : ConnView ℕ ℕ} (x : Invariant scene now half read view) where
+  pub stage_of : (s : Stage) → half.stage ≡ s → IsAt s scene half read view
+  stage_of s is = subst (λ (s : Stage). IsAt s scene half read view) is x.stage
+
+  pub running_of : half.stage ≡ Stage.Running → IsRunning scene half read view
+  running_of is = stage_of Stage.Running is
+
+  pub unfailed : failures_at half.stage ≡ 0 → Transferred scene.start now half.wire.input read (scene.before ++ view.written) 0
+  unfailed none = subst (λ (n : ℕ). Transferred scene.start now half.wire.input read (scene.before ++ view.written) n) none x.moved
+
+  -- the reader knows the head of the request
+  pub opens_in : HasOpened half.wire.requests.limits read scene.opened scene.facts.framing view.arrived
+  opens_in = subst (λ (l : Limits). HasOpened l read scene.opened scene.facts.framing view.arrived) (sym x.limits) x.within.opens
+
+  -- another stage, with another body and another text in hand
+  pub restage : (later : HttpHalf) → later.wire.requests.limits ≡ half.wire.requests.limits → failures_at half.stage ≡ failures_at later.stage
+      → IsAt later.stage scene (among half later) read view → Invariant scene now (among half later) read view
+  restage later same failed at = record {
+    moved = subst (λ (n : ℕ). Transferred scene.start now half.wire.input read (scene.before ++ view.written) n) failed x.moved;
+    limits = same ∙ x.limits;
+    within = x.within;
+    keeps = x.keeps;
+    breaks = x.breaks;
+    stage = at;
+  }
+
+  pub stands_still : Invariant scene now half (read ++ []) view
+  stands_still = subst (λ (l : List ℕ). Invariant scene now half l view) (sym (append-nil read)) x
+
+-- want of memory cuts the connection short
+pub lacks : {scene : Scene} {half : HttpHalf} {view : ConnView ℕ ℕ} → IsCutShort scene half view Outcome.NoMemory
+lacks = record { cut = refl; stops = λ n e. cc }
+
+-- the talk goes on, with another body
+abbrev pub talks_on : {scene : Scene} {half : HttpHalf} {read : List ℕ} {view : ConnView ℕ ℕ} → Talks scene half read view
+    → (requests : Reading) (input : InputEnd) (body : BodyProgress) (all arrived : List ℕ) (offered : List Incoming) → (half.input_broke ≡ true → BreaksAt body input)
+    → (events : List Incoming) → HasGiven requests all scene.opened events body → EndsWhere body input
+    → Talks scene (record half { wire = record half.wire { requests = requests; input = input }; body = body }) all (record view { arrived = arrived; offered = offered })
+talks_on t requests input body all arrived offered settled events given ends_where =
+    record { uncut = t.uncut; input_broke = t.input_broke; settled = settled; events = events; given = given; ends_where = ends_where; text = t.text; written = t.written; empty = t.empty }
 
 -- ---- what is written
 
@@ -47,136 +68,105 @@ output_open limits facts view unended =
     ap (λ (o : Option EndKind). response_text facts (taken_of view) ++ added_by (http limits facts) (taken_of view) o view.broken_first view.arrived) unended
     ∙ append-nil (response_text facts (taken_of view))
 
-pub part_written : (limits : Limits) (facts : Facts) (view : ConnView ℕ ℕ) (rest : List ℕ) → end_of view.got ≡ None → view.written ++ rest ≡ response_text facts (taken_of view)
+part_written : (limits : Limits) (facts : Facts) (view : ConnView ℕ ℕ) (rest : List ℕ) → end_of view.got ≡ None → view.written ++ rest ≡ response_text facts (taken_of view)
     → IsPrefix view.written (output (http limits facts) view)
 part_written limits facts view rest unended is = (rest, is ∙ sym (output_open limits facts view unended))
 
-moved_on : (scene : Scene) (was now : LineState) (half : HttpHalf) (read written text : List ℕ) (failures : ℕ)
-    → Transferred scene.start was half.wire.input read (scene.before ++ written) 0 → now.left ≡ was.left → now.reads ≡ was.reads → now.session ≡ was.session → Appends was.written now.written text
-    → RoseBy failures was.failed now.failed → TriesWrites was.writes now.writes (length text) (how_wrote failures (length text))
-    → Transferred scene.start now half.wire.input read (scene.before ++ (written ++ text)) failures
-moved_on scene was now half read written text failures moved same_left same_reads same_session appends rose tries =
-    subst (λ (l : List ℕ). Transferred scene.start now half.wire.input read l failures) (append_assoc scene.before written text)
-    (moved_by_write scene.start was now half.wire.input read (scene.before ++ written) text failures moved same_left same_reads same_session appends rose tries)
+pub all_written : (limits : Limits) (facts : Facts) (view : ConnView ℕ ℕ) → view.written ≡ response_text facts (taken_of view) → IsPrefix view.written (output (http limits facts) view)
+all_written limits facts view is =
+    let more = added_by (http limits facts) (taken_of view) (end_of view.got) view.broken_first view.arrived in (more, ap (λ (l : List ℕ). l ++ more) is)
 
-abbrev failed_at : Outcome → ℕ
-failed_at (WriteFailed n) = n
+-- what is out of the text stays a front of it, whatever is taken next
+pub still_written : (limits : Limits) (facts : Facts) (view : ConnView ℕ ℕ) (item : OutItem) → end_of view.got ≡ None → IsPrefix view.written (output (http limits facts) view)
+    → IsPrefix view.written (output (http limits facts) (record view { got = view.got ++ item ∷ [] }))
+still_written limits facts view item unended front =
+    let later : ConnView ℕ ℕ = record view { got = view.got ++ item ∷ [] } in
+    let more = text_front facts (taken_of view) (taken_of later) (events_of (item ∷ []), sym (events_append view.got (item ∷ []))) in
+    let on = prefix_trans view.written (response_text facts (taken_of view)) (response_text facts (taken_of later)) (subst (λ (l : List ℕ). IsPrefix view.written l) (output_open limits facts view unended) front) more in
+    prefix_trans view.written (response_text facts (taken_of later)) (output (http limits facts) later) on (added_by (http limits facts) (taken_of later) (end_of later.got) later.broken_first later.arrived, refl)
+
+-- a text was written: how much of it, and how many writes failed
+pub record HasPut (was now : LineState) (part : List ℕ) (failures : ℕ) : Type 0 where
+  pub beside : (now.left ≡ was.left) × (now.reads ≡ was.reads)
+  pub session : now.session ≡ was.session
+  pub appends : Appends was.written now.written part
+  pub rose : RoseBy failures was.failed now.failed
+  pub tries : TriesWrites was.writes now.writes (length part) (how_wrote failures (length part))
+
+pub moved_on : (scene : Scene) (was now : LineState) (half : HttpHalf) (read written part : List ℕ) (failures : ℕ) → Transferred scene.start was half.wire.input read (scene.before ++ written) 0
+    → HasPut was now part failures → Transferred scene.start now half.wire.input read (scene.before ++ (written ++ part)) failures
+moved_on scene was now half read written part failures moved p =
+    subst (λ (l : List ℕ). Transferred scene.start now half.wire.input read l failures) (append_assoc scene.before written part)
+    (moved_by_write scene.start was now half.wire.input read (scene.before ++ written) part failures moved p.beside.0 p.beside.1 p.session p.appends p.rose p.tries)
+
+abbrev pub failed_at : Outcome → ℕ
+failed_at (Outcome.WriteFailed n) = n
 failed_at _ = 0
 
-module _ (scene : Scene) (was now : LineState) (half : HttpHalf) (read : List ℕ) (view : ConnView ℕ ℕ) (p : Pending scene was half read view)
-    (same_left : now.left ≡ was.left) (same_reads : now.reads ≡ was.reads) (same_session : now.session ≡ was.session) where
+module _ (scene : Scene) (was now : LineState) (half : HttpHalf) (read : List ℕ) (view : ConnView ℕ ℕ) (p : Pending scene was half read view) (wire : Wire) (same : wire ≡ record half.wire { out = wire.out }) where
   -- all of the text in hand went out
-  put_whole : (wire : Wire) → wire ≡ record half.wire { out = wire.out } → wire.out.items ≡ [] → Appends was.written now.written half.wire.out.items → RoseBy 0 was.failed now.failed
-      → TriesWrites was.writes now.writes (length half.wire.out.items) wrote.Done
-      → Invariant scene now (record half { wire = record half.wire { out = wire.out }; stage = Running }) read (record view { written = view.written ++ half.wire.out.items })
-  put_whole wire same empty appends rose tries = record {
-    moved = moved_on scene was now half read view.written half.wire.out.items 0 p.moved same_left same_reads same_session appends rose tries;
-    limits = p.limits;
-    within = p.within;
-    keeps = record {
-      offered = p.offers;
-      written = part_written half.wire.limits scene.facts (record view { written = view.written ++ half.wire.out.items }) [] p.unended (append-nil (view.written ++ half.wire.out.items) ∙ sym p.grows);
-    };
-    breaks = p.breaks;
-    stage = record {
-      talks = record {
-        uncut = p.uncut;
-        input_broke = p.input_broke;
-        settled = p.settled;
-        events = p.events;
-        given = p.given;
-        ends_where = p.ends_where;
-        text = p.text;
-        written = sym p.grows;
-        empty = empty;
-      };
-      unended = p.unended;
-      offered = p.offered;
-    };
-  }
+  pub put_done : wire.out.items ≡ [] → HasPut was now half.wire.out.items 0 → Invariant scene now (record half { wire = wire }) read (record view { written = view.written ++ half.wire.out.items })
+  put_done empty put =
+      let later : ConnView ℕ ℕ = record view { written = view.written ++ half.wire.out.items } in
+      let emptied : HttpHalf = record half { wire = record half.wire { out = wire.out } } in
+      let talks : Talks scene emptied read later =
+      record { uncut = p.uncut; input_broke = p.input_broke; settled = p.settled; events = p.events; given = p.given; ends_where = p.ends_where; text = p.text; written = sym p.grows; empty = empty } in
+      subst (λ (w : Wire). Invariant scene now (record half { wire = w }) read later) (sym same)
+      (record {
+        moved = subst (λ (s : Stage). Transferred scene.start now half.wire.input read (scene.before ++ later.written) (failures_at s)) (sym p.running)
+            (moved_on scene was now half read view.written half.wire.out.items 0 p.moved put);
+        limits = p.limits;
+        within = p.within;
+        keeps = record { offered = p.offers; written = all_written half.wire.limits scene.facts later (sym p.grows) };
+        breaks = p.breaks;
+        stage = subst (λ (s : Stage). IsAt s scene emptied read later) (sym p.running) (record { talks = talks; unended = p.unended; offered = p.offered });
+      })
 
   -- its first n bytes did
-  put_part : (n : ℕ) (wire : Wire) → n < length half.wire.out.items → Appends was.written now.written (take n half.wire.out.items) → RoseBy 1 was.failed now.failed
-      → TriesWrites was.writes now.writes n (wrote.Failed n)
-      → Invariant scene now (record half { wire = record half.wire { out = wire.out }; stage = Cut (WriteFailed n) }) read (record view { written = view.written ++ take n half.wire.out.items })
-  put_part n wire less appends rose tries = record {
-    moved = moved_on scene was now half read view.written (take n half.wire.out.items) 1 p.moved same_left same_reads same_session appends rose
-        (tries_front was.writes now.writes n half.wire.out.items less tries);
-    limits = p.limits;
-    within = p.within;
-    keeps = record {
-      offered = p.offers;
-      written = part_written half.wire.limits scene.facts (record view { written = view.written ++ take n half.wire.out.items }) (drop n half.wire.out.items) p.unended
-          (append_assoc view.written (take n half.wire.out.items) (drop n half.wire.out.items)
-          ∙ (ap (λ (l : List ℕ). view.written ++ l) (take-append-drop n half.wire.out.items) ∙ sym p.grows));
-    };
-    breaks = p.breaks;
-    stage = (
-      record {
-        cut = refl;
-        stops = λ m is.
-            subst (λ (k : ℕ). StopsWithin k (known scene view) (input_of (state_in scene half view)) (view.written ++ take n half.wire.out.items)) (ap failed_at is)
-            (record {
-              out = view.written;
-              more = half.wire.out.items;
-              is_next = p.hand (input_of (state_in scene half view));
-              within = less;
-              written_is = refl;
-            });
-      },
-      p.unended,
-    );
-  }
-
-  pub put_done : (wire : Wire) → wire ≡ record half.wire { out = wire.out } → wire.out.items ≡ [] → Appends was.written now.written half.wire.out.items → RoseBy 0 was.failed now.failed
-      → TriesWrites was.writes now.writes (length half.wire.out.items) wrote.Done
-      → Invariant scene now (record half { wire = wire }) read (record view { written = view.written ++ half.wire.out.items })
-  put_done wire same empty appends rose tries =
-      subst (λ (w : Wire). Invariant scene now (record half { wire = w }) read (record view { written = view.written ++ half.wire.out.items })) (sym same)
-      (subst (λ (s : Stage). Invariant scene now (record half { wire = record half.wire { out = wire.out }; stage = s }) read (record view { written = view.written ++ half.wire.out.items }))
-      (sym p.running) (put_whole wire same empty appends rose tries))
-
-  pub put_cut : (n : ℕ) (wire : Wire) → wire ≡ record half.wire { out = wire.out } → n < length half.wire.out.items → Appends was.written now.written (take n half.wire.out.items)
-      → RoseBy 1 was.failed now.failed → TriesWrites was.writes now.writes n (wrote.Failed n)
-      → Invariant scene now (record half { wire = wire; stage = Cut (WriteFailed n) }) read (record view { written = view.written ++ take n half.wire.out.items })
-  put_cut n wire same less appends rose tries =
-      subst (λ (w : Wire). Invariant scene now (record half { wire = w; stage = Cut (WriteFailed n) }) read (record view { written = view.written ++ take n half.wire.out.items })) (sym same)
-      (put_part n wire less appends rose tries)
+  pub put_cut : (n : ℕ) → n < length half.wire.out.items → HasPut was now (take n half.wire.out.items) 1
+      → Invariant scene now (record half { wire = wire; stage = Stage.Cut (Outcome.WriteFailed n) }) read (record view { written = view.written ++ take n half.wire.out.items })
+  put_cut n less put =
+      let text = half.wire.out.items in
+      let later : ConnView ℕ ℕ = record view { written = view.written ++ take n text } in
+      let all : later.written ++ drop n text ≡ response_text scene.facts (taken_of later) =
+      append_assoc view.written (take n text) (drop n text) ∙ (ap (λ (l : List ℕ). view.written ++ l) (take-append-drop n text) ∙ sym p.grows) in
+      let stops : StopsWithin n (known scene view) (input_of (state_in scene half view)) later.written =
+      record { out = view.written; more = text; is_next = p.hand (input_of (state_in scene half view)); within = less; written_is = refl } in
+      subst (λ (w : Wire). Invariant scene now (record half { wire = w; stage = Stage.Cut (Outcome.WriteFailed n) }) read later) (sym same)
+      (record {
+        moved = moved_on scene was now half read view.written (take n text) 1 p.moved put;
+        limits = p.limits;
+        within = p.within;
+        keeps = record { offered = p.offers; written = part_written half.wire.limits scene.facts later (drop n text) p.unended all };
+        breaks = p.breaks;
+        stage = (
+          record { cut = refl; stops = λ m is. subst (λ (k : ℕ). StopsWithin k (known scene view) (input_of (state_in scene half view)) later.written) (ap failed_at is) stops },
+          p.unended,
+        );
+      })
 
 -- ---- an event is sent
 
-pub not_written : (n : ℕ) → NoMemory ≡ WriteFailed n → ⊥
-not_written n e = cc
+module _ (scene : Scene) (now : LineState) (half : HttpHalf) (read : List ℕ) (view : ConnView ℕ ℕ) (x : Invariant scene now half read view) (is : half.stage ≡ Stage.Running) (event : Outgoing)
+    (text : ResponseText) (wire : Wire) where
+  more_taken : taken_of (record view { got = view.got ++ OutItem.Event event ∷ [] }) ≡ taken_of view ++ event ∷ []
+  more_taken = events_append view.got (OutItem.Event event ∷ [])
 
-pub running_of : (scene : Scene) (now : LineState) (half : HttpHalf) (read : List ℕ) (view : ConnView ℕ ℕ) → Invariant scene now half read view → half.stage ≡ Running
-    → IsRunning scene half read view
-running_of scene now half read view x is = subst (λ (s : Stage). IsAt s scene half read view) is x.stage
-
-pub unfailed : (scene : Scene) (now : LineState) (half : HttpHalf) (read : List ℕ) (view : ConnView ℕ ℕ) → Invariant scene now half read view → (stage : Stage) → half.stage ≡ stage
-    → failures_at stage ≡ 0 → Transferred scene.start now half.wire.input read (scene.before ++ view.written) 0
-unfailed scene now half read view x stage is none =
-    let P : ℕ → Type 0 = λ n. Transferred scene.start now half.wire.input read (scene.before ++ view.written) n in
-    subst P none (subst (λ (s : Stage). P (failures_at s)) is x.moved)
-
-module _ (scene : Scene) (now : LineState) (half : HttpHalf) (read : List ℕ) (view : ConnView ℕ ℕ) (x : Invariant scene now half read view) (is : half.stage ≡ Running) (event : Outgoing) where
-  more_taken : taken_of (record view { got = view.got ++ Event event ∷ [] }) ≡ taken_of view ++ event ∷ []
-  more_taken = events_append view.got (Event event ∷ [])
-
-  still_open : end_of (view.got ++ Event event ∷ []) ≡ None
-  still_open = end_event view.got event ∙ (running_of scene now half read view x is).unended
+  still_open : end_of (view.got ++ OutItem.Event event ∷ []) ≡ None
+  still_open = end_event view.got event ∙ (running_of x is).unended
 
   -- its text is in hand
-  pub said_pending : (text : ResponseText) (wire : Wire) → wire ≡ record half.wire { out = wire.out } → standing.StandsFor text scene.facts (taken_of view ++ event ∷ [])
-      → standing.Grows (response_text scene.facts (taken_of view)) (response_text scene.facts (taken_of view ++ event ∷ [])) half.wire.out.items wire.out.items
-      → Pending scene now (record half { wire = record half.wire { out = wire.out }; text = text }) read (record view { got = view.got ++ Event event ∷ [] })
-  said_pending text wire same stands grows =
-      let r = running_of scene now half read view x is in
+  pub said_pending : StandsForText text scene.facts (taken_of view ++ event ∷ [])
+      → Grows (response_text scene.facts (taken_of view)) (response_text scene.facts (taken_of view ++ event ∷ [])) half.wire.out.items wire.out.items
+      → Pending scene now (record half { wire = record half.wire { out = wire.out }; text = text }) read (record view { got = view.got ++ OutItem.Event event ∷ [] })
+  said_pending stands grows =
+      let r = running_of x is in
       let t = r.talks in
       let in_hand : wire.out.items ≡ grows.added = grows.output ∙ ap (λ (l : List ℕ). l ++ grows.added) t.empty in
       let adds : response_text scene.facts (taken_of view ++ event ∷ []) ≡ view.written ++ wire.out.items =
       grows.text ∙ (ap (λ (l : List ℕ). l ++ grows.added) (sym t.written) ∙ ap (λ (l : List ℕ). view.written ++ l) (sym in_hand)) in
       record {
-        moved = unfailed scene now half read view x Running is refl;
+        moved = unfailed x (ap failures_at is);
         limits = x.limits;
         within = x.within;
         offers = x.keeps.offered;
@@ -190,111 +180,80 @@ module _ (scene : Scene) (now : LineState) (half : HttpHalf) (read : List ℕ) (
         ends_where = t.ends_where;
         unended = still_open;
         offered = r.offered;
-        text = subst (λ (l : List Outgoing). standing.StandsFor text scene.facts l) (sym more_taken) stands;
+        text = subst (λ (l : List Outgoing). StandsForText text scene.facts l) (sym more_taken) stands;
         grows = ap (response_text scene.facts) more_taken ∙ adds;
-        hand = λ input. Saying (taken_of view) [] event more_taken t.written (adds);
+        hand = λ input. Saying (taken_of view) [] event more_taken t.written adds;
       }
 
   -- there is no memory for its text
-  pub said_short : (text : ResponseText) (wire : Wire)
-      → Invariant scene now (record half { wire = record half.wire { out = wire.out }; text = text; stage = Cut NoMemory }) read (record view { got = view.got ++ Event event ∷ [] })
-  said_short text wire =
-      let r = running_of scene now half read view x is in
-      let front = text_front scene.facts (taken_of view) (taken_of view ++ event ∷ []) (event ∷ [], refl) in
-      record {
-        moved = unfailed scene now half read view x Running is refl;
-        limits = x.limits;
-        within = x.within;
-        keeps = record {
-          offered = x.keeps.offered;
-          written = part_written half.wire.limits scene.facts (record view { got = view.got ++ Event event ∷ [] }) front.0 still_open
-              (ap (λ (l : List ℕ). l ++ front.0) r.talks.written ∙ (front.1 ∙ sym (ap (response_text scene.facts) more_taken)));
-        };
-        breaks = x.breaks;
-        stage = (record { cut = refl; stops = λ n e. absurd (not_written n e) }, still_open);
-      }
+  pub said_short : Invariant scene now (record half { wire = record half.wire { out = wire.out }; text = text; stage = Stage.Cut Outcome.NoMemory }) read (record view { got = view.got ++ OutItem.Event event ∷ [] })
+  said_short = record {
+    moved = unfailed x (ap failures_at is);
+    limits = x.limits;
+    within = x.within;
+    keeps = record { offered = x.keeps.offered; written = still_written half.wire.limits scene.facts view (OutItem.Event event) (running_of x is).unended x.keeps.written };
+    breaks = x.breaks;
+    stage = (lacks, still_open);
+  }
 
 -- ---- an exchange begins
 
-pub begun_pending : (scene : Scene) (now : LineState) (facts : Facts) (read arrived : List ℕ) (old wire : Wire) (text : ResponseText) → Opens scene now old facts read arrived
-    → standing.StandsFor text facts [] → wire.out.items ≡ old.out.items ++ response_text facts []
-    → Pending scene now (record { wire = record old { out = wire.out }; body = Open; text = text; input_broke = false; stage = Running }) read (record empty_conn { arrived = arrived })
-begun_pending scene now facts read arrived old wire text o stands adds =
-    let in_hand : wire.out.items ≡ response_text scene.facts [] = adds ∙ (ap (λ (l : List ℕ). l ++ response_text facts []) o.empty ∙ ap (λ (f : Facts). response_text f []) o.facts_are) in
-    record {
-      moved = subst (λ (l : List ℕ). Transferred scene.start now old.input read l 0) (sym (append-nil scene.before)) o.moved;
-      limits = o.limits;
-      within = o.within;
-      offers = (body_events old.limits scene.facts.framing arrived, refl);
-      breaks = λ e. cc;
-      running = refl;
-      uncut = refl;
-      input_broke = refl;
-      settled = λ e. cc;
-      events = [];
-      given = subst (λ (l : List Next). reading.StandsFor old.requests read l) (sym (append-nil scene.opened)) o.given;
-      ends_where = tt;
-      unended = refl;
-      offered = λ e. refl;
-      text = subst (λ (f : Facts). standing.StandsFor text f []) o.facts_are stands;
-      grows = sym in_hand;
-      hand = λ input. Beginning refl in_hand;
-    }
+module _ (scene : Scene) (now : LineState) (facts : Facts) (read arrived : List ℕ) (old wire : Wire) (text : ResponseText) (o : Opens scene now old facts read arrived) where
+  begun_moved : Transferred scene.start now old.input read (scene.before ++ []) 0
+  begun_moved = subst (λ (l : List ℕ). Transferred scene.start now old.input read l 0) (sym (append-nil scene.before)) o.moved
 
-pub begun_short : (scene : Scene) (now : LineState) (facts : Facts) (read arrived : List ℕ) (old wire : Wire) (text : ResponseText) → Opens scene now old facts read arrived
-    → Invariant scene now (record { wire = record old { out = wire.out }; body = Open; text = text; input_broke = false; stage = Cut NoMemory }) read (record empty_conn { arrived = arrived })
-begun_short scene now facts read arrived old wire text o = record {
-  moved = subst (λ (l : List ℕ). Transferred scene.start now old.input read l 0) (sym (append-nil scene.before)) o.moved;
-  limits = o.limits;
-  within = o.within;
-  keeps = record {
-    offered = (body_events old.limits scene.facts.framing arrived, refl);
-    written = (output (http old.limits scene.facts) (record empty_conn { arrived = arrived }), refl);
-  };
-  breaks = λ e. cc;
-  stage = (record { cut = refl; stops = λ n e. absurd (not_written n e) }, refl);
-}
+  pub begun_pending : StandsForText text facts [] → wire.out.items ≡ old.out.items ++ response_text facts []
+      → Pending scene now (record { wire = record old { out = wire.out }; body = BodyProgress.Open; text = text; input_broke = false; stage = Stage.Running }) read (record empty_conn { arrived = arrived })
+  begun_pending stands adds =
+      let in_hand : wire.out.items ≡ response_text scene.facts [] = adds ∙ (ap (λ (l : List ℕ). l ++ response_text facts []) o.empty ∙ ap (λ (f : Facts). response_text f []) o.facts_are) in
+      record {
+        moved = begun_moved;
+        limits = o.limits;
+        within = o.within;
+        offers = (body_events old.limits scene.facts.framing arrived, refl);
+        breaks = λ e. cc;
+        running = refl;
+        uncut = refl;
+        input_broke = refl;
+        settled = λ e. cc;
+        events = [];
+        given = subst (λ (l : List Next). StandsFor old.requests read l) (sym (append-nil scene.opened)) o.given;
+        ends_where = tt;
+        unended = refl;
+        offered = λ e. refl;
+        text = subst (λ (f : Facts). StandsForText text f []) o.facts_are stands;
+        grows = sym in_hand;
+        hand = λ input. Beginning refl in_hand;
+      }
+
+  pub begun_short : Invariant scene now (record { wire = record old { out = wire.out }; body = BodyProgress.Open; text = text; input_broke = false; stage = Stage.Cut Outcome.NoMemory }) read (record empty_conn { arrived = arrived })
+  begun_short = record {
+    moved = begun_moved;
+    limits = o.limits;
+    within = o.within;
+    keeps = record { offered = (body_events old.limits scene.facts.framing arrived, refl); written = (output (http old.limits scene.facts) (record empty_conn { arrived = arrived }), refl) };
+    breaks = λ e. cc;
+    stage = (lacks, refl);
+  }
 
 -- ---- the end of the task is taken
 
-pub ended_taken : (scene : Scene) (now : LineState) (half : HttpHalf) (read : List ℕ) (view : ConnView ℕ ℕ) (kind : EndKind) → Invariant scene now half read view → half.stage ≡ Running
-    → Invariant scene now (record half { stage = Ending kind }) (read ++ []) (record view { got = view.got ++ Ended kind ∷ [] })
+pub ended_taken : (scene : Scene) (now : LineState) (half : HttpHalf) (read : List ℕ) (view : ConnView ℕ ℕ) (kind : EndKind) → Invariant scene now half read view → half.stage ≡ Stage.Running
+    → Invariant scene now (record half { stage = Stage.Ending kind }) read (record view { got = view.got ++ OutItem.Ended kind ∷ [] })
 ended_taken scene now half read view kind x is =
-    let r = running_of scene now half read view x is in
+    let r = running_of x is in
     let t = r.talks in
-    let later = record view { got = view.got ++ Ended kind ∷ [] } in
-    let same : taken_of later ≡ taken_of view = events_append view.got (Ended kind ∷ []) ∙ append-nil (taken_of view) in
+    let later : ConnView ℕ ℕ = record view { got = view.got ++ OutItem.Ended kind ∷ [] } in
+    let same : taken_of later ≡ taken_of view = events_append view.got (OutItem.Ended kind ∷ []) ∙ append-nil (taken_of view) in
     let out : view.written ≡ response_text scene.facts (taken_of later) = t.written ∙ ap (response_text scene.facts) (sym same) in
-    subst (λ (l : List ℕ). Invariant scene now (record half { stage = Ending kind }) l later) (sym (append-nil read))
-    (record {
-      moved = unfailed scene now half read view x Running is refl;
+    let text : StandsForText half.text scene.facts (taken_of later) = subst (λ (l : List Outgoing). StandsForText half.text scene.facts l) (sym same) t.text in
+    let talks : Talks scene (record half { stage = Stage.Ending kind }) read later =
+    record { uncut = t.uncut; input_broke = t.input_broke; settled = t.settled; events = t.events; given = t.given; ends_where = t.ends_where; text = text; written = out; empty = t.empty } in
+    record {
+      moved = unfailed x (ap failures_at is);
       limits = x.limits;
       within = x.within;
-      keeps = record {
-        offered = x.keeps.offered;
-        written = (
-          added_by (http half.wire.limits scene.facts) (taken_of later) (end_of later.got) later.broken_first later.arrived,
-          ap (λ (l : List ℕ). l ++ added_by (http half.wire.limits scene.facts) (taken_of later) (end_of later.got) later.broken_first later.arrived) out,
-        );
-      };
+      keeps = record { offered = x.keeps.offered; written = all_written half.wire.limits scene.facts later out };
       breaks = x.breaks;
-      stage = (
-        record {
-          uncut = t.uncut;
-          input_broke = t.input_broke;
-          settled = t.settled;
-          events = t.events;
-          given = t.given;
-          ends_where = t.ends_where;
-          text = subst (λ (l : List Outgoing). standing.StandsFor half.text scene.facts l) (sym same) t.text;
-          written = out;
-          empty = t.empty;
-        },
-        end_ended view.got kind r.unended,
-      );
-    })
-
--- ---- if nothing is done
-
-pub stands_still : (scene : Scene) (now : LineState) (half : HttpHalf) (read : List ℕ) (view : ConnView ℕ ℕ) → Invariant scene now half read view → Invariant scene now half (read ++ []) view
-stands_still scene now half read view x = subst (λ (l : List ℕ). Invariant scene now half l view) (sym (append-nil read)) x
+      stage = (talks, end_ended view.got kind r.unended);
+    }

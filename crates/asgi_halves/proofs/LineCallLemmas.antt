@@ -1,25 +1,17 @@
 -- The calls of a line, by what is known of it before and after.
-use Rattle.std.proofs.Common.{◌≡◌, ℕ, List, [], ◌∷◌, ◌++◌, ap, arith, sym, subst, ◌∙◌}
+use Rattle.asgi_halves.proofs.HalfWords.{◌≡◌, ℕ, List, [], ◌∷◌, ◌++◌, ap, arith, sym, subst, ◌∙◌, Call, Got, Put, SentMessage, LineState, is_read, Turn, IsTurnOfRead, OfMessage, ReadsNone, count_by}
+use Rattle.asgi_halves.specs.Kinds.{turn_by}
+use Rattle.asgi_ws.specs.{Lines.state_of, Sessions.Loses, Sessions.count_after, Sessions.given_by, Sessions.has_failed, Sessions.is_failed, Sessions.kept_by}
+use Rattle.asgi_halves.proofs.{CallLemmas.counted, TalkLemmas.LeavesText}
 use Rattle.asgi_io.specs.declared.counts.Counts as counts
 use Rattle.asgi_io.specs.declared.reads.Reads as reads
 use Rattle.asgi_ws.specs.declared.line.Line as line
-use Rattle.asgi_ws.specs.declared.messages.Call.TheVariants.{Read, Send}
-use Rattle.asgi_ws.specs.declared.messages.Got.{Got}
 use Rattle.asgi_ws.specs.declared.messages.Messages as messages
-use Rattle.asgi_ws.specs.declared.messages.Put.{Put}
-use Rattle.asgi_ws.specs.declared.messages.SentMessage.{SentMessage}
-use Rattle.asgi_ws.specs.Lines.{LineState, state_of}
-use Rattle.asgi_ws.specs.Sessions.{given_by, is_failed, is_read, has_failed, count_after, kept_by, Loses}
-use Rattle.asgi_io.specs.declared.turns.Turn.{Turn}
-use Rattle.asgi_halves.specs.Kinds.{IsTurnOfRead, OfMessage, ReadsNone, turn_by}
-use Rattle.std.specs.List.{count_by}
-use Rattle.asgi_halves.proofs.CallLemmas.{counted}
-use Rattle.asgi_halves.proofs.TalkLemmas.{LeavesText}
 
 -- a message was read
 pub record HasRead (was now : LineState) (answer : Got) : Type 0 where
   pub text : LeavesText was now
-  pub told : now.session.calls ≡ was.session.calls ++ Read answer ∷ []
+  pub told : now.session.calls ≡ was.session.calls ++ Call.Read answer ∷ []
   pub loses : Loses was.session.coming now.session.coming (given_by answer)
   pub count : now.failed ≡ count_after was.failed (is_failed answer)
   pub kept : now.session.leftover ≡ was.session.leftover
@@ -27,7 +19,7 @@ pub record HasRead (was now : LineState) (answer : Got) : Type 0 where
 -- a message or a close was sent
 pub record HasSent (was now : LineState) (item : SentMessage) (answer : Put) : Type 0 where
   pub text : LeavesText was now
-  pub told : now.session.calls ≡ was.session.calls ++ Send item answer ∷ []
+  pub told : now.session.calls ≡ was.session.calls ++ Call.Send item answer ∷ []
   pub count : now.failed ≡ count_after was.failed (has_failed answer)
   pub coming : now.session.coming ≡ was.session.coming
   pub kept : now.session.leftover ≡ was.session.leftover
@@ -47,7 +39,7 @@ turn_of_message Rests was now answer turn read is = OfMessage answer read.told r
 -- what is sent, and the switch to messages, reads nothing
 pub sending_reads_none : (was now : LineState) (item : SentMessage) (answer : Put) → HasSent was now item answer → ReadsNone was now
 sending_reads_none was now item answer sent =
-    (sent.text.reads, ap (count_by is_read) sent.told ∙ omega (arith, counted is_read was.session.calls (Send item answer)))
+    (sent.text.reads, ap (count_by is_read) sent.told ∙ omega (arith, counted is_read was.session.calls (Call.Send item answer)))
 
 pub upgrade_reads_none : (was now : LineState) (bytes : List ℕ) → HasUpgraded was now bytes → ReadsNone was now
 upgrade_reads_none was now bytes u = (u.text.reads, ap (count_by is_read) u.calls)
@@ -61,7 +53,7 @@ module _ {L : Type 0} (G : line.Ghosts L) (R : reads.Ghosts L) (W : counts.Ghost
   SameText = (R.remaining new ≡ R.remaining old) × (W.written new ≡ W.written old) × (R.answers new ≡ R.answers old) × (W.answers new ≡ W.answers old)
 
   -- by the clauses of a line
-  pub has_read : (answer : Got) → M.calls new ≡ M.calls old ++ Read answer ∷ [] → Loses (M.coming old) (M.coming new) (given_by answer)
+  pub has_read : (answer : Got) → M.calls new ≡ M.calls old ++ Call.Read answer ∷ [] → Loses (M.coming old) (M.coming new) (given_by answer)
       → W.failed new ≡ count_after (W.failed old) (is_failed answer) → M.leftover new ≡ M.leftover old → SameText → HasRead (G.state old) (G.state new) answer
   has_read answer told loses count kept text = by_state (λ was now. HasRead was now answer) (record {
     text = record { left = text.0; written = text.1; reads = text.2; writes = text.3 };
@@ -71,7 +63,7 @@ module _ {L : Type 0} (G : line.Ghosts L) (R : reads.Ghosts L) (W : counts.Ghost
     kept = kept;
   })
 
-  pub has_sent : (item : SentMessage) (answer : Put) → M.calls new ≡ M.calls old ++ Send item answer ∷ [] → W.failed new ≡ count_after (W.failed old) (has_failed answer)
+  pub has_sent : (item : SentMessage) (answer : Put) → M.calls new ≡ M.calls old ++ Call.Send item answer ∷ [] → W.failed new ≡ count_after (W.failed old) (has_failed answer)
       → (M.coming new ≡ M.coming old) × (M.leftover new ≡ M.leftover old) → SameText → HasSent (G.state old) (G.state new) item answer
   has_sent item answer told count same text = by_state (λ was now. HasSent was now item answer) (record {
     text = record { left = text.0; written = text.1; reads = text.2; writes = text.3 };

@@ -1,37 +1,14 @@
 -- What is read ahead of the requests in hand is bounded, wherever more is read.
-use Rattle.std.proofs.Common.{◌≡◌, ℕ, ◌<◌, ◌≤◌, true, List, [], ◌∷◌, ◌++◌, map, take, length, length-append, refl, sym, ap, ◌∙◌, subst, inr, append_assoc, append-nil, arith}
+use Rattle.asgi_halves.proofs.HalfWords.{◌≡◌, ℕ, ◌<◌, ◌≤◌, true, List, [], ◌∷◌, ◌++◌, map, take, length, length-append, refl, sym, ap, ◌∙◌, subst, inr, append_assoc, append-nil, arith, Facts}
+use Rattle.asgi_halves.proofs.HalfWords.{Framing, Incoming, Limits, Scope, Next, body_events, body_state, BodyState, complete, HasOpened, Reading, StandsFor, body_is_read, whole_is_complete}
+use Rattle.asgi_halves.proofs.HalfWords.{opened_at, opened_plain, prefix_trans, has_ended, InputEnd, BodyProgress, Scene, requests_in, HasGiven, ReadsAt, HoldsFew, piece_size, ReadsAhead, ReadsBody}
+use Rattle.asgi_conversation.proofs.{LoopLemmas.end_seen_within, LoopLemmas.within_reads_more, RequestLemmas.heads_join}
+use Rattle.asgi_conversation.specs.{Exchanges.heads_of, SoFar.Within}
+use Rattle.asgi_exchange.proofs.ListLemmas.{prefix_same}
+use Rattle.asgi_halves.specs.{Half.WithinScene, ReadAhead.ahead_limit}
+use Rattle.asgi_request.proofs.{FirstLemmas.none_gives, FirstLemmas.whole_alone, OpenedLemmas.closed_at, OpenedLemmas.whole_closes, OpenedLemmas.whole_is_closed, StandardLemmas.all_results}
+use Rattle.asgi_request.specs.{Opened.HasClosed, Reading.EndsWhole, Reading.IsWaiting, Results.GivesResults}
 use Rattle.std.proofs.lemmas.List.{length-take-le}
-use Rattle.asgi_types.specs.declared.facts.Facts.{Facts}
-use Rattle.asgi_types.specs.declared.facts.Framing.{Framing}
-use Rattle.asgi_types.specs.declared.incoming.Incoming.{Incoming}
-use Rattle.asgi_types.specs.declared.limits.Limits.{Limits}
-use Rattle.asgi_types.specs.declared.scope.Scope.{Scope}
-use Rattle.asgi_request.specs.declared.next.Next.{Next}
-use Rattle.asgi_request.specs.declared.next.Next.TheVariants.{Head, Event, Whole}
-use Rattle.asgi_request.specs.BodyOf.{body_events, body_state}
-use Rattle.asgi_request.specs.ChunkedBody.{BodyState, complete}
-use Rattle.asgi_request.specs.Opened.{HasOpened, HasClosed}
-use Rattle.asgi_request.specs.Reading.{Reading, StandsFor, EndsWhole, IsWaiting}
-use Rattle.asgi_request.specs.RequestEvents.{ReadsBody}
-use Rattle.asgi_request.specs.Results.{GivesResults}
-use Rattle.asgi_request.proofs.FirstLemmas.{none_gives, whole_alone}
-use Rattle.asgi_request.proofs.BodyOfLemmas.{body_is_read}
-use Rattle.asgi_request.proofs.DueLemmas.{whole_is_complete}
-use Rattle.asgi_request.proofs.OpenedLemmas.{closed_at, opened_at, opened_plain, whole_closes, whole_is_closed}
-use Rattle.asgi_request.proofs.StandardLemmas.{all_results}
-use Rattle.asgi_exchange.proofs.ListLemmas.{prefix_trans, prefix_same}
-use Rattle.asgi_conversation.specs.Exchanges.{heads_of}
-use Rattle.asgi_conversation.specs.SoFar.{Within}
-use Rattle.asgi_conversation.specs.TaskEnds.{has_ended}
-use Rattle.asgi_conversation.specs.declared.input.InputEnd.{InputEnd}
-use Rattle.asgi_conversation.proofs.LoopLemmas.{within_reads_more, end_seen_within}
-use Rattle.asgi_conversation.proofs.RequestLemmas.{heads_join}
-use Rattle.asgi_halves.specs.declared.half.BodyProgress.{BodyProgress}
-use Rattle.asgi_halves.specs.declared.half.BodyProgress.TheVariants as body
-use Rattle.asgi_halves.specs.Half.{Scene, WithinScene, requests_in, HasGiven}
-use Rattle.asgi_halves.specs.private.HalfSteps.{ReadsAt, HoldsFew}
-use Rattle.asgi_run.specs.Lines.{piece_size}
-use Rattle.asgi_halves.specs.ReadAhead.{ReadsAhead, ahead_limit}
 
 -- ---- at the beginning, and before more requests
 
@@ -91,21 +68,21 @@ reads_after limits read more given requests held closed heads few short =
 
 -- ---- the events of a body are no heads
 
-no_heads : (events : List Incoming) → heads_of (map Event events) ≡ []
+no_heads : (events : List Incoming) → heads_of (map Next.Event events) ≡ []
 no_heads [] = refl
 no_heads (event ∷ events) = no_heads events
 
-pub heads_in_body : (opened : List Next) (events : List Incoming) → heads_of (opened ++ map Event events) ≡ heads_of opened
-heads_in_body opened events = heads_join opened (map Event events) ∙ ap (λ (l : List (Scope × Facts)). heads_of opened ++ l) (no_heads events) ∙ append-nil (heads_of opened)
+pub heads_in_body : (opened : List Next) (events : List Incoming) → heads_of (opened ++ map Next.Event events) ≡ heads_of opened
+heads_in_body opened events = heads_join opened (map Next.Event events) ∙ ap (λ (l : List (Scope × Facts)). heads_of opened ++ l) (no_heads events) ∙ append-nil (heads_of opened)
 
-pub heads_after : (opened : List Next) (events : List Incoming) → heads_of (opened ++ (map Event events ++ Whole ∷ [])) ≡ heads_of opened
+pub heads_after : (opened : List Next) (events : List Incoming) → heads_of (opened ++ (map Next.Event events ++ Next.Whole ∷ [])) ≡ heads_of opened
 heads_after opened events =
-    ap heads_of (sym (append_assoc opened (map Event events) (Whole ∷ []))) ∙ heads_join (opened ++ map Event events) (Whole ∷ []) ∙ append-nil (heads_of (opened ++ map Event events))
+    ap heads_of (sym (append_assoc opened (map Next.Event events) (Next.Whole ∷ []))) ∙ heads_join (opened ++ map Next.Event events) (Next.Whole ∷ []) ∙ append-nil (heads_of (opened ++ map Next.Event events))
     ∙ heads_in_body opened events
 
 -- one more
-pub heads_more : (given : List Next) (scope : Scope) (facts : Facts) → heads_of (given ++ Head scope facts ∷ []) ≡ heads_of given ++ (scope, facts) ∷ []
-heads_more given scope facts = heads_join given (Head scope facts ∷ [])
+pub heads_more : (given : List Next) (scope : Scope) (facts : Facts) → heads_of (given ++ Next.Head scope facts ∷ []) ≡ heads_of given ++ (scope, facts) ∷ []
+heads_more given scope facts = heads_join given (Next.Head scope facts ∷ [])
 
 -- ---- in an exchange
 
@@ -124,7 +101,7 @@ within_reads scene limits old new read more arrived x on ahead =
 module _ (reader : Reading) (read more : List ℕ) (opened : List Next) (framing : Framing) (arrived : List ℕ) (x : HasOpened reader.limits read opened framing arrived)
     (events : List Incoming) (requests : List (Scope × Facts)) (heads : heads_of opened ≡ requests) (short : length more ≤ piece_size) where
   -- after a whole request another may follow
-  closes : StandsFor reader read (opened ++ (map Event events ++ Whole ∷ [])) → (after : List ℕ) × HasClosed reader.limits read (opened ++ (map Event events ++ Whole ∷ [])) after
+  closes : StandsFor reader read (opened ++ (map Next.Event events ++ Next.Whole ∷ [])) → (after : List ℕ) × HasClosed reader.limits read (opened ++ (map Next.Event events ++ Next.Whole ∷ [])) after
   closes given =
       let due = body_events reader.limits framing arrived in
       let known = whole_is_complete reader.limits read opened framing arrived due (body_state reader.limits framing arrived) reader.place reader.held
@@ -135,17 +112,17 @@ module _ (reader : Reading) (read more : List ℕ) (opened : List Next) (framing
       let body = subst E (sym known.0) (subst S known.1.1 (body_is_read reader.limits framing arrived)) in
       (after, whole_closes reader.limits read opened framing arrived events after x body)
 
-  pub reads_in : (at : BodyProgress) → ReadsAt at → HasGiven reader read opened events at → (at ≡ body.Open → IsWaiting reader) → (at ≡ body.Whole → HoldsFew reader)
+  pub reads_in : (at : BodyProgress) → ReadsAt at → HasGiven reader read opened events at → (at ≡ BodyProgress.Open → IsWaiting reader) → (at ≡ BodyProgress.Whole → HoldsFew reader)
       → ReadsAhead reader.limits (read ++ more) requests
-  reads_in body.Open reads given asked few =
-      let all = all_results reader.limits reader.limits.block_in_range.0 read (opened ++ map Event events) reader.place reader.held given (asked refl) in
-      reads_at_need reader.limits read more (opened ++ map Event events) requests all.0 all.1 (heads_in_body opened events ∙ heads) short
-  reads_in body.Whole reads given asked few =
-      let all : List Next = opened ++ (map Event events ++ Whole ∷ []) in
-      let ends : EndsWhole all = inr (opened ++ map Event events, sym (append_assoc opened (map Event events) (Whole ∷ []))) in
+  reads_in BodyProgress.Open reads given asked few =
+      let all = all_results reader.limits reader.limits.block_in_range.0 read (opened ++ map Next.Event events) reader.place reader.held given (asked refl) in
+      reads_at_need reader.limits read more (opened ++ map Next.Event events) requests all.0 all.1 (heads_in_body opened events ∙ heads) short
+  reads_in BodyProgress.Whole reads given asked few =
+      let all : List Next = opened ++ (map Next.Event events ++ Next.Whole ∷ []) in
+      let ends : EndsWhole all = inr (opened ++ map Next.Event events, sym (append_assoc opened (map Next.Event events) (Next.Whole ∷ []))) in
       let held = few refl read all given ends in
       let closed = closes given in
       reads_after reader.limits read more all requests held.0 (whole_is_closed reader read all closed.0 held.0 closed.1 held.1) (heads_after opened events ∙ heads) held.2 short
-  reads_in (body.Waits event) reads given asked few = absurd reads
-  reads_in (body.Refused status) reads given asked few = absurd reads
-  reads_in body.BrokenOff reads given asked few = absurd reads
+  reads_in (BodyProgress.Waits event) reads given asked few = absurd reads
+  reads_in (BodyProgress.Refused status) reads given asked few = absurd reads
+  reads_in BodyProgress.BrokenOff reads given asked few = absurd reads

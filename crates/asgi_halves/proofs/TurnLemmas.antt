@@ -1,58 +1,45 @@
 -- What the half's end of the pair gives it, in an exchange of any kind.
-use Rattle.std.proofs.Common.{◌≡◌, ℕ, ◌+◌, ◌<◌, arith, length, length-append, Bool, true, false, List, [], ◌∷◌, ◌++◌, refl, sym, ap, ◌∙◌, subst, inl, inr, append-nil, Option, Some, None}
-use Rattle.std.specs.List.{count_by}
-use Rattle.std.specs.Prelude.{◌⊎◌, not, is_some, IsTrue, IsFalse}
-use Rattle.asgi_types.specs.declared.end_kind.EndKind.{EndKind}
-use Rattle.asgi_types.specs.declared.outgoing.Outgoing.{Outgoing}
-use Rattle.asgi_pipes.specs.declared.ends.ConnEnd as conn_end
-use Rattle.asgi_pipes.specs.declared.items.OutItem.{OutItem}
-use Rattle.asgi_pipes.specs.declared.items.OutItem.TheVariants.{Event, Ended}
-use Rattle.asgi_exchange.specs.Calls.{IsViewOf}
-use Rattle.asgi_exchange.specs.Views.{Break, ByCut, ConnView}
-use Rattle.asgi_ws.specs.Lines.{LineState}
-use Rattle.asgi_ws.specs.Sessions.{is_read}
+use Rattle.asgi_halves.proofs.HalfWords.{◌≡◌, ℕ, ◌+◌, ◌<◌, arith, length, length-append, Bool, true, false, List, [], ◌∷◌, ◌++◌, refl, sym, ap, ◌∙◌, subst, inl, inr, append-nil, Option, Some, None}
+use Rattle.asgi_halves.proofs.HalfWords.{count_by, ◌⊎◌, not, is_some, EndKind, Outgoing, OutItem, IsViewOf, Break, ByCut, ConnView, LineState, is_read, Incoming, Turn, NextStep, Stage, HasEnded}
+use Rattle.asgi_halves.proofs.HalfWords.{HasGrown, IsCutOff, IsTurnOfRead, NoRead, OfBytes, OfMessage, ReadsNone, TakesNone, ConnGhosts}
+use Rattle.asgi_halves.specs.Kinds.{AwaitsEnd, HasRested, HasWorked, IsOneMore, OffersAll, OffersMost}
 use Rattle.asgi_ws.specs.Sides.{Session}
-use Rattle.asgi_types.specs.declared.incoming.Incoming.{Incoming}
-use Rattle.asgi_io.specs.declared.turns.Turn.{Turn}
-use Rattle.asgi_conversation.specs.declared.following.NextStep.{NextStep}
-use Rattle.asgi_halves.specs.declared.stage.Stage.{Stage}
-use Rattle.asgi_halves.specs.declared.stage.Stage.TheVariants.{Running, Ending, Cut, Over}
-use Rattle.asgi_halves.specs.Kinds.{AwaitsEnd, HasEnded, HasGrown, HasRested, HasWorked, IsCutOff, IsOneMore, IsTurnOfRead, NoRead, OfBytes, OfMessage, OffersAll, OffersMost, ReadsNone, TakesNone}
+use Rattle.std.specs.Prelude.{IsFalse, IsTrue}
 
 module _ {S H A W : Type 0} (stands : S → LineState → H → List ℕ → ConnView A W → Type 0) where
   still : (scene : S) (now : LineState) (half : H) (read : List ℕ) (view : ConnView A W) → stands scene now half read view → stands scene now half (read ++ []) view
   still scene now half read view x = subst (λ (l : List ℕ). stands scene now half l view) (sym (append-nil read)) x
 
-  module _ (E : Type 0) (C : conn_end.Ghosts E) (scene : S) (now : LineState) (half : H) (read : List ℕ) (view : ConnView A W) (old new : E) (is_view : IsViewOf C old view)
+  module _ (E : Type 0) (C : ConnGhosts E) (scene : S) (now : LineState) (half : H) (read : List ℕ) (view : ConnView A W) (old new : E) (is_view : IsViewOf C old view)
       (offered : C.offered new ≡ C.offered old) (broken : C.is_broken new ≡ C.is_broken old) where
     -- nothing was there to take
     pub took_none : C.got new ≡ C.got old → stands scene now half read view → (more : List ℕ) × (later : ConnView A W) × stands scene now half (read ++ more) later × IsViewOf C new later
     took_none got x = ([], view, still scene now half read view x, (is_view.0 ∙ sym offered, is_view.1 ∙ sym broken, is_view.2 ∙ sym got))
 
     -- the end was
-    pub took_end : (kind : EndKind) → C.got new ≡ C.got old ++ Ended kind ∷ []
-        → (first : Bool) × stands scene now half read (record view { got = view.got ++ Ended kind ∷ []; broken_first = first })
+    pub took_end : (kind : EndKind) → C.got new ≡ C.got old ++ OutItem.Ended kind ∷ []
+        → (first : Bool) × stands scene now half read (record view { got = view.got ++ OutItem.Ended kind ∷ []; broken_first = first })
         → (more : List ℕ) × (later : ConnView A W) × stands scene now half (read ++ more) later × IsViewOf C new later
     took_end kind got x = (
       [],
-      record view { got = view.got ++ Ended kind ∷ []; broken_first = x.0 },
-      still scene now half read (record view { got = view.got ++ Ended kind ∷ []; broken_first = x.0 }) x.1,
-      (is_view.0 ∙ sym offered, is_view.1 ∙ sym broken, ap (λ (l : List OutItem). l ++ Ended kind ∷ []) is_view.2 ∙ sym got),
+      record view { got = view.got ++ OutItem.Ended kind ∷ []; broken_first = x.0 },
+      still scene now half read (record view { got = view.got ++ OutItem.Ended kind ∷ []; broken_first = x.0 }) x.1,
+      (is_view.0 ∙ sym offered, is_view.1 ∙ sym broken, ap (λ (l : List OutItem). l ++ OutItem.Ended kind ∷ []) is_view.2 ∙ sym got),
     )
 
     -- an event was, and it is written
-    pub took_event : (event : Outgoing) → C.got new ≡ C.got old ++ Event event ∷ []
-        → (written : List W) × stands scene now half read (record view { got = view.got ++ Event event ∷ []; written = written })
+    pub took_event : (event : Outgoing) → C.got new ≡ C.got old ++ OutItem.Event event ∷ []
+        → (written : List W) × stands scene now half read (record view { got = view.got ++ OutItem.Event event ∷ []; written = written })
         → (more : List ℕ) × (later : ConnView A W) × stands scene now half (read ++ more) later × IsViewOf C new later
     took_event event got x = (
       [],
-      record view { got = view.got ++ Event event ∷ []; written = x.0 },
-      still scene now half read (record view { got = view.got ++ Event event ∷ []; written = x.0 }) x.1,
-      (is_view.0 ∙ sym offered, is_view.1 ∙ sym broken, ap (λ (l : List OutItem). l ++ Event event ∷ []) is_view.2 ∙ sym got),
+      record view { got = view.got ++ OutItem.Event event ∷ []; written = x.0 },
+      still scene now half read (record view { got = view.got ++ OutItem.Event event ∷ []; written = x.0 }) x.1,
+      (is_view.0 ∙ sym offered, is_view.1 ∙ sym broken, ap (λ (l : List OutItem). l ++ OutItem.Event event ∷ []) is_view.2 ∙ sym got),
     )
 
 -- the end of a connection that is cut off, by what offering the disconnect answers
-offers : {A W C : Type 0} (E : conn_end.Ghosts C) (old new : C) (view : ConnView A W) (first : Bool) (event : Incoming) → IsViewOf E old view → first ≡ not (E.is_broken old)
+offers : {A W C : Type 0} (E : ConnGhosts C) (old new : C) (view : ConnView A W) (first : Bool) (event : Incoming) → IsViewOf E old view → first ≡ not (E.is_broken old)
     → (IsTrue first → E.offered new ≡ E.offered old ++ event ∷ []) → (IsFalse first → new ≡ old) → E.is_broken new ≡ true → E.got new ≡ E.got old
     → (later : ConnView A W)
     × ((later ≡ view) ⊎ ((view.broken ≡ None) × (later ≡ record view { offered = view.offered ++ event ∷ []; broken = Some ByCut }))) × IsViewOf E new later
@@ -72,7 +59,7 @@ offers {C = C} E old new view true event v is on_first on_later broken got = (
 offers {C = C} E old new view false event v is on_first on_later broken got =
     (view, inl refl, subst (λ (c : C). IsViewOf E c view) (sym (on_later refl)) v)
 
-pub offers_cut : {A W C : Type 0} (E : conn_end.Ghosts C) (old new : C) (view : ConnView A W) (first : Bool) (event cut : Incoming) → event ≡ cut → IsViewOf E old view → first ≡ not (E.is_broken old)
+pub offers_cut : {A W C : Type 0} (E : ConnGhosts C) (old new : C) (view : ConnView A W) (first : Bool) (event cut : Incoming) → event ≡ cut → IsViewOf E old view → first ≡ not (E.is_broken old)
     → (IsTrue first → E.offered new ≡ E.offered old ++ event ∷ []) → (IsFalse first → new ≡ old) → E.is_broken new ≡ true → E.got new ≡ E.got old
     → (later : ConnView A W) × IsCutOff cut view later × IsViewOf E new later
 offers_cut E old new view first event cut is v is_first on_first on_later broken got =
@@ -101,7 +88,7 @@ rests_else was now turn then (NoRead rests same idle) = NoRead (then rests) same
 rests_else was now turn then (OfBytes answer told same is) = OfBytes answer told same is
 rests_else was now turn then (OfMessage answer told same is) = OfMessage answer told same is
 
-module _ {C : Type 0} (E : conn_end.Ghosts C) (old mid new : C) (took offered goes_on : Bool) (taken : HasGrown took (E.got old) (E.got mid)) (kept : E.offered mid ≡ E.offered old)
+module _ {C : Type 0} (E : ConnGhosts C) (old mid new : C) (took offered goes_on : Bool) (taken : HasGrown took (E.got old) (E.got mid)) (kept : E.offered mid ≡ E.offered old)
     (none : TakesNone E mid new) (grown : HasGrown offered (E.offered mid) (E.offered new)) where
   -- something was done
   by_taking : took ≡ true → HasGrown took (E.got old) (E.got mid) → length (E.got old) < length (E.got new)
@@ -123,7 +110,7 @@ module _ {C : Type 0} (E : conn_end.Ghosts C) (old mid new : C) (took offered go
     subst (λ (b : Bool). HasGrown b (E.offered mid) (E.offered new)) no_event grown ∙ kept,
   )
 
-pub not_worked : {C : Type 0} (E : conn_end.Ghosts C) (goes_on : Bool) (old new : C) → HasRested E goes_on old new → HasWorked E goes_on old new → ⊥
+pub not_worked : {C : Type 0} (E : ConnGhosts C) (goes_on : Bool) (old new : C) → HasRested E goes_on old new → HasWorked E goes_on old new → ⊥
 not_worked E goes_on old new rests (inl is) = cc (rests.0, is)
 not_worked E goes_on old new rests (inr (inl longer)) = omega (arith, longer, ap length rests.1)
 not_worked E goes_on old new rests (inr (inr longer)) = omega (arith, longer, ap length rests.2)
@@ -135,47 +122,47 @@ unread_then was mid now first second = (second.0 ∙ first.0, second.1 ∙ first
 pub writing_reads_none : (was now : LineState) → now.reads ≡ was.reads → now.session ≡ was.session → ReadsNone was now
 writing_reads_none was now reads session = (reads, ap (λ (s : Session). count_by is_read s.calls) session)
 
-pub none_then : {C : Type 0} (E : conn_end.Ghosts C) (a b c : C) → TakesNone E a b → TakesNone E b c → TakesNone E a c
+pub none_then : {C : Type 0} (E : ConnGhosts C) (a b c : C) → TakesNone E a b → TakesNone E b c → TakesNone E a c
 none_then E a b c x y = (y.0 ∙ x.0, y.1 ∙ x.1)
 
 -- the disconnect is offered once
-pub disconnect_is_one : {C : Type 0} (E : conn_end.Ghosts C) (old new : C) (first : Bool) (event : Incoming) → (IsTrue first → E.offered new ≡ E.offered old ++ event ∷ []) → (IsFalse first → new ≡ old)
+pub disconnect_is_one : {C : Type 0} (E : ConnGhosts C) (old new : C) (first : Bool) (event : Incoming) → (IsTrue first → E.offered new ≡ E.offered old ++ event ∷ []) → (IsFalse first → new ≡ old)
     → (E.got new ≡ E.got old) × (E.seen new ≡ E.seen old) → IsOneMore first (E.offered old) (E.offered new) × TakesNone E old new
 disconnect_is_one E old new true event on_first on_later same = ((event, on_first refl), same)
 disconnect_is_one E old new false event on_first on_later same = (ap E.offered (on_later refl), same)
 
 -- all that was there is still taken
-pub all_taken : {C : Type 0} (E : conn_end.Ghosts C) (mid new : C) (Stops Other : Type 0) (places : ℕ) → TakesNone E mid new → (Stops → ⊥) → (E.seen mid ≡ []) ⊎ Stops ⊎ (length (E.got mid) ≡ places)
+pub all_taken : {C : Type 0} (E : ConnGhosts C) (mid new : C) (Stops Other : Type 0) (places : ℕ) → TakesNone E mid new → (Stops → ⊥) → (E.seen mid ≡ []) ⊎ Stops ⊎ (length (E.got mid) ≡ places)
     → (E.seen new ≡ []) ⊎ Other ⊎ (length (E.got new) ≡ places)
 all_taken E mid new Stops Other places none runs (inl empty) = inl (none.1 ∙ empty)
 all_taken E mid new Stops Other places none runs (inr (inl stops)) = absurd (runs stops)
 all_taken E mid new Stops Other places none runs (inr (inr most)) = inr (inr (ap length none.0 ∙ most))
 
 -- what was offered is all, by what is known of the half afterwards
-pub all_offered : {C : Type 0} (E : conn_end.Ghosts C) (old mid new : C) (Before After : Type 0) (most : Bool) (ring : ℕ) → most ≡ false → (Before → After)
+pub all_offered : {C : Type 0} (E : ConnGhosts C) (old mid new : C) (Before After : Type 0) (most : Bool) (ring : ℕ) → most ≡ false → (Before → After)
     → OffersAll E Before new ⊎ (IsTrue most × OffersMost E ring mid new) → OffersAll E After new
 all_offered E old mid new Before After most ring none then (inl (inl before)) = inl (then before)
 all_offered E old mid new Before After most ring none then (inl (inr full)) = inr full
 all_offered E old mid new Before After most ring none then (inr more) = absurd (cc (none, more.0))
 
-pub most_offered : {C : Type 0} (E : conn_end.Ghosts C) (old mid new : C) (NoneDue : Type 0) (most : Bool) (ring : ℕ) → E.offered mid ≡ E.offered old
+pub most_offered : {C : Type 0} (E : ConnGhosts C) (old mid new : C) (NoneDue : Type 0) (most : Bool) (ring : ℕ) → E.offered mid ≡ E.offered old
     → OffersAll E NoneDue new ⊎ (IsTrue most × OffersMost E ring mid new) → OffersAll E NoneDue new ⊎ OffersMost E ring old new
 most_offered E old mid new NoneDue most ring kept (inl all) = inl all
 most_offered E old mid new NoneDue most ring kept (inr more) = inr (more.1 ∙ ap (λ (l : List Incoming). length l + ring) kept)
 
 -- ---- the stages
 
-pub ended_not_running : (stage : Stage) → HasEnded stage → stage ≡ Running → ⊥
+pub ended_not_running : (stage : Stage) → HasEnded stage → stage ≡ Stage.Running → ⊥
 ended_not_running stage ended is = subst (λ (s : Stage). HasEnded s) is ended
 
 pub ended_awaits_none : (stage : Stage) → HasEnded stage → AwaitsEnd stage → ⊥
-ended_awaits_none Running ended awaits = ended
-ended_awaits_none (Ending kind) ended awaits = awaits
-ended_awaits_none (Cut outcome) ended awaits = ended
-ended_awaits_none (Over following) ended awaits = awaits
+ended_awaits_none Stage.Running ended awaits = ended
+ended_awaits_none (Stage.Ending kind) ended awaits = awaits
+ended_awaits_none (Stage.Cut outcome) ended awaits = ended
+ended_awaits_none (Stage.Over following) ended awaits = awaits
 
-pub over_has_ended : (stage : Stage) → (following : NextStep) × (stage ≡ Over following) → HasEnded stage
+pub over_has_ended : (stage : Stage) → (following : NextStep) × (stage ≡ Stage.Over following) → HasEnded stage
 over_has_ended stage over = subst (λ (s : Stage). HasEnded s) (sym over.1) tt
 
-pub over_not_ending : (stage : Stage) → (following : NextStep) × (stage ≡ Over following) → (kind : EndKind) → stage ≡ Ending kind → ⊥
-over_not_ending stage over kind is = let never : Over over.0 ≡ Ending kind = sym over.1 ∙ is in cc
+pub over_not_ending : (stage : Stage) → (following : NextStep) × (stage ≡ Stage.Over following) → (kind : EndKind) → stage ≡ Stage.Ending kind → ⊥
+over_not_ending stage over kind is = let never : Stage.Over over.0 ≡ Stage.Ending kind = sym over.1 ∙ is in cc

@@ -1,11 +1,8 @@
-use Rattle.std.proofs.Common.{◌++◌, map, subst}
-use Rattle.asgi_request.specs.declared.next.Next.{Next}
-use Rattle.asgi_request.specs.declared.next.Next.TheVariants as next
-use Rattle.asgi_halves.specs.private.HalfSteps.{GaveNext}
+use Rattle.asgi_halves.proofs.HalfWords.{◌++◌, map, subst, Next, GaveNext}
 use Rattle.asgi_halves.proofs.HalfBodyLemmas.{no_head}
 use Rattle.asgi_halves.proofs.half.body_of.Goals as goal
 
 pub returns-clause-gives : goal.returns-clause-gives
 returns-clause-gives c reader read opened framing arrived events x gave =
     absurd (no_head reader read opened framing arrived x events c.in-Head.field-0 c.in-Head.field-1
-    (subst (λ (n : Next). GaveNext reader read (opened ++ map next.Event events) n) c.in-Head.is gave))
+    (subst (λ (n : Next). GaveNext reader read (opened ++ map Next.Event events) n) c.in-Head.is gave))

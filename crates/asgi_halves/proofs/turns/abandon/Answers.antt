@@ -1,6 +1,4 @@
-use Rattle.std.proofs.Common.{sym, subst, inl, inr, ◌∙◌}
-use Rattle.asgi_halves.specs.declared.stage.Stage.{Stage}
-use Rattle.asgi_halves.specs.Kinds.{IsOpen}
+use Rattle.asgi_halves.proofs.HalfWords.{sym, subst, inl, inr, ◌∙◌, Stage, IsOpen}
 use Rattle.asgi_halves.proofs.TurnLemmas.{offers_cut}
 use Rattle.asgi_halves.proofs.turns.abandon.Goals as goal
 

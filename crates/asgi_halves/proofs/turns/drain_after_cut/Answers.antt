@@ -1,6 +1,4 @@
-use Rattle.std.proofs.Common.{sym, ap, ◌∙◌, List, ◌++◌, ◌∷◌, []}
-use Rattle.asgi_pipes.specs.declared.items.OutItem.{OutItem}
-use Rattle.asgi_pipes.specs.declared.items.OutItem.TheVariants.{Event, Ended}
+use Rattle.asgi_halves.proofs.HalfWords.{sym, ap, ◌∙◌, List, ◌++◌, ◌∷◌, [], OutItem}
 use Rattle.asgi_halves.proofs.TurnLemmas.{offers_cut}
 use Rattle.asgi_halves.proofs.turns.drain_after_cut.Goals as goal
 
@@ -24,7 +22,7 @@ returns-in-Some-Event-clause-leads g c scene line read view x v =
       (
         off.2.0 ∙ sym kept.0,
         off.2.1 ∙ sym kept.1,
-        ap (λ (l : List OutItem). l ++ Event item ∷ []) off.2.2 ∙ sym (c.in-Some-Event.ensures.some.0 ∙ ap (λ (i : OutItem). g.C.ConnEnd.got c.offer_disconnect-first.new.self ++ i ∷ []) c.in-Some-Event.field-0-is),
+        ap (λ (l : List OutItem). l ++ OutItem.Event item ∷ []) off.2.2 ∙ sym (c.in-Some-Event.ensures.some.0 ∙ ap (λ (i : OutItem). g.C.ConnEnd.got c.offer_disconnect-first.new.self ++ i ∷ []) c.in-Some-Event.field-0-is),
       ),
     )
 
@@ -40,6 +38,6 @@ returns-clause-leads g c scene line read view x v =
       (
         off.2.0 ∙ sym kept.0,
         off.2.1 ∙ sym kept.1,
-        ap (λ (l : List OutItem). l ++ Ended item ∷ []) off.2.2 ∙ sym (c.in-Some-Ended.ensures.some.0 ∙ ap (λ (i : OutItem). g.C.ConnEnd.got c.offer_disconnect-first.new.self ++ i ∷ []) c.in-Some-Ended.field-0-is),
+        ap (λ (l : List OutItem). l ++ OutItem.Ended item ∷ []) off.2.2 ∙ sym (c.in-Some-Ended.ensures.some.0 ∙ ap (λ (i : OutItem). g.C.ConnEnd.got c.offer_disconnect-first.new.self ++ i ∷ []) c.in-Some-Ended.field-0-is),
       ),
     )

@@ -1,8 +1,6 @@
-use Rattle.std.proofs.Common.{inl, inr, refl, rules, subst}
-use Rattle.asgi_exchange.specs.Calls.{IsViewOf}
-use Rattle.asgi_run.proofs.LeadsLemmas.{leads_then, leads_out, taken_and_offered}
-use Rattle.asgi_ws.specs.Lines.{LineState}
-use Rattle.asgi_halves.specs.Kinds.{IsTurnOfRead}
+use Rattle.asgi_halves.proofs.HalfWords.{inl, inr, refl, subst, IsViewOf, leads_then, leads_out, LineState, IsTurnOfRead}
+use Rattle.asgi_run.proofs.LeadsLemmas.{taken_and_offered}
+use Rattle.std.proofs.Common.{rules}
 use Rattle.asgi_halves.proofs.TurnLemmas.{all_offered, all_taken, ended_awaits_none, ended_not_running, most_offered, not_worked, rested, worked}
 use Rattle.asgi_halves.proofs.turns.run.Goals as goal
 

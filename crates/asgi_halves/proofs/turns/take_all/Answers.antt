@@ -1,6 +1,4 @@
-use Rattle.std.proofs.Common.{◌∙◌, refl, arith}
-use Rattle.asgi_exchange.specs.Calls.{IsViewOf}
-use Rattle.asgi_run.proofs.LeadsLemmas.{leads_none, leads_then}
+use Rattle.asgi_halves.proofs.HalfWords.{◌∙◌, refl, arith, IsViewOf, leads_none, leads_then}
 use Rattle.asgi_halves.proofs.TurnLemmas.{one_longer, unread_then}
 use Rattle.asgi_halves.proofs.turns.take_all.Goals as goal
 

@@ -1,6 +1,4 @@
-use Rattle.std.proofs.Common.{◌≡◌, ◌+◌, false, length}
-use Rattle.asgi_exchange.specs.Calls.{IsViewOf}
-use Rattle.asgi_halves.specs.Kinds.{HasGrown, ReadsNone}
+use Rattle.asgi_halves.proofs.HalfWords.{◌≡◌, ◌+◌, false, length, IsViewOf, HasGrown, ReadsNone}
 use Rattle.asgi_run.specs.AnyHalf.{PreservesOn}
 use Rattle.asgi_halves.proofs.turns.take_all.Given as goal
 

@@ -1,5 +1,4 @@
-use Rattle.std.proofs.Common.{◌++◌, ◌∷◌, [], ap, ◌∙◌}
-use Rattle.asgi_pipes.specs.declared.items.OutItem.{OutItem}
+use Rattle.asgi_halves.proofs.HalfWords.{◌++◌, ◌∷◌, [], ap, ◌∙◌, OutItem}
 use Rattle.asgi_halves.proofs.TurnLemmas.{took_none, took_end, took_event}
 use Rattle.asgi_halves.proofs.turns.take_one.Goals as goal
 

@@ -1,5 +1,5 @@
-use Rattle.asgi_exchange.specs.Calls.{IsViewOf}
-use Rattle.asgi_run.proofs.LeadsLemmas.{leads_none, leads_in, leads_out}
+use Rattle.asgi_halves.proofs.HalfWords.{IsViewOf, leads_none, leads_out}
+use Rattle.asgi_run.proofs.LeadsLemmas.{leads_in}
 use Rattle.asgi_halves.proofs.turns.turn.Goals as goal
 
 pub returns-in-Ending-clause-leads : goal.returns-in-Ending-clause-leads

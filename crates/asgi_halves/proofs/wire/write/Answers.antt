@@ -1,9 +1,5 @@
-use Rattle.std.proofs.Common.{◌≡◌, ◌<◌, inr, take, length}
-use Rattle.std.specs.Io.KnownBytes.{Appends}
-use Rattle.asgi_io.specs.declared.write.Wrote.TheVariants.{Done, Failed}
-use Rattle.asgi_io.specs.Counting.{RoseBy}
-use Rattle.asgi_io.specs.Writing.{TriesWrites}
-use Rattle.asgi_run.proofs.LineLemmas.{session_is}
+use Rattle.asgi_halves.proofs.HalfWords.{◌≡◌, ◌<◌, inr, take, length, Appends, RoseBy, TriesWrites, session_is}
+use Rattle.asgi_io.specs.declared.write.Wrote.{Wrote}
 use Rattle.asgi_halves.proofs.LineCallLemmas.{by_state}
 use Rattle.asgi_halves.proofs.wire.write.Goals as goal
 
@@ -20,7 +16,7 @@ returns-in-Failed-clause-some g c =
 pub returns-in-Done-clause-tries : goal.returns-in-Done-clause-tries
 returns-in-Done-clause-tries g c =
     by_state g.L.Line g.L.Reads g.L.Counts g.L.Messages g.met.L.Line.state_is c.args.line.now c.write_out.new.writer
-    (λ was now. TriesWrites was.writes now.writes (length c.args.text.now) Done) (c.in-Done.ensures.tries)
+    (λ was now. TriesWrites was.writes now.writes (length c.args.text.now) Wrote.Done) (c.in-Done.ensures.tries)
 
 pub returns-in-Done-clause-reads : goal.returns-in-Done-clause-reads
 returns-in-Done-clause-reads g c =
@@ -35,7 +31,7 @@ returns-in-Done-clause-session g c =
 pub returns-in-Failed-clause-tries : goal.returns-in-Failed-clause-tries
 returns-in-Failed-clause-tries g c =
     by_state g.L.Line g.L.Reads g.L.Counts g.L.Messages g.met.L.Line.state_is c.args.line.now c.write_out.new.writer
-    (λ was now. TriesWrites was.writes now.writes (c.in-Failed.n) (Failed c.in-Failed.n)) (c.in-Failed.ensures.tries)
+    (λ was now. TriesWrites was.writes now.writes (c.in-Failed.n) (Wrote.Failed c.in-Failed.n)) (c.in-Failed.ensures.tries)
 
 pub returns-in-Failed-clause-reads : goal.returns-in-Failed-clause-reads
 returns-in-Failed-clause-reads g c =

@@ -1,24 +1,19 @@
-use Rattle.std.proofs.Common.{◌++◌, ◌∷◌, [], List, ap, sym, ◌∙◌, Some}
-use Rattle.std.specs.Prelude.{is_some, not}
-use Rattle.asgi_types.specs.declared.incoming.Incoming.{Incoming}
-use Rattle.asgi_types.specs.declared.incoming.Incoming.TheVariants.{HttpDisconnect}
-use Rattle.asgi_exchange.specs.Views.{ByInput}
-use Rattle.asgi_halves.proofs.HalfInLemmas.{broken_off, none_broke}
-use Rattle.asgi_halves.proofs.TurnLemmas.{disconnect_is_one}
+use Rattle.asgi_halves.proofs.HalfWords.{◌++◌, ◌∷◌, [], List, ap, sym, ◌∙◌, Some, is_some, not, Incoming, ByInput}
+use Rattle.asgi_halves.proofs.{HalfInLemmas.broken_off, HalfInLemmas.none_broke, TurnLemmas.disconnect_is_one}
 use Rattle.asgi_halves.proofs.half.HttpHalf.break_off.Goals as goal
 
 pub returns-clause-leads : goal.returns-clause-leads
 returns-clause-leads g c scene line read view x is_view =
     let half = c.args.self.now in
-    let unbroken = sym is_view.1 ∙ ap is_some (none_broke scene line half read view x c.requires.running.0 c.requires.running.1) in
+    let unbroken = sym is_view.1 ∙ ap is_some (none_broke x c.requires.running.0 c.requires.running.1) in
     let offered = c.offer_disconnect.ensures.yes (c.offer_disconnect.ensures.first ∙ ap not unbroken) in
     let same = c.offer_disconnect.ensures.same in (
-      record view { offered = view.offered ++ HttpDisconnect ∷ []; broken = Some ByInput },
-      broken_off scene line half read view x c.requires.running.0 c.requires.running.1 c.requires.due,
-      (ap (λ (l : List Incoming). l ++ HttpDisconnect ∷ []) is_view.0 ∙ sym offered, sym c.offer_disconnect.ensures.broken, is_view.2 ∙ sym same.0),
+      record view { offered = view.offered ++ Incoming.HttpDisconnect ∷ []; broken = Some ByInput },
+      broken_off x c.requires.running.0 c.requires.running.1 c.requires.due,
+      (ap (λ (l : List Incoming). l ++ Incoming.HttpDisconnect ∷ []) is_view.0 ∙ sym offered, sym c.offer_disconnect.ensures.broken, is_view.2 ∙ sym same.0),
     )
 
 pub returns-clause-one : goal.returns-clause-one
 returns-clause-one g c =
     let o = c.offer_disconnect.ensures in
-    disconnect_is_one g.C.ConnEnd c.args.end.now c.offer_disconnect.new.self c.offer_disconnect.result HttpDisconnect o.yes o.no o.same
+    disconnect_is_one g.C.ConnEnd c.args.end.now c.offer_disconnect.new.self c.offer_disconnect.result Incoming.HttpDisconnect o.yes o.no o.same

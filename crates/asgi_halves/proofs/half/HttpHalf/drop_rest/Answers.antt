@@ -1,7 +1,4 @@
-use Rattle.std.proofs.Common.{ap, sym, subst}
-use Rattle.asgi_request.specs.Reading.{Reading}
-use Rattle.asgi_halves.specs.private.HalfSteps.{HasAsked}
-use Rattle.asgi_halves.specs.declared.half.HttpHalf.{HttpHalf}
+use Rattle.asgi_halves.proofs.HalfWords.{ap, sym, subst, Reading, HasAsked, HttpHalf}
 use Rattle.asgi_halves.proofs.HalfEndLemmas.{dropped_then, pulled}
 use Rattle.asgi_halves.proofs.half.HttpHalf.drop_rest.Goals as goal
 

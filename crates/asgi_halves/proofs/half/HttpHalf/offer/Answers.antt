@@ -1,8 +1,4 @@
-use Rattle.std.proofs.Common.{ℕ, sym, subst, ◌∙◌}
-use Rattle.asgi_exchange.specs.Calls.{IsViewOf}
-use Rattle.asgi_exchange.specs.Views.{ConnView}
-use Rattle.asgi_halves.specs.declared.half.BodyProgress.{BodyProgress}
-use Rattle.asgi_halves.specs.Half.{Invariant}
+use Rattle.asgi_halves.proofs.HalfWords.{ℕ, sym, subst, ◌∙◌, IsViewOf, ConnView, BodyProgress, Invariant}
 use Rattle.asgi_halves.proofs.HalfInLemmas.{offered_view, waits_view}
 use Rattle.asgi_halves.proofs.half.HttpHalf.offer.Goals as goal
 
@@ -12,11 +8,11 @@ returns-in-Ok-clause-leads g c scene line read view x is_view =
     let new = c.offer.new.self in
     let same = c.offer.ensures.same in
     subst (λ (b : BodyProgress). (later : ConnView ℕ ℕ) × Invariant scene line (record half { body = b }) read later × IsViewOf g.C.ConnEnd new later) (sym c.replace.ensures.after)
-    (offered_view scene line half read view x c.requires.running.0 _ g.C.ConnEnd c.args.end.now new c.in-Waits.event c.requires.running.1 (sym c.replace.ensures.value ∙ c.in-Waits.is) is_view
+    (offered_view x c.requires.running.0 _ g.C.ConnEnd c.args.end.now new c.in-Waits.event c.requires.running.1 (sym c.replace.ensures.value ∙ c.in-Waits.is) is_view
     c.in-Ok.ensures.ok.0 same.0 same.1)
 
 pub returns-in-Err-clause-leads : goal.returns-in-Err-clause-leads
 returns-in-Err-clause-leads g c scene line read view x is_view =
     let same = c.offer.ensures.same in
-    waits_view scene line c.args.self.now read view x c.requires.running.0 _ g.C.ConnEnd c.args.end.now c.offer.new.self c.in-Waits.event c.in-Err.back (sym c.replace.ensures.value ∙ c.in-Waits.is)
+    waits_view x c.requires.running.0 _ g.C.ConnEnd c.args.end.now c.offer.new.self c.in-Waits.event c.in-Err.back (sym c.replace.ensures.value ∙ c.in-Waits.is)
     c.in-Err.ensures.err.0 is_view c.in-Err.ensures.err.1 same.0 same.1

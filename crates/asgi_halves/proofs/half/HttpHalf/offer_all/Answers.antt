@@ -1,9 +1,5 @@
-use Rattle.std.proofs.Common.{List, inl, sym, subst, arith, ◌∙◌}
-use Rattle.asgi_types.specs.declared.incoming.Incoming.{Incoming}
-use Rattle.asgi_exchange.specs.Calls.{IsViewOf}
-use Rattle.asgi_halves.specs.Half.{Invariant}
+use Rattle.asgi_halves.proofs.HalfWords.{List, inl, sym, subst, arith, ◌∙◌, Incoming, IsViewOf, Invariant, HasGrown}
 use Rattle.asgi_run.proofs.LeadsLemmas.{in_then}
-use Rattle.asgi_halves.specs.Kinds.{HasGrown}
 use Rattle.asgi_halves.proofs.TurnLemmas.{none_then, not_one, one_longer}
 use Rattle.asgi_halves.proofs.half.HttpHalf.offer_all.Goals as goal
 

@@ -1,6 +1,4 @@
-use Rattle.std.proofs.Common.{◌≡◌, ◌+◌, length}
-use Rattle.asgi_exchange.specs.Calls.{IsViewOf}
-use Rattle.asgi_halves.specs.Kinds.{HasGrown, TakesNone}
+use Rattle.asgi_halves.proofs.HalfWords.{◌≡◌, ◌+◌, length, IsViewOf, HasGrown, TakesNone}
 use Rattle.asgi_halves.specs.private.HalfSteps.{PreservesByEnd}
 use Rattle.asgi_halves.proofs.half.HttpHalf.offer_all.Given as goal
 

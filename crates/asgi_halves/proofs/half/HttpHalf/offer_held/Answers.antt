@@ -1,7 +1,4 @@
-use Rattle.std.proofs.Common.{inl, inr, sym, subst}
-use Rattle.asgi_halves.specs.declared.half.BodyProgress.{BodyProgress}
-use Rattle.asgi_halves.specs.Half.{BreaksAt}
-use Rattle.asgi_halves.specs.private.HalfSteps.{IsNoneDue}
+use Rattle.asgi_halves.proofs.HalfWords.{inl, inr, sym, subst, BodyProgress, BreaksAt, IsNoneDue}
 use Rattle.asgi_halves.proofs.half.HttpHalf.offer_held.Goals as goal
 
 pub returns-in-Open-clause-all : goal.returns-in-Open-clause-all

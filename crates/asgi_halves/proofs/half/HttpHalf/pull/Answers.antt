@@ -1,8 +1,4 @@
-use Rattle.std.proofs.Common.{subst, sym}
-use Rattle.asgi_types.specs.declared.limits.Limits.{Limits}
-use Rattle.asgi_request.specs.Opened.{HasOpened}
-use Rattle.asgi_halves.specs.declared.half.BodyProgress.{BodyProgress}
-use Rattle.asgi_halves.specs.Half.{HasGiven}
+use Rattle.asgi_halves.proofs.HalfWords.{subst, sym, Limits, HasOpened, BodyProgress, HasGiven}
 use Rattle.asgi_halves.proofs.HalfBodyLemmas.{gave_next}
 use Rattle.asgi_halves.proofs.half.HttpHalf.pull.Goals as goal
 

@@ -1,37 +1,27 @@
-use Rattle.std.proofs.Common.{◌++◌, [], ap, refl}
-use Rattle.asgi_halves.specs.declared.half.HttpHalf.{HttpHalf}
-use Rattle.asgi_halves.specs.declared.wire.Wire.{Wire}
-use Rattle.asgi_halves.specs.Kinds.{NoRead, OfBytes}
-use Rattle.asgi_halves.proofs.HalfLemmas.{stands_still}
-use Rattle.asgi_halves.proofs.HalfInLemmas.{read_more, read_short}
-use Rattle.asgi_halves.proofs.StageLemmas.{running_moves}
+use Rattle.asgi_halves.proofs.HalfWords.{[], ap, refl, HttpHalf, Wire, NoRead, OfBytes, failures_at}
+use Rattle.asgi_halves.proofs.{HalfLemmas.stands_still, HalfInLemmas.read_more, HalfInLemmas.read_short, StageLemmas.running_moves, HalfLemmas.running_of}
 use Rattle.asgi_halves.proofs.half.HttpHalf.read.Goals as goal
 
 pub returns-then-not-reads_on-clause-leads : goal.returns-then-not-reads_on-clause-leads
-returns-then-not-reads_on-clause-leads g c scene read view x =
-    ([], view.arrived, view.written, stands_still scene (g.L.Line.state c.args.line.now) c.args.self.now read view x)
+returns-then-not-reads_on-clause-leads g c scene read view x = ([], view.arrived, view.written, stands_still x)
 
 pub returns-in-Ok-clause-leads : goal.returns-in-Ok-clause-leads
 returns-in-Ok-clause-leads g c scene read view x =
-    let more = c.in-Ok.ensures.moved.0 in (
-      more,
-      view.arrived ++ more,
-      view.written,
-      read_more scene (g.L.Line.state c.args.line.now) (g.L.Line.state c.read.new.line) c.args.self.now read view x c.requires.running
-          (c.reads_on.ensures.open c.if-not-reads_on.false) (c.reads_on.ensures.free c.if-not-reads_on.false) c.requires.asked (c.reads_on.ensures.few c.if-not-reads_on.false) more c.in-Ok.ensures.moved.3 c.read.new.self c.read.ensures.same c.read.ensures.limits
-          (c.in-Ok.ensures.moved.1 scene.start read _ 0) c.in-Ok.ensures.moved.2,
-    )
+    let r = running_of x c.requires.running in
+    let on = c.reads_on.ensures in
+    let m = c.in-Ok.ensures.moved in
+    let later = read_more x r.talks (ap failures_at c.requires.running) (on.open c.if-not-reads_on.false) (on.free c.if-not-reads_on.false) c.requires.asked (on.few c.if-not-reads_on.false)
+    m.0 m.3 c.read.new.self c.read.ensures.same c.read.ensures.limits (m.1 scene.start read _ 0) m.2 c.requires.running r.unended r.offered in
+    (m.0, _, view.written, later)
 
 pub returns-in-Err-clause-leads : goal.returns-in-Err-clause-leads
 returns-in-Err-clause-leads g c scene read view x =
-    let more = c.read.ensures.moved.0 in (
-      more,
-      view.arrived ++ more,
-      view.written,
-      read_short scene (g.L.Line.state c.args.line.now) (g.L.Line.state c.read.new.line) c.args.self.now read view x c.requires.running
-          (c.reads_on.ensures.open c.if-not-reads_on.false) (c.reads_on.ensures.free c.if-not-reads_on.false) c.requires.asked (c.reads_on.ensures.few c.if-not-reads_on.false) more c.read.ensures.moved.3 c.read.new.self c.read.ensures.same c.read.ensures.limits
-          (c.read.ensures.moved.1 scene.start read _ 0),
-    )
+    let r = running_of x c.requires.running in
+    let on = c.reads_on.ensures in
+    let m = c.read.ensures.moved in
+    let later = read_short x r.talks (ap failures_at c.requires.running) (on.open c.if-not-reads_on.false) (on.free c.if-not-reads_on.false) c.requires.asked (on.few c.if-not-reads_on.false)
+    m.0 m.3 c.read.new.self c.read.ensures.same c.read.ensures.limits (m.1 scene.start read _ 0) r.unended in
+    (m.0, _, view.written, later)
 
 pub returns-then-not-reads_on-clause-turn : goal.returns-then-not-reads_on-clause-turn
 returns-then-not-reads_on-clause-turn g c is = NoRead (c.reads_on.ensures.rests c.if-not-reads_on.true) refl refl

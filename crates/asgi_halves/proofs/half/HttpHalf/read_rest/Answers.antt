@@ -1,39 +1,25 @@
-use Rattle.std.proofs.Common.{[], inl, sym, refl, ◌∙◌}
-use Rattle.asgi_halves.specs.declared.stage.Stage.TheVariants as stage
-use Rattle.asgi_halves.specs.Half.{failures_at}
-use Rattle.asgi_halves.specs.Kinds.{OfBytes}
-use Rattle.asgi_halves.proofs.HalfLemmas.{unfailed, stands_still}
-use Rattle.asgi_halves.proofs.HalfEndLemmas.{rest_read, rest_short}
-use Rattle.asgi_halves.proofs.StageLemmas.{ending_has_ended, ending_moves}
+use Rattle.asgi_halves.proofs.HalfWords.{[], inl, sym, ◌∙◌, failures_at, OfBytes, Stage, ReadsAt, subst, ap}
+use Rattle.asgi_halves.proofs.{HalfLemmas.stands_still, HalfInLemmas.rest_read, HalfInLemmas.rest_short, StageLemmas.ending_has_ended, StageLemmas.ending_moves, HalfLemmas.stage_of}
 use Rattle.asgi_halves.proofs.half.HttpHalf.read_rest.Goals as goal
 
 pub returns-then-has_ended-clause-leads : goal.returns-then-has_ended-clause-leads
-returns-then-has_ended-clause-leads g c scene read view x = ([], view.arrived, view.written, stands_still scene _ _ read view x)
+returns-then-has_ended-clause-leads g c scene read view x = ([], view.arrived, view.written, stands_still x)
 
 pub returns-in-Ok-clause-leads : goal.returns-in-Ok-clause-leads
 returns-in-Ok-clause-leads g c scene read view x =
-    let half = c.args.self.now in
-    let line = g.L.Line.state c.args.line.now in
-    let m = c.in-Ok.ensures.moved in (
-      m.0,
-      _,
-      view.written,
-      rest_read scene line half read view x c.requires.ending.0 c.requires.ending.1 c.requires.open c.requires.asked (g.L.Line.state c.read.new.line) c.read.new.self m.0 m.3
-          c.in-Ok.ensures.same c.in-Ok.ensures.limits (sym c.has_ended.ensures ∙ c.if-has_ended.false) (m.1 scene.start read _ (failures_at half.stage) x.moved) m.2,
-    )
+    let e = stage_of x (Stage.Ending c.requires.ending.0) c.requires.ending.1 in
+    let m = c.in-Ok.ensures.moved in
+    let later = rest_read x e.0 (ap failures_at c.requires.ending.1) (sym c.has_ended.ensures ∙ c.if-has_ended.false) (subst ReadsAt (sym c.requires.open) tt) c.requires.asked
+    (λ w. cc (sym c.requires.open ∙ w)) m.0 m.3 c.read.new.self c.in-Ok.ensures.same c.in-Ok.ensures.limits (m.1 scene.start read _ 0) m.2 c.requires.ending.0 c.requires.ending.1 e.1 in
+    (m.0, _, view.written, later)
 
 pub returns-in-Err-clause-leads : goal.returns-in-Err-clause-leads
 returns-in-Err-clause-leads g c scene read view x =
-    let half = c.args.self.now in
-    let line = g.L.Line.state c.args.line.now in
-    let m = c.in-Err.ensures.moved in (
-      m.0,
-      _,
-      view.written,
-      rest_short scene line half read view x c.requires.ending.0 c.requires.ending.1 c.requires.open c.requires.asked (g.L.Line.state c.read.new.line) c.read.new.self m.0 m.3
-          c.in-Err.ensures.same c.in-Err.ensures.limits (sym c.has_ended.ensures ∙ c.if-has_ended.false)
-          (m.1 scene.start read _ 0 (unfailed scene line half read view x (stage.Ending c.requires.ending.0) c.requires.ending.1 refl)),
-    )
+    let e = stage_of x (Stage.Ending c.requires.ending.0) c.requires.ending.1 in
+    let m = c.in-Err.ensures.moved in
+    let later = rest_short x e.0 (ap failures_at c.requires.ending.1) (sym c.has_ended.ensures ∙ c.if-has_ended.false) (subst ReadsAt (sym c.requires.open) tt) c.requires.asked
+    (λ w. cc (sym c.requires.open ∙ w)) m.0 m.3 c.read.new.self c.in-Err.ensures.same c.in-Err.ensures.limits (m.1 scene.start read _ 0) in
+    (m.0, _, view.written, later)
 
 pub returns-in-Ok-clause-turn : goal.returns-in-Ok-clause-turn
 returns-in-Ok-clause-turn g c kind is = let t = c.in-Ok.ensures.turn in inl (OfBytes t.0 t.1 c.read.ensures.session t.2)

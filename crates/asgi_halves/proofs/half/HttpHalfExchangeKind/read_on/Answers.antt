@@ -1,4 +1,4 @@
-use Rattle.std.proofs.Common.{sym, subst, ◌∙◌}
+use Rattle.std.proofs.Common.{subst, sym, ◌∙◌}
 use Rattle.asgi_halves.specs.private.HalfSteps.{NoneDue}
 use Rattle.asgi_halves.proofs.half.HttpHalfExchangeKind.read_on.Goals as goal
 

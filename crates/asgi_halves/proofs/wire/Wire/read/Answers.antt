@@ -1,24 +1,17 @@
-use Rattle.std.proofs.Common.{◌≡◌, ℕ, List, [], ◌∷◌, ◌++◌, take, arith, refl, subst, sym, inl, ◌∙◌}
+use Rattle.asgi_halves.proofs.HalfWords.{◌≡◌, ℕ, List, [], ◌∷◌, ◌++◌, take, arith, refl, subst, sym, inl, ◌∙◌, Next, StandsFor, InputEnd, Transferred, session_is, Turn}
+use Rattle.asgi_io.specs.{Answers.bytes_of, Answers.turn_of, declared.answer.Answer.Answer}
+use Rattle.asgi_run.proofs.LineLemmas.{gave, moved_by_open_read, told_as}
+use Rattle.asgi_run.specs.Lines.{input_after}
 use Rattle.std.proofs.lemmas.List.{take_at}
-use Rattle.asgi_request.specs.declared.next.Next.{Next}
-use Rattle.asgi_request.specs.Reading.{StandsFor}
-use Rattle.asgi_io.specs.declared.answer.Answer.{Answer}
-use Rattle.asgi_io.specs.declared.answer.Answer.TheVariants as answer
-use Rattle.asgi_io.specs.declared.turns.Turn.TheVariants as turn
-use Rattle.asgi_io.specs.Answers.{bytes_of, turn_of}
-use Rattle.asgi_conversation.specs.declared.input.InputEnd.{InputEnd}
-use Rattle.asgi_run.specs.Lines.{Transferred, input_after}
-use Rattle.asgi_run.proofs.LineLemmas.{gave, session_is, told_as, moved_by_open_read}
-use Rattle.asgi_halves.proofs.LineCallLemmas.{by_state}
-use Rattle.asgi_halves.proofs.ReadAheadLemmas.{short_piece}
+use Rattle.asgi_halves.proofs.{LineCallLemmas.by_state, ReadAheadLemmas.short_piece}
 use Rattle.asgi_halves.proofs.wire.Wire.read.Goals as goal
 
 -- an idle turn is that of a read that paused
-paused : (a : Answer) → turn_of a ≡ turn.Idle → a ≡ answer.Paused
-paused answer.Paused idle = refl
-paused (answer.Moved n) idle = cc
-paused answer.Nothing idle = cc
-paused answer.Failed idle = cc
+paused : (a : Answer) → turn_of a ≡ Turn.Idle → a ≡ Answer.Paused
+paused Answer.Paused idle = refl
+paused (Answer.Moved n) idle = cc
+paused Answer.Nothing idle = cc
+paused Answer.Failed idle = cc
 
 pub returns-in-Ok-clause-moved : goal.returns-in-Ok-clause-moved
 returns-in-Ok-clause-moved g c =
