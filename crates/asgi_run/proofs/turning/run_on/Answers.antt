@@ -1,14 +1,12 @@
 use Rattle.std.proofs.Common.{◌++◌, ◌∷◌, [], List, Option, refl, sym, ap, inl, inr, subst, append_assoc, ◌∙◌, arith}
-use Rattle.std.proofs.lemmas.List.{append-nil}
-use Rattle.asgi_io.specs.declared.turns.Turn.{Turn}
-use Rattle.asgi_io.specs.Turns.{CountsTurns}
+use Rattle.std.{proofs.lemmas.List.append-nil, specs.Prelude.is_some}
+use Rattle.asgi_io.specs.{declared.turns.Turn.Turn, Turns.CountsTurns}
 use Rattle.asgi_apps.proofs.PauseLemmas.{counts_more}
 use Rattle.asgi_conversation.specs.declared.following.NextStep.{NextStep}
 use Rattle.asgi_exchange.specs.Calls.{IsViewOf}
-use Rattle.asgi_run.specs.AnyHalf.{PreservesOn}
-use Rattle.asgi_run.specs.Limits.{IsSettled}
-use Rattle.asgi_run.proofs.InlineLemmas as lemma
+use Rattle.asgi_run.specs.{AnyHalf.PreservesOn, Limits.IsSettled}
 use Rattle.asgi_run.proofs.LeadsLemmas.{leads_none}
+use Rattle.asgi_run.proofs.InlineLemmas as lemma
 use Rattle.asgi_run.proofs.turning.run_on.Goals as goal
 
 pub loop-runner-init : goal.loop-runner-init
@@ -47,7 +45,7 @@ loop-runner-preserved g c =
       met = c.turn-moved.ensures.met ∙ inv.met;
       turn_limit = c.take.ensures.turn_limit ∙ inv.turn_limit;
       idle_limit = c.take.ensures.idle_limit ∙ inv.idle_limit;
-      turned = inr (lemma.later_turn c.args.turns.now.turns c.loop-runner.turns.turns c.take.new.self.turns _ inv.turned c.take.ensures.one);
+      turned = inr (elim inv.turned [ inl same ↦ omega (arith, same.1, c.take.ensures.one) | inr later ↦ omega (arith, later, c.take.ensures.one) ]);
       settled = λ settled. absurd (c.goes_on.ensures.open c.loop-runner-test.true (subst (λ (o : Option NextStep). IsSettled o) (sym (ap g.H.Half.following (inv.settled settled).0)) settled));
       counts = λ turned pauses counts.
           let x = inv.counts turned pauses counts in
@@ -70,8 +68,7 @@ returns-clause-turn_limits g c = (c.loop-runner.invariant.turn_limit, c.loop-run
 
 pub returns-clause-takes_a_turn : goal.returns-clause-takes_a_turn
 returns-clause-takes_a_turn g c next =
-    lemma.stays_or_turned (g.H.Half.following c.args.half.now) (g.H.Half.following c.loop-runner.half) c.args.turns.now.turns c.loop-runner.turns.turns
-    c.loop-runner.invariant.turned (c.finish.ensures.follows next)
+    elim c.loop-runner.invariant.turned [ inl same ↦ inl (sym same.0 ∙ c.finish.ensures.follows next) | inr later ↦ inr later ]
 
 pub returns-clause-idle : goal.returns-clause-idle
-returns-clause-idle g c over = lemma.idle_at g.H.Half.following c.loop-runner.half c.finish.new.half c.loop-runner.turns (c.goes_on.ensures.over c.loop-runner-test.false) c.finish.ensures.stays over
+returns-clause-idle g c over = lemma.idle_at g.H.Half.following c.loop-runner.half c.finish.new.half c.loop-runner.turns (c.goes_on.ensures.over c.loop-runner-test.false) (λ last is. c.finish.ensures.stays (ap is_some is)) over

@@ -1,10 +1,8 @@
 use Rattle.std.proofs.Common.{◌≡◌, ◌++◌, ◌-◌, ◌⊎◌, ℕ, List}
 use Rattle.std.specs.Prelude.{◌<◌}
-use Rattle.asgi_io.specs.declared.turns.Turn.{Turn}
-use Rattle.asgi_io.specs.Turns.{CountsTurns}
+use Rattle.asgi_io.specs.{declared.turns.Turn.Turn, Turns.CountsTurns}
 use Rattle.asgi_exchange.specs.Calls.{IsViewOf}
-use Rattle.asgi_run.specs.AnyHalf.{PreservesOn}
-use Rattle.asgi_run.specs.Limits.{IsSettled}
+use Rattle.asgi_run.specs.{AnyHalf.PreservesOn, Limits.IsSettled}
 use Rattle.asgi_run.proofs.turning.run_on.Given as goal
 
 abbrev pub invariant-loop-runner : goal.invariant-loop-runner
