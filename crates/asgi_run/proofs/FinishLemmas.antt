@@ -17,10 +17,8 @@ pub has_run : {H T E M : Type 0} (halves : any_half.Ghosts H) (steady : (scene :
     (offered : List Incoming) (got : List OutItem) (places_in places_out : ℕ)
     → MayRun stands ends side → GoesOnAs stands answers ends side (HasEnded app kind) → OfEnd side (λ was. IsExchangeOf ends was (halves.exchange scene))
     → halves.stands scene now half read view → ConnKeeps (halves.exchange scene) view → view.offered ≡ offered → view.got ≡ got
-    → IsSome met → IfSome met (λ m. KeepsOrder places_in offered (ends.pulled app) (left_in m))
-    → IfSome met (λ m. KeepsOrder places_out (items_of (ends.said app) (ends.ended app)) got (left_out m))
-    → Hears (ends.kind app) (ends.said app) (ends.pulled app) (ends.heard app) → IsLawful (ends.kind app) (ends.facts app) (ends.said app)
-    → HasRun halves answers ends scene now half read side kind
+    → IsSome met → IfSome met (λ m. KeepsOrder places_in offered (ends.pulled app) (left_in m)) → IfSome met (λ m. KeepsOrder places_out (items_of (ends.said app) (ends.ended app)) got (left_out m))
+    → Hears (ends.kind app) (ends.said app) (ends.pulled app) (ends.heard app) → IsLawful (ends.kind app) (ends.facts app) (ends.said app) → HasRun halves answers ends scene now half read side kind
 has_run halves steady left_in left_out stands answers ends side app kind met scene now half read view offered got places_in places_out may goes request
     holds keeps is_offered is_got meets inward outward heard lawful =
     let x = halves.exchange scene in

@@ -113,13 +113,11 @@ tries_then before mid after out more failures x y =
 -- the first n bytes of a text, counted
 pub tries_front : (before after : List Answer) (n : ℕ) (text : List ℕ) → n < length text → TriesWrites before after n (wrote.Failed n)
     → TriesWrites before after (length (take n text)) (how_wrote 1 (length (take n text)))
-tries_front before after n text less x =
-    let counted : n ≡ length (take n text) = omega (arith, length-take n text, less) in subst (λ (k : ℕ). TriesWrites before after k (wrote.Failed k)) counted x
+tries_front before after n text less x = let counted : n ≡ length (take n text) = omega (arith, length-take n text, less) in subst (λ (k : ℕ). TriesWrites before after k (wrote.Failed k)) counted x
 
 pub moved_by_write : (start : LineState) (old new : LineState) (end : InputEnd) (read written text : List ℕ) (failures : ℕ)
     → Transferred start old end read written 0 → new.left ≡ old.left → new.reads ≡ old.reads → new.session ≡ old.session → Appends old.written new.written text → RoseBy failures old.failed new.failed
-    → TriesWrites old.writes new.writes (length text) (how_wrote failures (length text))
-    → Transferred start new end read (written ++ text) failures
+    → TriesWrites old.writes new.writes (length text) (how_wrote failures (length text)) → Transferred start new end read (written ++ text) failures
 moved_by_write start old new end read written text failures x same_left same_reads same_session appends rose tries = record {
   consumes = rw same_left x.consumes;
   appends = Appends-then start.written old.written new.written written text x.appends appends;

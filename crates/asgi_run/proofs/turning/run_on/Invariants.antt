@@ -16,8 +16,7 @@ invariant-loop-runner g l = record {
   idle_limit : l.turns.idle_limit ≡ l.fn.turns.idle_limit;
   turned : ((g.H.Half.following l.half ≡ g.H.Half.following l.fn.half) × (l.turns.turns ≡ l.fn.turns.turns)) ⊎ (l.fn.turns.turns < l.turns.turns);
   settled : IsSettled (g.H.Half.following l.fn.half) → (l.half ≡ l.fn.half) × (l.turns.turns ≡ l.fn.turns.turns);
-  counts : (turned : List Turn) (pauses : ℕ)
-      → CountsTurns l.fn.turns.turn_limit l.fn.turns.idle_limit turned pauses (g.P.Pause.count l.fn.pause) l.fn.turns.turns l.fn.turns.idle
+  counts : (turned : List Turn) (pauses : ℕ) → CountsTurns l.fn.turns.turn_limit l.fn.turns.idle_limit turned pauses (g.P.Pause.count l.fn.pause) l.fn.turns.turns l.fn.turns.idle
       → (more : List Turn) × CountsTurns l.fn.turns.turn_limit l.fn.turns.idle_limit (turned ++ more) pauses (g.P.Pause.count l.pause) l.turns.turns l.turns.idle;
 }
 

@@ -24,5 +24,4 @@ pub returns-clause-polls : goal.returns-clause-polls
 returns-clause-polls g c scene read view s is some_places =
     let x = c.turn-moved.ensures.leads scene read view s is in
     let places = subst (λ (n : ℕ). 0 < n) (sym (c.ring.ensures scene (g.L.Line.state c.turn-moved.new.line) (read ++ x.0) x.1 x.2)) some_places in
-    lemma.polled_between c.args.exchange.now.side c.carry.new.side c.poll_on-polled.new.side c.carry-2.new.side
-    c.carry.ensures.task (c.poll_on-polled.ensures.polls places) c.carry-2.ensures.task
+    lemma.polled_between c.args.exchange.now.side c.carry.new.side c.poll_on-polled.new.side c.carry-2.new.side c.carry.ensures.task (c.poll_on-polled.ensures.polls places) c.carry-2.ensures.task
