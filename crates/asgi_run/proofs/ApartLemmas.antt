@@ -6,12 +6,11 @@ use Rattle.asgi_apps.specs.{declared.running.Ended.Ended, declared.running.Lent.
 use Rattle.asgi_kept.specs.{Answers.Answered, declared.caller.Working.Working, declared.job.Job.Job}
 use Rattle.asgi_run.specs.declared.{apart.JobState.TheVariants.Works, apart.JobState.TheVariants.Done, apart.Ran.Ran, runner.AppSide.AppSide, runner.AppSide.TheVariants.Runs}
 use Rattle.asgi_run.specs.{declared.runner.AppSide.TheVariants.HasEnded, Jobs.HasJob, Jobs.HasLimits, Jobs.IsLastJob, Running.DrivesRunning, Running.EndsSo, Running.IsOfRequest, Running.MayRun}
-use Rattle.asgi_run.proofs.InlineLemmas as lemma
 
 module _ {T E Q : Type 0} (stands : T → Kind → List Incoming → List Outgoing → Type 0) (answers : T → List Incoming → List Outgoing → Option EndKind → Type 0) (ends : Ghosts E) (count : Q → ℕ) where
   pub done_so : (ran : Ran T E Q) (side : AppSide T E) → HasJob (Done ran) side → MayRun stands ends side → EndsSo stands answers ends side ran.app_end ran.kind
   done_so ran (Runs running) job may = absurd job
-  done_so ran (HasEnded was kind) job may = rw (job.0, job.1) (lemma.goes_nowhere stands answers ends (HasEnded was kind) may, refl)
+  done_so ran (HasEnded was kind) job may = rw (job.0, job.1) ((may, refl, (refl, refl, refl), (refl, refl)), refl)
 
   pub done_drove : (ran : Ran T E Q) (side : AppSide T E) (turn_limit idle_limit paused turned : ℕ) → HasJob (Done ran) side → HasLimits count (Done ran) turn_limit idle_limit paused turned
       → DrivesRunning side turn_limit idle_limit paused (count ran.pause) turned ran.turns ran.kind

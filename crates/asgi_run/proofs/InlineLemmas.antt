@@ -1,15 +1,12 @@
 -- Turn after turn, the connection's half keeps its invariant, and the application's side goes on.
-use Rattle.std.proofs.Common.{◌≡◌, ◌⊎◌, inl, inr, List, Option, Some, None, IsSomeAnd, refl, sym, ap, ◌∙◌, subst}
+use Rattle.std.proofs.Common.{◌≡◌, List, Option, Some, None, IsSomeAnd, refl, sym, ap, ◌∙◌, subst}
 use Rattle.asgi_types.specs.declared.{end_kind.EndKind.EndKind, incoming.Incoming.Incoming, outgoing.Outgoing.Outgoing, scope.Kind.Kind}
 use Rattle.asgi_pipes.specs.{declared.ends.AppEnd.Ghosts, Items.items_of}
 use Rattle.asgi_apps.specs.{declared.running.Lent.Lent, Ends.MayGoOn, Ends.IsWithin, Ends.own_end}
 use Rattle.asgi_exchange.specs.{Calls.IsExchangeOf, Calls.view_of, Exchange.Exchange, Items.events_of, Items.end_of}
 use Rattle.asgi_exchange.proofs.EventLemmas.{events_are, end_is}
-use Rattle.asgi_io.specs.declared.turns.Turns.{Turns}
-use Rattle.asgi_conversation.specs.declared.{following.NextStep.NextStep, following.NextStep.TheVariants.ConnectionEnds, report.Outcome.TheVariants.Idle}
-use Rattle.asgi_run.specs.{Limits.IsAtLimit, Limits.IsOverIdle, Limits.IsSettled, declared.runner.AppSide.AppSide, declared.runner.AppSide.TheVariants.Runs}
-use Rattle.asgi_run.specs.{declared.runner.AppSide.TheVariants.HasEnded, Running.OfEnd, Running.MayRun, Running.Answers, Running.IsOfRequest, Running.GoesOnAs, Running.EndsIn, Running.IsPolled}
-use Rattle.asgi_run.specs.Running.{IsNotPolled}
+use Rattle.asgi_run.specs.{declared.runner.AppSide.AppSide, declared.runner.AppSide.TheVariants.Runs, declared.runner.AppSide.TheVariants.HasEnded, Running.OfEnd, Running.MayRun, Running.Answers}
+use Rattle.asgi_run.specs.Running.{IsOfRequest, GoesOnAs}
 
 -- ---- what holds of a borrowed end
 
@@ -29,26 +26,6 @@ of_end_gives (HasEnded app_end kind) P Q R p q f = f app_end p q
 
 -- ---- the application's side
 
--- a task that ended ended where it was polled
-pub ends_between : {T E : Type 0} (a b c d : AppSide T E) → IsNotPolled a b → IsNotPolled c d → EndsIn a d → EndsIn b c
-ends_between (Runs a) (Runs b) (Runs c) (Runs d) first last ends = absurd ends
-ends_between (Runs a) (Runs b) (Runs c) (HasEnded d kind) first last ends = absurd last
-ends_between (Runs a) (Runs b) (HasEnded c kind) d first last ends = tt
-ends_between (Runs a) (HasEnded b kind) c d first last ends = absurd first
-ends_between (HasEnded a kind) b c d first last ends = absurd ends
-
--- a poll in between is one from before to after
-pub polled_between : {T E : Type 0} (a b c d : AppSide T E) → IsNotPolled a b → IsPolled b c → IsNotPolled c d → IsPolled a d
-polled_between (Runs a) (Runs b) (Runs c) (Runs d) first polled last = rw (last, sym first) polled
-polled_between (Runs a) (Runs b) (Runs c) (HasEnded d kind) first polled last = tt
-polled_between (Runs a) (Runs b) (HasEnded c kind) (Runs d) first polled last = absurd last
-polled_between (Runs a) (Runs b) (HasEnded c kind) (HasEnded d last_kind) first polled last = tt
-polled_between (Runs a) (HasEnded b kind) c d first polled last = absurd first
-polled_between (HasEnded a kind) (Runs b) c d first polled last = absurd first
-polled_between (HasEnded a kind) (HasEnded b now) (Runs c) d first polled last = absurd polled
-polled_between (HasEnded a kind) (HasEnded b now) (HasEnded c later) (Runs d) first polled last = absurd last
-polled_between (HasEnded a kind) (HasEnded b now) (HasEnded c later) (HasEnded d last_kind) first polled last = tt
-
 module _ {T E : Type 0} (stands : T → Kind → List Incoming → List Outgoing → Type 0) (answers : T → List Incoming → List Outgoing → Option EndKind → Type 0) (ends : Ghosts E) where
   -- a running task may be polled, by another one before
   abbrev RunsOn : Lent T E → Lent T E → Type 0
@@ -56,19 +33,6 @@ module _ {T E : Type 0} (stands : T → Kind → List Incoming → List Outgoing
 
   abbrev EndsAs : E → EndKind → Lent T E → Type 0
   EndsAs app_end kind was = (ends.ended app_end ≡ Some kind) × answers was.task (ends.heard app_end) (ends.said app_end) (own_end kind) × IsOfRequest ends was.app_end app_end
-
-  pub goes_nowhere : (side : AppSide T E) → MayRun stands ends side → GoesOnAs stands answers ends side side
-  goes_nowhere (Runs running) may =
-      on_some running.lent (λ is. MayGoOn stands ends is.task is.app_end) (λ o. IsSomeAnd o (λ was. IsSomeAnd o (λ is. RunsOn was is))) (λ is may. (may, (λ heard said ended h. h), (refl, refl))) may
-  goes_nowhere (HasEnded app_end kind) may = (may, refl, (refl, refl, refl), (refl, refl))
-
-  pub may_run : (old new : AppSide T E) → GoesOnAs stands answers ends old new → MayRun stands ends new
-  may_run (Runs old) (Runs new) on =
-      let Goes : Option (Lent T E) → Type 0 = λ o. IsSomeAnd o (λ is. MayGoOn stands ends is.task is.app_end) in
-      on_some old.lent (λ was. IsSomeAnd new.lent (RunsOn was)) (λ o. Goes new.lent) (λ was x. on_some new.lent (RunsOn was) Goes (λ is y. y.0) x) on
-  may_run (Runs old) (HasEnded app_end kind) on = on_some old.lent (EndsAs app_end kind) (λ o. ends.ended app_end ≡ Some kind) (λ was x. x.0) on
-  may_run (HasEnded was before) (Runs new) on = absurd on
-  may_run (HasEnded was before) (HasEnded app_end kind) on = on.0
 
   same_request : (a b c : E) → IsOfRequest ends a b → IsOfRequest ends b c → IsOfRequest ends a c
   same_request a b c x y = (y.0 ∙ x.0, y.1 ∙ x.1)
@@ -106,12 +70,5 @@ module _ {T E : Type 0} (stands : T → Kind → List Incoming → List Outgoing
 
   pub ended_as : (side : AppSide T E) (app_end : E) (kind : EndKind)
       → GoesOnAs stands answers ends side (HasEnded app_end kind) → end_of (items_of (ends.said app_end) (ends.ended app_end)) ≡ Some kind
-  ended_as side app_end kind on = end_is (ends.said app_end) (ends.ended app_end) ∙ may_run side (HasEnded app_end kind) on
-
--- ---- the end
-
--- if an exchange is over as idle, a limit was reached
-pub idle_at : {H : Type 0} (following : H → Option NextStep) (old new : H) (turns : Turns) → IsAtLimit turns ⊎ IsSettled (following old)
-    → ((last : NextStep) → following old ≡ Some last → new ≡ old) → IsOverIdle (following new) → IsAtLimit turns
-idle_at following old new turns (inl at) stays over = at
-idle_at following old new turns (inr x) stays over = let same : Some x.0 ≡ Some (ConnectionEnds Idle) = sym x.1 ∙ sym (ap following (stays x.0 x.1)) ∙ over in absurd (x.2 cc)
+  ended_as (Runs running) app_end kind on = end_is (ends.said app_end) (ends.ended app_end) ∙ on_some running.lent (EndsAs app_end kind) (λ o. ends.ended app_end ≡ Some kind) (λ was x. x.0) on
+  ended_as (HasEnded was before) app_end kind on = end_is (ends.said app_end) (ends.ended app_end) ∙ on.0

@@ -6,8 +6,7 @@ use Rattle.asgi_run.proofs.apart.finish_apart.Goals as goal
 pub join-met-requires : goal.join-met-requires
 join-met-requires g c =
     let began = c.requires.1 in
-    let conn = c.abandon.new.end.end in
-    of_end_gives c.requires.0 (λ was. g.N.Pipes.is_pair c.args.conn.now.end was) (λ was. g.E.AppEnd.tag c.end-ran.result.app_end ≡ g.E.AppEnd.tag was)
+    let conn = c.abandon.new.end.end in of_end_gives c.requires.0 (λ was. g.N.Pipes.is_pair c.args.conn.now.end was) (λ was. g.E.AppEnd.tag c.end-ran.result.app_end ≡ g.E.AppEnd.tag was)
     (g.N.Pipes.is_pair conn c.end-ran.result.app_end) began.1 (c.end-ran.ensures.side c.requires.0 began.0 began.2).1
     (λ was pair same. g.met.N.Pipes.stays_pair c.args.conn.now.end conn was c.end-ran.result.app_end c.abandon.ensures.tag.0 same pair)
 

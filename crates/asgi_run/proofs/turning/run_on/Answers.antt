@@ -1,12 +1,11 @@
 use Rattle.std.proofs.Common.{◌++◌, ◌∷◌, [], List, Option, refl, sym, ap, inl, inr, subst, append_assoc, ◌∙◌, arith}
-use Rattle.std.{proofs.lemmas.List.append-nil, specs.Prelude.is_some}
+use Rattle.std.proofs.lemmas.List.{append-nil}
 use Rattle.asgi_io.specs.{declared.turns.Turn.Turn, Turns.CountsTurns}
 use Rattle.asgi_apps.proofs.PauseLemmas.{counts_more}
 use Rattle.asgi_conversation.specs.declared.following.NextStep.{NextStep}
 use Rattle.asgi_exchange.specs.Calls.{IsViewOf}
 use Rattle.asgi_run.specs.{AnyHalf.PreservesOn, Limits.IsSettled}
 use Rattle.asgi_run.proofs.LeadsLemmas.{leads_none}
-use Rattle.asgi_run.proofs.InlineLemmas as lemma
 use Rattle.asgi_run.proofs.turning.run_on.Goals as goal
 
 pub loop-runner-init : goal.loop-runner-init
@@ -48,4 +47,3 @@ loop-runner-preserved g c =
           inv.turn_limit inv.idle_limit x.1 c.take.ensures.counts in
           (x.0 ++ c.turn-moved.result ∷ [], rw (sym (append_assoc turned x.0 (c.turn-moved.result ∷ []))) y);
     }
-
