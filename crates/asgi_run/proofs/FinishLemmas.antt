@@ -1,27 +1,14 @@
 -- The ends of an exchange came together after its task had ended: both halves ran.
 use Rattle.std.proofs.Common.{◌≡◌, ℕ, List, Option, sym, subst}
 use Rattle.std.specs.Prelude.{IsSome, IfSome}
-use Rattle.asgi_types.specs.declared.end_kind.EndKind.{EndKind}
-use Rattle.asgi_types.specs.declared.facts.Facts.{Facts}
-use Rattle.asgi_types.specs.declared.incoming.Incoming.{Incoming}
-use Rattle.asgi_types.specs.declared.outgoing.Outgoing.{Outgoing}
-use Rattle.asgi_types.specs.declared.scope.Kind.{Kind}
+use Rattle.asgi_types.specs.declared.{end_kind.EndKind.EndKind, facts.Facts.Facts, incoming.Incoming.Incoming, outgoing.Outgoing.Outgoing, scope.Kind.Kind}
 use Rattle.asgi_protocol.specs.Lawful.{IsLawful}
-use Rattle.asgi_pipes.specs.declared.ends.AppEnd.{Ghosts}
-use Rattle.asgi_pipes.specs.declared.items.OutItem.{OutItem}
-use Rattle.asgi_pipes.specs.Disconnects.{Hears}
-use Rattle.asgi_pipes.specs.Items.{items_of}
-use Rattle.asgi_pipes.specs.Queues.{KeepsOrder}
-use Rattle.asgi_exchange.specs.Calls.{IsExchangeOf, view_of}
-use Rattle.asgi_exchange.specs.Exchange.{IsSteady}
-use Rattle.asgi_exchange.specs.Halves.{ConnKeeps}
-use Rattle.asgi_exchange.specs.Views.{ConnView}
+use Rattle.asgi_pipes.specs.{declared.ends.AppEnd.Ghosts, declared.items.OutItem.OutItem, Disconnects.Hears, Items.items_of, Queues.KeepsOrder}
+use Rattle.asgi_exchange.specs.{Calls.IsExchangeOf, Calls.view_of, Exchange.IsSteady, Halves.ConnKeeps, Views.ConnView}
 use Rattle.asgi_exchange.proofs.MeetLemmas.{ends_make}
 use Rattle.asgi_ws.specs.Lines.{LineState}
+use Rattle.asgi_run.specs.{declared.runner.AppSide.AppSide, declared.runner.AppSide.TheVariants.HasEnded, Running.OfEnd, Running.MayRun, Running.GoesOnAs, Running.HasRun}
 use Rattle.asgi_run.specs.declared.exchange_half.Half as any_half
-use Rattle.asgi_run.specs.declared.runner.AppSide.{AppSide}
-use Rattle.asgi_run.specs.declared.runner.AppSide.TheVariants.{HasEnded}
-use Rattle.asgi_run.specs.Running.{OfEnd, MayRun, GoesOnAs, HasRun}
 use Rattle.asgi_run.proofs.InlineLemmas as lemma
 
 pub has_run : {H T E M : Type 0} (halves : any_half.Ghosts H) (steady : (scene : halves.Scene) → IsSteady (halves.exchange scene)) (left_in left_out : M → ℕ)
@@ -30,10 +17,8 @@ pub has_run : {H T E M : Type 0} (halves : any_half.Ghosts H) (steady : (scene :
     (offered : List Incoming) (got : List OutItem) (places_in places_out : ℕ)
     → MayRun stands ends side → GoesOnAs stands answers ends side (HasEnded app kind) → OfEnd side (λ was. IsExchangeOf ends was (halves.exchange scene))
     → halves.stands scene now half read view → ConnKeeps (halves.exchange scene) view → view.offered ≡ offered → view.got ≡ got
-    → IsSome met → IfSome met (λ m. KeepsOrder places_in offered (ends.pulled app) (left_in m))
-    → IfSome met (λ m. KeepsOrder places_out (items_of (ends.said app) (ends.ended app)) got (left_out m))
-    → Hears (ends.kind app) (ends.said app) (ends.pulled app) (ends.heard app) → IsLawful (ends.kind app) (ends.facts app) (ends.said app)
-    → HasRun halves answers ends scene now half read side kind
+    → IsSome met → IfSome met (λ m. KeepsOrder places_in offered (ends.pulled app) (left_in m)) → IfSome met (λ m. KeepsOrder places_out (items_of (ends.said app) (ends.ended app)) got (left_out m))
+    → Hears (ends.kind app) (ends.said app) (ends.pulled app) (ends.heard app) → IsLawful (ends.kind app) (ends.facts app) (ends.said app) → HasRun halves answers ends scene now half read side kind
 has_run halves steady left_in left_out stands answers ends side app kind met scene now half read view offered got places_in places_out may goes request
     holds keeps is_offered is_got meets inward outward heard lawful =
     let x = halves.exchange scene in

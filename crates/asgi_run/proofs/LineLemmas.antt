@@ -1,38 +1,25 @@
 -- What is known of a line after a read and after a write.
 use Rattle.std.proofs.Common.{◌≡◌, ℕ, zero, suc, ◌+◌, true, false, ◌<◌, ◌≤◌, List, [], ◌∷◌, ◌++◌, length, take, refl, sym, ap, ◌∙◌, subst, append_assoc, Option, Result, Ok, Err, Bool, arith}
-use Rattle.std.specs.Prelude.{All, replicate}
-use Rattle.std.specs.Io.{ReadsAtMost}
-use Rattle.std.specs.Io.KnownBytes.{Appends, Consumes, IsAtEnd, ReadConsumes}
-use Rattle.std.specs.IoError.{error_kind}
-use Rattle.std.specs.declared.io.Error.{Error}
-use Rattle.std.proofs.lemmas.List.{append-nil, length-append, length-take}
-use Rattle.std.proofs.lemmas.List.Elements.{All-append, All-cons, All-nil}
-use Rattle.std.proofs.lemmas.List.Sums.{sum_by-append}
-use Rattle.asgi_io.specs.declared.answer.Answer.{Answer}
-use Rattle.asgi_io.specs.declared.answer.Answer.TheVariants as answer
-use Rattle.asgi_io.specs.Answers.{answer_of, passes, bytes_of, moved}
-use Rattle.asgi_io.specs.declared.write.Wrote.TheVariants as wrote
-use Rattle.asgi_io.specs.Counting.{RoseBy}
-use Rattle.asgi_io.specs.Writing.{IsEnd, IsPart, Part, TriesWrites, part_answers}
-use Rattle.asgi_ws.specs.declared.messages.Msg.{Msg}
-use Rattle.asgi_ws.specs.declared.messages.Call.{Call}
-use Rattle.asgi_ws.specs.Sides.{Session}
+use Rattle.std.specs.{Prelude.All, Prelude.replicate, Io.ReadsAtMost, Io.KnownBytes.Appends, Io.KnownBytes.Consumes, Io.KnownBytes.ReadConsumes, IoError.error_kind, declared.io.Error.Error}
+use Rattle.std.proofs.lemmas.List.{append-nil, length-append, length-take, Elements.All-append, Elements.All-cons, Elements.All-nil, Sums.sum_by-append}
+use Rattle.asgi_io.specs.{declared.answer.Answer.Answer, Answers.answer_of, Answers.passes, Answers.bytes_of, Counting.RoseBy, Writing.IsEnd, Writing.IsPart, Writing.Part, Writing.TriesWrites}
+use Rattle.asgi_io.specs.Writing.{part_answers}
+use Rattle.asgi_ws.specs.{declared.messages.Msg.Msg, declared.messages.Call.Call, Sides.Session, Lines.LineState}
 use Rattle.asgi_io.proofs.BytesLemmas.{Appends-then, Consumes-nothing, Consumes-then}
 use Rattle.asgi_io.proofs.CountLemmas.{rose_after}
 use Rattle.asgi_io.proofs.WriteLemmas.{moved_some, moved_none, paused, failed}
-use Rattle.asgi_conversation.specs.declared.input.InputEnd.{InputEnd}
-use Rattle.asgi_conversation.specs.declared.input.InputEnd.TheVariants.{Open, AtEnd, Failed}
-use Rattle.asgi_ws.specs.Lines.{LineState}
-use Rattle.asgi_run.specs.Lines.{Transferred, EndsAs, GoesOn, how_wrote, input_after, piece_size}
+use Rattle.asgi_conversation.specs.declared.input.InputEnd.{InputEnd, TheVariants.Open, TheVariants.AtEnd, TheVariants.Failed}
 use Rattle.asgi_conversation.specs.TaskEnds.{has_ended}
+use Rattle.asgi_run.specs.Lines.{Transferred, EndsAs, GoesOn, how_wrote, input_after, piece_size}
+use Rattle.asgi_io.specs.declared.answer.Answer.TheVariants as answer
+use Rattle.asgi_io.specs.declared.write.Wrote.TheVariants as wrote
 
 -- ---- the session
 
 -- the session is as it was, if each part is
 pub session_is : (old new : Session) → (new.calls ≡ old.calls) × ((new.coming ≡ old.coming) × (new.leftover ≡ old.leftover)) → new ≡ old
 session_is old new same =
-    ap (λ (l : List Call). record new { calls = l }) same.0
-    ∙ (ap (λ (o : Option (List Msg)). record old { coming = o; leftover = new.leftover }) same.1.0
+    ap (λ (l : List Call). record new { calls = l }) same.0 ∙ (ap (λ (o : Option (List Msg)). record old { coming = o; leftover = new.leftover }) same.1.0
     ∙ ap (λ (o : Option (List ℕ)). record old { leftover = o }) same.1.1)
 
 -- ---- one read
@@ -49,41 +36,19 @@ goes_on_once a on = All-cons GoesOn a [] on (All-nil GoesOn)
 gave_as : (left next : Option (List ℕ)) (buffer : List ℕ) (a b : Answer) → a ≡ b → Gave left next buffer b → Gave left next buffer a
 gave_as left next buffer a b is x = subst (λ (y : Answer). Gave left next buffer y) (sym is) x
 
-gave_bytes : (left next : Option (List ℕ)) (buffer : List ℕ) (n : ℕ) → 0 < n → n ≤ length buffer → length buffer ≡ piece_size → Consumes left next (take n buffer)
-    → Gave left next buffer (answer.Moved n)
-gave_bytes left next buffer n some bound size bytes = record {
-  fits = bound;
-  consumes = bytes;
-  ends = goes_on_once (answer.Moved n) (some, omega (arith, bound, size));
-}
-
-gave_ok : (left next : Option (List ℕ)) (buffer : List ℕ) (n : ℕ) (a : Answer) → n ≤ length buffer → Consumes left next (take n buffer) → (n ≡ 0 → 0 < length buffer → IsAtEnd next)
-    → length buffer ≡ piece_size → a ≡ answer_of piece_size (Ok n) → Gave left next buffer a
-gave_ok left next buffer zero a bound bytes end size is = gave_as left next buffer a answer.Nothing (is ∙ moved_none piece_size (omega arith)) (record {
-  fits = omega arith;
-  consumes = bytes;
-  ends = ([], refl, All-nil GoesOn, end refl (omega (arith, size)));
-})
-gave_ok left next buffer (suc n) a bound bytes end size is =
-    gave_as left next buffer a (answer.Moved (suc n)) (is ∙ moved_some piece_size (suc n) (omega arith)) (gave_bytes left next buffer (suc n) (omega arith) bound size bytes)
-
-gave_err : (left next : Option (List ℕ)) (buffer : List ℕ) (e : Error) (a : Answer) (pauses : Bool) → passes (error_kind e) ≡ pauses → Consumes left next []
-    → a ≡ answer_of piece_size (Err e) → Gave left next buffer a
-gave_err left next buffer e a true passing kept is = gave_as left next buffer a answer.Paused (is ∙ paused piece_size e passing) (record {
-  fits = omega arith;
-  consumes = kept;
-  ends = goes_on_once answer.Paused tt;
-})
-gave_err left next buffer e a false fails kept is = gave_as left next buffer a answer.Failed (is ∙ failed piece_size e fails) (record {
-  fits = omega arith;
-  consumes = kept;
-  ends = ([], refl, All-nil GoesOn);
-})
-
 pub gave : (left next : Option (List ℕ)) (buffer : List ℕ) (r : Result ℕ Error) (a : Answer) → ReadsAtMost r buffer → ReadConsumes left next r buffer
     → length buffer ≡ piece_size → a ≡ answer_of piece_size r → Gave left next buffer a
-gave left next buffer (Ok n) a bound bytes size is = gave_ok left next buffer n a bound.0 bytes.0 bytes.1 size is
-gave left next buffer (Err e) a bound bytes size is = gave_err left next buffer e a (passes (error_kind e)) refl (Consumes-nothing left next bytes) is
+gave left next buffer (Ok zero) a bound bytes size is = gave_as left next buffer a answer.Nothing (is ∙ moved_none piece_size (omega arith))
+    (record { fits = omega arith; consumes = bytes.0; ends = ([], refl, All-nil GoesOn, bytes.1 refl (omega (arith, size))) })
+gave left next buffer (Ok (suc n)) a bound bytes size is = gave_as left next buffer a (answer.Moved (suc n)) (is ∙ moved_some piece_size (suc n) (omega arith))
+    (record { fits = bound.0; consumes = bytes.0; ends = goes_on_once (answer.Moved (suc n)) (omega arith, omega (arith, bound.0, size)) })
+gave left next buffer (Err e) a bound bytes size is = by (passes (error_kind e)) refl
+  where
+    by : (pauses : Bool) → passes (error_kind e) ≡ pauses → Gave left next buffer a
+    by true passing = gave_as left next buffer a answer.Paused (is ∙ paused piece_size e passing)
+        (record { fits = omega arith; consumes = Consumes-nothing left next bytes; ends = goes_on_once answer.Paused tt })
+    by false fails = gave_as left next buffer a answer.Failed (is ∙ failed piece_size e fails)
+        (record { fits = omega arith; consumes = Consumes-nothing left next bytes; ends = ([], refl, All-nil GoesOn) })
 
 pub told_as : (now after : List Answer) (buffer : List ℕ) (r : Result ℕ Error) (a : Answer) → after ≡ now ++ answer_of (length buffer) r ∷ [] → length buffer ≡ piece_size
     → a ≡ answer_of piece_size r → after ≡ now ++ a ∷ []
@@ -98,37 +63,22 @@ ends_more answers answer.Paused left next before x = All-append GoesOn answers (
 ends_more answers answer.Nothing left next before x = (answers, refl, before, x.3)
 ends_more answers answer.Failed left next before x = (answers, refl, before)
 
-gave_length : (buffer : List ℕ) (a : Answer) → bytes_of a ≤ length buffer → length (take (bytes_of a) buffer) ≡ bytes_of a
-gave_length buffer a fits = omega (arith, length-take (bytes_of a) buffer, fits)
-
-sum_more : (answers : List Answer) (a : Answer) (read piece : List ℕ) → moved answers ≡ length read → length piece ≡ bytes_of a
-    → moved (answers ++ a ∷ []) ≡ length (read ++ piece)
-sum_more answers a read piece sum size = omega (arith, sum_by-append bytes_of answers (a ∷ []), length-append read piece, sum, size)
-
--- the input is still open: one more read
-pub moved_by_read : (start : LineState) (old new : LineState) (read written : List ℕ) (failures : ℕ) (buffer : List ℕ) (a : Answer)
-    → Transferred start old Open read written failures → Gave old.left new.left buffer a → new.reads ≡ old.reads ++ a ∷ []
-    → new.written ≡ old.written → new.writes ≡ old.writes → new.failed ≡ old.failed → new.session ≡ old.session
-    → Transferred start new (input_after Open a) (read ++ take (bytes_of a) buffer) written failures
-moved_by_read start old new read written failures buffer a x y told same_written same_writes same_failed same_session = record {
-  consumes = Consumes-then start.left old.left new.left read (take (bytes_of a) buffer) x.consumes y.consumes;
-  appends = subst (λ (w : Option (List ℕ)). Appends start.written w written) (sym same_written) x.appends;
-  answers = x.answers ++ a ∷ [];
-  told = told ∙ (ap (λ (l : List Answer). l ++ a ∷ []) x.told ∙ append_assoc start.reads x.answers (a ∷ []));
-  sum = sum_more x.answers a read (take (bytes_of a) buffer) x.sum (gave_length buffer a y.fits);
-  ends = ends_more x.answers a old.left new.left x.ends y.ends;
-  tries = subst (λ (l : List Answer). TriesWrites start.writes l (length written) (how_wrote failures (length written))) (sym same_writes) x.tries;
-  failed = subst (λ (n : ℕ). RoseBy failures start.failed n) (sym same_failed) x.failed;
-  quiet = same_session ∙ x.quiet;
-}
-
--- the same, if a test shows that the input is open
+-- one more read, while a test shows that the input is open
 pub moved_by_open_read : (start : LineState) (old new : LineState) (end : InputEnd) (read written : List ℕ) (failures : ℕ) (buffer : List ℕ) (a : Answer) → has_ended end ≡ false
     → Transferred start old end read written failures → Gave old.left new.left buffer a → new.reads ≡ old.reads ++ a ∷ []
     → new.written ≡ old.written → new.writes ≡ old.writes → new.failed ≡ old.failed → new.session ≡ old.session
     → Transferred start new (input_after end a) (read ++ take (bytes_of a) buffer) written failures
-moved_by_open_read start old new Open read written failures buffer a still x y told same_written same_writes same_failed same_session =
-    moved_by_read start old new read written failures buffer a x y told same_written same_writes same_failed same_session
+moved_by_open_read start old new Open read written failures buffer a still x y told same_written same_writes same_failed same_session = record {
+  consumes = Consumes-then start.left old.left new.left read (take (bytes_of a) buffer) x.consumes y.consumes;
+  appends = rw same_written x.appends;
+  answers = x.answers ++ a ∷ [];
+  told = told ∙ (ap (λ (l : List Answer). l ++ a ∷ []) x.told ∙ append_assoc start.reads x.answers (a ∷ []));
+  sum = omega (arith, sum_by-append bytes_of x.answers (a ∷ []), length-append read (take (bytes_of a) buffer), length-take (bytes_of a) buffer, x.sum, y.fits);
+  ends = ends_more x.answers a old.left new.left x.ends y.ends;
+  tries = rw same_writes x.tries;
+  failed = rw same_failed x.failed;
+  quiet = same_session ∙ x.quiet;
+}
 moved_by_open_read start old new AtEnd read written failures buffer a still x y told same_written same_writes same_failed same_session = cc
 moved_by_open_read start old new Failed read written failures buffer a still x y told same_written same_writes same_failed same_session = cc
 
@@ -163,26 +113,19 @@ tries_then before mid after out more failures x y =
 -- the first n bytes of a text, counted
 pub tries_front : (before after : List Answer) (n : ℕ) (text : List ℕ) → n < length text → TriesWrites before after n (wrote.Failed n)
     → TriesWrites before after (length (take n text)) (how_wrote 1 (length (take n text)))
-tries_front before after n text less x =
-    let counted : n ≡ length (take n text) = omega (arith, length-take n text, less) in
-    subst (λ (k : ℕ). TriesWrites before after k (wrote.Failed k)) counted x
-
-ends_with : (end : InputEnd) (answers : List Answer) (left next : Option (List ℕ)) → next ≡ left → EndsAs end answers left → EndsAs end answers next
-ends_with end answers left next same x = subst (λ (l : Option (List ℕ)). EndsAs end answers l) (sym same) x
+tries_front before after n text less x = let counted : n ≡ length (take n text) = omega (arith, length-take n text, less) in subst (λ (k : ℕ). TriesWrites before after k (wrote.Failed k)) counted x
 
 pub moved_by_write : (start : LineState) (old new : LineState) (end : InputEnd) (read written text : List ℕ) (failures : ℕ)
     → Transferred start old end read written 0 → new.left ≡ old.left → new.reads ≡ old.reads → new.session ≡ old.session → Appends old.written new.written text → RoseBy failures old.failed new.failed
-    → TriesWrites old.writes new.writes (length text) (how_wrote failures (length text))
-    → Transferred start new end read (written ++ text) failures
+    → TriesWrites old.writes new.writes (length text) (how_wrote failures (length text)) → Transferred start new end read (written ++ text) failures
 moved_by_write start old new end read written text failures x same_left same_reads same_session appends rose tries = record {
-  consumes = subst (λ (l : Option (List ℕ)). Consumes start.left l read) (sym same_left) x.consumes;
+  consumes = rw same_left x.consumes;
   appends = Appends-then start.written old.written new.written written text x.appends appends;
   answers = x.answers;
   told = same_reads ∙ x.told;
   sum = x.sum;
-  ends = ends_with end x.answers old.left new.left same_left x.ends;
-  tries = subst (λ (k : ℕ). TriesWrites start.writes new.writes k (how_wrote failures k)) (sym (length-append written text))
-      (tries_then start.writes old.writes new.writes (length written) (length text) failures x.tries tries);
+  ends = subst (λ (l : Option (List ℕ)). EndsAs end x.answers l) (sym same_left) x.ends;
+  tries = subst (λ (k : ℕ). TriesWrites start.writes new.writes k (how_wrote failures k)) (sym (length-append written text)) (tries_then _ old.writes _ _ _ failures x.tries tries);
   failed = rose_after failures start.failed old.failed new.failed x.failed rose;
   quiet = same_session ∙ x.quiet;
 }

@@ -1,15 +1,14 @@
+use Rattle.std.proofs.Common.{◌≡◌}
 use Rattle.asgi_run.proofs.FinishLemmas.{has_run}
-use Rattle.asgi_run.proofs.ApartLemmas.{met_pair}
+use Rattle.asgi_run.proofs.InlineLemmas.{of_end_gives}
 use Rattle.asgi_run.proofs.apart.finish_apart.Goals as goal
 
 pub join-met-requires : goal.join-met-requires
 join-met-requires g c =
-    let side = c.requires.0 in
     let began = c.requires.1 in
-    let app = c.end-ran.result.app_end in
-    met_pair g.E.AppEnd side app c.args.conn.now.end c.abandon.new.end.end (λ conn end. g.N.Pipes.is_pair conn end)
-    (λ was same pair. g.met.N.Pipes.stays_pair c.args.conn.now.end c.abandon.new.end.end was app c.abandon.ensures.tag.0 same pair)
-    began.1 (c.end-ran.ensures.side side began.0 began.2).1
+    let conn = c.abandon.new.end.end in of_end_gives c.requires.0 (λ was. g.N.Pipes.is_pair c.args.conn.now.end was) (λ was. g.E.AppEnd.tag c.end-ran.result.app_end ≡ g.E.AppEnd.tag was)
+    (g.N.Pipes.is_pair conn c.end-ran.result.app_end) began.1 (c.end-ran.ensures.side c.requires.0 began.0 began.2).1
+    (λ was pair same. g.met.N.Pipes.stays_pair c.args.conn.now.end conn was c.end-ran.result.app_end c.abandon.ensures.tag.0 same pair)
 
 pub returns-clause-runs : goal.returns-clause-runs
 returns-clause-runs g c side scene now read view b s is request =

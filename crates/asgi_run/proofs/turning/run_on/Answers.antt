@@ -1,13 +1,10 @@
 use Rattle.std.proofs.Common.{◌++◌, ◌∷◌, [], List, Option, refl, sym, ap, inl, inr, subst, append_assoc, ◌∙◌, arith}
 use Rattle.std.proofs.lemmas.List.{append-nil}
-use Rattle.asgi_io.specs.declared.turns.Turn.{Turn}
-use Rattle.asgi_io.specs.Turns.{CountsTurns}
+use Rattle.asgi_io.specs.{declared.turns.Turn.Turn, Turns.CountsTurns}
 use Rattle.asgi_apps.proofs.PauseLemmas.{counts_more}
 use Rattle.asgi_conversation.specs.declared.following.NextStep.{NextStep}
 use Rattle.asgi_exchange.specs.Calls.{IsViewOf}
-use Rattle.asgi_run.specs.AnyHalf.{PreservesOn}
-use Rattle.asgi_run.specs.Limits.{IsSettled}
-use Rattle.asgi_run.proofs.InlineLemmas as lemma
+use Rattle.asgi_run.specs.{AnyHalf.PreservesOn, Limits.IsSettled}
 use Rattle.asgi_run.proofs.LeadsLemmas.{leads_none}
 use Rattle.asgi_run.proofs.turning.run_on.Goals as goal
 
@@ -31,15 +28,11 @@ loop-runner-init g c =
       );
     }
 
-pub loop-runner-smaller : goal.loop-runner-smaller
-loop-runner-smaller g c = omega (arith, c.take.ensures.one, c.take.ensures.turn_limit, (c.goes_on.ensures.yes c.loop-runner-test.true).0)
-
 pub loop-runner-preserved : goal.loop-runner-preserved
 loop-runner-preserved g c =
     let inv = c.loop-runner.invariant in
     record {
-      leads = λ scene read view s is.
-          let x = inv.leads scene read view s is in
+      leads = λ scene read view s is. let x = inv.leads scene read view s is in
           let y = c.turn-moved.ensures.leads scene (read ++ x.0) x.1 x.2 x.3 in
           (x.0 ++ y.0, y.1, rw (sym (append_assoc read x.0 y.0)) y.2, y.3);
       began = c.turn-moved.ensures.began c.args.side inv.began;
@@ -47,31 +40,10 @@ loop-runner-preserved g c =
       met = c.turn-moved.ensures.met ∙ inv.met;
       turn_limit = c.take.ensures.turn_limit ∙ inv.turn_limit;
       idle_limit = c.take.ensures.idle_limit ∙ inv.idle_limit;
-      turned = inr (lemma.later_turn c.args.turns.now.turns c.loop-runner.turns.turns c.take.new.self.turns _ inv.turned c.take.ensures.one);
+      turned = inr (elim inv.turned [ inl same ↦ omega (arith, same.1, c.take.ensures.one) | inr later ↦ omega (arith, later, c.take.ensures.one) ]);
       settled = λ settled. absurd (c.goes_on.ensures.open c.loop-runner-test.true (subst (λ (o : Option NextStep). IsSettled o) (sym (ap g.H.Half.following (inv.settled settled).0)) settled));
-      counts = λ turned pauses counts.
-          let x = inv.counts turned pauses counts in
+      counts = λ turned pauses counts. let x = inv.counts turned pauses counts in
           let y = counts_more c.args.turns.now.turn_limit c.args.turns.now.idle_limit _ _ pauses _ _ _ _ _ _ (turned ++ x.0) c.turn-moved.result
           inv.turn_limit inv.idle_limit x.1 c.take.ensures.counts in
           (x.0 ++ c.turn-moved.result ∷ [], rw (sym (append_assoc turned x.0 (c.turn-moved.result ∷ []))) y);
     }
-
-pub returns-clause-runs : goal.returns-clause-runs
-returns-clause-runs g c scene read view s is request =
-    let inv = c.loop-runner.invariant in
-    let x = inv.leads scene read view s is in
-    (x.0, c.finish.ensures.runs c.args.side scene (g.L.Line.state c.loop-runner.line) (read ++ x.0) x.1 inv.began x.2 x.3 request)
-
-pub returns-clause-counts : goal.returns-clause-counts
-returns-clause-counts g c = c.loop-runner.invariant.counts
-
-pub returns-clause-turn_limits : goal.returns-clause-turn_limits
-returns-clause-turn_limits g c = (c.loop-runner.invariant.turn_limit, c.loop-runner.invariant.idle_limit)
-
-pub returns-clause-takes_a_turn : goal.returns-clause-takes_a_turn
-returns-clause-takes_a_turn g c next =
-    lemma.stays_or_turned (g.H.Half.following c.args.half.now) (g.H.Half.following c.loop-runner.half) c.args.turns.now.turns c.loop-runner.turns.turns
-    c.loop-runner.invariant.turned (c.finish.ensures.follows next)
-
-pub returns-clause-idle : goal.returns-clause-idle
-returns-clause-idle g c over = lemma.idle_at g.H.Half.following c.loop-runner.half c.finish.new.half c.loop-runner.turns (c.goes_on.ensures.over c.loop-runner-test.false) c.finish.ensures.stays over

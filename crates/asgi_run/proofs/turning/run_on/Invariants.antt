@@ -1,10 +1,8 @@
 use Rattle.std.proofs.Common.{◌≡◌, ◌++◌, ◌-◌, ◌⊎◌, ℕ, List}
 use Rattle.std.specs.Prelude.{◌<◌}
-use Rattle.asgi_io.specs.declared.turns.Turn.{Turn}
-use Rattle.asgi_io.specs.Turns.{CountsTurns}
+use Rattle.asgi_io.specs.{declared.turns.Turn.Turn, Turns.CountsTurns}
 use Rattle.asgi_exchange.specs.Calls.{IsViewOf}
-use Rattle.asgi_run.specs.AnyHalf.{PreservesOn}
-use Rattle.asgi_run.specs.Limits.{IsSettled}
+use Rattle.asgi_run.specs.{AnyHalf.PreservesOn, Limits.IsSettled}
 use Rattle.asgi_run.proofs.turning.run_on.Given as goal
 
 abbrev pub invariant-loop-runner : goal.invariant-loop-runner
@@ -18,8 +16,7 @@ invariant-loop-runner g l = record {
   idle_limit : l.turns.idle_limit ≡ l.fn.turns.idle_limit;
   turned : ((g.H.Half.following l.half ≡ g.H.Half.following l.fn.half) × (l.turns.turns ≡ l.fn.turns.turns)) ⊎ (l.fn.turns.turns < l.turns.turns);
   settled : IsSettled (g.H.Half.following l.fn.half) → (l.half ≡ l.fn.half) × (l.turns.turns ≡ l.fn.turns.turns);
-  counts : (turned : List Turn) (pauses : ℕ)
-      → CountsTurns l.fn.turns.turn_limit l.fn.turns.idle_limit turned pauses (g.P.Pause.count l.fn.pause) l.fn.turns.turns l.fn.turns.idle
+  counts : (turned : List Turn) (pauses : ℕ) → CountsTurns l.fn.turns.turn_limit l.fn.turns.idle_limit turned pauses (g.P.Pause.count l.fn.pause) l.fn.turns.turns l.fn.turns.idle
       → (more : List Turn) × CountsTurns l.fn.turns.turn_limit l.fn.turns.idle_limit (turned ++ more) pauses (g.P.Pause.count l.pause) l.turns.turns l.turns.idle;
 }
 

@@ -1,6 +1,6 @@
-use Rattle.asgi_pipes.specs.contracts.plain_app.PlainAppAppEnd.TheImpl as app_end
 use Rattle.asgi_run.specs.declared.runner.AppSide.TheVariants.{HasEnded}
 use Rattle.asgi_run.proofs.FinishLemmas.{has_run}
+use Rattle.asgi_pipes.specs.contracts.plain_app.PlainAppAppEnd.TheImpl as app_end
 use Rattle.asgi_run.proofs.InlineLemmas as lemma
 use Rattle.asgi_run.proofs.inline.InlineRunner.finish.Goals as goal
 
