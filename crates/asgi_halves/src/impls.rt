@@ -34,7 +34,7 @@ impl Half for HttpHalf {
 
     ghost following = { λ half. following_of half.stage };
 
-    ghost takes = { λ _ _ _ _ _. ⊤ };
+    ghost takes = { λ _ _ _ _ _ _. ⊤ };
 
     fn turn<L: Line, C: ConnEnd>(&mut self, line: &mut L, end: &mut C, app_goes_on: bool) -> Turn {
         turn(self, line, end, app_goes_on)
@@ -73,7 +73,7 @@ impl Half for WebSocketHalf {
 
     ghost following = { λ half. following_of half.stage };
 
-    ghost takes = { λ _ _ _ _ _. ⊤ };
+    ghost takes = { λ _ _ _ _ _ _. ⊤ };
 
     fn turn<L: Line, C: ConnEnd>(&mut self, line: &mut L, end: &mut C, app_goes_on: bool) -> Turn {
         turn(self, line, end, app_goes_on)

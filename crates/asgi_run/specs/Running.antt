@@ -134,6 +134,10 @@ HasRested ends (Runs old) (Runs new) = IsSomeAnd old.lent (λ was. (polled : _) 
 HasRested ends (Runs old) (HasEnded app_end kind) = ⊥
 HasRested ends (HasEnded was before) new = ⊤
 
+-- in between the task was polled so, and before and after that only what was put was carried
+abbrev pub IsPolledSo : {T E : Type 0} → (AppSide T E → AppSide T E → Type 0) → AppSide T E → AppSide T E → Type 0
+IsPolledSo {T} {E} Polls old new = (before after : AppSide T E) × IsNotPolled old before × Polls before after × IsNotPolled after new
+
 -- the task ended in between
 abbrev pub EndsIn : {T E : Type 0} → AppSide T E → AppSide T E → Type 0
 EndsIn (Runs old) (Runs new) = ⊥

@@ -1,5 +1,5 @@
 //! Both halves of an exchange at the same time, in two threads.
-ghost use Rattle.std.specs.Prelude.{◌≡◌, ℕ, List, Some, IsSome, true, is_some, IfOk, IsOk, ⊤};
+ghost use Rattle.std.specs.Prelude.{◌≡◌, ◌<◌, ◌-◌, ◌⊎◌, ◌↔◌, ℕ, Bool, List, Some, IsSome, true, is_some, IfOk, IsOk, IsTrue, ⊤};
 ghost use Rattle.asgi_io.specs.declared.turns.Turn.{Turn};
 ghost use Rattle.asgi_pipes.specs.RingEnds.{IsRingPair};
 ghost use Rattle.asgi_pipes.specs.declared.ring_app.RingApp.{RingApp};
@@ -201,7 +201,11 @@ impl<T: AppTask, Q: Pause + Drop, R: Wait + Drop> Runner<T> for Beside<T, Q, R> 
         ensures limits { (turn_limit idle_limit paused turned : ℕ) → HasLimits Q.count exchange.old.job turn_limit idle_limit paused turned
             → HasLimits Q.count exchange.new.job turn_limit idle_limit paused turned }
         ensures taken { ⊤ }
-        ensures half { (moved : Turn) × H.takes (L.state line.old) half.old moved (L.state line.new) half.new × IsTurnWith moved result }
+        ensures half { (goes_on : Bool) × (moved : Turn) × H.takes (L.state line.old) half.old goes_on moved (L.state line.new) half.new × IsTurnWith moved result }
+        // The half waits for the application while there is patience left, which goes down by one a turn until something moves.
+        ensures told { (goes_on : Bool) × (moved : Turn) × (IsTrue goes_on ↔ 0 < exchange.old.patience)
+            × H.takes (L.state line.old) half.old goes_on moved (L.state line.new) half.new × IsTurnWith moved result }
+        ensures patience { (exchange.new.patience ≡ 64) ⊎ (exchange.new.patience ≡ exchange.old.patience - 1) }
         ensures over { IsSome (H.following half.old) → half.new ≡ half.old }
         ensures met { ◌≡◌ {A = ℕ} 0 0 }
     {

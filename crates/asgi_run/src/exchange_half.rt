@@ -1,5 +1,5 @@
 //! The connection's half of one exchange, whether bytes or messages arrive and are written.
-ghost use Rattle.std.specs.Prelude.{◌≡◌, ◌↔◌, ℕ, List, Option, Some, true, IsNone, IsSome, IsTrue};
+ghost use Rattle.std.specs.Prelude.{◌≡◌, ◌↔◌, ℕ, Bool, List, Option, Some, true, IsNone, IsSome, IsTrue};
 ghost use Rattle.asgi_io.specs.declared.turns.Turn.{Turn};
 ghost use Rattle.asgi_types.specs.declared.limits.Limits.{Limits};
 ghost use Rattle.asgi_exchange.specs.Calls.{IsViewOf};
@@ -34,15 +34,15 @@ pub trait Half {
     // What follows the exchange, once it is over.
     ghost following: { Self → Option NextStep };
 
-    // One turn of the half, with what it was said to be, and the line before and after. Of a half of which nothing
-    // else is known, only `turn` shows that one was taken.
-    ghost takes: { LineState → Self → Turn → LineState → Self → Type 0 };
+    // One turn of the half, with whether the application went on, what it was said to be, and the line before and
+    // after. Of a half of which nothing else is known, only `turn` shows that one was taken.
+    ghost takes: { LineState → Self → (app_goes_on : Bool) → Turn → LineState → Self → Type 0 };
 
     /// Takes one turn, and returns whether it moved anything. While the application goes on, nothing is read.
     fn turn<L: Line, C: ConnEnd>(&mut self, line: &mut L, end: &mut C, app_goes_on: bool) -> Turn
         ensures leads { PreservesOn stands (L.state line.old) self.old (IsViewOf C.ConnEnd end.old) (L.state line.new) self.new (IsViewOf C.ConnEnd end.new) }
         ensures over { IsSome (following self.old) → self.new ≡ self.old }
-        ensures taken { takes (L.state line.old) self.old result (L.state line.new) self.new }
+        ensures taken { takes (L.state line.old) self.old app_goes_on result (L.state line.new) self.new }
         ensures tag { (C.tag end.new ≡ C.tag end.old) × (C.ring end.new ≡ C.ring end.old) };
 
     /// True once the exchange has ended for any reason but a limit on turns.

@@ -1,5 +1,5 @@
 //! Both halves of an exchange in one thread, turn by turn.
-ghost use Rattle.std.specs.Prelude.{◌≡◌, ◌≢◌, ◌<◌, ◌⊎◌, ◌↔◌, ℕ, List, Some, IsSome, ⊤};
+ghost use Rattle.std.specs.Prelude.{◌≡◌, ◌≢◌, ◌<◌, ◌⊎◌, ◌↔◌, ℕ, Bool, List, Some, IsSome, IsTrue, IsFalse, ⊤};
 ghost use Rattle.asgi_io.specs.declared.turns.Turn.{Turn};
 ghost use Rattle.asgi_pipes.specs.PlainPairs.{IsPlainPair};
 ghost use Rattle.asgi_pipes.specs.declared.plain_app.PlainApp.{PlainApp};
@@ -10,7 +10,7 @@ ghost use Rattle.asgi_conversation.specs.declared.following.NextStep.TheVariants
 ghost use Rattle.asgi_ws.specs.Lines.{LineState};
 ghost use Rattle.asgi_run.specs.declared.runner.AppSide.{AppSide};
 ghost use Rattle.asgi_run.specs.AnyHalf.{PreservesOn};
-ghost use Rattle.asgi_run.specs.Running.{OfEnd, MayRun, HasRun, Drives, HasCome, HasPassed, HasMoved, IsOfRequest, IsPolled, IsNotPolled, EndsIn, GoesOnAs, HasRested, IsTurnWith, TagStays};
+ghost use Rattle.asgi_run.specs.Running.{OfEnd, MayRun, HasRun, Drives, HasCome, HasPassed, HasMoved, IsOfRequest, IsPolled, IsPolledSo, IsNotPolled, EndsIn, GoesOnAs, HasRested, IsTurnWith, TagStays};
 
 use crate::exchange_half::Half;
 use crate::runner::{AppSide, NoEnds, Runner};
@@ -123,7 +123,12 @@ impl<'q, T: AppTask> Runner<T> for Inline<'q> {
             → HasCome IsPlainPair T.stands T.answers ⟦<PlainApp as AppEnd>⟧ exchange.new.conn side exchange.new.side }
         ensures limits { (turn_limit idle_limit paused turned : ℕ) → (paused ≡ 0) × (turned ≡ 0) → (paused ≡ 0) × (turned ≡ 0) }
         ensures taken { ⊤ }
-        ensures half { (moved : Turn) × H.takes (L.state line.old) half.old moved (L.state line.new) half.new × IsTurnWith moved result }
+        ensures half { (goes_on : Bool) × (moved : Turn) × H.takes (L.state line.old) half.old goes_on moved (L.state line.new) half.new × IsTurnWith moved result }
+        // The half is told whether the task moved something in the turn before, and it is kept whether it did in this one.
+        ensures told { (moved : Turn) × H.takes (L.state line.old) half.old exchange.old.app_goes_on moved (L.state line.new) half.new × IsTurnWith moved result }
+        ensures goes_on { IsTrue exchange.new.app_goes_on → IsPolledSo (HasMoved ⟦<PlainApp as AppEnd>⟧) exchange.old.side exchange.new.side }
+        ensures rests { IsFalse exchange.new.app_goes_on → (scene : H.Scene) (read : List ℕ) (view : ConnView H.In H.Out) → H.stands scene (L.state line.old) half.old read view
+            → IsViewOf ⟦<PlainConn as ConnEnd>⟧ exchange.old.conn view → 0 < (H.exchange scene).ring → IsPolledSo (HasRested ⟦<PlainApp as AppEnd>⟧) exchange.old.side exchange.new.side }
         ensures over { IsSome (H.following half.old) → half.new ≡ half.old }
         ensures met { ◌≡◌ {A = ℕ} 0 0 }
         // A turn in which the task ended has moved something.
@@ -230,7 +235,7 @@ fn poll_on<T: AppTask, E: AppEnd>(
     ensures tag { TagStays E.AppEnd side.old side.new }
     ensures ends { EndsIn side.old side.new → result ≡ Turn.Moved }
     ensures moved { result ≡ Turn.Moved → HasMoved E.AppEnd side.old side.new }
-    ensures idle { result ≡ Turn.Idle → 0 < most → HasRested E.AppEnd side.old side.new }
+    ensures idle { result ≢ Turn.Moved → 0 < most → HasRested E.AppEnd side.old side.new }
     ensures polls { 0 < most → IsPolled side.old side.new }
 {
     if most == 0 {

@@ -1,5 +1,5 @@
 //! What takes up the two halves of an exchange, turn by turn.
-ghost use Rattle.std.specs.Prelude.{◌≡◌, ◌+◌, false, [], ℕ, List, Some, None, IfOk, IsOk, IsSome};
+ghost use Rattle.std.specs.Prelude.{◌≡◌, ◌+◌, Bool, false, [], ℕ, List, Some, None, IfOk, IsOk, IsSome};
 ghost use Rattle.asgi_io.specs.declared.turns.Turn.{Turn};
 ghost use Rattle.asgi_exchange.specs.Calls.{IsViewOf, IsExchangeOf};
 ghost use Rattle.asgi_exchange.specs.Views.{ConnView};
@@ -128,7 +128,7 @@ pub trait Runner<T: AppTask> {
             → limited exchange.new turn_limit idle_limit paused turned }
         ensures taken { takes exchange.old result exchange.new }
         // The connection's half took one turn. What it moved has moved, and else only the application's half did.
-        ensures half { (moved : Turn) × H.takes (L.state line.old) half.old moved (L.state line.new) half.new × IsTurnWith moved result }
+        ensures half { (goes_on : Bool) × (moved : Turn) × H.takes (L.state line.old) half.old goes_on moved (L.state line.new) half.new × IsTurnWith moved result }
         // What is over stays as it is.
         ensures over { IsSome (H.following half.old) → half.new ≡ half.old }
         ensures met { not_met self.new ≡ not_met self.old };
