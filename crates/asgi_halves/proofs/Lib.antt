@@ -1,3 +1,4 @@
+pub mod SessionWords
 pub mod TalkLemmas
 pub mod LineCallLemmas
 pub mod FramesLemmas
