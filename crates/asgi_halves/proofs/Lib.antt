@@ -1,4 +1,5 @@
 pub mod HalfWords
+pub mod SessionWords
 pub mod TalkLemmas
 pub mod LineCallLemmas
 pub mod FramesLemmas

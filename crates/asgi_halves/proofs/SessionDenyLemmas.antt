@@ -1,35 +1,10 @@
 -- An event of a denial is sent that the judge has passed: if the invariant of the half held, it holds again.
-use Rattle.std.proofs.Common.{◌≡◌, ℕ, ◌<◌, true, false, List, [], ◌∷◌, ◌++◌, length, take, refl, sym, ap, ◌∙◌, subst, None, map, Result, Ok, Err, OnOk}
-use Rattle.std.specs.Io.KnownBytes.{Appends}
+use Rattle.asgi_halves.proofs.SessionWords.{◌≡◌, ℕ, ◌<◌, true, false, List, [], ◌∷◌, ◌++◌, length, take, refl, sym, ap, ◌∙◌, subst, None, map, Result, Ok, Err, OnOk, Appends, map-append, append_cancel_left, RoseBy, TriesWrites, Facts, Outgoing, DenialStart, DenialBody, WebSocket, Judge, passes, Event, denial_text, ResponseText, Msg, end_of}
+use Rattle.asgi_halves.proofs.SessionWords.{Output, Byte, Handshake, event_output, output_of, session_output, ConnView, taken_of, event_adds, WriteFailed, NoMemory, handshake_of, Running, Cut, Unanswered, WebSocketHalf, Wire, LineState, SessionScene, Invariant, IsDenial, Talks, answer_of, answer_to, said_in}
 use Rattle.std.specs.Result.{is_err}
-use Rattle.std.proofs.lemmas.List.{map-append, append_cancel_left}
 use Rattle.asgi_io.specs.declared.write.Wrote.TheVariants as wrote
-use Rattle.asgi_io.specs.Counting.{RoseBy}
-use Rattle.asgi_io.specs.Writing.{TriesWrites}
-use Rattle.asgi_types.specs.declared.facts.Facts.{Facts}
-use Rattle.asgi_types.specs.declared.outgoing.Outgoing.{Outgoing}
-use Rattle.asgi_types.specs.declared.outgoing.Outgoing.TheVariants.{DenialStart, DenialBody}
-use Rattle.asgi_types.specs.declared.scope.Kind.TheVariants.{WebSocket}
-use Rattle.asgi_protocol.specs.declared.judge.Judge.{Judge}
-use Rattle.asgi_protocol.specs.Passing.{passes}
 use Rattle.asgi_protocol.specs.Stages as judging
-use Rattle.asgi_pipes.specs.declared.items.OutItem.TheVariants.{Event}
-use Rattle.asgi_response.specs.Denial.{denial_text}
 use Rattle.asgi_response.specs.Standing as standing
-use Rattle.asgi_response.specs.declared.text.ResponseText.{ResponseText}
-use Rattle.asgi_ws.specs.declared.messages.Msg.{Msg}
-use Rattle.asgi_exchange.specs.Items.{end_of}
-use Rattle.asgi_exchange.specs.Session.{Output, Byte, Handshake, event_output, output_of, session_output}
-use Rattle.asgi_exchange.specs.Views.{ConnView, taken_of}
-use Rattle.asgi_exchange.proofs.SessionLemmas.{event_adds}
-use Rattle.asgi_conversation.specs.declared.report.Outcome.TheVariants.{WriteFailed, NoMemory}
-use Rattle.asgi_conversation.specs.Sessions.{handshake_of}
-use Rattle.asgi_halves.specs.declared.stage.Stage.TheVariants.{Running, Cut}
-use Rattle.asgi_halves.specs.declared.session_half.Answered.TheVariants.{Unanswered}
-use Rattle.asgi_halves.specs.declared.session_half.WebSocketHalf.{WebSocketHalf}
-use Rattle.asgi_halves.specs.declared.wire.Wire.{Wire}
-use Rattle.asgi_ws.specs.Lines.{LineState}
-use Rattle.asgi_halves.specs.WebSocketHalf.{SessionScene, Invariant, IsDenial, Talks, answer_of, answer_to, said_in}
 use Rattle.asgi_halves.proofs.SessionPassLemmas.{more_said, denial_is_first, denial_goes_on}
 use Rattle.asgi_halves.proofs.SessionSayLemmas.{accept_cut, denial_out, text_short}
 use Rattle.asgi_halves.proofs.SessionOfferLemmas.{runs}

@@ -1,67 +1,27 @@
 -- A session ends with its task: what the end adds is written, and the connection ends as that end requires.
-use Rattle.std.proofs.Common.{◌≡◌, ℕ, ◌<◌, Bool, true, false, ◌⊎◌, inl, inr, List, [], ◌∷◌, ◌++◌, length, take, drop, refl, sym, ap, ◌∙◌, subst, append_assoc, Option, Some, map, arith}
-use Rattle.std.specs.Prelude.{if◌then◌else◌}
-use Rattle.std.specs.Io.KnownBytes.{Appends}
-use Rattle.std.proofs.lemmas.List.{append-nil, length-map, take-map, take-append-drop}
+use Rattle.asgi_halves.proofs.SessionWords.{◌≡◌, ℕ, ◌<◌, Bool, true, false, ◌⊎◌, inl, inr, List, [], ◌∷◌, ◌++◌, length, take, drop, refl, sym, ap, ◌∙◌, subst, append_assoc, Option, Some, map, arith, if◌then◌else◌, Appends, append-nil, length-map, take-map, take-append-drop, RoseBy, TriesWrites, EndKind, Facts, Outgoing}
+use Rattle.asgi_halves.proofs.SessionWords.{WsAccept, WsClose, DenialStart, Http, WebSocket, begins_word, is_closed, test_of_beginning, closing_facts, as_response, denial_progress, refusal_text, Send, SentMessage, Msg, Put, taken_by, has_failed}
+use Rattle.asgi_halves.proofs.SessionWords.{count_after, end_of, has_close, Output, Byte, Message, accepted_session, ending_of, session_ending, is_by_input, ConnView, added_by, output, taken_of, ConnectionEnds, Outcome, handshake_of, after_session, open_outcome, session_outcome, StopsSession, Stage, Answered, Unanswered, Open, Closed, Session}
+use Rattle.asgi_halves.proofs.SessionWords.{Side, Application, Client, WebSocketHalf, failures_of, LineState, how_wrote, SessionScene, Invariant, Talks, EndsByTask, IsAt, IsCarried, IsDue, IsSilent, IsUnended, answer_of, answer_to, exchange_of, is_over_with, known, output_in, rest_at, said_in, spare_at, spare_with, talk_in, CarriesOn}
+use Rattle.asgi_halves.proofs.SessionWords.{tries_front, failures_at, failures_by, as_messages, as_text, HasSent, LeavesText, talk_written, talk_sent, prefix_self}
 use Rattle.asgi_io.specs.declared.write.Wrote.TheVariants as wrote
-use Rattle.asgi_io.specs.Counting.{RoseBy}
-use Rattle.asgi_io.specs.Writing.{TriesWrites}
-use Rattle.asgi_types.specs.declared.end_kind.EndKind.{EndKind}
 use Rattle.asgi_types.specs.declared.end_kind.EndKind.TheVariants as kind
-use Rattle.asgi_types.specs.declared.facts.Facts.{Facts}
-use Rattle.asgi_types.specs.declared.outgoing.Outgoing.{Outgoing}
-use Rattle.asgi_types.specs.declared.outgoing.Outgoing.TheVariants.{ResponseStart, ResponseBody, WsAccept, WsSend, WsClose, DenialStart, DenialBody, StartupComplete, StartupFailed, ShutdownComplete, ShutdownFailed}
-use Rattle.asgi_types.specs.declared.scope.Kind.TheVariants.{Http, WebSocket}
 use Rattle.asgi_protocol.specs.Lawful.{IsLawful}
-use Rattle.asgi_protocol.specs.Shapes.{begins_word, is_closed}
-use Rattle.asgi_protocol.proofs.WordLemmas.{test_of_beginning}
 use Rattle.asgi_response.specs.declared.progress.Progress.{Progress}
 use Rattle.asgi_response.specs.declared.progress.Progress.TheVariants.{Nothing, Begun, Complete}
-use Rattle.asgi_response.specs.Denial.{closing_facts, as_response, denial_progress}
-use Rattle.asgi_response.specs.Exchange.{refusal_text}
 use Rattle.asgi_response.specs.Standing as standing
 use Rattle.asgi_response.specs.Progress.{closes_after, progress_in}
 use Rattle.asgi_response.proofs.DenialLemmas.{is_lawful_response}
 use Rattle.asgi_response.proofs.LawfulLemmas.{lawful_is_accepted}
-use Rattle.asgi_ws.specs.declared.messages.Call.TheVariants.{Send}
-use Rattle.asgi_ws.specs.declared.messages.SentMessage.{SentMessage}
 use Rattle.asgi_ws.specs.declared.messages.SentMessage.TheVariants as item
-use Rattle.asgi_ws.specs.declared.messages.Msg.{Msg}
-use Rattle.asgi_ws.specs.declared.messages.Put.{Put}
 use Rattle.asgi_ws.specs.declared.messages.Put.TheVariants as put
-use Rattle.asgi_ws.specs.Sessions.{taken_by, has_failed, count_after}
-use Rattle.asgi_exchange.specs.Items.{end_of}
-use Rattle.asgi_exchange.specs.Messages.{has_close}
-use Rattle.asgi_exchange.specs.Session.{Output, Byte, Message, accepted_session, ending_of, session_ending}
 use Rattle.asgi_exchange.specs.ExchangeTexts.{ending_after, session_text}
-use Rattle.asgi_exchange.specs.Steps.{is_by_input}
-use Rattle.asgi_exchange.specs.Views.{ConnView, added_by, output, taken_of}
-use Rattle.asgi_conversation.specs.declared.following.NextStep.TheVariants.{ConnectionEnds}
-use Rattle.asgi_conversation.specs.declared.report.Outcome.{Outcome}
 use Rattle.asgi_conversation.specs.declared.report.Outcome.TheVariants as outcome
-use Rattle.asgi_conversation.specs.Sessions.{handshake_of, after_session, open_outcome, session_outcome, StopsSession}
 use Rattle.asgi_conversation.specs.ExchangeRecord.{Ending}
-use Rattle.asgi_halves.specs.declared.stage.Stage.{Stage}
 use Rattle.asgi_halves.specs.declared.stage.Stage.TheVariants as stage
-use Rattle.asgi_halves.specs.declared.session_half.Answered.{Answered}
-use Rattle.asgi_halves.specs.declared.session_half.Answered.TheVariants.{Unanswered, Open, Closed, Refused}
-use Rattle.asgi_halves.specs.declared.session_half.Session.{Session}
+use Rattle.asgi_halves.specs.declared.session_half.Answered.TheVariants.{Refused}
 use Rattle.asgi_halves.specs.declared.session_half.Session.TheVariants as session
-use Rattle.asgi_halves.specs.declared.session_half.Side.{Side}
-use Rattle.asgi_halves.specs.declared.session_half.Side.TheVariants.{Application, Client}
-use Rattle.asgi_halves.specs.declared.session_half.WebSocketHalf.{WebSocketHalf}
-use Rattle.asgi_halves.specs.Traffic.{failures_of}
-use Rattle.asgi_ws.specs.Lines.{LineState}
-use Rattle.asgi_run.specs.Lines.{how_wrote}
-use Rattle.asgi_halves.specs.WebSocketHalf.{SessionScene, Invariant, Talks, EndsByTask, IsAt, IsCarried, IsDue, IsSilent, IsUnended, answer_of, answer_to, exchange_of, is_over_with, known, output_in, rest_at, said_in, spare_at, spare_with, talk_in}
-use Rattle.asgi_halves.specs.WebSocketHalf.{CarriesOn}
-use Rattle.asgi_run.proofs.LineLemmas.{tries_front}
-use Rattle.asgi_halves.specs.Half.{failures_at}
-use Rattle.asgi_halves.proofs.CallLemmas.{failures_by, as_messages, as_text}
-use Rattle.asgi_halves.proofs.LineCallLemmas.{HasSent}
-use Rattle.asgi_halves.proofs.TalkLemmas.{LeavesText, talk_written, talk_sent}
 use Rattle.asgi_halves.proofs.SessionOfferLemmas.{carried_on, line_at}
-use Rattle.asgi_exchange.proofs.ListLemmas.{prefix_self}
 
 -- ---- what the end adds, by what was sent
 
@@ -138,14 +98,7 @@ none_begun facts (DenialStart a b ∷ event ∷ events) lawful h =
     let never : false ≡ true = begun_or_whole (is_closed Http said) (closes_after (closing_facts facts) said) (sym (denied_so_far facts a b (event ∷ events) lawful) ∙ h) in cc
 none_begun facts (WsAccept a b ∷ events) lawful h = cc
 none_begun facts (WsClose a b ∷ events) lawful h = cc
-none_begun facts (WsSend a ∷ events) lawful h = (let never : false ≡ true = unlawful facts (WsSend a ∷ events) lawful in cc)
-none_begun facts (DenialBody a b ∷ events) lawful h = (let never : false ≡ true = unlawful facts (DenialBody a b ∷ events) lawful in cc)
-none_begun facts (ResponseStart a b ∷ events) lawful h = (let never : false ≡ true = unlawful facts (ResponseStart a b ∷ events) lawful in cc)
-none_begun facts (ResponseBody a b ∷ events) lawful h = (let never : false ≡ true = unlawful facts (ResponseBody a b ∷ events) lawful in cc)
-none_begun facts (StartupComplete a ∷ events) lawful h = (let never : false ≡ true = unlawful facts (StartupComplete a ∷ events) lawful in cc)
-none_begun facts (StartupFailed a ∷ events) lawful h = (let never : false ≡ true = unlawful facts (StartupFailed a ∷ events) lawful in cc)
-none_begun facts (ShutdownComplete ∷ events) lawful h = (let never : false ≡ true = unlawful facts (ShutdownComplete ∷ events) lawful in cc)
-none_begun facts (ShutdownFailed a ∷ events) lawful h = (let never : false ≡ true = unlawful facts (ShutdownFailed a ∷ events) lawful in cc)
+none_begun facts (event ∷ events) lawful h = (let never : false ≡ true = unlawful facts (event ∷ events) lawful in cc)
 
 -- one was
 one_begun : (facts : Facts) (said : List Outgoing) → IsLawful WebSocket facts said → answer_to said ≡ Unanswered → (denial_progress facts said ≡ Nothing → ⊥) → EndsWell said
@@ -158,14 +111,7 @@ one_begun facts (WsAccept a b ∷ events) lawful u h = by (is_closed WebSocket (
     by true is = (let never : Unanswered ≡ Closed = open_or_closed (WsAccept a b ∷ events) true Unanswered is u in cc)
     by false is = (let never : Unanswered ≡ Open = open_or_closed (WsAccept a b ∷ events) false Unanswered is u in cc)
 one_begun facts (WsClose a b ∷ events) lawful u h = cc
-one_begun facts (WsSend a ∷ events) lawful u h = (let never : false ≡ true = unlawful facts (WsSend a ∷ events) lawful in cc)
-one_begun facts (DenialBody a b ∷ events) lawful u h = (let never : false ≡ true = unlawful facts (DenialBody a b ∷ events) lawful in cc)
-one_begun facts (ResponseStart a b ∷ events) lawful u h = (let never : false ≡ true = unlawful facts (ResponseStart a b ∷ events) lawful in cc)
-one_begun facts (ResponseBody a b ∷ events) lawful u h = (let never : false ≡ true = unlawful facts (ResponseBody a b ∷ events) lawful in cc)
-one_begun facts (StartupComplete a ∷ events) lawful u h = (let never : false ≡ true = unlawful facts (StartupComplete a ∷ events) lawful in cc)
-one_begun facts (StartupFailed a ∷ events) lawful u h = (let never : false ≡ true = unlawful facts (StartupFailed a ∷ events) lawful in cc)
-one_begun facts (ShutdownComplete ∷ events) lawful u h = (let never : false ≡ true = unlawful facts (ShutdownComplete ∷ events) lawful in cc)
-one_begun facts (ShutdownFailed a ∷ events) lawful u h = (let never : false ≡ true = unlawful facts (ShutdownFailed a ∷ events) lawful in cc)
+one_begun facts (event ∷ events) lawful u h = (let never : false ≡ true = unlawful facts (event ∷ events) lawful in cc)
 
 never_open : Closed ≡ Open → ⊥
 never_open e = cc

@@ -1,21 +1,7 @@
 -- What the exchange of an opening handshake owes the turns of its half.
-use Rattle.std.proofs.Common.{◌≡◌, ℕ, List, [], ◌∷◌, ◌++◌, refl, sym, subst, append-nil, Bool}
-use Rattle.asgi_types.specs.declared.end_kind.EndKind.{EndKind}
-use Rattle.asgi_types.specs.declared.incoming.Incoming.TheVariants.{WsDisconnect}
-use Rattle.asgi_pipes.specs.declared.items.OutItem.TheVariants.{Ended}
-use Rattle.asgi_exchange.specs.Session.{Output}
-use Rattle.asgi_exchange.specs.Steps.{is_by_input}
-use Rattle.asgi_exchange.specs.Views.{ConnView}
-use Rattle.asgi_ws.specs.declared.messages.Msg.{Msg}
-use Rattle.asgi_conversation.specs.declared.following.NextStep.TheVariants.{ConnectionEnds}
-use Rattle.asgi_conversation.specs.declared.report.Outcome.{Outcome}
+use Rattle.asgi_halves.proofs.SessionWords.{◌≡◌, ℕ, List, [], ◌∷◌, ◌++◌, refl, sym, subst, append-nil, Bool, EndKind, WsDisconnect, Ended, Output, is_by_input, ConnView, Msg, ConnectionEnds, Outcome, LineState, WebSocketHalf, Stage, Running, Cut, Over, IsCutOff, IsOpen, PreservesAlone, SessionScene, Invariant, PreservesByLine}
 use Rattle.asgi_conversation.specs.declared.report.Outcome.TheVariants.{Idle}
-use Rattle.asgi_ws.specs.Lines.{LineState}
-use Rattle.asgi_halves.specs.declared.session_half.WebSocketHalf.{WebSocketHalf}
-use Rattle.asgi_halves.specs.declared.stage.Stage.{Stage}
-use Rattle.asgi_halves.specs.declared.stage.Stage.TheVariants.{Running, Ending, Cut, Over}
-use Rattle.asgi_halves.specs.Kinds.{IsCutOff, IsOpen, PreservesAlone}
-use Rattle.asgi_halves.specs.WebSocketHalf.{SessionScene, Invariant, PreservesByLine}
+use Rattle.asgi_halves.specs.declared.stage.Stage.TheVariants.{Ending}
 use Rattle.asgi_halves.proofs.SessionOfferLemmas.{stops_running, stops_ending}
 use Rattle.asgi_halves.proofs.SessionTakeLemmas.{ended_taken}
 

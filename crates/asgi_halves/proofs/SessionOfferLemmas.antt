@@ -1,53 +1,18 @@
 -- The steps of a session's half at its own end of the pair: it offers what is due, and the disconnect of a cut.
-use Rattle.std.proofs.Common.{◌≡◌, ℕ, Bool, true, false, List, [], ◌∷◌, ◌++◌, refl, sym, ap, ◌∙◌, subst, inl, inr, append-nil, Option, Some, None, if◌then◌else◌}
-use Rattle.std.specs.Prelude.{◌⊎◌, not, is_some, IsTrue}
+use Rattle.asgi_halves.proofs.SessionWords.{◌≡◌, ℕ, Bool, true, false, List, [], ◌∷◌, ◌++◌, refl, sym, ap, ◌∙◌, subst, inl, inr, append-nil, Option, Some, None, if◌then◌else◌, ◌⊎◌, not, is_some, IsTrue, IsPrefix, EndKind, Facts, Incoming, WsDisconnect, Outgoing, WebSocket, passes, OutItem, Event, Ended, ConnKeeps, IsOffered, end_of, events_of}
+use Rattle.asgi_halves.proofs.SessionWords.{has_close, session_disconnect, session_events, Output, with_session_event, accepted_session, session_output, session_ending, is_by_input, is_by_cut, Break, ByInput, ByCut, ConnView, output, added_by, taken_of, events_append, end_event, prefix_self, prefix_trans, none_is_heard, web_socket_is_steady}
+use Rattle.asgi_halves.proofs.SessionWords.{SentMessage, Msg, ConnectionEnds, Outcome, IsNextOutput, StopsSession, handshake_of, Stage, Answered, Unanswered, Open, Closed, Answer, Session, Client, WebSocketHalf, failures_at, LineState, SessionScene, Invariant, Talks, IsAt, IsCarried, IsCarrying, IsCutShort, IsCutShortAs, IsDue, answer_of}
+use Rattle.asgi_halves.proofs.SessionWords.{exchange_of, is_over_at, is_over_with, known, output_in, rest_at, said_in, spare_at, spare_with, talk_in, drop_limit, CarriesOn, IsCutOff}
 use Rattle.std.proofs.lemmas.List.Sums.{fold-append}
-use mathlib.Core.List.{IsPrefix}
-use Rattle.asgi_types.specs.declared.end_kind.EndKind.{EndKind}
-use Rattle.asgi_types.specs.declared.facts.Facts.{Facts}
-use Rattle.asgi_types.specs.declared.incoming.Incoming.{Incoming}
-use Rattle.asgi_types.specs.declared.incoming.Incoming.TheVariants.{WsDisconnect}
-use Rattle.asgi_types.specs.declared.outgoing.Outgoing.{Outgoing}
-use Rattle.asgi_types.specs.declared.scope.Kind.TheVariants.{WebSocket}
-use Rattle.asgi_protocol.specs.Passing.{passes}
 use Rattle.asgi_pipes.specs.declared.ends.ConnEnd as conn_end
-use Rattle.asgi_pipes.specs.declared.items.OutItem.{OutItem}
-use Rattle.asgi_pipes.specs.declared.items.OutItem.TheVariants.{Event, Ended}
 use Rattle.asgi_exchange.specs.Calls.{IsViewOf}
-use Rattle.asgi_exchange.specs.Halves.{ConnKeeps, IsOffered}
-use Rattle.asgi_exchange.specs.Items.{end_of, events_of}
-use Rattle.asgi_exchange.specs.Messages.{has_close, session_disconnect, session_events}
-use Rattle.asgi_exchange.specs.Session.{Output, with_session_event, accepted_session, session_output, session_ending}
-use Rattle.asgi_exchange.specs.Steps.{is_by_input, is_by_cut}
-use Rattle.asgi_exchange.specs.Views.{Break, ByInput, ByCut, ConnView, output, added_by, taken_of}
-use Rattle.asgi_exchange.proofs.EventLemmas.{events_append, end_event}
-use Rattle.asgi_exchange.proofs.ListLemmas.{prefix_self, prefix_trans}
-use Rattle.asgi_exchange.proofs.MessageLemmas.{none_is_heard}
-use Rattle.asgi_exchange.proofs.SessionLemmas.{web_socket_is_steady}
-use Rattle.asgi_ws.specs.declared.messages.SentMessage.{SentMessage}
-use Rattle.asgi_ws.specs.declared.messages.Msg.{Msg}
-use Rattle.asgi_conversation.specs.declared.following.NextStep.TheVariants.{ConnectionEnds}
-use Rattle.asgi_conversation.specs.declared.report.Outcome.{Outcome}
 use Rattle.asgi_conversation.specs.declared.report.Outcome.TheVariants as outcome
-use Rattle.asgi_conversation.specs.Sessions.{IsNextOutput, StopsSession, handshake_of}
-use Rattle.asgi_halves.specs.declared.stage.Stage.{Stage}
 use Rattle.asgi_halves.specs.declared.stage.Stage.TheVariants as stage
-use Rattle.asgi_halves.specs.declared.session_half.Answered.{Answered}
-use Rattle.asgi_halves.specs.declared.session_half.Answered.TheVariants.{Unanswered, Open, Closed, Refused}
-use Rattle.asgi_halves.specs.declared.session_half.Answer.{Answer}
+use Rattle.asgi_halves.specs.declared.session_half.Answered.TheVariants.{Refused}
 use Rattle.asgi_halves.specs.declared.session_half.Answer.TheVariants as to
-use Rattle.asgi_halves.specs.declared.session_half.Session.{Session}
 use Rattle.asgi_halves.specs.declared.session_half.Session.TheVariants as session
-use Rattle.asgi_halves.specs.declared.session_half.Side.TheVariants.{Client}
-use Rattle.asgi_halves.specs.declared.session_half.WebSocketHalf.{WebSocketHalf}
-use Rattle.asgi_halves.specs.Half.{failures_at}
-use Rattle.asgi_ws.specs.Lines.{LineState}
-use Rattle.asgi_halves.specs.WebSocketHalf.{SessionScene, Invariant, Talks, IsAt, IsCarried, IsCarrying, IsCutShort, IsCutShortAs, IsDue, answer_of, exchange_of, is_over_at, is_over_with, known, output_in, rest_at, said_in, spare_at, spare_with, talk_in}
-use Rattle.asgi_halves.specs.Traffic.{drop_limit}
 use Rattle.asgi_conversation.specs.OutcomeClasses.{OutcomeClass, Uncut, ByWrite, GivenUp, Lacking, Unbegun, class_of}
-use Rattle.asgi_halves.specs.WebSocketHalf.{CarriesOn}
 use Rattle.asgi_conversation.proofs.NextLemmas.{next_on}
-use Rattle.asgi_halves.specs.Kinds.{IsCutOff}
 use Rattle.asgi_halves.proofs.HalfBodyLemmas.{unbroken}
 
 -- ---- what was taken grows

@@ -1,55 +1,20 @@
 -- The reads of a session: a message arrives and is heard, or it is dropped after a close.
-use Rattle.std.proofs.Common.{◌≡◌, ℕ, ◌+◌, ◌<◌, ◌≤◌, Bool, true, false, ◌||◌, List, [], ◌∷◌, ◌++◌, inl, inr, refl, sym, ap, ◌∙◌, subst, append-nil, map, arith, Option, Some, None, zero, suc}
-use mathlib.Core.List.{IsPrefix}
-use Rattle.asgi_types.specs.declared.end_kind.EndKind.{EndKind}
+use Rattle.asgi_halves.proofs.SessionWords.{◌≡◌, ℕ, ◌+◌, ◌<◌, ◌≤◌, Bool, true, false, ◌||◌, List, [], ◌∷◌, ◌++◌, inl, inr, refl, sym, ap, ◌∙◌, subst, append-nil, map, arith, Option, Some, None, zero, suc, IsPrefix, EndKind, Incoming, WsReceive, Outgoing, WsAccept, DenialStart}
+use Rattle.asgi_halves.proofs.SessionWords.{WebSocket, test_of_beginning, IsOffered, end_of, events_in, has_close, disconnect_of, session_events, session_disconnect, Output, Message, is_by_input, Break, ByInput, ByCut, ConnView, output, added_by, taken_of, prefix_same}
+use Rattle.asgi_halves.proofs.SessionWords.{prefix_trans, events_grow, close_is_heard, web_socket_is_steady, Read, SentMessage, Msg, given_by, reads_after_close, Finished, NoMemory, handshake_of, session_outcome, after_session, Stage, Running, Cut, Answered, Open, Awaited, Accepted, Session, Side, Application, Client, WebSocketHalf, LineState}
+use Rattle.asgi_halves.proofs.SessionWords.{IsShut, turn_by, SessionScene, Invariant, Talks, EndsByTask, IsAt, IsDue, IsCarrying, MayDrop, PreservesByLine, answer_of, exchange_of, heard_by, is_over_at, is_over_with, lost_by, noted_by, output_in, reads_at, rest_after, said_in, spare_at, spare_with, talk_in, failures_at, drop_limit, is_end}
+use Rattle.asgi_halves.proofs.SessionWords.{CarriesOn, closes, none_after, open_closes, read_after, HasRead, talk_read}
 use Rattle.asgi_types.specs.declared.end_kind.EndKind.TheVariants as kind
-use Rattle.asgi_types.specs.declared.incoming.Incoming.{Incoming}
-use Rattle.asgi_types.specs.declared.incoming.Incoming.TheVariants.{WsReceive}
 use Rattle.asgi_types.specs.declared.incoming.Payload.TheVariants as payload
-use Rattle.asgi_types.specs.declared.outgoing.Outgoing.{Outgoing}
-use Rattle.asgi_types.specs.declared.outgoing.Outgoing.TheVariants.{ResponseStart, ResponseBody, WsAccept, WsSend, WsClose, DenialStart, DenialBody, StartupComplete, StartupFailed, ShutdownComplete, ShutdownFailed}
-use Rattle.asgi_types.specs.declared.scope.Kind.TheVariants.{WebSocket}
-use Rattle.asgi_protocol.proofs.WordLemmas.{test_of_beginning}
-use Rattle.asgi_exchange.specs.Halves.{IsOffered}
-use Rattle.asgi_exchange.specs.Items.{end_of}
-use Rattle.asgi_exchange.specs.Messages.{events_in, has_close, disconnect_of, session_events, session_disconnect}
-use Rattle.asgi_exchange.specs.Session.{Output, Message}
-use Rattle.asgi_exchange.specs.Steps.{is_by_input}
-use Rattle.asgi_exchange.specs.Views.{Break, ByInput, ByCut, ConnView, output, added_by, taken_of}
-use Rattle.asgi_exchange.proofs.ListLemmas.{prefix_same, prefix_trans}
-use Rattle.asgi_exchange.proofs.MessageLemmas.{events_grow, close_is_heard}
-use Rattle.asgi_exchange.proofs.SessionLemmas.{web_socket_is_steady}
 use Rattle.asgi_ws.specs.declared.messages.Got.{Got}
 use Rattle.asgi_ws.specs.declared.messages.Got.TheVariants as got
-use Rattle.asgi_ws.specs.declared.messages.Call.TheVariants.{Read}
-use Rattle.asgi_ws.specs.declared.messages.SentMessage.{SentMessage}
-use Rattle.asgi_ws.specs.declared.messages.Msg.{Msg}
 use Rattle.asgi_ws.specs.declared.messages.Msg.TheVariants.{Text, Bytes, Ping, Pong, Close}
-use Rattle.asgi_ws.specs.Sessions.{given_by, reads_after_close}
-use Rattle.asgi_conversation.specs.declared.report.Outcome.TheVariants.{Finished, NoMemory}
-use Rattle.asgi_conversation.specs.Sessions.{handshake_of, session_outcome, after_session}
-use Rattle.asgi_halves.specs.declared.stage.Stage.{Stage}
-use Rattle.asgi_halves.specs.declared.stage.Stage.TheVariants.{Running, Cut}
-use Rattle.asgi_halves.specs.declared.session_half.Answered.{Answered}
-use Rattle.asgi_halves.specs.declared.session_half.Answered.TheVariants.{Open}
-use Rattle.asgi_halves.specs.declared.session_half.Answer.TheVariants.{Awaited, Accepted, Refused}
-use Rattle.asgi_halves.specs.declared.session_half.Session.{Session}
+use Rattle.asgi_halves.specs.declared.session_half.Answer.TheVariants.{Refused}
 use Rattle.asgi_halves.specs.declared.session_half.Session.TheVariants as session
 use Rattle.asgi_halves.specs.declared.session_half.Reading.TheVariants as reading
-use Rattle.asgi_halves.specs.declared.session_half.Side.{Side}
-use Rattle.asgi_halves.specs.declared.session_half.Side.TheVariants.{Application, Client}
-use Rattle.asgi_halves.specs.declared.session_half.WebSocketHalf.{WebSocketHalf}
-use Rattle.asgi_ws.specs.Lines.{LineState}
 use Rattle.asgi_io.specs.declared.turns.Turn.{Turn}
 use Rattle.asgi_io.specs.declared.turns.Turn.TheVariants.{Idle, Moved}
-use Rattle.asgi_halves.specs.Kinds.{IsShut, turn_by}
-use Rattle.asgi_halves.specs.WebSocketHalf.{SessionScene, Invariant, Talks, EndsByTask, IsAt, IsDue, IsCarrying, MayDrop, PreservesByLine, answer_of, exchange_of, heard_by, is_over_at, is_over_with, lost_by, noted_by, output_in, reads_at, rest_after, said_in, spare_at, spare_with, talk_in}
-use Rattle.asgi_halves.specs.Half.{failures_at}
-use Rattle.asgi_halves.specs.Traffic.{drop_limit, is_end}
-use Rattle.asgi_halves.specs.WebSocketHalf.{CarriesOn}
-use Rattle.asgi_halves.proofs.CallLemmas.{closes, closes_after, none_after, open_closes, read_after}
-use Rattle.asgi_halves.proofs.LineCallLemmas.{HasRead}
-use Rattle.asgi_halves.proofs.TalkLemmas.{talk_read}
+use Rattle.asgi_halves.proofs.CallLemmas.{closes_after}
 use Rattle.asgi_halves.proofs.SessionOfferLemmas.{Carries, carrying, carrying_of, due_in, runs}
 
 -- ---- more messages
@@ -113,15 +78,7 @@ outcome_still (WsAccept subprotocol headers ∷ events) true arrived more closed
 outcome_still (WsAccept subprotocol headers ∷ events) false arrived more closed = refl
 outcome_still (DenialStart status headers ∷ []) input_broke arrived more closed = refl
 outcome_still (DenialStart status headers ∷ (event ∷ events)) input_broke arrived more closed = refl
-outcome_still (WsClose code reason ∷ events) input_broke arrived more closed = refl
-outcome_still (WsSend message ∷ events) input_broke arrived more closed = refl
-outcome_still (DenialBody body more_body ∷ events) input_broke arrived more closed = refl
-outcome_still (ResponseStart status headers ∷ events) input_broke arrived more closed = refl
-outcome_still (ResponseBody body more_body ∷ events) input_broke arrived more closed = refl
-outcome_still (StartupComplete state ∷ events) input_broke arrived more closed = refl
-outcome_still (StartupFailed message ∷ events) input_broke arrived more closed = refl
-outcome_still (ShutdownComplete ∷ events) input_broke arrived more closed = refl
-outcome_still (ShutdownFailed message ∷ events) input_broke arrived more closed = refl
+outcome_still (_ ∷ events) input_broke arrived more closed = refl
 
 follows_still : (ended : EndKind) (said : List Outgoing) (input_broke : Bool) (arrived more : List Msg) → (input_broke ≡ true → has_close arrived ≡ true)
     → after_session ended said input_broke (arrived ++ more) ≡ after_session ended said input_broke arrived

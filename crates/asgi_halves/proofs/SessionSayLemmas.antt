@@ -1,64 +1,19 @@
 -- An event is sent that the judge has passed: if the invariant of the half held, it holds again.
-use Rattle.std.proofs.Common.{◌≡◌, ◌≢◌, ℕ, ◌<◌, Bool, true, false, ◌⊎◌, inl, inr, List, [], ◌∷◌, ◌++◌, length, take, drop, refl, sym, ap, ◌∙◌, subst, append_assoc, Option, Some, None, map, arith, Vec, Global}
-use Rattle.std.specs.Prelude.{if◌then◌else◌}
-use Rattle.std.specs.Io.KnownBytes.{Appends}
-use Rattle.std.proofs.lemmas.List.{append-nil, length-map, take-map, take-append-drop}
-use mathlib.Core.List.{IsPrefix}
+use Rattle.asgi_halves.proofs.SessionWords.{◌≡◌, ◌≢◌, ℕ, ◌<◌, Bool, true, false, ◌⊎◌, inl, inr, List, [], ◌∷◌, ◌++◌, length, take, drop, refl, sym, ap, ◌∙◌, subst, append_assoc, Option, Some, None, map, arith, Vec, Global, if◌then◌else◌, Appends, append-nil, length-map, take-map, take-append-drop, IsPrefix, RoseBy, TriesWrites, HeaderField}
+use Rattle.asgi_halves.proofs.SessionWords.{EndKind, Facts, Incoming, Outgoing, WsAccept, WsSend, WsClose, WebSocket, Judge, passes, is_closed, refusal_text, Event, Send, SentMessage, Msg, Put, taken_by, has_failed, count_after, kept_by, end_of, has_close, Output, Byte, Message, accepted_session, event_output, output_of, session_output}
+use Rattle.asgi_halves.proofs.SessionWords.{is_by_input, ConnView, added_by, output, taken_of, events_append, end_event, event_adds, WriteFailed, NoMemory, handshake_of, StopsSession, Saying, Stage, Running, Cut, Answered, Unanswered, Open, Closed, Answer, Session, Application, Client, WebSocketHalf, LineState, how_wrote, SessionScene}
+use Rattle.asgi_halves.proofs.SessionWords.{Invariant, IsAccept, Talks, IsAt, IsCarried, IsCarrying, IsDue, IsOf, IsSilent, answer_of, answer_to, answered_with, exchange_of, is_over_with, known, output_in, rest_at, said_in, spare_at, spare_with, stage_of, talk_in, CarriesOn, tries_front, failures_at, failures_by, as_messages, as_text}
+use Rattle.asgi_halves.proofs.SessionWords.{LeavesText, talk_written, talk_sent, talk_upgraded, ResponseText}
 use Rattle.asgi_io.specs.declared.write.Wrote.TheVariants as wrote
-use Rattle.asgi_io.specs.Counting.{RoseBy}
-use Rattle.asgi_io.specs.Writing.{TriesWrites}
-use Rattle.asgi_types.specs.Fields.{HeaderField}
-use Rattle.asgi_types.specs.declared.end_kind.EndKind.{EndKind}
-use Rattle.asgi_types.specs.declared.facts.Facts.{Facts}
-use Rattle.asgi_types.specs.declared.incoming.Incoming.{Incoming}
 use Rattle.asgi_types.specs.declared.incoming.Payload.{Payload}
-use Rattle.asgi_types.specs.declared.outgoing.Outgoing.{Outgoing}
-use Rattle.asgi_types.specs.declared.outgoing.Outgoing.TheVariants.{WsAccept, WsSend, WsClose}
-use Rattle.asgi_types.specs.declared.scope.Kind.TheVariants.{WebSocket}
-use Rattle.asgi_protocol.specs.declared.judge.Judge.{Judge}
-use Rattle.asgi_protocol.specs.Passing.{passes}
-use Rattle.asgi_protocol.specs.Shapes.{is_closed}
 use Rattle.asgi_protocol.specs.Stages as judging
-use Rattle.asgi_response.specs.Exchange.{refusal_text}
-use Rattle.asgi_pipes.specs.declared.items.OutItem.TheVariants.{Event}
-use Rattle.asgi_ws.specs.declared.messages.Call.TheVariants.{Send}
-use Rattle.asgi_ws.specs.declared.messages.SentMessage.{SentMessage}
 use Rattle.asgi_ws.specs.declared.messages.SentMessage.TheVariants as item
-use Rattle.asgi_ws.specs.declared.messages.Msg.{Msg}
-use Rattle.asgi_ws.specs.declared.messages.Put.{Put}
 use Rattle.asgi_ws.specs.declared.messages.Put.TheVariants as put
 use Rattle.asgi_ws.specs.Handshake.{accept_text}
-use Rattle.asgi_ws.specs.Sessions.{taken_by, has_failed, count_after, kept_by}
-use Rattle.asgi_exchange.specs.Items.{end_of}
-use Rattle.asgi_exchange.specs.Messages.{has_close}
-use Rattle.asgi_exchange.specs.Session.{Output, Byte, Message, accepted_session, event_output, output_of, session_output}
-use Rattle.asgi_exchange.specs.Steps.{is_by_input}
-use Rattle.asgi_exchange.specs.Views.{ConnView, added_by, output, taken_of}
-use Rattle.asgi_exchange.proofs.EventLemmas.{events_append, end_event}
-use Rattle.asgi_exchange.proofs.SessionLemmas.{event_adds}
-use Rattle.asgi_conversation.specs.declared.report.Outcome.TheVariants.{WriteFailed, NoMemory}
-use Rattle.asgi_conversation.specs.Sessions.{handshake_of, StopsSession}
-use Rattle.asgi_conversation.specs.ExchangeRecord.{Saying}
-use Rattle.asgi_halves.specs.declared.stage.Stage.{Stage}
-use Rattle.asgi_halves.specs.declared.stage.Stage.TheVariants.{Running, Cut}
-use Rattle.asgi_halves.specs.declared.session_half.Answered.{Answered}
-use Rattle.asgi_halves.specs.declared.session_half.Answered.TheVariants.{Unanswered, Open, Closed, Refused}
-use Rattle.asgi_halves.specs.declared.session_half.Answer.{Answer}
+use Rattle.asgi_halves.specs.declared.session_half.Answered.TheVariants.{Refused}
 use Rattle.asgi_halves.specs.declared.session_half.Answer.TheVariants as to
-use Rattle.asgi_halves.specs.declared.session_half.Session.{Session}
 use Rattle.asgi_halves.specs.declared.session_half.Session.TheVariants as session
-use Rattle.asgi_halves.specs.declared.session_half.Side.TheVariants.{Application, Client}
-use Rattle.asgi_halves.specs.declared.session_half.WebSocketHalf.{WebSocketHalf}
-use Rattle.asgi_ws.specs.Lines.{LineState}
-use Rattle.asgi_run.specs.Lines.{how_wrote}
-use Rattle.asgi_halves.specs.WebSocketHalf.{SessionScene, Invariant, IsAccept, Talks, IsAt, IsCarried, IsCarrying, IsDue, IsOf, IsSilent, answer_of, answer_to, answered_with, exchange_of, is_over_with, known, output_in, rest_at, said_in, spare_at, spare_with, stage_of, talk_in}
-use Rattle.asgi_halves.specs.WebSocketHalf.{CarriesOn}
-use Rattle.asgi_run.proofs.LineLemmas.{tries_front}
 use Rattle.asgi_halves.proofs.SessionPassLemmas.{more_said, accept_is_first, close_has_place, send_is_in_session, open_is_accepted, not_closed, open_after_send, closed_after_close}
-use Rattle.asgi_halves.specs.Half.{failures_at}
-use Rattle.asgi_halves.proofs.CallLemmas.{failures_by, as_messages, as_text}
-use Rattle.asgi_halves.proofs.TalkLemmas.{LeavesText, talk_written, talk_sent, talk_upgraded}
-use Rattle.asgi_response.specs.declared.text.ResponseText.{ResponseText}
 use Rattle.asgi_response.specs.Standing as standing
 use Rattle.asgi_halves.proofs.SessionOfferLemmas.{Carries, carrying, line_at, runs, same_answer}
 

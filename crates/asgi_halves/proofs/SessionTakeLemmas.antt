@@ -1,45 +1,15 @@
 -- What the half of a session takes: nothing, the end of the task, or an event, which adds nothing if the judge does not pass it.
-use Rattle.std.proofs.Common.{◌≡◌, ◌≢◌, ℕ, true, false, Bool, arith, List, [], ◌∷◌, ◌++◌, refl, sym, ap, ◌∙◌, subst, Option, Some, None, Vec, Global}
-use Rattle.std.proofs.lemmas.List.{append-nil}
-use Rattle.asgi_types.specs.Fields.{HeaderField}
-use Rattle.asgi_types.specs.declared.end_kind.EndKind.{EndKind}
-use Rattle.asgi_types.specs.declared.facts.Facts.{Facts}
-use Rattle.asgi_types.specs.declared.incoming.Incoming.TheVariants.{WsConnect}
-use Rattle.asgi_types.specs.declared.outgoing.Outgoing.{Outgoing}
-use Rattle.asgi_types.specs.declared.outgoing.Outgoing.TheVariants.{WsAccept, WsSend, WsClose, DenialStart, DenialBody}
-use Rattle.asgi_types.specs.declared.scope.Kind.TheVariants.{WebSocket}
-use Rattle.asgi_protocol.specs.declared.judge.Judge.{Judge}
+use Rattle.asgi_halves.proofs.SessionWords.{◌≡◌, ◌≢◌, ℕ, true, false, Bool, arith, List, [], ◌∷◌, ◌++◌, refl, sym, ap, ◌∙◌, subst, Option, Some, None, Vec, Global, append-nil, HeaderField, EndKind, Facts, WsConnect, Outgoing, WsAccept, WsSend, WsClose, DenialStart, DenialBody, WebSocket, Judge, is_pass, passes, is_message, is_of, OutItem}
+use Rattle.asgi_halves.proofs.SessionWords.{Event, Ended, ResponseText, Msg, end_of, session_events, Output, accepted_session, output_of, is_by_input, ConnView, empty_conn, added_by, output, taken_of, events_append, end_event, end_ended, handshake_of, no_traffic, Stage, Running, Awaited, WebSocketHalf, Wire, failures_at, LineState}
+use Rattle.asgi_halves.proofs.SessionWords.{SessionScene, Invariant, OpensSession, Talks, answer_of, answer_to, exchange_of, said_in, drop_limit, CarriesOn, talk_begins}
 use Rattle.asgi_protocol.specs.declared.verdict.Verdict.{Verdict}
 use Rattle.asgi_protocol.specs.declared.verdict.Verdict.TheVariants as verdict
-use Rattle.asgi_protocol.specs.Passing.{is_pass, passes}
-use Rattle.asgi_protocol.specs.Shapes.{is_message, is_of}
 use Rattle.asgi_protocol.specs.Stages as judging
 use Rattle.asgi_protocol.specs.Verdicts.{verdict_on}
-use Rattle.asgi_pipes.specs.declared.items.OutItem.{OutItem}
-use Rattle.asgi_pipes.specs.declared.items.OutItem.TheVariants.{Event, Ended}
 use Rattle.asgi_response.specs.Standing as standing
-use Rattle.asgi_response.specs.declared.text.ResponseText.{ResponseText}
-use Rattle.asgi_ws.specs.declared.messages.Msg.{Msg}
-use Rattle.asgi_exchange.specs.Items.{end_of}
-use Rattle.asgi_exchange.specs.Messages.{session_events}
-use Rattle.asgi_exchange.specs.Session.{Output, accepted_session, output_of}
-use Rattle.asgi_exchange.specs.Steps.{is_by_input}
-use Rattle.asgi_exchange.specs.Views.{ConnView, empty_conn, added_by, output, taken_of}
-use Rattle.asgi_exchange.proofs.EventLemmas.{events_append, end_event, end_ended}
-use Rattle.asgi_conversation.specs.Sessions.{handshake_of, no_traffic}
-use Rattle.asgi_halves.specs.declared.stage.Stage.{Stage}
-use Rattle.asgi_halves.specs.declared.stage.Stage.TheVariants.{Running, Ending}
-use Rattle.asgi_halves.specs.declared.session_half.Answer.TheVariants.{Awaited}
+use Rattle.asgi_halves.specs.declared.stage.Stage.TheVariants.{Ending}
 use Rattle.asgi_halves.specs.declared.session_half.Session.TheVariants as session
-use Rattle.asgi_halves.specs.declared.session_half.WebSocketHalf.{WebSocketHalf}
-use Rattle.asgi_halves.specs.declared.wire.Wire.{Wire}
-use Rattle.asgi_halves.specs.Half.{failures_at}
-use Rattle.asgi_ws.specs.Lines.{LineState}
-use Rattle.asgi_halves.specs.WebSocketHalf.{SessionScene, Invariant, OpensSession, Talks, answer_of, answer_to, exchange_of, said_in}
-use Rattle.asgi_halves.specs.Traffic.{drop_limit}
-use Rattle.asgi_halves.specs.WebSocketHalf.{CarriesOn}
 use Rattle.asgi_halves.proofs.SessionPassLemmas.{same_said}
-use Rattle.asgi_halves.proofs.TalkLemmas.{talk_begins}
 use Rattle.asgi_halves.proofs.SessionOfferLemmas.{carried_on, line_at, runs}
 
 no_pass : (v : Verdict) → (v ≡ verdict.Pass → ⊥) → is_pass v ≡ false
