@@ -1,6 +1,5 @@
-use Rattle.asgi_halves.proofs.HalfWords.{inl, inr, refl, subst, leads_then, leads_out, LineState, IsTurnOfRead}
+use Rattle.asgi_halves.proofs.HalfWords.{inl, inr, refl, subst, leads_then, leads_out, LineState, IsTurnOfRead, rules}
 use Rattle.asgi_run.proofs.LeadsLemmas.{taken_and_offered}
-use Rattle.std.proofs.Common.{rules}
 use Rattle.asgi_halves.proofs.TurnLemmas.{all_offered, all_taken, ended_awaits_none, ended_not_running, most_offered, not_worked, rested, worked}
 use Rattle.asgi_halves.proofs.turns.run.Goals as goal
 
