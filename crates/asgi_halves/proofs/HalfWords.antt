@@ -11,7 +11,7 @@ pub use Rattle.asgi_halves.specs.{declared.stage.Stage.Stage, declared.wire.Wire
 pub use Rattle.asgi_halves.specs.{private.HalfSteps.HoldsFew, private.HalfSteps.IsNoneDue, private.HalfSteps.KeepsBesidesBody, private.HalfSteps.ReadsAt, private.HalfSteps.known_input}
 pub use Rattle.asgi_io.specs.{Counting.RoseBy, Writing.TriesWrites, declared.turns.Turn.Turn}
 pub use Rattle.asgi_pipes.specs.declared.{ends.ConnEnd.Ghosts as ConnGhosts, items.OutItem.OutItem}
-pub use Rattle.asgi_request.proofs.{BodyOfLemmas.body_is_read, DueLemmas.whole_is_complete, OpenedLemmas.opened_at, OpenedLemmas.opened_plain}
+pub use Rattle.asgi_request.proofs.BodyOfLemmas.{body_is_read}
 pub use Rattle.asgi_request.specs.{BodyOf.body_events, BodyOf.body_state, ChunkedBody.BodyState, ChunkedBody.complete, ChunkedBody.faulty, ChunkedBody.partial, Opened.HasOpened, Reading.Reading}
 pub use Rattle.asgi_request.specs.{Reading.StandsFor, RequestEvents.ReadsBody, declared.next.Next.Next}
 pub use Rattle.asgi_response.specs.{Response.response_text, Standing.StandsFor as StandsForText, declared.refusal.Input.Input}
@@ -20,8 +20,8 @@ pub use Rattle.asgi_run.specs.Lines.{Transferred, piece_size}
 pub use Rattle.asgi_types.specs.declared.{end_kind.EndKind.EndKind, facts.Facts.Facts, facts.Framing.Framing, incoming.Incoming.Incoming, limits.Limits.Limits, outgoing.Outgoing.Outgoing}
 pub use Rattle.asgi_types.specs.declared.{scope.Scope.Scope}
 pub use Rattle.asgi_ws.specs.{Lines.LineState, Sessions.is_read, declared.messages.Call.Call, declared.messages.Got.Got, declared.messages.Put.Put, declared.messages.SentMessage.SentMessage}
-pub use Rattle.std.proofs.Common.{Bool, List, None, Option, Some, [], ap, append-nil, append_assoc, arith, drop, false, inl, inr, length, length-append, map, refl, subst, sym, take, true, ℕ, ◌++◌}
-pub use Rattle.std.proofs.Common.{◌+◌, ◌<◌, ◌∙◌, ◌∷◌, ◌≡◌, ◌≢◌, ◌≤◌}
+pub use Rattle.std.proofs.Common.{Bool, List, None, Option, Some, [], ap, append-nil, append_assoc, arith, drop, false, inl, inr, length, length-append, map, refl, rules, subst, sym, take, true, ℕ}
+pub use Rattle.std.proofs.Common.{◌++◌, ◌+◌, ◌<◌, ◌∙◌, ◌∷◌, ◌≡◌, ◌≢◌, ◌≤◌}
 pub use Rattle.std.proofs.lemmas.List.{take-append-drop}
 pub use Rattle.std.specs.{Io.KnownBytes.Appends, List.count_by, Prelude.is_some, Prelude.not, Prelude.◌⊎◌}
 pub use mathlib.Core.List.{IsPrefix}

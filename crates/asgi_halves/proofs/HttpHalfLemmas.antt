@@ -6,5 +6,4 @@ use Rattle.std.specs.Prelude.{IsSome}
 pub over_at : (stage : Stage) → IsSome (following_of stage) → (following : NextStep) × (stage ≡ Stage.Over following)
 over_at (Stage.Over following) some_ = (following, refl)
 over_at Stage.Running some_ = cc
-over_at (Stage.Ending kind) some_ = cc
-over_at (Stage.Cut outcome) some_ = cc
+over_at _ some_ = cc

@@ -1,7 +1,7 @@
 -- What is read ahead of the requests in hand is bounded, wherever more is read.
 use Rattle.asgi_halves.proofs.HalfWords.{◌≡◌, ℕ, ◌<◌, ◌≤◌, true, List, [], ◌∷◌, ◌++◌, map, take, length, length-append, refl, sym, ap, ◌∙◌, subst, inr, append_assoc, append-nil, arith, Facts}
-use Rattle.asgi_halves.proofs.HalfWords.{Framing, Incoming, Limits, Scope, Next, body_events, body_state, BodyState, complete, HasOpened, Reading, StandsFor, body_is_read, whole_is_complete}
-use Rattle.asgi_halves.proofs.HalfWords.{opened_at, opened_plain, prefix_trans, has_ended, InputEnd, BodyProgress, Scene, requests_in, HasGiven, ReadsAt, HoldsFew, piece_size, ReadsAhead, ReadsBody}
+use Rattle.asgi_halves.proofs.HalfWords.{Framing, Incoming, Limits, Scope, Next, body_events, BodyState, complete, HasOpened, Reading, StandsFor, body_is_read, prefix_trans, has_ended, InputEnd}
+use Rattle.asgi_halves.proofs.HalfWords.{BodyProgress, Scene, requests_in, HasGiven, ReadsAt, HoldsFew, piece_size, ReadsAhead, ReadsBody}
 use Rattle.asgi_conversation.proofs.{LoopLemmas.end_seen_within, LoopLemmas.within_reads_more, RequestLemmas.heads_join}
 use Rattle.asgi_conversation.specs.{Exchanges.heads_of, SoFar.Within}
 use Rattle.asgi_exchange.proofs.ListLemmas.{prefix_same}
@@ -9,6 +9,7 @@ use Rattle.asgi_halves.specs.{Half.WithinScene, ReadAhead.ahead_limit}
 use Rattle.asgi_request.proofs.{FirstLemmas.none_gives, FirstLemmas.whole_alone, OpenedLemmas.closed_at, OpenedLemmas.whole_closes, OpenedLemmas.whole_is_closed, StandardLemmas.all_results}
 use Rattle.asgi_request.specs.{Opened.HasClosed, Reading.EndsWhole, Reading.IsWaiting, Results.GivesResults}
 use Rattle.std.proofs.lemmas.List.{length-take-le}
+use Rattle.asgi_halves.proofs.HalfBodyLemmas.{whole_is}
 
 -- ---- at the beginning, and before more requests
 
@@ -104,8 +105,7 @@ module _ (reader : Reading) (read more : List ℕ) (opened : List Next) (framing
   closes : StandsFor reader read (opened ++ (map Next.Event events ++ Next.Whole ∷ [])) → (after : List ℕ) × HasClosed reader.limits read (opened ++ (map Next.Event events ++ Next.Whole ∷ [])) after
   closes given =
       let due = body_events reader.limits framing arrived in
-      let known = whole_is_complete reader.limits read opened framing arrived due (body_state reader.limits framing arrived) reader.place reader.held
-      (opened_at reader.limits read opened framing arrived x) (opened_plain reader.limits read opened framing arrived x) (body_is_read reader.limits framing arrived) events given in
+      let known = whole_is reader read opened framing arrived x events given in
       let after = known.1.0 in
       let E : List Incoming → Type 0 = λ l. ReadsBody reader.limits framing arrived l (complete after) in
       let S : BodyState → Type 0 = λ s. ReadsBody reader.limits framing arrived due s in
@@ -123,6 +123,4 @@ module _ (reader : Reading) (read more : List ℕ) (opened : List Next) (framing
       let held = few refl read all given ends in
       let closed = closes given in
       reads_after reader.limits read more all requests held.0 (whole_is_closed reader read all closed.0 held.0 closed.1 held.1) (heads_after opened events ∙ heads) held.2 short
-  reads_in (BodyProgress.Waits event) reads given asked few = absurd reads
-  reads_in (BodyProgress.Refused status) reads given asked few = absurd reads
-  reads_in BodyProgress.BrokenOff reads given asked few = absurd reads
+  reads_in _ reads given asked few = absurd reads

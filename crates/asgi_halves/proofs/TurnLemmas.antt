@@ -1,10 +1,16 @@
 -- What the half's end of the pair gives it, in an exchange of any kind.
 use Rattle.asgi_halves.proofs.HalfWords.{◌≡◌, ℕ, ◌+◌, ◌<◌, arith, length, length-append, Bool, true, false, List, [], ◌∷◌, ◌++◌, refl, sym, ap, ◌∙◌, subst, inl, inr, append-nil, Option, Some, None}
-use Rattle.asgi_halves.proofs.HalfWords.{count_by, ◌⊎◌, not, is_some, EndKind, Outgoing, OutItem, IsViewOf, Break, ByCut, ConnView, LineState, is_read, Incoming, Turn, NextStep, Stage, HasEnded}
-use Rattle.asgi_halves.proofs.HalfWords.{HasGrown, IsCutOff, IsTurnOfRead, NoRead, OfBytes, OfMessage, ReadsNone, TakesNone, ConnGhosts}
+use Rattle.asgi_halves.proofs.HalfWords.{count_by, ◌⊎◌, not, is_some, EndKind, OutItem, IsViewOf, Break, ByCut, ConnView, LineState, is_read, Incoming, Turn, NextStep, Stage, HasEnded, HasGrown}
+use Rattle.asgi_halves.proofs.HalfWords.{IsCutOff, IsTurnOfRead, NoRead, OfBytes, OfMessage, ReadsNone, TakesNone, ConnGhosts}
 use Rattle.asgi_halves.specs.Kinds.{AwaitsEnd, HasRested, HasWorked, IsOneMore, OffersAll, OffersMost}
 use Rattle.asgi_ws.specs.Sides.{Session}
 use Rattle.std.specs.Prelude.{IsFalse, IsTrue}
+
+-- an item was taken
+pub view_taking : {A W E : Type 0} (C : ConnGhosts E) (old new : E) (view : ConnView A W) (item is : OutItem) → is ≡ item → IsViewOf C old view
+    → C.offered new ≡ C.offered old → C.is_broken new ≡ C.is_broken old → C.got new ≡ C.got old ++ is ∷ [] → IsViewOf C new (record view { got = view.got ++ item ∷ [] })
+view_taking C old new view item is same v offered broken got =
+    (v.0 ∙ sym offered, v.1 ∙ sym broken, ap (λ (l : List OutItem). l ++ item ∷ []) v.2 ∙ sym (got ∙ ap (λ (i : OutItem). C.got old ++ i ∷ []) same))
 
 module _ {S H A W : Type 0} (stands : S → LineState → H → List ℕ → ConnView A W → Type 0) where
   still : (scene : S) (now : LineState) (half : H) (read : List ℕ) (view : ConnView A W) → stands scene now half read view → stands scene now half (read ++ []) view
@@ -16,27 +22,13 @@ module _ {S H A W : Type 0} (stands : S → LineState → H → List ℕ → Con
     pub took_none : C.got new ≡ C.got old → stands scene now half read view → (more : List ℕ) × (later : ConnView A W) × stands scene now half (read ++ more) later × IsViewOf C new later
     took_none got x = ([], view, still scene now half read view x, (is_view.0 ∙ sym offered, is_view.1 ∙ sym broken, is_view.2 ∙ sym got))
 
-    -- the end was
-    pub took_end : (kind : EndKind) → C.got new ≡ C.got old ++ OutItem.Ended kind ∷ []
-        → (first : Bool) × stands scene now half read (record view { got = view.got ++ OutItem.Ended kind ∷ []; broken_first = first })
+    -- an item was: the end, or an event, which is written
+    pub took : (item is : OutItem) → is ≡ item → C.got new ≡ C.got old ++ is ∷ [] → (first : Bool) (written : List W)
+        → stands scene now half read (record view { got = view.got ++ item ∷ []; broken_first = first; written = written })
         → (more : List ℕ) × (later : ConnView A W) × stands scene now half (read ++ more) later × IsViewOf C new later
-    took_end kind got x = (
-      [],
-      record view { got = view.got ++ OutItem.Ended kind ∷ []; broken_first = x.0 },
-      still scene now half read (record view { got = view.got ++ OutItem.Ended kind ∷ []; broken_first = x.0 }) x.1,
-      (is_view.0 ∙ sym offered, is_view.1 ∙ sym broken, ap (λ (l : List OutItem). l ++ OutItem.Ended kind ∷ []) is_view.2 ∙ sym got),
-    )
-
-    -- an event was, and it is written
-    pub took_event : (event : Outgoing) → C.got new ≡ C.got old ++ OutItem.Event event ∷ []
-        → (written : List W) × stands scene now half read (record view { got = view.got ++ OutItem.Event event ∷ []; written = written })
-        → (more : List ℕ) × (later : ConnView A W) × stands scene now half (read ++ more) later × IsViewOf C new later
-    took_event event got x = (
-      [],
-      record view { got = view.got ++ OutItem.Event event ∷ []; written = x.0 },
-      still scene now half read (record view { got = view.got ++ OutItem.Event event ∷ []; written = x.0 }) x.1,
-      (is_view.0 ∙ sym offered, is_view.1 ∙ sym broken, ap (λ (l : List OutItem). l ++ OutItem.Event event ∷ []) is_view.2 ∙ sym got),
-    )
+    took item is same got first written x =
+        let later : ConnView A W = record view { got = view.got ++ item ∷ []; broken_first = first; written = written } in
+        ([], later, still scene now half read later x, view_taking C old new view item is same is_view offered broken got)
 
 -- the end of a connection that is cut off, by what offering the disconnect answers
 offers : {A W C : Type 0} (E : ConnGhosts C) (old new : C) (view : ConnView A W) (first : Bool) (event : Incoming) → IsViewOf E old view → first ≡ not (E.is_broken old)
@@ -121,9 +113,6 @@ unread_then was mid now first second = (second.0 ∙ first.0, second.1 ∙ first
 -- a text was written
 pub writing_reads_none : (was now : LineState) → now.reads ≡ was.reads → now.session ≡ was.session → ReadsNone was now
 writing_reads_none was now reads session = (reads, ap (λ (s : Session). count_by is_read s.calls) session)
-
-pub none_then : {C : Type 0} (E : ConnGhosts C) (a b c : C) → TakesNone E a b → TakesNone E b c → TakesNone E a c
-none_then E a b c x y = (y.0 ∙ x.0, y.1 ∙ x.1)
 
 -- the disconnect is offered once
 pub disconnect_is_one : {C : Type 0} (E : ConnGhosts C) (old new : C) (first : Bool) (event : Incoming) → (IsTrue first → E.offered new ≡ E.offered old ++ event ∷ []) → (IsFalse first → new ≡ old)
