@@ -1,52 +1,33 @@
 -- Between two requests: the next result is a head or a refusal, more is read, and the connection ends.
 use Rattle.std.proofs.Common.{◌≡◌, ℕ, true, List, [], ◌∷◌, ◌++◌, ◌⊎◌, inl, inr, map, refl, sym, ap, ◌∙◌, append-nil, append_assoc, subst, Option, flat_map}
-use Rattle.std.specs.Prelude.{◌<◌, ◌≤◌, length, take}
-use Rattle.std.specs.Io.KnownBytes.{Appends}
-use Rattle.asgi_types.specs.declared.facts.Facts.{Facts}
-use Rattle.asgi_types.specs.declared.facts.Framing.TheVariants.{Upgrade}
-use Rattle.asgi_types.specs.declared.scope.Scope.{Scope}
-use Rattle.asgi_types.specs.declared.limits.Limits.{Limits}
-use Rattle.asgi_io.specs.declared.write.Wrote.TheVariants as wrote
-use Rattle.asgi_io.specs.Counting.{RoseBy}
-use Rattle.asgi_io.specs.Writing.{TriesWrites}
-use Rattle.asgi_request.specs.declared.next.Next.{Next}
-use Rattle.asgi_request.specs.declared.next.Next.TheVariants.{Head, Event, Whole, Bad}
-use Rattle.asgi_request.specs.declared.place.Place.{Place}
-use Rattle.asgi_request.specs.declared.place.Place.TheVariants.{Start, Upgraded, Stopped}
-use Rattle.asgi_request.specs.Head.{record_of}
-use Rattle.asgi_request.specs.Opened.{BeginsWithHandshake, HasClosed}
-use Rattle.asgi_request.specs.Places.{Reads, shown, Reaches}
-use Rattle.asgi_request.specs.Reading.{Reading, StandsFor, AllGiven, EndsWhole, WholeGiven, IsRefused}
-use Rattle.asgi_request.specs.Results.{AreRequests, GivesResults, Opens}
-use Rattle.asgi_request.specs.Scopes.{scope_of, facts_of}
+use Rattle.std.specs.{Prelude.◌<◌, Prelude.◌≤◌, Prelude.length, Prelude.take, Io.KnownBytes.Appends}
+use Rattle.asgi_types.specs.declared.{facts.Facts.Facts, facts.Framing.TheVariants.Upgrade, scope.Scope.Scope, limits.Limits.Limits}
+use Rattle.asgi_io.specs.{Counting.RoseBy, Writing.TriesWrites}
+use Rattle.asgi_request.specs.declared.{next.Next.Next, next.Next.TheVariants.Head, next.Next.TheVariants.Event, next.Next.TheVariants.Whole, next.Next.TheVariants.Bad, place.Place.Place}
+use Rattle.asgi_request.specs.{declared.place.Place.TheVariants.Start, declared.place.Place.TheVariants.Upgraded, declared.place.Place.TheVariants.Stopped, Head.record_of}
+use Rattle.asgi_request.specs.{Opened.BeginsWithHandshake, Opened.HasClosed, Places.Reads, Places.shown, Places.Reaches, Reading.Reading, Reading.StandsFor, Reading.AllGiven, Reading.EndsWhole}
+use Rattle.asgi_request.specs.{Reading.WholeGiven, Reading.IsRefused, Results.AreRequests, Results.GivesResults, Results.Opens, Scopes.scope_of, Scopes.facts_of}
 use Rattle.asgi_request.proofs.BodyGrowthLemmas.{Further}
 use Rattle.asgi_request.proofs.DueLemmas.{ClosesAt, runs_compare, same_after}
 use Rattle.asgi_request.proofs.FirstLemmas.{first_of}
 use Rattle.asgi_request.proofs.HeldLemmas.{between}
 use Rattle.asgi_request.proofs.NextLemmas.{begins_with_handshake, next_head}
 use Rattle.asgi_request.proofs.OpenedLemmas.{closed_at, closed_is_one, closed_not_upgraded, whole_is_closed}
-use Rattle.asgi_conversation.specs.Persistence.{RefusesWith}
+use Rattle.asgi_conversation.specs.{Persistence.RefusesWith, declared.input.InputEnd.TheVariants.AtEnd, declared.input.InputEnd.TheVariants.Failed, declared.report.Outcome.Outcome}
+use Rattle.asgi_conversation.specs.declared.report.Outcome.TheVariants.{Finished, Refused, InputBroke, WriteFailed, Idle, NoMemory}
+use Rattle.asgi_conversation.specs.{OutcomeClasses.Lacking, OutcomeClasses.class_of, After.IsBlank, Exchanges.requests_of, ExchangeRecord.ExchangeRecord, SoFar.Between, TaskEnds.has_ended}
 use Rattle.asgi_request.proofs.OpeningLemmas.{first_opens}
 use Rattle.asgi_request.proofs.UniqueLemmas.{shown-append}
 use Rattle.asgi_response.specs.Exchange.{refusal_text}
-use Rattle.asgi_conversation.specs.declared.input.InputEnd.TheVariants.{AtEnd, Failed}
-use Rattle.asgi_conversation.specs.declared.report.Outcome.{Outcome}
-use Rattle.asgi_conversation.specs.declared.report.Outcome.TheVariants.{Finished, Refused, InputBroke, WriteFailed, Idle, NoMemory}
-use Rattle.asgi_conversation.specs.OutcomeClasses.{Lacking, class_of}
-use Rattle.asgi_conversation.specs.After.{IsBlank}
-use Rattle.asgi_conversation.specs.Exchanges.{requests_of}
-use Rattle.asgi_conversation.specs.ExchangeRecord.{ExchangeRecord}
-use Rattle.asgi_conversation.specs.SoFar.{Between}
-use Rattle.asgi_conversation.specs.TaskEnds.{has_ended}
-use Rattle.asgi_conversation.proofs.LoopLemmas as loop
-use Rattle.asgi_halves.specs.declared.wire.Wire.{Wire}
+use Rattle.asgi_halves.specs.{declared.wire.Wire.Wire, ReadAhead.ReadsAhead}
 use Rattle.asgi_ws.specs.Lines.{LineState}
 use Rattle.asgi_run.specs.Lines.{Transferred, piece_size}
 use Rattle.asgi_conn.specs.Standing.{BetweenRequests, EndsSo}
-use Rattle.asgi_halves.specs.ReadAhead.{ReadsAhead}
-use Rattle.asgi_conn.proofs.HttpEndLemmas.{http_ends}
+use Rattle.asgi_conn.proofs.LeaveLemmas.{http_ends}
 use Rattle.asgi_run.proofs.LineLemmas.{moved_by_write, tries_front}
 use Rattle.asgi_halves.proofs.ReadAheadLemmas.{reads_at_need}
+use Rattle.asgi_io.specs.declared.write.Wrote.TheVariants as wrote
+use Rattle.asgi_conversation.proofs.LoopLemmas as loop
 
 -- ---- what the reader gives there
 
@@ -60,10 +41,7 @@ all_whole limits bytes (results ∷ requests) rest are = by (all_whole limits ar
     by : EndsWhole later → EndsWhole (results ++ later)
     by (inl none) =
         let x = are.1 in
-        inr (
-          Head (scope_of (record_of x.head) x.framing) (facts_of (record_of x.head) x.framing) ∷ map Event x.events,
-          ap (λ (l : List Next). results ++ l) none ∙ append-nil results ∙ x.results_are,
-        )
+        inr (Head (scope_of (record_of x.head) x.framing) (facts_of (record_of x.head) x.framing) ∷ map Event x.events, ap (λ (l : List Next). results ++ l) none ∙ append-nil results ∙ x.results_are)
     by (inr some) = inr (results ++ some.0, ap (λ (l : List Next). results ++ l) some.1 ∙ sym (append_assoc results some.0 (Whole ∷ [])))
 
 pub ends_whole : (limits : Limits) (bytes : List ℕ) (given : List Next) (after : List ℕ) → HasClosed limits bytes given after → EndsWhole given
@@ -79,8 +57,7 @@ module _ (reader : Reading) (bytes : List ℕ) (given : List Next) (after : List
       by : (reader.place ≡ Start) ⊎ (reader.place ≡ Upgraded) → reader.place ≡ Start
       by (inl s) = s
       by (inr s) =
-          let P : Place → Type 0 = λ p. Reaches reader.limits bytes given p reader.held in
-          absurd (closed_not_upgraded reader.limits bytes given after reader.held x (subst P s stands))
+          let P : Place → Type 0 = λ p. Reaches reader.limits bytes given p reader.held in absurd (closed_not_upgraded reader.limits bytes given after reader.held x (subst P s stands))
 
   pub unrefused : (status : ℕ) → IsRefused reader status → ⊥
   unrefused status refused = let never : Start ≡ Stopped refused.0 = sym at_start ∙ refused.1 in cc
@@ -108,15 +85,9 @@ opens_next limits bytes closed after place held item closes r = by (runs_compare
         let e : [] ≡ item ∷ ([] ++ shown f.items_after) =
         same_after closed [] (item ∷ ([] ++ shown f.items_after))
         (append-nil closed ∙ sym x.shows ∙ ap shown f.splits ∙ shown-append r.steps f.items_after ∙ ap (λ (l : List Next). l ++ shown f.items_after) r.shows
-        ∙ append_assoc closed (item ∷ []) (shown f.items_after)) in
-        cc)
+        ∙ append_assoc closed (item ∷ []) (shown f.items_after)) in cc)
 
 -- ---- with what the connection keeps
-
--- nothing more was read
-pub as_read : (limits : Limits) (start now : LineState) (read : List ℕ) (exchanges : List ExchangeRecord) (written : List ℕ) (outcome : Outcome)
-    → EndsSo limits start now read exchanges written outcome → (more : List ℕ) × EndsSo limits start now (read ++ more) exchanges written outcome
-as_read limits start now read exchanges written outcome x = ([], subst (λ (l : List ℕ). EndsSo limits start now l exchanges written outcome) (sym (append-nil read)) x)
 
 module _ (limits : Limits) (start now : LineState) (wire : Wire) (read : List ℕ) (given : List Next) (exchanges : List ExchangeRecord) (after written : List ℕ)
     (x : BetweenRequests limits start now wire read given exchanges after written) where
@@ -190,8 +161,7 @@ module _ (limits : Limits) (start now : LineState) (wire : Wire) (read : List �
     ends_refused appends rose tries = (
       refusal_text status,
       http_ends limits start next wire.input read exchanges (written ++ refusal_text status) (Refused status)
-          (moved_by_write start now next wire.input read written (refusal_text status) 0 x.moved left reads session
-          (subst (λ (l : List ℕ). Appends now.written next.written l) text_is appends) rose
+          (moved_by_write start now next wire.input read written (refusal_text status) 0 x.moved left reads session (subst (λ (l : List ℕ). Appends now.written next.written l) text_is appends) rose
           (subst (λ (l : List ℕ). TriesWrites now.writes next.writes (length l) wrote.Done) text_is tries))
           (λ report o c. loop.refused limits wire.input read given exchanges after written report x.between c status due o) x.ahead,
     )

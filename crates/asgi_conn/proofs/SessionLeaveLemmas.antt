@@ -1,45 +1,37 @@
 -- How a session leaves its connection: at its end.
 use Rattle.std.specs.Prelude.{if◌then◌else◌}
-use Rattle.std.proofs.Common.{◌≡◌, ◌≢◌, ℕ, Bool, true, false, List, [], ◌∷◌, ◌++◌, ◌⊎◌, inl, inr, refl, sym, ap, ◌∙◌, append_assoc, append-nil, subst, Option, Some, None}
+use Rattle.std.proofs.Common.{◌≡◌, ◌≢◌, ℕ, Bool, true, false, List, [], ◌∷◌, ◌++◌, ◌⊎◌, inl, inr, refl, sym, ap, ◌∙◌, append_assoc, append-nil, subst, Option, Some, None, ◌≡◌, ℕ, List, [], ◌∷◌}
+use Rattle.std.proofs.Common.{◌++◌, sym, ap, ◌∙◌, subst, Option, Some}
 use mathlib.Core.List.{IsPrefix}
-use Rattle.asgi_types.specs.declared.end_kind.EndKind.{EndKind}
-use Rattle.asgi_types.specs.declared.end_kind.EndKind.TheVariants as kind
-use Rattle.asgi_types.specs.declared.facts.Facts.{Facts}
-use Rattle.asgi_types.specs.declared.incoming.Incoming.{Incoming}
-use Rattle.asgi_types.specs.declared.outgoing.Outgoing.{Outgoing}
-use Rattle.asgi_types.specs.declared.outgoing.Outgoing.TheVariants.{ResponseStart, ResponseBody, WsAccept, WsSend, WsClose, DenialStart, DenialBody, StartupComplete, StartupFailed, ShutdownComplete, ShutdownFailed}
-use Rattle.asgi_types.specs.declared.scope.Kind.TheVariants.{WebSocket}
-use Rattle.asgi_protocol.specs.Lawful.{IsLawful}
-use Rattle.asgi_protocol.specs.Shapes.{is_closed}
+use Rattle.asgi_types.specs.declared.{end_kind.EndKind.EndKind, facts.Facts.Facts, incoming.Incoming.Incoming, outgoing.Outgoing.Outgoing, outgoing.Outgoing.TheVariants.ResponseStart}
+use Rattle.asgi_types.specs.declared.outgoing.Outgoing.TheVariants.{ResponseBody, WsAccept, WsSend, WsClose, DenialStart, DenialBody, StartupComplete, StartupFailed, ShutdownComplete}
+use Rattle.asgi_types.specs.declared.{outgoing.Outgoing.TheVariants.ShutdownFailed, scope.Kind.TheVariants.WebSocket}
+use Rattle.asgi_protocol.specs.{Lawful.IsLawful, Shapes.is_closed}
 use Rattle.asgi_protocol.proofs.PassingLemmas.{fronts_are_lawful}
-use Rattle.asgi_exchange.specs.Items.{end_of}
-use Rattle.asgi_exchange.specs.Messages.{has_close}
-use Rattle.asgi_exchange.specs.Session.{Output, session_output, session_ending}
-use Rattle.asgi_exchange.specs.SessionExchange.{HasSessionCause, IsSessionExchange}
-use Rattle.asgi_exchange.specs.ExchangeTexts.{session_text}
-use Rattle.asgi_exchange.specs.Steps.{is_by_input}
-use Rattle.asgi_exchange.specs.Views.{ByCut, World, said_of, taken_of}
+use Rattle.asgi_exchange.specs.{Items.end_of, Messages.has_close, Session.Output, Session.session_output, Session.session_ending, SessionExchange.HasSessionCause}
+use Rattle.asgi_exchange.specs.{SessionExchange.IsSessionExchange, SessionExchange.IsSessionExchange, ExchangeTexts.session_text, Steps.is_by_input, Views.ByCut, Views.World, Views.said_of}
+use Rattle.asgi_exchange.specs.Views.{taken_of, said_of}
 use Rattle.asgi_exchange.proofs.ListLemmas.{prefix_same, prefix_trans}
 use Rattle.asgi_exchange.proofs.SessionLemmas.{lawful_is_accepted, web_socket_is_steady}
-use Rattle.asgi_ws.specs.declared.messages.SentMessage.{SentMessage}
-use Rattle.asgi_ws.specs.declared.messages.Msg.{Msg}
-use Rattle.asgi_conversation.specs.declared.following.NextStep.TheVariants.{ConnectionEnds}
-use Rattle.asgi_conversation.specs.declared.report.Outcome.{Outcome}
-use Rattle.asgi_conversation.specs.declared.report.Outcome.TheVariants.{Finished, Refused, InputBroke, Idle}
-use Rattle.asgi_conversation.specs.declared.report.Report.{Report}
-use Rattle.asgi_conversation.specs.ExchangeRecord.{ExchangeRecord, Beginning}
-use Rattle.asgi_conversation.specs.Persistence.{CountsExchanges}
-use Rattle.asgi_conversation.specs.Sessions.{SessionTraffic, no_traffic, handshake_of, IsLeft, ByApplication, ByClient, ByCut as left_by_cut, IsSessionDone, IsNextOutput, Opens, Accepted, Silent, ServesHandshake, EndsInSession, EndsInSessionAs, after_session, session_outcome, open_outcome, said_out, spoken}
-use Rattle.asgi_conversation.specs.ExchangeRecord.{Saying, Ending}
-use Rattle.asgi_conversation.specs.Kinds.{ConversesInSession}
+use Rattle.asgi_ws.specs.{declared.messages.SentMessage.SentMessage, declared.messages.Msg.Msg, Lines.LineState}
+use Rattle.asgi_conversation.specs.declared.{following.NextStep.TheVariants.ConnectionEnds, following.NextStep.TheVariants.ConnectionEnds, report.Outcome.Outcome}
+use Rattle.asgi_conversation.specs.declared.report.{Outcome.TheVariants.Finished, Outcome.TheVariants.Refused, Outcome.TheVariants.InputBroke, Outcome.TheVariants.Idle, Report.Report}
+use Rattle.asgi_conversation.specs.ExchangeRecord.{ExchangeRecord, Beginning, Saying, Ending, ExchangeRecord}
+use Rattle.asgi_conversation.specs.{Persistence.CountsExchanges, Sessions.SessionTraffic, Sessions.no_traffic, Sessions.handshake_of, Sessions.IsLeft, Sessions.ByApplication, Sessions.ByClient}
+use Rattle.asgi_conversation.specs.Sessions.{ByCut as left_by_cut, IsSessionDone, IsNextOutput, Opens, Accepted, Silent, ServesHandshake, EndsInSession, EndsInSessionAs, after_session}
+use Rattle.asgi_conversation.specs.{Sessions.session_outcome, Sessions.open_outcome, Sessions.said_out, Sessions.spoken, Sessions.handshake_of, Kinds.ConversesInSession}
 use Rattle.asgi_conversation.specs.OutcomeClasses.{OutcomeClass, Uncut, ByWrite, GivenUp, Lacking, Unbegun, class_of, is_cut, is_cut_class}
-use Rattle.asgi_halves.specs.declared.stage.Stage.{Stage}
-use Rattle.asgi_halves.specs.declared.stage.Stage.TheVariants.{Over}
-use Rattle.asgi_halves.specs.declared.session_half.Answered.{Answered}
-use Rattle.asgi_halves.specs.declared.session_half.Answered.TheVariants as answered
-use Rattle.asgi_halves.specs.declared.session_half.WebSocketHalf.{WebSocketHalf}
+use Rattle.asgi_conversation.specs.Exchanges.{requests_of}
+use Rattle.asgi_halves.specs.declared.{stage.Stage.Stage, stage.Stage.TheVariants.Over, session_half.Answered.Answered, session_half.WebSocketHalf.WebSocketHalf}
 use Rattle.asgi_halves.specs.WebSocketHalf.{SessionScene, Invariant, IsAt, IsCarried, IsCarrying, IsCutShort, IsCutShortAs, IsSilent, EndsByTask, known, output_in, said_in, session_of, talk_in}
-use Rattle.asgi_ws.specs.Lines.{LineState}
+use Rattle.asgi_halves.specs.WebSocketHalf.{SessionScene, Invariant, IsAt, IsCarried, session_of, talk_in, CarriesOn}
+use Rattle.asgi_halves.specs.{ReadAhead.ReadsAhead, Half.failures_at}
+use Rattle.asgi_conversation.proofs.RequestLemmas.{requests_join}
+use Rattle.asgi_conn.specs.Standing.{EndsSo}
+use Rattle.asgi_halves.proofs.ReadAheadLemmas.{more_requests}
+use Rattle.asgi_conversation.proofs.ConversationLemmas.{in_session}
+use Rattle.asgi_types.specs.declared.end_kind.EndKind.TheVariants as kind
+use Rattle.asgi_halves.specs.declared.session_half.Answered.TheVariants as answered
 
 -- ---- how an exchange may end that was not cut short
 
@@ -149,8 +141,7 @@ module _ (scene : SessionScene) (now : LineState) (half : WebSocketHalf) (read :
   -- ---- the exchange serves the handshake
 
   opens_accepted : IsCarrying scene w.conn s.text s.leftover → Opens scene.frames one traffic s.text
-  opens_accepted c =
-      Accepted c.subprotocol c.headers (c.events ++ i.taken.0) (sym i.taken.1 ∙ ap (λ (l : List Outgoing). l ++ i.taken.0) (sym all_lawful ∙ c.said)) c.text_is c.kept
+  opens_accepted c = Accepted c.subprotocol c.headers (c.events ++ i.taken.0) (sym i.taken.1 ∙ ap (λ (l : List Outgoing). l ++ i.taken.0) (sym all_lawful ∙ c.said)) c.text_is c.kept
 
   opens_silent : IsSilent half w.conn s.leftover s.handed → Opens scene.frames one traffic s.text
   opens_silent c = Silent (is_silence s.leftover w.conn.arrived half.is_over s.handed c.kept c.received c.over c.sent)
@@ -180,7 +171,7 @@ module _ (scene : SessionScene) (now : LineState) (half : WebSocketHalf) (read :
   cause times events it (inl none) = inl none
   cause times events it (inr c) = inr (left events it c)
 
-  pub serves : ServesHandshake scene.limits (is_cut outcome) s.fixed.after one traffic s.text
+  serves : ServesHandshake scene.limits (is_cut outcome) s.fixed.after one traffic s.text
   serves = record {
     frames = scene.frames;
     head = s.fixed.head;
@@ -212,17 +203,14 @@ module _ (scene : SessionScene) (now : LineState) (half : WebSocketHalf) (read :
 
   no_more : (t : EndsByTask scene w.conn outcome) → outcome ≡ InputBroke → half.is_over ≡ true
   no_more t is =
-      let why = why_broken t.kind (said_in scene w.conn) (is_by_input w.conn.broken) w.conn.arrived (t.follows ∙ is) in
-      elim (s.breaks why.0) [ inl closed ↦ cc (closed, why.1) | inr ends ↦ ends ]
+      let why = why_broken t.kind (said_in scene w.conn) (is_by_input w.conn.broken) w.conn.arrived (t.follows ∙ is) in elim (s.breaks why.0) [ inl closed ↦ cc (closed, why.1) | inr ends ↦ ends ]
 
   ends_by_task : (t : EndsByTask scene w.conn outcome) → IsSessionDone outcome one traffic s.text → EndsInSession outcome one traffic s.text
   ends_by_task t d = elim (after_class t.kind (said_in scene w.conn) (is_by_input w.conn.broken) w.conn.arrived) [
     | inl uncut ↦
-        let of : Uncut ≡ class_of outcome = sym uncut ∙ ap class_of t.follows in
-        subst (λ (k : OutcomeClass). EndsInSessionAs k outcome one traffic s.text) of (d, no_more t)
+        let of : Uncut ≡ class_of outcome = sym uncut ∙ ap class_of t.follows in subst (λ (k : OutcomeClass). EndsInSessionAs k outcome one traffic s.text) of (d, no_more t)
     | inr idle ↦
-        let of : GivenUp ≡ class_of outcome = ap class_of (sym idle ∙ t.follows) in
-        subst (λ (k : OutcomeClass). EndsInSessionAs k outcome one traffic s.text) of
+        let of : GivenUp ≡ class_of outcome = ap class_of (sym idle ∙ t.follows) in subst (λ (k : OutcomeClass). EndsInSessionAs k outcome one traffic s.text) of
         (prefix_same (spoken s.text traffic) (said_out one)
         (d.3 ∙ ap (λ (o : Option EndKind). session_text (handshake_of scene.facts) scene.facts (said_of w.app) o (is_by_input w.conn.broken)) (ended_put t.kind t.taken)
         ∙ ap (λ (l : List Output). said_out one ++ l) (given_up scene.facts t.kind (said_in scene w.conn) (said_of w.app) (is_by_input w.conn.broken) w.conn.arrived idle)
@@ -254,7 +242,7 @@ module _ (scene : SessionScene) (now : LineState) (half : WebSocketHalf) (read :
   ends : EndsInSession outcome one traffic s.text
   ends = elim ends_so [ inl t ↦ ends_by_task t (done t) | inr c ↦ ends_cut (class_of outcome) c ]
 
-  pub converses : (report : Report) → report.outcome ≡ outcome → CountsExchanges report (scene.exchanges ++ one ∷ [])
+  converses : (report : Report) → report.outcome ≡ outcome → CountsExchanges report (scene.exchanges ++ one ∷ [])
       → ConversesInSession scene.limits half.wire.input read (scene.exchanges ++ one ∷ []) traffic (scene.before ++ s.text) report
   converses report o c = record {
     answered = scene.exchanges;
@@ -268,3 +256,15 @@ module _ (scene : SessionScene) (now : LineState) (half : WebSocketHalf) (read :
     written_is = ap (λ (l : List ℕ). l ++ s.text) s.fixed.before_is;
     counts = c;
   }
+
+  pub ends_after : ReadsAhead scene.limits scene.read (requests_of scene.exchanges) → EndsSo scene.limits scene.start now read (scene.exchanges ++ one ∷ []) (scene.before ++ s.text) outcome
+  ends_after asked =
+      let all = scene.exchanges ++ one ∷ [] in
+      let ahead = more_requests scene.limits read (requests_of scene.exchanges) ((scene.scope, scene.facts) ∷ []) (rw s.fixed.read_is asked) in
+      record {
+        end = half.wire.input;
+        traffic = traffic;
+        carried = (subst (λ (st : Stage). CarriesOn scene.start now half.wire.input read (scene.before ++ s.text) (failures_at st) traffic half.spare_reads) over s.line).carried;
+        converses = λ report o c. in_session scene.limits half.wire.input read all traffic (scene.before ++ s.text) report (converses report o c);
+        ahead = rw (requests_join scene.exchanges (one ∷ [])) ahead;
+      }
