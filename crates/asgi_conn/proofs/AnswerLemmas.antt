@@ -67,13 +67,15 @@ faults_more [] x = omega arith
 faults_more (e ∷ exchanges) x = let one = faults_more exchanges x in omega (arith, one)
 
 module _ {H T E : Type 0} (halves : any_half.Ghosts H) (answers : T → List Incoming → List Outgoing → Option EndKind → Type 0) (ends : Ghosts E) (scene : halves.Scene) (now : LineState) (half : H)
-    (read : List ℕ) (side : AppSide T E) (kind : EndKind) (run : HasRun halves answers ends scene now half read side kind) (before : List ExchangeRecord) (scope : Scope) (facts : Facts) (broke : Bool) where
+    (read : List ℕ) (side : AppSide T E) (kind : EndKind) (run : HasRun halves answers ends scene now half read side kind)
+    (before : List ExchangeRecord) (scope : Scope) (facts : Facts) (broke : Bool) where
   abbrev one : ExchangeRecord
   one = record { scope = scope; facts = facts; heard = run.world.app.heard; said = said_of run.world.app; ended = end_of run.world.app.put; input_broke = broke }
 
   -- it is as the application promises it
-  pub promised_more : (promise : Promise) (client server : Option Peer) (state : List (List ℕ × StateValue)) (was : E) → IsOpened (promise (scope_with scope client server state)) answers ends was side
-      → ends.heard was ≡ [] → ends.said was ≡ [] → ArePromised promise client server state before → ArePromised promise client server state (before ++ one ∷ [])
+  pub promised_more : (promise : Promise) (client server : Option Peer) (state : List (List ℕ × StateValue)) (was : E)
+      → IsOpened (promise (scope_with scope client server state)) answers ends was side → ends.heard was ≡ [] → ends.said was ≡ []
+      → ArePromised promise client server state before → ArePromised promise client server state (before ++ one ∷ [])
   promised_more promise client server state was opened none silent promised =
       let whole = scope_with scope client server state in
       let kept = is_kept (promise whole) answers ends was side run.world.app kind opened run.answers_for run.ended none silent in
@@ -94,20 +96,16 @@ pub lacks_moved : (start now : LineState) (end : InputEnd) (read written : List 
 lacks_moved start now end read written outcome (inl is) moved = subst (λ (n : ℕ). Transferred start now end read written n) (sym (ap failures_as is)) moved
 lacks_moved start now end read written outcome (inr is) moved = subst (λ (n : ℕ). Transferred start now end read written n) (sym (ap failures_as is)) moved
 
-pub serves_short : {T C E X : Type 0} (answers : T → List Incoming → List Outgoing → Option EndKind → Type 0) (conns : conn_end.Ghosts C) (ends : Ghosts E) (conn : X → C) (began : X → AppSide T E → Type 0)
-    (promise : Promise) (client server : Option Peer) (state : List (List ℕ × StateValue)) (scene : Scene) (now : LineState)
+pub serves_short : {T C E X : Type 0} (answers : T → List Incoming → List Outgoing → Option EndKind → Type 0) (conns : conn_end.Ghosts C) (ends : Ghosts E)
+    (conn : X → C) (began : X → AppSide T E → Type 0) (promise : Promise) (client server : Option Peer) (state : List (List ℕ × StateValue)) (scene : Scene) (now : LineState)
     (wire : Wire) (facts : Facts) (read arrived : List ℕ) (tally : Tally) → Opens scene now wire facts read arrived
     → ArePromised promise client server state scene.exchanges → IsTallied tally scene.exchanges → (outcome : Outcome) → IsLacking outcome
     → IsServing answers conns ends conn began promise wire.limits client server state scene.start now tally (Ended outcome)
-serves_short answers conns ends conn began promise client server state scene now wire facts read arrived tally opens promised tallied outcome lacks = record {
-  read = read;
-  written = scene.before;
-  exchanges = scene.exchanges;
-  promised = promised;
-  counted = tallied;
-  stands = http_ends wire.limits scene.start now wire.input read scene.exchanges scene.before outcome (lacks_moved scene.start now wire.input read scene.before outcome lacks opens.moved)
-      (λ report o c. let one = opens.within.one in
-      let ends : EndsBetween report.outcome wire.limits wire.input one.after [] = lacks_in_front wire.limits wire.input one.after report.outcome (subst (λ (q : Outcome). IsLacking q) (sym o) lacks)
-      (one.head.head, scene.facts.framing, arrived, one.head.reads) in subst (λ (l : List ℕ). Converses wire.limits wire.input read scene.exchanges l report) (append-nil scene.before)
-      (ends_between wire.limits wire.input read scene.exchanges one.after scene.before [] report one.so_far ends c)) opens.ahead;
-}
+serves_short answers conns ends conn began promise client server state scene now wire facts read arrived tally opens promised tallied outcome lacks =
+    let one = opens.within.one in
+    let moved = lacks_moved scene.start now wire.input read scene.before outcome lacks opens.moved in
+    let ended = http_ends wire.limits scene.start now wire.input read scene.exchanges scene.before outcome moved (λ report o c.
+    let ends : EndsBetween report.outcome wire.limits wire.input one.after [] = lacks_in_front wire.limits wire.input one.after report.outcome (subst (λ (q : Outcome). IsLacking q) (sym o) lacks)
+    (one.head.head, scene.facts.framing, arrived, one.head.reads) in subst (λ (l : List ℕ). Converses wire.limits wire.input read scene.exchanges l report) (append-nil scene.before)
+    (ends_between wire.limits wire.input read scene.exchanges one.after scene.before [] report one.so_far ends c)) opens.ahead in
+    record { read = read; written = scene.before; exchanges = scene.exchanges; promised = promised; counted = tallied; stands = ended }

@@ -45,42 +45,22 @@ plain_is_http client server state head Upgrade plain = absurd (plain refl)
 
 -- nothing was read or written yet
 pub moved_nothing : (start : LineState) (end : InputEnd) → end ≡ Open → Transferred start start end [] [] 0
-moved_nothing start end still = subst (λ (e : InputEnd). Transferred start start e [] [] 0) (sym still) (record {
-  consumes = Consumes-nothing start.left start.left (Keeps-same start.left);
-  appends = Appends-nothing start.written start.written (Keeps-same start.written);
-  answers = [];
-  told = sym (append-nil start.reads);
-  sum = refl;
-  ends = All-nil lines.GoesOn;
-  tries = tries_all start.writes start.writes 0 (no_parts start.writes);
-  failed = never_fell start.failed;
-  quiet = refl;
-})
+moved_nothing start end still =
+    let consumes = Consumes-nothing start.left start.left (Keeps-same start.left) in
+    let appends = Appends-nothing start.written start.written (Keeps-same start.written) in
+    let tries = tries_all start.writes start.writes 0 (no_parts start.writes) in
+    let told = sym (append-nil start.reads) in subst (λ (e : InputEnd). Transferred start start e [] [] 0) (sym still)
+    (record { consumes = consumes; appends = appends; answers = []; told = told; sum = refl; ends = All-nil lines.GoesOn; tries = tries; failed = never_fell start.failed; quiet = refl })
 
-module _ {T C E X : Type 0} (answers : T → List Incoming → List Outgoing → Option EndKind → Type 0) (conns : conn_end.Ghosts C) (ends : app_end.Ghosts E) (conn : X → C) (began : X → AppSide T E → Type 0)
-    (promise : Promise) (limits : Limits) (client server : Option Peer) (state : List (List ℕ × StateValue)) where
+module _ {T C E X : Type 0} (answers : T → List Incoming → List Outgoing → Option EndKind → Type 0) (conns : conn_end.Ghosts C) (ends : app_end.Ghosts E)
+    (conn : X → C) (began : X → AppSide T E → Type 0) (promise : Promise) (limits : Limits) (client server : Option Peer) (state : List (List ℕ × StateValue)) where
   pub begins : (start : LineState) (wire : Wire) (tally : Tally) → (wire.limits ≡ limits) × (wire.requests.limits ≡ limits) → StandsFor wire.requests [] [] × (wire.input ≡ Open)
       → wire.out.items ≡ [] → tally.exchanges ≡ 0 → tally.faults ≡ 0 → IsServing answers conns ends conn began promise limits client server state start start tally (place.Between wire)
-  begins start wire tally limits_are unread empty none no_faults = record {
-    read = [];
-    written = [];
-    exchanges = [];
-    promised = All-nil (IsPromised promise client server state);
-    counted = (none, no_faults);
-    stands = (
-      [],
-      [],
-      record {
-        moved = moved_nothing start wire.input unread.1;
-        limits_are = limits_are;
-        between = loop.starts limits wire.input;
-        stands = unread.0;
-        empty = empty;
-        heads = refl;
-        ahead = nothing_ahead limits;
-      },
-    );
-  }
+  begins start wire tally limits_are unread empty none no_faults =
+      let moved = moved_nothing start wire.input unread.1 in
+      let x : BetweenRequests limits start start wire [] [] [] [] [] =
+      record { moved = moved; limits_are = limits_are; between = loop.starts limits wire.input; stands = unread.0; empty = empty; heads = refl; ahead = nothing_ahead limits } in
+      record { read = []; written = []; exchanges = []; promised = All-nil (IsPromised promise client server state); counted = (none, no_faults); stands = ([], [], x) }
 
   -- ---- one step
 
@@ -97,14 +77,9 @@ module _ {T C E X : Type 0} (answers : T → List Incoming → List Outgoing →
 
     -- memory was refused
     pub short : IsServing answers conns ends conn began promise limits client server state start now tally (place.Ended NoMemory)
-    short = record {
-      read = s.read;
-      written = s.written;
-      exchanges = s.exchanges;
-      promised = s.promised;
-      counted = s.counted;
-      stands = between.ends_short limits start now wire s.read s.stands.0 s.exchanges s.stands.1 s.written x;
-    }
+    short =
+        let ended = between.ends_short limits start now wire s.read s.stands.0 s.exchanges s.stands.1 s.written x in
+        record { read = s.read; written = s.written; exchanges = s.exchanges; promised = s.promised; counted = s.counted; stands = ended }
 
     module _ (later : Reading) (same : later.limits ≡ wire.requests.limits) where
       limits_stay : later.limits ≡ limits
@@ -132,14 +107,9 @@ module _ {T C E X : Type 0} (answers : T → List Incoming → List Outgoing →
       -- a text was written with no exchange
       answered_so : (next : LineState) (result : Place X) → (text : List ℕ) × IsAtRest result limits start next s.read s.exchanges (s.written ++ text)
           → IsServing answers conns ends conn began promise limits client server state start next tally result
-      answered_so next result y = record {
-        read = s.read;
-        written = s.written ++ y.0;
-        exchanges = s.exchanges;
-        promised = s.promised;
-        counted = s.counted;
-        stands = at_rest start next s.read s.exchanges (s.written ++ y.0) result y.1;
-      }
+      answered_so next result y =
+          let rests = at_rest start next s.read s.exchanges (s.written ++ y.0) result y.1 in
+          record { read = s.read; written = s.written ++ y.0; exchanges = s.exchanges; promised = s.promised; counted = s.counted; stands = rests }
 
       -- a refusal
       pub refused : (next : LineState) (result : Place X) (status : ℕ) → (((status : ℕ) → IsRefused wire.requests status → ⊥) → GoesOn wire.requests later (Bad status))
@@ -151,7 +121,8 @@ module _ {T C E X : Type 0} (answers : T → List Incoming → List Outgoing →
           (between.refused_due limits start now wire s.read s.stands.0 s.exchanges s.stands.1 s.written x later status limits_stay (gave (Bad status) goes_on)))
 
       -- an opening handshake
-      module _ (scope : Scope) (facts : Facts) (goes_on : ((status : ℕ) → IsRefused wire.requests status → ⊥) → GoesOn wire.requests later (Head scope facts)) (upgrade : facts.framing ≡ Upgrade) where
+      module _ (scope : Scope) (facts : Facts) (goes_on : ((status : ℕ) → IsRefused wire.requests status → ⊥) → GoesOn wire.requests later (Head scope facts))
+          (upgrade : facts.framing ≡ Upgrade) where
         pub here : (frames : List ℕ) × BeginsWithHandshake limits s.stands.1 scope facts frames
         here = between.handshake_here limits start now wire s.read s.stands.0 s.exchanges s.stands.1 s.written x later scope facts limits_stay (gave (Head scope facts) goes_on) upgrade
 
@@ -199,12 +170,9 @@ module _ {T C E X : Type 0} (answers : T → List Incoming → List Outgoing →
 
         within_scene : WithinScene scene limits wire.input s.read in_one.0
         unfolding scene
-        within_scene = record {
-          one = in_one.1.one;
-          opens = in_one.1.opens;
-          heads = heads_more s.stands.0 scope facts ∙ ap (λ (l : List (Scope × Facts)). l ++ (scope, facts) ∷ []) x.heads;
-          ahead = more_requests limits s.read (requests_of s.exchanges) ((scope, facts) ∷ []) x.ahead;
-        }
+        within_scene =
+            let heads = heads_more s.stands.0 scope facts ∙ ap (λ (l : List (Scope × Facts)). l ++ (scope, facts) ∷ []) x.heads in
+            let ahead = more_requests limits s.read (requests_of s.exchanges) ((scope, facts) ∷ []) x.ahead in record { one = in_one.1.one; opens = in_one.1.opens; heads = heads; ahead = ahead }
 
         pub answered : (whole : Scope) (next : LineState) (result : Place X) → whole ≡ scope_with scope client server state
             → ((scene : Scene) (client server : Option Peer) (state : List (List ℕ × StateValue)) (read arrived : List ℕ) (tally : Tally) → whole ≡ scope_with scene.scope client server state
@@ -213,13 +181,8 @@ module _ {T C E X : Type 0} (answers : T → List Incoming → List Outgoing →
             → IsServing answers conns ends conn began promise limits client server state start next tally result
         unfolding scene
         answered whole next result whole_is serves =
-            subst (λ (l : Limits). IsServing answers conns ends conn began promise l client server state start next tally result) x.limits_are.0
-            (serves scene client server state s.read in_one.0 tally whole_is (record {
-              facts_are = refl;
-              moved = x.moved;
-              limits = limits_stay ∙ sym x.limits_are.0;
-              within = subst (λ (l : Limits). WithinScene scene l wire.input s.read in_one.0) (sym x.limits_are.0) within_scene;
-              given = gave (Head scope facts) goes_on;
-              empty = x.empty;
-              ahead = subst (λ (l : Limits). ReadsAhead l s.read (requests_of s.exchanges)) (sym x.limits_are.0) x.ahead;
-            }) s.promised s.counted)
+            let within = subst (λ (l : Limits). WithinScene scene l wire.input s.read in_one.0) (sym x.limits_are.0) within_scene in
+            let ahead = subst (λ (l : Limits). ReadsAhead l s.read (requests_of s.exchanges)) (sym x.limits_are.0) x.ahead in
+            let limits_are = limits_stay ∙ sym x.limits_are.0 in subst (λ (l : Limits). IsServing answers conns ends conn began promise l client server state start next tally result) x.limits_are.0
+            (serves scene client server state s.read in_one.0 tally whole_is
+            (record { facts_are = refl; moved = x.moved; limits = limits_are; within = within; given = gave (Head scope facts) goes_on; empty = x.empty; ahead = ahead }) s.promised s.counted)

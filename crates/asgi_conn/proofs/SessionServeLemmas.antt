@@ -9,12 +9,11 @@ use Rattle.asgi_conversation.specs.{declared.report.Outcome.Outcome, OutcomeClas
 use Rattle.asgi_conversation.specs.declared.following.NextStep.{TheVariants.ConnectionEnds, NextStep}
 use Rattle.asgi_conn.specs.{declared.place.Place.TheVariants.Ended, declared.tally.Tally.Tally, Standing.IsTallied, Standing.IsServing}
 use Rattle.asgi_halves.specs.declared.{stage.Stage.Stage, stage.Stage.TheVariants.Over, session_half.WebSocketHalf.WebSocketHalf, wire.Wire.Wire}
-use Rattle.asgi_halves.specs.WebSocketHalf.{SessionScene, IsAt, OpensHandshake, OpensSession}
+use Rattle.asgi_halves.specs.WebSocketHalf.{SessionScene, IsOf, IsAt, OpensHandshake, OpensSession}
 use Rattle.asgi_run.specs.declared.runner.AppSide.{AppSide}
 use Rattle.asgi_ws.specs.Lines.{LineState}
 use Rattle.asgi_apps.specs.Promises.{Promise}
-use Rattle.asgi_conn.proofs.AnswerLemmas.{lacks_moved}
-use Rattle.asgi_conn.proofs.LeaveLemmas.{http_ends}
+use Rattle.asgi_conn.proofs.{AnswerLemmas.lacks_moved, LeaveLemmas.http_ends}
 use Rattle.asgi_response.specs.Standing as standing
 use Rattle.asgi_pipes.specs.declared.ends.ConnEnd as conn_end
 use Rattle.asgi_conversation.proofs.LoopLemmas as loop
@@ -33,42 +32,29 @@ module _ (scene : SessionScene) (now : LineState) (wire : Wire) (facts : Facts) 
   pub opens_session : (later : Wire) (own : Facts) (text : ResponseText) (taken : List ℕ) → later ≡ record wire { requests = later.requests } → own ≡ facts → taken ≡ scene.frames
       → (own.framing ≡ Upgrade → standing.StandsForSession text own []) → facts.framing ≡ Upgrade → OpensSession scene now later own text taken read
   opens_session later own text taken same copied frames denial upgrade =
-      subst (λ (w : Wire). OpensSession scene now w own text taken read) (sym same)
-      (record {
-        fixed = record {
-          facts_are = copied ∙ o.facts_are;
-          limits_are = o.limits_are;
-          after = o.after;
-          answered = o.between.so_far.each;
-          head = o.head;
-          before_is = o.between.so_far.written_is;
-          read_is = o.read_is;
-        };
-        moved = o.moved;
-        denial = subst (λ (f : Facts). standing.StandsForSession text f []) (copied ∙ o.facts_are) (denial (ap (λ (f : Facts). f.framing) copied ∙ upgrade));
-        frames = frames;
-        empty = o.empty;
-      })
+      let same_facts = copied ∙ o.facts_are in
+      let denied = subst (λ (f : Facts). standing.StandsForSession text f []) same_facts (denial (ap (λ (f : Facts). f.framing) copied ∙ upgrade)) in
+      let told = o.between.so_far in
+      let fixed : IsOf scene own (record wire { requests = later.requests }) read =
+      record { facts_are = same_facts; limits_are = o.limits_are; after = o.after; answered = told.each; head = o.head; before_is = told.written_is; read_is = o.read_is } in
+      subst (λ (w : Wire). OpensSession scene now w own text taken read) (sym same) (record { fixed = fixed; moved = o.moved; denial = denied; frames = frames; empty = o.empty })
 
   -- memory or a thread is refused, before the application is called
-  pub opens_short : {T C E X : Type 0} (answers : T → List Incoming → List Outgoing → Option EndKind → Type 0) (conns : conn_end.Ghosts C) (ends : Ghosts E) (conn : X → C) (began : X → AppSide T E → Type 0)
-      (promise : Promise) (client server : Option Peer) (state : List (List ℕ × StateValue)) (tally : Tally)
+  pub opens_short : {T C E X : Type 0} (answers : T → List Incoming → List Outgoing → Option EndKind → Type 0) (conns : conn_end.Ghosts C) (ends : Ghosts E)
+      (conn : X → C) (began : X → AppSide T E → Type 0) (promise : Promise) (client server : Option Peer) (state : List (List ℕ × StateValue)) (tally : Tally)
       → ArePromised promise client server state scene.exchanges → IsTallied tally scene.exchanges → (outcome : Outcome) → IsLacking outcome
       → IsServing answers conns ends conn began promise scene.limits client server state scene.start now tally (Ended outcome)
-  opens_short answers conns ends conn began promise client server state tally promised tallied outcome lacks = record {
-    read = read;
-    written = scene.before;
-    exchanges = scene.exchanges;
-    promised = promised;
-    counted = tallied;
-    stands = http_ends scene.limits scene.start now wire.input read scene.exchanges scene.before outcome (lacks_moved scene.start now wire.input read scene.before outcome lacks o.moved)
-        (λ report is c. loop.unbegun scene.limits wire.input read o.given scene.exchanges o.after scene.before report o.between c (subst (λ (q : Outcome). IsLacking q) (sym is) lacks)
-        (o.head.head, Upgrade, scene.frames, o.head.reads)) o.ahead;
-  }
+  opens_short answers conns ends conn began promise client server state tally promised tallied outcome lacks =
+      let moved = lacks_moved scene.start now wire.input read scene.before outcome lacks o.moved in
+      let ended = http_ends scene.limits scene.start now wire.input read scene.exchanges scene.before outcome moved (λ report is c.
+      loop.unbegun scene.limits wire.input read o.given scene.exchanges o.after scene.before report o.between c (subst (λ (q : Outcome). IsLacking q) (sym is) lacks)
+      (o.head.head, Upgrade, scene.frames, o.head.reads)) o.ahead in
+      record { read = read; written = scene.before; exchanges = scene.exchanges; promised = promised; counted = tallied; stands = ended }
 
 -- ---- and is over
 
 -- a session is not followed by a next request
-pub ends_connection : (scene : SessionScene) (half : WebSocketHalf) (view : _) → IsAt half.stage scene half view → (following : NextStep) → half.stage ≡ Over following → (outcome : Outcome) × (half.stage ≡ Over (ConnectionEnds outcome))
+pub ends_connection : (scene : SessionScene) (half : WebSocketHalf) (view : _) → IsAt half.stage scene half view → (following : NextStep) → half.stage ≡ Over following
+    → (outcome : Outcome) × (half.stage ≡ Over (ConnectionEnds outcome))
 ends_connection scene half view at NextRequest is = absurd (subst (λ (s : Stage). IsAt s scene half view) is at)
 ends_connection scene half view at (ConnectionEnds outcome) is = (outcome, is)

@@ -22,13 +22,9 @@ use Rattle.asgi_conn.specs.{declared.connection.Connection.Connection, declared.
 use Rattle.asgi_conn.specs.Standing.{IfOver, InExchange, IsAt, IsCounted, IsServing, IsTallied, HasRoom, Stands, IsReportOf, http_scene, session_scene, BetweenRequests}
 use Rattle.asgi_conn.specs.private.Loop.{HasBegun, IsLeft, MayTurn, IsNext, IsGoing, IsDue, IsDueOrBetween, IsBetween, HasEnded}
 use Rattle.asgi_request.proofs.StandardLemmas.{all_results}
-use Rattle.asgi_conn.proofs.BetweenLemmas.{rests_on, ends_fed_short}
-use Rattle.asgi_conn.proofs.LeaveLemmas.{left_at}
-use Rattle.asgi_conn.proofs.ServeLemmas.{at_rest}
-use Rattle.asgi_conn.proofs.SessionLeaveLemmas.{ends_after}
+use Rattle.asgi_conn.proofs.{BetweenLemmas.rests_on, BetweenLemmas.ends_fed_short, LeaveLemmas.left_at, ServeLemmas.at_rest, SessionLeaveLemmas.ends_after, SessionServeLemmas.ends_connection}
 use Rattle.asgi_exchange.proofs.HttpExchangeLemmas.{in_words}
 use Rattle.asgi_exchange.proofs.SessionExchangeLemmas.{in_words as session_words}
-use Rattle.asgi_conn.proofs.SessionServeLemmas.{ends_connection}
 use Rattle.asgi_pipes.specs.declared.ends.AppEnd as app_end
 use Rattle.asgi_pipes.specs.declared.ends.ConnEnd as conn_end
 use Rattle.asgi_run.specs.declared.exchange_half.Half as any_half
@@ -43,19 +39,14 @@ use Rattle.asgi_conn.proofs.AnswerLemmas as answer
 
 -- with this many exchanges there is room for one more once a turn was taken, wherever the connection stands
 room_then : {X : Type 0} (at : Place X) (old new : Tally) → old.exchanges ≤ old.turns.turns → new.exchanges ≡ old.exchanges → new.turns.turns ≡ old.turns.turns + 1 → HasRoom at new
-room_then (place.Between wire) old new room same one = omega (arith, room, same, one)
 room_then (place.Http half exchange) old new room same one = (omega (arith, room, same, one), λ over. omega (arith, room, same, one))
-room_then (place.Session half exchange) old new room same one = omega (arith, room, same, one)
 room_then (place.Ended outcome) old new room same one = tt
+room_then _ old new room same one = omega (arith, room, same, one)
 
 room_of : {X : Type 0} (at : Place X) (tally : Tally) → IsGoing at → HasRoom at tally → tally.exchanges ≤ tally.turns.turns
-room_of (place.Between wire) tally going room = room
 room_of (place.Http half exchange) tally going room = room.0
-room_of (place.Session half exchange) tally going room = room
 room_of (place.Ended outcome) tally going room = absurd going
-
-not_ended : {X : Type 0} (at : Place X) (outcome : Outcome) → IsGoing at → at ≡ place.Ended outcome → ⊥
-not_ended at outcome going is = subst IsGoing is going
+room_of _ tally going room = room
 
 over_of : (stage : Stage) (following : NextStep) → following_of stage ≡ Some following → stage ≡ Over following
 over_of (Over it) following is = ap Over cc
@@ -64,7 +55,8 @@ over_of (Ending kind) following is = cc
 over_of (Cut outcome) following is = cc
 
 -- an exchange that was given up at a limit, or was over for another reason, ends the connection as idle only at a limit
-idle_at : (old new : Stage) (turns : Turns) → IsAtLimit turns ⊎ IsSettled (following_of old) → ((last : NextStep) → following_of old ≡ Some last → new ≡ old) → new ≡ Over (ConnectionEnds Idle) → IsAtLimit turns
+idle_at : (old new : Stage) (turns : Turns) → IsAtLimit turns ⊎ IsSettled (following_of old) → ((last : NextStep) → following_of old ≡ Some last → new ≡ old)
+    → new ≡ Over (ConnectionEnds Idle) → IsAtLimit turns
 idle_at old new turns (inl limit) stays is = limit
 idle_at old new turns (inr settled) stays is = let e : Some settled.0 ≡ Some (ConnectionEnds Idle) = sym settled.1 ∙ ap following_of (sym (stays settled.0 settled.1) ∙ is) in absurd (settled.2 cc)
 
@@ -74,39 +66,31 @@ module _ {X : Type 0} (limits : Limits) (before pauses : ℕ) where
       → new.exchanges ≡ old.exchanges → new.turns.turns ≡ old.turns.turns + 1 → new.turns.turn_limit ≡ old.turns.turn_limit → new.turns.idle_limit ≡ old.turns.idle_limit
       → ((turned : List Turn) (before : ℕ) → CountsTurns old.turns.turn_limit old.turns.idle_limit turned before pauses old.turns.turns old.turns.idle
       → CountsTurns old.turns.turn_limit old.turns.idle_limit (turned ++ turn ∷ []) before after new.turns.turns new.turns.idle) → IsCounted limits before after later new
-  counted_more at later old new after turn c going goes same one turn_limit idle_limit counts = record {
-    turn_limit = turn_limit ∙ c.turn_limit;
-    idle_limit = idle_limit ∙ c.idle_limit;
-    turned = c.turned ++ turn ∷ [];
-    counts = counts_more limits.turns limits.idle_turns _ _ before _ _ _ _ _ _ c.turned turn c.turn_limit c.idle_limit c.counts counts;
-    at_limit = λ is. absurd (not_ended later Idle goes is);
-    within = subst (λ (n : ℕ). n ≤ 2 ^ 48) (sym turn_limit) c.within;
-    room = room_then later old new (room_of at old going c.room) same one;
-  }
+  counted_more at later old new after turn c going goes same one limit row counts =
+      let more = counts_more limits.turns limits.idle_turns _ _ before _ _ _ _ _ _ c.turned turn c.turn_limit c.idle_limit c.counts counts in
+      let room = room_then later old new (room_of at old going c.room) same one in
+      let never : later ≡ place.Ended Idle → ⊥ = λ is. subst IsGoing is goes in
+      let turned = c.turned ++ turn ∷ [] in
+      record { turn_limit = limit ∙ c.turn_limit; idle_limit = row ∙ c.idle_limit; turned = turned; counts = more; at_limit = λ is. absurd (never is); within = rw limit c.within; room = room }
 
   -- it came to another place, with no turn
-  counted_at : (at later : Place X) (old new : Tally) → IsCounted limits before pauses at old → new.turns ≡ old.turns → (later ≡ place.Ended Idle → IsAtLimit old.turns) → HasRoom later new → IsCounted limits before pauses later new
-  counted_at at later old new c same at_limit room = record {
-    turn_limit = ap (λ (t : Turns). t.turn_limit) same ∙ c.turn_limit;
-    idle_limit = ap (λ (t : Turns). t.idle_limit) same ∙ c.idle_limit;
-    turned = c.turned;
-    counts = subst (λ (t : Turns). CountsTurns limits.turns limits.idle_turns c.turned before pauses t.turns t.idle) (sym same) c.counts;
-    at_limit = λ is. subst IsAtLimit (sym same) (at_limit is);
-    within = subst (λ (t : Turns). t.turn_limit ≤ 2 ^ 48) (sym same) c.within;
-    room = room;
-  }
+  counted_at : (at later : Place X) (old new : Tally) → IsCounted limits before pauses at old → new.turns ≡ old.turns → (later ≡ place.Ended Idle → IsAtLimit old.turns)
+      → HasRoom later new → IsCounted limits before pauses later new
+  counted_at at later old new c same at_limit room =
+      let more : new.turns.turn_limit ≤ 2 ^ 48 = rw same c.within in
+      record { turn_limit = rw same c.turn_limit; idle_limit = rw same c.idle_limit; turned = c.turned; counts = rw same c.counts; at_limit = λ is. rw same (at_limit is); within = more; room = room }
 
   next_room : (later : Place X) (tally : Tally) → tally.exchanges ≤ tally.turns.turns → IsNext later tally.turns → HasRoom later tally
-  next_room (place.Between wire) tally room next = room
   next_room (place.Http half exchange) tally room next = (room, λ over. absurd (next over))
-  next_room (place.Session half exchange) tally room next = room
   next_room (place.Ended outcome) tally room next = tt
+  next_room _ tally room next = room
 
   next_limit : (later : Place X) (tally : Tally) → IsNext later tally.turns → later ≡ place.Ended Idle → IsAtLimit tally.turns
   next_limit later tally next is = (subst (λ (p : Place X). IsNext p tally.turns) is next) refl
 
   -- the reader gave its next result
-  pub counted_next : (wire : Wire) (later : Place X) (tally : Tally) → IsCounted {X = X} limits before pauses (place.Between wire) tally → IsNext later tally.turns → IsCounted limits before pauses later tally
+  pub counted_next : (wire : Wire) (later : Place X) (tally : Tally) → IsCounted {X = X} limits before pauses (place.Between wire) tally → IsNext later tally.turns
+      → IsCounted limits before pauses later tally
   counted_next wire later tally c next = counted_at (place.Between wire) later tally tally c refl (next_limit later tally next) (next_room later tally c.room next)
 
   ended_is : (at : Place X) (outcome : Outcome) → at ≡ place.Ended outcome → at ≡ place.Ended Idle → outcome ≡ Idle
@@ -136,7 +120,8 @@ module _ {X : Type 0} (limits : Limits) (before pauses : ℕ) where
       (λ idle. idle_at half.stage later.stage old.turns over stays (ended ∙ ap (λ (o : Outcome). Over (ConnectionEnds o)) (ended_is (place.Ended outcome) outcome refl idle))) tt
 
   -- no turn was taken any more
-  pub counted_none : (at later : Place X) (old new : Tally) → IsCounted limits before pauses at old → new ≡ old → (later ≡ place.Ended NoMemory) ⊎ (HasEnded at × (later ≡ at)) → IsCounted limits before pauses later new
+  pub counted_none : (at later : Place X) (old new : Tally) → IsCounted limits before pauses at old → new ≡ old → (later ≡ place.Ended NoMemory) ⊎ (HasEnded at × (later ≡ at))
+      → IsCounted limits before pauses later new
   counted_none at later old new c same (inl short) =
       counted_at at later old new c (ap (λ (t : Tally). t.turns) same) (λ idle. let never = ended_is later NoMemory short idle in cc) (subst (λ (p : Place X). HasRoom p new) (sym short) tt)
   counted_none at later old new c same (inr stays) = rw (same, stays.1) c
@@ -147,9 +132,8 @@ ended_none at later (inr stays) = subst HasEnded (sym stays.1) stays.0
 
 may_of : {X : Type 0} (at : Place X) (turns : Turns) → IsDue at turns → IsGoing at → MayTurn turns
 may_of (place.Between wire) turns due going = due.2
-may_of (place.Http half exchange) turns due going = due
-may_of (place.Session half exchange) turns due going = due
 may_of (place.Ended outcome) turns due going = absurd going
+may_of _ turns due going = due
 
 pub may_turn : {X : Type 0} (at : Place X) (old new : Tally) → new ≡ old → IsDue at old.turns → IsGoing at → MayTurn new.turns
 may_turn at old new same due going = subst (λ (t : Tally). MayTurn t.turns) (sym same) (may_of at old.turns due going)
@@ -167,15 +151,13 @@ no_report (step.Over report) P going = absurd going
 
 pub due_next : {X : Type 0} (at : Place X) (turns : Turns) → IsDueOrBetween at turns → IsNext at turns → IsDue at turns
 due_next (place.Between wire) turns due next = next
-due_next (place.Http half exchange) turns due next = due
-due_next (place.Session half exchange) turns due next = due
 due_next (place.Ended outcome) turns due next = tt
+due_next _ turns due next = due
 
 pub due_rest : {X : Type 0} (at : Place X) (turns : Turns) → IsDueOrBetween at turns → (IsBetween at → ⊥) → IsDue at turns
 due_rest (place.Between wire) turns due not = absurd (not tt)
-due_rest (place.Http half exchange) turns due not = due
-due_rest (place.Session half exchange) turns due not = due
 due_rest (place.Ended outcome) turns due not = tt
+due_rest _ turns due not = due
 
 pub due_ended : {X : Type 0} (at : Place X) (turns : Turns) → HasEnded at → IsDue at turns
 due_ended (place.Ended outcome) turns ended = tt
@@ -209,20 +191,21 @@ one_report {X} connection a b x y =
     same : a.exchanges ≡ b.exchanges → a.faults ≡ b.faults → a.turns ≡ b.turns → a.idle ≡ b.idle → a.outcome ≡ b.outcome → a ≡ b
     same e f t i o =
         ap (λ (n : ℕ). record a { exchanges = n }) e ∙ ap (λ (n : ℕ). record a { exchanges = b.exchanges; faults = n }) f
-        ∙ ap (λ (n : ℕ). record b { turns = n; idle = a.idle; outcome = a.outcome }) t ∙ ap (λ (n : ℕ). record b { idle = n; outcome = a.outcome }) i ∙ ap (λ (q : Outcome). record b { outcome = q }) o
+        ∙ ap (λ (n : ℕ). record b { turns = n; idle = a.idle; outcome = a.outcome }) t ∙ ap (λ (n : ℕ). record b { idle = n; outcome = a.outcome }) i
+        ∙ ap (λ (q : Outcome). record b { outcome = q }) o
 
 -- ---- an exchange
 
-module _ {T C E X : Type 0} (answers : T → List Incoming → List Outgoing → Option EndKind → Type 0) (conns : conn_end.Ghosts C) (ends : app_end.Ghosts E) (conn : X → C) (began : X → AppSide T E → Type 0) where
-  moves : {H : Type 0} (halves : any_half.Ghosts H) (promise : List Incoming → List Outgoing → Option EndKind → Type 0) (scene : halves.Scene) (now next : LineState) (half later : H) (read : List ℕ) (was is : X)
-      → InExchange halves answers conns ends conn began promise scene now half read was
+module _ {T C E X : Type 0} (answers : T → List Incoming → List Outgoing → Option EndKind → Type 0) (conns : conn_end.Ghosts C) (ends : app_end.Ghosts E)
+    (conn : X → C) (began : X → AppSide T E → Type 0) where
+  moves : {H : Type 0} (halves : any_half.Ghosts H) (promise : List Incoming → List Outgoing → Option EndKind → Type 0) (scene : halves.Scene) (now next : LineState) (half later : H)
+      (read : List ℕ) (was is : X) → InExchange halves answers conns ends conn began promise scene now half read was
       → PreservesOn halves.stands now half (IsViewOf conns (conn was)) next later (IsViewOf conns (conn is)) → ((side : AppSide T E) → began was side → began is side)
       → (more : List ℕ) × InExchange halves answers conns ends conn began promise scene next later (read ++ more) is
   moves halves promise scene now next half later read was is x leads on =
-      let y = leads scene read x.view x.stands x.seen in (
-        y.0,
-        record { view = y.1; stands = y.2; seen = y.3; side = x.side; begun = on x.side x.begun; fresh = x.fresh; opened = x.opened; unheard = x.unheard; request = x.request },
-      )
+      let y = leads scene read x.view x.stands x.seen in
+      let z : InExchange halves answers conns ends conn began promise scene next later (read ++ y.0) is =
+      record { view = y.1; stands = y.2; seen = y.3; side = x.side; begun = on x.side x.begun; fresh = x.fresh; opened = x.opened; unheard = x.unheard; request = x.request } in (y.0, z)
 
   module _ (promise : Promise) (limits : Limits) (client server : Option Peer) (state : List (List ℕ × StateValue)) (start now : LineState) (tally : Tally) where
     abbrev At : LineState → Tally → Place X → Type 0
@@ -241,27 +224,16 @@ module _ {T C E X : Type 0} (answers : T → List Incoming → List Outgoing →
       pub session_moves : (half later : WebSocketHalf) → At now tally (place.Session half was)
           → PreservesOn session_half.ghosts.stands now half (IsViewOf conns (conn was)) next later (IsViewOf conns (conn is)) → At next tally (place.Session later is)
       session_moves half later s leads =
-          let y = moves session_half.ghosts (promise (scope_with s.stands.0 client server state)) (session_scene limits start s.exchanges s.written s.stands.0 s.stands.1 s.stands.2 s.stands.3)
-          now next half later s.read was is s.stands.5 leads on in
-          record {
-            read = s.read ++ y.0;
-            written = s.written;
-            exchanges = s.exchanges;
-            promised = s.promised;
-            counted = s.counted;
-            stands = (s.stands.0, s.stands.1, s.stands.2, s.stands.3, s.stands.4, y.1);
-          }
+          let t = s.stands in
+          let y = moves session_half.ghosts (promise (scope_with t.0 client server state)) (session_scene limits start s.exchanges s.written t.0 t.1 t.2 t.3)
+          now next half later s.read was is t.5 leads on in
+          record { read = s.read ++ y.0; written = s.written; exchanges = s.exchanges; promised = s.promised; counted = s.counted; stands = (t.0, t.1, t.2, t.3, t.4, y.1) }
 
     -- only turns were counted
     pub turned : (new : Tally) (at : Place X) → new.exchanges ≡ tally.exchanges → new.faults ≡ tally.faults → At now tally at → At now new at
-    turned new at exchanges faults s = record {
-      read = s.read;
-      written = s.written;
-      exchanges = s.exchanges;
-      promised = s.promised;
-      counted = (exchanges ∙ s.counted.0, faults ∙ s.counted.1);
-      stands = s.stands;
-    }
+    turned new at exchanges faults s =
+        let counted : IsTallied new s.exchanges = (exchanges ∙ s.counted.0, faults ∙ s.counted.1) in
+        record { read = s.read; written = s.written; exchanges = s.exchanges; promised = s.promised; counted = counted; stands = s.stands }
 
     -- ---- more is read
 
@@ -301,15 +273,14 @@ module _ {T C E X : Type 0} (answers : T → List Incoming → List Outgoing →
           let run = runs x.side scene now s.read x.view x.begun x.stands x.seen x.request in
           let words = subst (λ (l : Limits). IsHttpExchange l s.stands.1 run.world) (sym run.stands.limits) (in_words limits s.stands.1 run.world run.exchange) in
           let broke = is_by_input run.world.conn.broken in
-          record {
-            read = s.read;
-            written = s.written ++ run.world.conn.written;
-            exchanges = s.exchanges ++ exchanged s.stands.0 s.stands.1 run.world ∷ [];
-            promised = answer.promised_more http_half.ghosts answers ends scene now later s.read x.side kind run s.exchanges s.stands.0 s.stands.1 broke promise client server state x.fresh x.opened x.unheard.0 x.unheard.1 s.promised;
-            counted = answer.tallied_more http_half.ghosts answers ends scene now later s.read x.side kind run s.exchanges s.stands.0 s.stands.1 broke tally new s.counted exchanges faults;
-            stands = at_rest answers conns ends conn began promise limits client server state start now s.read (s.exchanges ++ exchanged s.stands.0 s.stands.1 run.world ∷ []) (s.written ++ run.world.conn.written) at
-                (left_at limits scene.at now later s.read run.world run.stands.stands words run.stands.limits at left);
-          }
+          let all = s.exchanges ++ exchanged s.stands.0 s.stands.1 run.world ∷ [] in
+          let out = s.written ++ run.world.conn.written in
+          let promised = answer.promised_more http_half.ghosts answers ends scene now later s.read x.side kind run s.exchanges s.stands.0 s.stands.1 broke promise client server state
+          x.fresh x.opened x.unheard.0 x.unheard.1 s.promised in
+          let counted = answer.tallied_more http_half.ghosts answers ends scene now later s.read x.side kind run s.exchanges s.stands.0 s.stands.1 broke tally new s.counted exchanges faults in
+          let rests = at_rest answers conns ends conn began promise limits client server state start now s.read all out at
+          (left_at limits scene.at now later s.read run.world run.stands.stands words run.stands.limits at left) in
+          record { read = s.read; written = out; exchanges = all; promised = promised; counted = counted; stands = rests }
 
       module _ (half later : WebSocketHalf) (s : At now tally (place.Session half exchange))
           (runs : (side : AppSide T E) (scene : session_half.ghosts.Scene) (now : LineState) (read : List ℕ) (view : ConnView session_half.ghosts.In session_half.ghosts.Out) → began exchange side
@@ -332,18 +303,18 @@ module _ {T C E X : Type 0} (answers : T → List Incoming → List Outgoing →
         session_left outcome over =
             let broke = is_by_input run.world.conn.broken in
             let words = session_words (handshake_of scene.facts) scene.facts scene.limits.ring run.world run.exchange in
-            record {
-              read = s.read;
-              written = s.written ++ run.stands.text;
-              exchanges = s.exchanges ++ session.session_of scene run.world ∷ [];
-              promised = answer.promised_more session_half.ghosts answers ends scene now later s.read x.side kind run s.exchanges s.stands.0 s.stands.1 broke promise client server state x.fresh x.opened x.unheard.0 x.unheard.1 s.promised;
-              counted = answer.tallied_more session_half.ghosts answers ends scene now later s.read x.side kind run s.exchanges s.stands.0 s.stands.1 broke tally new s.counted exchanges faults;
-              stands = ends_after scene now later s.read run.world outcome run.stands words over s.stands.4;
-            }
+            let all = s.exchanges ++ session.session_of scene run.world ∷ [] in
+            let promised = answer.promised_more session_half.ghosts answers ends scene now later s.read x.side kind run s.exchanges s.stands.0 s.stands.1 broke promise client server state
+            x.fresh x.opened x.unheard.0 x.unheard.1 s.promised in
+            let counted = answer.tallied_more session_half.ghosts answers ends scene now later s.read x.side kind run s.exchanges s.stands.0 s.stands.1 broke tally new s.counted exchanges faults in
+            let ended = ends_after scene now later s.read run.world outcome run.stands words over s.stands.4 in
+            record { read = s.read; written = s.written ++ run.stands.text; exchanges = all; promised = promised; counted = counted; stands = ended }
 
 -- ---- an exchange begins
 
-module _ {T C E X : Type 0} (answers : T → List Incoming → List Outgoing → Option EndKind → Type 0) (conns : conn_end.Ghosts C) (ends : app_end.Ghosts E) (conn : X → C) (began : X → AppSide T E → Type 0) (promise : Promise) (client server : Option Peer) (state : List (List ℕ × StateValue)) (whole : Scope) (now : LineState) (tally : Tally) (exchange : X) where
+module _ {T C E X : Type 0} (answers : T → List Incoming → List Outgoing → Option EndKind → Type 0) (conns : conn_end.Ghosts C) (ends : app_end.Ghosts E)
+    (conn : X → C) (began : X → AppSide T E → Type 0) (promise : Promise) (client server : Option Peer) (state : List (List ℕ × StateValue)) (whole : Scope) (now : LineState)
+    (tally : Tally) (exchange : X) where
   begun_in : {H : Type 0} (halves : any_half.Ghosts H) (scene : halves.Scene) (scope : Scope) (half : H) (read : List ℕ) (view : ConnView halves.In halves.Out) (kind : Kind) (facts : Facts)
       → HasBegun answers conns ends conn began (promise whole) kind facts exchange → whole ≡ scope_with scope client server state
       → kind ≡ (halves.exchange scene).kind → facts ≡ (halves.exchange scene).facts → halves.stands scene now half read view → view.offered ≡ [] → is_some view.broken ≡ false → view.got ≡ []
@@ -361,7 +332,8 @@ module _ {T C E X : Type 0} (answers : T → List Incoming → List Outgoing →
       → IsServing answers conns ends conn began promise limits client server state scene.start now tally (place.Http half exchange)
   http_begun scene facts limits half read arrived b is facts_are limits_are s promised tallied =
       let view : ConnView ℕ ℕ = record empty_conn { arrived = arrived; written = s.0 } in
-      let x = begun_in http_half.ghosts (record { limits = limits; at = scene }) scene.scope half read view Http facts b is refl facts_are (record { limits = limits_are; stands = s.1 }) refl refl refl in
+      let x = begun_in http_half.ghosts (record { limits = limits; at = scene }) scene.scope half read view Http facts b is refl facts_are
+      (record { limits = limits_are; stands = s.1 }) refl refl refl in
       record { read = read; written = scene.before; exchanges = scene.exchanges; promised = promised; counted = tallied; stands = (scene.scope, scene.facts, scene.opened, x) }
 
   pub session_begun : (scene : session.SessionScene) (facts : Facts) (half : WebSocketHalf) (read : List ℕ) → HasBegun answers conns ends conn began (promise whole) WebSocket facts exchange
@@ -374,7 +346,9 @@ module _ {T C E X : Type 0} (answers : T → List Incoming → List Outgoing →
 
 -- ---- the report
 
-module _ {T C E X : Type 0} (answers : T → List Incoming → List Outgoing → Option EndKind → Type 0) (conns : conn_end.Ghosts C) (ends : app_end.Ghosts E) (conn : X → C) (began : X → AppSide T E → Type 0) (promise : Promise) (limits : Limits) (client server : Option Peer) (state : List (List ℕ × StateValue)) (start : LineState) (before : ℕ) (now : LineState) (pauses : ℕ) where
+module _ {T C E X : Type 0} (answers : T → List Incoming → List Outgoing → Option EndKind → Type 0) (conns : conn_end.Ghosts C) (ends : app_end.Ghosts E)
+    (conn : X → C) (began : X → AppSide T E → Type 0) (promise : Promise) (limits : Limits) (client server : Option Peer) (state : List (List ℕ × StateValue)) (start : LineState)
+    (before : ℕ) (now : LineState) (pauses : ℕ) where
   pub told : (connection : Connection X) (report : Report) → Stands answers conns ends conn began promise limits client server state start before now pauses connection → IsReportOf connection report
       → Serves promise limits client server state start now before pauses report
   told connection report x is =
