@@ -166,8 +166,7 @@ module _ (limits : Limits) (start now : LineState) (wire : Wire) (read : List �
 
   -- ---- more is read
 
-  module _ (next : LineState) (later : Wire) (more : List ℕ)
-      (moves : (start : LineState) (read written : List ℕ) (failures : ℕ) → Transferred start now wire.input read written failures
+  module _ (next : LineState) (later : Wire) (more : List ℕ) (moves : (start : LineState) (read written : List ℕ) (failures : ℕ) → Transferred start now wire.input read written failures
       → Transferred start next later.input (read ++ more) written failures)
       (on : has_ended wire.input ≡ true → has_ended later.input ≡ true) (all : AllGiven wire.requests read given) (short : length more ≤ piece_size) where
     moved : Transferred start next later.input (read ++ more) written 0

@@ -14,17 +14,14 @@ use Rattle.asgi_request.specs.{Results.Opens, Scopes.scope_of}
 use Rattle.asgi_conversation.specs.{Persistence.RefusesWith, declared.input.InputEnd.InputEnd, declared.input.InputEnd.TheVariants.Open, declared.report.Outcome.TheVariants.NoMemory}
 use Rattle.asgi_conversation.specs.{Exchanges.requests_of, ExchangeRecord.ExchangeRecord, Promised.IsPromised, Promised.ArePromised, SoFar.Within}
 use Rattle.asgi_conn.specs.{declared.place.Place.Place, declared.tally.Tally.Tally, Standing.BetweenRequests, Standing.IsAt, Standing.IsTallied, Standing.IsServing}
-use Rattle.asgi_halves.specs.{declared.wire.Wire.Wire, Half.Scene, Half.WithinScene, ReadAhead.ReadsAhead, WebSocketHalf.SessionScene, WebSocketHalf.OpensHandshake}
+use Rattle.asgi_halves.specs.{declared.wire.Wire.Wire, Half.Scene, Half.WithinScene, Half.Opens as OpensRequest, ReadAhead.ReadsAhead, WebSocketHalf.SessionScene, WebSocketHalf.OpensHandshake}
 use Rattle.asgi_ws.specs.Lines.{LineState}
-use Rattle.asgi_run.specs.{Lines.Transferred, declared.runner.AppSide.AppSide}
+use Rattle.asgi_run.specs.{Lines.Transferred, Lines.GoesOn as ReadsOn, declared.runner.AppSide.AppSide}
 use Rattle.asgi_conn.specs.private.Loop.{IsAtRest}
 use Rattle.asgi_halves.proofs.ReadAheadLemmas.{nothing_ahead, more_requests, heads_more}
+use Rattle.asgi_pipes.specs.declared.ends.{AppEnd.Ghosts as AppEnds, ConnEnd.Ghosts as ConnEnds}
 use Rattle.asgi_conversation.proofs.LoopLemmas as loop
 use Rattle.asgi_conn.specs.declared.place.Place.TheVariants as place
-use Rattle.asgi_halves.specs.Half as half
-use Rattle.asgi_run.specs.Lines as lines
-use Rattle.asgi_pipes.specs.declared.ends.AppEnd as app_end
-use Rattle.asgi_pipes.specs.declared.ends.ConnEnd as conn_end
 use Rattle.asgi_conn.proofs.BetweenLemmas as between
 
 -- ---- what the reader gave
@@ -50,9 +47,9 @@ moved_nothing start end still =
     let appends = Appends-nothing start.written start.written (Keeps-same start.written) in
     let tries = tries_all start.writes start.writes 0 (no_parts start.writes) in
     let told = sym (append-nil start.reads) in subst (λ (e : InputEnd). Transferred start start e [] [] 0) (sym still)
-    (record { consumes = consumes; appends = appends; answers = []; told = told; sum = refl; ends = All-nil lines.GoesOn; tries = tries; failed = never_fell start.failed; quiet = refl })
+    (record { consumes = consumes; appends = appends; answers = []; told = told; sum = refl; ends = All-nil ReadsOn; tries = tries; failed = never_fell start.failed; quiet = refl })
 
-module _ {T C E X : Type 0} (answers : T → List Incoming → List Outgoing → Option EndKind → Type 0) (conns : conn_end.Ghosts C) (ends : app_end.Ghosts E)
+module _ {T C E X : Type 0} (answers : T → List Incoming → List Outgoing → Option EndKind → Type 0) (conns : ConnEnds C) (ends : AppEnds E)
     (conn : X → C) (began : X → AppSide T E → Type 0) (promise : Promise) (limits : Limits) (client server : Option Peer) (state : List (List ℕ × StateValue)) where
   pub begins : (start : LineState) (wire : Wire) (tally : Tally) → (wire.limits ≡ limits) × (wire.requests.limits ≡ limits) → StandsFor wire.requests [] [] × (wire.input ≡ Open)
       → wire.out.items ≡ [] → tally.exchanges ≡ 0 → tally.faults ≡ 0 → IsServing answers conns ends conn began promise limits client server state start start tally (place.Between wire)
@@ -176,7 +173,7 @@ module _ {T C E X : Type 0} (answers : T → List Incoming → List Outgoing →
 
         pub answered : (whole : Scope) (next : LineState) (result : Place X) → whole ≡ scope_with scope client server state
             → ((scene : Scene) (client server : Option Peer) (state : List (List ℕ × StateValue)) (read arrived : List ℕ) (tally : Tally) → whole ≡ scope_with scene.scope client server state
-            → half.Opens scene now (record wire { requests = later }) facts read arrived → ArePromised promise client server state scene.exchanges → IsTallied tally scene.exchanges
+            → OpensRequest scene now (record wire { requests = later }) facts read arrived → ArePromised promise client server state scene.exchanges → IsTallied tally scene.exchanges
             → IsServing answers conns ends conn began promise wire.limits client server state scene.start next tally result)
             → IsServing answers conns ends conn began promise limits client server state start next tally result
         unfolding scene

@@ -180,8 +180,7 @@ module _ (scene : SessionScene) (now : LineState) (half : WebSocketHalf) (read :
   next out more (Saying before after event said is adds) =
       Saying before (after ++ i.taken.0) event (sym i.taken.1 ∙ ap (λ (l : List Outgoing). l ++ i.taken.0) said ∙ append_assoc before (event ∷ after) i.taken.0) is adds
   next out more (Ending ended put is adds) =
-      let all = i.ended (taken_end ended put) in
-      Ending ended (ended_put ended put) (is ∙ ap (session_output (handshake_of scene.facts) scene.facts) all)
+      let all = i.ended (taken_end ended put) in Ending ended (ended_put ended put) (is ∙ ap (session_output (handshake_of scene.facts) scene.facts) all)
       (adds ∙ ap (λ (l : List Outgoing). session_ending scene.facts l ended (is_by_input w.conn.broken)) all)
 
   front : IsPrefix w.conn.written (output_in scene w.conn) → IsPrefix (spoken s.text traffic) (said_out one)

@@ -4,7 +4,7 @@ use Rattle.asgi_types.specs.declared.{end_kind.EndKind.EndKind, facts.Facts.Fact
 use Rattle.asgi_types.specs.declared.{scope.Peer.Peer, scope.Scope.Scope, state.StateValue.StateValue}
 use Rattle.asgi_request.specs.{declared.next.Next.Next, declared.next.Next.TheVariants.Head, Opened.BeginsWithHandshake, Opened.HasClosed, Reading.StandsFor}
 use Rattle.asgi_response.specs.declared.text.ResponseText.{ResponseText}
-use Rattle.asgi_pipes.specs.declared.ends.AppEnd.{Ghosts}
+use Rattle.asgi_pipes.specs.declared.ends.{AppEnd.Ghosts, ConnEnd.Ghosts as ConnEnds}
 use Rattle.asgi_conversation.specs.{declared.report.Outcome.Outcome, OutcomeClasses.IsLacking, Promised.ArePromised, declared.following.NextStep.TheVariants.NextRequest}
 use Rattle.asgi_conversation.specs.declared.following.NextStep.{TheVariants.ConnectionEnds, NextStep}
 use Rattle.asgi_conn.specs.{declared.place.Place.TheVariants.Ended, declared.tally.Tally.Tally, Standing.IsTallied, Standing.IsServing}
@@ -15,9 +15,7 @@ use Rattle.asgi_ws.specs.Lines.{LineState}
 use Rattle.asgi_apps.specs.Promises.{Promise}
 use Rattle.asgi_conn.proofs.{AnswerLemmas.lacks_moved, LeaveLemmas.http_ends}
 use Rattle.asgi_response.specs.Standing as standing
-use Rattle.asgi_pipes.specs.declared.ends.ConnEnd as conn_end
 use Rattle.asgi_conversation.proofs.LoopLemmas as loop
-use Rattle.asgi_halves.specs.declared.session_half.Answered.TheVariants as answered
 
 -- ---- the exchange begins
 
@@ -40,7 +38,7 @@ module _ (scene : SessionScene) (now : LineState) (wire : Wire) (facts : Facts) 
       subst (λ (w : Wire). OpensSession scene now w own text taken read) (sym same) (record { fixed = fixed; moved = o.moved; denial = denied; frames = frames; empty = o.empty })
 
   -- memory or a thread is refused, before the application is called
-  pub opens_short : {T C E X : Type 0} (answers : T → List Incoming → List Outgoing → Option EndKind → Type 0) (conns : conn_end.Ghosts C) (ends : Ghosts E)
+  pub opens_short : {T C E X : Type 0} (answers : T → List Incoming → List Outgoing → Option EndKind → Type 0) (conns : ConnEnds C) (ends : Ghosts E)
       (conn : X → C) (began : X → AppSide T E → Type 0) (promise : Promise) (client server : Option Peer) (state : List (List ℕ × StateValue)) (tally : Tally)
       → ArePromised promise client server state scene.exchanges → IsTallied tally scene.exchanges → (outcome : Outcome) → IsLacking outcome
       → IsServing answers conns ends conn began promise scene.limits client server state scene.start now tally (Ended outcome)

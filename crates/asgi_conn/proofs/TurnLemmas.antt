@@ -13,10 +13,11 @@ use Rattle.asgi_conversation.specs.declared.{following.NextStep.NextStep, follow
 use Rattle.asgi_conversation.specs.{declared.report.Outcome.TheVariants.Idle, declared.report.Outcome.TheVariants.NoMemory, declared.report.Report.Report, Exchanges.fault_of}
 use Rattle.asgi_conversation.specs.{Exchanges.requests_of, Promised.ArePromised, TaskEnds.has_ended, SoFar.exchanged, Sessions.handshake_of}
 use Rattle.asgi_run.specs.{AnyHalf.PreservesOn, declared.runner.AppSide.AppSide, Limits.IsAtLimit, Limits.IsSettled, Running.OfEnd, Running.IsOpened, Running.HasRun, Lines.Transferred}
-use Rattle.asgi_run.specs.Lines.{piece_size}
+use Rattle.asgi_run.specs.{Lines.piece_size, declared.exchange_half.Half.Ghosts as AnyHalf}
 use Rattle.asgi_halves.specs.declared.{half.HttpHalf.HttpHalf, session_half.WebSocketHalf.WebSocketHalf, stage.Stage.Stage, stage.Stage.TheVariants.Over, stage.Stage.TheVariants.Running}
 use Rattle.asgi_halves.specs.{declared.stage.Stage.TheVariants.Ending, declared.stage.Stage.TheVariants.Cut, declared.wire.Wire.Wire, Half.Scene, Half.Invariant, Kinds.following_of}
-use Rattle.asgi_halves.specs.ReadAhead.{ReadsAhead}
+use Rattle.asgi_halves.specs.{ReadAhead.ReadsAhead, contracts.impls.HttpHalfHalf.TheImpl.ghosts as http_half, contracts.impls.WebSocketHalfHalf.TheImpl.ghosts as session_half}
+use Rattle.asgi_halves.specs.WebSocketHalf.{SessionScene, session_of, Invariant as SessionInvariant}
 use Rattle.asgi_ws.specs.Lines.{LineState}
 use Rattle.asgi_conn.specs.{declared.connection.Connection.Connection, declared.connection.Step.Step, declared.place.Place.Place, declared.tally.Tally.Tally, Serving.Serves, Standing.GoesOn}
 use Rattle.asgi_conn.specs.Standing.{IfOver, InExchange, IsAt, IsCounted, IsServing, IsTallied, HasRoom, Stands, IsReportOf, http_scene, session_scene, BetweenRequests}
@@ -25,12 +26,7 @@ use Rattle.asgi_request.proofs.StandardLemmas.{all_results}
 use Rattle.asgi_conn.proofs.{BetweenLemmas.rests_on, BetweenLemmas.ends_fed_short, LeaveLemmas.left_at, ServeLemmas.at_rest, SessionLeaveLemmas.ends_after, SessionServeLemmas.ends_connection}
 use Rattle.asgi_exchange.proofs.HttpExchangeLemmas.{in_words}
 use Rattle.asgi_exchange.proofs.SessionExchangeLemmas.{in_words as session_words}
-use Rattle.asgi_pipes.specs.declared.ends.AppEnd as app_end
-use Rattle.asgi_pipes.specs.declared.ends.ConnEnd as conn_end
-use Rattle.asgi_run.specs.declared.exchange_half.Half as any_half
-use Rattle.asgi_halves.specs.contracts.impls.HttpHalfHalf.TheImpl as http_half
-use Rattle.asgi_halves.specs.contracts.impls.WebSocketHalfHalf.TheImpl as session_half
-use Rattle.asgi_halves.specs.WebSocketHalf as session
+use Rattle.asgi_pipes.specs.declared.ends.{AppEnd.Ghosts as AppEnds, ConnEnd.Ghosts as ConnEnds}
 use Rattle.asgi_conn.specs.declared.connection.Step.TheVariants as step
 use Rattle.asgi_conn.specs.declared.place.Place.TheVariants as place
 use Rattle.asgi_conn.proofs.AnswerLemmas as answer
@@ -196,9 +192,8 @@ one_report {X} connection a b x y =
 
 -- ---- an exchange
 
-module _ {T C E X : Type 0} (answers : T → List Incoming → List Outgoing → Option EndKind → Type 0) (conns : conn_end.Ghosts C) (ends : app_end.Ghosts E)
-    (conn : X → C) (began : X → AppSide T E → Type 0) where
-  moves : {H : Type 0} (halves : any_half.Ghosts H) (promise : List Incoming → List Outgoing → Option EndKind → Type 0) (scene : halves.Scene) (now next : LineState) (half later : H)
+module _ {T C E X : Type 0} (answers : T → List Incoming → List Outgoing → Option EndKind → Type 0) (conns : ConnEnds C) (ends : AppEnds E) (conn : X → C) (began : X → AppSide T E → Type 0) where
+  moves : {H : Type 0} (halves : AnyHalf H) (promise : List Incoming → List Outgoing → Option EndKind → Type 0) (scene : halves.Scene) (now next : LineState) (half later : H)
       (read : List ℕ) (was is : X) → InExchange halves answers conns ends conn began promise scene now half read was
       → PreservesOn halves.stands now half (IsViewOf conns (conn was)) next later (IsViewOf conns (conn is)) → ((side : AppSide T E) → began was side → began is side)
       → (more : List ℕ) × InExchange halves answers conns ends conn began promise scene next later (read ++ more) is
@@ -215,17 +210,17 @@ module _ {T C E X : Type 0} (answers : T → List Incoming → List Outgoing →
 
     module _ (next : LineState) (was is : X) (on : (side : AppSide T E) → began was side → began is side) where
       pub http_moves : (half later : HttpHalf) → At now tally (place.Http half was)
-          → PreservesOn http_half.ghosts.stands now half (IsViewOf conns (conn was)) next later (IsViewOf conns (conn is)) → At next tally (place.Http later is)
+          → PreservesOn http_half.stands now half (IsViewOf conns (conn was)) next later (IsViewOf conns (conn is)) → At next tally (place.Http later is)
       http_moves half later s leads =
-          let y = moves http_half.ghosts (promise (scope_with s.stands.0 client server state)) (http_scene limits start s.exchanges s.written s.stands.0 s.stands.1 s.stands.2)
+          let y = moves http_half (promise (scope_with s.stands.0 client server state)) (http_scene limits start s.exchanges s.written s.stands.0 s.stands.1 s.stands.2)
           now next half later s.read was is s.stands.3 leads on in
           record { read = s.read ++ y.0; written = s.written; exchanges = s.exchanges; promised = s.promised; counted = s.counted; stands = (s.stands.0, s.stands.1, s.stands.2, y.1) }
 
       pub session_moves : (half later : WebSocketHalf) → At now tally (place.Session half was)
-          → PreservesOn session_half.ghosts.stands now half (IsViewOf conns (conn was)) next later (IsViewOf conns (conn is)) → At next tally (place.Session later is)
+          → PreservesOn session_half.stands now half (IsViewOf conns (conn was)) next later (IsViewOf conns (conn is)) → At next tally (place.Session later is)
       session_moves half later s leads =
           let t = s.stands in
-          let y = moves session_half.ghosts (promise (scope_with t.0 client server state)) (session_scene limits start s.exchanges s.written t.0 t.1 t.2 t.3)
+          let y = moves session_half (promise (scope_with t.0 client server state)) (session_scene limits start s.exchanges s.written t.0 t.1 t.2 t.3)
           now next half later s.read was is t.5 leads on in
           record { read = s.read ++ y.0; written = s.written; exchanges = s.exchanges; promised = s.promised; counted = s.counted; stands = (t.0, t.1, t.2, t.3, t.4, y.1) }
 
@@ -264,9 +259,9 @@ module _ {T C E X : Type 0} (answers : T → List Incoming → List Outgoing →
 
     module _ (exchange : X) (kind : EndKind) (new : Tally) (exchanges : new.exchanges ≡ tally.exchanges + 1) (faults : new.faults ≡ tally.faults + fault_of (Some kind)) where
       pub http_left : (half later : HttpHalf) (at : Place X) → At now tally (place.Http half exchange)
-          → ((side : AppSide T E) (scene : http_half.ghosts.Scene) (now : LineState) (read : List ℕ) (view : ConnView http_half.ghosts.In http_half.ghosts.Out) → began exchange side
-          → http_half.ghosts.stands scene now half read view → IsViewOf conns (conn exchange) view → OfEnd side (λ app. IsExchangeOf ends app (http_half.ghosts.exchange scene))
-          → HasRun http_half.ghosts answers ends scene now later read side kind) → IsLeft later at → At now new at
+          → ((side : AppSide T E) (scene : http_half.Scene) (now : LineState) (read : List ℕ) (view : ConnView http_half.In http_half.Out) → began exchange side
+          → http_half.stands scene now half read view → IsViewOf conns (conn exchange) view → OfEnd side (λ app. IsExchangeOf ends app (http_half.exchange scene))
+          → HasRun http_half answers ends scene now later read side kind) → IsLeft later at → At now new at
       http_left half later at s runs left =
           let x = s.stands.3 in
           let scene = http_scene limits start s.exchanges s.written s.stands.0 s.stands.1 s.stands.2 in
@@ -275,25 +270,25 @@ module _ {T C E X : Type 0} (answers : T → List Incoming → List Outgoing →
           let broke = is_by_input run.world.conn.broken in
           let all = s.exchanges ++ exchanged s.stands.0 s.stands.1 run.world ∷ [] in
           let out = s.written ++ run.world.conn.written in
-          let promised = answer.promised_more http_half.ghosts answers ends scene now later s.read x.side kind run s.exchanges s.stands.0 s.stands.1 broke promise client server state
+          let promised = answer.promised_more http_half answers ends scene now later s.read x.side kind run s.exchanges s.stands.0 s.stands.1 broke promise client server state
           x.fresh x.opened x.unheard.0 x.unheard.1 s.promised in
-          let counted = answer.tallied_more http_half.ghosts answers ends scene now later s.read x.side kind run s.exchanges s.stands.0 s.stands.1 broke tally new s.counted exchanges faults in
+          let counted = answer.tallied_more http_half answers ends scene now later s.read x.side kind run s.exchanges s.stands.0 s.stands.1 broke tally new s.counted exchanges faults in
           let rests = at_rest answers conns ends conn began promise limits client server state start now s.read all out at
           (left_at limits scene.at now later s.read run.world run.stands.stands words run.stands.limits at left) in
           record { read = s.read; written = out; exchanges = all; promised = promised; counted = counted; stands = rests }
 
       module _ (half later : WebSocketHalf) (s : At now tally (place.Session half exchange))
-          (runs : (side : AppSide T E) (scene : session_half.ghosts.Scene) (now : LineState) (read : List ℕ) (view : ConnView session_half.ghosts.In session_half.ghosts.Out) → began exchange side
-          → session_half.ghosts.stands scene now half read view → IsViewOf conns (conn exchange) view → OfEnd side (λ app. IsExchangeOf ends app (session_half.ghosts.exchange scene))
-          → HasRun session_half.ghosts answers ends scene now later read side kind) where
-        x : InExchange session_half.ghosts answers conns ends conn began (promise (scope_with s.stands.0 client server state))
+          (runs : (side : AppSide T E) (scene : session_half.Scene) (now : LineState) (read : List ℕ) (view : ConnView session_half.In session_half.Out) → began exchange side
+          → session_half.stands scene now half read view → IsViewOf conns (conn exchange) view → OfEnd side (λ app. IsExchangeOf ends app (session_half.exchange scene))
+          → HasRun session_half answers ends scene now later read side kind) where
+        x : InExchange session_half answers conns ends conn began (promise (scope_with s.stands.0 client server state))
             (session_scene limits start s.exchanges s.written s.stands.0 s.stands.1 s.stands.2 s.stands.3) now half s.read exchange
         x = s.stands.5
 
-        abbrev scene : session.SessionScene
+        abbrev scene : SessionScene
         scene = session_scene limits start s.exchanges s.written s.stands.0 s.stands.1 s.stands.2 s.stands.3
 
-        run : HasRun session_half.ghosts answers ends scene now later s.read x.side kind
+        run : HasRun session_half answers ends scene now later s.read x.side kind
         run = runs x.side scene now s.read x.view x.begun x.stands x.seen x.request
 
         pub session_over : (following : NextStep) × (later.stage ≡ Over following) → (outcome : Outcome) × (later.stage ≡ Over (ConnectionEnds outcome))
@@ -303,19 +298,19 @@ module _ {T C E X : Type 0} (answers : T → List Incoming → List Outgoing →
         session_left outcome over =
             let broke = is_by_input run.world.conn.broken in
             let words = session_words (handshake_of scene.facts) scene.facts scene.limits.ring run.world run.exchange in
-            let all = s.exchanges ++ session.session_of scene run.world ∷ [] in
-            let promised = answer.promised_more session_half.ghosts answers ends scene now later s.read x.side kind run s.exchanges s.stands.0 s.stands.1 broke promise client server state
+            let all = s.exchanges ++ session_of scene run.world ∷ [] in
+            let promised = answer.promised_more session_half answers ends scene now later s.read x.side kind run s.exchanges s.stands.0 s.stands.1 broke promise client server state
             x.fresh x.opened x.unheard.0 x.unheard.1 s.promised in
-            let counted = answer.tallied_more session_half.ghosts answers ends scene now later s.read x.side kind run s.exchanges s.stands.0 s.stands.1 broke tally new s.counted exchanges faults in
+            let counted = answer.tallied_more session_half answers ends scene now later s.read x.side kind run s.exchanges s.stands.0 s.stands.1 broke tally new s.counted exchanges faults in
             let ended = ends_after scene now later s.read run.world outcome run.stands words over s.stands.4 in
             record { read = s.read; written = s.written ++ run.stands.text; exchanges = all; promised = promised; counted = counted; stands = ended }
 
 -- ---- an exchange begins
 
-module _ {T C E X : Type 0} (answers : T → List Incoming → List Outgoing → Option EndKind → Type 0) (conns : conn_end.Ghosts C) (ends : app_end.Ghosts E)
+module _ {T C E X : Type 0} (answers : T → List Incoming → List Outgoing → Option EndKind → Type 0) (conns : ConnEnds C) (ends : AppEnds E)
     (conn : X → C) (began : X → AppSide T E → Type 0) (promise : Promise) (client server : Option Peer) (state : List (List ℕ × StateValue)) (whole : Scope) (now : LineState)
     (tally : Tally) (exchange : X) where
-  begun_in : {H : Type 0} (halves : any_half.Ghosts H) (scene : halves.Scene) (scope : Scope) (half : H) (read : List ℕ) (view : ConnView halves.In halves.Out) (kind : Kind) (facts : Facts)
+  begun_in : {H : Type 0} (halves : AnyHalf H) (scene : halves.Scene) (scope : Scope) (half : H) (read : List ℕ) (view : ConnView halves.In halves.Out) (kind : Kind) (facts : Facts)
       → HasBegun answers conns ends conn began (promise whole) kind facts exchange → whole ≡ scope_with scope client server state
       → kind ≡ (halves.exchange scene).kind → facts ≡ (halves.exchange scene).facts → halves.stands scene now half read view → view.offered ≡ [] → is_some view.broken ≡ false → view.got ≡ []
       → InExchange halves answers conns ends conn began (promise (scope_with scope client server state)) scene now half read exchange
@@ -332,21 +327,20 @@ module _ {T C E X : Type 0} (answers : T → List Incoming → List Outgoing →
       → IsServing answers conns ends conn began promise limits client server state scene.start now tally (place.Http half exchange)
   http_begun scene facts limits half read arrived b is facts_are limits_are s promised tallied =
       let view : ConnView ℕ ℕ = record empty_conn { arrived = arrived; written = s.0 } in
-      let x = begun_in http_half.ghosts (record { limits = limits; at = scene }) scene.scope half read view Http facts b is refl facts_are
-      (record { limits = limits_are; stands = s.1 }) refl refl refl in
+      let x = begun_in http_half (record { limits = limits; at = scene }) scene.scope half read view Http facts b is refl facts_are (record { limits = limits_are; stands = s.1 }) refl refl refl in
       record { read = read; written = scene.before; exchanges = scene.exchanges; promised = promised; counted = tallied; stands = (scene.scope, scene.facts, scene.opened, x) }
 
-  pub session_begun : (scene : session.SessionScene) (facts : Facts) (half : WebSocketHalf) (read : List ℕ) → HasBegun answers conns ends conn began (promise whole) WebSocket facts exchange
-      → whole ≡ scope_with scene.scope client server state → facts ≡ scene.facts → session.Invariant scene now half read empty_conn → ReadsAhead scene.limits scene.read (requests_of scene.exchanges)
+  pub session_begun : (scene : SessionScene) (facts : Facts) (half : WebSocketHalf) (read : List ℕ) → HasBegun answers conns ends conn began (promise whole) WebSocket facts exchange
+      → whole ≡ scope_with scene.scope client server state → facts ≡ scene.facts → SessionInvariant scene now half read empty_conn → ReadsAhead scene.limits scene.read (requests_of scene.exchanges)
       → ArePromised promise client server state scene.exchanges → IsTallied tally scene.exchanges
       → IsServing answers conns ends conn began promise scene.limits client server state scene.start now tally (place.Session half exchange)
   session_begun scene facts half read b is facts_are s ahead promised tallied =
-      let x = begun_in session_half.ghosts scene scene.scope half read empty_conn WebSocket facts b is refl facts_are s refl refl refl in
+      let x = begun_in session_half scene scene.scope half read empty_conn WebSocket facts b is refl facts_are s refl refl refl in
       record { read = read; written = scene.before; exchanges = scene.exchanges; promised = promised; counted = tallied; stands = (scene.scope, scene.facts, scene.frames, scene.read, ahead, x) }
 
 -- ---- the report
 
-module _ {T C E X : Type 0} (answers : T → List Incoming → List Outgoing → Option EndKind → Type 0) (conns : conn_end.Ghosts C) (ends : app_end.Ghosts E)
+module _ {T C E X : Type 0} (answers : T → List Incoming → List Outgoing → Option EndKind → Type 0) (conns : ConnEnds C) (ends : AppEnds E)
     (conn : X → C) (began : X → AppSide T E → Type 0) (promise : Promise) (limits : Limits) (client server : Option Peer) (state : List (List ℕ × StateValue)) (start : LineState)
     (before : ℕ) (now : LineState) (pauses : ℕ) where
   pub told : (connection : Connection X) (report : Report) → Stands answers conns ends conn began promise limits client server state start before now pauses connection → IsReportOf connection report
