@@ -1,52 +1,33 @@
 -- Between two requests: the next result is a head or a refusal, more is read, and the connection ends.
 use Rattle.std.proofs.Common.{◌≡◌, ℕ, true, List, [], ◌∷◌, ◌++◌, ◌⊎◌, inl, inr, map, refl, sym, ap, ◌∙◌, append-nil, append_assoc, subst, Option, flat_map}
-use Rattle.std.specs.Prelude.{◌<◌, ◌≤◌, length, take}
-use Rattle.std.specs.Io.KnownBytes.{Appends}
-use Rattle.asgi_types.specs.declared.facts.Facts.{Facts}
-use Rattle.asgi_types.specs.declared.facts.Framing.TheVariants.{Upgrade}
-use Rattle.asgi_types.specs.declared.scope.Scope.{Scope}
-use Rattle.asgi_types.specs.declared.limits.Limits.{Limits}
-use Rattle.asgi_io.specs.declared.write.Wrote.TheVariants as wrote
-use Rattle.asgi_io.specs.Counting.{RoseBy}
-use Rattle.asgi_io.specs.Writing.{TriesWrites}
-use Rattle.asgi_request.specs.declared.next.Next.{Next}
-use Rattle.asgi_request.specs.declared.next.Next.TheVariants.{Head, Event, Whole, Bad}
-use Rattle.asgi_request.specs.declared.place.Place.{Place}
-use Rattle.asgi_request.specs.declared.place.Place.TheVariants.{Start, Upgraded, Stopped}
-use Rattle.asgi_request.specs.Head.{record_of}
-use Rattle.asgi_request.specs.Opened.{BeginsWithHandshake, HasClosed}
-use Rattle.asgi_request.specs.Places.{Reads, shown, Reaches}
-use Rattle.asgi_request.specs.Reading.{Reading, StandsFor, AllGiven, EndsWhole, WholeGiven, IsRefused}
-use Rattle.asgi_request.specs.Results.{AreRequests, GivesResults, Opens}
-use Rattle.asgi_request.specs.Scopes.{scope_of, facts_of}
+use Rattle.std.specs.{Prelude.◌<◌, Prelude.◌≤◌, Prelude.length, Prelude.take, Io.KnownBytes.Appends}
+use Rattle.asgi_types.specs.declared.{facts.Facts.Facts, facts.Framing.TheVariants.Upgrade, scope.Scope.Scope, limits.Limits.Limits}
+use Rattle.asgi_io.specs.{Counting.RoseBy, Writing.TriesWrites}
+use Rattle.asgi_request.specs.declared.{next.Next.Next, next.Next.TheVariants.Head, next.Next.TheVariants.Event, next.Next.TheVariants.Whole, next.Next.TheVariants.Bad, place.Place.Place}
+use Rattle.asgi_request.specs.{declared.place.Place.TheVariants.Start, declared.place.Place.TheVariants.Upgraded, declared.place.Place.TheVariants.Stopped, Head.record_of}
+use Rattle.asgi_request.specs.{Opened.BeginsWithHandshake, Opened.HasClosed, Places.Reads, Places.shown, Places.Reaches, Reading.Reading, Reading.StandsFor, Reading.AllGiven, Reading.EndsWhole}
+use Rattle.asgi_request.specs.{Reading.WholeGiven, Reading.IsRefused, Results.AreRequests, Results.GivesResults, Results.Opens, Scopes.scope_of, Scopes.facts_of}
 use Rattle.asgi_request.proofs.BodyGrowthLemmas.{Further}
 use Rattle.asgi_request.proofs.DueLemmas.{ClosesAt, runs_compare, same_after}
 use Rattle.asgi_request.proofs.FirstLemmas.{first_of}
 use Rattle.asgi_request.proofs.HeldLemmas.{between}
 use Rattle.asgi_request.proofs.NextLemmas.{begins_with_handshake, next_head}
 use Rattle.asgi_request.proofs.OpenedLemmas.{closed_at, closed_is_one, closed_not_upgraded, whole_is_closed}
-use Rattle.asgi_conversation.specs.Persistence.{RefusesWith}
+use Rattle.asgi_conversation.specs.{Persistence.RefusesWith, declared.input.InputEnd.TheVariants.AtEnd, declared.input.InputEnd.TheVariants.Failed, declared.report.Outcome.TheVariants.Finished}
+use Rattle.asgi_conversation.specs.declared.report.Outcome.TheVariants.{Refused, InputBroke, WriteFailed, Idle, NoMemory}
+use Rattle.asgi_conversation.specs.{OutcomeClasses.class_of, After.IsBlank, Exchanges.requests_of, ExchangeRecord.ExchangeRecord, SoFar.Between, TaskEnds.has_ended}
 use Rattle.asgi_request.proofs.OpeningLemmas.{first_opens}
 use Rattle.asgi_request.proofs.UniqueLemmas.{shown-append}
 use Rattle.asgi_response.specs.Exchange.{refusal_text}
-use Rattle.asgi_conversation.specs.declared.input.InputEnd.TheVariants.{AtEnd, Failed}
-use Rattle.asgi_conversation.specs.declared.report.Outcome.{Outcome}
-use Rattle.asgi_conversation.specs.declared.report.Outcome.TheVariants.{Finished, Refused, InputBroke, WriteFailed, Idle, NoMemory}
-use Rattle.asgi_conversation.specs.OutcomeClasses.{Lacking, class_of}
-use Rattle.asgi_conversation.specs.After.{IsBlank}
-use Rattle.asgi_conversation.specs.Exchanges.{requests_of}
-use Rattle.asgi_conversation.specs.ExchangeRecord.{ExchangeRecord}
-use Rattle.asgi_conversation.specs.SoFar.{Between}
-use Rattle.asgi_conversation.specs.TaskEnds.{has_ended}
-use Rattle.asgi_conversation.proofs.LoopLemmas as loop
-use Rattle.asgi_halves.specs.declared.wire.Wire.{Wire}
+use Rattle.asgi_halves.specs.{declared.wire.Wire.Wire, ReadAhead.ReadsAhead}
 use Rattle.asgi_ws.specs.Lines.{LineState}
 use Rattle.asgi_run.specs.Lines.{Transferred, piece_size}
 use Rattle.asgi_conn.specs.Standing.{BetweenRequests, EndsSo}
-use Rattle.asgi_halves.specs.ReadAhead.{ReadsAhead}
-use Rattle.asgi_conn.proofs.HttpEndLemmas.{http_ends}
+use Rattle.asgi_conn.proofs.LeaveLemmas.{http_ends}
 use Rattle.asgi_run.proofs.LineLemmas.{moved_by_write, tries_front}
 use Rattle.asgi_halves.proofs.ReadAheadLemmas.{reads_at_need}
+use Rattle.asgi_io.specs.declared.write.Wrote.TheVariants as wrote
+use Rattle.asgi_conversation.proofs.LoopLemmas as loop
 
 -- ---- what the reader gives there
 
@@ -60,17 +41,11 @@ all_whole limits bytes (results ∷ requests) rest are = by (all_whole limits ar
     by : EndsWhole later → EndsWhole (results ++ later)
     by (inl none) =
         let x = are.1 in
-        inr (
-          Head (scope_of (record_of x.head) x.framing) (facts_of (record_of x.head) x.framing) ∷ map Event x.events,
-          ap (λ (l : List Next). results ++ l) none ∙ append-nil results ∙ x.results_are,
-        )
+        inr (Head (scope_of (record_of x.head) x.framing) (facts_of (record_of x.head) x.framing) ∷ map Event x.events, ap (λ (l : List Next). results ++ l) none ∙ append-nil results ∙ x.results_are)
     by (inr some) = inr (results ++ some.0, ap (λ (l : List Next). results ++ l) some.1 ∙ sym (append_assoc results some.0 (Whole ∷ [])))
 
 pub ends_whole : (limits : Limits) (bytes : List ℕ) (given : List Next) (after : List ℕ) → HasClosed limits bytes given after → EndsWhole given
 ends_whole limits bytes given after x = subst EndsWhole (sym x.2) (all_whole limits bytes x.0 after x.1)
-
-no_memory : (outcome : Outcome) → outcome ≡ NoMemory → class_of outcome ≡ Lacking
-no_memory outcome is = ap class_of is
 
 module _ (reader : Reading) (bytes : List ℕ) (given : List Next) (after : List ℕ) (x : HasClosed reader.limits bytes given after) (stands : StandsFor reader bytes given) where
   at_start : reader.place ≡ Start
@@ -78,9 +53,7 @@ module _ (reader : Reading) (bytes : List ℕ) (given : List Next) (after : List
     where
       by : (reader.place ≡ Start) ⊎ (reader.place ≡ Upgraded) → reader.place ≡ Start
       by (inl s) = s
-      by (inr s) =
-          let P : Place → Type 0 = λ p. Reaches reader.limits bytes given p reader.held in
-          absurd (closed_not_upgraded reader.limits bytes given after reader.held x (subst P s stands))
+      by (inr s) = let P : Place → Type 0 = λ p. Reaches reader.limits bytes given p reader.held in absurd (closed_not_upgraded reader.limits bytes given after reader.held x (subst P s stands))
 
   pub unrefused : (status : ℕ) → IsRefused reader status → ⊥
   unrefused status refused = let never : Start ≡ Stopped refused.0 = sym at_start ∙ refused.1 in cc
@@ -108,15 +81,9 @@ opens_next limits bytes closed after place held item closes r = by (runs_compare
         let e : [] ≡ item ∷ ([] ++ shown f.items_after) =
         same_after closed [] (item ∷ ([] ++ shown f.items_after))
         (append-nil closed ∙ sym x.shows ∙ ap shown f.splits ∙ shown-append r.steps f.items_after ∙ ap (λ (l : List Next). l ++ shown f.items_after) r.shows
-        ∙ append_assoc closed (item ∷ []) (shown f.items_after)) in
-        cc)
+        ∙ append_assoc closed (item ∷ []) (shown f.items_after)) in cc)
 
 -- ---- with what the connection keeps
-
--- nothing more was read
-pub as_read : (limits : Limits) (start now : LineState) (read : List ℕ) (exchanges : List ExchangeRecord) (written : List ℕ) (outcome : Outcome)
-    → EndsSo limits start now read exchanges written outcome → (more : List ℕ) × EndsSo limits start now (read ++ more) exchanges written outcome
-as_read limits start now read exchanges written outcome x = ([], subst (λ (l : List ℕ). EndsSo limits start now l exchanges written outcome) (sym (append-nil read)) x)
 
 module _ (limits : Limits) (start now : LineState) (wire : Wire) (read : List ℕ) (given : List Next) (exchanges : List ExchangeRecord) (after written : List ℕ)
     (x : BetweenRequests limits start now wire read given exchanges after written) where
@@ -148,27 +115,24 @@ module _ (limits : Limits) (start now : LineState) (wire : Wire) (read : List �
 
   -- ---- the end without a text
 
-  -- these are all the results, by any limits
-  abbrev AllOf : Limits → Type 0
-  AllOf l = (rest : List ℕ) × GivesResults l read given rest
+  results : AllGiven wire.requests read given → (rest : List ℕ) × GivesResults limits read given rest
+  results all = subst (λ (l : Limits). (rest : List ℕ) × GivesResults l read given rest) x.limits_are.1 all
 
   pub ends_idle : AllGiven wire.requests read given → EndsSo limits start now read exchanges written Idle
-  ends_idle all =
-      let g = subst (λ (l : Limits). AllOf l) x.limits_are.1 all in
-      http_ends limits start now wire.input read exchanges written Idle x.moved (λ report o c. loop.idle limits wire.input read given exchanges after written report x.between c g.0 g.1 o) x.ahead
+  ends_idle all = let g = results all in http_ends limits start now wire.input read exchanges written Idle x.moved
+      (λ report o c. loop.idle limits wire.input read given exchanges after written report x.between c g.0 g.1 o) x.ahead
 
   pub ends_short : EndsSo limits start now read exchanges written NoMemory
-  ends_short = http_ends limits start now wire.input read exchanges written NoMemory x.moved (λ report o c. loop.lacking limits wire.input read given exchanges after written report x.between c (no_memory report.outcome o)) x.ahead
+  ends_short = http_ends limits start now wire.input read exchanges written NoMemory x.moved
+      (λ report o c. loop.lacking limits wire.input read given exchanges after written report x.between c (ap class_of o)) x.ahead
 
   pub ends_finished : AllGiven wire.requests read given → wire.input ≡ AtEnd → IsBlank after → EndsSo limits start now read exchanges written Finished
-  ends_finished all at blank =
-      let g = subst (λ (l : Limits). AllOf l) x.limits_are.1 all in
-      http_ends limits start now wire.input read exchanges written Finished x.moved (λ report o c. loop.finished limits wire.input read given exchanges after written report x.between c g.0 g.1 at blank o) x.ahead
+  ends_finished all at blank = let g = results all in http_ends limits start now wire.input read exchanges written Finished x.moved
+      (λ report o c. loop.finished limits wire.input read given exchanges after written report x.between c g.0 g.1 at blank o) x.ahead
 
   pub ends_broken : AllGiven wire.requests read given → (wire.input ≡ Failed) ⊎ ((wire.input ≡ AtEnd) × (IsBlank after → ⊥)) → EndsSo limits start now read exchanges written InputBroke
-  ends_broken all why =
-      let g = subst (λ (l : Limits). AllOf l) x.limits_are.1 all in
-      http_ends limits start now wire.input read exchanges written InputBroke x.moved (λ report o c. loop.input_broke limits wire.input read given exchanges after written report x.between c g.0 g.1 why o) x.ahead
+  ends_broken all why = let g = results all in http_ends limits start now wire.input read exchanges written InputBroke x.moved
+      (λ report o c. loop.input_broke limits wire.input read given exchanges after written report x.between c g.0 g.1 why o) x.ahead
 
   -- ---- the end with the text of a refusal
 
@@ -180,38 +144,30 @@ module _ (limits : Limits) (start now : LineState) (wire : Wire) (read : List �
   pub handshake_here : (reader : Reading) (scope : Scope) (facts : Facts) → reader.limits ≡ limits → StandsFor reader read (given ++ Head scope facts ∷ []) → facts.framing ≡ Upgrade
       → (frames : List ℕ) × BeginsWithHandshake limits after scope facts frames
   handshake_here reader scope facts same stands e =
-      let n = next_head limits read given after reader.place reader.held scope facts [] (closed_at limits read given after x.between.closed) (reaches reader (given ++ Head scope facts ∷ []) same stands) in
-      (n.0, begins_with_handshake limits after scope facts n.0 n.1 e)
+      let n = next_head limits read given after reader.place reader.held scope facts [] (closed_at limits read given after x.between.closed)
+      (reaches reader (given ++ Head scope facts ∷ []) same stands) in (n.0, begins_with_handshake limits after scope facts n.0 n.1 e)
 
   module _ (next : LineState) (status : ℕ) (due : RefusesWith limits after status)
       (text : List ℕ) (text_is : text ≡ refusal_text status) (left : next.left ≡ now.left) (reads : next.reads ≡ now.reads) (session : next.session ≡ now.session) where
     pub ends_refused : Appends now.written next.written text → RoseBy 0 now.failed next.failed → TriesWrites now.writes next.writes (length text) wrote.Done
         → (more : List ℕ) × EndsSo limits start next read exchanges (written ++ more) (Refused status)
-    ends_refused appends rose tries = (
-      refusal_text status,
-      http_ends limits start next wire.input read exchanges (written ++ refusal_text status) (Refused status)
-          (moved_by_write start now next wire.input read written (refusal_text status) 0 x.moved left reads session
-          (subst (λ (l : List ℕ). Appends now.written next.written l) text_is appends) rose
-          (subst (λ (l : List ℕ). TriesWrites now.writes next.writes (length l) wrote.Done) text_is tries))
-          (λ report o c. loop.refused limits wire.input read given exchanges after written report x.between c status due o) x.ahead,
-    )
+    ends_refused appends rose tries =
+        let moved = moved_by_write start now next wire.input read written text 0 x.moved left reads session appends rose tries in
+        let ended = http_ends limits start next wire.input read exchanges (written ++ text) (Refused status) moved
+        (λ report o c. rw text_is (loop.refused limits wire.input read given exchanges after written report x.between c status due o)) x.ahead in (text, ended)
 
     pub ends_unwritten : (n : ℕ) → n < length text → Appends now.written next.written (take n text) → RoseBy 1 now.failed next.failed → TriesWrites now.writes next.writes n (wrote.Failed n)
         → (more : List ℕ) × EndsSo limits start next read exchanges (written ++ more) (WriteFailed n)
-    ends_unwritten n within appends rose tries = (
-      take n (refusal_text status),
-      http_ends limits start next wire.input read exchanges (written ++ take n (refusal_text status)) (WriteFailed n)
-          (moved_by_write start now next wire.input read written (take n (refusal_text status)) 1 x.moved left reads session
-          (subst (λ (l : List ℕ). Appends now.written next.written (take n l)) text_is appends) rose
-          (tries_front now.writes next.writes n (refusal_text status) (subst (λ (l : List ℕ). n < length l) text_is within) tries))
-          (λ report o c. loop.refusal_failed limits wire.input read given exchanges after written report x.between c status n due
-          (subst (λ (l : List ℕ). n < length l) text_is within) o) x.ahead,
-    )
+    ends_unwritten n within appends rose tries =
+        let less = subst (λ (l : List ℕ). n < length l) text_is within in
+        let moved = moved_by_write start now next wire.input read written (take n text) 1 x.moved left reads session appends rose (tries_front now.writes next.writes n text within tries) in
+        let ended = http_ends limits start next wire.input read exchanges (written ++ take n text) (WriteFailed n) moved
+        (λ report o c. rw text_is (loop.refusal_failed limits wire.input read given exchanges after written report x.between c status n due less o)) x.ahead in (take n text, ended)
 
   -- ---- more is read
 
-  module _ (next : LineState) (later : Wire) (more : List ℕ)
-      (moves : (start : LineState) (read written : List ℕ) (failures : ℕ) → Transferred start now wire.input read written failures → Transferred start next later.input (read ++ more) written failures)
+  module _ (next : LineState) (later : Wire) (more : List ℕ) (moves : (start : LineState) (read written : List ℕ) (failures : ℕ) → Transferred start now wire.input read written failures
+      → Transferred start next later.input (read ++ more) written failures)
       (on : has_ended wire.input ≡ true → has_ended later.input ≡ true) (all : AllGiven wire.requests read given) (short : length more ≤ piece_size) where
     moved : Transferred start next later.input (read ++ more) written 0
     moved = moves start read written 0 x.moved
@@ -221,22 +177,17 @@ module _ (limits : Limits) (start now : LineState) (wire : Wire) (read : List �
         (loop.reads_more limits wire.input read more given exchanges after written x.between)
 
     ahead_of : ReadsAhead limits (read ++ more) (requests_of exchanges)
-    ahead_of = let g = subst (λ (l : Limits). AllOf l) x.limits_are.1 all in reads_at_need limits read more given (requests_of exchanges) g.0 g.1 x.heads short
+    ahead_of = let g = results all in reads_at_need limits read more given (requests_of exchanges) g.0 g.1 x.heads short
 
     pub rests_on : later ≡ record wire { requests = later.requests; input = later.input } → later.requests.limits ≡ wire.requests.limits
         → ((bytes : List ℕ) (given : List Next) → StandsFor wire.requests bytes given → StandsFor later.requests (bytes ++ more) given)
         → BetweenRequests limits start next later (read ++ more) given exchanges (after ++ more) written
-    rests_on same reader fed = record {
-      moved = moved;
-      limits_are = (ap (λ (w : Wire). w.limits) same ∙ x.limits_are.0, reader ∙ x.limits_are.1);
-      between = further;
-      stands = fed read given x.stands;
-      empty = ap (λ (w : Wire). w.out.items) same ∙ x.empty;
-      heads = x.heads;
-      ahead = ahead_of;
-    }
+    rests_on same reader fed =
+        let first = ap (λ (w : Wire). w.limits) same ∙ x.limits_are.0 in
+        let empty = ap (λ (w : Wire). w.out.items) same ∙ x.empty in
+        record { moved = moved; limits_are = (first, reader ∙ x.limits_are.1); between = further; stands = fed read given x.stands; empty = empty; heads = x.heads; ahead = ahead_of }
 
     pub ends_fed_short : EndsSo limits start next (read ++ more) exchanges written NoMemory
     ends_fed_short =
         http_ends limits start next later.input (read ++ more) exchanges written NoMemory moved
-        (λ report o c. loop.lacking limits later.input (read ++ more) given exchanges (after ++ more) written report further c (no_memory report.outcome o)) ahead_of
+        (λ report o c. loop.lacking limits later.input (read ++ more) given exchanges (after ++ more) written report further c (ap class_of o)) ahead_of

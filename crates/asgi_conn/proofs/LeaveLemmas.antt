@@ -1,49 +1,37 @@
 -- Where an exchange leaves its connection: between two requests, or at its end.
-use Rattle.std.proofs.Common.{◌≡◌, ℕ, true, false, List, [], ◌∷◌, ◌++◌, ◌⊎◌, inl, inr, map, sym, ap, ◌∙◌, append_assoc, subst, Some}
-use Rattle.asgi_types.specs.declared.end_kind.EndKind.{EndKind}
-use Rattle.asgi_types.specs.declared.facts.Facts.{Facts}
-use Rattle.asgi_types.specs.declared.limits.Limits.{Limits}
-use Rattle.asgi_types.specs.declared.outgoing.Outgoing.{Outgoing}
-use Rattle.asgi_types.specs.declared.scope.Scope.{Scope}
-use Rattle.asgi_request.specs.declared.next.Next.{Next}
-use Rattle.asgi_request.specs.declared.next.Next.TheVariants as next
-use Rattle.asgi_request.specs.BodyOf.{body_events}
-use Rattle.asgi_request.specs.ChunkedBody.{BodyState}
-use Rattle.asgi_request.specs.Places.{Reaches}
+use Rattle.std.proofs.Common.{◌≡◌, ℕ, List, [], ◌∷◌, ◌++◌, ◌⊎◌, inl, inr, map, sym, ap, ◌∙◌, append_assoc, subst, Some, ◌≡◌, ℕ, List, refl}
+use Rattle.asgi_types.specs.declared.{end_kind.EndKind.EndKind, facts.Facts.Facts, limits.Limits.Limits, outgoing.Outgoing.Outgoing, scope.Scope.Scope}
+use Rattle.asgi_request.specs.{declared.next.Next.Next, BodyOf.body_events, ChunkedBody.BodyState, Places.Reaches}
 use Rattle.asgi_request.proofs.BodyOfLemmas.{body_is_read}
-use Rattle.asgi_response.specs.declared.refusal.Input.{Input}
-use Rattle.asgi_response.specs.Exchange.{added_by_end}
-use Rattle.asgi_response.specs.Progress.{progress_of}
-use Rattle.asgi_response.specs.Response.{response_text}
-use Rattle.asgi_exchange.specs.ExchangeTexts.{input_of}
-use Rattle.asgi_exchange.specs.HttpExchange.{IsHttpExchange}
-use Rattle.asgi_exchange.specs.Items.{end_of}
-use Rattle.asgi_exchange.specs.Steps.{is_by_input, is_by_cut}
-use Rattle.asgi_exchange.specs.Views.{World, taken_of}
-use Rattle.asgi_conversation.specs.declared.following.NextStep.TheVariants.{NextRequest, ConnectionEnds}
-use Rattle.asgi_conversation.specs.declared.report.Outcome.{Outcome}
-use Rattle.asgi_conversation.specs.declared.report.Report.{Report}
-use Rattle.asgi_conversation.specs.Exchanges.{IsFollowed, requests_of}
-use Rattle.asgi_conversation.specs.ExchangeRecord.{ExchangeRecord}
-use Rattle.asgi_conversation.specs.Persistence.{CountsExchanges, InHand, StopsWithin}
-use Rattle.asgi_conversation.specs.ExchangeRecord.{Beginning, Saying, Ending}
-use Rattle.asgi_conversation.specs.Kinds.{Converses}
-use Rattle.asgi_conversation.specs.SoFar.{exchanged, Between, TaskIsOver, IsCutBy}
-use Rattle.asgi_conversation.specs.OutcomeClasses.{is_cut, cuts_exchange}
-use Rattle.asgi_conversation.specs.TaskEnds.{after_task}
+use Rattle.asgi_response.specs.{declared.refusal.Input.Input, Exchange.added_by_end, Progress.progress_of, Response.response_text}
+use Rattle.asgi_exchange.specs.{ExchangeTexts.input_of, HttpExchange.IsHttpExchange, Items.end_of, Steps.is_by_input, Steps.is_by_cut, Views.World, Views.taken_of}
+use Rattle.asgi_conversation.specs.declared.{following.NextStep.TheVariants.NextRequest, following.NextStep.TheVariants.ConnectionEnds, report.Outcome.Outcome, report.Report.Report}
+use Rattle.asgi_conversation.specs.{Exchanges.IsFollowed, Exchanges.requests_of, Exchanges.requests_of, ExchangeRecord.ExchangeRecord, ExchangeRecord.Beginning, ExchangeRecord.Saying}
+use Rattle.asgi_conversation.specs.{ExchangeRecord.Ending, Persistence.CountsExchanges, Persistence.InHand, Persistence.StopsWithin, Persistence.CountsExchanges, Kinds.Converses, SoFar.exchanged}
+use Rattle.asgi_conversation.specs.{SoFar.Between, SoFar.TaskIsOver, TaskEnds.after_task, declared.input.InputEnd.InputEnd, Sessions.no_traffic}
 use Rattle.asgi_conversation.proofs.LoopLemmas.{keeps_on}
 use Rattle.asgi_conversation.proofs.RequestLemmas.{requests_join}
 use Rattle.asgi_conversation.proofs.SoFarLemmas.{taken_whole, end_put, ends_by_task, ends_cut}
-use Rattle.asgi_halves.specs.declared.half.HttpHalf.{HttpHalf}
-use Rattle.asgi_halves.specs.declared.stage.Stage.{Stage}
-use Rattle.asgi_halves.specs.declared.stage.Stage.TheVariants.{Over}
-use Rattle.asgi_halves.specs.Half.{Scene, Invariant, IsAt, KeepsOn, EndsByTask, IsCutShort, known, requests_in, state_in, failures_at}
+use Rattle.asgi_halves.specs.{declared.half.HttpHalf.HttpHalf, declared.stage.Stage.Stage, declared.stage.Stage.TheVariants.Over, Half.Scene, Half.Invariant, Half.IsAt, Half.KeepsOn}
+use Rattle.asgi_halves.specs.{Half.EndsByTask, Half.IsCutShort, Half.known, Half.requests_in, Half.state_in, Half.failures_at, ReadAhead.ReadsAhead, Traffic.failures_of}
 use Rattle.asgi_ws.specs.Lines.{LineState}
 use Rattle.asgi_run.specs.Lines.{Transferred}
-use Rattle.asgi_conn.specs.Standing.{BetweenRequests, EndsSo}
-use Rattle.asgi_halves.specs.ReadAhead.{ReadsAhead}
-use Rattle.asgi_conn.proofs.HttpEndLemmas.{http_ends}
+use Rattle.asgi_conn.specs.{Standing.BetweenRequests, Standing.EndsSo, Standing.EndsSo, declared.place.Place.Place}
 use Rattle.asgi_halves.proofs.ReadAheadLemmas.{heads_after, within_of}
+use Rattle.asgi_conversation.proofs.ConversationLemmas.{over_http}
+use Rattle.asgi_halves.proofs.TalkLemmas.{talk_silent}
+use Rattle.asgi_conn.specs.private.Loop.{IsLeft, IsAtRest}
+use Rattle.asgi_request.specs.declared.next.Next.TheVariants as next
+
+-- ---- no message passed over the line
+
+pub http_ends : (limits : Limits) (start now : LineState) (end : InputEnd) (read : List ℕ) (exchanges : List ExchangeRecord) (written : List ℕ) (outcome : Outcome)
+    → Transferred start now end read written (failures_of outcome)
+    → ((report : Report) → report.outcome ≡ outcome → CountsExchanges report exchanges → Converses limits end read exchanges written report)
+    → ReadsAhead limits read (requests_of exchanges) → EndsSo limits start now read exchanges written outcome
+http_ends limits start now end read exchanges written outcome moved converses ahead =
+    let carried = talk_silent start now end read written (failures_of outcome) moved in
+    record { end = end; traffic = no_traffic; carried = carried; converses = λ report o c. over_http limits end read exchanges no_traffic written report (converses report o c) refl; ahead = ahead }
 
 -- ---- the next request follows
 
@@ -61,7 +49,7 @@ module _ (limits : Limits) (scene : Scene) (now : LineState) (half : HttpHalf) (
   all_ahead : ReadsAhead limits read (requests_of exchanges_then)
   all_ahead = subst (λ (l : List (Scope × Facts)). ReadsAhead limits read l) (sym all_requests) (subst (λ (l : Limits). ReadsAhead l read (requests_in scene)) lim s.within.ahead)
 
-  pub left_resting : half.stage ≡ Over NextRequest → (given : List Next) × (after : List ℕ) × BetweenRequests limits scene.start now half.wire read given exchanges_then after out
+  left_resting : half.stage ≡ Over NextRequest → (given : List Next) × (after : List ℕ) × BetweenRequests limits scene.start now half.wire read given exchanges_then after out
   left_resting e =
       let k : KeepsOn scene half read w.conn = subst (λ (st : Stage). IsAt st scene half read w.conn) e s.stage in
       let given = scene.opened ++ (map next.Event k.events ++ next.Whole ∷ []) in
@@ -69,80 +57,57 @@ module _ (limits : Limits) (scene : Scene) (now : LineState) (half : HttpHalf) (
       let r = half.wire.requests in
       let reaches = subst (λ (l : Limits). Reaches l read given r.place r.held) s.limits k.given in
       let on = keeps_on half.wire.limits half.wire.input read scene.opened scene.exchanges scene.before scene.scope scene.facts w k.kind k.events r.place r.held
-      (within_of scene half.wire.limits half.wire.input read w.conn.arrived s.within) i over k.complete k.input_broke k.written reaches in (
-        given,
-        on.0,
-        record {
-          moved = subst (λ (st : Stage). Transferred scene.start now half.wire.input read out (failures_at st)) e s.moved;
-          limits_are = (lim, s.limits ∙ lim);
-          between = subst (λ (l : Limits). Between l half.wire.input read given exchanges_then on.0 out) lim on.1;
-          stands = k.given;
-          empty = k.empty;
-          heads = heads_after scene.opened k.events ∙ s.within.heads ∙ sym all_requests;
-          ahead = all_ahead;
-        },
-      )
+      (within_of scene half.wire.limits half.wire.input read w.conn.arrived s.within) i over k.complete k.input_broke k.written reaches in
+      let moved = subst (λ (st : Stage). Transferred scene.start now half.wire.input read out (failures_at st)) e s.moved in
+      let between = subst (λ (l : Limits). Between l half.wire.input read given exchanges_then on.0 out) lim on.1 in
+      let heads = heads_after scene.opened k.events ∙ s.within.heads ∙ sym all_requests in
+      let rests : BetweenRequests limits scene.start now half.wire read given exchanges_then on.0 out =
+      record { moved = moved; limits_are = (lim, s.limits ∙ lim); between = between; stands = k.given; empty = k.empty; heads = heads; ahead = all_ahead } in (given, on.0, rests)
 
   -- ---- the connection ends
 
   abbrev pub state : BodyState
   state = state_in scene half w.conn
 
-  uncut_by : is_by_cut w.conn.broken ≡ false → IsCutBy false w
-  uncut_by u b = sym u ∙ ap is_by_cut b
-
   followed : (kind : EndKind) (outcome : Outcome) → end_of w.conn.got ≡ Some kind
       → after_task kind (progress_of scene.facts (taken_of w.conn)) state (is_by_input w.conn.broken) ≡ ConnectionEnds outcome
       → IsFollowed (exchanged scene.scope scene.facts w) state (ConnectionEnds outcome)
-  followed kind outcome taken follows = (
-    kind,
-    end_put half.wire.limits scene.facts w kind i taken,
-    subst (λ (l : List Outgoing). after_task kind (progress_of scene.facts l) state (is_by_input w.conn.broken) ≡ ConnectionEnds outcome)
-        (taken_whole half.wire.limits scene.facts w kind i taken) follows,
-  )
+  followed kind outcome taken follows =
+      let all = taken_whole half.wire.limits scene.facts w kind i taken in
+      let follows_all = subst (λ (l : List Outgoing). after_task kind (progress_of scene.facts l) state (is_by_input w.conn.broken) ≡ ConnectionEnds outcome) all follows in
+      (kind, end_put half.wire.limits scene.facts w kind i taken, follows_all)
 
-  by_task : (outcome : Outcome) → EndsByTask scene half w.conn outcome → (report : Report) → report.outcome ≡ outcome → CountsExchanges report exchanges_then
-      → Converses half.wire.limits half.wire.input read exchanges_then out report
-  by_task outcome t report o c =
-      let back = sym o in
-      ends_by_task half.wire.limits half.wire.input read scene.exchanges scene.before scene.scope scene.facts w t.kind
-      (body_events half.wire.limits scene.facts.framing w.conn.arrived) state report s.within.one i t.taken
-      (body_is_read half.wire.limits scene.facts.framing w.conn.arrived) s.breaks (uncut_by t.uncut)
-      (subst (λ (q : Outcome). IsFollowed (exchanged scene.scope scene.facts w) state (ConnectionEnds q)) back (followed t.kind outcome t.taken t.follows))
-      t.out (subst (λ (q : Outcome). is_cut q ≡ false) back t.whole) (λ b. t.input_broke (back ∙ b)) c
+  by_task : (report : Report) → CountsExchanges report exchanges_then → EndsByTask scene half w.conn report.outcome → Converses half.wire.limits half.wire.input read exchanges_then out report
+  by_task report c t =
+      ends_by_task half.wire.limits half.wire.input read scene.exchanges scene.before scene.scope scene.facts w t.kind (body_events half.wire.limits scene.facts.framing w.conn.arrived) state report
+      s.within.one i t.taken (body_is_read half.wire.limits scene.facts.framing w.conn.arrived) s.breaks (λ b. sym t.uncut ∙ ap is_by_cut b)
+      (followed t.kind report.outcome t.taken t.follows) t.out t.whole t.input_broke c
 
   -- the text in hand is one of the exchange, whatever else the task sent
   hand : (input : Input) (written text : List ℕ) → InHand (known scene w.conn) input written text → InHand (exchanged scene.scope scene.facts w) input written text
   hand input written text (Beginning none is) = Beginning none is
   hand input written text (Saying before after event said is grows) =
-      let p = i.taken in
-      Saying before (after ++ p.0) event (sym p.1 ∙ ap (λ (l : List Outgoing). l ++ p.0) said ∙ append_assoc before (event ∷ after) p.0) is grows
+      let p = i.taken in Saying before (after ++ p.0) event (sym p.1 ∙ ap (λ (l : List Outgoing). l ++ p.0) said ∙ append_assoc before (event ∷ after) p.0) is grows
   hand input written text (Ending kind ended is adds) =
-      let all = taken_whole half.wire.limits scene.facts w kind i ended in
-      Ending kind (end_put half.wire.limits scene.facts w kind i ended) (is ∙ ap (response_text scene.facts) all)
+      let all = taken_whole half.wire.limits scene.facts w kind i ended in Ending kind (end_put half.wire.limits scene.facts w kind i ended) (is ∙ ap (response_text scene.facts) all)
       (adds ∙ ap (λ (l : List Outgoing). added_by_end scene.facts l kind input) all)
 
   stops_within : (n : ℕ) (input : Input) (written : List ℕ) → StopsWithin n (known scene w.conn) input written → StopsWithin n (exchanged scene.scope scene.facts w) input written
   stops_within n input written x = record { out = x.out; more = x.more; is_next = hand input x.out x.more x.is_next; within = x.within; written_is = x.written_is }
 
-  by_cut : (outcome : Outcome) → IsCutShort scene half w.conn outcome → (report : Report) → report.outcome ≡ outcome → CountsExchanges report exchanges_then
-      → Converses half.wire.limits half.wire.input read exchanges_then out report
-  by_cut outcome t report o c =
-      let back = sym o in
-      ends_cut half.wire.limits half.wire.input read scene.exchanges scene.before scene.scope scene.facts w
-      (body_events half.wire.limits scene.facts.framing w.conn.arrived) state report s.within.one i
-      (body_is_read half.wire.limits scene.facts.framing w.conn.arrived) s.breaks (subst (λ (q : Outcome). cuts_exchange q ≡ true) back t.cut)
-      (λ n e. stops_within n (input_of state) w.conn.written (t.stops n (back ∙ e))) c
+  by_cut : (report : Report) → CountsExchanges report exchanges_then → IsCutShort scene half w.conn report.outcome → Converses half.wire.limits half.wire.input read exchanges_then out report
+  by_cut report c t =
+      ends_cut half.wire.limits half.wire.input read scene.exchanges scene.before scene.scope scene.facts w (body_events half.wire.limits scene.facts.framing w.conn.arrived) state report
+      s.within.one i (body_is_read half.wire.limits scene.facts.framing w.conn.arrived) s.breaks t.cut (λ n e. stops_within n (input_of state) w.conn.written (t.stops n e)) c
 
-  ended : (outcome : Outcome) → EndsByTask scene half w.conn outcome ⊎ IsCutShort scene half w.conn outcome → (report : Report) → report.outcome ≡ outcome → CountsExchanges report exchanges_then
-      → Converses half.wire.limits half.wire.input read exchanges_then out report
-  ended outcome (inl t) = by_task outcome t
-  ended outcome (inr t) = by_cut outcome t
-
-  pub left_ended : (outcome : Outcome) → half.stage ≡ Over (ConnectionEnds outcome) → EndsSo limits scene.start now read exchanges_then out outcome
+  left_ended : (outcome : Outcome) → half.stage ≡ Over (ConnectionEnds outcome) → EndsSo limits scene.start now read exchanges_then out outcome
   left_ended outcome e =
-      http_ends limits scene.start now half.wire.input read exchanges_then out outcome
-      (subst (λ (st : Stage). Transferred scene.start now half.wire.input read out (failures_at st)) e s.moved)
-      (λ report o c.
-      subst (λ (l : Limits). Converses l half.wire.input read exchanges_then out report) lim
-      (ended outcome (subst (λ (st : Stage). IsAt st scene half read w.conn) e s.stage) report o c)) all_ahead
+      http_ends limits scene.start now half.wire.input read exchanges_then out outcome (subst (λ (st : Stage). Transferred scene.start now half.wire.input read out (failures_at st)) e s.moved)
+      (λ report o c. let Ends : Outcome → Type 0 = λ q. EndsByTask scene half w.conn q ⊎ IsCutShort scene half w.conn q in
+      let ends : Ends report.outcome = subst Ends (sym o) (subst (λ (st : Stage). IsAt st scene half read w.conn) e s.stage) in
+      subst (λ (l : Limits). Converses l half.wire.input read exchanges_then out report) lim (elim ends [ inl t ↦ by_task report c t | inr t ↦ by_cut report c t ])) all_ahead
+
+  -- between two requests, or at the end
+  pub left_at : {X : Type 0} (at : Place X) → IsLeft half at → IsAtRest at limits scene.start now read exchanges_then out
+  left_at at (inl l) = rw l.1 (left_resting l.0)
+  left_at at (inr l) = rw l.2 (left_ended l.0 l.1)

@@ -1,58 +1,28 @@
 -- A connection at its beginning, and what one step of it does.
 use Rattle.std.proofs.Common.{◌≡◌, ◌≢◌, ℕ, List, [], ◌∷◌, ◌++◌, refl, sym, ap, ◌∙◌, append-nil, subst, Option}
 use Rattle.std.proofs.lemmas.List.Elements.{All-nil}
-use Rattle.asgi_types.specs.declared.facts.Facts.{Facts}
-use Rattle.asgi_types.specs.declared.facts.Framing.{Framing}
-use Rattle.asgi_types.specs.declared.facts.Framing.TheVariants.{Length, Chunked, Upgrade}
-use Rattle.asgi_types.specs.declared.limits.Limits.{Limits}
-use Rattle.asgi_types.specs.declared.scope.Kind.TheVariants.{Http, WebSocket}
-use Rattle.asgi_types.specs.declared.scope.Peer.{Peer}
-use Rattle.asgi_types.specs.declared.scope.Scope.{Scope}
-use Rattle.asgi_types.specs.declared.state.StateValue.{StateValue}
-use Rattle.asgi_types.specs.Scopes.{scope_with}
+use Rattle.asgi_types.specs.declared.facts.{Facts.Facts, Framing.Framing, Framing.TheVariants.Length, Framing.TheVariants.Chunked, Framing.TheVariants.Upgrade}
+use Rattle.asgi_types.specs.declared.{limits.Limits.Limits, scope.Kind.TheVariants.Http, scope.Kind.TheVariants.WebSocket, scope.Peer.Peer, scope.Scope.Scope, state.StateValue.StateValue}
+use Rattle.asgi_types.specs.{Scopes.scope_with, declared.end_kind.EndKind.EndKind, declared.incoming.Incoming.Incoming, declared.outgoing.Outgoing.Outgoing}
 use Rattle.asgi_io.proofs.BytesLemmas.{Appends-nothing, Consumes-nothing, Keeps-same}
 use Rattle.asgi_io.proofs.CountLemmas.{never_fell}
 use Rattle.asgi_io.proofs.WriteLemmas.{no_parts, tries_all}
-use Rattle.asgi_apps.specs.Scopes.{kind_of}
-use Rattle.asgi_request.specs.declared.next.Next.{Next}
-use Rattle.asgi_request.specs.declared.next.Next.TheVariants.{Need, Head, Bad}
-use Rattle.asgi_request.specs.Reading.{Reading, StandsFor, AllGiven, IsRefused, GoesOn}
-use Rattle.asgi_request.specs.declared.head.HeadRecord.{HeadRecord}
-use Rattle.asgi_request.specs.Head.{record_of}
-use Rattle.asgi_request.specs.Opened.{BeginsWithHandshake}
-use Rattle.asgi_request.specs.Results.{Opens}
-use Rattle.asgi_request.specs.Scopes.{scope_of}
-use Rattle.asgi_conversation.specs.Persistence.{RefusesWith}
-use Rattle.asgi_conversation.specs.declared.input.InputEnd.{InputEnd}
-use Rattle.asgi_conversation.specs.declared.input.InputEnd.TheVariants.{Open}
-use Rattle.asgi_conversation.specs.declared.report.Outcome.TheVariants.{NoMemory}
-use Rattle.asgi_conversation.specs.Exchanges.{requests_of}
-use Rattle.asgi_conversation.specs.ExchangeRecord.{ExchangeRecord}
-use Rattle.asgi_conversation.specs.Promised.{IsPromised, ArePromised}
-use Rattle.asgi_conversation.specs.SoFar.{Within}
-use Rattle.asgi_conversation.proofs.LoopLemmas as loop
-use Rattle.asgi_conn.specs.declared.place.Place.{Place}
-use Rattle.asgi_conn.specs.declared.place.Place.TheVariants as place
-use Rattle.asgi_conn.specs.declared.tally.Tally.{Tally}
-use Rattle.asgi_halves.specs.declared.wire.Wire.{Wire}
-use Rattle.asgi_halves.specs.Half.{Scene, WithinScene}
-use Rattle.asgi_halves.specs.Half as half
-use Rattle.asgi_run.specs.Lines as lines
+use Rattle.asgi_apps.specs.{Scopes.kind_of, Promises.Promise}
+use Rattle.asgi_request.specs.{declared.next.Next.Next, declared.next.Next.TheVariants.Need, declared.next.Next.TheVariants.Head, declared.next.Next.TheVariants.Bad, Reading.Reading}
+use Rattle.asgi_request.specs.{Reading.StandsFor, Reading.AllGiven, Reading.IsRefused, Reading.GoesOn, declared.head.HeadRecord.HeadRecord, Head.record_of, Opened.BeginsWithHandshake}
+use Rattle.asgi_request.specs.{Results.Opens, Scopes.scope_of}
+use Rattle.asgi_conversation.specs.{Persistence.RefusesWith, declared.input.InputEnd.InputEnd, declared.input.InputEnd.TheVariants.Open, declared.report.Outcome.TheVariants.NoMemory}
+use Rattle.asgi_conversation.specs.{Exchanges.requests_of, ExchangeRecord.ExchangeRecord, Promised.IsPromised, Promised.ArePromised, SoFar.Within}
+use Rattle.asgi_conn.specs.{declared.place.Place.Place, declared.tally.Tally.Tally, Standing.BetweenRequests, Standing.IsAt, Standing.IsTallied, Standing.IsServing}
+use Rattle.asgi_halves.specs.{declared.wire.Wire.Wire, Half.Scene, Half.WithinScene, Half.Opens as OpensRequest, ReadAhead.ReadsAhead, WebSocketHalf.SessionScene, WebSocketHalf.OpensHandshake}
 use Rattle.asgi_ws.specs.Lines.{LineState}
-use Rattle.asgi_apps.specs.Promises.{Promise}
-use Rattle.asgi_run.specs.Lines.{Transferred}
-use Rattle.asgi_conn.specs.Standing.{BetweenRequests, IsAt, IsTallied, IsServing}
+use Rattle.asgi_run.specs.{Lines.Transferred, Lines.GoesOn as ReadsOn, declared.runner.AppSide.AppSide}
 use Rattle.asgi_conn.specs.private.Loop.{IsAtRest}
-use Rattle.asgi_types.specs.declared.end_kind.EndKind.{EndKind}
-use Rattle.asgi_types.specs.declared.incoming.Incoming.{Incoming}
-use Rattle.asgi_types.specs.declared.outgoing.Outgoing.{Outgoing}
-use Rattle.asgi_pipes.specs.declared.ends.AppEnd as app_end
-use Rattle.asgi_pipes.specs.declared.ends.ConnEnd as conn_end
-use Rattle.asgi_run.specs.declared.runner.AppSide.{AppSide}
-use Rattle.asgi_halves.specs.ReadAhead.{ReadsAhead}
-use Rattle.asgi_halves.specs.WebSocketHalf.{SessionScene, OpensHandshake}
-use Rattle.asgi_conn.proofs.BetweenLemmas as between
 use Rattle.asgi_halves.proofs.ReadAheadLemmas.{nothing_ahead, more_requests, heads_more}
+use Rattle.asgi_pipes.specs.declared.ends.{AppEnd.Ghosts as AppEnds, ConnEnd.Ghosts as ConnEnds}
+use Rattle.asgi_conversation.proofs.LoopLemmas as loop
+use Rattle.asgi_conn.specs.declared.place.Place.TheVariants as place
+use Rattle.asgi_conn.proofs.BetweenLemmas as between
 
 -- ---- what the reader gave
 
@@ -72,46 +42,26 @@ plain_is_http client server state head Upgrade plain = absurd (plain refl)
 
 -- nothing was read or written yet
 pub moved_nothing : (start : LineState) (end : InputEnd) → end ≡ Open → Transferred start start end [] [] 0
-moved_nothing start end still = subst (λ (e : InputEnd). Transferred start start e [] [] 0) (sym still) (record {
-  consumes = Consumes-nothing start.left start.left (Keeps-same start.left);
-  appends = Appends-nothing start.written start.written (Keeps-same start.written);
-  answers = [];
-  told = sym (append-nil start.reads);
-  sum = refl;
-  ends = All-nil lines.GoesOn;
-  tries = tries_all start.writes start.writes 0 (no_parts start.writes);
-  failed = never_fell start.failed;
-  quiet = refl;
-})
+moved_nothing start end still =
+    let consumes = Consumes-nothing start.left start.left (Keeps-same start.left) in
+    let appends = Appends-nothing start.written start.written (Keeps-same start.written) in
+    let tries = tries_all start.writes start.writes 0 (no_parts start.writes) in
+    let told = sym (append-nil start.reads) in subst (λ (e : InputEnd). Transferred start start e [] [] 0) (sym still)
+    (record { consumes = consumes; appends = appends; answers = []; told = told; sum = refl; ends = All-nil ReadsOn; tries = tries; failed = never_fell start.failed; quiet = refl })
 
-module _ {T C E X : Type 0} (answers : T → List Incoming → List Outgoing → Option EndKind → Type 0) (conns : conn_end.Ghosts C) (ends : app_end.Ghosts E) (conn : X → C) (began : X → AppSide T E → Type 0)
-    (promise : Promise) (limits : Limits) (client server : Option Peer) (state : List (List ℕ × StateValue)) where
+module _ {T C E X : Type 0} (answers : T → List Incoming → List Outgoing → Option EndKind → Type 0) (conns : ConnEnds C) (ends : AppEnds E)
+    (conn : X → C) (began : X → AppSide T E → Type 0) (promise : Promise) (limits : Limits) (client server : Option Peer) (state : List (List ℕ × StateValue)) where
   pub begins : (start : LineState) (wire : Wire) (tally : Tally) → (wire.limits ≡ limits) × (wire.requests.limits ≡ limits) → StandsFor wire.requests [] [] × (wire.input ≡ Open)
       → wire.out.items ≡ [] → tally.exchanges ≡ 0 → tally.faults ≡ 0 → IsServing answers conns ends conn began promise limits client server state start start tally (place.Between wire)
-  begins start wire tally limits_are unread empty none no_faults = record {
-    read = [];
-    written = [];
-    exchanges = [];
-    promised = All-nil (IsPromised promise client server state);
-    counted = (none, no_faults);
-    stands = (
-      [],
-      [],
-      record {
-        moved = moved_nothing start wire.input unread.1;
-        limits_are = limits_are;
-        between = loop.starts limits wire.input;
-        stands = unread.0;
-        empty = empty;
-        heads = refl;
-        ahead = nothing_ahead limits;
-      },
-    );
-  }
+  begins start wire tally limits_are unread empty none no_faults =
+      let moved = moved_nothing start wire.input unread.1 in
+      let x : BetweenRequests limits start start wire [] [] [] [] [] =
+      record { moved = moved; limits_are = limits_are; between = loop.starts limits wire.input; stands = unread.0; empty = empty; heads = refl; ahead = nothing_ahead limits } in
+      record { read = []; written = []; exchanges = []; promised = All-nil (IsPromised promise client server state); counted = (none, no_faults); stands = ([], [], x) }
 
   -- ---- one step
 
-  at_rest : (start now : LineState) (read : List ℕ) (exchanges : List ExchangeRecord) (written : List ℕ) (at : Place X) → IsAtRest at limits start now read exchanges written
+  pub at_rest : (start now : LineState) (read : List ℕ) (exchanges : List ExchangeRecord) (written : List ℕ) (at : Place X) → IsAtRest at limits start now read exchanges written
       → IsAt answers conns ends conn began promise limits client server state start at now read exchanges written
   at_rest start now read exchanges written (place.Between wire) rests = rests
   at_rest start now read exchanges written (place.Http half exchange) rests = absurd rests
@@ -124,38 +74,24 @@ module _ {T C E X : Type 0} (answers : T → List Incoming → List Outgoing →
 
     -- memory was refused
     pub short : IsServing answers conns ends conn began promise limits client server state start now tally (place.Ended NoMemory)
-    short = record {
-      read = s.read;
-      written = s.written;
-      exchanges = s.exchanges;
-      promised = s.promised;
-      counted = s.counted;
-      stands = between.ends_short limits start now wire s.read s.stands.0 s.exchanges s.stands.1 s.written x;
-    }
+    short =
+        let ended = between.ends_short limits start now wire s.read s.stands.0 s.exchanges s.stands.1 s.written x in
+        record { read = s.read; written = s.written; exchanges = s.exchanges; promised = s.promised; counted = s.counted; stands = ended }
 
     module _ (later : Reading) (same : later.limits ≡ wire.requests.limits) where
       limits_stay : later.limits ≡ limits
       limits_stay = same ∙ x.limits_are.1
 
       -- no result is there
-      pub waited : (result : Place X)
-          → ((bytes : List ℕ) (given : List Next) → StandsFor wire.requests bytes given → StandsFor later bytes given × AllGiven later bytes given)
+      pub waited : (result : Place X) → ((bytes : List ℕ) (given : List Next) → StandsFor wire.requests bytes given → StandsFor later bytes given × AllGiven later bytes given)
           → ((limits : Limits) (start now : LineState) (read : List ℕ) (given : List Next) (exchanges : List ExchangeRecord) (after written : List ℕ)
           → BetweenRequests limits start now (record wire { requests = later }) read given exchanges after written → AllGiven later read given
-          → IsAtRest result limits start now read exchanges written)
-          → IsServing answers conns ends conn began promise limits client server state start now tally result
+          → IsAtRest result limits start now read exchanges written) → IsServing answers conns ends conn began promise limits client server state start now tally result
       waited result need waits =
           let n = need s.read s.stands.0 x.stands in
           let y = waits limits start now s.read s.stands.0 s.exchanges s.stands.1 s.written
           (between.asked limits start now wire s.read s.stands.0 s.exchanges s.stands.1 s.written x later limits_stay n.0) n.1 in
-          record {
-            read = s.read;
-            written = s.written;
-            exchanges = s.exchanges;
-            promised = s.promised;
-            counted = s.counted;
-            stands = at_rest start now s.read s.exchanges s.written result y;
-          }
+          record { read = s.read; written = s.written; exchanges = s.exchanges; promised = s.promised; counted = s.counted; stands = at_rest start now s.read s.exchanges s.written result y }
 
       module _ (item : Next) (goes_on : ((status : ℕ) → IsRefused wire.requests status → ⊥) → GoesOn wire.requests later item) where
         gave : StandsFor later s.read (s.stands.0 ++ item ∷ [])
@@ -168,30 +104,24 @@ module _ {T C E X : Type 0} (answers : T → List Incoming → List Outgoing →
       -- a text was written with no exchange
       answered_so : (next : LineState) (result : Place X) → (text : List ℕ) × IsAtRest result limits start next s.read s.exchanges (s.written ++ text)
           → IsServing answers conns ends conn began promise limits client server state start next tally result
-      answered_so next result y = record {
-        read = s.read;
-        written = s.written ++ y.0;
-        exchanges = s.exchanges;
-        promised = s.promised;
-        counted = s.counted;
-        stands = at_rest start next s.read s.exchanges (s.written ++ y.0) result y.1;
-      }
+      answered_so next result y =
+          let rests = at_rest start next s.read s.exchanges (s.written ++ y.0) result y.1 in
+          record { read = s.read; written = s.written ++ y.0; exchanges = s.exchanges; promised = s.promised; counted = s.counted; stands = rests }
 
       -- a refusal
       pub refused : (next : LineState) (result : Place X) (status : ℕ) → (((status : ℕ) → IsRefused wire.requests status → ⊥) → GoesOn wire.requests later (Bad status))
           → ((limits : Limits) (start : LineState) (wire : Wire) (read : List ℕ) (given : List Next) (exchanges : List ExchangeRecord) (after written : List ℕ)
           → BetweenRequests limits start now wire read given exchanges after written → RefusesWith limits after status
-          → (text : List ℕ) × IsAtRest result limits start next read exchanges (written ++ text))
-          → IsServing answers conns ends conn began promise limits client server state start next tally result
+          → (text : List ℕ) × IsAtRest result limits start next read exchanges (written ++ text)) → IsServing answers conns ends conn began promise limits client server state start next tally result
       refused next result status goes_on refuses =
           answered_so next result (refuses limits start wire s.read s.stands.0 s.exchanges s.stands.1 s.written x
           (between.refused_due limits start now wire s.read s.stands.0 s.exchanges s.stands.1 s.written x later status limits_stay (gave (Bad status) goes_on)))
 
       -- an opening handshake
-      module _ (scope : Scope) (facts : Facts) (goes_on : ((status : ℕ) → IsRefused wire.requests status → ⊥) → GoesOn wire.requests later (Head scope facts)) (upgrade : facts.framing ≡ Upgrade) where
+      module _ (scope : Scope) (facts : Facts) (goes_on : ((status : ℕ) → IsRefused wire.requests status → ⊥) → GoesOn wire.requests later (Head scope facts))
+          (upgrade : facts.framing ≡ Upgrade) where
         pub here : (frames : List ℕ) × BeginsWithHandshake limits s.stands.1 scope facts frames
-        here =
-            between.handshake_here limits start now wire s.read s.stands.0 s.exchanges s.stands.1 s.written x later scope facts limits_stay (gave (Head scope facts) goes_on) upgrade
+        here = between.handshake_here limits start now wire s.read s.stands.0 s.exchanges s.stands.1 s.written x later scope facts limits_stay (gave (Head scope facts) goes_on) upgrade
 
         pub is_websocket : (whole : Scope) → whole ≡ scope_with scope client server state → kind_of whole ≡ WebSocket
         is_websocket whole is = subst (λ (w : Scope). kind_of w ≡ WebSocket) (sym is) (subst (λ (w : Scope). kind_of (scope_with w client server state) ≡ WebSocket) (sym here.1.scope_is) refl)
@@ -223,50 +153,33 @@ module _ {T C E X : Type 0} (answers : T → List Incoming → List Outgoing →
         opened whole next result whole_is serves = serves handshake_scene client server state s.read tally whole_is opens_handshake s.promised s.counted
 
       -- a head
-      module _ (scope : Scope) (facts : Facts) (goes_on : ((status : ℕ) → IsRefused wire.requests status → ⊥) → GoesOn wire.requests later (Head scope facts))
-          (plain : facts.framing ≢ Upgrade) where
+      module _ (scope : Scope) (facts : Facts) (goes_on : ((status : ℕ) → IsRefused wire.requests status → ⊥) → GoesOn wire.requests later (Head scope facts)) (plain : facts.framing ≢ Upgrade) where
         in_one : (arrived : List ℕ) × Within limits wire.input s.read (s.stands.0 ++ Head scope facts ∷ []) s.exchanges s.written scope facts arrived
         in_one = loop.begins limits wire.input s.read s.stands.0 [] s.exchanges s.stands.1 s.written later.place later.held scope facts x.between
             (subst (λ (l : Limits). StandsFor (record later { limits = l }) s.read (s.stands.0 ++ Head scope facts ∷ [])) limits_stay (gave (Head scope facts) goes_on)) plain
 
         pub is_http : (whole : Scope) → whole ≡ scope_with scope client server state → kind_of whole ≡ Http
-        is_http whole is = subst (λ (w : Scope). kind_of w ≡ Http) (sym is)
-            (subst (λ (w : Scope). kind_of (scope_with w client server state) ≡ Http) (sym in_one.1.one.head.scope_is)
+        is_http whole is = subst (λ (w : Scope). kind_of w ≡ Http) (sym is) (subst (λ (w : Scope). kind_of (scope_with w client server state) ≡ Http) (sym in_one.1.one.head.scope_is)
             (plain_is_http client server state (record_of in_one.1.one.head.head) facts.framing plain))
 
         scene : Scene
-        scene = record {
-          start = start;
-          exchanges = s.exchanges;
-          before = s.written;
-          scope = scope;
-          facts = facts;
-          opened = s.stands.0 ++ Head scope facts ∷ [];
-        }
+        scene = record { start = start; exchanges = s.exchanges; before = s.written; scope = scope; facts = facts; opened = s.stands.0 ++ Head scope facts ∷ [] }
 
         within_scene : WithinScene scene limits wire.input s.read in_one.0
         unfolding scene
-        within_scene = record {
-          one = in_one.1.one;
-          opens = in_one.1.opens;
-          heads = heads_more s.stands.0 scope facts ∙ ap (λ (l : List (Scope × Facts)). l ++ (scope, facts) ∷ []) x.heads;
-          ahead = more_requests limits s.read (requests_of s.exchanges) ((scope, facts) ∷ []) x.ahead;
-        }
+        within_scene =
+            let heads = heads_more s.stands.0 scope facts ∙ ap (λ (l : List (Scope × Facts)). l ++ (scope, facts) ∷ []) x.heads in
+            let ahead = more_requests limits s.read (requests_of s.exchanges) ((scope, facts) ∷ []) x.ahead in record { one = in_one.1.one; opens = in_one.1.opens; heads = heads; ahead = ahead }
 
         pub answered : (whole : Scope) (next : LineState) (result : Place X) → whole ≡ scope_with scope client server state
             → ((scene : Scene) (client server : Option Peer) (state : List (List ℕ × StateValue)) (read arrived : List ℕ) (tally : Tally) → whole ≡ scope_with scene.scope client server state
-            → half.Opens scene now (record wire { requests = later }) facts read arrived → ArePromised promise client server state scene.exchanges → IsTallied tally scene.exchanges
+            → OpensRequest scene now (record wire { requests = later }) facts read arrived → ArePromised promise client server state scene.exchanges → IsTallied tally scene.exchanges
             → IsServing answers conns ends conn began promise wire.limits client server state scene.start next tally result)
             → IsServing answers conns ends conn began promise limits client server state start next tally result
         unfolding scene
         answered whole next result whole_is serves =
-            subst (λ (l : Limits). IsServing answers conns ends conn began promise l client server state start next tally result) x.limits_are.0
-            (serves scene client server state s.read in_one.0 tally whole_is (record {
-              facts_are = refl;
-              moved = x.moved;
-              limits = limits_stay ∙ sym x.limits_are.0;
-              within = subst (λ (l : Limits). WithinScene scene l wire.input s.read in_one.0) (sym x.limits_are.0) within_scene;
-              given = gave (Head scope facts) goes_on;
-              empty = x.empty;
-              ahead = subst (λ (l : Limits). ReadsAhead l s.read (requests_of s.exchanges)) (sym x.limits_are.0) x.ahead;
-            }) s.promised s.counted)
+            let within = subst (λ (l : Limits). WithinScene scene l wire.input s.read in_one.0) (sym x.limits_are.0) within_scene in
+            let ahead = subst (λ (l : Limits). ReadsAhead l s.read (requests_of s.exchanges)) (sym x.limits_are.0) x.ahead in
+            let limits_are = limits_stay ∙ sym x.limits_are.0 in subst (λ (l : Limits). IsServing answers conns ends conn began promise l client server state start next tally result) x.limits_are.0
+            (serves scene client server state s.read in_one.0 tally whole_is
+            (record { facts_are = refl; moved = x.moved; limits = limits_are; within = within; given = gave (Head scope facts) goes_on; empty = x.empty; ahead = ahead }) s.promised s.counted)

@@ -1,134 +1,91 @@
 -- How a session leaves its connection: at its end.
 use Rattle.std.specs.Prelude.{if◌then◌else◌}
-use Rattle.std.proofs.Common.{◌≡◌, ◌≢◌, ℕ, Bool, true, false, List, [], ◌∷◌, ◌++◌, ◌⊎◌, inl, inr, refl, sym, ap, ◌∙◌, append_assoc, append-nil, subst, Option, Some, None}
+use Rattle.std.proofs.Common.{◌≡◌, ◌≢◌, ℕ, Bool, true, false, List, [], ◌∷◌, ◌++◌, ◌⊎◌, inl, inr, refl, sym, ap, ◌∙◌, append_assoc, append-nil, subst, Option, Some, None, ◌≡◌, ℕ, List, [], ◌∷◌}
+use Rattle.std.proofs.Common.{◌++◌, sym, ap, ◌∙◌, subst, Option, Some}
 use mathlib.Core.List.{IsPrefix}
-use Rattle.asgi_types.specs.declared.end_kind.EndKind.{EndKind}
-use Rattle.asgi_types.specs.declared.end_kind.EndKind.TheVariants as kind
-use Rattle.asgi_types.specs.declared.facts.Facts.{Facts}
-use Rattle.asgi_types.specs.declared.incoming.Incoming.{Incoming}
-use Rattle.asgi_types.specs.declared.outgoing.Outgoing.{Outgoing}
-use Rattle.asgi_types.specs.declared.outgoing.Outgoing.TheVariants.{ResponseStart, ResponseBody, WsAccept, WsSend, WsClose, DenialStart, DenialBody, StartupComplete, StartupFailed, ShutdownComplete, ShutdownFailed}
-use Rattle.asgi_types.specs.declared.scope.Kind.TheVariants.{WebSocket}
-use Rattle.asgi_protocol.specs.Lawful.{IsLawful}
-use Rattle.asgi_protocol.specs.Shapes.{is_closed}
+use Rattle.asgi_types.specs.declared.{scope.Scope.Scope, end_kind.EndKind.EndKind, facts.Facts.Facts, incoming.Incoming.Incoming, outgoing.Outgoing.Outgoing}
+use Rattle.asgi_types.specs.declared.{outgoing.Outgoing.TheVariants.WsAccept, outgoing.Outgoing.TheVariants.DenialStart, scope.Kind.TheVariants.WebSocket}
+use Rattle.asgi_protocol.specs.{Lawful.IsLawful, Shapes.is_closed}
 use Rattle.asgi_protocol.proofs.PassingLemmas.{fronts_are_lawful}
-use Rattle.asgi_exchange.specs.Items.{end_of}
-use Rattle.asgi_exchange.specs.Messages.{has_close}
-use Rattle.asgi_exchange.specs.Session.{Output, session_output, session_ending}
-use Rattle.asgi_exchange.specs.SessionExchange.{HasSessionCause, IsSessionExchange}
-use Rattle.asgi_exchange.specs.ExchangeTexts.{session_text}
-use Rattle.asgi_exchange.specs.Steps.{is_by_input}
-use Rattle.asgi_exchange.specs.Views.{ByCut, World, said_of, taken_of}
+use Rattle.asgi_exchange.specs.{Items.end_of, Messages.has_close, Session.Output, Session.session_output, Session.session_ending, SessionExchange.HasSessionCause}
+use Rattle.asgi_exchange.specs.{SessionExchange.IsSessionExchange, SessionExchange.IsSessionExchange, ExchangeTexts.session_text, Steps.is_by_input, Views.ByCut, Views.World, Views.said_of}
+use Rattle.asgi_exchange.specs.Views.{taken_of, said_of}
 use Rattle.asgi_exchange.proofs.ListLemmas.{prefix_same, prefix_trans}
 use Rattle.asgi_exchange.proofs.SessionLemmas.{lawful_is_accepted, web_socket_is_steady}
-use Rattle.asgi_ws.specs.declared.messages.SentMessage.{SentMessage}
-use Rattle.asgi_ws.specs.declared.messages.Msg.{Msg}
-use Rattle.asgi_conversation.specs.declared.following.NextStep.TheVariants.{ConnectionEnds}
-use Rattle.asgi_conversation.specs.declared.report.Outcome.{Outcome}
-use Rattle.asgi_conversation.specs.declared.report.Outcome.TheVariants.{Finished, Refused, InputBroke, Idle}
-use Rattle.asgi_conversation.specs.declared.report.Report.{Report}
-use Rattle.asgi_conversation.specs.ExchangeRecord.{ExchangeRecord, Beginning}
-use Rattle.asgi_conversation.specs.Persistence.{CountsExchanges}
-use Rattle.asgi_conversation.specs.Sessions.{SessionTraffic, no_traffic, handshake_of, IsLeft, ByApplication, ByClient, ByCut as left_by_cut, IsSessionDone, IsNextOutput, Opens, Accepted, Silent, ServesHandshake, EndsInSession, EndsInSessionAs, after_session, session_outcome, open_outcome, said_out, spoken}
-use Rattle.asgi_conversation.specs.ExchangeRecord.{Saying, Ending}
-use Rattle.asgi_conversation.specs.Kinds.{ConversesInSession}
+use Rattle.asgi_ws.specs.{declared.messages.Msg.Msg, Lines.LineState}
+use Rattle.asgi_conversation.specs.declared.{following.NextStep.TheVariants.ConnectionEnds, following.NextStep.TheVariants.ConnectionEnds, report.Outcome.Outcome}
+use Rattle.asgi_conversation.specs.declared.report.{Outcome.TheVariants.Finished, Outcome.TheVariants.Refused, Outcome.TheVariants.InputBroke, Outcome.TheVariants.Idle, Report.Report}
+use Rattle.asgi_conversation.specs.ExchangeRecord.{ExchangeRecord, Beginning, Saying, Ending, ExchangeRecord}
+use Rattle.asgi_conversation.specs.{Persistence.CountsExchanges, Sessions.SessionTraffic, Sessions.handshake_of, Sessions.IsLeft, Sessions.ByApplication, Sessions.ByClient}
+use Rattle.asgi_conversation.specs.Sessions.{ByCut as left_by_cut, IsSessionDone, IsNextOutput, Opens, Accepted, Silent, ServesHandshake, EndsInSession, EndsInSessionAs, after_session}
+use Rattle.asgi_conversation.specs.{Sessions.session_outcome, Sessions.open_outcome, Sessions.said_out, Sessions.spoken, Sessions.handshake_of, Kinds.ConversesInSession}
 use Rattle.asgi_conversation.specs.OutcomeClasses.{OutcomeClass, Uncut, ByWrite, GivenUp, Lacking, Unbegun, class_of, is_cut, is_cut_class}
-use Rattle.asgi_halves.specs.declared.stage.Stage.{Stage}
-use Rattle.asgi_halves.specs.declared.stage.Stage.TheVariants.{Over}
-use Rattle.asgi_halves.specs.declared.session_half.Answered.{Answered}
+use Rattle.asgi_conversation.specs.Exchanges.{requests_of}
+use Rattle.asgi_halves.specs.declared.{stage.Stage.Stage, stage.Stage.TheVariants.Over, session_half.Answered.Answered, session_half.WebSocketHalf.WebSocketHalf}
+use Rattle.asgi_halves.specs.WebSocketHalf.{SessionScene, Invariant, IsAt, IsCarried, IsCarrying, IsCutShort, IsCutShortAs, IsSilent, EndsByTask, known, output_in, said_in, session_of, talk_in}
+use Rattle.asgi_halves.specs.WebSocketHalf.{answer_of, is_over_at, spare_at, CarriesOn}
+use Rattle.asgi_halves.specs.{ReadAhead.ReadsAhead, Half.failures_at}
+use Rattle.asgi_conversation.proofs.RequestLemmas.{requests_join}
+use Rattle.asgi_conn.specs.Standing.{EndsSo}
+use Rattle.asgi_halves.proofs.ReadAheadLemmas.{more_requests}
+use Rattle.asgi_conversation.proofs.ConversationLemmas.{in_session}
+use Rattle.asgi_types.specs.declared.end_kind.EndKind.TheVariants as kind
 use Rattle.asgi_halves.specs.declared.session_half.Answered.TheVariants as answered
-use Rattle.asgi_halves.specs.declared.session_half.WebSocketHalf.{WebSocketHalf}
-use Rattle.asgi_halves.specs.WebSocketHalf.{SessionScene, Invariant, IsAt, IsCarried, IsCarrying, IsCutShort, IsCutShortAs, IsSilent, EndsByTask, answer_of, is_over_at, known, output_in, said_in, session_of, talk_in}
-use Rattle.asgi_ws.specs.Lines.{LineState}
 
 -- ---- how an exchange may end that was not cut short
 
 -- the ways in which a task that ended by itself ends the connection
-data Ways (said : List Outgoing) (input_broke : Bool) (received : List Msg) : Type 0 where
-  IsFinished : session_outcome said input_broke received ≡ Finished → Ways said input_broke received
-  IsRefused : session_outcome said input_broke received ≡ Refused 500 → Ways said input_broke received
-  IsBroken : session_outcome said input_broke received ≡ InputBroke → input_broke ≡ true → has_close received ≡ false → Ways said input_broke received
+record Way (said : List Outgoing) (input_broke : Bool) (received : List Msg) : Type 0 where
+  pub uncut : class_of (session_outcome said input_broke received) ≡ Uncut
+  pub broken : session_outcome said input_broke received ≡ InputBroke → (input_broke ≡ true) × (has_close received ≡ false)
 
-open_ways : (said : List Outgoing) (input_broke : Bool) (received : List Msg) → session_outcome said input_broke received ≡ open_outcome input_broke received → Ways said input_broke received
-open_ways said false received is = IsFinished is
-open_ways said true received is = by (has_close received) refl
+finished : (said : List Outgoing) (input_broke : Bool) (received : List Msg) → session_outcome said input_broke received ≡ Finished → Way said input_broke received
+finished said input_broke received is = record { uncut = ap class_of is; broken = λ e. cc (is, e) }
+
+refused : (said : List Outgoing) (input_broke : Bool) (received : List Msg) → session_outcome said input_broke received ≡ Refused 500 → Way said input_broke received
+refused said input_broke received is = record { uncut = ap class_of is; broken = λ e. cc (is, e) }
+
+open_way : (said : List Outgoing) (input_broke : Bool) (received : List Msg) → session_outcome said input_broke received ≡ open_outcome input_broke received → Way said input_broke received
+open_way said false received is = finished said false received is
+open_way said true received is = by (has_close received) refl
   where
-    by : (b : Bool) → has_close received ≡ b → Ways said true received
-    by true h = IsFinished (is ∙ ap (λ (c : Bool). if c then Finished else InputBroke) h)
-    by false h = IsBroken (is ∙ ap (λ (c : Bool). if c then Finished else InputBroke) h) refl h
+    by : (b : Bool) → has_close received ≡ b → Way said true received
+    by true h = finished said true received (is ∙ ap (λ (c : Bool). if c then Finished else InputBroke) h)
+    by false h = record { uncut = ap class_of (is ∙ ap (λ (c : Bool). if c then Finished else InputBroke) h); broken = λ e. (refl, h) }
 
-session_ways : (said : List Outgoing) (input_broke : Bool) (received : List Msg) → Ways said input_broke received
-session_ways [] input_broke received = IsRefused refl
-session_ways (DenialStart status headers ∷ []) input_broke received = IsRefused refl
-session_ways (DenialStart status headers ∷ event ∷ events) input_broke received = IsFinished refl
-session_ways (WsAccept subprotocol headers ∷ events) input_broke received = by (is_closed WebSocket (WsAccept subprotocol headers ∷ events)) refl
+session_way : (said : List Outgoing) (input_broke : Bool) (received : List Msg) → Way said input_broke received
+session_way [] input_broke received = refused [] input_broke received refl
+session_way (DenialStart status headers ∷ []) input_broke received = refused (DenialStart status headers ∷ []) input_broke received refl
+session_way (WsAccept subprotocol headers ∷ events) input_broke received = by (is_closed WebSocket (WsAccept subprotocol headers ∷ events)) refl
   where
-    by : (b : Bool) → is_closed WebSocket (WsAccept subprotocol headers ∷ events) ≡ b → Ways (WsAccept subprotocol headers ∷ events) input_broke received
-    by true h = IsFinished (ap (λ (c : Bool). if c then Finished else open_outcome input_broke received) h)
-    by false h = open_ways (WsAccept subprotocol headers ∷ events) input_broke received (ap (λ (c : Bool). if c then Finished else open_outcome input_broke received) h)
-session_ways (WsClose code reason ∷ events) input_broke received = IsFinished refl
-session_ways (WsSend payload ∷ events) input_broke received = IsFinished refl
-session_ways (DenialBody body more_body ∷ events) input_broke received = IsFinished refl
-session_ways (ResponseStart status headers ∷ events) input_broke received = IsFinished refl
-session_ways (ResponseBody body more_body ∷ events) input_broke received = IsFinished refl
-session_ways (StartupComplete state ∷ events) input_broke received = IsFinished refl
-session_ways (StartupFailed message ∷ events) input_broke received = IsFinished refl
-session_ways (ShutdownComplete ∷ events) input_broke received = IsFinished refl
-session_ways (ShutdownFailed message ∷ events) input_broke received = IsFinished refl
+    by : (b : Bool) → is_closed WebSocket (WsAccept subprotocol headers ∷ events) ≡ b → Way (WsAccept subprotocol headers ∷ events) input_broke received
+    by true h = finished (WsAccept subprotocol headers ∷ events) input_broke received (ap (λ (c : Bool). if c then Finished else open_outcome input_broke received) h)
+    by false h = open_way (WsAccept subprotocol headers ∷ events) input_broke received (ap (λ (c : Bool). if c then Finished else open_outcome input_broke received) h)
+session_way said input_broke received = finished said input_broke received refl
 
-broken_off : (said : List Outgoing) (input_broke : Bool) (received : List Msg) → Ways said input_broke received → session_outcome said input_broke received ≡ InputBroke
+why_broken : (ended : EndKind) (said : List Outgoing) (input_broke : Bool) (received : List Msg) → after_session ended said input_broke received ≡ InputBroke
     → (input_broke ≡ true) × (has_close received ≡ false)
-broken_off said input_broke received (IsFinished is) e = cc (is, e)
-broken_off said input_broke received (IsRefused is) e = cc (is, e)
-broken_off said input_broke received (IsBroken is by none) e = (by, none)
-
-why_broken : (ended : EndKind) (said : List Outgoing) (input_broke : Bool) (received : List Msg) → after_session ended said input_broke received ≡ InputBroke → (input_broke ≡ true) × (has_close received ≡ false)
-why_broken kind.Returned said input_broke received e = broken_off said input_broke received (session_ways said input_broke received) e
-why_broken kind.Faulted said input_broke received e = broken_off said input_broke received (session_ways said input_broke received) e
 why_broken kind.Idle said input_broke received e = cc e
+why_broken kind.Returned said input_broke received e = (session_way said input_broke received).broken e
+why_broken kind.Faulted said input_broke received e = (session_way said input_broke received).broken e
 
--- the outcome of a task's end does not cut the connection short, unless a limit stopped the task
-never_cut : (said : List Outgoing) (input_broke : Bool) (received : List Msg) → Ways said input_broke received → class_of (session_outcome said input_broke received) ≡ Uncut
-never_cut said input_broke received (IsFinished is) = ap class_of is
-never_cut said input_broke received (IsRefused is) = ap class_of is
-never_cut said input_broke received (IsBroken is by none) = ap class_of is
-
-after_class : (ended : EndKind) (said : List Outgoing) (input_broke : Bool) (received : List Msg)
-    → (class_of (after_session ended said input_broke received) ≡ Uncut) ⊎ (after_session ended said input_broke received ≡ Idle)
-after_class kind.Returned said input_broke received = inl (never_cut said input_broke received (session_ways said input_broke received))
-after_class kind.Faulted said input_broke received = inl (never_cut said input_broke received (session_ways said input_broke received))
-after_class kind.Idle said input_broke received = inr refl
-
-no_idle : (said : List Outgoing) (input_broke : Bool) (received : List Msg) → Ways said input_broke received → session_outcome said input_broke received ≡ Idle → ⊥
-no_idle said input_broke received (IsFinished is) e = cc (is, e)
-no_idle said input_broke received (IsRefused is) e = cc (is, e)
-no_idle said input_broke received (IsBroken is by none) e = cc (is, e)
-
--- a task that was given up adds nothing
-given_up : (facts : Facts) (ended : EndKind) (said all : List Outgoing) (input_broke : Bool) (received : List Msg) → after_session ended said input_broke received ≡ Idle → session_ending facts all ended input_broke ≡ []
-given_up facts kind.Returned said all input_broke received e = absurd (no_idle said input_broke received (session_ways said input_broke received) e)
-given_up facts kind.Faulted said all input_broke received e = absurd (no_idle said input_broke received (session_ways said input_broke received) e)
-given_up facts kind.Idle said all input_broke received e = refl
+-- the outcome of a task's end does not cut the connection short, unless a limit stopped the task; and then the end adds nothing
+after_class : (facts : Facts) (ended : EndKind) (said all : List Outgoing) (input_broke : Bool) (received : List Msg) → (class_of (after_session ended said input_broke received) ≡ Uncut)
+    ⊎ ((after_session ended said input_broke received ≡ Idle) × (session_ending facts all ended input_broke ≡ []))
+after_class facts kind.Returned said all input_broke received = inl (session_way said input_broke received).uncut
+after_class facts kind.Faulted said all input_broke received = inl (session_way said input_broke received).uncut
+after_class facts kind.Idle said all input_broke received = inr (refl, refl)
 
 -- ---- the text of more
 
 output_grows : (facts : Facts) (ring : ℕ) (said more : List Outgoing) → IsPrefix (session_output (handshake_of facts) facts said) (session_output (handshake_of facts) facts (said ++ more))
-output_grows facts ring said [] = prefix_same (session_output (handshake_of facts) facts said) (session_output (handshake_of facts) facts (said ++ [])) (ap (session_output (handshake_of facts) facts) (sym (append-nil said)))
+output_grows facts ring said [] = prefix_same (session_output (handshake_of facts) facts said) (session_output (handshake_of facts) facts (said ++ []))
+    (ap (session_output (handshake_of facts) facts) (sym (append-nil said)))
 output_grows facts ring said (event ∷ more) =
     let on = output_grows facts ring (said ++ event ∷ []) more in
     prefix_trans (session_output (handshake_of facts) facts said) (session_output (handshake_of facts) facts (said ++ event ∷ [])) (session_output (handshake_of facts) facts (said ++ event ∷ more))
     ((web_socket_is_steady (handshake_of facts) facts ring).text_grows said event)
     (subst (λ (l : List Outgoing). IsPrefix (session_output (handshake_of facts) facts (said ++ event ∷ [])) (session_output (handshake_of facts) facts l)) (append_assoc said (event ∷ []) more) on)
-
--- ---- nothing passed by
-
-is_silence : (leftover : Option (List ℕ)) (received : List Msg) (is_over : Bool) (handed : List SentMessage) → leftover ≡ None → received ≡ [] → is_over ≡ false → handed ≡ []
-    → (let traffic : SessionTraffic = record { leftover = leftover; received = received; is_over = is_over; handed = handed } in traffic) ≡ no_traffic
-is_silence leftover received is_over handed l r o h =
-    ap (λ (a : Option (List ℕ)). let traffic : SessionTraffic = record { leftover = a; received = received; is_over = is_over; handed = handed } in traffic) l
-    ∙ ap (λ (a : List Msg). let traffic : SessionTraffic = record { leftover = None; received = a; is_over = is_over; handed = handed } in traffic) r
-    ∙ ap (λ (a : Bool). let traffic : SessionTraffic = record { leftover = None; received = []; is_over = a; handed = handed } in traffic) o
-    ∙ ap (λ (a : List SentMessage). let traffic : SessionTraffic = record { leftover = None; received = []; is_over = false; handed = a } in traffic) h
 
 module _ (scene : SessionScene) (now : LineState) (half : WebSocketHalf) (read : List ℕ) (w : World Msg Output) (outcome : Outcome) (s : Invariant scene now half read w.conn)
     (i : IsSessionExchange (handshake_of scene.facts) scene.facts w) (over : half.stage ≡ Over (ConnectionEnds outcome)) where
@@ -149,11 +106,10 @@ module _ (scene : SessionScene) (now : LineState) (half : WebSocketHalf) (read :
   -- ---- the exchange serves the handshake
 
   opens_accepted : IsCarrying scene w.conn s.text s.leftover → Opens scene.frames one traffic s.text
-  opens_accepted c =
-      Accepted c.subprotocol c.headers (c.events ++ i.taken.0) (sym i.taken.1 ∙ ap (λ (l : List Outgoing). l ++ i.taken.0) (sym all_lawful ∙ c.said)) c.text_is c.kept
+  opens_accepted c = Accepted c.subprotocol c.headers (c.events ++ i.taken.0) (sym i.taken.1 ∙ ap (λ (l : List Outgoing). l ++ i.taken.0) (sym all_lawful ∙ c.said)) c.text_is c.kept
 
   opens_silent : IsSilent half w.conn s.leftover s.handed → Opens scene.frames one traffic s.text
-  opens_silent c = Silent (is_silence s.leftover w.conn.arrived (is_over_at half.session) s.handed c.kept c.received c.over c.sent)
+  opens_silent c = Silent (rw (c.kept, c.received, c.over, c.sent) refl)
 
   opens : (a : Answered) → IsCarried a scene half w.conn s.text s.leftover s.handed → Opens scene.frames one traffic s.text
   opens answered.Unanswered c = opens_silent c.0
@@ -163,24 +119,19 @@ module _ (scene : SessionScene) (now : LineState) (half : WebSocketHalf) (read :
 
   cut_short : (k : OutcomeClass) → IsCutShortAs k scene w.conn → is_cut_class k ≡ true
   cut_short Uncut c = absurd c
-  cut_short (ByWrite n) c = refl
-  cut_short GivenUp c = refl
-  cut_short Lacking c = refl
   cut_short Unbegun c = absurd c
+  cut_short _ c = refl
 
   is_cut_by : w.conn.broken ≡ Some ByCut → is_cut outcome ≡ true
   is_cut_by b = elim ends_so [ inl t ↦ cc (t.uncut, b) | inr c ↦ cut_short (class_of outcome) c ]
 
-  left : (events : List Incoming) (it : Incoming) → HasSessionCause w events it → IsLeft (is_cut outcome) one w.conn.arrived events it
-  left events it (inl c) = ByApplication c.0 c.1
-  left events it (inr (inl c)) = ByClient (ap is_by_input c.0) c.1 c.2
-  left events it (inr (inr c)) = left_by_cut (is_cut_by c.0) c.1
-
   cause : (times : ℕ) (events : List Incoming) (it : Incoming) → (times ≡ 0) ⊎ HasSessionCause w events it → (times ≡ 0) ⊎ IsLeft (is_cut outcome) one w.conn.arrived events it
   cause times events it (inl none) = inl none
-  cause times events it (inr c) = inr (left events it c)
+  cause times events it (inr (inl c)) = inr (ByApplication c.0 c.1)
+  cause times events it (inr (inr (inl c))) = inr (ByClient (ap is_by_input c.0) c.1 c.2)
+  cause times events it (inr (inr (inr c))) = inr (left_by_cut (is_cut_by c.0) c.1)
 
-  pub serves : ServesHandshake scene.limits (is_cut outcome) s.fixed.after one traffic s.text
+  serves : ServesHandshake scene.limits (is_cut outcome) s.fixed.after one traffic s.text
   serves = record {
     frames = scene.frames;
     head = s.fixed.head;
@@ -202,31 +153,25 @@ module _ (scene : SessionScene) (now : LineState) (half : WebSocketHalf) (read :
 
   done : (t : EndsByTask scene w.conn outcome) → IsSessionDone outcome one traffic s.text
   done t =
-      let all = i.ended (taken_end t.kind t.taken) in (
-        t.kind,
-        ended_put t.kind t.taken,
-        ap (λ (l : List Outgoing). after_session t.kind l (is_by_input w.conn.broken) w.conn.arrived) (sym all ∙ sym all_lawful) ∙ t.follows,
-        sym s.written ∙ t.out ∙ ap (λ (l : List Outgoing). session_text (handshake_of scene.facts) scene.facts l (end_of w.conn.got) (is_by_input w.conn.broken)) all
-            ∙ ap (λ (o : Option EndKind). session_text (handshake_of scene.facts) scene.facts (said_of w.app) o (is_by_input w.conn.broken)) (i.end_is (taken_end t.kind t.taken)),
-      )
+      let all = i.ended (taken_end t.kind t.taken) in
+      let follows = ap (λ (l : List Outgoing). after_session t.kind l (is_by_input w.conn.broken) w.conn.arrived) (sym all ∙ sym all_lawful) ∙ t.follows in
+      let out = sym s.written ∙ t.out ∙ ap (λ (l : List Outgoing). session_text (handshake_of scene.facts) scene.facts l (end_of w.conn.got) (is_by_input w.conn.broken)) all
+      ∙ ap (λ (o : Option EndKind). session_text (handshake_of scene.facts) scene.facts (said_of w.app) o (is_by_input w.conn.broken)) (i.end_is (taken_end t.kind t.taken)) in
+      (t.kind, ended_put t.kind t.taken, follows, out)
 
-  no_more : (t : EndsByTask scene w.conn outcome) → outcome ≡ InputBroke → is_over_at half.session ≡ true
+  no_more : (t : EndsByTask scene w.conn outcome) → outcome ≡ InputBroke → (is_over_at half.session) ≡ true
   no_more t is =
-      let why = why_broken t.kind (said_in scene w.conn) (is_by_input w.conn.broken) w.conn.arrived (t.follows ∙ is) in
-      elim (s.breaks why.0) [ inl closed ↦ cc (closed, why.1) | inr ends ↦ ends ]
+      let why = why_broken t.kind (said_in scene w.conn) (is_by_input w.conn.broken) w.conn.arrived (t.follows ∙ is) in elim (s.breaks why.0) [ inl closed ↦ cc (closed, why.1) | inr ends ↦ ends ]
 
   ends_by_task : (t : EndsByTask scene w.conn outcome) → IsSessionDone outcome one traffic s.text → EndsInSession outcome one traffic s.text
-  ends_by_task t d = elim (after_class t.kind (said_in scene w.conn) (is_by_input w.conn.broken) w.conn.arrived) [
+  ends_by_task t d = elim (after_class scene.facts t.kind (said_in scene w.conn) (said_of w.app) (is_by_input w.conn.broken) w.conn.arrived) [
     | inl uncut ↦
-        let of : Uncut ≡ class_of outcome = sym uncut ∙ ap class_of t.follows in
-        subst (λ (k : OutcomeClass). EndsInSessionAs k outcome one traffic s.text) of (d, no_more t)
+        let of : Uncut ≡ class_of outcome = sym uncut ∙ ap class_of t.follows in subst (λ (k : OutcomeClass). EndsInSessionAs k outcome one traffic s.text) of (d, no_more t)
     | inr idle ↦
-        let of : GivenUp ≡ class_of outcome = ap class_of (sym idle ∙ t.follows) in
-        subst (λ (k : OutcomeClass). EndsInSessionAs k outcome one traffic s.text) of
+        let of : GivenUp ≡ class_of outcome = ap class_of (sym idle.0 ∙ t.follows) in subst (λ (k : OutcomeClass). EndsInSessionAs k outcome one traffic s.text) of
         (prefix_same (spoken s.text traffic) (said_out one)
         (d.3 ∙ ap (λ (o : Option EndKind). session_text (handshake_of scene.facts) scene.facts (said_of w.app) o (is_by_input w.conn.broken)) (ended_put t.kind t.taken)
-        ∙ ap (λ (l : List Output). said_out one ++ l) (given_up scene.facts t.kind (said_in scene w.conn) (said_of w.app) (is_by_input w.conn.broken) w.conn.arrived idle)
-        ∙ append-nil (said_out one)))
+        ∙ ap (λ (l : List Output). said_out one ++ l) idle.1 ∙ append-nil (said_out one)))
   ]
 
   -- what was next of what was taken is next of what was sent
@@ -235,13 +180,14 @@ module _ (scene : SessionScene) (now : LineState) (half : WebSocketHalf) (read :
   next out more (Saying before after event said is adds) =
       Saying before (after ++ i.taken.0) event (sym i.taken.1 ∙ ap (λ (l : List Outgoing). l ++ i.taken.0) said ∙ append_assoc before (event ∷ after) i.taken.0) is adds
   next out more (Ending ended put is adds) =
-      let all = i.ended (taken_end ended put) in
-      Ending ended (ended_put ended put) (is ∙ ap (session_output (handshake_of scene.facts) scene.facts) all) (adds ∙ ap (λ (l : List Outgoing). session_ending scene.facts l ended (is_by_input w.conn.broken)) all)
+      let all = i.ended (taken_end ended put) in Ending ended (ended_put ended put) (is ∙ ap (session_output (handshake_of scene.facts) scene.facts) all)
+      (adds ∙ ap (λ (l : List Outgoing). session_ending scene.facts l ended (is_by_input w.conn.broken)) all)
 
   front : IsPrefix w.conn.written (output_in scene w.conn) → IsPrefix (spoken s.text traffic) (said_out one)
   front p =
       let taken = output_in scene w.conn in
-      let grown : IsPrefix taken (said_out one) = subst (λ (l : List Outgoing). IsPrefix taken (session_output (handshake_of scene.facts) scene.facts l)) i.taken.1 (output_grows scene.facts scene.limits.ring (taken_of w.conn) i.taken.0) in
+      let grown : IsPrefix taken (said_out one) = subst (λ (l : List Outgoing). IsPrefix taken (session_output (handshake_of scene.facts) scene.facts l)) i.taken.1
+      (output_grows scene.facts scene.limits.ring (taken_of w.conn) i.taken.0) in
       subst (λ (l : List Output). IsPrefix l (said_out one)) s.written (prefix_trans w.conn.written taken (said_out one) p grown)
 
   ends_cut : (k : OutcomeClass) → IsCutShortAs k scene w.conn → EndsInSessionAs k outcome one traffic s.text
@@ -254,17 +200,22 @@ module _ (scene : SessionScene) (now : LineState) (half : WebSocketHalf) (read :
   ends : EndsInSession outcome one traffic s.text
   ends = elim ends_so [ inl t ↦ ends_by_task t (done t) | inr c ↦ ends_cut (class_of outcome) c ]
 
-  pub converses : (report : Report) → report.outcome ≡ outcome → CountsExchanges report (scene.exchanges ++ one ∷ [])
+  converses : (report : Report) → report.outcome ≡ outcome → CountsExchanges report (scene.exchanges ++ one ∷ [])
       → ConversesInSession scene.limits half.wire.input read (scene.exchanges ++ one ∷ []) traffic (scene.before ++ s.text) report
-  converses report o c = record {
-    answered = scene.exchanges;
-    session = one;
-    in_order = refl;
-    after = s.fixed.after;
-    each = s.fixed.answered;
-    text = s.text;
-    serves = subst (λ (q : Outcome). ServesHandshake scene.limits (is_cut q) s.fixed.after one traffic s.text) (sym o) serves;
-    ends = subst (λ (q : Outcome). EndsInSession q one traffic s.text) (sym o) ends;
-    written_is = ap (λ (l : List ℕ). l ++ s.text) s.fixed.before_is;
-    counts = c;
-  }
+  converses report o c =
+      let f = s.fixed in
+      let served = subst (λ (q : Outcome). ServesHandshake scene.limits (is_cut q) f.after one traffic s.text) (sym o) serves in
+      let ended = subst (λ (q : Outcome). EndsInSession q one traffic s.text) (sym o) ends in
+      let told = ap (λ (l : List ℕ). l ++ s.text) f.before_is in
+      record { answered = scene.exchanges; session = one; in_order = refl; after = f.after; each = f.answered; text = s.text; serves = served; ends = ended; written_is = told; counts = c }
+
+  pub ends_after : ReadsAhead scene.limits scene.read (requests_of scene.exchanges) → EndsSo scene.limits scene.start now read (scene.exchanges ++ one ∷ []) (scene.before ++ s.text) outcome
+  ends_after asked =
+      let all = scene.exchanges ++ one ∷ [] in
+      let out = scene.before ++ s.text in
+      let line = subst (λ (st : Stage). CarriesOn scene.start now half.wire.input read out (failures_at st) traffic (spare_at half.session)) over s.line in
+      let so_far = subst (λ (l : List ℕ). ReadsAhead scene.limits l (requests_of scene.exchanges)) (sym s.fixed.read_is) asked in
+      let more = more_requests scene.limits read (requests_of scene.exchanges) ((scene.scope, scene.facts) ∷ []) so_far in
+      let ahead = subst (λ (l : List (Scope × Facts)). ReadsAhead scene.limits read l) (sym (requests_join scene.exchanges (one ∷ []))) more in
+      let says = λ (report : Report) (o : report.outcome ≡ outcome) (c : CountsExchanges report all). in_session scene.limits half.wire.input read all traffic out report (converses report o c) in
+      record { end = half.wire.input; traffic = traffic; carried = line.carried; converses = says; ahead = ahead }
