@@ -28,9 +28,9 @@ use asgi_io::Turn;
 use asgi_pipes::{ConnEnd, EndKind, OutItem};
 use asgi_request::Next;
 use asgi_response::{Input, Progress, ResponseText};
-use asgi_types::{Facts, Incoming, Outgoing};
+use asgi_types::{Facts, Framing, HttpVersion, Incoming, Names, Outgoing};
 use asgi_ws::Line;
-use std::alloc::AllocError;
+use std::alloc::{AllocError, Global};
 use std::mem;
 
 /// More is read only while fewer bytes than these are held after the request in hand.
@@ -67,27 +67,38 @@ pub struct HttpHalf {
 }
 
 impl HttpHalf {
-    /// Begins an exchange: a client that waits for `100 Continue` is sent it (RFC 9110, section 10.1.1).
-    /// If memory is refused or the write fails, the connection is cut short.
-    pub fn begin<L: Line>(wire: Wire, text: ResponseText, line: &mut L) -> HttpHalf
-        ensures begins { (scene : Scene) (facts : Facts) (read arrived : List ℕ) → Opens scene (L.state line.old) wire facts read arrived → standing.StandsFor text facts []
-            → (written : List ℕ) × Invariant scene (L.state line.new) result read (record empty_conn { arrived = arrived; written = written }) }
-        ensures limits { result.wire.limits ≡ wire.limits }
-        ensures open { (following : NextStep) → result.stage ≢ Stage.Over following }
-        ensures unread { ReadsNone (L.state line.old) (L.state line.new) }
+    /// A half with no exchange: the next request may follow. Making it takes no memory.
+    pub fn new(wire: Wire) -> HttpHalf
+        ensures wire { result.wire ≡ wire }
+        ensures stage { result.stage ≡ Stage.Over NextStep.NextRequest }
     {
-        let mut half = HttpHalf {
+        let text = ResponseText::new(wire.alloc, &no_request(wire.alloc));
+        HttpHalf {
             wire,
-            body: BodyProgress::Open,
+            body: BodyProgress::Whole,
             text,
             input_broke: false,
-            stage: Stage::Running,
-        };
-        match half.text.begin(&mut half.wire.out) {
-            Ok(()) => half.put(line),
-            Err(_) => half.stage = Stage::Cut(Outcome::NoMemory),
+            stage: Stage::Over(NextStep::NextRequest),
         }
-        half
+    }
+
+    /// Begins an exchange, whatever the half did before: a client that waits for `100 Continue` is sent it
+    /// (RFC 9110, section 10.1.1). If memory is refused or the write fails, the connection is cut short.
+    pub fn begin<L: Line>(&mut self, text: ResponseText, line: &mut L)
+        ensures begins { (scene : Scene) (facts : Facts) (read arrived : List ℕ) → Opens scene (L.state line.old) self.old.wire facts read arrived → standing.StandsFor text facts []
+            → (written : List ℕ) × Invariant scene (L.state line.new) self.new read (record empty_conn { arrived = arrived; written = written }) }
+        ensures limits { self.new.wire.limits ≡ self.old.wire.limits }
+        ensures open { (following : NextStep) → self.new.stage ≢ Stage.Over following }
+        ensures unread { ReadsNone (L.state line.old) (L.state line.new) }
+    {
+        self.body = BodyProgress::Open;
+        self.text = text;
+        self.input_broke = false;
+        self.stage = Stage::Running;
+        match self.text.begin(&mut self.wire.out) {
+            Ok(()) => self.put(line),
+            Err(_) => self.stage = Stage::Cut(Outcome::NoMemory),
+        }
     }
 
     // ---- what the application sent
@@ -492,6 +503,19 @@ impl ExchangeKind for HttpHalf {
 
     fn finish<L: Line>(&mut self, kind: EndKind, line: &mut L) -> Turn {
         self.finish_task(kind, line)
+    }
+}
+
+/// What is kept of no request.
+fn no_request(alloc: Global) -> Facts {
+    Facts {
+        version: HttpVersion::V11,
+        head_only: false,
+        close: false,
+        expect: false,
+        framing: Framing::Length(0),
+        key: [0; 24],
+        subprotocols: Names::new(alloc),
     }
 }
 

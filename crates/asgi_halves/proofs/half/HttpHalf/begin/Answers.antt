@@ -5,12 +5,12 @@ use Rattle.asgi_halves.proofs.half.HttpHalf.begin.Goals as goal
 pub returns-in-Ok-clause-begins : goal.returns-in-Ok-clause-begins
 returns-in-Ok-clause-begins g c scene facts read arrived o text =
     c.put.ensures.puts scene read _
-    (begun_pending scene (g.L.Line.state c.args.line.now) facts read arrived c.args.wire (record c.args.wire { out = c.begin.new.out }) c.args.text o
+    (begun_pending scene (g.L.Line.state c.args.line.now) facts read arrived c.args.self.now.wire (record c.args.self.now.wire { out = c.begin.new.out }) c.args.text o
     text (c.in-Ok.ensures.ok facts [] text))
 
 pub returns-in-Err-clause-begins : goal.returns-in-Err-clause-begins
 returns-in-Err-clause-begins g c scene facts read arrived o text =
-    (_, begun_short scene (g.L.Line.state c.args.line.now) facts read arrived c.args.wire (record c.args.wire { out = c.begin.new.out }) c.args.text o)
+    (_, begun_short scene (g.L.Line.state c.args.line.now) facts read arrived c.args.self.now.wire (record c.args.self.now.wire { out = c.begin.new.out }) c.args.text o)
 
 pub returns-in-Ok-clause-open : goal.returns-in-Ok-clause-open
 returns-in-Ok-clause-open g c following over = let never = c.put.ensures.open following over in cc
