@@ -21,6 +21,6 @@ returns-clause-rests g c rests scene read view s v some =
       c.poll_on-polled.new.side,
       c.carry.ensures.task,
       c.poll_on-polled.ensures.idle (λ is. let same = c.eq-exchange.ensures in absurd (grind (arith, rests, is, same)))
-      (subst (λ (n : ℕ). 0 < n) (sym (c.ring.ensures scene (g.L.Line.state c.turn-moved.new.line) (read ++ t.0) t.1 t.2)) some),
+          (subst (λ (n : ℕ). 0 < n) (sym (c.ring.ensures scene (g.L.Line.state c.turn-moved.new.line) (read ++ t.0) t.1 t.2)) some),
       c.carry-2.ensures.task,
     )
