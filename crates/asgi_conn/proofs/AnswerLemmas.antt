@@ -1,27 +1,24 @@
 -- One request is answered: its exchange comes after those before it, and the connection is between two requests or has ended.
-use Rattle.std.proofs.Common.{◌≡◌, ℕ, ◌+◌, List, [], ◌∷◌, ◌++◌, inl, inr, sym, ap, ◌∙◌, append-nil, subst, Option, Some, None, IsSomeAnd, ◌≡◌, ◌+◌, List, [], ◌∷◌, ◌++◌, sym, ap, ◌∙◌, subst}
-use Rattle.std.proofs.Common.{Option, Some, None, IsSomeAnd, arith, Bool}
-use Rattle.asgi_types.specs.declared.{end_kind.EndKind.EndKind, facts.Facts.Facts, incoming.Incoming.Incoming, outgoing.Outgoing.Outgoing, scope.Peer.Peer, scope.Scope.Scope}
-use Rattle.asgi_types.specs.{declared.state.StateValue.StateValue, Scopes.scope_with, declared.end_kind.EndKind.TheVariants.Faulted}
-use Rattle.asgi_pipes.specs.{declared.ends.AppEnd.Ghosts, Items.items_of, declared.ends.ConnEnd.Ghosts as ConnEnds}
-use Rattle.asgi_apps.specs.{declared.running.Lent.Lent, Ends.own_end, Promises.Promise}
-use Rattle.asgi_exchange.specs.{Views.said_of, Views.AppView, Views.said_of, Items.end_of, Items.events_of}
-use Rattle.asgi_conversation.specs.{declared.report.Outcome.Outcome, OutcomeClasses.IsLacking, declared.input.InputEnd.InputEnd, Exchanges.fault_of, Exchanges.fault_count}
-use Rattle.asgi_conversation.specs.{ExchangeRecord.ExchangeRecord, Persistence.EndsBetween, Kinds.Converses, Promised.IsPromised, Promised.ArePromised, Promised.task_end}
+use Rattle.asgi_conn.proofs.ConnWords.{◌≡◌, ℕ, ◌+◌, List, [], ◌∷◌, ◌++◌, inl, inr, sym, ap, ◌∙◌, append-nil, subst, Option, Some, None, IsSomeAnd}
+use Rattle.asgi_conn.proofs.ConnWords.{arith, Bool, EndKind, Facts, Incoming, Outgoing, Peer, Scope, StateValue, scope_with, AppEnds, ConnEnds, Promise}
+use Rattle.asgi_conn.proofs.ConnWords.{said_of, end_of, Outcome, IsLacking, InputEnd, fault_of, ExchangeRecord, Converses, IsPromised, ArePromised, Ended, Tally, IsTallied, IsServing}
+use Rattle.asgi_conn.proofs.ConnWords.{AppSide, Transferred, OfEnd, IsOpened, HasRun, AnyHalf, Wire, Scene, failures_of, LineState, All-nil}
+use Rattle.asgi_types.specs.declared.end_kind.EndKind.TheVariants.{Faulted}
+use Rattle.asgi_pipes.specs.Items.{items_of}
+use Rattle.asgi_apps.specs.{declared.running.Lent.Lent, Ends.own_end}
+use Rattle.asgi_exchange.specs.{Views.AppView, Items.events_of}
+use Rattle.asgi_conversation.specs.{Exchanges.fault_count, Persistence.EndsBetween, Promised.task_end}
 use Rattle.asgi_conversation.proofs.LoopLemmas.{lacks_in_front}
 use Rattle.asgi_conversation.proofs.SoFarLemmas.{ends_between}
-use Rattle.asgi_conn.specs.{declared.place.Place.TheVariants.Ended, declared.tally.Tally.Tally, Standing.IsTallied, Standing.IsServing}
-use Rattle.asgi_run.specs.{declared.runner.AppSide.AppSide, declared.runner.AppSide.TheVariants.Runs, declared.runner.AppSide.TheVariants.HasEnded, Lines.Transferred, Running.OfEnd}
-use Rattle.asgi_run.specs.{Running.IsOfRequest, Running.IsOpened, Running.HasRun, Running.Answers, Running.IsOpened, declared.exchange_half.Half.Ghosts as AnyHalf}
-use Rattle.asgi_halves.specs.{declared.wire.Wire.Wire, Half.Scene, Half.Opens, Traffic.failures_as, Traffic.failures_of}
-use Rattle.asgi_ws.specs.Lines.{LineState}
+use Rattle.asgi_run.specs.{declared.runner.AppSide.TheVariants.Runs, declared.runner.AppSide.TheVariants.HasEnded, Running.IsOfRequest, Running.Answers}
+use Rattle.asgi_halves.specs.{Half.Opens, Traffic.failures_as}
 use Rattle.asgi_conn.proofs.LeaveLemmas.{http_ends}
-use Rattle.std.proofs.lemmas.List.{Elements.All-nil, Elements.All-cons, Elements.All-append, length-append}
+use Rattle.std.proofs.lemmas.List.{Elements.All-cons, Elements.All-append, length-append}
 use Rattle.asgi_exchange.proofs.EventLemmas.{events_are, end_is}
 
 -- ---- the end that the application's side has
 
-module _ {T E : Type 0} (promise : List Incoming → List Outgoing → Option EndKind → Type 0) (answers : T → List Incoming → List Outgoing → Option EndKind → Type 0) (ends : Ghosts E)
+module _ {T E : Type 0} (promise : List Incoming → List Outgoing → Option EndKind → Type 0) (answers : T → List Incoming → List Outgoing → Option EndKind → Type 0) (ends : AppEnds E)
     (was : E) (P : E → Type 0) (p : P was) where
   of_lent : (lent : Option (Lent T E)) → IsSomeAnd lent (λ is. (is.app_end ≡ was) × ((h : List Incoming) (s : List Outgoing) (e : Option EndKind) → answers is.task h s e → promise h s e))
       → IsSomeAnd lent (λ is. P is.app_end)
@@ -40,7 +37,7 @@ module _ {T E : Type 0} (promise : List Incoming → List Outgoing → Option En
 
 -- ---- the promise
 
-module _ {T E : Type 0} (promise : List Incoming → List Outgoing → Option EndKind → Type 0) (answers : T → List Incoming → List Outgoing → Option EndKind → Type 0) (ends : Ghosts E) (was : E) where
+module _ {T E : Type 0} (promise : List Incoming → List Outgoing → Option EndKind → Type 0) (answers : T → List Incoming → List Outgoing → Option EndKind → Type 0) (ends : AppEnds E) (was : E) where
   of_task : (lent : Option (Lent T E)) (heard : List Incoming) (said : List Outgoing) (ended : Option EndKind)
       → IsSomeAnd lent (λ is. (is.app_end ≡ was) × ((h : List Incoming) (s : List Outgoing) (e : Option EndKind) → answers is.task h s e → promise h s e))
       → IsSomeAnd lent (λ is. answers is.task heard said ended) → promise heard said ended
@@ -64,7 +61,7 @@ faults_more : (exchanges : List ExchangeRecord) (x : ExchangeRecord) → fault_c
 faults_more [] x = omega arith
 faults_more (e ∷ exchanges) x = let one = faults_more exchanges x in omega (arith, one)
 
-module _ {H T E : Type 0} (halves : AnyHalf H) (answers : T → List Incoming → List Outgoing → Option EndKind → Type 0) (ends : Ghosts E) (scene : halves.Scene) (now : LineState) (half : H)
+module _ {H T E : Type 0} (halves : AnyHalf H) (answers : T → List Incoming → List Outgoing → Option EndKind → Type 0) (ends : AppEnds E) (scene : halves.Scene) (now : LineState) (half : H)
     (read : List ℕ) (side : AppSide T E) (kind : EndKind) (run : HasRun halves answers ends scene now half read side kind)
     (before : List ExchangeRecord) (scope : Scope) (facts : Facts) (broke : Bool) where
   abbrev one : ExchangeRecord
@@ -94,7 +91,7 @@ pub lacks_moved : (start now : LineState) (end : InputEnd) (read written : List 
 lacks_moved start now end read written outcome (inl is) moved = subst (λ (n : ℕ). Transferred start now end read written n) (sym (ap failures_as is)) moved
 lacks_moved start now end read written outcome (inr is) moved = subst (λ (n : ℕ). Transferred start now end read written n) (sym (ap failures_as is)) moved
 
-pub serves_short : {T C E X : Type 0} (answers : T → List Incoming → List Outgoing → Option EndKind → Type 0) (conns : ConnEnds C) (ends : Ghosts E)
+pub serves_short : {T C E X : Type 0} (answers : T → List Incoming → List Outgoing → Option EndKind → Type 0) (conns : ConnEnds C) (ends : AppEnds E)
     (conn : X → C) (began : X → AppSide T E → Type 0) (promise : Promise) (client server : Option Peer) (state : List (List ℕ × StateValue)) (scene : Scene) (now : LineState)
     (wire : Wire) (facts : Facts) (read arrived : List ℕ) (tally : Tally) → Opens scene now wire facts read arrived
     → ArePromised promise client server state scene.exchanges → IsTallied tally scene.exchanges → (outcome : Outcome) → IsLacking outcome

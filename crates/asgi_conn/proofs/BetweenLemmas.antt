@@ -1,28 +1,24 @@
 -- Between two requests: the next result is a head or a refusal, more is read, and the connection ends.
-use Rattle.std.proofs.Common.{◌≡◌, ℕ, true, List, [], ◌∷◌, ◌++◌, ◌⊎◌, inl, inr, map, refl, sym, ap, ◌∙◌, append-nil, append_assoc, subst, Option, flat_map}
-use Rattle.std.specs.{Prelude.◌<◌, Prelude.◌≤◌, Prelude.length, Prelude.take, Io.KnownBytes.Appends}
-use Rattle.asgi_types.specs.declared.{facts.Facts.Facts, facts.Framing.TheVariants.Upgrade, scope.Scope.Scope, limits.Limits.Limits}
+use Rattle.asgi_conn.proofs.ConnWords.{◌≡◌, ℕ, true, List, [], ◌∷◌, ◌++◌, ◌⊎◌, inl, inr, map, refl, sym, ap, ◌∙◌, append-nil, append_assoc, subst, Option, length, Facts, Upgrade, Scope, Limits}
+use Rattle.asgi_conn.proofs.ConnWords.{Next, Head, Bad, record_of, BeginsWithHandshake, HasClosed, Reaches, Reading, StandsFor, AllGiven, IsRefused, scope_of, RefusesWith, Finished, Refused}
+use Rattle.asgi_conn.proofs.ConnWords.{InputBroke, Idle, NoMemory, class_of, requests_of, ExchangeRecord, Between, has_ended, Wire, ReadsAhead, LineState, Transferred, piece_size}
+use Rattle.asgi_conn.proofs.ConnWords.{BetweenRequests, EndsSo}
+use Rattle.asgi_request.specs.{Results.Opens, Results.AreRequests, Results.GivesResults, declared.next.Next.TheVariants.Event, declared.next.Next.TheVariants.Whole, declared.place.Place.Place}
+use Rattle.asgi_request.specs.{declared.place.Place.TheVariants.Start, declared.place.Place.TheVariants.Upgraded, declared.place.Place.TheVariants.Stopped, Places.Reads, Places.shown}
+use Rattle.asgi_request.specs.{Reading.EndsWhole, Reading.WholeGiven, Scopes.facts_of}
+use Rattle.std.proofs.Common.{flat_map}
+use Rattle.std.specs.{Prelude.◌<◌, Prelude.◌≤◌, Prelude.take, Io.KnownBytes.Appends}
 use Rattle.asgi_io.specs.{Counting.RoseBy, Writing.TriesWrites}
-use Rattle.asgi_request.specs.declared.{next.Next.Next, next.Next.TheVariants.Head, next.Next.TheVariants.Event, next.Next.TheVariants.Whole, next.Next.TheVariants.Bad, place.Place.Place}
-use Rattle.asgi_request.specs.{declared.place.Place.TheVariants.Start, declared.place.Place.TheVariants.Upgraded, declared.place.Place.TheVariants.Stopped, Head.record_of}
-use Rattle.asgi_request.specs.{Opened.BeginsWithHandshake, Opened.HasClosed, Places.Reads, Places.shown, Places.Reaches, Reading.Reading, Reading.StandsFor, Reading.AllGiven, Reading.EndsWhole}
-use Rattle.asgi_request.specs.{Reading.WholeGiven, Reading.IsRefused, Results.AreRequests, Results.GivesResults, Results.Opens, Scopes.scope_of, Scopes.facts_of}
 use Rattle.asgi_request.proofs.BodyGrowthLemmas.{Further}
 use Rattle.asgi_request.proofs.DueLemmas.{ClosesAt, runs_compare, same_after}
 use Rattle.asgi_request.proofs.FirstLemmas.{first_of}
 use Rattle.asgi_request.proofs.HeldLemmas.{between}
 use Rattle.asgi_request.proofs.NextLemmas.{begins_with_handshake, next_head}
 use Rattle.asgi_request.proofs.OpenedLemmas.{closed_at, closed_is_one, closed_not_upgraded, whole_is_closed}
-use Rattle.asgi_conversation.specs.{Persistence.RefusesWith, declared.input.InputEnd.TheVariants.AtEnd, declared.input.InputEnd.TheVariants.Failed, declared.report.Outcome.TheVariants.Finished}
-use Rattle.asgi_conversation.specs.declared.report.Outcome.TheVariants.{Refused, InputBroke, WriteFailed, Idle, NoMemory}
-use Rattle.asgi_conversation.specs.{OutcomeClasses.class_of, After.IsBlank, Exchanges.requests_of, ExchangeRecord.ExchangeRecord, SoFar.Between, TaskEnds.has_ended}
+use Rattle.asgi_conversation.specs.{declared.input.InputEnd.TheVariants.AtEnd, declared.input.InputEnd.TheVariants.Failed, declared.report.Outcome.TheVariants.WriteFailed, After.IsBlank}
 use Rattle.asgi_request.proofs.OpeningLemmas.{first_opens}
 use Rattle.asgi_request.proofs.UniqueLemmas.{shown-append}
 use Rattle.asgi_response.specs.Exchange.{refusal_text}
-use Rattle.asgi_halves.specs.{declared.wire.Wire.Wire, ReadAhead.ReadsAhead}
-use Rattle.asgi_ws.specs.Lines.{LineState}
-use Rattle.asgi_run.specs.Lines.{Transferred, piece_size}
-use Rattle.asgi_conn.specs.Standing.{BetweenRequests, EndsSo}
 use Rattle.asgi_conn.proofs.LeaveLemmas.{http_ends}
 use Rattle.asgi_run.proofs.LineLemmas.{moved_by_write, tries_front}
 use Rattle.asgi_halves.proofs.ReadAheadLemmas.{reads_at_need}

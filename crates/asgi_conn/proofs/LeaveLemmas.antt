@@ -1,26 +1,19 @@
 -- Where an exchange leaves its connection: between two requests, or at its end.
-use Rattle.std.proofs.Common.{◌≡◌, ℕ, List, [], ◌∷◌, ◌++◌, ◌⊎◌, inl, inr, map, sym, ap, ◌∙◌, append_assoc, subst, Some, ◌≡◌, ℕ, List, refl}
-use Rattle.asgi_types.specs.declared.{end_kind.EndKind.EndKind, facts.Facts.Facts, limits.Limits.Limits, outgoing.Outgoing.Outgoing, scope.Scope.Scope}
-use Rattle.asgi_request.specs.{declared.next.Next.Next, BodyOf.body_events, ChunkedBody.BodyState, Places.Reaches}
+use Rattle.asgi_conn.proofs.ConnWords.{◌≡◌, ℕ, List, [], ◌∷◌, ◌++◌, ◌⊎◌, inl, inr, map, sym, ap, ◌∙◌, append_assoc, subst, Some, refl, EndKind, Facts, Limits, Outgoing, Scope, Next}
+use Rattle.asgi_conn.proofs.ConnWords.{Reaches, IsHttpExchange, end_of, is_by_input, World, taken_of, NextRequest, ConnectionEnds, Outcome, Report, requests_of, ExchangeRecord}
+use Rattle.asgi_conn.proofs.ConnWords.{Beginning, Saying, Ending, CountsExchanges, Converses, exchanged, Between, InputEnd, requests_join, HttpHalf, Stage, Over, Scene}
+use Rattle.asgi_conn.proofs.ConnWords.{failures_at, ReadsAhead, failures_of, LineState, Transferred, BetweenRequests, EndsSo, Place, IsLeft, IsAtRest}
+use Rattle.asgi_halves.specs.Half.{Invariant, IsAt, KeepsOn, EndsByTask, IsCutShort, known, requests_in, state_in}
+use Rattle.asgi_request.specs.{BodyOf.body_events, ChunkedBody.BodyState}
 use Rattle.asgi_request.proofs.BodyOfLemmas.{body_is_read}
 use Rattle.asgi_response.specs.{declared.refusal.Input.Input, Exchange.added_by_end, Progress.progress_of, Response.response_text}
-use Rattle.asgi_exchange.specs.{ExchangeTexts.input_of, HttpExchange.IsHttpExchange, Items.end_of, Steps.is_by_input, Steps.is_by_cut, Views.World, Views.taken_of}
-use Rattle.asgi_conversation.specs.declared.{following.NextStep.TheVariants.NextRequest, following.NextStep.TheVariants.ConnectionEnds, report.Outcome.Outcome, report.Report.Report}
-use Rattle.asgi_conversation.specs.{Exchanges.IsFollowed, Exchanges.requests_of, Exchanges.requests_of, ExchangeRecord.ExchangeRecord, ExchangeRecord.Beginning, ExchangeRecord.Saying}
-use Rattle.asgi_conversation.specs.{ExchangeRecord.Ending, Persistence.CountsExchanges, Persistence.InHand, Persistence.StopsWithin, Persistence.CountsExchanges, Kinds.Converses, SoFar.exchanged}
-use Rattle.asgi_conversation.specs.{SoFar.Between, SoFar.TaskIsOver, TaskEnds.after_task, declared.input.InputEnd.InputEnd, Sessions.no_traffic}
+use Rattle.asgi_exchange.specs.{ExchangeTexts.input_of, Steps.is_by_cut}
+use Rattle.asgi_conversation.specs.{Exchanges.IsFollowed, Persistence.InHand, Persistence.StopsWithin, SoFar.TaskIsOver, TaskEnds.after_task, Sessions.no_traffic}
 use Rattle.asgi_conversation.proofs.LoopLemmas.{keeps_on}
-use Rattle.asgi_conversation.proofs.RequestLemmas.{requests_join}
 use Rattle.asgi_conversation.proofs.SoFarLemmas.{taken_whole, end_put, ends_by_task, ends_cut}
-use Rattle.asgi_halves.specs.{declared.half.HttpHalf.HttpHalf, declared.stage.Stage.Stage, declared.stage.Stage.TheVariants.Over, Half.Scene, Half.Invariant, Half.IsAt, Half.KeepsOn}
-use Rattle.asgi_halves.specs.{Half.EndsByTask, Half.IsCutShort, Half.known, Half.requests_in, Half.state_in, Half.failures_at, ReadAhead.ReadsAhead, Traffic.failures_of}
-use Rattle.asgi_ws.specs.Lines.{LineState}
-use Rattle.asgi_run.specs.Lines.{Transferred}
-use Rattle.asgi_conn.specs.{Standing.BetweenRequests, Standing.EndsSo, Standing.EndsSo, declared.place.Place.Place}
 use Rattle.asgi_halves.proofs.ReadAheadLemmas.{heads_after, within_of}
 use Rattle.asgi_conversation.proofs.ConversationLemmas.{over_http}
 use Rattle.asgi_halves.proofs.TalkLemmas.{talk_silent}
-use Rattle.asgi_conn.specs.private.Loop.{IsLeft, IsAtRest}
 use Rattle.asgi_request.specs.declared.next.Next.TheVariants as next
 
 -- ---- no message passed over the line

@@ -1,3 +1,4 @@
+pub mod ConnWords
 pub mod SessionLeaveLemmas
 pub mod LeaveLemmas
 pub mod AnswerLemmas

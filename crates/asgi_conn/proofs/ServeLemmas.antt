@@ -1,25 +1,19 @@
 -- A connection at its beginning, and what one step of it does.
-use Rattle.std.proofs.Common.{◌≡◌, ◌≢◌, ℕ, List, [], ◌∷◌, ◌++◌, refl, sym, ap, ◌∙◌, append-nil, subst, Option}
-use Rattle.std.proofs.lemmas.List.Elements.{All-nil}
-use Rattle.asgi_types.specs.declared.facts.{Facts.Facts, Framing.Framing, Framing.TheVariants.Length, Framing.TheVariants.Chunked, Framing.TheVariants.Upgrade}
-use Rattle.asgi_types.specs.declared.{limits.Limits.Limits, scope.Kind.TheVariants.Http, scope.Kind.TheVariants.WebSocket, scope.Peer.Peer, scope.Scope.Scope, state.StateValue.StateValue}
-use Rattle.asgi_types.specs.{Scopes.scope_with, declared.end_kind.EndKind.EndKind, declared.incoming.Incoming.Incoming, declared.outgoing.Outgoing.Outgoing}
+use Rattle.asgi_conn.proofs.ConnWords.{◌≡◌, ◌≢◌, ℕ, List, [], ◌∷◌, ◌++◌, refl, sym, ap, ◌∙◌, append-nil, subst, Option, All-nil, Facts, Upgrade, Limits, Http, WebSocket, Peer, Scope, StateValue}
+use Rattle.asgi_conn.proofs.ConnWords.{scope_with, EndKind, Incoming, Outgoing, Promise, Next, Head, Bad, Reading, StandsFor, AllGiven, IsRefused, record_of, BeginsWithHandshake, scope_of}
+use Rattle.asgi_conn.proofs.ConnWords.{RefusesWith, InputEnd, NoMemory, requests_of, ExchangeRecord, IsPromised, ArePromised, Place, Tally, BetweenRequests, IsTallied, IsServing, Wire, Scene}
+use Rattle.asgi_conn.proofs.ConnWords.{ReadsAhead, SessionScene, OpensHandshake, LineState, Transferred, AppSide, IsAtRest, more_requests, AppEnds, ConnEnds}
+use Rattle.asgi_request.specs.{Results.Opens, declared.next.Next.TheVariants.Need, Reading.GoesOn, declared.head.HeadRecord.HeadRecord}
+use Rattle.asgi_types.specs.declared.facts.Framing.{Framing, TheVariants.Length, TheVariants.Chunked}
 use Rattle.asgi_io.proofs.BytesLemmas.{Appends-nothing, Consumes-nothing, Keeps-same}
 use Rattle.asgi_io.proofs.CountLemmas.{never_fell}
 use Rattle.asgi_io.proofs.WriteLemmas.{no_parts, tries_all}
-use Rattle.asgi_apps.specs.{Scopes.kind_of, Promises.Promise}
-use Rattle.asgi_request.specs.{declared.next.Next.Next, declared.next.Next.TheVariants.Need, declared.next.Next.TheVariants.Head, declared.next.Next.TheVariants.Bad, Reading.Reading}
-use Rattle.asgi_request.specs.{Reading.StandsFor, Reading.AllGiven, Reading.IsRefused, Reading.GoesOn, declared.head.HeadRecord.HeadRecord, Head.record_of, Opened.BeginsWithHandshake}
-use Rattle.asgi_request.specs.{Results.Opens, Scopes.scope_of}
-use Rattle.asgi_conversation.specs.{Persistence.RefusesWith, declared.input.InputEnd.InputEnd, declared.input.InputEnd.TheVariants.Open, declared.report.Outcome.TheVariants.NoMemory}
-use Rattle.asgi_conversation.specs.{Exchanges.requests_of, ExchangeRecord.ExchangeRecord, Promised.IsPromised, Promised.ArePromised, SoFar.Within}
-use Rattle.asgi_conn.specs.{declared.place.Place.Place, declared.tally.Tally.Tally, Standing.BetweenRequests, Standing.IsAt, Standing.IsTallied, Standing.IsServing}
-use Rattle.asgi_halves.specs.{declared.wire.Wire.Wire, Half.Scene, Half.WithinScene, Half.Opens as OpensRequest, ReadAhead.ReadsAhead, WebSocketHalf.SessionScene, WebSocketHalf.OpensHandshake}
-use Rattle.asgi_ws.specs.Lines.{LineState}
-use Rattle.asgi_run.specs.{Lines.Transferred, Lines.GoesOn as ReadsOn, declared.runner.AppSide.AppSide}
-use Rattle.asgi_conn.specs.private.Loop.{IsAtRest}
-use Rattle.asgi_halves.proofs.ReadAheadLemmas.{nothing_ahead, more_requests, heads_more}
-use Rattle.asgi_pipes.specs.declared.ends.{AppEnd.Ghosts as AppEnds, ConnEnd.Ghosts as ConnEnds}
+use Rattle.asgi_apps.specs.Scopes.{kind_of}
+use Rattle.asgi_conversation.specs.{declared.input.InputEnd.TheVariants.Open, SoFar.Within}
+use Rattle.asgi_conn.specs.Standing.{IsAt}
+use Rattle.asgi_halves.specs.Half.{WithinScene, Opens as OpensRequest}
+use Rattle.asgi_run.specs.Lines.{GoesOn as ReadsOn}
+use Rattle.asgi_halves.proofs.ReadAheadLemmas.{nothing_ahead, heads_more}
 use Rattle.asgi_conversation.proofs.LoopLemmas as loop
 use Rattle.asgi_conn.specs.declared.place.Place.TheVariants as place
 use Rattle.asgi_conn.proofs.BetweenLemmas as between

@@ -1,33 +1,24 @@
 -- How a session leaves its connection: at its end.
+use Rattle.asgi_conn.proofs.ConnWords.{◌≡◌, ◌≢◌, ℕ, Bool, true, false, List, [], ◌∷◌, ◌++◌, ◌⊎◌, inl, inr, refl, sym, ap, ◌∙◌, append_assoc, append-nil, subst, Option, Some, None}
+use Rattle.asgi_conn.proofs.ConnWords.{Scope, EndKind, Facts, Incoming, Outgoing, WebSocket, end_of, IsSessionExchange}
+use Rattle.asgi_conn.proofs.ConnWords.{is_by_input, World, said_of, taken_of, LineState, ConnectionEnds, Outcome, Finished, Refused, InputBroke, Idle, Report}
+use Rattle.asgi_conn.proofs.ConnWords.{ExchangeRecord, Beginning, Saying, Ending, CountsExchanges, handshake_of, class_of, requests_of, Stage, Over, WebSocketHalf}
+use Rattle.asgi_conn.proofs.ConnWords.{SessionScene, IsCarried, session_of, talk_in, ReadsAhead, failures_at, requests_join, EndsSo, more_requests}
+use Rattle.asgi_halves.specs.WebSocketHalf.{answer_of, is_over_at, spare_at, IsAt, Invariant, IsCarrying, IsCutShort, IsCutShortAs, IsSilent, EndsByTask, known, output_in, said_in, CarriesOn}
+use Rattle.asgi_halves.specs.declared.session_half.Answered.{Answered}
 use Rattle.std.specs.Prelude.{if◌then◌else◌}
-use Rattle.std.proofs.Common.{◌≡◌, ◌≢◌, ℕ, Bool, true, false, List, [], ◌∷◌, ◌++◌, ◌⊎◌, inl, inr, refl, sym, ap, ◌∙◌, append_assoc, append-nil, subst, Option, Some, None, ◌≡◌, ℕ, List, [], ◌∷◌}
-use Rattle.std.proofs.Common.{◌++◌, sym, ap, ◌∙◌, subst, Option, Some}
 use mathlib.Core.List.{IsPrefix}
-use Rattle.asgi_types.specs.declared.{scope.Scope.Scope, end_kind.EndKind.EndKind, facts.Facts.Facts, incoming.Incoming.Incoming, outgoing.Outgoing.Outgoing}
-use Rattle.asgi_types.specs.declared.{outgoing.Outgoing.TheVariants.WsAccept, outgoing.Outgoing.TheVariants.DenialStart, scope.Kind.TheVariants.WebSocket}
+use Rattle.asgi_types.specs.declared.outgoing.Outgoing.TheVariants.{WsAccept, DenialStart}
 use Rattle.asgi_protocol.specs.{Lawful.IsLawful, Shapes.is_closed}
 use Rattle.asgi_protocol.proofs.PassingLemmas.{fronts_are_lawful}
-use Rattle.asgi_exchange.specs.{Items.end_of, Messages.has_close, Session.Output, Session.session_output, Session.session_ending, SessionExchange.HasSessionCause}
-use Rattle.asgi_exchange.specs.{SessionExchange.IsSessionExchange, SessionExchange.IsSessionExchange, ExchangeTexts.session_text, Steps.is_by_input, Views.ByCut, Views.World, Views.said_of}
-use Rattle.asgi_exchange.specs.Views.{taken_of, said_of}
+use Rattle.asgi_exchange.specs.{Messages.has_close, Session.Output, Session.session_output, Session.session_ending, SessionExchange.HasSessionCause, ExchangeTexts.session_text, Views.ByCut}
 use Rattle.asgi_exchange.proofs.ListLemmas.{prefix_same, prefix_trans}
 use Rattle.asgi_exchange.proofs.SessionLemmas.{lawful_is_accepted, web_socket_is_steady}
-use Rattle.asgi_ws.specs.{declared.messages.Msg.Msg, Lines.LineState}
-use Rattle.asgi_conversation.specs.declared.{following.NextStep.TheVariants.ConnectionEnds, following.NextStep.TheVariants.ConnectionEnds, report.Outcome.Outcome}
-use Rattle.asgi_conversation.specs.declared.report.{Outcome.TheVariants.Finished, Outcome.TheVariants.Refused, Outcome.TheVariants.InputBroke, Outcome.TheVariants.Idle, Report.Report}
-use Rattle.asgi_conversation.specs.ExchangeRecord.{ExchangeRecord, Beginning, Saying, Ending, ExchangeRecord}
-use Rattle.asgi_conversation.specs.{Persistence.CountsExchanges, Sessions.SessionTraffic, Sessions.handshake_of, Sessions.IsLeft, Sessions.ByApplication, Sessions.ByClient}
-use Rattle.asgi_conversation.specs.Sessions.{ByCut as left_by_cut, IsSessionDone, IsNextOutput, Opens, Accepted, Silent, ServesHandshake, EndsInSession, EndsInSessionAs, after_session}
-use Rattle.asgi_conversation.specs.{Sessions.session_outcome, Sessions.open_outcome, Sessions.said_out, Sessions.spoken, Sessions.handshake_of, Kinds.ConversesInSession}
-use Rattle.asgi_conversation.specs.OutcomeClasses.{OutcomeClass, Uncut, ByWrite, GivenUp, Lacking, Unbegun, class_of, is_cut, is_cut_class}
-use Rattle.asgi_conversation.specs.Exchanges.{requests_of}
-use Rattle.asgi_halves.specs.declared.{stage.Stage.Stage, stage.Stage.TheVariants.Over, session_half.Answered.Answered, session_half.WebSocketHalf.WebSocketHalf}
-use Rattle.asgi_halves.specs.WebSocketHalf.{SessionScene, Invariant, IsAt, IsCarried, IsCarrying, IsCutShort, IsCutShortAs, IsSilent, EndsByTask, known, output_in, said_in, session_of, talk_in}
-use Rattle.asgi_halves.specs.WebSocketHalf.{answer_of, is_over_at, spare_at, CarriesOn}
-use Rattle.asgi_halves.specs.{ReadAhead.ReadsAhead, Half.failures_at}
-use Rattle.asgi_conversation.proofs.RequestLemmas.{requests_join}
-use Rattle.asgi_conn.specs.Standing.{EndsSo}
-use Rattle.asgi_halves.proofs.ReadAheadLemmas.{more_requests}
+use Rattle.asgi_ws.specs.declared.messages.Msg.{Msg}
+use Rattle.asgi_conversation.specs.Sessions.{SessionTraffic, IsLeft, ByApplication, ByClient, ByCut as left_by_cut, IsSessionDone, IsNextOutput, Opens, Accepted, Silent, ServesHandshake}
+use Rattle.asgi_conversation.specs.Sessions.{EndsInSession, EndsInSessionAs, after_session, session_outcome, open_outcome, said_out, spoken}
+use Rattle.asgi_conversation.specs.{Kinds.ConversesInSession, OutcomeClasses.OutcomeClass, OutcomeClasses.Uncut, OutcomeClasses.ByWrite, OutcomeClasses.GivenUp, OutcomeClasses.Lacking}
+use Rattle.asgi_conversation.specs.OutcomeClasses.{Unbegun, is_cut, is_cut_class}
 use Rattle.asgi_conversation.proofs.ConversationLemmas.{in_session}
 use Rattle.asgi_types.specs.declared.end_kind.EndKind.TheVariants as kind
 use Rattle.asgi_halves.specs.declared.session_half.Answered.TheVariants as answered

@@ -1,18 +1,9 @@
 -- An opening handshake is served: its exchange comes after those before it, and the connection has ended in it.
-use Rattle.std.proofs.Common.{◌≡◌, ℕ, List, [], ◌∷◌, ◌++◌, sym, ap, ◌∙◌, subst, Option}
-use Rattle.asgi_types.specs.declared.{end_kind.EndKind.EndKind, facts.Facts.Facts, facts.Framing.TheVariants.Upgrade, incoming.Incoming.Incoming, limits.Limits.Limits, outgoing.Outgoing.Outgoing}
-use Rattle.asgi_types.specs.declared.{scope.Peer.Peer, scope.Scope.Scope, state.StateValue.StateValue}
-use Rattle.asgi_request.specs.{declared.next.Next.Next, declared.next.Next.TheVariants.Head, Opened.BeginsWithHandshake, Opened.HasClosed, Reading.StandsFor}
+use Rattle.asgi_conn.proofs.ConnWords.{◌≡◌, ℕ, List, [], ◌∷◌, ◌++◌, sym, ap, ◌∙◌, subst, Option, EndKind, Facts, Upgrade, Incoming, Limits, Outgoing, Peer, Scope, StateValue, Next, Head}
+use Rattle.asgi_conn.proofs.ConnWords.{BeginsWithHandshake, HasClosed, StandsFor, AppEnds, ConnEnds, Outcome, IsLacking, ArePromised, NextRequest, ConnectionEnds, NextStep, Ended, Tally}
+use Rattle.asgi_conn.proofs.ConnWords.{IsTallied, IsServing, Stage, Over, WebSocketHalf, Wire, SessionScene, OpensHandshake, AppSide, LineState, Promise}
+use Rattle.asgi_halves.specs.WebSocketHalf.{IsAt, IsOf, OpensSession}
 use Rattle.asgi_response.specs.declared.text.ResponseText.{ResponseText}
-use Rattle.asgi_pipes.specs.declared.ends.{AppEnd.Ghosts, ConnEnd.Ghosts as ConnEnds}
-use Rattle.asgi_conversation.specs.{declared.report.Outcome.Outcome, OutcomeClasses.IsLacking, Promised.ArePromised, declared.following.NextStep.TheVariants.NextRequest}
-use Rattle.asgi_conversation.specs.declared.following.NextStep.{TheVariants.ConnectionEnds, NextStep}
-use Rattle.asgi_conn.specs.{declared.place.Place.TheVariants.Ended, declared.tally.Tally.Tally, Standing.IsTallied, Standing.IsServing}
-use Rattle.asgi_halves.specs.declared.{stage.Stage.Stage, stage.Stage.TheVariants.Over, session_half.WebSocketHalf.WebSocketHalf, wire.Wire.Wire}
-use Rattle.asgi_halves.specs.WebSocketHalf.{SessionScene, IsOf, IsAt, OpensHandshake, OpensSession}
-use Rattle.asgi_run.specs.declared.runner.AppSide.{AppSide}
-use Rattle.asgi_ws.specs.Lines.{LineState}
-use Rattle.asgi_apps.specs.Promises.{Promise}
 use Rattle.asgi_conn.proofs.{AnswerLemmas.lacks_moved, LeaveLemmas.http_ends}
 use Rattle.asgi_response.specs.Standing as standing
 use Rattle.asgi_conversation.proofs.LoopLemmas as loop
@@ -38,7 +29,7 @@ module _ (scene : SessionScene) (now : LineState) (wire : Wire) (facts : Facts) 
       subst (λ (w : Wire). OpensSession scene now w own text taken read) (sym same) (record { fixed = fixed; moved = o.moved; denial = denied; frames = frames; empty = o.empty })
 
   -- memory or a thread is refused, before the application is called
-  pub opens_short : {T C E X : Type 0} (answers : T → List Incoming → List Outgoing → Option EndKind → Type 0) (conns : ConnEnds C) (ends : Ghosts E)
+  pub opens_short : {T C E X : Type 0} (answers : T → List Incoming → List Outgoing → Option EndKind → Type 0) (conns : ConnEnds C) (ends : AppEnds E)
       (conn : X → C) (began : X → AppSide T E → Type 0) (promise : Promise) (client server : Option Peer) (state : List (List ℕ × StateValue)) (tally : Tally)
       → ArePromised promise client server state scene.exchanges → IsTallied tally scene.exchanges → (outcome : Outcome) → IsLacking outcome
       → IsServing answers conns ends conn began promise scene.limits client server state scene.start now tally (Ended outcome)

@@ -1,32 +1,27 @@
 -- What a turn of a connection does to where it stands.
-use Rattle.std.proofs.Common.{◌≡◌, ℕ, ◌+◌, ◌≤◌, ◌^◌, ◌⊎◌, inl, inr, List, [], ◌∷◌, ◌++◌, arith, refl, sym, ap, ◌∙◌, subst, Option, Some, true, false}
-use Rattle.std.specs.Prelude.{length, is_some}
-use Rattle.asgi_types.specs.declared.{end_kind.EndKind.EndKind, facts.Facts.Facts, incoming.Incoming.Incoming, limits.Limits.Limits, outgoing.Outgoing.Outgoing, scope.Kind.Kind}
-use Rattle.asgi_types.specs.declared.{scope.Kind.TheVariants.Http, scope.Kind.TheVariants.WebSocket, scope.Peer.Peer, scope.Scope.Scope, state.StateValue.StateValue}
-use Rattle.asgi_types.specs.Scopes.{scope_with}
+use Rattle.asgi_conn.proofs.ConnWords.{◌≡◌, ℕ, ◌+◌, ◌⊎◌, inl, inr, List, [], ◌∷◌, ◌++◌, arith, refl, sym, ap, ◌∙◌, subst, Option, Some, true, false, length, EndKind, Facts, Incoming, Limits}
+use Rattle.asgi_conn.proofs.ConnWords.{Outgoing, Http, WebSocket, Peer, Scope, StateValue, scope_with, Promise, StandsFor, AllGiven, Next, IsHttpExchange, is_by_input, NextStep, NextRequest}
+use Rattle.asgi_conn.proofs.ConnWords.{ConnectionEnds, Outcome, Idle, NoMemory, Report, fault_of, requests_of, ArePromised, has_ended, exchanged, handshake_of, AppSide, OfEnd, IsOpened, HasRun}
+use Rattle.asgi_conn.proofs.ConnWords.{Transferred, piece_size, AnyHalf, HttpHalf, WebSocketHalf, Stage, Over, Wire, Scene, ReadsAhead, SessionScene, session_of, LineState, Place, Tally}
+use Rattle.asgi_conn.proofs.ConnWords.{IsServing, IsTallied, BetweenRequests, IsLeft, AppEnds, ConnEnds}
+use Rattle.asgi_halves.specs.{Half.Invariant, declared.stage.Stage.TheVariants.Running, declared.stage.Stage.TheVariants.Ending, declared.stage.Stage.TheVariants.Cut, Kinds.following_of}
+use Rattle.asgi_halves.specs.contracts.impls.{HttpHalfHalf.TheImpl.ghosts as http_half, WebSocketHalfHalf.TheImpl.ghosts as session_half}
+use Rattle.asgi_halves.specs.WebSocketHalf.{Invariant as SessionInvariant}
+use Rattle.std.proofs.Common.{◌≤◌, ◌^◌}
+use Rattle.std.specs.Prelude.{is_some}
+use Rattle.asgi_types.specs.declared.scope.Kind.{Kind}
 use Rattle.asgi_io.specs.{declared.turns.Turn.Turn, declared.turns.Turns.Turns, Turns.CountsTurns}
 use Rattle.asgi_apps.proofs.PauseLemmas.{counts_more}
-use Rattle.asgi_apps.specs.Promises.{Promise}
-use Rattle.asgi_request.specs.{Reading.StandsFor, Reading.AllGiven, Reading.IsWaiting, declared.next.Next.Next}
-use Rattle.asgi_exchange.specs.{Calls.IsViewOf, Calls.IsExchangeOf, Views.ConnView, Views.empty_conn, HttpExchange.IsHttpExchange, Steps.is_by_input}
-use Rattle.asgi_conversation.specs.declared.{following.NextStep.NextStep, following.NextStep.TheVariants.NextRequest, following.NextStep.TheVariants.ConnectionEnds, report.Outcome.Outcome}
-use Rattle.asgi_conversation.specs.{declared.report.Outcome.TheVariants.Idle, declared.report.Outcome.TheVariants.NoMemory, declared.report.Report.Report, Exchanges.fault_of}
-use Rattle.asgi_conversation.specs.{Exchanges.requests_of, Promised.ArePromised, TaskEnds.has_ended, SoFar.exchanged, Sessions.handshake_of}
-use Rattle.asgi_run.specs.{AnyHalf.PreservesOn, declared.runner.AppSide.AppSide, Limits.IsAtLimit, Limits.IsSettled, Running.OfEnd, Running.IsOpened, Running.HasRun, Lines.Transferred}
-use Rattle.asgi_run.specs.{Lines.piece_size, declared.exchange_half.Half.Ghosts as AnyHalf}
-use Rattle.asgi_halves.specs.declared.{half.HttpHalf.HttpHalf, session_half.WebSocketHalf.WebSocketHalf, stage.Stage.Stage, stage.Stage.TheVariants.Over, stage.Stage.TheVariants.Running}
-use Rattle.asgi_halves.specs.{declared.stage.Stage.TheVariants.Ending, declared.stage.Stage.TheVariants.Cut, declared.wire.Wire.Wire, Half.Scene, Half.Invariant, Kinds.following_of}
-use Rattle.asgi_halves.specs.{ReadAhead.ReadsAhead, contracts.impls.HttpHalfHalf.TheImpl.ghosts as http_half, contracts.impls.WebSocketHalfHalf.TheImpl.ghosts as session_half}
-use Rattle.asgi_halves.specs.WebSocketHalf.{SessionScene, session_of, Invariant as SessionInvariant}
-use Rattle.asgi_ws.specs.Lines.{LineState}
-use Rattle.asgi_conn.specs.{declared.connection.Connection.Connection, declared.connection.Step.Step, declared.place.Place.Place, declared.tally.Tally.Tally, Serving.Serves, Standing.GoesOn}
-use Rattle.asgi_conn.specs.Standing.{IfOver, InExchange, IsAt, IsCounted, IsServing, IsTallied, HasRoom, Stands, IsReportOf, http_scene, session_scene, BetweenRequests}
-use Rattle.asgi_conn.specs.private.Loop.{HasBegun, IsLeft, MayTurn, IsNext, IsGoing, IsDue, IsDueOrBetween, IsBetween, HasEnded}
+use Rattle.asgi_request.specs.Reading.{IsWaiting}
+use Rattle.asgi_exchange.specs.{Calls.IsViewOf, Calls.IsExchangeOf, Views.ConnView, Views.empty_conn}
+use Rattle.asgi_run.specs.{AnyHalf.PreservesOn, Limits.IsAtLimit, Limits.IsSettled}
+use Rattle.asgi_conn.specs.{declared.connection.Connection.Connection, declared.connection.Step.Step, Serving.Serves, Standing.GoesOn, Standing.IfOver, Standing.InExchange, Standing.IsAt}
+use Rattle.asgi_conn.specs.Standing.{IsCounted, HasRoom, Stands, IsReportOf, http_scene, session_scene}
+use Rattle.asgi_conn.specs.private.Loop.{HasBegun, MayTurn, IsNext, IsGoing, IsDue, IsDueOrBetween, IsBetween, HasEnded}
 use Rattle.asgi_request.proofs.StandardLemmas.{all_results}
 use Rattle.asgi_conn.proofs.{BetweenLemmas.rests_on, BetweenLemmas.ends_fed_short, LeaveLemmas.left_at, ServeLemmas.at_rest, SessionLeaveLemmas.ends_after, SessionServeLemmas.ends_connection}
 use Rattle.asgi_exchange.proofs.HttpExchangeLemmas.{in_words}
 use Rattle.asgi_exchange.proofs.SessionExchangeLemmas.{in_words as session_words}
-use Rattle.asgi_pipes.specs.declared.ends.{AppEnd.Ghosts as AppEnds, ConnEnd.Ghosts as ConnEnds}
 use Rattle.asgi_conn.specs.declared.connection.Step.TheVariants as step
 use Rattle.asgi_conn.specs.declared.place.Place.TheVariants as place
 use Rattle.asgi_conn.proofs.AnswerLemmas as answer
