@@ -1,9 +1,9 @@
 -- A session ends with its task: what the end adds is written, and the connection ends as that end requires.
 use Rattle.asgi_halves.proofs.SessionWords.{◌≡◌, ℕ, ◌<◌, Bool, true, false, ◌⊎◌, inl, inr, List, [], ◌∷◌, ◌++◌, length, take, drop, refl, sym, ap, ◌∙◌, subst, append_assoc, Option, Some, map, arith, if◌then◌else◌, Appends, append-nil, length-map, take-map, take-append-drop, RoseBy, TriesWrites, EndKind, Facts, Outgoing}
-use Rattle.asgi_halves.proofs.SessionWords.{WsAccept, WsClose, DenialStart, Http, WebSocket, begins_word, is_closed, test_of_beginning, closing_facts, as_response, denial_progress, refusal_text, Send, SentMessage, Msg, Put, taken_by, has_failed}
-use Rattle.asgi_halves.proofs.SessionWords.{count_after, end_of, has_close, Output, Byte, Message, accepted_session, ending_of, session_ending, is_by_input, ConnView, added_by, output, taken_of, ConnectionEnds, Outcome, handshake_of, after_session, open_outcome, session_outcome, StopsSession, Stage, Answered, Unanswered, Open, Closed, Session}
+use Rattle.asgi_halves.proofs.SessionWords.{WsAccept, WsClose, DenialStart, Http, WebSocket, begins_word, is_closed, test_of_beginning, closing_facts, as_response, denial_progress, refusal_text, SentMessage, Msg, Put, taken_by}
+use Rattle.asgi_halves.proofs.SessionWords.{end_of, has_close, Output, Byte, Message, accepted_session, ending_of, session_ending, is_by_input, ConnView, added_by, output, taken_of, ConnectionEnds, Outcome, handshake_of, after_session, open_outcome, session_outcome, StopsSession, Stage, Answered, Unanswered, Open, Closed, Session}
 use Rattle.asgi_halves.proofs.SessionWords.{Side, Application, Client, WebSocketHalf, failures_of, LineState, how_wrote, SessionScene, Invariant, Talks, EndsByTask, IsAt, IsCarried, IsDue, IsSilent, IsUnended, answer_of, answer_to, exchange_of, is_over_with, known, output_in, rest_at, said_in, spare_at, spare_with, talk_in, CarriesOn}
-use Rattle.asgi_halves.proofs.SessionWords.{tries_front, failures_at, failures_by, as_messages, as_text, HasSent, LeavesText, talk_written, talk_sent, prefix_self}
+use Rattle.asgi_halves.proofs.SessionWords.{tries_front, failures_at, failures_by, as_messages, as_text, HasSent, prefix_self}
 use Rattle.asgi_io.specs.declared.write.Wrote.TheVariants as wrote
 use Rattle.asgi_types.specs.declared.end_kind.EndKind.TheVariants as kind
 use Rattle.asgi_protocol.specs.Lawful.{IsLawful}
@@ -21,7 +21,8 @@ use Rattle.asgi_conversation.specs.ExchangeRecord.{Ending}
 use Rattle.asgi_halves.specs.declared.stage.Stage.TheVariants as stage
 use Rattle.asgi_halves.specs.declared.session_half.Answered.TheVariants.{Refused}
 use Rattle.asgi_halves.specs.declared.session_half.Session.TheVariants as session
-use Rattle.asgi_halves.proofs.SessionOfferLemmas.{carried_on, line_at}
+use Rattle.asgi_halves.proofs.SessionOfferLemmas.{carried_on, due_of, line_at, message_moved, text_moved}
+use Rattle.asgi_halves.specs.WebSocketHalf.{outcome_of}
 
 -- ---- what the end adds, by what was sent
 
@@ -216,18 +217,18 @@ module _ (scene : SessionScene) (was : LineState) (half : WebSocketHalf) (read :
     carried_as : (text : List ℕ) → IsCarried (answer_of half.session) scene half view text x.leftover x.handed
     carried_as text = subst (λ (a : Answered). IsCarried a scene half view text x.leftover x.handed) (sym unanswered) silent
 
-    text_moved : (out : Outcome) (part : List ℕ) (failures : ℕ) → failures ≡ failures_of out → Appends was.written now.written part → RoseBy failures was.failed now.failed
+    moved : (out : Outcome) (part : List ℕ) (failures : ℕ) → failures ≡ failures_of out → Appends was.written now.written part → RoseBy failures was.failed now.failed
         → TriesWrites was.writes now.writes (length part) (how_wrote failures (length part))
         → CarriesOn scene.start now half.wire.input read (scene.before ++ (x.text ++ part)) (failures_of out) (talk_in half view x.leftover x.handed) (spare_at half.session)
-    text_moved out part failures count appends rose tries =
+    moved out part failures count appends rose tries =
         subst (λ (n : ℕ). CarriesOn scene.start now half.wire.input read (scene.before ++ (x.text ++ part)) n (talk_in half view x.leftover x.handed) (spare_at half.session)) count
-        (talk_written scene.start was now half.wire.input read scene.before x.text part failures (talk_in half view x.leftover x.handed) (spare_at half.session) line silent.0.kept same_left same_reads same_session appends rose tries)
+        (text_moved scene was half read view x (ap failures_at is) now silent.0.kept same_left same_reads same_session part failures appends rose tries)
 
     text_out : (out : Outcome) → failures_of out ≡ 0 → after_session ended (said_in scene view) (is_by_input view.broken) view.arrived ≡ out
         → Appends was.written now.written more → RoseBy 0 was.failed now.failed → TriesWrites was.writes now.writes (length more) wrote.Done → Goes scene now (ends_so half out) read view
     text_out out none follows appends rose tries =
         let gone = as_text x.text more x.handed view.written silent.0.sent x.written in
-        ends_with now out half.session (x.text ++ more) x.handed (map Byte more) [] refl (text_moved out more 0 (sym none) appends rose tries) gone (append-nil (map Byte more) ∙ sym adds_it) (carried_as (x.text ++ more))
+        ends_with now out half.session (x.text ++ more) x.handed (map Byte more) [] refl (moved out more 0 (sym none) appends rose tries) gone (append-nil (map Byte more) ∙ sym adds_it) (carried_as (x.text ++ more))
         (inl (by_task out (map Byte (x.text ++ more) ++ map Message x.handed) follows (gone ∙ ap (λ (l : List Output). view.written ++ l) (sym adds_it))))
 
     text_cut : (n : ℕ) → n < length more → Appends was.written now.written (take n more) → RoseBy 1 was.failed now.failed → TriesWrites was.writes now.writes n (wrote.Failed n)
@@ -236,48 +237,40 @@ module _ (scene : SessionScene) (was : LineState) (half : WebSocketHalf) (read :
         let part : map Byte (take n more) ≡ take n adds = sym (take-map Byte n more) ∙ ap (λ (l : List Output). take n l) (sym adds_it) in
         let gone : map Byte (x.text ++ take n more) ++ map Message x.handed ≡ view.written ++ take n adds = as_text x.text (take n more) x.handed view.written silent.0.sent x.written ∙ ap (λ (l : List Output). view.written ++ l) part in
         ends_with now (outcome.WriteFailed n) half.session (x.text ++ take n more) x.handed (take n adds) (drop n adds) refl
-        (text_moved (outcome.WriteFailed n) (take n more) 1 refl appends rose (tries_front was.writes now.writes n more less tries))
+        (moved (outcome.WriteFailed n) (take n more) 1 refl appends rose (tries_front was.writes now.writes n more less tries))
         gone (take-append-drop n adds) (carried_as (x.text ++ take n more))
         (inr (stops n (map Byte (x.text ++ take n more) ++ map Message x.handed)
         (subst (λ (k : ℕ). n < k) (sym (ap (λ (l : List Output). length l) adds_it ∙ length-map more Byte)) less) gone))
 
   -- a message is, in an open session, which is closed by that
-  module _ (opened : answer_of half.session ≡ Open) (left : Option ℕ) (left_is : left ≡ rest_at half.session) (message : SentMessage) (adds_it : adds ≡ Message message ∷ []) (now : LineState) (same : LeavesText was now) (answer : Put)
-      (told : now.session.calls ≡ was.session.calls ++ Send message answer ∷ []) (count : now.failed ≡ count_after was.failed (has_failed answer))
-      (coming : now.session.coming ≡ was.session.coming) (kept : now.session.leftover ≡ was.session.leftover) where
-    sent : CarriesOn scene.start now half.wire.input read (scene.before ++ x.text) (failures_by answer) (talk_in half view x.leftover (x.handed ++ taken_by message answer)) (spare_at half.session)
-    sent =
-        talk_sent scene.start was now half.wire.input read (scene.before ++ x.text) 0 refl (talk_in half view x.leftover x.handed)
-        (talk_in half view x.leftover (x.handed ++ taken_by message answer)) (spare_at half.session) line same message answer told count coming kept refl refl refl refl
-        scene.frames (subst (λ (a : Answered). IsCarried a scene half view x.text x.leftover x.handed) opened x.carried).kept
+  module _ (opened : answer_of half.session ≡ Open) (left : Option ℕ) (left_is : left ≡ rest_at half.session) (message : SentMessage) (adds_it : adds ≡ Message message ∷ []) (now : LineState)
+      (answer : Put) (sent : HasSent was now message answer) where
+    carried : IsCarried Closed scene half view x.text x.leftover x.handed
+    carried = subst (λ (a : Answered). IsCarried a scene half view x.text x.leftover x.handed) opened x.carried
 
     sent_as : (result : Put) → answer ≡ result
         → CarriesOn scene.start now half.wire.input read (scene.before ++ x.text) (failures_by result) (talk_in half view x.leftover (x.handed ++ taken_by message result)) (spare_at half.session)
-    sent_as result e =
-        subst (λ (a : Put). CarriesOn scene.start now half.wire.input read (scene.before ++ x.text) (failures_by a) (talk_in half view x.leftover (x.handed ++ taken_by message a)) (spare_at half.session)) e sent
-
-    carried_with : (handed : List SentMessage) → IsCarried Closed scene half view x.text x.leftover handed
-    carried_with handed = subst (λ (a : Answered). IsCarried a scene half view x.text x.leftover x.handed) opened x.carried
+    sent_as = message_moved scene was half read view x (ap failures_at is) now carried message answer sent
 
     message_out : answer ≡ put.Done → after_session ended (said_in scene view) (is_by_input view.broken) view.arrived ≡ outcome.Finished → Goes scene now (closes_so half left outcome.Finished) read view
     message_out e follows =
         let handed : List SentMessage = x.handed ++ message ∷ [] in
         let gone : map Byte x.text ++ map Message handed ≡ view.written ++ Message message ∷ [] = as_messages x.text x.handed (message ∷ []) view.written x.written in
-        ends_with now outcome.Finished (session.Closed Application left) x.text handed (Message message ∷ []) [] (sym left_is) (sent_as put.Done e) gone (sym adds_it) (carried_with handed)
+        ends_with now outcome.Finished (session.Closed Application left) x.text handed (Message message ∷ []) [] (sym left_is) (sent_as put.Done e) gone (sym adds_it) carried
         (inl (by_task outcome.Finished (map Byte x.text ++ map Message handed) follows (gone ∙ ap (λ (l : List Output). view.written ++ l) (sym adds_it))))
 
     message_cut : answer ≡ put.Failed → Goes scene now (closes_so half left (outcome.WriteFailed 0)) read view
     message_cut e =
         let handed : List SentMessage = x.handed ++ [] in
         let gone : map Byte x.text ++ map Message handed ≡ view.written ++ [] = as_messages x.text x.handed [] view.written x.written in
-        ends_with now (outcome.WriteFailed 0) (session.Closed Application left) x.text handed [] adds (sym left_is) (sent_as put.Failed e) gone refl (carried_with handed)
+        ends_with now (outcome.WriteFailed 0) (session.Closed Application left) x.text handed [] adds (sym left_is) (sent_as put.Failed e) gone refl carried
         (inr (stops 0 (map Byte x.text ++ map Message handed) (subst (λ (l : List Output). 0 < length l) (sym adds_it) (omega arith)) gone))
 
     message_short : answer ≡ put.NoMemory → Goes scene now (closes_so half left outcome.NoMemory) read view
     message_short e =
         let handed : List SentMessage = x.handed ++ [] in
         let gone : map Byte x.text ++ map Message handed ≡ view.written ++ [] = as_messages x.text x.handed [] view.written x.written in
-        ends_with now outcome.NoMemory (session.Closed Application left) x.text handed [] adds (sym left_is) (sent_as put.NoMemory e) gone refl (carried_with handed)
+        ends_with now outcome.NoMemory (session.Closed Application left) x.text handed [] adds (sym left_is) (sent_as put.NoMemory e) gone refl carried
         (inr ([], append-nil (map Byte x.text ++ map Message handed) ∙ (gone ∙ (append-nil view.written ∙ at_end.0.written))))
 
 -- ---- by how the task ended
@@ -373,9 +366,8 @@ module _ (scene : SessionScene) (was : LineState) (half : WebSocketHalf) (read :
     open_still : EndsOpen (said_in scene view)
     open_still = left_open (said_in scene view) (sym talks.answered ∙ opened)
 
-    -- what is due in this session
     due_there : (state : Session) → half.session ≡ state → IsDue state view.offered view.arrived (is_by_input view.broken)
-    due_there state is = subst (λ (s : Session). IsDue s view.offered view.arrived (is_by_input view.broken)) is talks.due
+    due_there = due_of scene half view talks
 
     adds_by : (b : Bool) → is_by_input view.broken ≡ b → session_ending scene.facts (taken_of view) o.ended (is_by_input view.broken) ≡ (if b then [] else Message (item.Close code []) ∷ [])
     adds_by b e =
@@ -411,15 +403,13 @@ module _ (scene : SessionScene) (was : LineState) (half : WebSocketHalf) (read :
       unbroke : is_by_input view.broken ≡ false
       unbroke = unbroken_in half.session refl stays
 
-      told_close : now.session.calls ≡ was.session.calls ++ Send (item.Close code []) answer ∷ []
-      told_close = s.told ∙ ap (λ (r : List ℕ). was.session.calls ++ Send (item.Close code r) answer ∷ []) none
+      sent : HasSent was now (item.Close code []) answer
+      sent = subst (λ (r : List ℕ). HasSent was now (item.Close code r) answer) none s
 
-      pub close_done : answer ≡ put.Done → Goes scene now (closes_so half left outcome.Finished) read view
-      close_done e =
-          message_out scene was half read view x o.ended o.at opened left left_is (item.Close code []) (adds_by false unbroke) now s.text answer told_close s.count s.coming s.kept e (follows_by false unbroke)
+      by : (result : Put) → answer ≡ result → Goes scene now (closes_so half left (outcome_of result)) read view
+      by put.Done e = message_out scene was half read view x o.ended o.at opened left left_is (item.Close code []) (adds_by false unbroke) now answer sent e (follows_by false unbroke)
+      by put.Failed e = message_cut scene was half read view x o.ended o.at opened left left_is (item.Close code []) (adds_by false unbroke) now answer sent e
+      by put.NoMemory e = message_short scene was half read view x o.ended o.at opened left left_is (item.Close code []) (adds_by false unbroke) now answer sent e
 
-      pub close_failed : answer ≡ put.Failed → Goes scene now (closes_so half left (outcome.WriteFailed 0)) read view
-      close_failed e = message_cut scene was half read view x o.ended o.at opened left left_is (item.Close code []) (adds_by false unbroke) now s.text answer told_close s.count s.coming s.kept e
-
-      pub close_short : answer ≡ put.NoMemory → Goes scene now (closes_so half left outcome.NoMemory) read view
-      close_short e = message_short scene was half read view x o.ended o.at opened left left_is (item.Close code []) (adds_by false unbroke) now s.text answer told_close s.count s.coming s.kept e
+      pub closed_last : (out : Outcome) → out ≡ outcome_of answer → Goes scene now (closes_so half left out) read view
+      closed_last out is = subst (λ (q : Outcome). Goes scene now (closes_so half left q) read view) (sym is) (by answer refl)

@@ -16,8 +16,8 @@ module _ (scene : SessionScene) (now : LineState) (half : WebSocketHalf) (read :
       subst (λ (o : Outcome). Invariant scene now (record half { stage = Over (ConnectionEnds o) }) read later) (sym idle) (by half.stage refl goes_on)
     where
       by : (stage : Stage) → half.stage ≡ stage → IsOpen stage → Invariant scene now (record half { stage = Over (ConnectionEnds Idle) }) read later
-      by Running is goes_on = stops_running scene now half read view x is (record half { stage = Over (ConnectionEnds Idle) }) refl later off
-      by (Ending kind) is goes_on = stops_ending scene now half read view x kind is (record half { stage = Over (ConnectionEnds Idle) }) refl later off
+      by Running is goes_on = stops_running scene now half read view x is later off
+      by (Ending kind) is goes_on = stops_ending scene now half read view x kind is later off
       by (Cut outcome) is goes_on = absurd goes_on
       by (Over following) is goes_on = absurd goes_on
 

@@ -1,4 +1,6 @@
 -- The steps of a session's half at its own end of the pair: it offers what is due, and the disconnect of a cut.
+use Rattle.asgi_halves.proofs.SessionWords.{length, Appends, Put, RoseBy, TriesWrites, how_wrote, taken_by, failures_by, talk_written, talk_sent}
+use Rattle.asgi_halves.proofs.LineCallLemmas.{HasSent}
 use Rattle.asgi_halves.proofs.SessionWords.{◌≡◌, ℕ, Bool, true, false, List, [], ◌∷◌, ◌++◌, refl, sym, ap, ◌∙◌, subst, inl, inr, append-nil, Option, Some, None, if◌then◌else◌, ◌⊎◌, not, is_some, IsTrue, IsPrefix, EndKind, Facts, Incoming, WsDisconnect, Outgoing, WebSocket, passes, OutItem, Event, Ended, ConnKeeps, IsOffered, end_of, events_of}
 use Rattle.asgi_halves.proofs.SessionWords.{has_close, session_disconnect, session_events, Output, with_session_event, accepted_session, session_output, session_ending, is_by_input, is_by_cut, Break, ByInput, ByCut, ConnView, output, added_by, taken_of, events_append, end_event, prefix_self, prefix_trans, none_is_heard, web_socket_is_steady}
 use Rattle.asgi_halves.proofs.SessionWords.{SentMessage, Msg, ConnectionEnds, Outcome, IsNextOutput, StopsSession, handshake_of, Stage, Answered, Unanswered, Open, Closed, Answer, Session, Client, WebSocketHalf, failures_at, LineState, SessionScene, Invariant, Talks, IsAt, IsCarried, IsCarrying, IsCutShort, IsCutShortAs, IsDue, answer_of}
@@ -81,10 +83,31 @@ pub carrying_of : (state : Answered) (scene : SessionScene) (half : WebSocketHal
 carrying_of state scene half view text leftover handed (inl is) x = subst (λ (a : Answered). IsCarried a scene half view text leftover handed) is x
 carrying_of state scene half view text leftover handed (inr is) x = subst (λ (a : Answered). IsCarried a scene half view text leftover handed) is x
 
+-- what is due in this session
+pub due_of : (scene : SessionScene) (half : WebSocketHalf) (view : ConnView Msg Output) → Talks scene half view → (state : Session) → half.session ≡ state
+    → IsDue state view.offered view.arrived (is_by_input view.broken)
+due_of scene half view t state is = subst (λ (s : Session). IsDue s view.offered view.arrived (is_by_input view.broken)) is t.due
+
 module _ (scene : SessionScene) (line : LineState) (half : WebSocketHalf) (read : List ℕ) (view : ConnView Msg Output) (x : Invariant scene line half read view) where
   -- by how many calls failed
   pub line_at : (failures : ℕ) → failures_at half.stage ≡ failures → CarriesOn scene.start line half.wire.input read (scene.before ++ x.text) failures (talk_in half view x.leftover x.handed) (spare_at half.session)
   line_at failures is = subst (λ (n : ℕ). CarriesOn scene.start line half.wire.input read (scene.before ++ x.text) n (talk_in half view x.leftover x.handed) (spare_at half.session)) is x.line
+
+  -- the line after one more text, if it carries no messages, and after one more message
+  module _ (unfailed : failures_at half.stage ≡ 0) (now : LineState) where
+    pub text_moved : x.leftover ≡ None → now.left ≡ line.left → now.reads ≡ line.reads → now.session ≡ line.session → (part : List ℕ) (failures : ℕ) → Appends line.written now.written part
+        → RoseBy failures line.failed now.failed → TriesWrites line.writes now.writes (length part) (how_wrote failures (length part))
+        → CarriesOn scene.start now half.wire.input read (scene.before ++ (x.text ++ part)) failures (talk_in half view x.leftover x.handed) (spare_at half.session)
+    text_moved none same_left same_reads same_session part failures appends rose tries =
+        talk_written scene.start line now half.wire.input read scene.before x.text part failures (talk_in half view x.leftover x.handed) (spare_at half.session) (line_at 0 unfailed) none same_left same_reads same_session
+        appends rose tries
+
+    pub message_moved : IsCarrying scene view x.text x.leftover → (message : SentMessage) (answer : Put) → HasSent line now message answer → (result : Put) → answer ≡ result
+        → CarriesOn scene.start now half.wire.input read (scene.before ++ x.text) (failures_by result) (talk_in half view x.leftover (x.handed ++ taken_by message result)) (spare_at half.session)
+    message_moved carries message answer sent result is =
+        subst (λ (a : Put). CarriesOn scene.start now half.wire.input read (scene.before ++ x.text) (failures_by a) (talk_in half view x.leftover (x.handed ++ taken_by message a)) (spare_at half.session)) is
+        (talk_sent scene.start line now half.wire.input read (scene.before ++ x.text) 0 refl (talk_in half view x.leftover x.handed) (talk_in half view x.leftover (x.handed ++ taken_by message answer))
+        (spare_at half.session) (line_at 0 unfailed) sent.text message answer sent.told sent.count sent.coming sent.kept refl refl refl refl scene.frames carries.kept)
 
   -- The half's invariant holds in a stage again, if the line is the same.
   pub stands_at : (next : Session) (s : Stage) (offered : List Incoming) (broken : Option Break) (got : List OutItem)
@@ -117,9 +140,8 @@ module _ (scene : SessionScene) (line : LineState) (half : WebSocketHalf) (read 
     pub runs : Talks scene half view × (end_of view.got ≡ None)
     runs = subst (λ (s : Stage). IsAt s scene half view) is x.stage
 
-    -- what is due in this session
     pub due_in : (state : Session) → half.session ≡ state → IsDue state view.offered view.arrived (is_by_input view.broken)
-    due_in state in_it = subst (λ (s : Session). IsDue s view.offered view.arrived (is_by_input view.broken)) in_it runs.0.due
+    due_in = due_of scene half view runs.0
 
     -- all that was taken is out, whatever is offered
     runs_on : (next : Session) (offered : List Incoming) (broken : Option Break) → answer_of half.session ≡ answer_of next → rest_at half.session ≡ rest_at next
@@ -283,24 +305,20 @@ module _ (scene : SessionScene) (line : LineState) (half : WebSocketHalf) (read 
   stops_here t none later off =
       stands_cut outcome.Idle (stage.Over (ConnectionEnds outcome.Idle)) none ([], append-nil view.written ∙ t.written) (λ v s e. inr s) later off
 
-  pub stops_running : half.stage ≡ stage.Running → (new : WebSocketHalf) → new ≡ record half { stage = stage.Over (ConnectionEnds outcome.Idle) } → (later : ConnView Msg Output) → IsCutOff (WsDisconnect 1006 []) view later
-      → Invariant scene line new read later
-  stops_running is new same later off =
-      subst (λ (h : WebSocketHalf). Invariant scene line h read later) (sym same) (stops_here (runs scene line half read view x is).0 (ap failures_at is) later off)
+  pub stops_running : half.stage ≡ stage.Running → (later : ConnView Msg Output) → IsCutOff (WsDisconnect 1006 []) view later
+      → Invariant scene line (record half { stage = stage.Over (ConnectionEnds outcome.Idle) }) read later
+  stops_running is = stops_here (runs scene line half read view x is).0 (ap failures_at is)
 
-  pub stops_ending : (kind : EndKind) → half.stage ≡ stage.Ending kind → (new : WebSocketHalf) → new ≡ record half { stage = stage.Over (ConnectionEnds outcome.Idle) } → (later : ConnView Msg Output)
-      → IsCutOff (WsDisconnect 1006 []) view later → Invariant scene line new read later
-  stops_ending kind is new same later off =
-      let at = subst (λ (s : Stage). IsAt s scene half view) is x.stage in
-      subst (λ (h : WebSocketHalf). Invariant scene line h read later) (sym same) (stops_here at.0 (ap failures_at is) later off)
+  pub stops_ending : (kind : EndKind) → half.stage ≡ stage.Ending kind → (later : ConnView Msg Output) → IsCutOff (WsDisconnect 1006 []) view later
+      → Invariant scene line (record half { stage = stage.Over (ConnectionEnds outcome.Idle) }) read later
+  stops_ending kind is = stops_here (subst (λ (s : Stage). IsAt s scene half view) is x.stage).0 (ap failures_at is)
 
   module _ (out : Outcome) (is : half.stage ≡ stage.Cut out) where
     unended : IsCutShort scene view out × (end_of view.got ≡ None)
     unended = subst (λ (s : Stage). IsAt s scene half view) is x.stage
 
-    pub cut_stops : (new : WebSocketHalf) → new ≡ record half { stage = stage.Over (ConnectionEnds out) } → (later : ConnView Msg Output) → IsCutOff (WsDisconnect 1006 []) view later → Invariant scene line new read later
-    cut_stops new same later off =
-        subst (λ (h : WebSocketHalf). Invariant scene line h read later) (sym same) (stands_cut out (stage.Over (ConnectionEnds out)) (ap failures_at is) unended.0 (λ v s e. inr s) later off)
+    pub cut_stops : (later : ConnView Msg Output) → IsCutOff (WsDisconnect 1006 []) view later → Invariant scene line (record half { stage = stage.Over (ConnectionEnds out) }) read later
+    cut_stops = stands_cut out (stage.Over (ConnectionEnds out)) (ap failures_at is) unended.0 (λ v s e. inr s)
 
     -- the disconnect is offered, and the end of the task is awaited
     pub cut_waits : (later : ConnView Msg Output) → IsCutOff (WsDisconnect 1006 []) view later → Invariant scene line half read later

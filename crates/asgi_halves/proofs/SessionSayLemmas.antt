@@ -1,9 +1,9 @@
 -- An event is sent that the judge has passed: if the invariant of the half held, it holds again.
 use Rattle.asgi_halves.proofs.SessionWords.{◌≡◌, ◌≢◌, ℕ, ◌<◌, Bool, true, false, ◌⊎◌, inl, inr, List, [], ◌∷◌, ◌++◌, length, take, drop, refl, sym, ap, ◌∙◌, subst, append_assoc, Option, Some, None, map, arith, Vec, Global, if◌then◌else◌, Appends, append-nil, length-map, take-map, take-append-drop, IsPrefix, RoseBy, TriesWrites, HeaderField}
-use Rattle.asgi_halves.proofs.SessionWords.{EndKind, Facts, Incoming, Outgoing, WsAccept, WsSend, WsClose, WebSocket, Judge, passes, is_closed, refusal_text, Event, Send, SentMessage, Msg, Put, taken_by, has_failed, count_after, kept_by, end_of, has_close, Output, Byte, Message, accepted_session, event_output, output_of, session_output}
+use Rattle.asgi_halves.proofs.SessionWords.{EndKind, Facts, Incoming, Outgoing, WsAccept, WsSend, WsClose, WebSocket, Judge, passes, is_closed, refusal_text, Event, SentMessage, Msg, Put, taken_by, end_of, has_close, Output, Byte, Message, accepted_session, event_output, output_of, session_output}
 use Rattle.asgi_halves.proofs.SessionWords.{is_by_input, ConnView, added_by, output, taken_of, events_append, end_event, event_adds, WriteFailed, NoMemory, handshake_of, StopsSession, Saying, Stage, Running, Cut, Answered, Unanswered, Open, Closed, Answer, Session, Application, Client, WebSocketHalf, LineState, how_wrote, SessionScene}
 use Rattle.asgi_halves.proofs.SessionWords.{Invariant, IsAccept, Talks, IsAt, IsCarried, IsCarrying, IsDue, IsOf, IsSilent, answer_of, answer_to, answered_with, exchange_of, is_over_with, known, output_in, rest_at, said_in, spare_at, spare_with, stage_of, talk_in, CarriesOn, tries_front, failures_at, failures_by, as_messages, as_text}
-use Rattle.asgi_halves.proofs.SessionWords.{LeavesText, talk_written, talk_sent, talk_upgraded, ResponseText}
+use Rattle.asgi_halves.proofs.SessionWords.{talk_upgraded, ResponseText}
 use Rattle.asgi_io.specs.declared.write.Wrote.TheVariants as wrote
 use Rattle.asgi_types.specs.declared.incoming.Payload.{Payload}
 use Rattle.asgi_protocol.specs.Stages as judging
@@ -15,7 +15,8 @@ use Rattle.asgi_halves.specs.declared.session_half.Answer.TheVariants as to
 use Rattle.asgi_halves.specs.declared.session_half.Session.TheVariants as session
 use Rattle.asgi_halves.proofs.SessionPassLemmas.{more_said, accept_is_first, close_has_place, send_is_in_session, open_is_accepted, not_closed, open_after_send, closed_after_close}
 use Rattle.asgi_response.specs.Standing as standing
-use Rattle.asgi_halves.proofs.SessionOfferLemmas.{Carries, carrying, line_at, runs, same_answer}
+use Rattle.asgi_halves.proofs.LineCallLemmas.{HasSent, HasUpgraded}
+use Rattle.asgi_halves.proofs.SessionOfferLemmas.{Carries, carrying, line_at, message_moved, runs, same_answer, text_moved}
 
 -- ---- the line carries messages
 
@@ -195,18 +196,11 @@ module _ (scene : SessionScene) (was : LineState) (half : WebSocketHalf) (read :
           text_is = c.text_is;
         }
 
-    module _ (now : LineState) (message : SentMessage) (adds_it : adds ≡ Message message ∷ []) (answer : Put) (same : LeavesText was now)
-        (told : now.session.calls ≡ was.session.calls ++ Send message answer ∷ []) (count : now.failed ≡ count_after was.failed (has_failed answer))
-        (coming : now.session.coming ≡ was.session.coming) (kept : now.session.leftover ≡ was.session.leftover) where
-      sent : CarriesOn scene.start now half.wire.input read (scene.before ++ x.text) (failures_by answer) (talk_in half view x.leftover (x.handed ++ taken_by message answer)) (spare_at half.session)
-      sent = talk_sent scene.start was now half.wire.input read (scene.before ++ x.text) 0 refl (talk_in half view x.leftover x.handed)
-          (talk_in half view x.leftover (x.handed ++ taken_by message answer)) (spare_at half.session) line same message answer told count coming kept refl refl refl refl
-          scene.frames (subst (λ (a : Answered). IsCarried a scene old view x.text x.leftover x.handed) opened x.carried).kept
-
+    module _ (now : LineState) (message : SentMessage) (adds_it : adds ≡ Message message ∷ []) (answer : Put) (sent : HasSent was now message answer) where
       carried : (result : Put) → answer ≡ result
           → CarriesOn scene.start now half.wire.input read (scene.before ++ x.text) (failures_by result) (talk_in half view x.leftover (x.handed ++ taken_by message result)) (spare_at half.session)
-      carried result is =
-          subst (λ (a : Put). CarriesOn scene.start now half.wire.input read (scene.before ++ x.text) (failures_by a) (talk_in half view x.leftover (x.handed ++ taken_by message a)) (spare_at half.session)) is sent
+      carried =
+          message_moved scene was old read view x (ap failures_at running) now (subst (λ (a : Answered). IsCarried a scene old view x.text x.leftover x.handed) opened x.carried) message answer sent
 
       -- the half after the answer
       answered_put : half.wire.out.items ≡ [] → (next : Session) → Carries (answer_of next) → rest_at half.session ≡ rest_at next → answer_to (said_in scene view ++ event ∷ []) ≡ answer_of next
@@ -283,11 +277,10 @@ module _ (scene : SessionScene) (was : LineState) (half : WebSocketHalf) (read :
         (unanswered_still (Cut NoMemory) x.text written) (falls_short written [] adds out refl, still_open)
 
     module _ (more : List ℕ) (adds_it : adds ≡ map Byte more) (now : LineState) (same_left : now.left ≡ was.left) (same_reads : now.reads ≡ was.reads) (same_session : now.session ≡ was.session) where
-      text_moved : (part : List ℕ) (failures : ℕ) → Appends was.written now.written part → RoseBy failures was.failed now.failed
+      moved : (part : List ℕ) (failures : ℕ) → Appends was.written now.written part → RoseBy failures was.failed now.failed
           → TriesWrites was.writes now.writes (length part) (how_wrote failures (length part))
           → CarriesOn scene.start now half.wire.input read (scene.before ++ (x.text ++ part)) failures (talk_in half view x.leftover x.handed) (spare_at half.session)
-      text_moved part failures appends rose tries =
-          talk_written scene.start was now half.wire.input read scene.before x.text part failures (talk_in half view x.leftover x.handed) (spare_at half.session) line silent.0.kept same_left same_reads same_session appends rose tries
+      moved = text_moved scene was old read view x (ap failures_at running) now silent.0.kept same_left same_reads same_session
 
       -- its first n bytes went out
       module _ (n : ℕ) (less : n < length more) (appends : Appends was.written now.written (take n more)) (rose : RoseBy 1 was.failed now.failed) (tries : TriesWrites was.writes now.writes n (wrote.Failed n)) where
@@ -302,7 +295,7 @@ module _ (scene : SessionScene) (was : LineState) (half : WebSocketHalf) (read :
             let out : part_out ≡ view.written ++ take n adds = as_text x.text (take n more) x.handed view.written silent.0.sent x.written ∙ ap (λ (l : List Output). view.written ++ l) part in
             let within : n < length adds = subst (λ (l : List Output). n < length l) (sym adds_it) (subst (λ (k : ℕ). n < k) (sym (length-map more Byte)) less) in
             spoken now half.leftover next (Cut (WriteFailed n)) (x.text ++ take n more) x.leftover x.handed (take n adds) (drop n adds) rest
-            (text_moved (take n more) 1 appends rose (tries_front was.writes now.writes n more less tries)) out (take-append-drop n adds) carried (stops n part_out within out, still_open)
+            (moved (take n more) 1 appends rose (tries_front was.writes now.writes n more less tries)) out (take-append-drop n adds) carried (stops n part_out within out, still_open)
 
         pub accept_cut : (written : List Output) × Invariant scene now (record half { stage = Cut (WriteFailed n) }) read (later written)
         accept_cut = cut_by half.session refl (unanswered_still (Cut (WriteFailed n)) (x.text ++ take n more) part_out)
@@ -322,7 +315,7 @@ module _ (scene : SessionScene) (was : LineState) (half : WebSocketHalf) (read :
         refusal_out empty becomes stage is =
             let by : answer_of refused ≡ Refused = answers_so to.Refused half.session unanswered in
             subst (λ (s : Stage). (w : List Output) × Invariant scene now (record half { session = refused; stage = s }) read (later w)) (sym is)
-            (spoken now half.leftover refused Running (x.text ++ more) x.leftover x.handed adds [] (same_rest to.Refused half.session) (text_moved more 0 appends rose tries) all_out (append-nil adds)
+            (spoken now half.leftover refused Running (x.text ++ more) x.leftover x.handed adds [] (same_rest to.Refused half.session) (moved more 0 appends rose tries) all_out (append-nil adds)
             (refused_still Running (x.text ++ more) whole_out)
             (goes_on empty half.leftover refused whole_out (becomes ∙ sym by) (λ e. absurd (refused_is_none (sym by ∙ e))) all_out
             (same_due to.Refused half.session view.offered view.arrived (is_by_input view.broken) at.0.due)))
@@ -332,23 +325,21 @@ module _ (scene : SessionScene) (was : LineState) (half : WebSocketHalf) (read :
             → (written : List Output) × Invariant scene now half read (later written)
         denial_out empty becomes stands =
             subst (λ (s : Stage). (w : List Output) × Invariant scene now (record half { stage = s }) read (later w)) (sym running)
-            (spoken now half.leftover half.session Running (x.text ++ more) x.leftover x.handed adds [] refl (text_moved more 0 appends rose tries) all_out (append-nil adds)
+            (spoken now half.leftover half.session Running (x.text ++ more) x.leftover x.handed adds [] refl (moved more 0 appends rose tries) all_out (append-nil adds)
             (unanswered_still Running (x.text ++ more) whole_out)
             (goes_on empty half.leftover half.session whole_out (becomes ∙ sym unanswered) (λ e. stands) all_out at.0.due))
 
         -- the line carries messages from here on
-        pub accept_out : said_in scene view ≡ [] → half.wire.out.items ≡ [] → (after : LineState) (leftover : _) → LeavesText now after → after.session.leftover ≡ kept_by now.session.leftover half.leftover.items → after.failed ≡ now.failed
-            → after.session.calls ≡ now.session.calls → after.session.coming ≡ now.session.coming
-            → answer_to (said_in scene view ++ event ∷ []) ≡ Open → (subprotocol : Option (List ℕ)) (headers : List HeaderField) → event ≡ WsAccept subprotocol headers
+        pub accept_out : said_in scene view ≡ [] → half.wire.out.items ≡ [] → (after : LineState) (leftover : _) → HasUpgraded now after half.leftover.items → answer_to (said_in scene view ++ event ∷ []) ≡ Open → (subprotocol : Option (List ℕ)) (headers : List HeaderField) → event ≡ WsAccept subprotocol headers
             → more ≡ handshake_of scene.facts subprotocol headers → (stage : Stage) → stage ≡ Running
             → (written : List Output) × Invariant scene after (record half { leftover = leftover; session = answered_with to.Accepted half.session; stage = stage }) read (later written)
-        accept_out first empty after leftover same kept count calls coming becomes subprotocol headers accepts text_is stage is =
+        accept_out first empty after leftover u becomes subprotocol headers accepts text_is stage is =
             let next : Session = answered_with to.Accepted half.session in
             let by : answer_of next ≡ Open = answers_so to.Accepted half.session unanswered in
             let none : x.text ≡ [] = no_text x.text x.handed (sym x.written ∙ (at.0.written ∙ ap (output_of (handshake_of scene.facts) scene.facts) first)) in
             let line_is : CarriesOn scene.start after half.wire.input read (scene.before ++ (x.text ++ more)) 0 (talk_in half view (Some scene.frames) x.handed) (spare_at half.session) =
             talk_upgraded scene.start now after half.wire.input read (scene.before ++ (x.text ++ more)) 0 refl (talk_in half view x.leftover x.handed) (talk_in half view (Some scene.frames) x.handed)
-            (spare_at half.session) (text_moved more 0 appends rose tries) same half.leftover.items silent.0.kept kept count calls coming (ap (λ (l : List ℕ). Some l) (sym silent.1)) refl refl refl in
+            (spare_at half.session) (moved more 0 appends rose tries) u.text half.leftover.items silent.0.kept u.keeps u.count u.calls u.coming (ap (λ (l : List ℕ). Some l) (sym silent.1)) refl refl refl in
             let carried : IsCarrying scene (later whole_out) (x.text ++ more) (Some scene.frames) = record {
               kept = refl;
               subprotocol = subprotocol;
@@ -366,30 +357,28 @@ module _ (scene : SessionScene) (was : LineState) (half : WebSocketHalf) (read :
 -- ---- a payload, and a close
 
 module _ (scene : SessionScene) (was now : LineState) (half : WebSocketHalf) (read : List ℕ) (view : ConnView Msg Output) (before : Judge) (x : Invariant scene was (record half { judge = before }) read view)
-    (running : half.stage ≡ Running) (answer : Put) (same : LeavesText was now) (count : now.failed ≡ count_after was.failed (has_failed answer))
-    (coming : now.session.coming ≡ was.session.coming) (kept : now.session.leftover ≡ was.session.leftover) where
+    (running : half.stage ≡ Running) (answer : Put) where
   pub payload_sent : (payload : Payload) → passes WebSocket scene.facts (said_in scene view) (WsSend payload) ≡ true
-      → judging.StandsFor half.judge WebSocket scene.facts (said_in scene view ++ WsSend payload ∷ []) false
-      → now.session.calls ≡ was.session.calls ++ Send (item.Payload payload) answer ∷ [] → (stage : Stage) → stage ≡ stage_of answer
+      → judging.StandsFor half.judge WebSocket scene.facts (said_in scene view ++ WsSend payload ∷ []) false → HasSent was now (item.Payload payload) answer → (stage : Stage) → stage ≡ stage_of answer
       → (written : List Output) × Invariant scene now (record half { stage = stage }) read (record view { got = view.got ++ Event (WsSend payload) ∷ []; written = written })
-  payload_sent payload pass judged told stage is =
+  payload_sent payload pass judged sent =
       let s = send_is_in_session scene.facts (said_in scene view) payload pass in
       sent_on scene was half read view before half.text half.wire.out x running (WsSend payload) pass judged
       (is_open scene was half read view before half.text half.wire.out x running (WsSend payload) pass judged s)
       now (item.Payload payload) (ap (λ (l : List Outgoing). event_output (handshake_of scene.facts) scene.facts l (WsSend payload)) s.3)
-      answer same told count coming kept (runs scene was (record half { judge = before }) read view x running).0.empty (open_after_send scene.facts (said_in scene view) payload pass) stage is
+      answer sent (runs scene was (record half { judge = before }) read view x running).0.empty (open_after_send scene.facts (said_in scene view) payload pass)
 
   pub close_sent : (code : ℕ) (reason : List ℕ) → passes WebSocket scene.facts (said_in scene view) (WsClose code reason) ≡ true
-      → judging.StandsFor half.judge WebSocket scene.facts (said_in scene view ++ WsClose code reason ∷ []) false → answer_of half.session ≡ Open → (rest : Option ℕ) → rest ≡ rest_at half.session
-      → (copy : List ℕ) → copy ≡ reason → now.session.calls ≡ was.session.calls ++ Send (item.Close code copy) answer ∷ [] → (stage : Stage) → stage ≡ stage_of answer
+      → judging.StandsFor half.judge WebSocket scene.facts (said_in scene view ++ WsClose code reason ∷ []) false → answer_of half.session ≡ Open
+      → (copy : List ℕ) → copy ≡ reason → HasSent was now (item.Close code copy) answer → (rest : Option ℕ) → rest ≡ rest_at half.session → (stage : Stage) → stage ≡ stage_of answer
       → (written : List Output)
       × Invariant scene now (record half { session = session.Closed Application rest; stage = stage }) read (record view { got = view.got ++ Event (WsClose code reason) ∷ []; written = written })
-  close_sent code reason pass judged opened rest same_as copy copied told stage is =
+  close_sent code reason pass judged opened copy copied sent =
       let t = runs scene was (record half { judge = before }) read view x running in
       let s = open_is_accepted (said_in scene view) (sym t.0.answered ∙ opened) in
       closed_by scene was half read view before half.text half.wire.out x running (WsClose code reason) pass judged opened
       now (item.Close code reason) (ap (λ (l : List Outgoing). event_output (handshake_of scene.facts) scene.facts l (WsClose code reason)) s.3)
-      answer same (told ∙ ap (λ (r : List ℕ). was.session.calls ++ Send (item.Close code r) answer ∷ []) copied) count coming kept t.0.empty (closed_after_close scene.facts (said_in scene view) code reason s.0 s.1 s.2 s.3 pass) rest same_as stage is
+      answer (subst (λ (r : List ℕ). HasSent was now (item.Close code r) answer) copied sent) t.0.empty (closed_after_close scene.facts (said_in scene view) code reason s.0 s.1 s.2 s.3 pass)
 
 -- ---- a close in place of an accept
 
@@ -413,17 +402,20 @@ module _ (scene : SessionScene) (was now : LineState) (half : WebSocketHalf) (re
   adds_refusal =
       ap (λ (l : List Outgoing). event_output (handshake_of scene.facts) scene.facts l (WsClose code reason)) unsaid ∙ ap (λ (l : List ℕ). map Byte l) (sym text_is)
 
-  pub refused_whole : Appends was.written now.written text → RoseBy 0 was.failed now.failed → TriesWrites was.writes now.writes (length text) wrote.Done
-      → (written : List Output) × Invariant scene now (record half { session = answered_with to.Refused half.session }) read (record view { got = view.got ++ Event (WsClose code reason) ∷ []; written = written })
-  refused_whole appends rose tries =
-      refusal_out scene was half read view before half.text half.wire.out x running (WsClose code reason) pass judged unanswered_yet text adds_refusal now same_left same_reads same_session appends rose tries before_it.empty
-      (ap (λ (l : List Outgoing). answer_to (l ++ WsClose code reason ∷ [])) unsaid) half.stage running
+  module _ (new : WebSocketHalf) (same : new ≡ record half { session = answered_with to.Refused half.session }) where
+    pub refused_whole : Appends was.written now.written text → RoseBy 0 was.failed now.failed → TriesWrites was.writes now.writes (length text) wrote.Done
+        → (written : List Output) × Invariant scene now new read (record view { got = view.got ++ Event (WsClose code reason) ∷ []; written = written })
+    refused_whole appends rose tries =
+        subst (λ (h : WebSocketHalf). (written : List Output) × Invariant scene now h read (record view { got = view.got ++ Event (WsClose code reason) ∷ []; written = written })) (sym same)
+        (refusal_out scene was half read view before half.text half.wire.out x running (WsClose code reason) pass judged unanswered_yet text adds_refusal now same_left same_reads same_session appends rose tries before_it.empty
+        (ap (λ (l : List Outgoing). answer_to (l ++ WsClose code reason ∷ [])) unsaid) half.stage running)
 
-  pub refused_part : (n : ℕ) → n < length text → Appends was.written now.written (take n text) → RoseBy 1 was.failed now.failed → TriesWrites was.writes now.writes n (wrote.Failed n)
-      → (written : List Output)
-      × Invariant scene now (record half { session = answered_with to.Refused half.session; stage = Cut (WriteFailed n) }) read (record view { got = view.got ++ Event (WsClose code reason) ∷ []; written = written })
-  refused_part n less appends rose tries =
-      refusal_cut scene was half read view before half.text half.wire.out x running (WsClose code reason) pass judged unanswered_yet text adds_refusal now same_left same_reads same_session n less appends rose tries
+    pub refused_part : (n : ℕ) → n < length text → Appends was.written now.written (take n text) → RoseBy 1 was.failed now.failed → TriesWrites was.writes now.writes n (wrote.Failed n)
+        → (written : List Output) × Invariant scene now (record new { stage = Cut (WriteFailed n) }) read (record view { got = view.got ++ Event (WsClose code reason) ∷ []; written = written })
+    refused_part n less appends rose tries =
+        subst (λ (h : WebSocketHalf). (written : List Output) × Invariant scene now (record h { stage = Cut (WriteFailed n) }) read (record view { got = view.got ++ Event (WsClose code reason) ∷ []; written = written }))
+        (sym same)
+        (refusal_cut scene was half read view before half.text half.wire.out x running (WsClose code reason) pass judged unanswered_yet text adds_refusal now same_left same_reads same_session n less appends rose tries)
 
 -- ---- an accept
 
@@ -465,14 +457,13 @@ module _ (scene : SessionScene) (was : LineState) (half : WebSocketHalf) (read :
         accept_cut scene was half read view before half.text half.wire.out x running event pass judged not_answered text (adds_handshake text text_is) now same_left same_reads same_session n less appends rose tries
 
     pub accepted : Appends was.written now.written text → RoseBy 0 was.failed now.failed → TriesWrites was.writes now.writes (length text) wrote.Done
-        → (after : LineState) (new : WebSocketHalf) (bytes : List ℕ) → LeavesText now after → after.session.leftover ≡ kept_by now.session.leftover bytes → bytes ≡ half.leftover.items
-        → after.failed ≡ now.failed
-        → after.session.calls ≡ now.session.calls → after.session.coming ≡ now.session.coming
-        → (written : List Output)
-        × Invariant scene after (record half { leftover = new.leftover; session = answered_with to.Accepted half.session }) read (record view { got = view.got ++ Event event ∷ []; written = written })
-    accepted appends rose tries after new bytes same kept bytes_are count calls coming =
+        → (after : LineState) (leftover : _) (bytes : List ℕ) → bytes ≡ half.leftover.items → HasUpgraded now after bytes
+        → (new : WebSocketHalf) → new ≡ record half { leftover = leftover; session = answered_with to.Accepted half.session }
+        → (written : List Output) × Invariant scene after new read (record view { got = view.got ++ Event event ∷ []; written = written })
+    accepted appends rose tries after leftover bytes bytes_are u new new_is =
         let a = accept_of event accepts in
-        accept_out scene was half read view before half.text half.wire.out x running event pass judged not_answered text (adds_handshake text text_is) now same_left same_reads same_session appends rose tries
-        none_before talks_before.empty after new.leftover same (kept ∙ ap (λ (l : List ℕ). kept_by now.session.leftover l) bytes_are) count calls coming
+        subst (λ (h : WebSocketHalf). (written : List Output) × Invariant scene after h read (record view { got = view.got ++ Event event ∷ []; written = written })) (sym new_is)
+        (accept_out scene was half read view before half.text half.wire.out x running event pass judged not_answered text (adds_handshake text text_is) now same_left same_reads same_session appends rose tries
+        none_before talks_before.empty after leftover (subst (λ (l : List ℕ). HasUpgraded now after l) bytes_are u)
         (ap (λ (l : List Outgoing). answer_to (l ++ event ∷ [])) none_before ∙ ap (λ (e : Outgoing). answer_to (e ∷ [])) a.2)
-        a.0 a.1 a.2 (text_is ∙ (ap (λ (f : Facts). accept_text f event) x.fixed.facts_are ∙ ap (λ (e : Outgoing). accept_text scene.facts e) a.2)) half.stage running
+        a.0 a.1 a.2 (text_is ∙ (ap (λ (f : Facts). accept_text f event) x.fixed.facts_are ∙ ap (λ (e : Outgoing). accept_text scene.facts e) a.2)) half.stage running)

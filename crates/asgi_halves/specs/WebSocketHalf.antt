@@ -366,6 +366,12 @@ stage_of put.Done = Running
 stage_of put.Failed = Cut (WriteFailed 0)
 stage_of put.NoMemory = Cut NoMemory
 
+-- how the connection ends after the last close was handed over
+abbrev pub outcome_of : Put → Outcome
+outcome_of put.Done = Finished
+outcome_of put.Failed = WriteFailed 0
+outcome_of put.NoMemory = NoMemory
+
 -- what a message makes due
 abbrev pub heard_by : WebSocketHalf → Msg → WebSocketHalf
 heard_by half (Text text) = record half { session = session.Begun to.Accepted (Some (WsReceive (payload.Text text))) }

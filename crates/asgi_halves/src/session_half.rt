@@ -10,7 +10,7 @@ ghost use Rattle.asgi_exchange.specs.Views.{empty_conn};
 ghost use Rattle.asgi_conversation.specs.declared.following.NextStep.{NextStep};
 ghost use Rattle.asgi_conversation.specs.declared.following.NextStep.TheVariants.{ConnectionEnds};
 ghost use Rattle.asgi_ws.specs.Lines.{LineState};
-ghost use Rattle.asgi_halves.specs.WebSocketHalf.{SessionScene, Invariant, OpensSession, PreservesByEnd, PreservesByLine, Says, Speaks, IsUnended, MayDrop, NoneDue, Rests, IsAccept, IsDenial, answer_of, answered_with, due_at, heard_by, lost_by, noted_by, reads_at, rest_after, rest_at, stage_of};
+ghost use Rattle.asgi_halves.specs.WebSocketHalf.{SessionScene, Invariant, OpensSession, PreservesByEnd, PreservesByLine, Says, Speaks, IsUnended, MayDrop, NoneDue, Rests, IsAccept, IsDenial, answer_of, answered_with, due_at, heard_by, lost_by, noted_by, outcome_of, reads_at, rest_after, rest_at, stage_of};
 ghost use Rattle.asgi_halves.specs.Kinds.{IsShut, IsTurnOfOneRead, IsTurnOfRead, OffersAll, ReadsNone, turn_by};
 ghost use Rattle.asgi_halves.specs.private.HalfSteps.{OffersOne};
 ghost use Rattle.asgi_ws.specs.declared.messages.Msg.{Msg};
@@ -544,11 +544,7 @@ impl WebSocketHalf {
         ensures leads { PreservesByLine (L.state line.old) self.old (L.state line.new) (record self.new { stage = Stage.Over (NextStep.ConnectionEnds result) }) }
     {
         self.session = Session::Closed(Side::Application, self.rest());
-        match line.send_close(code, no_reason()) {
-            Put::Failed => Outcome::WriteFailed(0),
-            Put::NoMemory => Outcome::NoMemory,
-            Put::Done => Outcome::Finished,
-        }
+        outcome_after(line.send_close(code, no_reason()))
     }
 }
 
@@ -618,6 +614,17 @@ fn stage_after(put: Put) -> Stage
         Put::Done => Stage::Running,
         Put::Failed => Stage::Cut(Outcome::WriteFailed(0)),
         Put::NoMemory => Stage::Cut(Outcome::NoMemory),
+    }
+}
+
+/// How the connection ends after the last close was handed over.
+fn outcome_after(put: Put) -> Outcome
+    ensures { result ≡ outcome_of put }
+{
+    match put {
+        Put::Failed => Outcome::WriteFailed(0),
+        Put::NoMemory => Outcome::NoMemory,
+        Put::Done => Outcome::Finished,
     }
 }
 

@@ -1,34 +1,14 @@
 use Rattle.asgi_ws.specs.declared.messages.SentMessage.TheVariants as item
 use Rattle.asgi_halves.proofs.LineCallLemmas.{has_sent}
-use Rattle.asgi_halves.proofs.SessionEndLemmas.{close_done, close_failed, close_short}
+use Rattle.asgi_halves.proofs.SessionEndLemmas.{closed_last}
 use Rattle.asgi_halves.proofs.session_half.WebSocketHalf.close_last.Goals as goal
 
-pub returns-in-Failed : goal.returns-in-Failed
-returns-in-Failed g c = record {
+pub returns : goal.returns
+returns g c = record {
   leads = λ scene read view x.
       let call = c.send_close.ensures in
-      close_failed scene (g.L.Line.state c.args.line.now) c.args.self.now read view x c.args.code c.requires.ending c.requires.open c.requires.stays c.rest.result c.rest.ensures c.no_reason.result c.no_reason.ensures
+      closed_last scene (g.L.Line.state c.args.line.now) c.args.self.now read view x c.args.code c.requires.ending c.requires.open c.requires.stays c.rest.result c.rest.ensures c.no_reason.result c.no_reason.ensures
       (g.L.Line.state c.send_close.new.self) c.send_close.result
       (has_sent g.L.Line g.L.Reads g.L.Counts g.L.Messages g.met.L.Line.state_is c.args.line.now c.send_close.new.self (item.Close c.args.code c.no_reason.result) c.send_close.result call.told call.counts call.same call.text)
-      c.in-Failed.is;
-}
-
-pub returns-in-NoMemory : goal.returns-in-NoMemory
-returns-in-NoMemory g c = record {
-  leads = λ scene read view x.
-      let call = c.send_close.ensures in
-      close_short scene (g.L.Line.state c.args.line.now) c.args.self.now read view x c.args.code c.requires.ending c.requires.open c.requires.stays c.rest.result c.rest.ensures c.no_reason.result c.no_reason.ensures
-      (g.L.Line.state c.send_close.new.self) c.send_close.result
-      (has_sent g.L.Line g.L.Reads g.L.Counts g.L.Messages g.met.L.Line.state_is c.args.line.now c.send_close.new.self (item.Close c.args.code c.no_reason.result) c.send_close.result call.told call.counts call.same call.text)
-      c.in-NoMemory.is;
-}
-
-pub returns-in-Done : goal.returns-in-Done
-returns-in-Done g c = record {
-  leads = λ scene read view x.
-      let call = c.send_close.ensures in
-      close_done scene (g.L.Line.state c.args.line.now) c.args.self.now read view x c.args.code c.requires.ending c.requires.open c.requires.stays c.rest.result c.rest.ensures c.no_reason.result c.no_reason.ensures
-      (g.L.Line.state c.send_close.new.self) c.send_close.result
-      (has_sent g.L.Line g.L.Reads g.L.Counts g.L.Messages g.met.L.Line.state_is c.args.line.now c.send_close.new.self (item.Close c.args.code c.no_reason.result) c.send_close.result call.told call.counts call.same call.text)
-      c.in-Done.is;
+      c.outcome_after.result c.outcome_after.ensures;
 }

@@ -1,7 +1,6 @@
 use Rattle.std.proofs.Common.{refl, sym, ◌∙◌}
 use Rattle.asgi_halves.specs.WebSocketHalf.{said_in}
 use Rattle.asgi_halves.proofs.SessionDenyLemmas.{from_ok, text_before, denied_whole, denied_part, denied_short}
-use Rattle.asgi_halves.proofs.TurnLemmas.{writing_reads_none}
 use Rattle.asgi_halves.proofs.session_half.WebSocketHalf.deny.Goals as goal
 
 pub returns-then-is_err-clause-speaks : goal.returns-then-is_err-clause-speaks
@@ -35,9 +34,3 @@ returns-in_default-clause-speaks g c scene read view before x pass judged =
     (from_ok c.take.result ok c.take.ensures.denial scene.facts (said_in scene view) old judged.lawful)
     (from_ok c.take.result ok c.take.ensures.denial_text scene.facts (said_in scene view) old judged.lawful)
     c.put.ensures.reads.0 c.put.ensures.reads.1 c.put.ensures.session c.put.new.self c.put.ensures.same c.put.ensures.empty wrote.0 wrote.1 c.in_default.ensures.tries
-
-pub returns-in-Some-clause-unread : goal.returns-in-Some-clause-unread
-returns-in-Some-clause-unread g c = writing_reads_none (g.L.Line.state c.args.line.now) (g.L.Line.state c.put.new.line) c.put.ensures.reads.1 c.put.ensures.session
-
-pub returns-in_default-clause-unread : goal.returns-in_default-clause-unread
-returns-in_default-clause-unread g c = writing_reads_none (g.L.Line.state c.args.line.now) (g.L.Line.state c.put.new.line) c.put.ensures.reads.1 c.put.ensures.session

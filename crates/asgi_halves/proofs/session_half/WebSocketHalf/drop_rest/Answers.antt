@@ -1,7 +1,7 @@
 use Rattle.std.proofs.Common.{◌∙◌, refl, subst, sym}
 use Rattle.asgi_halves.specs.declared.stage.Stage.{Stage}
 use Rattle.asgi_halves.specs.WebSocketHalf.{MayDrop}
-use Rattle.asgi_halves.proofs.SessionReadLemmas.{drops_in, out_none, out_then}
+use Rattle.asgi_halves.proofs.SessionReadLemmas.{out_none, out_then}
 use Rattle.asgi_halves.proofs.session_half.WebSocketHalf.drop_rest.Goals as goal
 
 pub loop-read-init : goal.loop-read-init
@@ -10,12 +10,6 @@ loop-read-init g c = record {
   may = c.requires.may;
   stage = refl;
 }
-
-pub drop_one-turn-requires-clause-closed : goal.drop_one-turn-requires-clause-closed
-drop_one-turn-requires-clause-closed g c = (drops_in c.loop-read.self.session c.in-Drops.side c.in-Drops.spare (sym c.reading.ensures ∙ c.in-Drops.is)).0
-
-pub drop_one-turn-requires-clause-spare : goal.drop_one-turn-requires-clause-spare
-drop_one-turn-requires-clause-spare g c = (drops_in c.loop-read.self.session c.in-Drops.side c.in-Drops.spare (sym c.reading.ensures ∙ c.in-Drops.is)).1
 
 pub loop-read-preserved : goal.loop-read-preserved
 loop-read-preserved g c = record {

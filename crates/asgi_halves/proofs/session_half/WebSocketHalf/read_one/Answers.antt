@@ -1,10 +1,9 @@
-use Rattle.std.proofs.Common.{◌++◌, subst, sym, ◌∙◌}
+use Rattle.std.proofs.Common.{◌++◌, subst, sym}
 use Rattle.asgi_ws.specs.Sessions.{given_by}
-use Rattle.asgi_halves.specs.Kinds.{IsShut}
 use Rattle.asgi_halves.specs.declared.session_half.WebSocketHalf.{WebSocketHalf}
 use Rattle.asgi_halves.specs.WebSocketHalf.{Invariant}
 use Rattle.asgi_halves.proofs.LineCallLemmas.{has_read, turn_of_message}
-use Rattle.asgi_halves.proofs.SessionReadLemmas.{keeps_if_idle, moves_if_shut, noted}
+use Rattle.asgi_halves.proofs.SessionReadLemmas.{noted}
 use Rattle.asgi_halves.proofs.session_half.WebSocketHalf.read_one.Goals as goal
 
 pub returns-clause-leads : goal.returns-clause-leads
@@ -23,10 +22,3 @@ returns-clause-turn g c =
     let r = c.read_message-got.ensures in
     turn_of_message ⊥ (g.L.Line.state c.args.line.now) (g.L.Line.state c.read_message-got.new.self) c.read_message-got.result c.note.result
     (has_read g.L.Line g.L.Reads g.L.Counts g.L.Messages g.met.L.Line.state_is c.args.line.now c.read_message-got.new.self c.read_message-got.result r.told r.coming.0 r.counts r.same r.text) c.note.ensures.turn
-
-pub returns-clause-keeps : goal.returns-clause-keeps
-returns-clause-keeps g c idle = c.note.ensures.noted ∙ keeps_if_idle c.args.self.now c.read_message-got.result c.note.result c.note.ensures.turn idle
-
-pub returns-clause-moves : goal.returns-clause-moves
-returns-clause-moves g c shut =
-    moves_if_shut c.args.self.now c.read_message-got.result c.note.result c.requires.running c.note.ensures.turn (subst (λ (h : WebSocketHalf). IsShut h.stage) c.note.ensures.noted shut)

@@ -1,10 +1,6 @@
-use Rattle.std.proofs.Common.{◌∙◌}
 use Rattle.asgi_halves.proofs.SessionKindLemmas as law
 use Rattle.asgi_halves.proofs.session_half.WebSocketHalfExchangeKind.read_on.Goals as goal
 
 pub returns-clause-leads : goal.returns-clause-leads
 returns-clause-leads g c =
     law.alone (g.L.Line.state c.args.line.now) (g.L.Line.state c.read.new.line) c.args.self.now c.read.new.self c.read.ensures.leads
-
-pub returns-clause-keeps : goal.returns-clause-keeps
-returns-clause-keeps g c idle none = c.read.ensures.keeps idle ∙ none
