@@ -1,8 +1,8 @@
 -- What the half's end of the pair gives it, in an exchange of any kind.
 use Rattle.asgi_halves.proofs.HalfWords.{◌≡◌, ℕ, ◌+◌, ◌<◌, arith, length, length-append, Bool, true, false, List, [], ◌∷◌, ◌++◌, refl, sym, ap, ◌∙◌, subst, inl, inr, append-nil, Option, Some, None}
 use Rattle.asgi_halves.proofs.HalfWords.{count_by, ◌⊎◌, not, is_some, EndKind, OutItem, IsViewOf, Break, ByCut, ConnView, LineState, is_read, Incoming, Turn, NextStep, Stage, HasEnded, HasGrown}
-use Rattle.asgi_halves.proofs.HalfWords.{IsCutOff, IsTurnOfRead, NoRead, OfBytes, OfMessage, ReadsNone, TakesNone, ConnGhosts}
-use Rattle.asgi_halves.specs.Kinds.{AwaitsEnd, HasRested, HasWorked, IsOneMore, OffersAll, OffersMost}
+use Rattle.asgi_halves.proofs.HalfWords.{IsCutOff, IsTurnOfRead, OfBytes, OfMessage, ReadsNone, TakesNone, ConnGhosts}
+use Rattle.asgi_halves.specs.Kinds.{AwaitsEnd, HasRested, HasWorked, IsOneMore, NoRead, OffersAll, OffersMost}
 use Rattle.asgi_ws.specs.Sides.{Session}
 use Rattle.std.specs.Prelude.{IsFalse, IsTrue}
 

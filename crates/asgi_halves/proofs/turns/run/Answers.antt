@@ -1,6 +1,6 @@
-use Rattle.asgi_halves.proofs.HalfWords.{inl, inr, refl, subst, leads_then, leads_out, LineState, IsTurnOfRead, rules}
+use Rattle.asgi_halves.proofs.HalfWords.{inl, inr, subst, leads_then, leads_out, LineState, IsTurnOfRead, rules}
 use Rattle.asgi_run.proofs.LeadsLemmas.{taken_and_offered}
-use Rattle.asgi_halves.proofs.TurnLemmas.{all_offered, all_taken, ended_awaits_none, ended_not_running, most_offered, not_worked, rested, worked}
+use Rattle.asgi_halves.proofs.TurnLemmas.{all_offered, all_taken, ended_awaits_none, ended_not_running, not_worked, rested, worked}
 use Rattle.asgi_halves.proofs.turns.run.Goals as goal
 
 pub returns-in-Ending : goal.returns-in-Ending
@@ -21,18 +21,6 @@ returns-then-ne-2-clause-leads g c = taken_and_offered g.K.ExchangeKind.stands _
 
 pub returns-then-took-clause-leads : goal.returns-then-took-clause-leads
 returns-then-took-clause-leads g c = taken_and_offered g.K.ExchangeKind.stands _ _ _ _ _ _ _ _ c.take_all-took.ensures.leads c.offer_due-offered.ensures.leads
-
-pub returns-then-took-clause-runs : goal.returns-then-took-clause-runs
-returns-then-took-clause-runs g c is =
-    let took = c.take_all-took.ensures in
-    let offered = c.offer_due-offered.ensures in
-    inl (worked g.C.ConnEnd _ c.take_all-took.new.end _ c.take_all-took.result c.offer_due-offered.result _ took.grown took.offered offered.taken offered.grown c.then-took.either, refl)
-
-pub returns-then-took-clause-all : goal.returns-then-took-clause-all
-returns-then-took-clause-all g c = all_taken g.C.ConnEnd c.take_all-took.new.end _ _ _ _ c.offer_due-offered.ensures.taken (λ other. other (search rules)) c.take_all-took.ensures.all
-
-pub returns-then-took-clause-offers : goal.returns-then-took-clause-offers
-returns-then-took-clause-offers g c is done = most_offered g.C.ConnEnd _ c.take_all-took.new.end _ _ c.offer_due-offered.result _ c.take_all-took.ensures.offered (c.offer_due-offered.ensures.all is)
 
 pub returns : goal.returns
 returns g c =
