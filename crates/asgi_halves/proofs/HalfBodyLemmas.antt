@@ -1,8 +1,8 @@
 -- What the connection's half knows of the body: what the reader gave of it, and what was offered.
 use Rattle.asgi_halves.proofs.HalfWords.{◌≡◌, ◌≢◌, ℕ, true, false, List, [], ◌∷◌, ◌++◌, map, refl, sym, ap, ◌∙◌, subst, inl, inr, append_assoc, Option, Some, None, Bool, ◌⊎◌, IsPrefix, Facts}
 use Rattle.asgi_halves.proofs.HalfWords.{Framing, Incoming, Scope, Next, body_events, body_state, BodyState, complete, HasOpened, Reading, StandsFor, Break, ByInput, ByCut, is_by_input, is_by_cut}
-use Rattle.asgi_halves.proofs.HalfWords.{BodyProgress, InputEnd, Input, HasGiven, BreaksAt, GaveNext, has_ended, is_faulty, input_of, IsSettled, known_input, body_is_read, partial, faulty}
-use Rattle.asgi_halves.proofs.HalfWords.{ReadsBody}
+use Rattle.asgi_halves.proofs.HalfWords.{BodyProgress, InputEnd, Input, HasGiven, BreaksAt, has_ended, is_faulty, input_of, IsSettled, known_input, body_is_read, partial, faulty, ReadsBody}
+use Rattle.asgi_halves.proofs.HalfWords.{GaveNext}
 use Rattle.asgi_request.proofs.{DueLemmas.OpensAt, DueLemmas.bad_is_faulty, DueLemmas.events_are_due, DueLemmas.need_is_partial, DueLemmas.no_head as none_inside, DueLemmas.whole_is_complete}
 use Rattle.asgi_request.proofs.{OpenedLemmas.opened_at, OpenedLemmas.opened_plain, RefusalLemmas.refused_last}
 use Rattle.asgi_request.specs.{Reading.AllGiven, Reading.GoesOn, Reading.IsRefused, Refusals.status_of}

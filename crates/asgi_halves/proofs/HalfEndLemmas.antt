@@ -8,7 +8,7 @@ use Rattle.asgi_conversation.proofs.NextLemmas.{next_on}
 use Rattle.asgi_conversation.specs.{ExchangeRecord.Ending, OutcomeClasses.cuts_exchange, OutcomeClasses.is_cut, Persistence.InHand, TaskEnds.after_response, TaskEnds.after_task, TaskEnds.incomplete}
 use Rattle.asgi_conversation.specs.{TaskEnds.kept, TaskEnds.unanswered}
 use Rattle.asgi_exchange.specs.{ExchangeTexts.text_of, Halves.ConnKeeps}
-use Rattle.asgi_halves.specs.{Half.Leaves, Traffic.failures_of, private.HalfSteps.GivesOn, private.HalfSteps.IsFree, private.HalfSteps.NeedsBody}
+use Rattle.asgi_halves.specs.{Half.Leaves, Traffic.failures_of, private.HalfSteps.GivesOn, private.HalfSteps.NeedsBody}
 use Rattle.asgi_response.proofs.EndLemmas.{nothing_added}
 use Rattle.asgi_response.specs.{Exchange.added_by_end, Exchange.end_text, Progress.progress_of, declared.progress.Progress.Progress}
 use Rattle.std.specs.Prelude.{⊤}
@@ -16,10 +16,6 @@ use Rattle.asgi_halves.proofs.{HalfLemmas.unfailed, HalfLemmas.restage, HalfLemm
 use Rattle.asgi_halves.proofs.{HalfLemmas.moved_on, HalfLemmas.failed_at, HalfBodyLemmas.state_by}
 
 -- ---- what is dropped
-
-pub free_of : (b : BodyProgress) → ((event : Incoming) → b ≡ BodyProgress.Waits event → ⊥) → IsFree b
-free_of (BodyProgress.Waits event) none = none event refl
-free_of _ none = tt
 
 -- the events that were dropped
 pub record Dropped (old new : HttpHalf) : Type 0 where

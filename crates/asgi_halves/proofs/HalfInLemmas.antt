@@ -1,10 +1,9 @@
 -- The steps of the connection's half on its input: it reads, and offers what is due.
 use Rattle.asgi_halves.proofs.HalfWords.{◌≡◌, ℕ, true, false, List, [], ◌∷◌, ◌++◌, map, refl, sym, ap, ◌∙◌, subst, Option, Some, None, Bool, ◌⊎◌, ◌≤◌, length, IsPrefix, Incoming, Limits, Next}
 use Rattle.asgi_halves.proofs.HalfWords.{body_events, body_state, Reading, StandsFor, IsViewOf, IsOffered, http, Break, ByInput, ConnView, prefix_trans, BodyProgress, HttpHalf, Stage, InputEnd}
-use Rattle.asgi_halves.proofs.HalfWords.{Outcome, Wire, Scene, Invariant, requests_in, IsRunning, HasGiven, EndsWhere, BreaksAt, KeepsBesidesBody, GivesAfter, HasAsked, HoldsFew, IsNoneDue, ReadsAt}
-use Rattle.asgi_halves.proofs.HalfWords.{LineState, Transferred, piece_size, ReadsAhead, has_ended, is_faulty, ConnGhosts, IsAt, NextStep, end_of, failures_at, EndKind, inr, Talks}
+use Rattle.asgi_halves.proofs.HalfWords.{Outcome, Wire, Scene, Invariant, requests_in, IsRunning, HasGiven, EndsWhere, BreaksAt, KeepsBesidesBody, GivesAfter, HasAsked, HoldsFew, ReadsAt, LineState}
+use Rattle.asgi_halves.proofs.HalfWords.{Transferred, piece_size, ReadsAhead, has_ended, is_faulty, ConnGhosts, IsAt, NextStep, end_of, failures_at, EndKind, inr, Talks}
 use Rattle.asgi_exchange.proofs.HttpLemmas.{http_is_steady}
-use Rattle.asgi_halves.specs.private.HalfSteps.{EndsAtInput}
 use Rattle.asgi_halves.proofs.{HalfBodyLemmas.unbroken, HalfBodyLemmas.first_due, HalfBodyLemmas.all_due, HalfBodyLemmas.why_broken, HalfLemmas.running_of, HalfLemmas.unfailed}
 use Rattle.asgi_halves.proofs.{ReadAheadLemmas.reads_in, ReadAheadLemmas.within_reads, HalfLemmas.restage, HalfLemmas.lacks, HalfLemmas.talks_on, HalfLemmas.opens_in, HalfLemmas.all_written}
 
@@ -89,12 +88,6 @@ module _ {scene : Scene} {now : LineState} {half : HttpHalf} {read : List ℕ} {
         breaks = λ e. subst (λ (l : Limits). (has_ended half.wire.input ≡ true) ⊎ (is_faulty (body_state l scene.facts.framing view.arrived) ≡ true)) x.limits why;
         stage = subst (λ (s : Stage). IsAt s scene (record half { input_broke = true }) read later) (sym is) (record { talks = talks; unended = r.unended; offered = λ e. cc });
       }
-
--- before that none is due
-pub none_due_before : (body : BodyProgress) (end : InputEnd) (reader : Reading) → EndsAtInput body → has_ended end ≡ false → IsNoneDue body end reader
-none_due_before BodyProgress.Whole end reader ends is = is
-none_due_before BodyProgress.BrokenOff end reader ends is = is
-none_due_before _ end reader ends is = absurd ends
 
 -- ---- a read
 

@@ -1,8 +1,8 @@
 -- What the half's end of the pair gives it, in an exchange of any kind.
-use Rattle.asgi_halves.proofs.HalfWords.{◌≡◌, ℕ, ◌+◌, ◌<◌, arith, length, length-append, Bool, true, false, List, [], ◌∷◌, ◌++◌, refl, sym, ap, ◌∙◌, subst, inl, inr, append-nil, Option, Some, None}
-use Rattle.asgi_halves.proofs.HalfWords.{count_by, ◌⊎◌, not, is_some, EndKind, OutItem, IsViewOf, Break, ByCut, ConnView, LineState, is_read, Incoming, Turn, NextStep, Stage, HasEnded, HasGrown}
-use Rattle.asgi_halves.proofs.HalfWords.{IsCutOff, IsTurnOfRead, NoRead, OfBytes, OfMessage, ReadsNone, TakesNone, ConnGhosts}
-use Rattle.asgi_halves.specs.Kinds.{AwaitsEnd, HasRested, HasWorked, IsOneMore, OffersAll, OffersMost}
+use Rattle.asgi_halves.proofs.HalfWords.{◌≡◌, ℕ, ◌+◌, arith, length, length-append, Bool, true, false, List, [], ◌∷◌, ◌++◌, refl, sym, ap, ◌∙◌, subst, inl, inr, append-nil, Option, Some, None}
+use Rattle.asgi_halves.proofs.HalfWords.{count_by, ◌⊎◌, not, is_some, EndKind, OutItem, IsViewOf, Break, ByCut, ConnView, LineState, is_read, Incoming, Turn, NextStep, Stage, HasGrown, IsCutOff}
+use Rattle.asgi_halves.proofs.HalfWords.{IsTurnOfRead, OfBytes, OfMessage, ReadsNone, TakesNone, ConnGhosts}
+use Rattle.asgi_halves.specs.Kinds.{HasEnded, IsOneMore, NoRead}
 use Rattle.asgi_ws.specs.Sides.{Session}
 use Rattle.std.specs.Prelude.{IsFalse, IsTrue}
 
@@ -63,10 +63,6 @@ pub one_longer : {A : Type 0} (taken : Bool) (old new : List A) → taken ≡ tr
 one_longer true old new is took = ap length took.1 ∙ length-append old (took.0 ∷ [])
 one_longer false old new is took = cc
 
-pub not_one : {A : Type 0} (more : Bool) (old new : List A) → more ≡ false → IsOneMore more old new → new ≡ old
-not_one true old new none one = cc
-not_one false old new none same = same
-
 -- one more is some
 pub grown_by_one : {A : Type 0} (more : Bool) (old new : List A) → IsOneMore more old new → HasGrown more old new
 grown_by_one true old new one = let longer = one_longer true old new refl one in omega (arith, longer)
@@ -79,33 +75,6 @@ pub rests_else : {P Q : Type 0} (was now : LineState) (turn : Turn) → (P → Q
 rests_else was now turn then (NoRead rests same idle) = NoRead (then rests) same idle
 rests_else was now turn then (OfBytes answer told same is) = OfBytes answer told same is
 rests_else was now turn then (OfMessage answer told same is) = OfMessage answer told same is
-
-module _ {C : Type 0} (E : ConnGhosts C) (old mid new : C) (took offered goes_on : Bool) (taken : HasGrown took (E.got old) (E.got mid)) (kept : E.offered mid ≡ E.offered old)
-    (none : TakesNone E mid new) (grown : HasGrown offered (E.offered mid) (E.offered new)) where
-  -- something was done
-  by_taking : took ≡ true → HasGrown took (E.got old) (E.got mid) → length (E.got old) < length (E.got new)
-  by_taking is more = let longer = subst (λ (b : Bool). HasGrown b (E.got old) (E.got mid)) is more in omega (arith, longer, ap length none.0)
-
-  by_offering : offered ≡ true → HasGrown offered (E.offered mid) (E.offered new) → length (E.offered old) < length (E.offered new)
-  by_offering is more = let longer = subst (λ (b : Bool). HasGrown b (E.offered mid) (E.offered new)) is more in omega (arith, longer, ap length kept)
-
-  pub worked : (took ≡ true) ⊎ ((took ≡ false) × (offered ≡ true)) ⊎ ((took ≡ false) × (offered ≡ false) × (goes_on ≡ true)) → HasWorked E goes_on old new
-  worked (inl is) = inr (inl (by_taking is taken))
-  worked (inr (inl is)) = inr (inr (by_offering is.1 grown))
-  worked (inr (inr is)) = inl is.2
-
-  -- nothing was
-  pub rested : took ≡ false → offered ≡ false → goes_on ≡ false → HasRested E goes_on old new
-  rested no_item no_event done = (
-    done,
-    none.0 ∙ subst (λ (b : Bool). HasGrown b (E.got old) (E.got mid)) no_item taken,
-    subst (λ (b : Bool). HasGrown b (E.offered mid) (E.offered new)) no_event grown ∙ kept,
-  )
-
-pub not_worked : {C : Type 0} (E : ConnGhosts C) (goes_on : Bool) (old new : C) → HasRested E goes_on old new → HasWorked E goes_on old new → ⊥
-not_worked E goes_on old new rests (inl is) = cc (rests.0, is)
-not_worked E goes_on old new rests (inr (inl longer)) = omega (arith, longer, ap length rests.1)
-not_worked E goes_on old new rests (inr (inr longer)) = omega (arith, longer, ap length rests.2)
 
 pub unread_then : (was mid now : LineState) → ReadsNone was mid → ReadsNone mid now → ReadsNone was now
 unread_then was mid now first second = (second.0 ∙ first.0, second.1 ∙ first.1)
@@ -120,35 +89,7 @@ pub disconnect_is_one : {C : Type 0} (E : ConnGhosts C) (old new : C) (first : B
 disconnect_is_one E old new true event on_first on_later same = ((event, on_first refl), same)
 disconnect_is_one E old new false event on_first on_later same = (ap E.offered (on_later refl), same)
 
--- all that was there is still taken
-pub all_taken : {C : Type 0} (E : ConnGhosts C) (mid new : C) (Stops Other : Type 0) (places : ℕ) → TakesNone E mid new → (Stops → ⊥) → (E.seen mid ≡ []) ⊎ Stops ⊎ (length (E.got mid) ≡ places)
-    → (E.seen new ≡ []) ⊎ Other ⊎ (length (E.got new) ≡ places)
-all_taken E mid new Stops Other places none runs (inl empty) = inl (none.1 ∙ empty)
-all_taken E mid new Stops Other places none runs (inr (inl stops)) = absurd (runs stops)
-all_taken E mid new Stops Other places none runs (inr (inr most)) = inr (inr (ap length none.0 ∙ most))
-
--- what was offered is all, by what is known of the half afterwards
-pub all_offered : {C : Type 0} (E : ConnGhosts C) (old mid new : C) (Before After : Type 0) (most : Bool) (ring : ℕ) → most ≡ false → (Before → After)
-    → OffersAll E Before new ⊎ (IsTrue most × OffersMost E ring mid new) → OffersAll E After new
-all_offered E old mid new Before After most ring none then (inl (inl before)) = inl (then before)
-all_offered E old mid new Before After most ring none then (inl (inr full)) = inr full
-all_offered E old mid new Before After most ring none then (inr more) = absurd (cc (none, more.0))
-
-pub most_offered : {C : Type 0} (E : ConnGhosts C) (old mid new : C) (NoneDue : Type 0) (most : Bool) (ring : ℕ) → E.offered mid ≡ E.offered old
-    → OffersAll E NoneDue new ⊎ (IsTrue most × OffersMost E ring mid new) → OffersAll E NoneDue new ⊎ OffersMost E ring old new
-most_offered E old mid new NoneDue most ring kept (inl all) = inl all
-most_offered E old mid new NoneDue most ring kept (inr more) = inr (more.1 ∙ ap (λ (l : List Incoming). length l + ring) kept)
-
 -- ---- the stages
-
-pub ended_not_running : (stage : Stage) → HasEnded stage → stage ≡ Stage.Running → ⊥
-ended_not_running stage ended is = subst (λ (s : Stage). HasEnded s) is ended
-
-pub ended_awaits_none : (stage : Stage) → HasEnded stage → AwaitsEnd stage → ⊥
-ended_awaits_none Stage.Running ended awaits = ended
-ended_awaits_none (Stage.Ending kind) ended awaits = awaits
-ended_awaits_none (Stage.Cut outcome) ended awaits = ended
-ended_awaits_none (Stage.Over following) ended awaits = awaits
 
 pub over_has_ended : (stage : Stage) → (following : NextStep) × (stage ≡ Stage.Over following) → HasEnded stage
 over_has_ended stage over = subst (λ (s : Stage). HasEnded s) (sym over.1) tt

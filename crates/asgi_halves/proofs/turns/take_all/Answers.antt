@@ -32,7 +32,3 @@ loop-item-preserved g c =
       unread = (e.unread.0 ∙ i.unread.0, e.unread.1 ∙ i.unread.1);
       offered = e.offered ∙ i.offered;
     }
-
-pub returns-then-not-take_one-clause-unread : goal.returns-then-not-take_one-clause-unread
-returns-then-not-take_one-clause-unread g c =
-    let i = c.loop-item.invariant.unread in let e = c.take_one.ensures.unread in (e.0 ∙ i.0, e.1 ∙ i.1)

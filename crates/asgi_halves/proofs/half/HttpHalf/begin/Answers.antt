@@ -11,6 +11,3 @@ returns-in-Ok-clause-begins g c scene facts read arrived o text =
 pub returns-in-Err-clause-begins : goal.returns-in-Err-clause-begins
 returns-in-Err-clause-begins g c scene facts read arrived o text =
     (_, begun_short scene (g.L.Line.state c.args.line.now) facts read arrived c.args.self.now.wire (record c.args.self.now.wire { out = c.begin.new.out }) c.args.text o)
-
-pub returns-in-Ok-clause-open : goal.returns-in-Ok-clause-open
-returns-in-Ok-clause-open g c following over = let never = c.put.ensures.open following over in cc

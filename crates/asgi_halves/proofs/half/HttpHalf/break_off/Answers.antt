@@ -1,5 +1,5 @@
 use Rattle.asgi_halves.proofs.HalfWords.{◌++◌, ◌∷◌, [], List, ap, sym, ◌∙◌, Some, is_some, not, Incoming, ByInput}
-use Rattle.asgi_halves.proofs.{HalfInLemmas.broken_off, HalfInLemmas.none_broke, TurnLemmas.disconnect_is_one}
+use Rattle.asgi_halves.proofs.HalfInLemmas.{broken_off, none_broke}
 use Rattle.asgi_halves.proofs.half.HttpHalf.break_off.Goals as goal
 
 pub returns-clause-leads : goal.returns-clause-leads
@@ -12,8 +12,3 @@ returns-clause-leads g c scene line read view x is_view =
       broken_off x c.requires.running.0 c.requires.running.1 c.requires.due,
       (ap (λ (l : List Incoming). l ++ Incoming.HttpDisconnect ∷ []) is_view.0 ∙ sym offered, sym c.offer_disconnect.ensures.broken, is_view.2 ∙ sym same.0),
     )
-
-pub returns-clause-one : goal.returns-clause-one
-returns-clause-one g c =
-    let o = c.offer_disconnect.ensures in
-    disconnect_is_one g.C.ConnEnd c.args.end.now c.offer_disconnect.new.self c.offer_disconnect.result Incoming.HttpDisconnect o.yes o.no o.same

@@ -1,4 +1,4 @@
-use Rattle.asgi_halves.proofs.HalfWords.{ap, sym, subst, Reading, HasAsked, HttpHalf}
+use Rattle.asgi_halves.proofs.HalfWords.{ap, Reading}
 use Rattle.asgi_halves.proofs.HalfEndLemmas.{dropped_then, pulled}
 use Rattle.asgi_halves.proofs.half.HttpHalf.drop_rest.Goals as goal
 
@@ -12,10 +12,6 @@ pub returns-then-not-drop_one-clause-gives : goal.returns-then-not-drop_one-clau
 returns-then-not-drop_one-clause-gives c =
     (dropped_then c.args.self.now c.loop-event.self c.drop_one.new.self c.loop-event.invariant.dropped
     (record { same = c.drop_one.ensures.same; gives = c.drop_one.ensures.gives; limits = ap (λ (r : Reading). r.limits) c.drop_one.ensures.requests })).gives
-
-pub returns-then-not-drop_one-clause-asked : goal.returns-then-not-drop_one-clause-asked
-returns-then-not-drop_one-clause-asked c =
-    subst (λ (h : HttpHalf). HasAsked h) (sym (c.drop_one.ensures.stays c.if-not-drop_one.true)) c.loop-event.invariant.asked
 
 pub loop-event-preserved : goal.loop-event-preserved
 loop-event-preserved c = record {

@@ -1,5 +1,5 @@
 use Rattle.asgi_run.proofs.LineLemmas.{tries_front}
-use Rattle.asgi_halves.proofs.{HalfLemmas.put_done, HalfLemmas.put_cut, TurnLemmas.writing_reads_none}
+use Rattle.asgi_halves.proofs.HalfLemmas.{put_done, put_cut}
 use Rattle.asgi_halves.proofs.half.HttpHalf.put.Goals as goal
 
 pub returns-in-Some-clause-puts : goal.returns-in-Some-clause-puts
@@ -15,9 +15,3 @@ returns-in_default-clause-puts g c scene read view p =
     let put = put_done scene (g.L.Line.state c.args.line.now) (g.L.Line.state c.put.new.line) c.args.self.now read view p c.put.new.self c.put.ensures.same c.put.ensures.empty
     (record { beside = c.put.ensures.reads; session = c.put.ensures.session; appends = w.0; rose = w.1; tries = c.in_default.ensures.tries }) in
     (_, put)
-
-pub returns-in-Some-clause-unread : goal.returns-in-Some-clause-unread
-returns-in-Some-clause-unread g c = writing_reads_none (g.L.Line.state c.args.line.now) (g.L.Line.state c.put.new.line) c.put.ensures.reads.1 c.put.ensures.session
-
-pub returns-in_default-clause-unread : goal.returns-in_default-clause-unread
-returns-in_default-clause-unread g c = writing_reads_none (g.L.Line.state c.args.line.now) (g.L.Line.state c.put.new.line) c.put.ensures.reads.1 c.put.ensures.session

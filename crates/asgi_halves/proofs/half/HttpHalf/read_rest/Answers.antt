@@ -1,9 +1,6 @@
 use Rattle.asgi_halves.proofs.HalfWords.{[], inl, sym, ◌∙◌, failures_at, OfBytes, Stage, ReadsAt, subst, ap}
-use Rattle.asgi_halves.proofs.{HalfLemmas.stands_still, HalfInLemmas.rest_read, HalfInLemmas.rest_short, StageLemmas.ending_has_ended, StageLemmas.ending_moves, HalfLemmas.stage_of}
+use Rattle.asgi_halves.proofs.{HalfLemmas.stands_still, HalfInLemmas.rest_read, HalfInLemmas.rest_short, HalfLemmas.stage_of}
 use Rattle.asgi_halves.proofs.half.HttpHalf.read_rest.Goals as goal
-
-pub returns-then-has_ended-clause-leads : goal.returns-then-has_ended-clause-leads
-returns-then-has_ended-clause-leads g c scene read view x = ([], view.arrived, view.written, stands_still x)
 
 pub returns-in-Ok-clause-leads : goal.returns-in-Ok-clause-leads
 returns-in-Ok-clause-leads g c scene read view x =
@@ -24,11 +21,5 @@ returns-in-Err-clause-leads g c scene read view x =
 pub returns-in-Ok-clause-turn : goal.returns-in-Ok-clause-turn
 returns-in-Ok-clause-turn g c kind is = let t = c.in-Ok.ensures.turn in inl (OfBytes t.0 t.1 c.read.ensures.session t.2)
 
-pub returns-then-has_ended-clause-ended : goal.returns-then-has_ended-clause-ended
-returns-then-has_ended-clause-ended g c = ending_has_ended c.args.self.now.stage c.requires.ending
-
-pub returns-in-Ok-clause-ended : goal.returns-in-Ok-clause-ended
-returns-in-Ok-clause-ended g c = ending_has_ended c.args.self.now.stage c.requires.ending
-
-pub returns-in-Ok-clause-moves : goal.returns-in-Ok-clause-moves
-returns-in-Ok-clause-moves g c = ending_moves c.args.self.now.stage _ c.requires.ending
+pub returns-then-has_ended-clause-leads : goal.returns-then-has_ended-clause-leads
+returns-then-has_ended-clause-leads g c scene read view x = ([], view.arrived, view.written, stands_still x)
