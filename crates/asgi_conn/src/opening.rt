@@ -54,7 +54,11 @@ pub(crate) fn answer<A: Application, L: Line, X, U: Runner<A::Task, Exchange = X
     let text = ResponseText::new(wire.alloc, &facts);
     match begin(&wire, Kind::Http, scope, facts, calls, turns, runner) {
         Err(outcome) => Place::Ended(outcome),
-        Ok(exchange) => Place::Http(HttpHalf::begin(wire, text, line), exchange),
+        Ok(exchange) => {
+            let mut half = HttpHalf::new(wire);
+            half.begin(text, line);
+            Place::Http(half, exchange)
+        }
     }
 }
 
