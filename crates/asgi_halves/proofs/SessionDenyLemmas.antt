@@ -5,7 +5,7 @@ use Rattle.std.specs.Result.{is_err}
 use Rattle.asgi_io.specs.declared.write.Wrote.TheVariants as wrote
 use Rattle.asgi_protocol.specs.Stages as judging
 use Rattle.asgi_response.specs.Standing as standing
-use Rattle.asgi_halves.proofs.SessionPassLemmas.{more_said, denial_is_first, denial_goes_on}
+use Rattle.asgi_halves.proofs.SessionPassLemmas.{body_follows, goes, is_first, more_said}
 use Rattle.asgi_halves.proofs.SessionSayLemmas.{accept_cut, denial_out, text_short}
 use Rattle.asgi_halves.proofs.SessionOfferLemmas.{runs}
 
@@ -27,10 +27,10 @@ record GoesOnDenying (handshake : Handshake) (facts : Facts) (said : List Outgoi
 
 goes_on_denying : (handshake : Handshake) (facts : Facts) (said : List Outgoing) (event : Outgoing) → IsDenial event → passes WebSocket facts said event ≡ true → GoesOnDenying handshake facts said event
 goes_on_denying handshake facts said (DenialStart status headers) d pass =
-    subst (λ (l : List Outgoing). GoesOnDenying handshake facts l (DenialStart status headers)) (sym (denial_is_first facts said status headers pass))
+    subst (λ (l : List Outgoing). GoesOnDenying handshake facts l (DenialStart status headers)) (sym (is_first said (DenialStart status headers) refl refl refl refl (goes facts said (DenialStart status headers) pass)))
     (record { old = record { answer = refl; text = refl }; new = record { answer = refl; text = refl } })
 goes_on_denying handshake facts said (DenialBody body more_body) d pass =
-    let s = denial_goes_on facts said body more_body pass in
+    let s = body_follows said body more_body (goes facts said (DenialBody body more_body) pass) in
     subst (λ (l : List Outgoing). GoesOnDenying handshake facts l (DenialBody body more_body)) (sym s.3)
     (record { old = record { answer = refl; text = refl }; new = record { answer = refl; text = refl } })
 goes_on_denying handshake facts said _ d pass = absurd d

@@ -1,22 +1,14 @@
 -- What an event that passes shows about those that were sent before it, in a session.
-use Rattle.std.proofs.Common.{◌≡◌, ℕ, Bool, true, false, ◌⊎◌, inl, inr, List, [], ◌∷◌, ◌++◌, refl, ap, sym, ◌∙◌, Option}
-use Rattle.std.specs.Prelude.{◌&&◌, ◌||◌, if◌then◌else◌}
+use Rattle.asgi_halves.proofs.SessionWords.{◌≡◌, ℕ, Bool, true, false, ◌⊎◌, inl, inr, List, [], ◌∷◌, ◌++◌, refl, ap, sym, ◌∙◌, Option, ◌||◌, if◌then◌else◌, HeaderField, Facts, Outgoing, WsAccept, WsSend, WsClose, DenialStart, DenialBody, WebSocket, passes, is_of, is_message, is_closed, with_session_event, accepted_session, Open, Closed}
+use Rattle.asgi_halves.proofs.SessionWords.{answer_to}
+use Rattle.std.specs.Prelude.{◌&&◌}
 use Rattle.std.proofs.lemmas.List.Sums.{fold-append}
-use Rattle.asgi_types.specs.Fields.{HeaderField}
-use Rattle.asgi_types.specs.declared.facts.Facts.{Facts}
 use Rattle.asgi_types.specs.declared.incoming.Payload.{Payload}
-use Rattle.asgi_types.specs.declared.outgoing.Outgoing.{Outgoing}
-use Rattle.asgi_types.specs.declared.outgoing.Outgoing.TheVariants.{WsAccept, WsSend, WsClose, DenialStart, DenialBody}
-use Rattle.asgi_types.specs.declared.scope.Kind.TheVariants.{WebSocket}
-use Rattle.asgi_protocol.specs.Passing.{passes}
-use Rattle.asgi_protocol.specs.Shapes.{is_of, is_row, begins_row, is_empty, is_message, is_close, is_denial_part, is_last_denial_part, is_closed, goes_on}
+use Rattle.asgi_protocol.specs.Shapes.{is_row, begins_row, is_empty, is_close, is_denial_part, is_last_denial_part, goes_on}
 use Rattle.asgi_protocol.specs.Verdicts.{lines_on, verdict_on}
 use Rattle.asgi_protocol.proofs.PassLemmas as passing
 use Rattle.asgi_protocol.proofs.PassingLemmas.{is_passed}
 use Rattle.asgi_protocol.proofs.RowLemmas.{either, both, both_true, either_first, either_second}
-use Rattle.asgi_exchange.specs.Session.{with_session_event, accepted_session}
-use Rattle.asgi_halves.specs.declared.session_half.Answered.TheVariants.{Open, Closed}
-use Rattle.asgi_halves.specs.WebSocketHalf.{answer_to}
 
 -- ---- what was sent, with one more event
 
@@ -84,19 +76,14 @@ no_row each last events event a b h = elim (row_ends each last events event h) [
 no_more : {A : Type 0} (events : List Outgoing) (event : Outgoing) → is_empty (events ++ event ∷ []) ≡ true → A
 no_more events event h = absurd (cc (sym (not_empty events event) ∙ h))
 
-accept_begins : (said : List Outgoing) (subprotocol : Option (List ℕ)) (headers : List HeaderField) → goes_on WebSocket said (WsAccept subprotocol headers) ≡ true → said ≡ []
-accept_begins [] subprotocol headers h = refl
-accept_begins (WsAccept a b ∷ events) subprotocol headers h = no_row is_message is_close events (WsAccept subprotocol headers) refl refl h
-accept_begins (WsClose a b ∷ events) subprotocol headers h = no_more events (WsAccept subprotocol headers) h
-accept_begins (DenialStart a b ∷ events) subprotocol headers h = no_row is_denial_part is_last_denial_part events (WsAccept subprotocol headers) refl refl h
-accept_begins (_ ∷ events) subprotocol headers h = absurd (cc)
-
-denial_begins : (said : List Outgoing) (status : ℕ) (headers : List HeaderField) → goes_on WebSocket said (DenialStart status headers) ≡ true → said ≡ []
-denial_begins [] status headers h = refl
-denial_begins (WsAccept a b ∷ events) status headers h = no_row is_message is_close events (DenialStart status headers) refl refl h
-denial_begins (WsClose a b ∷ events) status headers h = no_more events (DenialStart status headers) h
-denial_begins (DenialStart a b ∷ events) status headers h = no_row is_denial_part is_last_denial_part events (DenialStart status headers) refl refl h
-denial_begins (_ ∷ events) status headers h = absurd (cc)
+-- an accept or the start of a denial is the first event
+pub is_first : (said : List Outgoing) (event : Outgoing) → is_message event ≡ false → is_close event ≡ false → is_denial_part event ≡ false → is_last_denial_part event ≡ false
+    → goes_on WebSocket said event ≡ true → said ≡ []
+is_first [] event message close part last h = refl
+is_first (WsAccept a b ∷ events) event message close part last h = no_row is_message is_close events event message close h
+is_first (WsClose a b ∷ events) event message close part last h = no_more events event h
+is_first (DenialStart a b ∷ events) event message close part last h = no_row is_denial_part is_last_denial_part events event part last h
+is_first (_ ∷ events) event message close part last h = absurd (cc)
 
 abbrev pub IsDenied : List Outgoing → Type 0
 IsDenied said = (status : ℕ) × (headers : List HeaderField) × (events : List Outgoing) × (said ≡ DenialStart status headers ∷ events)
@@ -104,19 +91,19 @@ IsDenied said = (status : ℕ) × (headers : List HeaderField) × (events : List
 abbrev pub IsAccepted : List Outgoing → Type 0
 IsAccepted said = (subprotocol : Option (List ℕ)) × (headers : List HeaderField) × (events : List Outgoing) × (said ≡ WsAccept subprotocol headers ∷ events)
 
-body_follows : (said : List Outgoing) (body : List ℕ) (more_body : Bool) → goes_on WebSocket said (DenialBody body more_body) ≡ true → IsDenied said
+pub body_follows : (said : List Outgoing) (body : List ℕ) (more_body : Bool) → goes_on WebSocket said (DenialBody body more_body) ≡ true → IsDenied said
 body_follows (WsAccept a b ∷ events) body more_body h = no_row is_message is_close events (DenialBody body more_body) refl refl h
 body_follows (WsClose a b ∷ events) body more_body h = no_more events (DenialBody body more_body) h
 body_follows (DenialStart a b ∷ events) body more_body h = (a, b, events, refl)
 body_follows _ body more_body h = absurd (cc)
 
-message_follows : (said : List Outgoing) (payload : Payload) → goes_on WebSocket said (WsSend payload) ≡ true → IsAccepted said
+pub message_follows : (said : List Outgoing) (payload : Payload) → goes_on WebSocket said (WsSend payload) ≡ true → IsAccepted said
 message_follows (WsAccept a b ∷ events) payload h = (a, b, events, refl)
 message_follows (WsClose a b ∷ events) payload h = no_more events (WsSend payload) h
 message_follows (DenialStart a b ∷ events) payload h = no_row is_denial_part is_last_denial_part events (WsSend payload) refl refl h
 message_follows _ payload h = absurd (cc)
 
-close_follows : (said : List Outgoing) (code : ℕ) (reason : List ℕ) → goes_on WebSocket said (WsClose code reason) ≡ true → (said ≡ []) ⊎ IsAccepted said
+pub close_follows : (said : List Outgoing) (code : ℕ) (reason : List ℕ) → goes_on WebSocket said (WsClose code reason) ≡ true → (said ≡ []) ⊎ IsAccepted said
 close_follows [] code reason h = inl refl
 close_follows (WsAccept a b ∷ events) code reason h = inr (a, b, events, refl)
 close_follows (WsClose a b ∷ events) code reason h = no_more events (WsClose code reason) h
@@ -128,24 +115,8 @@ close_follows (_ ∷ events) code reason h = absurd (cc)
 met : (facts : Facts) (said : List Outgoing) (event : Outgoing) → passes WebSocket facts said event ≡ true → passing.Passes WebSocket facts said event
 met facts said event h = passing.passes WebSocket facts said false event (is_passed (verdict_on WebSocket facts said false event) h)
 
-pub accept_is_first : (facts : Facts) (said : List Outgoing) (subprotocol : Option (List ℕ)) (headers : List HeaderField)
-    → passes WebSocket facts said (WsAccept subprotocol headers) ≡ true → said ≡ []
-accept_is_first facts said subprotocol headers h = accept_begins said subprotocol headers (met facts said (WsAccept subprotocol headers) h).goes
-
-pub denial_is_first : (facts : Facts) (said : List Outgoing) (status : ℕ) (headers : List HeaderField) → passes WebSocket facts said (DenialStart status headers) ≡ true → said ≡ []
-denial_is_first facts said status headers h = denial_begins said status headers (met facts said (DenialStart status headers) h).goes
-
-pub denial_goes_on : (facts : Facts) (said : List Outgoing) (body : List ℕ) (more_body : Bool) → passes WebSocket facts said (DenialBody body more_body) ≡ true
-    → (status : ℕ) × (headers : List HeaderField) × (events : List Outgoing) × (said ≡ DenialStart status headers ∷ events)
-denial_goes_on facts said body more_body h = body_follows said body more_body (met facts said (DenialBody body more_body) h).goes
-
-pub send_is_in_session : (facts : Facts) (said : List Outgoing) (payload : Payload) → passes WebSocket facts said (WsSend payload) ≡ true
-    → (subprotocol : Option (List ℕ)) × (headers : List HeaderField) × (events : List Outgoing) × (said ≡ WsAccept subprotocol headers ∷ events)
-send_is_in_session facts said payload h = message_follows said payload (met facts said (WsSend payload) h).goes
-
-pub close_has_place : (facts : Facts) (said : List Outgoing) (code : ℕ) (reason : List ℕ) → passes WebSocket facts said (WsClose code reason) ≡ true
-    → (said ≡ []) ⊎ ((subprotocol : Option (List ℕ)) × (headers : List HeaderField) × (events : List Outgoing) × (said ≡ WsAccept subprotocol headers ∷ events))
-close_has_place facts said code reason h = close_follows said code reason (met facts said (WsClose code reason) h).goes
+pub goes : (facts : Facts) (said : List Outgoing) (event : Outgoing) → passes WebSocket facts said event ≡ true → goes_on WebSocket said event ≡ true
+goes facts said event h = (met facts said event h).goes
 
 pub is_in_scope : (facts : Facts) (said : List Outgoing) (event : Outgoing) → passes WebSocket facts said event ≡ true → is_of WebSocket event ≡ true
 is_in_scope facts said event h = (met facts said event h).of
@@ -158,7 +129,7 @@ not_closed facts said event h =
 
 pub open_after_send : (facts : Facts) (said : List Outgoing) (payload : Payload) → passes WebSocket facts said (WsSend payload) ≡ true → answer_to (said ++ WsSend payload ∷ []) ≡ Open
 open_after_send facts said payload h =
-    let s = send_is_in_session facts said payload h in
+    let s = message_follows said payload (goes facts said (WsSend payload) h) in
     ap (λ (l : List Outgoing). answer_to (l ++ WsSend payload ∷ [])) s.3
     ∙ ap (λ (b : Bool). if b then Closed else Open) (row_open is_message is_close s.2 (WsSend payload) refl)
 
@@ -166,7 +137,7 @@ pub closed_after_close : (facts : Facts) (said : List Outgoing) (code : ℕ) (re
     → said ≡ WsAccept subprotocol headers ∷ events → passes WebSocket facts said (WsClose code reason) ≡ true → answer_to (said ++ WsClose code reason ∷ []) ≡ Closed
 closed_after_close facts said code reason subprotocol headers events is h =
     let goes : begins_row is_message is_close (events ++ WsClose code reason ∷ []) ≡ true =
-    sym (ap (λ (l : List Outgoing). goes_on WebSocket l (WsClose code reason)) is) ∙ (met facts said (WsClose code reason) h).goes in
+    sym (ap (λ (l : List Outgoing). goes_on WebSocket l (WsClose code reason)) is) ∙ goes facts said (WsClose code reason) h in
     ap (λ (l : List Outgoing). answer_to (l ++ WsClose code reason ∷ [])) is
     ∙ ap (λ (b : Bool). if b then Closed else Open) (row_whole is_message is_close events (WsClose code reason) refl goes)
 

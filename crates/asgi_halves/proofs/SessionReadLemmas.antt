@@ -1,19 +1,15 @@
 -- The reads of a session: a message arrives and is heard, or it is dropped after a close.
-use Rattle.asgi_halves.proofs.SessionWords.{◌≡◌, ℕ, ◌+◌, ◌<◌, ◌≤◌, Bool, true, false, ◌||◌, List, [], ◌∷◌, ◌++◌, inl, inr, refl, sym, ap, ◌∙◌, subst, append-nil, map, arith, Option, Some, None, zero, suc, IsPrefix, EndKind, Incoming, WsReceive, Outgoing, WsAccept, DenialStart}
+use Rattle.asgi_halves.proofs.SessionWords.{◌≡◌, ℕ, ◌+◌, ◌<◌, ◌≤◌, Bool, true, false, ◌||◌, List, [], ◌∷◌, ◌++◌, inl, inr, refl, sym, ap, ◌∙◌, subst, append-nil, map, arith, Option, Some, None, IsPrefix, EndKind, Incoming, WsReceive, Outgoing, WsAccept, DenialStart}
 use Rattle.asgi_halves.proofs.SessionWords.{WebSocket, test_of_beginning, IsOffered, end_of, events_in, has_close, disconnect_of, session_events, session_disconnect, Output, Message, is_by_input, Break, ByInput, ByCut, ConnView, output, added_by, taken_of, prefix_same}
-use Rattle.asgi_halves.proofs.SessionWords.{prefix_trans, events_grow, close_is_heard, web_socket_is_steady, Read, SentMessage, Msg, given_by, reads_after_close, Finished, NoMemory, handshake_of, session_outcome, after_session, Stage, Running, Cut, Answered, Open, Awaited, Accepted, Session, Side, Application, Client, WebSocketHalf, LineState}
-use Rattle.asgi_halves.proofs.SessionWords.{IsShut, turn_by, SessionScene, Invariant, Talks, EndsByTask, IsAt, IsDue, IsCarrying, MayDrop, PreservesByLine, answer_of, exchange_of, heard_by, is_over_at, is_over_with, lost_by, noted_by, output_in, reads_at, rest_after, said_in, spare_at, spare_with, talk_in, failures_at, drop_limit, is_end}
+use Rattle.asgi_halves.proofs.SessionWords.{prefix_trans, events_grow, close_is_heard, web_socket_is_steady, Read, SentMessage, Msg, given_by, reads_after_close, Finished, NoMemory, handshake_of, session_outcome, after_session, Stage, Running, Cut, Answered, Open, Accepted, Session, Side, Application, Client, WebSocketHalf, LineState}
+use Rattle.asgi_halves.proofs.SessionWords.{SessionScene, Invariant, Talks, EndsByTask, IsAt, IsDue, IsCarrying, MayDrop, PreservesByLine, answer_of, exchange_of, heard_by, is_over_at, is_over_with, lost_by, noted_by, output_in, rest_after, said_in, spare_at, spare_with, talk_in, failures_at, drop_limit, is_end}
 use Rattle.asgi_halves.proofs.SessionWords.{CarriesOn, closes, none_after, open_closes, read_after, HasRead, talk_read}
 use Rattle.asgi_types.specs.declared.end_kind.EndKind.TheVariants as kind
 use Rattle.asgi_types.specs.declared.incoming.Payload.TheVariants as payload
 use Rattle.asgi_ws.specs.declared.messages.Got.{Got}
 use Rattle.asgi_ws.specs.declared.messages.Got.TheVariants as got
 use Rattle.asgi_ws.specs.declared.messages.Msg.TheVariants.{Text, Bytes, Ping, Pong, Close}
-use Rattle.asgi_halves.specs.declared.session_half.Answer.TheVariants.{Refused}
 use Rattle.asgi_halves.specs.declared.session_half.Session.TheVariants as session
-use Rattle.asgi_halves.specs.declared.session_half.Reading.TheVariants as reading
-use Rattle.asgi_io.specs.declared.turns.Turn.{Turn}
-use Rattle.asgi_io.specs.declared.turns.Turn.TheVariants.{Idle, Moved}
 use Rattle.asgi_halves.proofs.CallLemmas.{closes_after}
 use Rattle.asgi_halves.proofs.SessionOfferLemmas.{Carries, carrying, carrying_of, due_in, runs}
 
@@ -233,45 +229,6 @@ module _ (scene : SessionScene) (was now : LineState) (half : WebSocketHalf) (re
   noted got.NoMemory call =
       subst (λ (s : Session). Invariant scene now (record half { session = s; stage = Cut NoMemory }) read (record view { arrived = view.arrived ++ [] })) (sym open_still)
       (goes_so got.NoMemory call (session.Begun Accepted None) (Cut NoMemory) refl refl refl (omega arith) (prefix_same view.written (output_in scene view) at_running.0.written, at_running.1))
-
--- the turn of a read that is noted: it has moved if the connection is cut short, and left the half as it was if it is idle
-pub moves_if_shut : (half : WebSocketHalf) (answer : Got) (turn : Turn) → half.stage ≡ Running → turn ≡ turn_by answer → IsShut (noted_by half answer).stage → turn ≡ Moved
-moves_if_shut half got.Idle turn running is shut = absurd (subst (λ (s : Stage). IsShut s) running shut)
-moves_if_shut half (got.Message message) turn running is shut = is
-moves_if_shut half got.Ended turn running is shut = is
-moves_if_shut half got.Failed turn running is shut = is
-moves_if_shut half got.NoMemory turn running is shut = is
-
-pub keeps_if_idle : (half : WebSocketHalf) (answer : Got) (turn : Turn) → turn ≡ turn_by answer → turn ≡ Idle → noted_by half answer ≡ half
-keeps_if_idle half got.Idle turn is idle = refl
-keeps_if_idle half (got.Message message) turn is idle = absurd (cc (is, idle))
-keeps_if_idle half got.Ended turn is idle = absurd (cc (is, idle))
-keeps_if_idle half got.Failed turn is idle = absurd (cc (is, idle))
-keeps_if_idle half got.NoMemory turn is idle = absurd (cc (is, idle))
-
--- ---- what is read, by the session
-
-pub hears_in : (state : Session) → reads_at state ≡ reading.Hears → state ≡ session.Begun Accepted None
-hears_in (session.Begun Accepted None) is = refl
-hears_in (session.Begun Awaited waits) is = absurd (cc)
-hears_in (session.Begun Refused waits) is = absurd (cc)
-hears_in (session.Begun Accepted (Some event)) is = absurd (cc)
-hears_in (session.Closed side None) is = absurd (cc)
-hears_in (session.Closed side (Some zero)) is = absurd (cc)
-hears_in (session.Closed side (Some (suc n))) is = absurd (cc)
-hears_in _ is = absurd (cc)
-
-pub drops_in : (state : Session) (side : Side) (spare : ℕ) → reads_at state ≡ reading.Drops side spare → (state ≡ session.Closed side (Some spare)) × (0 < spare)
-drops_in (session.Closed at (Some (suc n))) side spare is =
-    let same : (at ≡ side) × (suc n ≡ spare) = (cc, cc) in
-    (ap (λ (s : Side). session.Closed s (Some (suc n))) same.0 ∙ ap (λ (m : ℕ). session.Closed side (Some m)) same.1, subst (λ (m : ℕ). 0 < m) same.1 (omega arith))
-drops_in (session.Begun Awaited waits) side spare is = absurd (cc)
-drops_in (session.Begun Refused waits) side spare is = absurd (cc)
-drops_in (session.Begun Accepted (Some event)) side spare is = absurd (cc)
-drops_in (session.Begun Accepted None) side spare is = absurd (cc)
-drops_in (session.Closed at None) side spare is = absurd (cc)
-drops_in (session.Closed at (Some zero)) side spare is = absurd (cc)
-drops_in _ side spare is = absurd (cc)
 
 -- ---- it is dropped
 

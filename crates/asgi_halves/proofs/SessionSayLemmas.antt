@@ -13,7 +13,8 @@ use Rattle.asgi_ws.specs.Handshake.{accept_text}
 use Rattle.asgi_halves.specs.declared.session_half.Answered.TheVariants.{Refused}
 use Rattle.asgi_halves.specs.declared.session_half.Answer.TheVariants as to
 use Rattle.asgi_halves.specs.declared.session_half.Session.TheVariants as session
-use Rattle.asgi_halves.proofs.SessionPassLemmas.{more_said, accept_is_first, close_has_place, send_is_in_session, open_is_accepted, not_closed, open_after_send, closed_after_close}
+use Rattle.asgi_halves.proofs.SessionPassLemmas.{close_follows, closed_after_close, goes, is_first, message_follows, more_said, not_closed, open_after_send, open_is_accepted}
+use Rattle.asgi_protocol.specs.Shapes as shapes
 use Rattle.asgi_response.specs.Standing as standing
 use Rattle.asgi_halves.proofs.LineCallLemmas.{HasSent, HasUpgraded}
 use Rattle.asgi_halves.proofs.SessionOfferLemmas.{Carries, carrying, line_at, message_moved, runs, same_answer, text_moved}
@@ -362,7 +363,7 @@ module _ (scene : SessionScene) (was now : LineState) (half : WebSocketHalf) (re
       → judging.StandsFor half.judge WebSocket scene.facts (said_in scene view ++ WsSend payload ∷ []) false → HasSent was now (item.Payload payload) answer → (stage : Stage) → stage ≡ stage_of answer
       → (written : List Output) × Invariant scene now (record half { stage = stage }) read (record view { got = view.got ++ Event (WsSend payload) ∷ []; written = written })
   payload_sent payload pass judged sent =
-      let s = send_is_in_session scene.facts (said_in scene view) payload pass in
+      let s = message_follows (said_in scene view) payload (goes scene.facts (said_in scene view) (WsSend payload) pass) in
       sent_on scene was half read view before half.text half.wire.out x running (WsSend payload) pass judged
       (is_open scene was half read view before half.text half.wire.out x running (WsSend payload) pass judged s)
       now (item.Payload payload) (ap (λ (l : List Outgoing). event_output (handshake_of scene.facts) scene.facts l (WsSend payload)) s.3)
@@ -387,7 +388,7 @@ module _ (scene : SessionScene) (was now : LineState) (half : WebSocketHalf) (re
     (judged : judging.StandsFor half.judge WebSocket scene.facts (said_in scene view ++ WsClose code reason ∷ []) false) (shut : answer_of half.session ≢ Open) (text : List ℕ) (text_is : text ≡ refusal_text 403)
     (same_left : now.left ≡ was.left) (same_reads : now.reads ≡ was.reads) (same_session : now.session ≡ was.session) where
   unsaid : said_in scene view ≡ []
-  unsaid = elim (close_has_place scene.facts (said_in scene view) code reason pass) [
+  unsaid = elim (close_follows (said_in scene view) code reason (goes scene.facts (said_in scene view) (WsClose code reason) pass)) [
     | inl none ↦ none
     | inr s ↦ absurd (shut (is_open scene was half read view before half.text half.wire.out x running (WsClose code reason) pass judged s))
   ]
@@ -429,7 +430,7 @@ module _ (scene : SessionScene) (was : LineState) (half : WebSocketHalf) (read :
   none_before : said_in scene view ≡ []
   none_before =
       let a = accept_of event accepts in
-      accept_is_first scene.facts (said_in scene view) a.0 a.1 (ap (λ (e : Outgoing). passes WebSocket scene.facts (said_in scene view) e) (sym a.2) ∙ pass)
+      is_first (said_in scene view) (WsAccept a.0 a.1) refl refl refl refl (subst (λ (e : Outgoing). shapes.goes_on WebSocket (said_in scene view) e ≡ true) a.2 (goes scene.facts (said_in scene view) event pass))
 
   talks_before : Talks scene (record half { judge = before }) view
   talks_before = (runs scene was (record half { judge = before }) read view x running).0

@@ -1,4 +1,5 @@
 -- What the half of a session takes: nothing, the end of the task, or an event, which adds nothing if the judge does not pass it.
+use Rattle.asgi_halves.proofs.SessionWords.{IsAt}
 use Rattle.asgi_halves.proofs.SessionWords.{◌≡◌, ◌≢◌, ℕ, true, false, Bool, arith, List, [], ◌∷◌, ◌++◌, refl, sym, ap, ◌∙◌, subst, Option, Some, None, Vec, Global, append-nil, HeaderField, EndKind, Facts, WsConnect, Outgoing, WsAccept, WsSend, WsClose, DenialStart, DenialBody, WebSocket, Judge, is_pass, passes, is_message, is_of, OutItem}
 use Rattle.asgi_halves.proofs.SessionWords.{Event, Ended, ResponseText, Msg, end_of, session_events, Output, accepted_session, output_of, is_by_input, ConnView, empty_conn, added_by, output, taken_of, events_append, end_event, end_ended, handshake_of, no_traffic, Stage, Running, Awaited, WebSocketHalf, Wire, failures_at, LineState}
 use Rattle.asgi_halves.proofs.SessionWords.{SessionScene, Invariant, OpensSession, Talks, answer_of, answer_to, exchange_of, said_in, drop_limit, CarriesOn, talk_begins}
@@ -47,48 +48,39 @@ module _ (scene : SessionScene) (now : LineState) (half : WebSocketHalf) (read :
   at : Talks scene half view × (end_of view.got ≡ None)
   at = runs scene now half read view x is
 
-  -- the end of the task
-  pub ended_taken : (kind : EndKind) → Invariant scene now (record half { stage = Ending kind }) read (record view { got = view.got ++ Ended kind ∷ []; broken_first = is_by_input view.broken })
-  ended_taken kind =
-      let later : ConnView Msg Output = record view { got = view.got ++ Ended kind ∷ []; broken_first = is_by_input view.broken } in
-      let taken : taken_of later ≡ taken_of view = events_append view.got (Ended kind ∷ []) ∙ append-nil (taken_of view) in
-      let same : accepted_session scene.facts (taken_of later) ≡ said_in scene view = ap (accepted_session scene.facts) taken in
-      let talks = talks_on scene half view (Ending kind) later.got later.broken_first same at.0 in
-      let added : List Output = added_by (exchange_of scene) (taken_of later) (end_of later.got) later.broken_first later.arrived in
+  -- nothing is sent, and all else stays
+  taken_so : (stage : Stage) (got : List OutItem) (first : Bool) → failures_at stage ≡ 0 → accepted_session scene.facts (taken_of (record view { got = got; broken_first = first })) ≡ said_in scene view
+      → (Talks scene (record half { stage = stage }) (record view { got = got; broken_first = first }) → IsAt stage scene (record half { stage = stage }) (record view { got = got; broken_first = first }))
+      → Invariant scene now (record half { stage = stage }) read (record view { got = got; broken_first = first })
+  taken_so stage got first none same stands =
+      let later : ConnView Msg Output = record view { got = got; broken_first = first } in
+      let talks = talks_on scene half view stage got first same at.0 in
+      let added : List Output = added_by (exchange_of scene) (taken_of later) (end_of got) first view.arrived in
       record {
         fixed = x.fixed;
         text = x.text;
         leftover = x.leftover;
         handed = x.handed;
-        line = line_at scene now half read view x 0 (ap failures_at is);
+        line = line_at scene now half read view x (failures_at stage) (ap failures_at is ∙ sym none);
         written = x.written;
-        carried = carried_on (answer_of half.session) scene half (record half { stage = Ending kind }) view later x.text x.leftover x.handed refl refl refl ([], append-nil (said_in scene view) ∙ sym same) x.carried;
+        carried = carried_on (answer_of half.session) scene half (record half { stage = stage }) view later x.text x.leftover x.handed refl refl refl ([], append-nil (said_in scene view) ∙ sym same) x.carried;
         keeps = record { offered = x.keeps.offered; written = (added, ap (λ (l : List Output). l ++ added) talks.written) };
         breaks = x.breaks;
-        stage = (talks, end_ended view.got kind at.1, refl);
+        stage = stands talks;
       }
+
+  -- the end of the task
+  pub ended_taken : (kind : EndKind) → Invariant scene now (record half { stage = Ending kind }) read (record view { got = view.got ++ Ended kind ∷ []; broken_first = is_by_input view.broken })
+  ended_taken kind =
+      taken_so (Ending kind) (view.got ++ Ended kind ∷ []) (is_by_input view.broken) refl (ap (accepted_session scene.facts) (events_append view.got (Ended kind ∷ []) ∙ append-nil (taken_of view)))
+      (λ talks. (talks, end_ended view.got kind at.1, refl))
 
   -- an event that the judge does not pass
   pub unsaid : (event : Outgoing) → passes WebSocket scene.facts (said_in scene view) event ≡ false → Invariant scene now half read (record view { got = view.got ++ Event event ∷ [] })
   unsaid event other =
-      let later : ConnView Msg Output = record view { got = view.got ++ Event event ∷ [] } in
-      let same : accepted_session scene.facts (taken_of later) ≡ said_in scene view =
-      ap (accepted_session scene.facts) (events_append view.got (Event event ∷ [])) ∙ same_said scene.facts (taken_of view) event other in
-      let talks = talks_on scene half view Running later.got view.broken_first same at.0 in
-      let added : List Output = added_by (exchange_of scene) (taken_of later) (end_of later.got) later.broken_first later.arrived in
-      subst (λ (s : Stage). Invariant scene now (record half { stage = s }) read later) (sym is)
-      (record {
-        fixed = x.fixed;
-        text = x.text;
-        leftover = x.leftover;
-        handed = x.handed;
-        line = line_at scene now half read view x 0 (ap failures_at is);
-        written = x.written;
-        carried = carried_on (answer_of half.session) scene half (record half { stage = Running }) view later x.text x.leftover x.handed refl refl refl ([], append-nil (said_in scene view) ∙ sym same) x.carried;
-        keeps = record { offered = x.keeps.offered; written = (added, ap (λ (l : List Output). l ++ added) talks.written) };
-        breaks = x.breaks;
-        stage = (talks, end_event view.got event ∙ at.1);
-      })
+      subst (λ (s : Stage). Invariant scene now (record half { stage = s }) read (record view { got = view.got ++ Event event ∷ [] })) (sym is)
+      (taken_so Running (view.got ++ Event event ∷ []) view.broken_first refl (ap (accepted_session scene.facts) (events_append view.got (Event event ∷ [])) ∙ same_said scene.facts (taken_of view) event other)
+      (λ talks. (talks, end_event view.got event ∙ at.1)))
 
   -- the judge knows the facts of the half, which are those of the scene
   judged_here : judging.StandsFor half.judge WebSocket half.facts (said_in scene view) false

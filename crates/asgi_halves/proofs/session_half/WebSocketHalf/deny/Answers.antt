@@ -1,5 +1,4 @@
-use Rattle.std.proofs.Common.{refl, sym, ◌∙◌}
-use Rattle.asgi_halves.specs.WebSocketHalf.{said_in}
+use Rattle.asgi_halves.proofs.SessionWords.{refl, sym, ◌∙◌, said_in}
 use Rattle.asgi_halves.proofs.SessionDenyLemmas.{from_ok, text_before, denied_whole, denied_part, denied_short}
 use Rattle.asgi_halves.proofs.session_half.WebSocketHalf.deny.Goals as goal
 

@@ -1,6 +1,4 @@
-use Rattle.std.proofs.Common.{ap}
-use Rattle.asgi_halves.specs.WebSocketHalf.{rest_after}
-use Rattle.asgi_halves.specs.declared.session_half.WebSocketHalf.{WebSocketHalf}
+use Rattle.asgi_halves.proofs.SessionWords.{ap, rest_after, WebSocketHalf}
 use Rattle.asgi_halves.proofs.LineCallLemmas.{has_read, turn_of_message}
 use Rattle.asgi_halves.proofs.SessionReadLemmas.{leads_dropped}
 use Rattle.asgi_halves.proofs.session_half.WebSocketHalf.drop_one.Goals as goal

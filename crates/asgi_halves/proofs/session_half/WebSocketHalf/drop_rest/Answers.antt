@@ -1,6 +1,4 @@
-use Rattle.std.proofs.Common.{◌∙◌, refl, subst, sym}
-use Rattle.asgi_halves.specs.declared.stage.Stage.{Stage}
-use Rattle.asgi_halves.specs.WebSocketHalf.{MayDrop}
+use Rattle.asgi_halves.proofs.SessionWords.{◌∙◌, refl, subst, sym, Stage, MayDrop}
 use Rattle.asgi_halves.proofs.SessionReadLemmas.{out_none, out_then}
 use Rattle.asgi_halves.proofs.session_half.WebSocketHalf.drop_rest.Goals as goal
 

@@ -1,5 +1,4 @@
-use Rattle.std.proofs.Common.{ap, ◌∙◌}
-use Rattle.asgi_types.specs.declared.end_kind.EndKind.{EndKind}
+use Rattle.asgi_halves.proofs.SessionWords.{ap, ◌∙◌, EndKind}
 use Rattle.asgi_halves.specs.declared.stage.Stage.TheVariants as stage
 use Rattle.asgi_halves.proofs.SessionEndLemmas.{ends_idle}
 use Rattle.asgi_halves.proofs.session_half.WebSocketHalf.end_by.Goals as goal

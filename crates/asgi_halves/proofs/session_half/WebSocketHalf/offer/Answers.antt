@@ -1,5 +1,4 @@
-use Rattle.std.proofs.Common.{Option, ap, ◌∙◌}
-use Rattle.asgi_types.specs.declared.incoming.Incoming.{Incoming}
+use Rattle.asgi_halves.proofs.SessionWords.{Option, ap, ◌∙◌, Incoming}
 use Rattle.asgi_halves.specs.declared.session_half.Session.TheVariants as session
 use Rattle.asgi_halves.proofs.SessionOfferLemmas.{broken_view, left_view, none_view, offered_view, waits_view}
 use Rattle.asgi_halves.proofs.session_half.WebSocketHalf.offer.Goals as goal

@@ -1,7 +1,4 @@
-use Rattle.std.proofs.Common.{◌++◌, subst, sym}
-use Rattle.asgi_ws.specs.Sessions.{given_by}
-use Rattle.asgi_halves.specs.declared.session_half.WebSocketHalf.{WebSocketHalf}
-use Rattle.asgi_halves.specs.WebSocketHalf.{Invariant}
+use Rattle.asgi_halves.proofs.SessionWords.{◌++◌, subst, sym, given_by, WebSocketHalf, Invariant}
 use Rattle.asgi_halves.proofs.LineCallLemmas.{has_read, turn_of_message}
 use Rattle.asgi_halves.proofs.SessionReadLemmas.{noted}
 use Rattle.asgi_halves.proofs.session_half.WebSocketHalf.read_one.Goals as goal

@@ -1,5 +1,4 @@
-use Rattle.std.proofs.Common.{false}
-use Rattle.asgi_types.specs.declared.scope.Kind.TheVariants.{WebSocket}
+use Rattle.asgi_halves.proofs.SessionWords.{false, WebSocket}
 use Rattle.asgi_halves.proofs.SessionTakeLemmas.{not_passed, passed, judged_after}
 use Rattle.asgi_halves.proofs.session_half.WebSocketHalf.say.Goals as goal
 

@@ -1,5 +1,4 @@
-use Rattle.std.proofs.Common.{sym, subst}
-use Rattle.asgi_types.specs.declared.outgoing.Outgoing.{Outgoing}
+use Rattle.asgi_halves.proofs.SessionWords.{sym, subst, Outgoing}
 use Rattle.asgi_halves.specs.WebSocketHalf.{Speaks}
 use Rattle.asgi_halves.proofs.session_half.WebSocketHalf.speak.Goals as goal
 

@@ -1,6 +1,5 @@
-use Rattle.std.proofs.Common.{sym, subst}
-use Rattle.asgi_types.specs.declared.outgoing.Outgoing.{Outgoing}
-use Rattle.asgi_halves.specs.WebSocketHalf.{Speaks, said_in}
+use Rattle.asgi_halves.proofs.SessionWords.{sym, subst, Outgoing, said_in}
+use Rattle.asgi_halves.specs.WebSocketHalf.{Speaks}
 use Rattle.asgi_halves.proofs.SessionPassLemmas.{is_in_scope}
 use Rattle.asgi_halves.proofs.SessionTakeLemmas.{none_left}
 use Rattle.asgi_halves.proofs.session_half.WebSocketHalf.speak_of.Goals as goal
