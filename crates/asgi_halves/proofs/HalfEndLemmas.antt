@@ -150,7 +150,8 @@ uncut_view b c e = absurd (cc (sym c ∙ ap is_by_cut e))
 
 -- ---- the text of the end
 
-module _ {scene : Scene} {was : LineState} {half : HttpHalf} {read : List ℕ} {view : ConnView ℕ ℕ} (x : Invariant scene was half read view) (kind : EndKind) (is : half.stage ≡ Stage.Ending kind) where
+module _ {scene : Scene} {was : LineState} {half : HttpHalf} {read : List ℕ} {view : ConnView ℕ ℕ} (x : Invariant scene was half read view) (kind : EndKind)
+    (is : half.stage ≡ Stage.Ending kind) where
   t : Talks scene half read view
   t = (stage_of x (Stage.Ending kind) is).0
 
@@ -171,7 +172,8 @@ module _ {scene : Scene} {was : LineState} {half : HttpHalf} {read : List ℕ} {
   known_state : (state : BodyState) × (input_of state ≡ known_input half.body) × (IsSettled half.body → state_in scene half view ≡ state)
   known_state = known_as half.body t.given
 
-  module _ (p : Progress) (row_of : (facts : Facts) (said : List Outgoing) → StandsForText half.text facts said → p ≡ progress_of facts said) (settles : NeedsBody kind p half.input_broke → IsSettled half.body) (i : Input) (i_is : i ≡ known_input half.body)
+  module _ (p : Progress) (row_of : (facts : Facts) (said : List Outgoing) → StandsForText half.text facts said → p ≡ progress_of facts said)
+      (settles : NeedsBody kind p half.input_broke → IsSettled half.body) (i : Input) (i_is : i ≡ known_input half.body)
       (following : NextStep) (row : (state : BodyState) → input_of state ≡ i → following ≡ after_task kind p state half.input_broke) where
     abbrev real : BodyState
     real = state_in scene half view
@@ -214,7 +216,8 @@ module _ {scene : Scene} {was : LineState} {half : HttpHalf} {read : List ℕ} {
       all_out = joined ∙ sym (ap (λ (o : Option EndKind). text_of scene.facts (taken_of view) o (input_of real)) ended)
 
       all_output : view.written ++ text ≡ output (http half.wire.limits scene.facts) view
-      all_output = joined ∙ sym (ap (λ (o : Option EndKind). response_text scene.facts (taken_of view) ++ added_by (http half.wire.limits scene.facts) (taken_of view) o view.broken_first view.arrived) ended)
+      all_output =
+          joined ∙ sym (ap (λ (o : Option EndKind). response_text scene.facts (taken_of view) ++ added_by (http half.wire.limits scene.facts) (taken_of view) o view.broken_first view.arrived) ended)
 
       leaves : (f : NextStep) → following ≡ f → (wire : Wire) → wire.out.items ≡ []
           → Leaves f scene (record half { wire = record half.wire { out = wire.out }; stage = Stage.Over following }) read (record view { written = view.written ++ text })
@@ -256,12 +259,14 @@ module _ {scene : Scene} {was : LineState} {half : HttpHalf} {read : List ℕ} {
 
       module _ (now : LineState) (wire : Wire) (same : wire ≡ record half.wire { out = wire.out }) where
         -- all of it went out
-        pub ends_written : wire.out.items ≡ [] → HasPut was now text 0 → Invariant scene now (record half { wire = wire; stage = Stage.Over following }) read (record view { written = view.written ++ text })
+        pub ends_written : wire.out.items ≡ [] → HasPut was now text 0
+            → Invariant scene now (record half { wire = wire; stage = Stage.Over following }) read (record view { written = view.written ++ text })
         ends_written empty put =
             subst (λ (w : Wire). Invariant scene now (record half { wire = w; stage = Stage.Over following }) read (record view { written = view.written ++ text })) (sym same)
             (record {
               moved = subst (λ (k : ℕ). Transferred scene.start now half.wire.input read (scene.before ++ (view.written ++ text)) k)
-                  (sym (ap (λ (f : NextStep). failures_at (Stage.Over f)) real_row ∙ (uncut p real half.input_broke).1)) (moved_on scene was now half read view.written text 0 (unfailed x (ap failures_at is)) put);
+                  (sym (ap (λ (f : NextStep). failures_at (Stage.Over f)) real_row ∙ (uncut p real half.input_broke).1))
+                  (moved_on scene was now half read view.written text 0 (unfailed x (ap failures_at is)) put);
               limits = x.limits;
               within = x.within;
               keeps = record { offered = x.keeps.offered; written = ([], append-nil (view.written ++ text) ∙ all_output) };
@@ -276,7 +281,8 @@ module _ {scene : Scene} {was : LineState} {half : HttpHalf} {read : List ℕ} {
             let all = append_assoc view.written (take m text) (drop m text) ∙ (ap (λ (l : List ℕ). view.written ++ l) (take-append-drop m text) ∙ all_output) in
             let stops : StopsWithin m (known scene view) (input_of real) (view.written ++ take m text) =
             record { out = view.written; more = text; is_next = Ending kind ended t.written added; within = less; written_is = refl } in
-            subst (λ (w : Wire). Invariant scene now (record half { wire = w; stage = Stage.Over (NextStep.ConnectionEnds (Outcome.WriteFailed m)) }) read (record view { written = view.written ++ take m text })) (sym same)
+            subst (λ (w : Wire). Invariant scene now (record half { wire = w; stage = Stage.Over (NextStep.ConnectionEnds (Outcome.WriteFailed m)) }) read
+            (record view { written = view.written ++ take m text })) (sym same)
             (record {
               moved = moved_on scene was now half read view.written (take m text) 1 (unfailed x (ap failures_at is)) put;
               limits = x.limits;
@@ -347,7 +353,8 @@ module _ {scene : Scene} {now : LineState} {half : HttpHalf} {read : List ℕ} {
         })
 
     took : (item : OutItem) (s : Stage) → failures_of out ≡ failures_at s
-        → (IsCutShort scene (record half { stage = s }) (record view { got = view.got ++ item ∷ [] }) out → IsAt s scene (record half { stage = s }) read (record view { got = view.got ++ item ∷ [] }))
+        → (IsCutShort scene (record half { stage = s }) (record view { got = view.got ++ item ∷ [] }) out
+        → IsAt s scene (record half { stage = s }) read (record view { got = view.got ++ item ∷ [] }))
         → Invariant scene now (record half { stage = s }) read (record view { got = view.got ++ item ∷ [] })
     took item s same at = record {
       moved = subst (λ (n : ℕ). Transferred scene.start now half.wire.input read (scene.before ++ view.written) n) (ap failures_at is ∙ same) x.moved;

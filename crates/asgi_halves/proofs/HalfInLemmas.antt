@@ -38,7 +38,8 @@ module _ {scene : Scene} {now : LineState} {half : HttpHalf} {read : List ℕ} {
       let all : later.offered ≡ t.events ++ event ∷ [] = ap (λ (l : List Incoming). l ++ event ∷ []) (r.offered unbroke) in
       let due = first_due half.wire.requests read scene.opened scene.facts.framing view.arrived (opens_in x) (t.events ++ event ∷ []) given in
       let front = subst (λ (l : Limits). IsPrefix (t.events ++ event ∷ []) (body_events l scene.facts.framing view.arrived)) x.limits due in
-      let talks = talks_on t half.wire.requests half.wire.input BodyProgress.Open read view.arrived later.offered (λ e. absurd (not_both half.input_broke unbroke e)) (t.events ++ event ∷ []) given tt in
+      let talks = talks_on t half.wire.requests half.wire.input BodyProgress.Open read view.arrived later.offered (λ e. absurd (not_both half.input_broke unbroke e))
+      (t.events ++ event ∷ []) given tt in
       record {
         moved = x.moved;
         limits = x.limits;
@@ -110,7 +111,8 @@ ends_anywhere _ end reads = tt
 
 -- before or after the end of the task
 module _ {scene : Scene} {was now : LineState} {half : HttpHalf} {read : List ℕ} {view : ConnView ℕ ℕ} (x : Invariant scene was half read view) (t : Talks scene half read view)
-    (failed : failures_at half.stage ≡ 0) (still : has_ended half.wire.input ≡ false) (reads : ReadsAt half.body) (asked : HasAsked half) (few : half.body ≡ BodyProgress.Whole → HoldsFew half.wire.requests)
+    (failed : failures_at half.stage ≡ 0) (still : has_ended half.wire.input ≡ false) (reads : ReadsAt half.body) (asked : HasAsked half)
+    (few : half.body ≡ BodyProgress.Whole → HoldsFew half.wire.requests)
     (more : List ℕ) (short : length more ≤ piece_size) (wire : Wire) (same : wire ≡ record half.wire { requests = wire.requests; input = wire.input })
     (limits : wire.requests.limits ≡ half.wire.requests.limits)
     (moved : Transferred scene.start was half.wire.input read (scene.before ++ view.written) 0 → Transferred scene.start now wire.input (read ++ more) (scene.before ++ view.written) 0) where
@@ -128,7 +130,8 @@ module _ {scene : Scene} {was now : LineState} {half : HttpHalf} {read : List �
       let never = unbroken view.broken t.uncut (sym t.input_broke ∙ unbroke) in
       let front = subst (λ (b : Option Break). IsOffered (http half.wire.limits scene.facts) view.arrived view.offered b) never x.keeps.offered in
       let ahead = subst (λ (l : Limits). ReadsAhead l (read ++ more) (requests_in scene)) x.limits
-      (reads_in half.wire.requests read more scene.opened scene.facts.framing view.arrived (opens_in x) t.events (requests_in scene) x.within.heads short half.body reads t.given (asked unbroke) few) in
+      (reads_in half.wire.requests read more scene.opened scene.facts.framing view.arrived (opens_in x) t.events (requests_in scene) x.within.heads short half.body reads t.given
+      (asked unbroke) few) in
       subst (λ (w : Wire). Invariant scene now (record half { wire = w; stage = s }) (read ++ more) longer) (sym same)
       (record {
         moved = subst (λ (n : ℕ). Transferred scene.start now wire.input (read ++ more) (scene.before ++ view.written) n) (sym none) (moved (unfailed x failed));
@@ -150,7 +153,8 @@ module _ {scene : Scene} {was now : LineState} {half : HttpHalf} {read : List �
         talks_on t wire.requests wire.input half.body (read ++ more) (view.arrived ++ more) view.offered (λ e. absurd (not_both half.input_broke unbroke e)) t.events
         (given_fed half.wire.requests wire.requests read more scene.opened t.events half.body reads fed t.given) (ends_anywhere half.body wire.input reads)
 
-    pub read_more : half.stage ≡ Stage.Running → end_of view.got ≡ None → (half.input_broke ≡ false → view.offered ≡ t.events) → Invariant scene now (record half { wire = wire }) (read ++ more) longer
+    pub read_more : half.stage ≡ Stage.Running → end_of view.got ≡ None → (half.input_broke ≡ false → view.offered ≡ t.events)
+        → Invariant scene now (record half { wire = wire }) (read ++ more) longer
     read_more is unended offered =
         arrives half.stage failed (subst (λ (s : Stage). IsAt s scene reading (read ++ more) longer) (sym is) (record { talks = talks_more; unended = unended; offered = offered }))
 

@@ -82,8 +82,10 @@ pub still_written : (limits : Limits) (facts : Facts) (view : ConnView ℕ ℕ) 
 still_written limits facts view item unended front =
     let later : ConnView ℕ ℕ = record view { got = view.got ++ item ∷ [] } in
     let more = text_front facts (taken_of view) (taken_of later) (events_of (item ∷ []), sym (events_append view.got (item ∷ []))) in
-    let on = prefix_trans view.written (response_text facts (taken_of view)) (response_text facts (taken_of later)) (subst (λ (l : List ℕ). IsPrefix view.written l) (output_open limits facts view unended) front) more in
-    prefix_trans view.written (response_text facts (taken_of later)) (output (http limits facts) later) on (added_by (http limits facts) (taken_of later) (end_of later.got) later.broken_first later.arrived, refl)
+    let on = prefix_trans view.written (response_text facts (taken_of view)) (response_text facts (taken_of later))
+    (subst (λ (l : List ℕ). IsPrefix view.written l) (output_open limits facts view unended) front) more in
+    prefix_trans view.written (response_text facts (taken_of later)) (output (http limits facts) later) on
+    (added_by (http limits facts) (taken_of later) (end_of later.got) later.broken_first later.arrived, refl)
 
 -- a text was written: how much of it, and how many writes failed
 pub record HasPut (was now : LineState) (part : List ℕ) (failures : ℕ) : Type 0 where
@@ -103,14 +105,15 @@ abbrev pub failed_at : Outcome → ℕ
 failed_at (Outcome.WriteFailed n) = n
 failed_at _ = 0
 
-module _ (scene : Scene) (was now : LineState) (half : HttpHalf) (read : List ℕ) (view : ConnView ℕ ℕ) (p : Pending scene was half read view) (wire : Wire) (same : wire ≡ record half.wire { out = wire.out }) where
+module _ (scene : Scene) (was now : LineState) (half : HttpHalf) (read : List ℕ) (view : ConnView ℕ ℕ) (p : Pending scene was half read view) (wire : Wire)
+    (same : wire ≡ record half.wire { out = wire.out }) where
   -- all of the text in hand went out
   pub put_done : wire.out.items ≡ [] → HasPut was now half.wire.out.items 0 → Invariant scene now (record half { wire = wire }) read (record view { written = view.written ++ half.wire.out.items })
-  put_done empty put =
+  put_done all put =
       let later : ConnView ℕ ℕ = record view { written = view.written ++ half.wire.out.items } in
       let emptied : HttpHalf = record half { wire = record half.wire { out = wire.out } } in
       let talks : Talks scene emptied read later =
-      record { uncut = p.uncut; input_broke = p.input_broke; settled = p.settled; events = p.events; given = p.given; ends_where = p.ends_where; text = p.text; written = sym p.grows; empty = empty } in
+      record { uncut = p.uncut; input_broke = p.input_broke; settled = p.settled; events = p.events; given = p.given; ends_where = p.ends_where; text = p.text; written = sym p.grows; empty = all } in
       subst (λ (w : Wire). Invariant scene now (record half { wire = w }) read later) (sym same)
       (record {
         moved = subst (λ (s : Stage). Transferred scene.start now half.wire.input read (scene.before ++ later.written) (failures_at s)) (sym p.running)
@@ -186,7 +189,8 @@ module _ (scene : Scene) (now : LineState) (half : HttpHalf) (read : List ℕ) (
       }
 
   -- there is no memory for its text
-  pub said_short : Invariant scene now (record half { wire = record half.wire { out = wire.out }; text = text; stage = Stage.Cut Outcome.NoMemory }) read (record view { got = view.got ++ OutItem.Event event ∷ [] })
+  pub said_short : Invariant scene now (record half { wire = record half.wire { out = wire.out }; text = text; stage = Stage.Cut Outcome.NoMemory }) read
+      (record view { got = view.got ++ OutItem.Event event ∷ [] })
   said_short = record {
     moved = unfailed x (ap failures_at is);
     limits = x.limits;
@@ -203,7 +207,8 @@ module _ (scene : Scene) (now : LineState) (facts : Facts) (read arrived : List 
   begun_moved = subst (λ (l : List ℕ). Transferred scene.start now old.input read l 0) (sym (append-nil scene.before)) o.moved
 
   pub begun_pending : StandsForText text facts [] → wire.out.items ≡ old.out.items ++ response_text facts []
-      → Pending scene now (record { wire = record old { out = wire.out }; body = BodyProgress.Open; text = text; input_broke = false; stage = Stage.Running }) read (record empty_conn { arrived = arrived })
+      → Pending scene now (record { wire = record old { out = wire.out }; body = BodyProgress.Open; text = text; input_broke = false; stage = Stage.Running }) read
+      (record empty_conn { arrived = arrived })
   begun_pending stands adds =
       let in_hand : wire.out.items ≡ response_text scene.facts [] = adds ∙ (ap (λ (l : List ℕ). l ++ response_text facts []) o.empty ∙ ap (λ (f : Facts). response_text f []) o.facts_are) in
       record {
@@ -226,7 +231,8 @@ module _ (scene : Scene) (now : LineState) (facts : Facts) (read arrived : List 
         hand = λ input. Beginning refl in_hand;
       }
 
-  pub begun_short : Invariant scene now (record { wire = record old { out = wire.out }; body = BodyProgress.Open; text = text; input_broke = false; stage = Stage.Cut Outcome.NoMemory }) read (record empty_conn { arrived = arrived })
+  pub begun_short : Invariant scene now (record { wire = record old { out = wire.out }; body = BodyProgress.Open; text = text; input_broke = false; stage = Stage.Cut Outcome.NoMemory }) read
+      (record empty_conn { arrived = arrived })
   begun_short = record {
     moved = begun_moved;
     limits = o.limits;

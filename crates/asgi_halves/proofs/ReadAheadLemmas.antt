@@ -78,7 +78,8 @@ heads_in_body opened events = heads_join opened (map Next.Event events) ∙ ap (
 
 pub heads_after : (opened : List Next) (events : List Incoming) → heads_of (opened ++ (map Next.Event events ++ Next.Whole ∷ [])) ≡ heads_of opened
 heads_after opened events =
-    ap heads_of (sym (append_assoc opened (map Next.Event events) (Next.Whole ∷ []))) ∙ heads_join (opened ++ map Next.Event events) (Next.Whole ∷ []) ∙ append-nil (heads_of (opened ++ map Next.Event events))
+    ap heads_of (sym (append_assoc opened (map Next.Event events) (Next.Whole ∷ []))) ∙ heads_join (opened ++ map Next.Event events) (Next.Whole ∷ []) ∙ append-nil
+    (heads_of (opened ++ map Next.Event events))
     ∙ heads_in_body opened events
 
 -- one more
