@@ -2,7 +2,7 @@
 use Rattle.asgi_halves.proofs.HalfWords.{◌≡◌, ℕ, true, false, List, [], ◌∷◌, ◌++◌, map, refl, sym, ap, ◌∙◌, subst, Option, Some, None, Bool, ◌⊎◌, ◌≤◌, length, IsPrefix, Incoming, Limits, Next}
 use Rattle.asgi_halves.proofs.HalfWords.{body_events, body_state, Reading, StandsFor, IsViewOf, IsOffered, http, Break, ByInput, ConnView, prefix_trans, BodyProgress, HttpHalf, Stage, InputEnd}
 use Rattle.asgi_halves.proofs.HalfWords.{Outcome, Wire, Scene, Invariant, requests_in, IsRunning, HasGiven, EndsWhere, BreaksAt, KeepsBesidesBody, GivesAfter, HasAsked, HoldsFew, ReadsAt, LineState}
-use Rattle.asgi_halves.proofs.HalfWords.{Transferred, piece_size, ReadsAhead, has_ended, is_faulty, ConnGhosts, IsAt, NextStep, end_of, failures_at, EndKind, inr, Talks}
+use Rattle.asgi_halves.proofs.HalfWords.{Transferred, piece_size, ReadsAhead, has_ended, is_faulty, ConnGhosts, IsAt, NextStep, end_of, failures_at, EndKind, inr, Talks, ConnKeeps}
 use Rattle.asgi_exchange.proofs.HttpLemmas.{http_is_steady}
 use Rattle.asgi_halves.proofs.{HalfBodyLemmas.unbroken, HalfBodyLemmas.first_due, HalfBodyLemmas.all_due, HalfBodyLemmas.why_broken, HalfLemmas.running_of, HalfLemmas.unfailed}
 use Rattle.asgi_halves.proofs.{ReadAheadLemmas.reads_in, ReadAheadLemmas.within_reads, HalfLemmas.restage, HalfLemmas.lacks, HalfLemmas.talks_on, HalfLemmas.opens_in, HalfLemmas.all_written}
@@ -40,18 +40,11 @@ module _ {scene : Scene} {now : LineState} {half : HttpHalf} {read : List ℕ} {
       let front = subst (λ (l : Limits). IsPrefix (t.events ++ event ∷ []) (body_events l scene.facts.framing view.arrived)) x.limits due in
       let talks = talks_on t half.wire.requests half.wire.input BodyProgress.Open read view.arrived later.offered (λ e. absurd (not_both half.input_broke unbroke e))
       (t.events ++ event ∷ []) given tt in
-      record {
-        moved = x.moved;
-        limits = x.limits;
-        within = x.within;
-        keeps = record {
-          offered = subst (λ (b : Option Break). IsOffered (http half.wire.limits scene.facts) view.arrived later.offered b) (sym (none_broke unbroke))
-              (subst (λ (l : List Incoming). IsPrefix l (body_events half.wire.limits scene.facts.framing view.arrived)) (sym all) front);
-          written = x.keeps.written;
-        };
-        breaks = x.breaks;
-        stage = subst (λ (s : Stage). IsAt s scene (record half { body = BodyProgress.Open }) read later) (sym is) (record { talks = talks; unended = r.unended; offered = λ e. all });
-      }
+      let offered = subst (λ (b : Option Break). IsOffered (http half.wire.limits scene.facts) view.arrived later.offered b) (sym (none_broke unbroke))
+      (subst (λ (l : List Incoming). IsPrefix l (body_events half.wire.limits scene.facts.framing view.arrived)) (sym all) front) in
+      let keeps : ConnKeeps (http half.wire.limits scene.facts) later = record { offered = offered; written = x.keeps.written } in
+      let stage = subst (λ (s : Stage). IsAt s scene (record half { body = BodyProgress.Open }) read later) (sym is) (record { talks = talks; unended = r.unended; offered = λ e. all }) in
+      record { moved = x.moved; limits = x.limits; within = x.within; keeps = keeps; breaks = x.breaks; stage = stage }
 
   -- the same, with the clauses of the end's calls
   pub offered_view : (E : Type 0) (C : ConnGhosts E) (old new : E) (event : Incoming) → half.input_broke ≡ false → half.body ≡ BodyProgress.Waits event → IsViewOf C old view
@@ -81,14 +74,11 @@ module _ {scene : Scene} {now : LineState} {half : HttpHalf} {read : List ℕ} {
       let why = why_broken half.wire.requests read scene.opened scene.facts.framing view.arrived (opens_in x) t.events half.body half.wire.input t.given breaks in
       let talks : Talks scene (record half { input_broke = true }) read later =
       record { uncut = refl; input_broke = refl; settled = λ e. breaks; events = t.events; given = t.given; ends_where = t.ends_where; text = t.text; written = t.written; empty = t.empty } in
-      record {
-        moved = x.moved;
-        limits = x.limits;
-        within = x.within;
-        keeps = record { offered = ap (λ (l : List Incoming). l ++ Incoming.HttpDisconnect ∷ []) (r.offered unbroke ∙ due); written = x.keeps.written };
-        breaks = λ e. subst (λ (l : Limits). (has_ended half.wire.input ≡ true) ⊎ (is_faulty (body_state l scene.facts.framing view.arrived) ≡ true)) x.limits why;
-        stage = subst (λ (s : Stage). IsAt s scene (record half { input_broke = true }) read later) (sym is) (record { talks = talks; unended = r.unended; offered = λ e. cc });
-      }
+      let keeps : ConnKeeps (http half.wire.limits scene.facts) later =
+      record { offered = ap (λ (l : List Incoming). l ++ Incoming.HttpDisconnect ∷ []) (r.offered unbroke ∙ due); written = x.keeps.written } in
+      let broke = subst (λ (l : Limits). (has_ended half.wire.input ≡ true) ⊎ (is_faulty (body_state l scene.facts.framing view.arrived) ≡ true)) x.limits why in
+      let stage = subst (λ (s : Stage). IsAt s scene (record half { input_broke = true }) read later) (sym is) (record { talks = talks; unended = r.unended; offered = λ e. cc }) in
+      record { moved = x.moved; limits = x.limits; within = x.within; keeps = keeps; breaks = λ e. broke; stage = stage }
 
 -- ---- a read
 

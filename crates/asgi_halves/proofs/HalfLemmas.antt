@@ -3,7 +3,7 @@ use Rattle.asgi_halves.proofs.HalfWords.{◌≡◌, ℕ, false, ◌<◌, List, [
 use Rattle.asgi_halves.proofs.HalfWords.{IsPrefix, RoseBy, TriesWrites, EndKind, Facts, Limits, Outgoing, Next, body_events, response_text, OutItem, http, input_of, end_of, ConnView, output}
 use Rattle.asgi_halves.proofs.HalfWords.{added_by, taken_of, events_append, end_event, BodyProgress, HttpHalf, Stage, Outcome, Wire, Scene, Invariant, IsRunning, IsAt, failures_at, known, state_in}
 use Rattle.asgi_halves.proofs.HalfWords.{LineState, Transferred, StopsWithin, StandsFor, StandsForText, IsCutShort, HasOpened, InputEnd, Incoming, Reading, BreaksAt, HasGiven, EndsWhere}
-use Rattle.asgi_halves.proofs.HalfWords.{prefix_trans, events_of, Talks, true}
+use Rattle.asgi_halves.proofs.HalfWords.{prefix_trans, events_of, Talks, true, ConnKeeps}
 use Rattle.asgi_conversation.proofs.SoFarLemmas.{text_front}
 use Rattle.asgi_conversation.specs.ExchangeRecord.{Beginning, Saying}
 use Rattle.asgi_exchange.proofs.EventLemmas.{end_ended}
@@ -36,14 +36,9 @@ module _ {scene : Scene} {now : LineState} {half : HttpHalf} {read : List ℕ} {
   -- another stage, with another body and another text in hand
   pub restage : (later : HttpHalf) → later.wire.requests.limits ≡ half.wire.requests.limits → failures_at half.stage ≡ failures_at later.stage
       → IsAt later.stage scene (among half later) read view → Invariant scene now (among half later) read view
-  restage later same failed at = record {
-    moved = subst (λ (n : ℕ). Transferred scene.start now half.wire.input read (scene.before ++ view.written) n) failed x.moved;
-    limits = same ∙ x.limits;
-    within = x.within;
-    keeps = x.keeps;
-    breaks = x.breaks;
-    stage = at;
-  }
+  restage later same failed at =
+      let moved = subst (λ (n : ℕ). Transferred scene.start now half.wire.input read (scene.before ++ view.written) n) failed x.moved in
+      record { moved = moved; limits = same ∙ x.limits; within = x.within; keeps = x.keeps; breaks = x.breaks; stage = at }
 
   pub stands_still : Invariant scene now half (read ++ []) view
   stands_still = subst (λ (l : List ℕ). Invariant scene now half l view) (sym (append-nil read)) x
@@ -191,14 +186,10 @@ module _ (scene : Scene) (now : LineState) (half : HttpHalf) (read : List ℕ) (
   -- there is no memory for its text
   pub said_short : Invariant scene now (record half { wire = record half.wire { out = wire.out }; text = text; stage = Stage.Cut Outcome.NoMemory }) read
       (record view { got = view.got ++ OutItem.Event event ∷ [] })
-  said_short = record {
-    moved = unfailed x (ap failures_at is);
-    limits = x.limits;
-    within = x.within;
-    keeps = record { offered = x.keeps.offered; written = still_written half.wire.limits scene.facts view (OutItem.Event event) (running_of x is).unended x.keeps.written };
-    breaks = x.breaks;
-    stage = (lacks, still_open);
-  }
+  said_short =
+      let written = still_written half.wire.limits scene.facts view (OutItem.Event event) (running_of x is).unended x.keeps.written in
+      let keeps : ConnKeeps (http half.wire.limits scene.facts) (record view { got = view.got ++ OutItem.Event event ∷ [] }) = record { offered = x.keeps.offered; written = written } in
+      record { moved = unfailed x (ap failures_at is); limits = x.limits; within = x.within; keeps = keeps; breaks = x.breaks; stage = (lacks, still_open) }
 
 -- ---- an exchange begins
 
@@ -255,11 +246,5 @@ ended_taken scene now half read view kind x is =
     let text : StandsForText half.text scene.facts (taken_of later) = subst (λ (l : List Outgoing). StandsForText half.text scene.facts l) (sym same) t.text in
     let talks : Talks scene (record half { stage = Stage.Ending kind }) read later =
     record { uncut = t.uncut; input_broke = t.input_broke; settled = t.settled; events = t.events; given = t.given; ends_where = t.ends_where; text = text; written = out; empty = t.empty } in
-    record {
-      moved = unfailed x (ap failures_at is);
-      limits = x.limits;
-      within = x.within;
-      keeps = record { offered = x.keeps.offered; written = all_written half.wire.limits scene.facts later out };
-      breaks = x.breaks;
-      stage = (talks, end_ended view.got kind r.unended);
-    }
+    let keeps : ConnKeeps (http half.wire.limits scene.facts) later = record { offered = x.keeps.offered; written = all_written half.wire.limits scene.facts later out } in
+    record { moved = unfailed x (ap failures_at is); limits = x.limits; within = x.within; keeps = keeps; breaks = x.breaks; stage = (talks, end_ended view.got kind r.unended) }
