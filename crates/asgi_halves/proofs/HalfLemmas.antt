@@ -224,14 +224,11 @@ module _ (scene : Scene) (now : LineState) (facts : Facts) (read arrived : List 
 
   pub begun_short : Invariant scene now (record { wire = record old { out = wire.out }; body = BodyProgress.Open; text = text; input_broke = false; stage = Stage.Cut Outcome.NoMemory }) read
       (record empty_conn { arrived = arrived })
-  begun_short = record {
-    moved = begun_moved;
-    limits = o.limits;
-    within = o.within;
-    keeps = record { offered = (body_events old.limits scene.facts.framing arrived, refl); written = (output (http old.limits scene.facts) (record empty_conn { arrived = arrived }), refl) };
-    breaks = λ e. cc;
-    stage = (lacks, refl);
-  }
+  begun_short =
+      let view : ConnView ℕ ℕ = record empty_conn { arrived = arrived } in
+      let keeps : ConnKeeps (http old.limits scene.facts) view =
+      record { offered = (body_events old.limits scene.facts.framing arrived, refl); written = (output (http old.limits scene.facts) view, refl) } in
+      record { moved = begun_moved; limits = o.limits; within = o.within; keeps = keeps; breaks = λ e. cc; stage = (lacks, refl) }
 
 -- ---- the end of the task is taken
 
