@@ -32,7 +32,8 @@ pub send_after : (calls : List Call) (item : SentMessage) (answer : Put) → rea
 send_after [] item answer = same_either (is_close (Call.Send item answer)) 0
 send_after (first ∷ calls) item answer =
     elim (is_close first) as
-    (λ b. (if b then count_by is_read (calls ++ Call.Send item answer ∷ []) else reads_after_close (calls ++ Call.Send item answer ∷ [])) ≡ (if b then count_by is_read calls else reads_after_close calls))
+    (λ b. (if b then count_by is_read (calls ++ Call.Send item answer ∷ []) else reads_after_close
+    (calls ++ Call.Send item answer ∷ [])) ≡ (if b then count_by is_read calls else reads_after_close calls))
     [ true ↦ omega (arith, counted is_read calls (Call.Send item answer)) | false ↦ send_after calls item answer ]
 
 -- ---- no message follows
@@ -42,7 +43,8 @@ pub none_after_end : (calls : List Call) (answer : Got) → says_over calls ≡ 
 none_after_end [] answer goes_on = same_either (is_end answer) 0
 none_after_end (Call.Read first ∷ calls) answer goes_on = by (is_end first) (λ on. none_after_end calls answer on) goes_on
   where
-    by : (b : Bool) → (says_over calls ≡ false → reads_after_end (calls ++ Call.Read answer ∷ []) ≡ 0) → (b || says_over calls) ≡ false → (if b then count_by is_read (calls ++ Call.Read answer ∷ []) else reads_after_end (calls ++ Call.Read answer ∷ [])) ≡ 0
+    by : (b : Bool) → (says_over calls ≡ false → reads_after_end (calls ++ Call.Read answer ∷ []) ≡ 0) → (b || says_over calls) ≡ false
+        → (if b then count_by is_read (calls ++ Call.Read answer ∷ []) else reads_after_end (calls ++ Call.Read answer ∷ [])) ≡ 0
     by true later on = cc
     by false later on = later on
 none_after_end (Call.Send item result ∷ calls) answer goes_on = none_after_end calls answer goes_on
@@ -50,7 +52,8 @@ none_after_end (Call.Send item result ∷ calls) answer goes_on = none_after_end
 pub end_send : (calls : List Call) (item : SentMessage) (answer : Put) → reads_after_end (calls ++ Call.Send item answer ∷ []) ≡ reads_after_end calls
 end_send [] item answer = refl
 end_send (Call.Read first ∷ calls) item answer =
-    elim (is_end first) as (λ b. (if b then count_by is_read (calls ++ Call.Send item answer ∷ []) else reads_after_end (calls ++ Call.Send item answer ∷ [])) ≡ (if b then count_by is_read calls else reads_after_end calls))
+    elim (is_end first) as (λ b. (if b then count_by is_read (calls ++ Call.Send item answer ∷ []) else reads_after_end
+    (calls ++ Call.Send item answer ∷ [])) ≡ (if b then count_by is_read calls else reads_after_end calls))
     [ true ↦ omega (arith, counted is_read calls (Call.Send item answer)) | false ↦ end_send calls item answer ]
 end_send (Call.Send other first ∷ calls) item answer = end_send calls item answer
 
@@ -119,7 +122,8 @@ open_closes handshake facts _ begins is = absurd (cc is)
 -- ---- what is out
 
 -- with one more text, if no message was sent
-pub as_text : (text part : List ℕ) (handed : List SentMessage) (written : List Output) → handed ≡ [] → written ≡ map Byte text ++ map Message handed → map Byte (text ++ part) ++ map Message handed ≡ written ++ map Byte part
+pub as_text : (text part : List ℕ) (handed : List SentMessage) (written : List Output) → handed ≡ [] → written ≡ map Byte text ++ map Message handed
+    → map Byte (text ++ part) ++ map Message handed ≡ written ++ map Byte part
 as_text text part handed written none is =
     ap (λ (h : List SentMessage). map Byte (text ++ part) ++ map Message h) none
     ∙ (append-nil (map Byte (text ++ part))
@@ -127,7 +131,8 @@ as_text text part handed written none is =
     ∙ ap (λ (l : List Output). l ++ map Byte part) (sym (is ∙ (ap (λ (h : List SentMessage). map Byte text ++ map Message h) none ∙ append-nil (map Byte text))))))
 
 -- with more messages
-pub as_messages : (text : List ℕ) (handed more : List SentMessage) (written : List Output) → written ≡ map Byte text ++ map Message handed → map Byte text ++ map Message (handed ++ more) ≡ written ++ map Message more
+pub as_messages : (text : List ℕ) (handed more : List SentMessage) (written : List Output) → written ≡ map Byte text ++ map Message handed
+    → map Byte text ++ map Message (handed ++ more) ≡ written ++ map Message more
 as_messages text handed more written is =
     ap (λ (l : List Output). map Byte text ++ l) (map-append Message handed more)
     ∙ (sym (append_assoc (map Byte text) (map Message handed) (map Message more)) ∙ ap (λ (l : List Output). l ++ map Message more) (sym is))

@@ -4,10 +4,11 @@ use Rattle.asgi_halves.proofs.HalfWords.{None, ◌⊎◌, take-append-drop, EndK
 use Rattle.asgi_halves.proofs.HalfWords.{input_of, end_of, is_by_input, is_by_cut, Break, ByCut, ConnView, output, added_by, taken_of, events_append, end_event, NextStep, BodyProgress, HttpHalf}
 use Rattle.asgi_halves.proofs.HalfWords.{Stage, InputEnd, Outcome, Wire, BreaksAt, EndsWhere, HasGiven, IsAt, Scene, Invariant, failures_at, known, state_in, KeepsBesidesBody, GivesAfter, LineState}
 use Rattle.asgi_halves.proofs.HalfWords.{Transferred, StopsWithin, has_ended, is_faulty, IsCutOff, StandsForText, events_of, IsCutShort, IsSettled, known_input, partial, faulty, body_state, Talks}
+use Rattle.asgi_halves.proofs.HalfWords.{ConnKeeps}
 use Rattle.asgi_conversation.proofs.NextLemmas.{next_on}
 use Rattle.asgi_conversation.specs.{ExchangeRecord.Ending, OutcomeClasses.cuts_exchange, OutcomeClasses.is_cut, Persistence.InHand, TaskEnds.after_response, TaskEnds.after_task, TaskEnds.incomplete}
 use Rattle.asgi_conversation.specs.{TaskEnds.kept, TaskEnds.unanswered}
-use Rattle.asgi_exchange.specs.{ExchangeTexts.text_of, Halves.ConnKeeps}
+use Rattle.asgi_exchange.specs.ExchangeTexts.{text_of}
 use Rattle.asgi_halves.specs.{Half.Leaves, Traffic.failures_of, private.HalfSteps.GivesOn, private.HalfSteps.NeedsBody}
 use Rattle.asgi_response.proofs.EndLemmas.{nothing_added}
 use Rattle.asgi_response.specs.{Exchange.added_by_end, Exchange.end_text, Progress.progress_of, declared.progress.Progress.Progress}
@@ -150,7 +151,8 @@ uncut_view b c e = absurd (cc (sym c ∙ ap is_by_cut e))
 
 -- ---- the text of the end
 
-module _ {scene : Scene} {was : LineState} {half : HttpHalf} {read : List ℕ} {view : ConnView ℕ ℕ} (x : Invariant scene was half read view) (kind : EndKind) (is : half.stage ≡ Stage.Ending kind) where
+module _ {scene : Scene} {was : LineState} {half : HttpHalf} {read : List ℕ} {view : ConnView ℕ ℕ} (x : Invariant scene was half read view) (kind : EndKind)
+    (is : half.stage ≡ Stage.Ending kind) where
   t : Talks scene half read view
   t = (stage_of x (Stage.Ending kind) is).0
 
@@ -171,7 +173,8 @@ module _ {scene : Scene} {was : LineState} {half : HttpHalf} {read : List ℕ} {
   known_state : (state : BodyState) × (input_of state ≡ known_input half.body) × (IsSettled half.body → state_in scene half view ≡ state)
   known_state = known_as half.body t.given
 
-  module _ (p : Progress) (row_of : (facts : Facts) (said : List Outgoing) → StandsForText half.text facts said → p ≡ progress_of facts said) (settles : NeedsBody kind p half.input_broke → IsSettled half.body) (i : Input) (i_is : i ≡ known_input half.body)
+  module _ (p : Progress) (row_of : (facts : Facts) (said : List Outgoing) → StandsForText half.text facts said → p ≡ progress_of facts said)
+      (settles : NeedsBody kind p half.input_broke → IsSettled half.body) (i : Input) (i_is : i ≡ known_input half.body)
       (following : NextStep) (row : (state : BodyState) → input_of state ≡ i → following ≡ after_task kind p state half.input_broke) where
     abbrev real : BodyState
     real = state_in scene half view
@@ -214,7 +217,8 @@ module _ {scene : Scene} {was : LineState} {half : HttpHalf} {read : List ℕ} {
       all_out = joined ∙ sym (ap (λ (o : Option EndKind). text_of scene.facts (taken_of view) o (input_of real)) ended)
 
       all_output : view.written ++ text ≡ output (http half.wire.limits scene.facts) view
-      all_output = joined ∙ sym (ap (λ (o : Option EndKind). response_text scene.facts (taken_of view) ++ added_by (http half.wire.limits scene.facts) (taken_of view) o view.broken_first view.arrived) ended)
+      all_output =
+          joined ∙ sym (ap (λ (o : Option EndKind). response_text scene.facts (taken_of view) ++ added_by (http half.wire.limits scene.facts) (taken_of view) o view.broken_first view.arrived) ended)
 
       leaves : (f : NextStep) → following ≡ f → (wire : Wire) → wire.out.items ≡ []
           → Leaves f scene (record half { wire = record half.wire { out = wire.out }; stage = Stage.Over following }) read (record view { written = view.written ++ text })
@@ -256,35 +260,31 @@ module _ {scene : Scene} {was : LineState} {half : HttpHalf} {read : List ℕ} {
 
       module _ (now : LineState) (wire : Wire) (same : wire ≡ record half.wire { out = wire.out }) where
         -- all of it went out
-        pub ends_written : wire.out.items ≡ [] → HasPut was now text 0 → Invariant scene now (record half { wire = wire; stage = Stage.Over following }) read (record view { written = view.written ++ text })
+        pub ends_written : wire.out.items ≡ [] → HasPut was now text 0
+            → Invariant scene now (record half { wire = wire; stage = Stage.Over following }) read (record view { written = view.written ++ text })
         ends_written empty put =
-            subst (λ (w : Wire). Invariant scene now (record half { wire = w; stage = Stage.Over following }) read (record view { written = view.written ++ text })) (sym same)
-            (record {
-              moved = subst (λ (k : ℕ). Transferred scene.start now half.wire.input read (scene.before ++ (view.written ++ text)) k)
-                  (sym (ap (λ (f : NextStep). failures_at (Stage.Over f)) real_row ∙ (uncut p real half.input_broke).1)) (moved_on scene was now half read view.written text 0 (unfailed x (ap failures_at is)) put);
-              limits = x.limits;
-              within = x.within;
-              keeps = record { offered = x.keeps.offered; written = ([], append-nil (view.written ++ text) ∙ all_output) };
-              breaks = x.breaks;
-              stage = leaves following refl wire empty;
-            })
+            let later : ConnView ℕ ℕ = record view { written = view.written ++ text } in
+            let none = sym (ap (λ (f : NextStep). failures_at (Stage.Over f)) real_row ∙ (uncut p real half.input_broke).1) in
+            let on = moved_on scene was now half read view.written text 0 (unfailed x (ap failures_at is)) put in
+            let moved = subst (λ (k : ℕ). Transferred scene.start now half.wire.input read (scene.before ++ later.written) k) none on in
+            let keeps : ConnKeeps (http half.wire.limits scene.facts) later = record { offered = x.keeps.offered; written = ([], append-nil later.written ∙ all_output) } in
+            subst (λ (w : Wire). Invariant scene now (record half { wire = w; stage = Stage.Over following }) read later) (sym same)
+            (record { moved = moved; limits = x.limits; within = x.within; keeps = keeps; breaks = x.breaks; stage = leaves following refl wire empty })
 
         -- its first m bytes did
         pub ends_cut : (m : ℕ) → m < length text → HasPut was now (take m text) 1
             → Invariant scene now (record half { wire = wire; stage = Stage.Over (NextStep.ConnectionEnds (Outcome.WriteFailed m)) }) read (record view { written = view.written ++ take m text })
         ends_cut m less put =
+            let later : ConnView ℕ ℕ = record view { written = view.written ++ take m text } in
             let all = append_assoc view.written (take m text) (drop m text) ∙ (ap (λ (l : List ℕ). view.written ++ l) (take-append-drop m text) ∙ all_output) in
-            let stops : StopsWithin m (known scene view) (input_of real) (view.written ++ take m text) =
+            let moved = moved_on scene was now half read view.written (take m text) 1 (unfailed x (ap failures_at is)) put in
+            let keeps : ConnKeeps (http half.wire.limits scene.facts) later = record { offered = x.keeps.offered; written = (drop m text, all) } in
+            let stops : StopsWithin m (known scene view) (input_of real) later.written =
             record { out = view.written; more = text; is_next = Ending kind ended t.written added; within = less; written_is = refl } in
-            subst (λ (w : Wire). Invariant scene now (record half { wire = w; stage = Stage.Over (NextStep.ConnectionEnds (Outcome.WriteFailed m)) }) read (record view { written = view.written ++ take m text })) (sym same)
-            (record {
-              moved = moved_on scene was now half read view.written (take m text) 1 (unfailed x (ap failures_at is)) put;
-              limits = x.limits;
-              within = x.within;
-              keeps = record { offered = x.keeps.offered; written = (drop m text, all) };
-              breaks = x.breaks;
-              stage = inr (record { cut = refl; stops = λ k e. subst (λ (j : ℕ). StopsWithin j (known scene view) (input_of real) (view.written ++ take m text)) (ap failed_at e) stops });
-            })
+            let short : (k : ℕ) → Outcome.WriteFailed m ≡ Outcome.WriteFailed k → StopsWithin k (known scene view) (input_of real) later.written =
+            λ k e. subst (λ (j : ℕ). StopsWithin j (known scene view) (input_of real) later.written) (ap failed_at e) stops in
+            subst (λ (w : Wire). Invariant scene now (record half { wire = w; stage = Stage.Over (NextStep.ConnectionEnds (Outcome.WriteFailed m)) }) read later) (sym same)
+            (record { moved = moved; limits = x.limits; within = x.within; keeps = keeps; breaks = x.breaks; stage = inr (record { cut = refl; stops = short }) })
 
 -- ---- the connection is cut short
 
@@ -347,16 +347,15 @@ module _ {scene : Scene} {now : LineState} {half : HttpHalf} {read : List ℕ} {
         })
 
     took : (item : OutItem) (s : Stage) → failures_of out ≡ failures_at s
-        → (IsCutShort scene (record half { stage = s }) (record view { got = view.got ++ item ∷ [] }) out → IsAt s scene (record half { stage = s }) read (record view { got = view.got ++ item ∷ [] }))
+        → (IsCutShort scene (record half { stage = s }) (record view { got = view.got ++ item ∷ [] }) out
+        → IsAt s scene (record half { stage = s }) read (record view { got = view.got ++ item ∷ [] }))
         → Invariant scene now (record half { stage = s }) read (record view { got = view.got ++ item ∷ [] })
-    took item s same at = record {
-      moved = subst (λ (n : ℕ). Transferred scene.start now half.wire.input read (scene.before ++ view.written) n) (ap failures_at is ∙ same) x.moved;
-      limits = x.limits;
-      within = x.within;
-      keeps = record { offered = x.keeps.offered; written = still_written half.wire.limits scene.facts view item u.1 x.keeps.written };
-      breaks = x.breaks;
-      stage = at (record { cut = u.0.cut; stops = λ n e. stops_on n item (input_of (state_in scene half view)) (u.0.stops n e) });
-    }
+    took item s same at =
+        let moved = subst (λ (n : ℕ). Transferred scene.start now half.wire.input read (scene.before ++ view.written) n) (ap failures_at is ∙ same) x.moved in
+        let written = still_written half.wire.limits scene.facts view item u.1 x.keeps.written in
+        let keeps : ConnKeeps (http half.wire.limits scene.facts) (record view { got = view.got ++ item ∷ [] }) = record { offered = x.keeps.offered; written = written } in
+        let stage = at (record { cut = u.0.cut; stops = λ n e. stops_on n item (input_of (state_in scene half view)) (u.0.stops n e) }) in
+        record { moved = moved; limits = x.limits; within = x.within; keeps = keeps; breaks = x.breaks; stage = stage }
 
     pub took_event : (event : Outgoing) → Invariant scene now half read (record view { got = view.got ++ OutItem.Event event ∷ [] })
     took_event event =

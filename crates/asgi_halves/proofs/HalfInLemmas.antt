@@ -2,7 +2,7 @@
 use Rattle.asgi_halves.proofs.HalfWords.{◌≡◌, ℕ, true, false, List, [], ◌∷◌, ◌++◌, map, refl, sym, ap, ◌∙◌, subst, Option, Some, None, Bool, ◌⊎◌, ◌≤◌, length, IsPrefix, Incoming, Limits, Next}
 use Rattle.asgi_halves.proofs.HalfWords.{body_events, body_state, Reading, StandsFor, IsViewOf, IsOffered, http, Break, ByInput, ConnView, prefix_trans, BodyProgress, HttpHalf, Stage, InputEnd}
 use Rattle.asgi_halves.proofs.HalfWords.{Outcome, Wire, Scene, Invariant, requests_in, IsRunning, HasGiven, EndsWhere, BreaksAt, KeepsBesidesBody, GivesAfter, HasAsked, HoldsFew, ReadsAt, LineState}
-use Rattle.asgi_halves.proofs.HalfWords.{Transferred, piece_size, ReadsAhead, has_ended, is_faulty, ConnGhosts, IsAt, NextStep, end_of, failures_at, EndKind, inr, Talks}
+use Rattle.asgi_halves.proofs.HalfWords.{Transferred, piece_size, ReadsAhead, has_ended, is_faulty, ConnGhosts, IsAt, NextStep, end_of, failures_at, EndKind, inr, Talks, ConnKeeps}
 use Rattle.asgi_exchange.proofs.HttpLemmas.{http_is_steady}
 use Rattle.asgi_halves.proofs.{HalfBodyLemmas.unbroken, HalfBodyLemmas.first_due, HalfBodyLemmas.all_due, HalfBodyLemmas.why_broken, HalfLemmas.running_of, HalfLemmas.unfailed}
 use Rattle.asgi_halves.proofs.{ReadAheadLemmas.reads_in, ReadAheadLemmas.within_reads, HalfLemmas.restage, HalfLemmas.lacks, HalfLemmas.talks_on, HalfLemmas.opens_in, HalfLemmas.all_written}
@@ -38,19 +38,13 @@ module _ {scene : Scene} {now : LineState} {half : HttpHalf} {read : List ℕ} {
       let all : later.offered ≡ t.events ++ event ∷ [] = ap (λ (l : List Incoming). l ++ event ∷ []) (r.offered unbroke) in
       let due = first_due half.wire.requests read scene.opened scene.facts.framing view.arrived (opens_in x) (t.events ++ event ∷ []) given in
       let front = subst (λ (l : Limits). IsPrefix (t.events ++ event ∷ []) (body_events l scene.facts.framing view.arrived)) x.limits due in
-      let talks = talks_on t half.wire.requests half.wire.input BodyProgress.Open read view.arrived later.offered (λ e. absurd (not_both half.input_broke unbroke e)) (t.events ++ event ∷ []) given tt in
-      record {
-        moved = x.moved;
-        limits = x.limits;
-        within = x.within;
-        keeps = record {
-          offered = subst (λ (b : Option Break). IsOffered (http half.wire.limits scene.facts) view.arrived later.offered b) (sym (none_broke unbroke))
-              (subst (λ (l : List Incoming). IsPrefix l (body_events half.wire.limits scene.facts.framing view.arrived)) (sym all) front);
-          written = x.keeps.written;
-        };
-        breaks = x.breaks;
-        stage = subst (λ (s : Stage). IsAt s scene (record half { body = BodyProgress.Open }) read later) (sym is) (record { talks = talks; unended = r.unended; offered = λ e. all });
-      }
+      let talks = talks_on t half.wire.requests half.wire.input BodyProgress.Open read view.arrived later.offered (λ e. absurd (not_both half.input_broke unbroke e))
+      (t.events ++ event ∷ []) given tt in
+      let offered = subst (λ (b : Option Break). IsOffered (http half.wire.limits scene.facts) view.arrived later.offered b) (sym (none_broke unbroke))
+      (subst (λ (l : List Incoming). IsPrefix l (body_events half.wire.limits scene.facts.framing view.arrived)) (sym all) front) in
+      let keeps : ConnKeeps (http half.wire.limits scene.facts) later = record { offered = offered; written = x.keeps.written } in
+      let stage = subst (λ (s : Stage). IsAt s scene (record half { body = BodyProgress.Open }) read later) (sym is) (record { talks = talks; unended = r.unended; offered = λ e. all }) in
+      record { moved = x.moved; limits = x.limits; within = x.within; keeps = keeps; breaks = x.breaks; stage = stage }
 
   -- the same, with the clauses of the end's calls
   pub offered_view : (E : Type 0) (C : ConnGhosts E) (old new : E) (event : Incoming) → half.input_broke ≡ false → half.body ≡ BodyProgress.Waits event → IsViewOf C old view
@@ -80,14 +74,11 @@ module _ {scene : Scene} {now : LineState} {half : HttpHalf} {read : List ℕ} {
       let why = why_broken half.wire.requests read scene.opened scene.facts.framing view.arrived (opens_in x) t.events half.body half.wire.input t.given breaks in
       let talks : Talks scene (record half { input_broke = true }) read later =
       record { uncut = refl; input_broke = refl; settled = λ e. breaks; events = t.events; given = t.given; ends_where = t.ends_where; text = t.text; written = t.written; empty = t.empty } in
-      record {
-        moved = x.moved;
-        limits = x.limits;
-        within = x.within;
-        keeps = record { offered = ap (λ (l : List Incoming). l ++ Incoming.HttpDisconnect ∷ []) (r.offered unbroke ∙ due); written = x.keeps.written };
-        breaks = λ e. subst (λ (l : Limits). (has_ended half.wire.input ≡ true) ⊎ (is_faulty (body_state l scene.facts.framing view.arrived) ≡ true)) x.limits why;
-        stage = subst (λ (s : Stage). IsAt s scene (record half { input_broke = true }) read later) (sym is) (record { talks = talks; unended = r.unended; offered = λ e. cc });
-      }
+      let keeps : ConnKeeps (http half.wire.limits scene.facts) later =
+      record { offered = ap (λ (l : List Incoming). l ++ Incoming.HttpDisconnect ∷ []) (r.offered unbroke ∙ due); written = x.keeps.written } in
+      let broke = subst (λ (l : Limits). (has_ended half.wire.input ≡ true) ⊎ (is_faulty (body_state l scene.facts.framing view.arrived) ≡ true)) x.limits why in
+      let stage = subst (λ (s : Stage). IsAt s scene (record half { input_broke = true }) read later) (sym is) (record { talks = talks; unended = r.unended; offered = λ e. cc }) in
+      record { moved = x.moved; limits = x.limits; within = x.within; keeps = keeps; breaks = λ e. broke; stage = stage }
 
 -- ---- a read
 
@@ -110,7 +101,8 @@ ends_anywhere _ end reads = tt
 
 -- before or after the end of the task
 module _ {scene : Scene} {was now : LineState} {half : HttpHalf} {read : List ℕ} {view : ConnView ℕ ℕ} (x : Invariant scene was half read view) (t : Talks scene half read view)
-    (failed : failures_at half.stage ≡ 0) (still : has_ended half.wire.input ≡ false) (reads : ReadsAt half.body) (asked : HasAsked half) (few : half.body ≡ BodyProgress.Whole → HoldsFew half.wire.requests)
+    (failed : failures_at half.stage ≡ 0) (still : has_ended half.wire.input ≡ false) (reads : ReadsAt half.body) (asked : HasAsked half)
+    (few : half.body ≡ BodyProgress.Whole → HoldsFew half.wire.requests)
     (more : List ℕ) (short : length more ≤ piece_size) (wire : Wire) (same : wire ≡ record half.wire { requests = wire.requests; input = wire.input })
     (limits : wire.requests.limits ≡ half.wire.requests.limits)
     (moved : Transferred scene.start was half.wire.input read (scene.before ++ view.written) 0 → Transferred scene.start now wire.input (read ++ more) (scene.before ++ view.written) 0) where
@@ -128,7 +120,8 @@ module _ {scene : Scene} {was now : LineState} {half : HttpHalf} {read : List �
       let never = unbroken view.broken t.uncut (sym t.input_broke ∙ unbroke) in
       let front = subst (λ (b : Option Break). IsOffered (http half.wire.limits scene.facts) view.arrived view.offered b) never x.keeps.offered in
       let ahead = subst (λ (l : Limits). ReadsAhead l (read ++ more) (requests_in scene)) x.limits
-      (reads_in half.wire.requests read more scene.opened scene.facts.framing view.arrived (opens_in x) t.events (requests_in scene) x.within.heads short half.body reads t.given (asked unbroke) few) in
+      (reads_in half.wire.requests read more scene.opened scene.facts.framing view.arrived (opens_in x) t.events (requests_in scene) x.within.heads short half.body reads t.given
+      (asked unbroke) few) in
       subst (λ (w : Wire). Invariant scene now (record half { wire = w; stage = s }) (read ++ more) longer) (sym same)
       (record {
         moved = subst (λ (n : ℕ). Transferred scene.start now wire.input (read ++ more) (scene.before ++ view.written) n) (sym none) (moved (unfailed x failed));
@@ -150,7 +143,8 @@ module _ {scene : Scene} {was now : LineState} {half : HttpHalf} {read : List �
         talks_on t wire.requests wire.input half.body (read ++ more) (view.arrived ++ more) view.offered (λ e. absurd (not_both half.input_broke unbroke e)) t.events
         (given_fed half.wire.requests wire.requests read more scene.opened t.events half.body reads fed t.given) (ends_anywhere half.body wire.input reads)
 
-    pub read_more : half.stage ≡ Stage.Running → end_of view.got ≡ None → (half.input_broke ≡ false → view.offered ≡ t.events) → Invariant scene now (record half { wire = wire }) (read ++ more) longer
+    pub read_more : half.stage ≡ Stage.Running → end_of view.got ≡ None → (half.input_broke ≡ false → view.offered ≡ t.events)
+        → Invariant scene now (record half { wire = wire }) (read ++ more) longer
     read_more is unended offered =
         arrives half.stage failed (subst (λ (s : Stage). IsAt s scene reading (read ++ more) longer) (sym is) (record { talks = talks_more; unended = unended; offered = offered }))
 

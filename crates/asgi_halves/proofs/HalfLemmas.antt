@@ -3,7 +3,7 @@ use Rattle.asgi_halves.proofs.HalfWords.{◌≡◌, ℕ, false, ◌<◌, List, [
 use Rattle.asgi_halves.proofs.HalfWords.{IsPrefix, RoseBy, TriesWrites, EndKind, Facts, Limits, Outgoing, Next, body_events, response_text, OutItem, http, input_of, end_of, ConnView, output}
 use Rattle.asgi_halves.proofs.HalfWords.{added_by, taken_of, events_append, end_event, BodyProgress, HttpHalf, Stage, Outcome, Wire, Scene, Invariant, IsRunning, IsAt, failures_at, known, state_in}
 use Rattle.asgi_halves.proofs.HalfWords.{LineState, Transferred, StopsWithin, StandsFor, StandsForText, IsCutShort, HasOpened, InputEnd, Incoming, Reading, BreaksAt, HasGiven, EndsWhere}
-use Rattle.asgi_halves.proofs.HalfWords.{prefix_trans, events_of, Talks, true}
+use Rattle.asgi_halves.proofs.HalfWords.{prefix_trans, events_of, Talks, true, ConnKeeps}
 use Rattle.asgi_conversation.proofs.SoFarLemmas.{text_front}
 use Rattle.asgi_conversation.specs.ExchangeRecord.{Beginning, Saying}
 use Rattle.asgi_exchange.proofs.EventLemmas.{end_ended}
@@ -36,14 +36,9 @@ module _ {scene : Scene} {now : LineState} {half : HttpHalf} {read : List ℕ} {
   -- another stage, with another body and another text in hand
   pub restage : (later : HttpHalf) → later.wire.requests.limits ≡ half.wire.requests.limits → failures_at half.stage ≡ failures_at later.stage
       → IsAt later.stage scene (among half later) read view → Invariant scene now (among half later) read view
-  restage later same failed at = record {
-    moved = subst (λ (n : ℕ). Transferred scene.start now half.wire.input read (scene.before ++ view.written) n) failed x.moved;
-    limits = same ∙ x.limits;
-    within = x.within;
-    keeps = x.keeps;
-    breaks = x.breaks;
-    stage = at;
-  }
+  restage later same failed at =
+      let moved = subst (λ (n : ℕ). Transferred scene.start now half.wire.input read (scene.before ++ view.written) n) failed x.moved in
+      record { moved = moved; limits = same ∙ x.limits; within = x.within; keeps = x.keeps; breaks = x.breaks; stage = at }
 
   pub stands_still : Invariant scene now half (read ++ []) view
   stands_still = subst (λ (l : List ℕ). Invariant scene now half l view) (sym (append-nil read)) x
@@ -82,8 +77,10 @@ pub still_written : (limits : Limits) (facts : Facts) (view : ConnView ℕ ℕ) 
 still_written limits facts view item unended front =
     let later : ConnView ℕ ℕ = record view { got = view.got ++ item ∷ [] } in
     let more = text_front facts (taken_of view) (taken_of later) (events_of (item ∷ []), sym (events_append view.got (item ∷ []))) in
-    let on = prefix_trans view.written (response_text facts (taken_of view)) (response_text facts (taken_of later)) (subst (λ (l : List ℕ). IsPrefix view.written l) (output_open limits facts view unended) front) more in
-    prefix_trans view.written (response_text facts (taken_of later)) (output (http limits facts) later) on (added_by (http limits facts) (taken_of later) (end_of later.got) later.broken_first later.arrived, refl)
+    let on = prefix_trans view.written (response_text facts (taken_of view)) (response_text facts (taken_of later))
+    (subst (λ (l : List ℕ). IsPrefix view.written l) (output_open limits facts view unended) front) more in
+    prefix_trans view.written (response_text facts (taken_of later)) (output (http limits facts) later) on
+    (added_by (http limits facts) (taken_of later) (end_of later.got) later.broken_first later.arrived, refl)
 
 -- a text was written: how much of it, and how many writes failed
 pub record HasPut (was now : LineState) (part : List ℕ) (failures : ℕ) : Type 0 where
@@ -103,14 +100,15 @@ abbrev pub failed_at : Outcome → ℕ
 failed_at (Outcome.WriteFailed n) = n
 failed_at _ = 0
 
-module _ (scene : Scene) (was now : LineState) (half : HttpHalf) (read : List ℕ) (view : ConnView ℕ ℕ) (p : Pending scene was half read view) (wire : Wire) (same : wire ≡ record half.wire { out = wire.out }) where
+module _ (scene : Scene) (was now : LineState) (half : HttpHalf) (read : List ℕ) (view : ConnView ℕ ℕ) (p : Pending scene was half read view) (wire : Wire)
+    (same : wire ≡ record half.wire { out = wire.out }) where
   -- all of the text in hand went out
   pub put_done : wire.out.items ≡ [] → HasPut was now half.wire.out.items 0 → Invariant scene now (record half { wire = wire }) read (record view { written = view.written ++ half.wire.out.items })
-  put_done empty put =
+  put_done all put =
       let later : ConnView ℕ ℕ = record view { written = view.written ++ half.wire.out.items } in
       let emptied : HttpHalf = record half { wire = record half.wire { out = wire.out } } in
       let talks : Talks scene emptied read later =
-      record { uncut = p.uncut; input_broke = p.input_broke; settled = p.settled; events = p.events; given = p.given; ends_where = p.ends_where; text = p.text; written = sym p.grows; empty = empty } in
+      record { uncut = p.uncut; input_broke = p.input_broke; settled = p.settled; events = p.events; given = p.given; ends_where = p.ends_where; text = p.text; written = sym p.grows; empty = all } in
       subst (λ (w : Wire). Invariant scene now (record half { wire = w }) read later) (sym same)
       (record {
         moved = subst (λ (s : Stage). Transferred scene.start now half.wire.input read (scene.before ++ later.written) (failures_at s)) (sym p.running)
@@ -186,15 +184,12 @@ module _ (scene : Scene) (now : LineState) (half : HttpHalf) (read : List ℕ) (
       }
 
   -- there is no memory for its text
-  pub said_short : Invariant scene now (record half { wire = record half.wire { out = wire.out }; text = text; stage = Stage.Cut Outcome.NoMemory }) read (record view { got = view.got ++ OutItem.Event event ∷ [] })
-  said_short = record {
-    moved = unfailed x (ap failures_at is);
-    limits = x.limits;
-    within = x.within;
-    keeps = record { offered = x.keeps.offered; written = still_written half.wire.limits scene.facts view (OutItem.Event event) (running_of x is).unended x.keeps.written };
-    breaks = x.breaks;
-    stage = (lacks, still_open);
-  }
+  pub said_short : Invariant scene now (record half { wire = record half.wire { out = wire.out }; text = text; stage = Stage.Cut Outcome.NoMemory }) read
+      (record view { got = view.got ++ OutItem.Event event ∷ [] })
+  said_short =
+      let written = still_written half.wire.limits scene.facts view (OutItem.Event event) (running_of x is).unended x.keeps.written in
+      let keeps : ConnKeeps (http half.wire.limits scene.facts) (record view { got = view.got ++ OutItem.Event event ∷ [] }) = record { offered = x.keeps.offered; written = written } in
+      record { moved = unfailed x (ap failures_at is); limits = x.limits; within = x.within; keeps = keeps; breaks = x.breaks; stage = (lacks, still_open) }
 
 -- ---- an exchange begins
 
@@ -203,7 +198,8 @@ module _ (scene : Scene) (now : LineState) (facts : Facts) (read arrived : List 
   begun_moved = subst (λ (l : List ℕ). Transferred scene.start now old.input read l 0) (sym (append-nil scene.before)) o.moved
 
   pub begun_pending : StandsForText text facts [] → wire.out.items ≡ old.out.items ++ response_text facts []
-      → Pending scene now (record { wire = record old { out = wire.out }; body = BodyProgress.Open; text = text; input_broke = false; stage = Stage.Running }) read (record empty_conn { arrived = arrived })
+      → Pending scene now (record { wire = record old { out = wire.out }; body = BodyProgress.Open; text = text; input_broke = false; stage = Stage.Running }) read
+      (record empty_conn { arrived = arrived })
   begun_pending stands adds =
       let in_hand : wire.out.items ≡ response_text scene.facts [] = adds ∙ (ap (λ (l : List ℕ). l ++ response_text facts []) o.empty ∙ ap (λ (f : Facts). response_text f []) o.facts_are) in
       record {
@@ -226,15 +222,13 @@ module _ (scene : Scene) (now : LineState) (facts : Facts) (read arrived : List 
         hand = λ input. Beginning refl in_hand;
       }
 
-  pub begun_short : Invariant scene now (record { wire = record old { out = wire.out }; body = BodyProgress.Open; text = text; input_broke = false; stage = Stage.Cut Outcome.NoMemory }) read (record empty_conn { arrived = arrived })
-  begun_short = record {
-    moved = begun_moved;
-    limits = o.limits;
-    within = o.within;
-    keeps = record { offered = (body_events old.limits scene.facts.framing arrived, refl); written = (output (http old.limits scene.facts) (record empty_conn { arrived = arrived }), refl) };
-    breaks = λ e. cc;
-    stage = (lacks, refl);
-  }
+  pub begun_short : Invariant scene now (record { wire = record old { out = wire.out }; body = BodyProgress.Open; text = text; input_broke = false; stage = Stage.Cut Outcome.NoMemory }) read
+      (record empty_conn { arrived = arrived })
+  begun_short =
+      let view : ConnView ℕ ℕ = record empty_conn { arrived = arrived } in
+      let keeps : ConnKeeps (http old.limits scene.facts) view =
+      record { offered = (body_events old.limits scene.facts.framing arrived, refl); written = (output (http old.limits scene.facts) view, refl) } in
+      record { moved = begun_moved; limits = o.limits; within = o.within; keeps = keeps; breaks = λ e. cc; stage = (lacks, refl) }
 
 -- ---- the end of the task is taken
 
@@ -249,11 +243,5 @@ ended_taken scene now half read view kind x is =
     let text : StandsForText half.text scene.facts (taken_of later) = subst (λ (l : List Outgoing). StandsForText half.text scene.facts l) (sym same) t.text in
     let talks : Talks scene (record half { stage = Stage.Ending kind }) read later =
     record { uncut = t.uncut; input_broke = t.input_broke; settled = t.settled; events = t.events; given = t.given; ends_where = t.ends_where; text = text; written = out; empty = t.empty } in
-    record {
-      moved = unfailed x (ap failures_at is);
-      limits = x.limits;
-      within = x.within;
-      keeps = record { offered = x.keeps.offered; written = all_written half.wire.limits scene.facts later out };
-      breaks = x.breaks;
-      stage = (talks, end_ended view.got kind r.unended);
-    }
+    let keeps : ConnKeeps (http half.wire.limits scene.facts) later = record { offered = x.keeps.offered; written = all_written half.wire.limits scene.facts later out } in
+    record { moved = unfailed x (ap failures_at is); limits = x.limits; within = x.within; keeps = keeps; breaks = x.breaks; stage = (talks, end_ended view.got kind r.unended) }

@@ -8,7 +8,8 @@ none_failed Stage.Running goes_on = refl
 none_failed (Stage.Ending kind) goes_on = refl
 none_failed _ goes_on = absurd goes_on
 
-pub stops : (scene : HttpScene) (now : LineState) (half : HttpHalf) (read : List ℕ) (view : ConnView ℕ ℕ) (outcome : Outcome) → outcome ≡ Outcome.Idle → (later : ConnView ℕ ℕ) → StandsIn scene now half read view
+pub stops : (scene : HttpScene) (now : LineState) (half : HttpHalf) (read : List ℕ) (view : ConnView ℕ ℕ) (outcome : Outcome) → outcome ≡ Outcome.Idle → (later : ConnView ℕ ℕ)
+    → StandsIn scene now half read view
     → IsOpen half.stage → IsCutOff Incoming.HttpDisconnect view later → StandsIn scene now (record half { stage = Stage.Over (NextStep.ConnectionEnds outcome) }) read later
 stops scene now half read view outcome idle later s goes_on off =
     subst (λ (o : Outcome). StandsIn scene now (record half { stage = Stage.Over (NextStep.ConnectionEnds o) }) read later) (sym idle)

@@ -19,16 +19,9 @@ nothing_ahead limits =
     record { front = []; ahead = []; split = refl; few = omega arith; results = []; rest = none.0; gives = none.1; heads = ([], refl) }
 
 pub more_requests : (limits : Limits) (read : List ℕ) (requests more : List (Scope × Facts)) → ReadsAhead limits read requests → ReadsAhead limits read (requests ++ more)
-more_requests limits read requests more x = record {
-  front = x.front;
-  ahead = x.ahead;
-  split = x.split;
-  few = x.few;
-  results = x.results;
-  rest = x.rest;
-  gives = x.gives;
-  heads = prefix_trans (heads_of x.results) requests (requests ++ more) x.heads (more, refl);
-}
+more_requests limits read requests more x =
+    let heads = prefix_trans (heads_of x.results) requests (requests ++ more) x.heads (more, refl) in
+    record { front = x.front; ahead = x.ahead; split = x.split; few = x.few; results = x.results; rest = x.rest; gives = x.gives; heads = heads }
 
 -- ---- when more is read
 
@@ -39,16 +32,9 @@ short_piece buffer n size fits = let taken = length-take-le n buffer fits in ome
 -- all results of the bytes were given
 pub reads_at_need : (limits : Limits) (read more : List ℕ) (given : List Next) (requests : List (Scope × Facts)) (rest : List ℕ) → GivesResults limits read given rest
     → heads_of given ≡ requests → length more ≤ piece_size → ReadsAhead limits (read ++ more) requests
-reads_at_need limits read more given requests rest gives heads short = record {
-  front = read;
-  ahead = more;
-  split = refl;
-  few = omega (arith, short);
-  results = given;
-  rest = rest;
-  gives = gives;
-  heads = prefix_same (heads_of given) requests heads;
-}
+reads_at_need limits read more given requests rest gives heads short =
+    let same = prefix_same (heads_of given) requests heads in
+    record { front = read; ahead = more; split = refl; few = omega (arith, short); results = given; rest = rest; gives = gives; heads = same }
 
 -- few bytes come after whole requests
 pub reads_after : (limits : Limits) (read more : List ℕ) (given : List Next) (requests : List (Scope × Facts)) (held : List ℕ) → HasClosed limits read given held
@@ -56,16 +42,9 @@ pub reads_after : (limits : Limits) (read more : List ℕ) (given : List Next) (
 reads_after limits read more given requests held closed heads few short =
     let alone = whole_alone limits read given held (closed_at limits read given held closed) in
     let size = length-append held more in
-    record {
-      front = alone.0;
-      ahead = held ++ more;
-      split = ap (λ (l : List ℕ). l ++ more) alone.1 ∙ append_assoc alone.0 held more;
-      few = omega (arith, few, short, size);
-      results = given;
-      rest = alone.2.0;
-      gives = alone.2.1;
-      heads = prefix_same (heads_of given) requests heads;
-    }
+    let split = ap (λ (l : List ℕ). l ++ more) alone.1 ∙ append_assoc alone.0 held more in
+    let same = prefix_same (heads_of given) requests heads in
+    record { front = alone.0; ahead = held ++ more; split = split; few = omega (arith, few, short, size); results = given; rest = alone.2.0; gives = alone.2.1; heads = same }
 
 -- ---- the events of a body are no heads
 
@@ -78,7 +57,8 @@ heads_in_body opened events = heads_join opened (map Next.Event events) ∙ ap (
 
 pub heads_after : (opened : List Next) (events : List Incoming) → heads_of (opened ++ (map Next.Event events ++ Next.Whole ∷ [])) ≡ heads_of opened
 heads_after opened events =
-    ap heads_of (sym (append_assoc opened (map Next.Event events) (Next.Whole ∷ []))) ∙ heads_join (opened ++ map Next.Event events) (Next.Whole ∷ []) ∙ append-nil (heads_of (opened ++ map Next.Event events))
+    ap heads_of (sym (append_assoc opened (map Next.Event events) (Next.Whole ∷ []))) ∙ heads_join (opened ++ map Next.Event events) (Next.Whole ∷ []) ∙ append-nil
+    (heads_of (opened ++ map Next.Event events))
     ∙ heads_in_body opened events
 
 -- one more

@@ -24,14 +24,16 @@ returns-in-Ok g c =
     let stay = g.met.L.Line.writes_stay _ _ e.beside in
     let session = session_is _ _ (g.met.L.Line.session_stays _ _ (inl e.beside)) in
     let same : c.deref.result.now ≡ buffer = c.deref.ensures.value ∙ take_at buffer _ _ (omega (arith, c.read_some-read.auto.buf, c.deref_mut.ensures.len)) in
-    let fed = subst (λ (l : List ℕ). (bytes : List ℕ) (given : List Next) → StandsFor c.args.self.now.requests bytes given → StandsFor c.take_in-taken.new.self.requests (bytes ++ take (bytes_of a) l) given)
+    let fed = subst (λ (l : List ℕ). (bytes : List ℕ) (given : List Next) → StandsFor c.args.self.now.requests bytes given → StandsFor c.take_in-taken.new.self.requests
+    (bytes ++ take (bytes_of a) l) given)
     same c.in-Ok.ensures.fed in
     record {
       moved = (
         take (bytes_of a) buffer,
         λ start read written failures moved.
             subst (λ (end : InputEnd). Transferred start (g.L.Line.state c.read_some-read.new.self) end (read ++ take (bytes_of a) buffer) written failures) (sym c.take_in-taken.ensures.input)
-            (by (λ was now. Transferred start was c.args.self.now.input read written failures → Transferred start now (input_after c.args.self.now.input a) (read ++ take (bytes_of a) buffer) written failures)
+            (by (λ was now. Transferred start was c.args.self.now.input read written failures → Transferred start now (input_after c.args.self.now.input a)
+            (read ++ take (bytes_of a) buffer) written failures)
             (λ moved. moved_by_open_read start _ _ c.args.self.now.input read written failures buffer a c.requires moved x told stay.0 stay.1.1 stay.1.0 session) moved),
         fed,
         short_piece buffer (bytes_of a) size x.fits,
@@ -59,7 +61,8 @@ returns-in-Err g c =
         take (bytes_of a) buffer,
         λ start read written failures moved.
             subst (λ (end : InputEnd). Transferred start (g.L.Line.state c.read_some-read.new.self) end (read ++ take (bytes_of a) buffer) written failures) (sym c.take_in-taken.ensures.input)
-            (by (λ was now. Transferred start was c.args.self.now.input read written failures → Transferred start now (input_after c.args.self.now.input a) (read ++ take (bytes_of a) buffer) written failures)
+            (by (λ was now. Transferred start was c.args.self.now.input read written failures → Transferred start now (input_after c.args.self.now.input a)
+            (read ++ take (bytes_of a) buffer) written failures)
             (λ moved. moved_by_open_read start _ _ c.args.self.now.input read written failures buffer a c.requires moved x told stay.0 stay.1.1 stay.1.0 session) moved),
         tt,
         short_piece buffer (bytes_of a) size x.fits,

@@ -11,5 +11,6 @@ returns-clause-frames c bytes given after scope facts frames closed begins stand
     let whole = lemma.whole_is_given r bytes given after scope facts frames closed begins later next.ensures.limits next._whole stands next.ensures.need next.ensures.given in
     lemma.frames_are r bytes given after scope facts frames closed begins later next.ensures.limits c.rest.result.items
     (subst (λ (q : Reading). WholeGiven q bytes (given ++ Next.Head scope facts ∷ Next.Whole ∷ []) c.rest.result.items) c.replace.ensures.value
-    (c.rest.ensures bytes (given ++ Next.Head scope facts ∷ Next.Whole ∷ []) (subst (λ (q : Reading). StandsFor q bytes (given ++ Next.Head scope facts ∷ Next.Whole ∷ [])) (sym c.replace.ensures.value) whole)
+    (c.rest.ensures bytes (given ++ Next.Head scope facts ∷ Next.Whole ∷ [])
+    (subst (λ (q : Reading). StandsFor q bytes (given ++ Next.Head scope facts ∷ Next.Whole ∷ [])) (sym c.replace.ensures.value) whole)
     (inr (given ++ Next.Head scope facts ∷ [], sym (append_assoc given (Next.Head scope facts ∷ []) (Next.Whole ∷ []))))))
