@@ -5,7 +5,7 @@ use Rattle.asgi_types.specs.declared.facts.Framing.TheVariants.{Upgrade}
 use Rattle.asgi_types.specs.declared.limits.Limits.{Limits}
 use Rattle.asgi_types.specs.declared.scope.Scope.{Scope}
 use Rattle.asgi_request.specs.declared.next.Next.{Next}
-use Rattle.asgi_request.specs.declared.next.Next.TheVariants.{Need, Head, Event, Whole, Bad}
+use Rattle.asgi_request.specs.declared.next.Next.TheVariants.{Need, Head, Whole}
 use Rattle.asgi_request.specs.declared.place.Place.{Place}
 use Rattle.asgi_request.specs.declared.place.Place.TheVariants.{Start, Upgraded, Stopped}
 use Rattle.asgi_request.specs.declared.refusal.Refusal.{Refusal}
@@ -121,10 +121,7 @@ module _ (r : Reading) (bytes : List ℕ) (given : List Next) (after : List ℕ)
 
         by : (is : Next) → item ≡ is → StandsFor later bytes (given ++ head ∷ Whole ∷ [])
         by Need e = absurd (none_needed (need e bytes (given ++ head ∷ []) x).1)
-        by (Head s f) e = whole (Head s f) e (λ none. cc)
-        by (Event event) e = whole (Event event) e (λ none. cc)
-        by Whole e = whole Whole e (λ none. cc)
-        by (Bad status) e = whole (Bad status) e (λ none. cc)
+        by other e = whole other e (λ none. cc)
 
     -- and what is held after it are the frames
     pub frames_are : (rest : List ℕ) → WholeGiven later bytes all rest → rest ≡ frames

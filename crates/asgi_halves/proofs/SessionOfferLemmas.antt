@@ -13,7 +13,7 @@ use Rattle.asgi_halves.specs.declared.stage.Stage.TheVariants as stage
 use Rattle.asgi_halves.specs.declared.session_half.Answered.TheVariants.{Refused}
 use Rattle.asgi_halves.specs.declared.session_half.Answer.TheVariants as to
 use Rattle.asgi_halves.specs.declared.session_half.Session.TheVariants as session
-use Rattle.asgi_conversation.specs.OutcomeClasses.{OutcomeClass, Uncut, ByWrite, GivenUp, Lacking, Unbegun, class_of}
+use Rattle.asgi_conversation.specs.OutcomeClasses.{OutcomeClass, Uncut, ByWrite, Unbegun, class_of}
 use Rattle.asgi_conversation.proofs.NextLemmas.{next_on}
 use Rattle.asgi_halves.proofs.HalfBodyLemmas.{unbroken}
 
@@ -245,11 +245,8 @@ pub short_on : (scene : SessionScene) (view : ConnView Msg Output) (out : Outcom
 short_on scene view out offered broken same short = by (class_of out) short
   where
     by : (k : OutcomeClass) → IsCutShortAs k scene view → IsCutShortAs k scene (record view { offered = offered; broken = broken })
-    by Uncut short = short
     by (ByWrite n) short = subst (λ (b : Bool). StopsSession n (record (known scene view) { input_broke = b }) view.written) (sym same) short
-    by GivenUp short = short
-    by Lacking short = short
-    by Unbegun short = short
+    by _ short = short
 
 pub short_after : (scene : SessionScene) (view : ConnView Msg Output) (out : Outcome) (item : OutItem) → end_of view.got ≡ None
     → IsCutShort scene view out → IsCutShort scene (record view { got = view.got ++ item ∷ [] }) out
@@ -273,9 +270,8 @@ short_after scene view out item none short = by (class_of out) short
           within = short.within;
           written_is = short.written_is;
         })
-    by GivenUp short = front short
-    by Lacking short = front short
     by Unbegun short = absurd short
+    by _ short = front short
 
 -- the disconnect of a cut is a beginning of what is due, and that
 offers_of_cut : (scene : SessionScene) (view : ConnView Msg Output) → view.broken ≡ None → ConnKeeps (exchange_of scene) view

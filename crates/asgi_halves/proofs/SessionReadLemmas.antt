@@ -18,19 +18,13 @@ use Rattle.asgi_halves.proofs.SessionOfferLemmas.{Carries, carrying, carrying_of
 -- after messages with no close
 close_later : (messages more : List Msg) → has_close messages ≡ false → has_close (messages ++ more) ≡ has_close more
 close_later [] more h = refl
-close_later (Text text ∷ messages) more h = close_later messages more h
-close_later (Bytes bytes ∷ messages) more h = close_later messages more h
-close_later (Ping ∷ messages) more h = close_later messages more h
-close_later (Pong ∷ messages) more h = close_later messages more h
 close_later (Close close ∷ messages) more h = absurd (cc (h))
+close_later (_ ∷ messages) more h = close_later messages more h
 
 close_stays : (messages more : List Msg) → has_close messages ≡ true → has_close (messages ++ more) ≡ true
 close_stays [] more h = absurd (cc (h))
-close_stays (Text text ∷ messages) more h = close_stays messages more h
-close_stays (Bytes bytes ∷ messages) more h = close_stays messages more h
-close_stays (Ping ∷ messages) more h = close_stays messages more h
-close_stays (Pong ∷ messages) more h = close_stays messages more h
 close_stays (Close close ∷ messages) more h = refl
+close_stays (_ ∷ messages) more h = close_stays messages more h
 
 -- ---- what was offered and written
 
@@ -235,17 +229,11 @@ module _ (scene : SessionScene) (was now : LineState) (half : WebSocketHalf) (re
 -- exactly one read less is left, or none
 over_after : (spare : ℕ) (answer : Got) → is_over_with (rest_after spare answer) ≡ is_end answer
 over_after spare (got.Message message) = refl
-over_after spare got.Idle = refl
-over_after spare got.Ended = refl
-over_after spare got.Failed = refl
-over_after spare got.NoMemory = refl
+over_after spare _ = refl
 
 one_less : (spare : ℕ) (answer : Got) → 0 < spare → spare_with (rest_after spare answer) + 1 ≤ spare
 one_less spare (got.Message message) some = omega arith
-one_less spare got.Idle some = omega arith
-one_less spare got.Ended some = omega arith
-one_less spare got.Failed some = omega arith
-one_less spare got.NoMemory some = omega arith
+one_less spare _ some = omega arith
 
 same_side : (side : Side) (rest later : Option ℕ) → answer_of (session.Closed side rest) ≡ answer_of (session.Closed side later)
 same_side Application rest later = refl

@@ -40,17 +40,11 @@ no_text (b ∷ text) handed e = absurd (cc)
 -- nothing else changes
 same_rest : (reply : Answer) (state : Session) → rest_at state ≡ rest_at (answered_with reply state)
 same_rest reply (session.Begun before waits) = refl
-same_rest reply (session.Leaves event) = refl
-same_rest reply session.Breaks = refl
-same_rest reply session.Broken = refl
-same_rest reply (session.Closed side rest) = refl
+same_rest reply _ = refl
 
 same_due : (reply : Answer) (state : Session) (offered : List Incoming) (arrived : List Msg) (broke : Bool) → IsDue state offered arrived broke → IsDue (answered_with reply state) offered arrived broke
 same_due reply (session.Begun before waits) offered arrived broke d = d
-same_due reply (session.Leaves event) offered arrived broke d = d
-same_due reply session.Breaks offered arrived broke d = d
-same_due reply session.Broken offered arrived broke d = d
-same_due reply (session.Closed side rest) offered arrived broke d = d
+same_due reply _ offered arrived broke d = d
 
 answers_so : (reply : Answer) (state : Session) → answer_of state ≡ Unanswered → answer_of (answered_with reply state) ≡ answer_of (session.Begun reply None)
 answers_so reply (session.Begun to.Awaited waits) is = same_answer reply waits None

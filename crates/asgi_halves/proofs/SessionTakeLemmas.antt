@@ -15,8 +15,7 @@ use Rattle.asgi_halves.proofs.SessionOfferLemmas.{carried_on, line_at, runs}
 
 no_pass : (v : Verdict) → (v ≡ verdict.Pass → ⊥) → is_pass v ≡ false
 no_pass verdict.Pass h = absurd (h refl)
-no_pass verdict.Ignored h = refl
-no_pass (verdict.Refused n) h = refl
+no_pass _ h = refl
 
 -- an event of a session is a message, an accept, a close or one of a denial
 pub none_left : {A : Type 0} (event : Outgoing) → is_message event ≡ false → ((subprotocol : Option (List ℕ)) (headers : List HeaderField) → event ≡ WsAccept subprotocol headers → ⊥)

@@ -135,13 +135,11 @@ impl WebSocketHalf {
     {
         match &self.session {
             Session::Begun(Answer::Awaited, _) => Answered::Unanswered,
-            Session::Begun(Answer::Accepted, _) => Answered::Open,
             Session::Begun(Answer::Refused, _) => Answered::Refused,
-            Session::Leaves(_) => Answered::Open,
-            Session::Breaks => Answered::Open,
-            Session::Broken => Answered::Open,
-            Session::Closed(Side::Client, _) => Answered::Open,
             Session::Closed(Side::Application, _) => Answered::Closed,
+            Session::Begun(Answer::Accepted, _) | Session::Closed(Side::Client, _) =>
+                Answered::Open,
+            Session::Leaves(_) | Session::Breaks | Session::Broken => Answered::Open,
         }
     }
 
@@ -150,10 +148,8 @@ impl WebSocketHalf {
         ensures { result ≡ rest_at self.now.session }
     {
         match &self.session {
-            Session::Begun(_, _) => Some(SPARE_READS),
-            Session::Leaves(_) => Some(SPARE_READS),
-            Session::Breaks => None,
-            Session::Broken => None,
+            Session::Begun(_, _) | Session::Leaves(_) => Some(SPARE_READS),
+            Session::Breaks | Session::Broken => None,
             Session::Closed(_, rest) => *rest,
         }
     }
@@ -164,13 +160,9 @@ impl WebSocketHalf {
     {
         match &self.session {
             Session::Begun(Answer::Accepted, None) => Reading::Hears,
-            Session::Begun(Answer::Accepted, Some(_)) => Reading::Rests,
-            Session::Begun(Answer::Awaited, _) => Reading::Rests,
-            Session::Begun(Answer::Refused, _) => Reading::Rests,
-            Session::Leaves(_) => Reading::Rests,
-            Session::Breaks => Reading::Rests,
-            Session::Broken => Reading::Rests,
             Session::Closed(side, rest) => dropping(*side, *rest),
+            Session::Begun(_, _) | Session::Leaves(_) | Session::Breaks | Session::Broken =>
+                Reading::Rests,
         }
     }
 
