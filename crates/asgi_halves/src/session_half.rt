@@ -1,6 +1,6 @@
 //! The connection's half of the exchange of an opening handshake: it answers the handshake, hands over the messages
 //! that the application sends, and offers those that are read. The half knows only its own end of the pair.
-ghost use Rattle.std.specs.Prelude.{◌≡◌, ◌≢◌, ◌↔◌, ◌⊎◌, ◌<◌, false, [], ℕ, List, Option, Some, None, ⊤};
+ghost use Rattle.std.specs.Prelude.{◌≡◌, ◌≢◌, ◌↔◌, ◌⊎◌, ◌<◌, false, [], ◌∷◌, ◌++◌, ℕ, List, Option, Some, None, ⊤};
 ghost use Rattle.asgi_types.specs.declared.incoming.Incoming.{Incoming};
 ghost use Rattle.asgi_types.specs.declared.outgoing.Outgoing.{Outgoing};
 ghost use Rattle.asgi_protocol.specs.Shapes.{is_message};
@@ -14,6 +14,7 @@ ghost use Rattle.asgi_halves.specs.WebSocketHalf.{SessionScene, Invariant, Opens
 ghost use Rattle.asgi_halves.specs.Kinds.{IsShut, IsTurnOfOneRead, IsTurnOfRead, OffersAll, ReadsNone, turn_by};
 ghost use Rattle.asgi_halves.specs.private.HalfSteps.{OffersOne};
 ghost use Rattle.asgi_ws.specs.declared.messages.Msg.{Msg};
+ghost use Rattle.asgi_ws.specs.declared.messages.Call.TheVariants.{Read};
 ghost use Rattle.asgi_exchange.specs.Session.{Output};
 
 use crate::kind::ExchangeKind;
@@ -348,6 +349,7 @@ impl WebSocketHalf {
         ensures leads { PreservesByLine (L.state line.old) self.old (L.state line.new) self.new }
         ensures turn { IsTurnOfRead (Rests self.new) (L.state line.old) (L.state line.new) result }
         ensures keeps { result ≡ Turn.Idle → due_at self.new.session ≡ due_at self.old.session }
+        ensures none { reads_at self.old.session ≡ Reading.Rests → self.new ≡ self.old }
         ensures moves { IsShut self.new.stage → result ≡ Turn.Moved }
     {
         match self.reading() {
@@ -413,7 +415,8 @@ impl WebSocketHalf {
         ensures leads { PreservesByLine (L.state line.old) self.old (L.state line.new) self.new }
         ensures stage { self.new.stage ≡ self.old.stage }
         ensures turn { IsTurnOfOneRead (L.state line.old) (L.state line.new) result }
-        ensures closed { (rest : Option ℕ) × (self.new.session ≡ Session.Closed side rest) }
+        ensures same { (got : Got) × ((L.state line.new).session.calls ≡ (L.state line.old).session.calls ++ Read got ∷ [])
+            × (self.new ≡ record self.old { session = Session.Closed side (rest_after spare got) }) }
     {
         let got = line.read_message();
         self.note_dropped(side, spare, got)

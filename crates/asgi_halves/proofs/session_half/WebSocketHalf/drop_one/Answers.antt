@@ -1,4 +1,3 @@
-use Rattle.asgi_halves.proofs.SessionWords.{ap, rest_after, WebSocketHalf}
 use Rattle.asgi_halves.proofs.LineCallLemmas.{has_read, turn_of_message}
 use Rattle.asgi_halves.proofs.SessionReadLemmas.{leads_dropped}
 use Rattle.asgi_halves.proofs.session_half.WebSocketHalf.drop_one.Goals as goal
@@ -17,5 +16,11 @@ returns-clause-turn g c =
     turn_of_message ⊥ (g.L.Line.state c.args.line.now) (g.L.Line.state c.read_message-got.new.self) c.read_message-got.result c.note_dropped.result
     (has_read g.L.Line g.L.Reads g.L.Counts g.L.Messages g.met.L.Line.state_is c.args.line.now c.read_message-got.new.self c.read_message-got.result r.told r.coming.0 r.counts r.same r.text) c.note_dropped.ensures.turn
 
-pub returns-clause-closed : goal.returns-clause-closed
-returns-clause-closed g c = (rest_after c.args.spare c.read_message-got.result, ap (λ (h : WebSocketHalf). h.session) c.note_dropped.ensures.dropped)
+pub returns-clause-same : goal.returns-clause-same
+returns-clause-same g c =
+    let r = c.read_message-got.ensures in
+    let got = c.read_message-got.result in (
+      got,
+      (has_read g.L.Line g.L.Reads g.L.Counts g.L.Messages g.met.L.Line.state_is c.args.line.now c.read_message-got.new.self got r.told r.coming.0 r.counts r.same r.text).told,
+      c.note_dropped.ensures.dropped,
+    )
