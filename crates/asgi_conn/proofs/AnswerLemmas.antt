@@ -27,8 +27,8 @@ use Rattle.asgi_conversation.specs.Kinds.{Converses}
 use Rattle.asgi_conversation.specs.Promised.{IsPromised, ArePromised, task_end}
 use Rattle.asgi_conversation.specs.SoFar.{exchanged}
 use Rattle.asgi_conversation.proofs.SoFarLemmas.{ends_between}
-use Rattle.asgi_conn.specs.declared.place.Place.{Place}
-use Rattle.asgi_conn.specs.declared.place.Place.TheVariants.{Ended}
+use Rattle.asgi_conn.specs.Places.{Place}
+use Rattle.asgi_conn.specs.Places.{Ended}
 use Rattle.asgi_halves.specs.declared.half.HttpHalf.{HttpHalf}
 use Rattle.asgi_run.specs.declared.runner.AppSide.{AppSide}
 use Rattle.asgi_run.specs.declared.runner.AppSide.TheVariants.{Runs, HasEnded}

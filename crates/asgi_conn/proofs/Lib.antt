@@ -3,6 +3,7 @@ pub mod SessionLeaveLemmas
 pub mod LeaveLemmas
 pub mod PromiseLemmas
 pub mod AnswerLemmas
+pub mod PlaceLemmas
 pub mod BetweenLemmas
 pub mod SessionServeLemmas
 pub mod ServeLemmas

@@ -31,7 +31,7 @@ use Rattle.asgi_conversation.specs.Sessions.{handshake_of}
 use Rattle.asgi_conversation.proofs.ConversationLemmas as conversation
 use Rattle.asgi_conversation.proofs.LoopLemmas as loop
 use Rattle.asgi_conversation.proofs.RequestLemmas.{requests_join}
-use Rattle.asgi_conn.specs.declared.place.Place.TheVariants.{Ended}
+use Rattle.asgi_conn.specs.Places.{Ended}
 use Rattle.asgi_halves.specs.declared.stage.Stage.{Stage}
 use Rattle.asgi_halves.specs.declared.stage.Stage.TheVariants.{Over}
 use Rattle.asgi_run.specs.declared.runner.AppSide.{AppSide}

@@ -1,5 +1,5 @@
 -- What a turn of a connection does to where it stands.
-use Rattle.std.proofs.Common.{◌≡◌, ◌≢◌, ℕ, ◌+◌, ◌≤◌, ◌^◌, ◌⊎◌, inl, inr, List, [], ◌∷◌, ◌++◌, arith, refl, sym, ap, ◌∙◌, subst, Option, Some, true, false}
+use Rattle.std.proofs.Common.{◌≡◌, ◌≢◌, ℕ, ◌+◌, ◌≤◌, ◌^◌, ◌⊎◌, inl, inr, List, [], ◌∷◌, ◌++◌, arith, refl, sym, ap, ◌∙◌, subst, Option, Some, None, true, false}
 use Rattle.std.specs.Prelude.{length}
 use Rattle.asgi_types.specs.declared.end_kind.EndKind.{EndKind}
 use Rattle.asgi_types.specs.declared.facts.Facts.{Facts}
@@ -49,12 +49,12 @@ use Rattle.asgi_ws.specs.Lines.{LineState}
 use Rattle.asgi_conn.specs.declared.connection.Connection.{Connection}
 use Rattle.asgi_conn.specs.declared.connection.Step.{Step}
 use Rattle.asgi_conn.specs.declared.connection.Step.TheVariants as step
-use Rattle.asgi_conn.specs.declared.place.Place.{Place}
-use Rattle.asgi_conn.specs.declared.place.Place.TheVariants as place
+use Rattle.asgi_conn.specs.Places.{Place, place_at, place_of}
+use Rattle.asgi_conn.specs.Places as place
 use Rattle.asgi_conn.specs.declared.tally.Tally.{Tally}
 use Rattle.asgi_conn.specs.Serving.{Serves}
 use Rattle.asgi_conn.specs.Standing.{GoesOn, IfOver, InExchange, IsAt, IsCounted, IsServing, IsTallied, HasRoom, Stands, IsReportOf, http_scene, session_scene}
-use Rattle.asgi_conn.specs.private.Loop.{HasBegun, IsLeft, MayTurn, IsNext, IsGoing, IsDue, IsDueOrBetween, IsBetween, HasEnded}
+use Rattle.asgi_conn.specs.private.Loop.{HasBegun, IsLeft, MayTurn, IsNext, IsGoing, IsDue, IsDueOrBetween, IsBetween, HasEnded, next_step_of}
 use Rattle.asgi_request.specs.Reading.{IsWaiting}
 use Rattle.asgi_request.proofs.StandardLemmas.{all_results}
 use Rattle.asgi_conversation.specs.TaskEnds.{has_ended}
@@ -78,6 +78,12 @@ room_of (place.Between wire) tally going room = room
 room_of (place.Http half exchange) tally going room = room.0
 room_of (place.Session half exchange) tally going room = room
 room_of (place.Ended outcome) tally going room = absurd going
+
+going_at : {X : Type 0} (at : Place X) → IsBetween at → IsGoing at
+going_at (place.Between wire) between = tt
+going_at (place.Http half exchange) between = absurd between
+going_at (place.Session half exchange) between = absurd between
+going_at (place.Ended outcome) between = absurd between
 
 not_ended : {X : Type 0} (at : Place X) (outcome : Outcome) → IsGoing at → at ≡ place.Ended outcome → ⊥
 not_ended at outcome going is = subst IsGoing is going
@@ -134,8 +140,10 @@ module _ {X : Type 0} (limits : Limits) (before pauses : ℕ) where
   next_limit later tally next is = (subst (λ (p : Place X). IsNext p tally.turns) is next) refl
 
   -- the reader gave its next result
-  pub counted_next : (wire : Wire) (later : Place X) (tally : Tally) → IsCounted {X = X} limits before pauses (place.Between wire) tally → IsNext later tally.turns → IsCounted limits before pauses later tally
-  counted_next wire later tally c next = counted_at (place.Between wire) later tally tally c refl (next_limit later tally next) (next_room later tally c.room next)
+  pub counted_next : (at later : Place X) (old new : Tally) → IsCounted limits before pauses at old → IsBetween at → new ≡ old → IsNext later old.turns → IsCounted limits before pauses later new
+  counted_next at later old new c between same next =
+      subst (λ (t : Tally). IsCounted limits before pauses later t) (sym same)
+      (counted_at at later old old c refl (next_limit later old next) (next_room later old (room_of at old (going_at at between) c.room) next))
 
   ended_is : (at : Place X) (outcome : Outcome) → at ≡ place.Ended outcome → at ≡ place.Ended Idle → outcome ≡ Idle
   ended_is at outcome is idle = let e : ◌≡◌ {A = Place X} (place.Ended outcome) (place.Ended Idle) = sym is ∙ idle in cc
@@ -248,6 +256,11 @@ module _ {X : Type 0} (at : Place X) (turns : Turns) where
       by (place.Session half exchange) (inl left) = absurd left
       by (place.Session half exchange) (inr left) = absurd left
       by (place.Ended outcome) left = tt
+
+-- as an exchange that is over ends its connection
+pub left_at : {X : Type 0} (half : HttpHalf) (ended : Option Outcome) → half.stage ≡ Over (next_step_of ended) → IsLeft {X = X} half (place_at None None ended half)
+left_at half None is = inl (is, refl)
+left_at half (Some outcome) is = inr (outcome, is, refl)
 
 pub left_of : {X : Type 0} (half : HttpHalf) (at : Place X) → IsLeft half at → IsBetween at ⊎ HasEnded at
 left_of half at (inl left) = inl (subst IsBetween (sym left.1) tt)
@@ -485,6 +498,15 @@ module _ {T C E X : Type 0} (answers : T → List Incoming → List Outgoing →
 -- ---- the report
 
 module _ {T C E X : Type 0} (answers : T → List Incoming → List Outgoing → Option EndKind → Type 0) (conns : conn_end.Ghosts C) (ends : app_end.Ghosts E) (conn : X → C) (began : X → AppSide T E → Type 0) (promise : Promise) (limits : Limits) (client server : Option Peer) (state : List (List ℕ × StateValue)) (start : LineState) (before : ℕ) (now : LineState) (pauses : ℕ) where
+  -- the reader gave its next result
+  pub stands_next : (old new : Connection X) → IsServing answers conns ends conn began promise limits client server state start now old.tally (place_of new)
+      → IsCounted limits before pauses (place_of old) old.tally → IsBetween (place_of old) → new.tally ≡ old.tally → IsNext (place_of new) old.tally.turns
+      → Stands answers conns ends conn began promise limits client server state start before now pauses new
+  stands_next old new s counted between same next = record {
+    serving = subst (λ (t : Tally). IsServing answers conns ends conn began promise limits client server state start now t (place_of new)) (sym same) s;
+    counted = counted_next limits before pauses (place_of old) (place_of new) old.tally new.tally counted between same next;
+  }
+
   pub told : (connection : Connection X) (report : Report) → Stands answers conns ends conn began promise limits client server state start before now pauses connection → IsReportOf connection report
       → Serves promise limits client server state start now before pauses report
   told connection report x is =
