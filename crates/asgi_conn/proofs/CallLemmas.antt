@@ -3,12 +3,12 @@ use Rattle.std.proofs.Common.{◌≡◌, ℕ, ◌+◌, List, [], ◌∷◌, ◌+
 use Rattle.std.specs.Prelude.{length}
 use Rattle.asgi_types.specs.declared.scope.Scope.{Scope}
 use Rattle.asgi_conversation.specs.declared.report.Report.{Report}
-use Rattle.asgi_halves.specs.declared.wire.Wire.{Wire}
 use Rattle.asgi_conn.specs.declared.connection.Connection.{Connection}
-use Rattle.asgi_conn.specs.declared.place.Place.{Place}
-use Rattle.asgi_conn.specs.declared.place.Place.TheVariants as place
+use Rattle.asgi_conn.specs.Places.{Place, place_of}
+use Rattle.asgi_conn.specs.Places as place
 use Rattle.asgi_conn.specs.Standing.{IsReportOf, begun_at, exchanges_of}
-use Rattle.asgi_conn.specs.private.Loop.{CallsWith}
+use Rattle.asgi_conn.specs.declared.tally.Tally.{Tally}
+use Rattle.asgi_conn.specs.private.Loop.{CallsWith, IsBetween}
 
 scopes_more : (old : List Scope) (scope : Scope) → length (old ++ scope ∷ []) ≡ length old + 1
 scopes_more [] scope = refl
@@ -21,16 +21,22 @@ calls_more scope (place.Http half exchange) old new called = ap length called �
 calls_more scope (place.Session half exchange) old new called = ap length called ∙ scopes_more old scope
 calls_more scope (place.Ended outcome) old new called = let same : length new ≡ length old = ap length called in omega (arith, same)
 
--- from one place to the next: an exchange was counted, or one was begun, or neither
-pub went_on : {X : Type 0} (wire : Wire) (left next went : Place X) (first counted last old new : ℕ) → counted + begun_at left ≡ first → left ≡ place.Between wire → new ≡ old + begun_at next
-    → went ≡ next → last ≡ counted + begun_at went → new + first ≡ old + last
-went_on wire left next went first counted last old new finished between called same over =
-    let none : begun_at left ≡ 0 = ap begun_at between in
-    let is : begun_at went ≡ begun_at next = ap begun_at same in omega (arith, finished, none, called, is, over)
+none_begun : {X : Type 0} (at : Place X) → IsBetween at → begun_at at ≡ 0
+none_begun (place.Between wire) between = refl
+none_begun (place.Http half exchange) between = absurd between
+none_begun (place.Session half exchange) between = absurd between
+none_begun (place.Ended outcome) between = refl
+
+-- from between two requests to the next place: an exchange was begun, or none
+pub went_on : {X : Type 0} (left next : Connection X) (first last old new : ℕ) → exchanges_of left ≡ first → IsBetween (place_of left) → new ≡ old + begun_at (place_of next) → next.tally ≡ left.tally
+    → last ≡ exchanges_of next → new + first ≡ old + last
+went_on left next first last old new finished between called same over =
+    let none : begun_at (place_of left) ≡ 0 = none_begun (place_of left) between in
+    let counted : next.tally.exchanges ≡ left.tally.exchanges = ap (λ (t : Tally). t.exchanges) same in omega (arith, finished, none, called, counted, over)
 
 -- the report counts the exchanges that were begun
 pub all_reported : {X : Type 0} (connection : Connection X) (report : Report) → IsReportOf connection report → exchanges_of connection ≡ report.exchanges
-all_reported connection report is = let none : begun_at connection.place ≡ 0 = ap begun_at is.0 in let same = is.1 in omega (arith, none, same)
+all_reported connection report is = let none : begun_at (place_of connection) ≡ 0 = ap begun_at is.0 in let same = is.1 in omega (arith, none, same)
 
 pub none_yet : (calls begun : ℕ) → begun ≡ 0 → calls ≡ calls + begun
 none_yet calls begun none = omega (arith, none)

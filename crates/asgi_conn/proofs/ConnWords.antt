@@ -3,7 +3,7 @@ pub use Rattle.std.proofs.Common.{Bool, IsSomeAnd, List, None, Option, Some, [],
 pub use Rattle.std.proofs.Common.{◌≢◌, ◌⊎◌}
 pub use Rattle.std.{proofs.lemmas.List.Elements.All-nil, specs.Prelude.length}
 pub use Rattle.asgi_apps.specs.Promises.{Promise}
-pub use Rattle.asgi_conn.specs.{Standing.BetweenRequests, Standing.EndsSo, Standing.IsServing, Standing.IsTallied, declared.place.Place.Place, declared.place.Place.TheVariants.Ended}
+pub use Rattle.asgi_conn.specs.{Standing.BetweenRequests, Standing.EndsSo, Standing.IsServing, Standing.IsTallied, Places.Place, Places.Ended, Places.place_at, Places.place_of}
 pub use Rattle.asgi_conn.specs.declared.tally.Tally.{Tally}
 pub use Rattle.asgi_conn.specs.private.Loop.{IsAtRest, IsLeft}
 pub use Rattle.asgi_conversation.proofs.RequestLemmas.{requests_join}

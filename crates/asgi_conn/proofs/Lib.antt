@@ -2,6 +2,7 @@ pub mod ConnWords
 pub mod SessionLeaveLemmas
 pub mod LeaveLemmas
 pub mod AnswerLemmas
+pub mod PlaceLemmas
 pub mod BetweenLemmas
 pub mod SessionServeLemmas
 pub mod ServeLemmas

@@ -15,7 +15,7 @@ use Rattle.asgi_halves.specs.Half.{WithinScene, Opens as OpensRequest}
 use Rattle.asgi_run.specs.Lines.{GoesOn as ReadsOn}
 use Rattle.asgi_halves.proofs.ReadAheadLemmas.{nothing_ahead, heads_more}
 use Rattle.asgi_conversation.proofs.LoopLemmas as loop
-use Rattle.asgi_conn.specs.declared.place.Place.TheVariants as place
+use Rattle.asgi_conn.specs.Places as place
 use Rattle.asgi_conn.proofs.BetweenLemmas as between
 
 -- ---- what the reader gave

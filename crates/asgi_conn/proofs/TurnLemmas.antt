@@ -1,8 +1,8 @@
 -- What a turn of a connection does to where it stands.
-use Rattle.asgi_conn.proofs.ConnWords.{◌≡◌, ℕ, ◌+◌, ◌⊎◌, inl, inr, List, [], ◌∷◌, ◌++◌, arith, refl, sym, ap, ◌∙◌, subst, Option, Some, true, false, length, EndKind, Facts, Incoming, Limits}
+use Rattle.asgi_conn.proofs.ConnWords.{◌≡◌, ℕ, ◌+◌, ◌⊎◌, inl, inr, List, [], ◌∷◌, ◌++◌, arith, refl, sym, ap, ◌∙◌, subst, Option, Some, None, true, false, length, EndKind, Facts, Incoming, Limits}
 use Rattle.asgi_conn.proofs.ConnWords.{Outgoing, Http, WebSocket, Peer, Scope, StateValue, scope_with, Promise, StandsFor, AllGiven, Next, IsHttpExchange, is_by_input, NextStep, NextRequest}
 use Rattle.asgi_conn.proofs.ConnWords.{ConnectionEnds, Outcome, Idle, NoMemory, Report, fault_of, requests_of, ArePromised, has_ended, exchanged, handshake_of, AppSide, OfEnd, IsOpened, HasRun}
-use Rattle.asgi_conn.proofs.ConnWords.{Transferred, piece_size, AnyHalf, HttpHalf, WebSocketHalf, Stage, Over, Wire, Scene, ReadsAhead, SessionScene, session_of, LineState, Place, Tally}
+use Rattle.asgi_conn.proofs.ConnWords.{Transferred, piece_size, AnyHalf, HttpHalf, WebSocketHalf, Stage, Over, Wire, Scene, ReadsAhead, SessionScene, session_of, LineState, Place, place_at, place_of, Tally}
 use Rattle.asgi_conn.proofs.ConnWords.{IsServing, IsTallied, BetweenRequests, IsLeft, AppEnds, ConnEnds}
 use Rattle.asgi_halves.specs.{Half.Invariant, declared.stage.Stage.TheVariants.Running, declared.stage.Stage.TheVariants.Ending, declared.stage.Stage.TheVariants.Cut, Kinds.following_of}
 use Rattle.asgi_halves.specs.contracts.impls.{HttpHalfHalf.TheImpl.ghosts as http_half, WebSocketHalfHalf.TheImpl.ghosts as session_half}
@@ -17,13 +17,13 @@ use Rattle.asgi_exchange.specs.{Calls.IsViewOf, Calls.IsExchangeOf, Views.ConnVi
 use Rattle.asgi_run.specs.{AnyHalf.PreservesOn, Limits.IsAtLimit, Limits.IsSettled}
 use Rattle.asgi_conn.specs.{declared.connection.Connection.Connection, declared.connection.Step.Step, Serving.Serves, Standing.GoesOn, Standing.IfOver, Standing.InExchange, Standing.IsAt}
 use Rattle.asgi_conn.specs.Standing.{IsCounted, HasRoom, Stands, IsReportOf, http_scene, session_scene}
-use Rattle.asgi_conn.specs.private.Loop.{HasBegun, MayTurn, IsNext, IsGoing, IsDue, IsDueOrBetween, IsBetween, HasEnded}
+use Rattle.asgi_conn.specs.private.Loop.{HasBegun, MayTurn, IsNext, IsGoing, IsDue, IsDueOrBetween, IsBetween, HasEnded, next_step_of}
 use Rattle.asgi_request.proofs.StandardLemmas.{all_results}
 use Rattle.asgi_conn.proofs.{BetweenLemmas.rests_on, BetweenLemmas.ends_fed_short, LeaveLemmas.left_at, ServeLemmas.at_rest, SessionLeaveLemmas.ends_after, SessionServeLemmas.ends_connection}
 use Rattle.asgi_exchange.proofs.HttpExchangeLemmas.{in_words}
 use Rattle.asgi_exchange.proofs.SessionExchangeLemmas.{in_words as session_words}
 use Rattle.asgi_conn.specs.declared.connection.Step.TheVariants as step
-use Rattle.asgi_conn.specs.declared.place.Place.TheVariants as place
+use Rattle.asgi_conn.specs.Places as place
 use Rattle.asgi_conn.proofs.AnswerLemmas as answer
 
 -- ---- the counts
@@ -38,6 +38,10 @@ room_of : {X : Type 0} (at : Place X) (tally : Tally) → IsGoing at → HasRoom
 room_of (place.Http half exchange) tally going room = room.0
 room_of (place.Ended outcome) tally going room = absurd going
 room_of _ tally going room = room
+
+going_at : {X : Type 0} (at : Place X) → IsBetween at → IsGoing at
+going_at (place.Between wire) between = tt
+going_at _ between = absurd between
 
 over_of : (stage : Stage) (following : NextStep) → following_of stage ≡ Some following → stage ≡ Over following
 over_of (Over it) following is = ap Over cc
@@ -80,9 +84,10 @@ module _ {X : Type 0} (limits : Limits) (before pauses : ℕ) where
   next_limit later tally next is = (subst (λ (p : Place X). IsNext p tally.turns) is next) refl
 
   -- the reader gave its next result
-  pub counted_next : (wire : Wire) (later : Place X) (tally : Tally) → IsCounted {X = X} limits before pauses (place.Between wire) tally → IsNext later tally.turns
-      → IsCounted limits before pauses later tally
-  counted_next wire later tally c next = counted_at (place.Between wire) later tally tally c refl (next_limit later tally next) (next_room later tally c.room next)
+  pub counted_next : (at later : Place X) (old new : Tally) → IsCounted limits before pauses at old → IsBetween at → new ≡ old → IsNext later old.turns → IsCounted limits before pauses later new
+  counted_next at later old new c between same next =
+      subst (λ (t : Tally). IsCounted limits before pauses later t) (sym same)
+      (counted_at at later old old c refl (next_limit later old next) (next_room later old (room_of at old (going_at at between) c.room) next))
 
   ended_is : (at : Place X) (outcome : Outcome) → at ≡ place.Ended outcome → at ≡ place.Ended Idle → outcome ≡ Idle
   ended_is at outcome is idle = let e : ◌≡◌ {A = Place X} (place.Ended outcome) (place.Ended Idle) = sym is ∙ idle in cc
@@ -159,6 +164,11 @@ rest_left (place.Between wire) turns left = tt
 rest_left (place.Ended outcome) turns left = tt
 rest_left _ turns (inl left) = absurd left
 rest_left _ turns (inr left) = absurd left
+
+-- as an exchange that is over ends its connection
+pub left_by : {X : Type 0} (half : HttpHalf) (ended : Option Outcome) → half.stage ≡ Over (next_step_of ended) → IsLeft {X = X} half (place_at None None ended half)
+left_by half None is = inl (is, refl)
+left_by half (Some outcome) is = inr (outcome, is, refl)
 
 pub left_of : {X : Type 0} (half : HttpHalf) (at : Place X) → IsLeft half at → IsBetween at ⊎ HasEnded at
 left_of half at (inl left) = inl (subst IsBetween (sym left.1) tt)
@@ -338,6 +348,15 @@ module _ {T C E X : Type 0} (answers : T → List Incoming → List Outgoing →
 module _ {T C E X : Type 0} (answers : T → List Incoming → List Outgoing → Option EndKind → Type 0) (conns : ConnEnds C) (ends : AppEnds E)
     (conn : X → C) (began : X → AppSide T E → Type 0) (promise : Promise) (limits : Limits) (client server : Option Peer) (state : List (List ℕ × StateValue)) (start : LineState)
     (before : ℕ) (now : LineState) (pauses : ℕ) where
+  -- the reader gave its next result
+  pub stands_next : (old new : Connection X) → IsServing answers conns ends conn began promise limits client server state start now old.tally (place_of new)
+      → IsCounted limits before pauses (place_of old) old.tally → IsBetween (place_of old) → new.tally ≡ old.tally → IsNext (place_of new) old.tally.turns
+      → Stands answers conns ends conn began promise limits client server state start before now pauses new
+  stands_next old new s counted between same next = record {
+    serving = subst (λ (t : Tally). IsServing answers conns ends conn began promise limits client server state start now t (place_of new)) (sym same) s;
+    counted = counted_next limits before pauses (place_of old) (place_of new) old.tally new.tally counted between same next;
+  }
+
   pub told : (connection : Connection X) (report : Report) → Stands answers conns ends conn began promise limits client server state start before now pauses connection → IsReportOf connection report
       → Serves promise limits client server state start now before pauses report
   told connection report x is =

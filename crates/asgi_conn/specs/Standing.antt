@@ -48,8 +48,8 @@ use Rattle.asgi_halves.specs.Traffic.{HasCarried, failures_in}
 use Rattle.asgi_halves.specs.WebSocketHalf.{SessionScene}
 use Rattle.asgi_ws.specs.Lines.{LineState}
 use Rattle.asgi_conn.specs.declared.connection.Connection.{Connection}
-use Rattle.asgi_conn.specs.declared.place.Place.{Place}
-use Rattle.asgi_conn.specs.declared.place.Place.TheVariants as place
+use Rattle.asgi_conn.specs.Places.{Place, place_of}
+use Rattle.asgi_conn.specs.Places as place
 use Rattle.asgi_conn.specs.declared.connection.Step.{Step}
 use Rattle.asgi_conn.specs.declared.connection.Step.TheVariants as step
 use Rattle.asgi_conn.specs.declared.tally.Tally.{Tally}
@@ -152,8 +152,8 @@ module _ {T C E X : Type 0} (answers : T → List Incoming → List Outgoing →
 
   -- It stands there, since its line was in the state `start` and there had been the pauses `before`.
   pub record Stands (before : ℕ) (now : LineState) (pauses : ℕ) (connection : Connection X) : Type 0 where
-    pub serving : IsServing now connection.tally connection.place
-    pub counted : IsCounted limits before pauses connection.place connection.tally
+    pub serving : IsServing now connection.tally (place_of connection)
+    pub counted : IsCounted limits before pauses (place_of connection) connection.tally
 
 -- ---- what a turn answers
 
@@ -185,7 +185,7 @@ IfOver (step.Over report) P = P report
 -- the connection has ended, and this is its report
 abbrev pub IsReportOf : {X : Type 0} → Connection X → Report → Type 0
 IsReportOf connection report =
-    (connection.place ≡ place.Ended report.outcome) × (report.exchanges ≡ connection.tally.exchanges) × (report.faults ≡ connection.tally.faults)
+    (place_of connection ≡ place.Ended report.outcome) × (report.exchanges ≡ connection.tally.exchanges) × (report.faults ≡ connection.tally.faults)
     × (report.turns ≡ connection.tally.turns.turns) × (report.idle ≡ connection.tally.turns.idle)
 
 -- one turn was taken, of the same limit
@@ -203,4 +203,4 @@ begun_at (place.Ended outcome) = 0
 
 -- the exchanges that a connection has begun: those that it has counted, and the one that it is in
 abbrev pub exchanges_of : {X : Type 0} → Connection X → ℕ
-exchanges_of connection = connection.tally.exchanges + begun_at connection.place
+exchanges_of connection = connection.tally.exchanges + begun_at (place_of connection)

@@ -14,17 +14,15 @@ ghost use Rattle.asgi_conversation.specs.Persistence.{RefusesWith};
 ghost use Rattle.asgi_conversation.specs.TaskEnds.{has_ended};
 ghost use Rattle.asgi_ws.specs.Lines.{LineState};
 ghost use Rattle.asgi_halves.specs.Kinds.{ReadsNone};
-ghost use Rattle.asgi_run.specs.Limits.{IsAtLimit};
+ghost use Rattle.asgi_conn.specs.Places.{place_of};
 ghost use Rattle.asgi_conn.specs.Standing.{BetweenRequests, EndsSo, IsServing, begun_at};
-ghost use Rattle.asgi_conn.specs.private.Loop.{IsAtRest, IsNext, IsFree};
+ghost use Rattle.asgi_conn.specs.private.Loop.{IsAtRest, IsBetween, IsFree, IsNext};
 
-use crate::opening::{answer, open};
-use crate::place::{Place, Setting};
-use crate::tally::Tally;
+use crate::connection::Connection;
+use crate::setting::Setting;
 use asgi_apps::{Application, Calls};
 use asgi_conversation::{InputEnd, Outcome};
 use asgi_halves::{Wire, write};
-use asgi_io::Turns;
 use asgi_request::Next;
 use asgi_response::refusal_text;
 use asgi_run::Runner;
@@ -32,44 +30,69 @@ use asgi_types::{Framing, Peer, Scope, State};
 use asgi_ws::Line;
 use std::alloc::{AllocError, Global};
 
-/// Asks the reader for its next result, and does what that calls for and takes no turn.
-pub(crate) fn next<A: Application, L: Line, X, U: Runner<A::Task, Exchange = X>>(
-    wire: Wire,
-    setting: &Setting<'_>,
-    calls: &mut Calls<'_, A>,
-    tally: &Tally,
-    line: &mut L,
-    runner: &mut U,
-) -> Place<X>
-    requires { (limits : Limits) × (start : LineState)
-        × IsServing A.Task.answers U.Pipes.Conn.ConnEnd U.Pipes.App.AppEnd U.conn U.began (A.answers calls.old.app.now)
-        limits setting.now.client.now setting.now.server.now setting.now.state.now start (L.state line.old) tally.now (Place.Between wire) }
-    ensures serves { (limits : Limits) (start : LineState)
-        → IsServing A.Task.answers U.Pipes.Conn.ConnEnd U.Pipes.App.AppEnd U.conn U.began (A.answers calls.old.app.now)
-        limits setting.now.client.now setting.now.server.now setting.now.state.now start (L.state line.old) tally.now (Place.Between wire)
-        → IsServing A.Task.answers U.Pipes.Conn.ConnEnd U.Pipes.App.AppEnd U.conn U.began (A.answers calls.old.app.now)
-        limits setting.now.client.now setting.now.server.now setting.now.state.now start (L.state line.new) tally.now result }
-    ensures unread { ReadsNone (L.state line.old) (L.state line.new) }
-    ensures next { IsNext result tally.now.turns }
-    ensures called { length calls.new.scopes.items ≡ length calls.old.scopes.items + begun_at result }
-    ensures same { calls.new.app.now ≡ calls.old.app.now }
-{
-    let mut wire = wire;
-    match wire.requests.next() {
-        Err(_) => Place::Ended(Outcome::NoMemory),
-        Ok(Next::Need) => wait(wire, &tally.turns),
-        Ok(Next::Bad(status)) => refuse(status, line),
-        Ok(Next::Head(scope, facts)) => {
-            let Ok(scope) = scope_of(wire.alloc, scope, setting) else {
-                return Place::Ended(Outcome::NoMemory);
-            };
-            if let Framing::Upgrade = facts.framing {
-                return open(wire, &scope, facts, calls, &tally.turns, line, runner);
+impl<X> Connection<X> {
+    /// Asks the reader for its next result, and does what that calls for and takes no turn.
+    pub(crate) fn next<A: Application, L: Line, U: Runner<A::Task, Exchange = X>>(
+        &mut self,
+        setting: &Setting<'_>,
+        calls: &mut Calls<'_, A>,
+        line: &mut L,
+        runner: &mut U,
+    )
+        requires between { IsBetween (place_of self.old) }
+        requires stands { (limits : Limits) × (start : LineState)
+            × IsServing A.Task.answers U.Pipes.Conn.ConnEnd U.Pipes.App.AppEnd U.conn U.began (A.answers calls.old.app.now)
+            limits setting.now.client.now setting.now.server.now setting.now.state.now start (L.state line.old) self.old.tally (place_of self.old) }
+        ensures serves { (limits : Limits) (start : LineState)
+            → IsServing A.Task.answers U.Pipes.Conn.ConnEnd U.Pipes.App.AppEnd U.conn U.began (A.answers calls.old.app.now)
+            limits setting.now.client.now setting.now.server.now setting.now.state.now start (L.state line.old) self.old.tally (place_of self.old)
+            → IsServing A.Task.answers U.Pipes.Conn.ConnEnd U.Pipes.App.AppEnd U.conn U.began (A.answers calls.old.app.now)
+            limits setting.now.client.now setting.now.server.now setting.now.state.now start (L.state line.new) self.old.tally (place_of self.new) }
+        ensures unread { ReadsNone (L.state line.old) (L.state line.new) }
+        ensures next { IsNext (place_of self.new) self.old.tally.turns }
+        ensures tally { self.new.tally ≡ self.old.tally }
+        ensures called { length calls.new.scopes.items ≡ length calls.old.scopes.items + begun_at (place_of self.new) }
+        ensures same { calls.new.app.now ≡ calls.old.app.now }
+    {
+        match self.half.wire.requests.next() {
+            Err(_) => self.end_with(Outcome::NoMemory),
+            Ok(Next::Need) => self.wait(),
+            Ok(Next::Bad(status)) => {
+                let outcome = refuse(status, line);
+                self.end_with(outcome);
             }
-            answer(wire, &scope, facts, calls, &tally.turns, line, runner)
+            Ok(Next::Head(scope, facts)) => {
+                let Ok(scope) = scope_of(self.half.wire.alloc, scope, setting) else {
+                    return self.end_with(Outcome::NoMemory);
+                };
+                if let Framing::Upgrade = facts.framing {
+                    return self.open(&scope, facts, calls, line, runner);
+                }
+                self.answer(&scope, facts, calls, line, runner);
+            }
+            Ok(Next::Event(_)) => unreachable!(),
+            Ok(Next::Whole) => unreachable!(),
         }
-        Ok(Next::Event(_)) => unreachable!(),
-        Ok(Next::Whole) => unreachable!(),
+    }
+
+    /// Stays where it is if more bytes are needed, or goes to its end at the end of the input or at a limit on turns.
+    fn wait(&mut self)
+        requires between { IsBetween (place_of self.old) }
+        requires waits { IsWaiting self.old.half.wire.requests }
+        ensures waits { (limits : Limits) (start now : LineState) (read : List ℕ) (given : List Next) (exchanges : List ExchangeRecord) (after written : List ℕ)
+            → BetweenRequests limits start now self.old.half.wire read given exchanges after written → AllGiven self.old.half.wire.requests read given
+            → IsAtRest (place_of self.new) limits start now read exchanges written }
+        ensures next { IsNext (place_of self.new) self.old.tally.turns }
+        ensures free { IsFree (place_of self.new) }
+        ensures tally { self.new.tally ≡ self.old.tally }
+    {
+        if self.half.wire.input.has_ended() {
+            let outcome = at_end(&self.half.wire);
+            return self.end_with(outcome);
+        }
+        if self.tally.turns.is_over() {
+            return self.end_with(Outcome::Idle);
+        }
     }
 }
 
@@ -121,26 +144,6 @@ fn copy_of(peer: &Option<Peer>, alloc: Global) -> Result<Option<Peer>, AllocErro
     }
 }
 
-// ---- at rest
-
-/// Where the connection stands if more bytes are needed: there, or at its end at the end of the input or at a
-/// limit on turns.
-fn wait<X>(wire: Wire, turns: &Turns) -> Place<X>
-    requires { IsWaiting wire.requests }
-    ensures waits { (limits : Limits) (start now : LineState) (read : List ℕ) (given : List Next) (exchanges : List ExchangeRecord) (after written : List ℕ)
-        → BetweenRequests limits start now wire read given exchanges after written → AllGiven wire.requests read given → IsAtRest result limits start now read exchanges written }
-    ensures next { IsNext result turns.now }
-    ensures free { IsFree result }
-{
-    if wire.input.has_ended() {
-        return Place::Ended(at_end(&wire));
-    }
-    if turns.is_over() {
-        return Place::Ended(Outcome::Idle);
-    }
-    Place::Between(wire)
-}
-
 /// How the connection ends at the end of the input, if nothing is due.
 fn at_end(wire: &Wire) -> Outcome
     requires { has_ended wire.now.input ≡ true }
@@ -169,18 +172,17 @@ fn is_blank(bytes: &[u8]) -> bool
     bytes.iter().all(|b| *b == b'\r' || *b == b'\n')
 }
 
-/// Writes the text of a refusal, after which the connection ends.
-fn refuse<L: Line, X>(status: u16, line: &mut L) -> Place<X>
+/// Writes the text of a refusal. Returns how the connection ends with it.
+fn refuse<L: Line>(status: u16, line: &mut L) -> Outcome
     requires { IsTrue (is_refusal status) }
     ensures refuses { (limits : Limits) (start : LineState) (wire : Wire) (read : List ℕ) (given : List Next) (exchanges : List ExchangeRecord) (after written : List ℕ)
         → BetweenRequests limits start (L.state line.old) wire read given exchanges after written → RefusesWith limits after status
-        → (text : List ℕ) × IsAtRest result limits start (L.state line.new) read exchanges (written ++ text) }
+        → (text : List ℕ) × EndsSo limits start (L.state line.new) read exchanges (written ++ text) result }
     ensures unread { ReadsNone (L.state line.old) (L.state line.new) }
-    ensures next { (turns : Turns) → IsNext result turns }
-    ensures free { IsFree result }
+    ensures not_idle { result ≢ Outcome.Idle }
 {
     match write(line, refusal_text(status)) {
-        None => Place::Ended(Outcome::Refused(status)),
-        Some(n) => Place::Ended(Outcome::WriteFailed(n)),
+        None => Outcome::Refused(status),
+        Some(n) => Outcome::WriteFailed(n),
     }
 }

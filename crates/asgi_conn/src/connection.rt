@@ -5,24 +5,22 @@ ghost use Rattle.asgi_conversation.specs.declared.report.Report.{Report};
 ghost use Rattle.asgi_ws.specs.Lines.{LineState};
 ghost use Rattle.asgi_halves.specs.Kinds.{ReadsNone};
 ghost use Rattle.asgi_conn.specs.Serving.{Serves};
-ghost use Rattle.asgi_conn.specs.declared.place.Place.{Place};
+ghost use Rattle.asgi_conn.specs.Places as place;
+ghost use Rattle.asgi_conn.specs.Places.{Place, place_of};
 ghost use Rattle.asgi_conn.specs.Standing.{Stands, IsServing, GoesOn, IfOver, IsReportOf, TakesOne, TakesTurn, step_of, exchanges_of};
-ghost use Rattle.asgi_conn.specs.private.Loop.{IsNext, IsDue, IsDueOrBetween, IsBetween, IsOver, HasEnded, IsGoing};
+ghost use Rattle.asgi_conn.specs.private.Loop.{IsDue, HasEnded, IsGoing};
 
-use crate::between::next;
-use crate::closing::{end_request, end_session};
-use crate::place::{Place, Setting};
+use crate::setting::Setting;
 use crate::tally::Tally;
 use asgi_apps::{AppTask, Application, Calls};
 use asgi_conversation::{Outcome, Report};
-use asgi_halves::Wire;
+use asgi_halves::{HttpHalf, WebSocketHalf, Wire};
 use asgi_io::{Pause, Turn, Turns};
 use asgi_pipes::Pipes;
-use asgi_run::{Half, Runner};
+use asgi_run::Runner;
 use asgi_types::{Limits, Peer, State};
 use asgi_ws::Line;
 use std::alloc::{AllocGlobal, Global};
-use std::mem;
 
 /// What a turn of a connection did.
 #[derive(Clone, Copy, Debug, PartialEq, Eq)]
@@ -38,8 +36,15 @@ pub enum Step {
 /// One connection, between two of its turns; `X` is what its runner keeps of an exchange.
 #[derive(Drop)]
 pub struct Connection<X> {
-    place: Place<X>,
-    tally: Tally,
+    /// The half of requests. Its wire is the connection's between two of them, too.
+    pub(crate) half: HttpHalf,
+    /// The half of a session, once an opening handshake was read.
+    pub(crate) session: Option<WebSocketHalf>,
+    /// What runs of the exchange in hand.
+    pub(crate) exchange: Option<X>,
+    /// How the connection has ended.
+    pub(crate) ended: Option<Outcome>,
+    pub(crate) tally: Tally,
 }
 
 impl<X> Connection<X> {
@@ -55,7 +60,10 @@ impl<X> Connection<X> {
         ensures none { exchanges_of result ≡ 0 }
     {
         Connection {
-            place: Place::Between(Wire::new(alloc, *limits)),
+            half: HttpHalf::new(Wire::new(alloc, *limits)),
+            session: None,
+            exchange: None,
+            ended: None,
             tally: Tally {
                 exchanges: 0,
                 faults: 0,
@@ -93,7 +101,7 @@ impl<X> Connection<X> {
         // A turn that goes on takes one of the limit, and is the one that it says. Nothing is read before it.
         ensures takes { GoesOn result → TakesOne self.old self.new }
         ensures took { GoesOn result → (turn : Turn) × (was : LineState) × (at : Place X) × ReadsNone (L.state line.old) was
-            × TakesTurn U.takes was at turn (L.state line.new) self.new.place × (result ≡ step_of turn) }
+            × TakesTurn U.takes was at turn (L.state line.new) (place_of self.new) × (result ≡ step_of turn) }
         // Each exchange that is begun is one call of the application, and there is no other.
         ensures called { length calls.new.scopes.items + exchanges_of self.old ≡ length calls.old.scopes.items + exchanges_of self.new }
         ensures same { calls.new.app.now ≡ calls.old.app.now }
@@ -114,25 +122,12 @@ impl<X> Connection<X> {
         }
     }
 
-    /// Whether the connection has ended.
-    fn has_ended(&self) -> bool
-        ensures yes { IsTrue result → HasEnded self.now.place }
-        ensures no { IsFalse result → IsGoing self.now.place }
-    {
-        match &self.place {
-            Place::Between(_) => false,
-            Place::Http(_, _) => false,
-            Place::Session(_, _) => false,
-            Place::Ended(_) => true,
-        }
-    }
-
     /// The report of a connection that has ended.
     fn report(&self) -> Report
-        requires { HasEnded self.now.place }
+        requires { HasEnded (place_of self.now) }
         ensures { IsReportOf self.now result }
     {
-        let Place::Ended(outcome) = &self.place else {
+        let Some(outcome) = self.ended else {
             unreachable!()
         };
         Report {
@@ -140,7 +135,7 @@ impl<X> Connection<X> {
             faults: self.tally.faults,
             turns: self.tally.turns.turns,
             idle: self.tally.turns.idle,
-            outcome: *outcome,
+            outcome,
         }
     }
 
@@ -149,11 +144,9 @@ impl<X> Connection<X> {
     pub fn end(self)
         requires { (report : Report) × IsReportOf self report }
     {
-        match self.place {
-            Place::Ended(_outcome) => {}
-            Place::Between(_wire) => unreachable!(),
-            Place::Http(_half, _exchange) => unreachable!(),
-            Place::Session(_half, _exchange) => unreachable!(),
+        match self.exchange {
+            None => {}
+            Some(_exchange) => unreachable!(),
         }
     }
 
@@ -176,7 +169,7 @@ impl<X> Connection<X> {
             → Stands A.Task.answers U.Pipes.Conn.ConnEnd U.Pipes.App.AppEnd U.conn U.began (A.answers calls.old.app.now)
             limits setting.now.client.now setting.now.server.now setting.now.state.now start before (L.state line.new) pauses self.new }
         ensures unread { ReadsNone (L.state line.old) (L.state line.new) }
-        ensures due { IsDue self.new.place self.new.tally.turns }
+        ensures due { IsDue (place_of self.new) self.new.tally.turns }
         ensures turns { self.new.tally.turns ≡ self.old.tally.turns }
         ensures called { length calls.new.scopes.items + exchanges_of self.old ≡ length calls.old.scopes.items + exchanges_of self.new }
         ensures same { calls.new.app.now ≡ calls.old.app.now }
@@ -185,83 +178,8 @@ impl<X> Connection<X> {
         if !self.is_between() {
             return;
         }
-        let wire = self.place.leave();
-        let place = next(wire, setting, calls, &self.tally, line, runner);
-        self.place.go_to(place);
+        self.next(setting, calls, line, runner);
         self.finish::<A, U>(setting, runner);
-    }
-
-    /// Whether the connection is between two requests.
-    fn is_between(&self) -> bool
-        ensures yes { IsTrue result → IsBetween self.now.place }
-        ensures no { IsFalse result → ¬ (IsBetween self.now.place) }
-    {
-        match &self.place {
-            Place::Between(_) => true,
-            Place::Http(_, _) => false,
-            Place::Session(_, _) => false,
-            Place::Ended(_) => false,
-        }
-    }
-
-    /// Ends an exchange that is over, or for which a limit on turns is reached: then it is given up.
-    fn finish<A: Application, U: Runner<A::Task, Exchange = X>>(
-        &mut self,
-        setting: &Setting<'_>,
-        runner: &mut U,
-    )
-        requires { (app : A) × (limits : Limits) × (start now : LineState) × (before pauses : ℕ) × Stands A.Task.answers U.Pipes.Conn.ConnEnd U.Pipes.App.AppEnd U.conn U.began (A.answers app)
-            limits setting.now.client.now setting.now.server.now setting.now.state.now start before now pauses self.old }
-        ensures stands { (app : A) (limits : Limits) (start now : LineState) (before pauses : ℕ)
-            → Stands A.Task.answers U.Pipes.Conn.ConnEnd U.Pipes.App.AppEnd U.conn U.began (A.answers app)
-            limits setting.now.client.now setting.now.server.now setting.now.state.now start before now pauses self.old
-            → Stands A.Task.answers U.Pipes.Conn.ConnEnd U.Pipes.App.AppEnd U.conn U.began (A.answers app)
-            limits setting.now.client.now setting.now.server.now setting.now.state.now start before now pauses self.new }
-        ensures rests { IsDueOrBetween self.new.place self.new.tally.turns }
-        ensures due { IsNext self.old.place self.old.tally.turns → IsDue self.new.place self.new.tally.turns }
-        ensures turns { self.new.tally.turns ≡ self.old.tally.turns }
-        ensures counts { exchanges_of self.new ≡ exchanges_of self.old }
-    {
-        if self.goes_on() {
-            return;
-        }
-        match mem::replace(&mut self.place, Place::Ended(Outcome::Finished)) {
-            Place::Http(half, exchange) => {
-                let place = end_request::<A, X, U>(
-                    half,
-                    exchange,
-                    setting,
-                    &mut self.tally,
-                    runner,
-                );
-                self.place.go_to(place);
-            }
-            Place::Session(half, exchange) => {
-                let place = end_session::<A, X, U>(
-                    half,
-                    exchange,
-                    setting,
-                    &mut self.tally,
-                    runner,
-                );
-                self.place.go_to(place);
-            }
-            Place::Between(_wire) => unreachable!(),
-            Place::Ended(_outcome) => unreachable!(),
-        }
-    }
-
-    /// Whether no exchange is to be ended.
-    fn goes_on(&self) -> bool
-        ensures yes { IsTrue result → IsDueOrBetween self.now.place self.now.tally.turns }
-        ensures no { IsFalse result → IsOver self.now.place self.now.tally.turns }
-    {
-        match &self.place {
-            Place::Between(_) => true,
-            Place::Http(half, _) => !self.tally.turns.is_over() && !half.is_settled(),
-            Place::Session(half, _) => !self.tally.turns.is_over() && !half.is_settled(),
-            Place::Ended(_) => true,
-        }
     }
 
     // ---- a turn
@@ -274,32 +192,36 @@ impl<X> Connection<X> {
         line: &mut L,
         runner: &mut U,
     ) -> Option<Turn>
-        requires due { IsDue self.old.place self.old.tally.turns }
+        requires due { IsDue (place_of self.old) self.old.tally.turns }
         requires stands { (app : A) × (limits : Limits) × (start : LineState)
             × IsServing A.Task.answers U.Pipes.Conn.ConnEnd U.Pipes.App.AppEnd U.conn U.began (A.answers app)
-            limits setting.now.client.now setting.now.server.now setting.now.state.now start (L.state line.old) self.old.tally self.old.place }
+            limits setting.now.client.now setting.now.server.now setting.now.state.now start (L.state line.old) self.old.tally (place_of self.old) }
         ensures serves { (app : A) (limits : Limits) (start : LineState)
             → IsServing A.Task.answers U.Pipes.Conn.ConnEnd U.Pipes.App.AppEnd U.conn U.began (A.answers app)
-            limits setting.now.client.now setting.now.server.now setting.now.state.now start (L.state line.old) self.old.tally self.old.place
+            limits setting.now.client.now setting.now.server.now setting.now.state.now start (L.state line.old) self.old.tally (place_of self.old)
             → IsServing A.Task.answers U.Pipes.Conn.ConnEnd U.Pipes.App.AppEnd U.conn U.began (A.answers app)
-            limits setting.now.client.now setting.now.server.now setting.now.state.now start (L.state line.new) self.new.tally self.new.place }
+            limits setting.now.client.now setting.now.server.now setting.now.state.now start (L.state line.new) self.new.tally (place_of self.new) }
         ensures tally { self.new.tally ≡ self.old.tally }
         ensures counts { exchanges_of self.new ≡ exchanges_of self.old }
-        ensures took { IfSome result (λ turn. TakesTurn U.takes (L.state line.old) self.old.place turn (L.state line.new) self.new.place) }
-        ensures some { IfSome result (λ turn. IsGoing self.old.place × IsGoing self.new.place) }
-        ensures none { IsNone result → (self.new.place ≡ Place.Ended Outcome.NoMemory) ⊎ (HasEnded self.old.place × (self.new.place ≡ self.old.place)) }
+        ensures took { IfSome result (λ turn. TakesTurn U.takes (L.state line.old) (place_of self.old) turn (L.state line.new) (place_of self.new)) }
+        ensures some { IfSome result (λ turn. IsGoing (place_of self.old) × IsGoing (place_of self.new)) }
+        ensures none { IsNone result → (place_of self.new ≡ place.Ended Outcome.NoMemory) ⊎ (HasEnded (place_of self.old) × (place_of self.new ≡ place_of self.old)) }
     {
-        match &mut self.place {
-            Place::Between(wire) => match wire.read(line) {
-                Ok(turn) => Some(turn),
-                Err(_) => {
-                    self.place.go_to(Place::Ended(Outcome::NoMemory));
-                    None
-                }
+        match &mut self.exchange {
+            Some(exchange) => match &mut self.session {
+                None => Some(runner.turn(exchange, &mut self.half, line)),
+                Some(session) => Some(runner.turn(exchange, session, line)),
             },
-            Place::Http(half, exchange) => Some(runner.turn(exchange, half, line)),
-            Place::Session(half, exchange) => Some(runner.turn(exchange, half, line)),
-            Place::Ended(_) => None,
+            None => match self.ended {
+                Some(_) => None,
+                None => match self.half.wire.read(line) {
+                    Ok(turn) => Some(turn),
+                    Err(_) => {
+                        self.end_with(Outcome::NoMemory);
+                        None
+                    }
+                },
+            },
         }
     }
 }

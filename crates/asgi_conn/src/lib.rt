@@ -7,6 +7,7 @@ mod connection;
 pub mod laws;
 mod opening;
 mod place;
+mod setting;
 mod tally;
 
 pub use asgi_apps::Calls;
@@ -16,4 +17,4 @@ pub use asgi_io::{CountingPause, Pause};
 pub use asgi_run::{AppSide, Beside, Half, Host, Inline, Napping, NoEnds, NoThread, Runner};
 pub use asgi_ws::Line;
 pub use connection::{Connection, Step, serve_calls, serve_connection};
-pub use place::Setting;
+pub use setting::Setting;

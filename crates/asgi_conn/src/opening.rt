@@ -13,88 +13,105 @@ ghost use Rattle.asgi_halves.specs.Half.{Scene, Opens};
 ghost use Rattle.asgi_halves.specs.WebSocketHalf.{SessionScene, OpensHandshake};
 ghost use Rattle.asgi_halves.specs.Kinds.{ReadsNone};
 ghost use Rattle.asgi_run.specs.Running.{MayRun, IsOpened};
+ghost use Rattle.asgi_conn.specs.Places.{place_of};
 ghost use Rattle.asgi_conn.specs.Standing.{IsServing, IsTallied};
-ghost use Rattle.asgi_conn.specs.private.Loop.{IsNext, HasBegun, CallsWith};
+ghost use Rattle.asgi_conn.specs.private.Loop.{CallsWith, HasBegun, IsFree, IsNext};
 ghost use Rattle.asgi_conn.specs.declared.tally.Tally.{Tally};
 
-use crate::place::Place;
+use crate::connection::Connection;
+use crate::tally::Tally;
 use asgi_apps::{AppTask, Application, Calls, Running};
 use asgi_conversation::Outcome;
-use asgi_halves::{HttpHalf, WebSocketHalf, Wire};
-use asgi_io::Turns;
+use asgi_halves::{WebSocketHalf, Wire};
 use asgi_pipes::{AppEnd, EndKind, Pipes};
 use asgi_response::ResponseText;
 use asgi_run::{AppSide, NoEnds, Runner};
 use asgi_types::{Facts, Framing, Kind, Scope};
 use asgi_ws::Line;
 use std::alloc::Global;
+use std::mem;
 
-/// Begins the exchange of a request.
-pub(crate) fn answer<A: Application, L: Line, X, U: Runner<A::Task, Exchange = X>>(
-    wire: Wire,
-    scope: &Scope,
-    facts: Facts,
-    calls: &mut Calls<'_, A>,
-    turns: &Turns,
-    line: &mut L,
-    runner: &mut U,
-) -> Place<X>
-    requires http { kind_of scope.now ≡ Http }
-    requires plain { facts.framing ≢ Framing.Upgrade }
-    ensures serves { (scene : Scene) (client server : Option Peer) (state : List (List ℕ × StateValue)) (read arrived : List ℕ) (tally : Tally)
-        → scope.now ≡ scope_with scene.scope client server state → Opens scene (L.state line.old) wire facts read arrived
-        → ArePromised (A.answers calls.old.app.now) client server state scene.exchanges → IsTallied tally scene.exchanges
-        → IsServing A.Task.answers U.Pipes.Conn.ConnEnd U.Pipes.App.AppEnd U.conn U.began
-        (A.answers calls.old.app.now) wire.limits client server state scene.start (L.state line.new) tally result }
-    ensures unread { ReadsNone (L.state line.old) (L.state line.new) }
-    ensures next { IsNext result turns.now }
-    ensures called { CallsWith scope.now result calls.old.scopes.items calls.new.scopes.items }
-    ensures same { calls.new.app.now ≡ calls.old.app.now }
-{
-    let text = ResponseText::new(wire.alloc, &facts);
-    match begin(&wire, Kind::Http, scope, facts, calls, turns, runner) {
-        Err(outcome) => Place::Ended(outcome),
-        Ok(exchange) => {
-            let mut half = HttpHalf::new(wire);
-            half.begin(text, line);
-            Place::Http(half, exchange)
+impl<X> Connection<X> {
+    /// Begins the exchange of a request.
+    pub(crate) fn answer<A: Application, L: Line, U: Runner<A::Task, Exchange = X>>(
+        &mut self,
+        scope: &Scope,
+        facts: Facts,
+        calls: &mut Calls<'_, A>,
+        line: &mut L,
+        runner: &mut U,
+    )
+        requires free { IsFree (place_of self.old) }
+        requires http { kind_of scope.now ≡ Http }
+        requires plain { facts.framing ≢ Framing.Upgrade }
+        ensures serves { (scene : Scene) (client server : Option Peer) (state : List (List ℕ × StateValue)) (read arrived : List ℕ) (tally : Tally)
+            → scope.now ≡ scope_with scene.scope client server state → Opens scene (L.state line.old) self.old.half.wire facts read arrived
+            → ArePromised (A.answers calls.old.app.now) client server state scene.exchanges → IsTallied tally scene.exchanges
+            → IsServing A.Task.answers U.Pipes.Conn.ConnEnd U.Pipes.App.AppEnd U.conn U.began
+            (A.answers calls.old.app.now) self.old.half.wire.limits client server state scene.start (L.state line.new) tally (place_of self.new) }
+        ensures unread { ReadsNone (L.state line.old) (L.state line.new) }
+        ensures next { IsNext (place_of self.new) self.old.tally.turns }
+        ensures tally { self.new.tally ≡ self.old.tally }
+        ensures called { CallsWith scope.now (place_of self.new) calls.old.scopes.items calls.new.scopes.items }
+        ensures same { calls.new.app.now ≡ calls.old.app.now }
+    {
+        let wire = &self.half.wire;
+        let text = ResponseText::new(wire.alloc, &facts);
+        match begin(wire, Kind::Http, scope, facts, calls, &self.tally, runner) {
+            Err(outcome) => self.end_with(outcome),
+            Ok(exchange) => {
+                self.half.begin(text, line);
+                self.enter(exchange);
+            }
         }
     }
-}
 
-/// Begins the exchange of an opening handshake; the connection ends with it.
-pub(crate) fn open<A: Application, L: Line, X, U: Runner<A::Task, Exchange = X>>(
-    wire: Wire,
-    scope: &Scope,
-    facts: Facts,
-    calls: &mut Calls<'_, A>,
-    turns: &Turns,
-    line: &mut L,
-    runner: &mut U,
-) -> Place<X>
-    requires websocket { kind_of scope.now ≡ WebSocket }
-    requires upgrade { facts.framing ≡ Framing.Upgrade }
-    ensures serves { (scene : SessionScene) (client server : Option Peer) (state : List (List ℕ × StateValue)) (read : List ℕ) (tally : Tally)
-        → scope.now ≡ scope_with scene.scope client server state → OpensHandshake scene (L.state line.old) wire facts read
-        → ArePromised (A.answers calls.old.app.now) client server state scene.exchanges → IsTallied tally scene.exchanges
-        → IsServing A.Task.answers U.Pipes.Conn.ConnEnd U.Pipes.App.AppEnd U.conn U.began
-        (A.answers calls.old.app.now) scene.limits client server state scene.start (L.state line.new) tally result }
-    ensures unread { ReadsNone (L.state line.old) (L.state line.new) }
-    ensures next { IsNext result turns.now }
-    ensures called { CallsWith scope.now result calls.old.scopes.items calls.new.scopes.items }
-    ensures same { calls.new.app.now ≡ calls.old.app.now }
-{
-    let mut wire = wire;
-    let Ok(frames) = wire.take_frames() else {
-        return Place::Ended(Outcome::NoMemory);
-    };
-    let Ok(own) = facts.copy(wire.alloc) else {
-        return Place::Ended(Outcome::NoMemory);
-    };
-    let text = ResponseText::new(wire.alloc, &own);
-    match begin(&wire, Kind::WebSocket, scope, facts, calls, turns, runner) {
-        Err(outcome) => Place::Ended(outcome),
-        Ok(exchange) => Place::Session(WebSocketHalf::begin(wire, own, text, frames), exchange),
+    /// Begins the exchange of an opening handshake; the connection ends with it.
+    pub(crate) fn open<A: Application, L: Line, U: Runner<A::Task, Exchange = X>>(
+        &mut self,
+        scope: &Scope,
+        facts: Facts,
+        calls: &mut Calls<'_, A>,
+        line: &mut L,
+        runner: &mut U,
+    )
+        requires free { IsFree (place_of self.old) }
+        requires websocket { kind_of scope.now ≡ WebSocket }
+        requires upgrade { facts.framing ≡ Framing.Upgrade }
+        ensures serves { (scene : SessionScene) (client server : Option Peer) (state : List (List ℕ × StateValue)) (read : List ℕ) (tally : Tally)
+            → scope.now ≡ scope_with scene.scope client server state → OpensHandshake scene (L.state line.old) self.old.half.wire facts read
+            → ArePromised (A.answers calls.old.app.now) client server state scene.exchanges → IsTallied tally scene.exchanges
+            → IsServing A.Task.answers U.Pipes.Conn.ConnEnd U.Pipes.App.AppEnd U.conn U.began
+            (A.answers calls.old.app.now) scene.limits client server state scene.start (L.state line.new) tally (place_of self.new) }
+        ensures unread { ReadsNone (L.state line.old) (L.state line.new) }
+        ensures next { IsNext (place_of self.new) self.old.tally.turns }
+        ensures tally { self.new.tally ≡ self.old.tally }
+        ensures called { CallsWith scope.now (place_of self.new) calls.old.scopes.items calls.new.scopes.items }
+        ensures same { calls.new.app.now ≡ calls.old.app.now }
+    {
+        let Ok(frames) = self.half.wire.take_frames() else {
+            return self.end_with(Outcome::NoMemory);
+        };
+        let Ok(own) = facts.copy(self.half.wire.alloc) else {
+            return self.end_with(Outcome::NoMemory);
+        };
+        let text = ResponseText::new(self.half.wire.alloc, &own);
+        match begin(
+            &self.half.wire,
+            Kind::WebSocket,
+            scope,
+            facts,
+            calls,
+            &self.tally,
+            runner,
+        ) {
+            Err(outcome) => self.end_with(outcome),
+            Ok(exchange) => {
+                let fresh = Wire::new(self.half.wire.alloc, self.half.wire.limits);
+                let wire = mem::replace(&mut self.half.wire, fresh);
+                self.enter_session(WebSocketHalf::begin(wire, own, text, frames), exchange);
+            }
+        }
     }
 }
 
@@ -106,7 +123,7 @@ fn begin<A: Application, X, U: Runner<A::Task, Exchange = X>>(
     scope: &Scope,
     facts: Facts,
     calls: &mut Calls<'_, A>,
-    turns: &Turns,
+    tally: &Tally,
     runner: &mut U,
 ) -> Result<X, Outcome>
     requires { kind_of scope.now ≡ kind }
@@ -121,7 +138,7 @@ fn begin<A: Application, X, U: Runner<A::Task, Exchange = X>>(
         Ok(ends) => ends,
     };
     let side = call(wire.alloc, calls, scope, app_end);
-    Ok(runner.begin(end, side, turns))
+    Ok(runner.begin(end, side, &tally.turns))
 }
 
 /// How a connection ends if its next exchange got no ends.

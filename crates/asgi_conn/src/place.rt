@@ -1,60 +1,101 @@
-//! Where a connection stands between two turns, and what it is served with.
-ghost use Rattle.std.specs.Prelude.{◌≡◌};
-ghost use Rattle.asgi_conn.specs.private.Loop.{IsBetween, IsFree};
+//! Where a connection stands between two turns, and how it goes from place to place.
+ghost use Rattle.std.specs.Prelude.{◌≡◌, None, IsTrue, IsFalse};
+ghost use Rattle.asgi_conn.specs.Places as place;
+ghost use Rattle.asgi_conn.specs.Places.{place_of};
+ghost use Rattle.asgi_conn.specs.private.Loop.{IsBetween, IsFree, IsGoing, IsOver, IsDueOrBetween, HasEnded};
 
+use crate::connection::Connection;
 use asgi_conversation::Outcome;
-use asgi_halves::{HttpHalf, WebSocketHalf, Wire};
-use asgi_types::{Peer, State};
+use asgi_halves::WebSocketHalf;
+use asgi_run::Half;
 use std::mem;
 
-/// Where a connection stands between two turns; `X` is what runs of an exchange.
-#[derive(Drop)]
-pub enum Place<X> {
-    /// Between two requests, or before the first one.
-    Between(Wire),
-    /// In an exchange over HTTP.
-    Http(HttpHalf, X),
-    /// In the exchange of an opening handshake.
-    Session(WebSocketHalf, X),
-    /// The connection has ended.
-    Ended(Outcome),
-}
-
-impl<X> Place<X> {
-    /// Takes the wire between two requests.
-    pub(crate) fn leave(&mut self) -> Wire
-        requires { IsBetween self.old }
-        ensures wire { self.old ≡ Place.Between result }
-        ensures free { IsFree self.new }
+impl<X> Connection<X> {
+    /// Whether the connection has ended.
+    pub(crate) fn has_ended(&self) -> bool
+        ensures yes { IsTrue result → HasEnded (place_of self.now) }
+        ensures no { IsFalse result → IsGoing (place_of self.now) }
     {
-        match mem::replace(self, Place::Ended(Outcome::Finished)) {
-            Place::Between(wire) => wire,
-            Place::Ended(_outcome) => unreachable!(),
-            Place::Http(_half, _exchange) => unreachable!(),
-            Place::Session(_half, _exchange) => unreachable!(),
+        match &self.exchange {
+            Some(_) => false,
+            None => self.ended.is_some(),
         }
     }
 
-    /// Goes to the next place from one where no exchange is: what runs of an exchange is given back to its
-    /// runner, and never dropped here.
-    pub(crate) fn go_to(&mut self, next: Place<X>)
-        requires { IsFree self.old }
-        ensures { self.new ≡ next }
+    /// Whether the connection is between two requests.
+    pub(crate) fn is_between(&self) -> bool
+        ensures yes { IsTrue result → IsBetween (place_of self.now) }
+        ensures no { IsFalse result → ¬ (IsBetween (place_of self.now)) }
     {
-        match mem::replace(self, next) {
-            Place::Between(_wire) => {}
-            Place::Ended(_outcome) => {}
-            Place::Http(_half, _exchange) => unreachable!(),
-            Place::Session(_half, _exchange) => unreachable!(),
+        match &self.exchange {
+            Some(_) => false,
+            None => self.ended.is_none(),
         }
+    }
+
+    /// Whether no exchange is to be ended.
+    pub(crate) fn goes_on(&self) -> bool
+        ensures yes { IsTrue result → IsDueOrBetween (place_of self.now) self.now.tally.turns }
+        ensures no { IsFalse result → IsOver (place_of self.now) self.now.tally.turns }
+    {
+        match &self.exchange {
+            None => true,
+            Some(_) => match &self.session {
+                None => !self.tally.turns.is_over() && !self.half.is_settled(),
+                Some(session) => !self.tally.turns.is_over() && !session.is_settled(),
+            },
+        }
+    }
+
+    /// Goes to the end, from where no exchange is.
+    pub(crate) fn end_with(&mut self, outcome: Outcome)
+        requires { IsFree (place_of self.old) }
+        ensures at { place_of self.new ≡ place.Ended outcome }
+        ensures tally { self.new.tally ≡ self.old.tally }
+    {
+        self.ended = Some(outcome);
+    }
+
+    /// Goes into the exchange of the half of requests, from where none is: what its runner keeps of an exchange is
+    /// given back to that runner, and never dropped here.
+    pub(crate) fn enter(&mut self, exchange: X)
+        requires { IsFree (place_of self.old) }
+        ensures at { place_of self.new ≡ place.Http self.old.half exchange }
+        ensures tally { self.new.tally ≡ self.old.tally }
+    {
+        leave_session(&mut self.session);
+        put(&mut self.exchange, exchange);
+    }
+
+    /// Goes into the exchange of an opening handshake, from where none is.
+    pub(crate) fn enter_session(&mut self, session: WebSocketHalf, exchange: X)
+        requires { IsFree (place_of self.old) }
+        ensures at { place_of self.new ≡ place.Session session exchange }
+        ensures tally { self.new.tally ≡ self.old.tally }
+    {
+        self.session = Some(session);
+        put(&mut self.exchange, exchange);
     }
 }
 
-/// What a connection is served with, the same at each of its turns: its client and its server, and the state
-/// that each scope holds a copy of.
-#[derive(Drop)]
-pub struct Setting<'a> {
-    pub client: &'a Option<Peer>,
-    pub server: &'a Option<Peer>,
-    pub state: &'a State,
+/// Puts an exchange where none is.
+fn put<X>(place: &mut Option<X>, exchange: X)
+    requires { place.old ≡ None }
+    ensures { place.new ≡ Some exchange }
+{
+    match mem::replace(place, Some(exchange)) {
+        None => {}
+        Some(_exchange) => unreachable!(),
+    }
+}
+
+/// Drops the half of a session, if there is one.
+///
+/// The exchange of a handshake is the last one, so there is none: this costs one look.
+fn leave_session(session: &mut Option<WebSocketHalf>)
+    ensures { session.new ≡ None }
+{
+    if session.is_some() {
+        *session = None;
+    }
 }

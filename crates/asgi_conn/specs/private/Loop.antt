@@ -1,5 +1,5 @@
 -- The steps of a connection between two turns: words of private functions. No promise is stated by them.
-use Rattle.std.specs.Prelude.{◌≡◌, ◌≢◌, ◌⊎◌, ℕ, ◌<◌, ⊤, false, List, [], ◌∷◌, ◌++◌, Option}
+use Rattle.std.specs.Prelude.{◌≡◌, ◌≢◌, ◌⊎◌, ℕ, ◌<◌, ⊤, false, List, [], ◌∷◌, ◌++◌, Option, Some, None}
 use Rattle.asgi_types.specs.declared.end_kind.EndKind.{EndKind}
 use Rattle.asgi_types.specs.declared.facts.Facts.{Facts}
 use Rattle.asgi_types.specs.declared.incoming.Incoming.{Incoming}
@@ -9,6 +9,7 @@ use Rattle.asgi_types.specs.declared.scope.Scope.{Scope}
 use Rattle.asgi_request.specs.Reading.{IsWaiting}
 use Rattle.asgi_pipes.specs.declared.ends.AppEnd as app_end
 use Rattle.asgi_pipes.specs.declared.ends.ConnEnd as conn_end
+use Rattle.asgi_conversation.specs.declared.following.NextStep.{NextStep}
 use Rattle.asgi_conversation.specs.declared.following.NextStep.TheVariants.{NextRequest, ConnectionEnds}
 use Rattle.asgi_conversation.specs.declared.report.Outcome.{Outcome}
 use Rattle.asgi_conversation.specs.TaskEnds.{has_ended}
@@ -16,8 +17,8 @@ use Rattle.asgi_run.specs.declared.runner.AppSide.{AppSide}
 use Rattle.asgi_run.specs.Running.{OfEnd, IsOpened}
 use Rattle.asgi_halves.specs.declared.half.HttpHalf.{HttpHalf}
 use Rattle.asgi_halves.specs.declared.stage.Stage.TheVariants.{Over}
-use Rattle.asgi_conn.specs.declared.place.Place.{Place}
-use Rattle.asgi_conn.specs.declared.place.Place.TheVariants as place
+use Rattle.asgi_conn.specs.Places.{Place}
+use Rattle.asgi_conn.specs.Places as place
 use Rattle.asgi_conn.specs.Standing.{BetweenRequests, EndsSo}
 use Rattle.asgi_io.specs.declared.turns.Turns.{Turns}
 use Rattle.asgi_types.specs.declared.limits.Limits.{Limits}
@@ -34,6 +35,11 @@ abbrev pub IsLeft : {X : Type 0} → HttpHalf → Place X → Type 0
 IsLeft half at =
     ((half.stage ≡ Over NextRequest) × (at ≡ place.Between half.wire))
     ⊎ ((outcome : Outcome) × (half.stage ≡ Over (ConnectionEnds outcome)) × (at ≡ place.Ended outcome))
+
+-- what follows an exchange with which the connection has ended so, or has not
+abbrev pub next_step_of : Option Outcome → NextStep
+next_step_of None = NextRequest
+next_step_of (Some outcome) = ConnectionEnds outcome
 
 -- ---- where a turn is due
 

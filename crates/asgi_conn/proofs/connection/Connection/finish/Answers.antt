@@ -1,75 +1,67 @@
-use Rattle.std.proofs.Common.{sym, ◌∙◌, subst, inr}
-use Rattle.asgi_conn.specs.declared.place.Place.{Place}
-use Rattle.asgi_conn.specs.declared.place.Place.TheVariants as place
-use Rattle.asgi_conn.specs.Standing.{IsServing, IsCounted}
-use Rattle.asgi_conn.specs.private.Loop.{IsDue, IsDueOrBetween, IsOver, IsNext}
+use Rattle.std.proofs.Common.{◌≡◌, sym, ◌∙◌, Some, None}
+use Rattle.asgi_conn.specs.Places.{place_at, place_of}
+use Rattle.asgi_conn.specs.Places as place
+use Rattle.asgi_conn.proofs.PlaceLemmas.{gone_at, in_request, in_session, none_over}
 use Rattle.asgi_conn.proofs.TurnLemmas as lemma
 use Rattle.asgi_conn.proofs.connection.Connection.finish.Goals as goal
 
 pub returns-then-goes_on-clause-due : goal.returns-then-goes_on-clause-due
-returns-then-goes_on-clause-due g c next = lemma.due_next c.args.self.now.place c.args.self.now.tally.turns (c.goes_on.ensures.yes c.if-goes_on.true) next
+returns-then-goes_on-clause-due g c next = lemma.due_next (place_of c.args.self.now) c.args.self.now.tally.turns (c.goes_on.ensures.yes c.if-goes_on.true) next
 
 pub unreachable-requires : goal.unreachable-requires
-unreachable-requires g c =
-    subst (λ (p : Place g.row.X.Denot). IsOver p c.args.self.now.tally.turns) (sym c.replace.ensures.value ∙ c.in-Between.is) (c.goes_on.ensures.no c.if-goes_on.false)
+unreachable-requires g c = none_over c.args.self.now.exchange c.args.self.now.session c.args.self.now.ended c.args.self.now.half c.args.self.now.tally.turns (let e : c.args.self.now.exchange ≡ None = cc in e) (c.goes_on.ensures.no c.if-goes_on.false)
 
-pub unreachable-requires-in-Ended : goal.unreachable-requires-in-Ended
-unreachable-requires-in-Ended g c =
-    subst (λ (p : Place g.row.X.Denot). IsOver p c.args.self.now.tally.turns) (sym c.replace.ensures.value ∙ c.in-Ended.is) (c.goes_on.ensures.no c.if-goes_on.false)
-
-pub end_request-place-requires-clause-room : goal.end_request-place-requires-clause-room
-end_request-place-requires-clause-room g c =
+pub end_request-self-requires-clause-room : goal.end_request-self-requires-clause-room
+end_request-self-requires-clause-room g c =
     let s = c.requires in
-    lemma.room_48 s.1 s.4 s.5 (place.Http c.in-Http.half c.in-Http.exchange) c.args.self.now.tally
-    (subst (λ (p : Place g.row.X.Denot). IsCounted s.1 s.4 s.5 p c.args.self.now.tally) (sym c.replace.ensures.value ∙ c.in-Http.is) s.6.counted) tt c.args.self.now.tally.turns.in_turns
+    let here = in_request c.args.self.now.exchange c.args.self.now.session c.args.self.now.ended c.args.self.now.half c.in-Some.exchange (sym c.take.ensures.value ∙ c.in-Some.is) c.in-None.is in
+    lemma.room_48 s.1 s.4 s.5 (place.Http c.args.self.now.half c.in-Some.exchange) c.args.self.now.tally (rw here at s.6.counted) tt c.args.self.now.tally.turns.in_turns
 
-pub end_request-place-requires-clause-stands : goal.end_request-place-requires-clause-stands
-end_request-place-requires-clause-stands g c =
+pub end_request-self-requires-clause-stands : goal.end_request-self-requires-clause-stands
+end_request-self-requires-clause-stands g c =
     let s = c.requires in
-    (s.0, s.1, s.2, s.3, subst (λ (p : Place g.row.X.Denot). IsServing g.A.Task.AppTask.answers g.U.Pipes.Conn.ConnEnd g.U.Pipes.App.AppEnd g.U.Runner.conn g.U.Runner.began (g.A.Application.answers s.0) s.1 c.args.setting.now.client.now c.args.setting.now.server.now c.args.setting.now.state.now s.2 s.3 c.args.self.now.tally p) (sym c.replace.ensures.value ∙ c.in-Http.is) s.6.serving)
+    let here = in_request c.args.self.now.exchange c.args.self.now.session c.args.self.now.ended c.args.self.now.half c.in-Some.exchange (sym c.take.ensures.value ∙ c.in-Some.is) c.in-None.is in
+    (s.0, s.1, s.2, s.3, rw here at s.6.serving)
 
-pub returns-in-Http-clause-stands : goal.returns-in-Http-clause-stands
-returns-in-Http-clause-stands g c app limits start now before pauses s = record {
-  serving = subst (λ (p : Place g.row.X.Denot). IsServing g.A.Task.AppTask.answers g.U.Pipes.Conn.ConnEnd g.U.Pipes.App.AppEnd g.U.Runner.conn g.U.Runner.began (g.A.Application.answers app) limits c.args.setting.now.client.now c.args.setting.now.server.now c.args.setting.now.state.now start now c.end_request-place.new.tally p) (sym c.go_to.ensures) (c.end_request-place.ensures.serves app limits start now
-      (subst (λ (p : Place g.row.X.Denot). IsServing g.A.Task.AppTask.answers g.U.Pipes.Conn.ConnEnd g.U.Pipes.App.AppEnd g.U.Runner.conn g.U.Runner.began (g.A.Application.answers app) limits c.args.setting.now.client.now c.args.setting.now.server.now c.args.setting.now.state.now start now c.args.self.now.tally p) (sym c.replace.ensures.value ∙ c.in-Http.is) s.serving));
-  counted = subst (λ (p : Place g.row.X.Denot). IsCounted limits before pauses p c.end_request-place.new.tally) (sym c.go_to.ensures) (c.end_request-place.ensures.counts limits before pauses
-      (subst (λ (p : Place g.row.X.Denot). IsCounted limits before pauses p c.args.self.now.tally) (sym c.replace.ensures.value ∙ c.in-Http.is) s.counted)
-      (subst (λ (p : Place g.row.X.Denot). IsOver p c.args.self.now.tally.turns) (sym c.replace.ensures.value ∙ c.in-Http.is) (c.goes_on.ensures.no c.if-goes_on.false)));
-}
+pub returns-in-None-clause-stands : goal.returns-in-None-clause-stands
+returns-in-None-clause-stands g c app limits start now before pauses s =
+    let here = in_request c.args.self.now.exchange c.args.self.now.session c.args.self.now.ended c.args.self.now.half c.in-Some.exchange (sym c.take.ensures.value ∙ c.in-Some.is) c.in-None.is in
+    let gone = gone_at c.take.new.self c.args.self.now.session c.end_request-self.result c.end_request-self.new.half c.take.ensures.after in
+    record {
+      serving = rw gone (c.end_request-self.ensures.serves app limits start now (rw here at s.serving));
+      counted = rw gone (c.end_request-self.ensures.counts limits before pauses (rw here at s.counted) (rw here at c.goes_on.ensures.no c.if-goes_on.false));
+    }
 
-pub end_session-place-requires-clause-room : goal.end_session-place-requires-clause-room
-end_session-place-requires-clause-room g c =
+pub end_session-requires-clause-room : goal.end_session-requires-clause-room
+end_session-requires-clause-room g c =
     let s = c.requires in
-    lemma.room_48 s.1 s.4 s.5 (place.Session c.in-Session.half c.in-Session.exchange) c.args.self.now.tally
-    (subst (λ (p : Place g.row.X.Denot). IsCounted s.1 s.4 s.5 p c.args.self.now.tally) (sym c.replace.ensures.value ∙ c.in-Session.is) s.6.counted) tt c.args.self.now.tally.turns.in_turns
+    let here = in_session c.args.self.now.exchange c.args.self.now.session c.args.self.now.ended c.args.self.now.half c.in-Some.exchange c.in-Some-session.session (sym c.take.ensures.value ∙ c.in-Some.is) c.in-Some-session.is in
+    lemma.room_48 s.1 s.4 s.5 (place.Session c.in-Some-session.session c.in-Some.exchange) c.args.self.now.tally (rw here at s.6.counted) tt c.args.self.now.tally.turns.in_turns
 
-pub end_session-place-requires-clause-stands : goal.end_session-place-requires-clause-stands
-end_session-place-requires-clause-stands g c =
+pub end_session-requires-clause-stands : goal.end_session-requires-clause-stands
+end_session-requires-clause-stands g c =
     let s = c.requires in
-    (s.0, s.1, s.2, s.3, subst (λ (p : Place g.row.X.Denot). IsServing g.A.Task.AppTask.answers g.U.Pipes.Conn.ConnEnd g.U.Pipes.App.AppEnd g.U.Runner.conn g.U.Runner.began (g.A.Application.answers s.0) s.1 c.args.setting.now.client.now c.args.setting.now.server.now c.args.setting.now.state.now s.2 s.3 c.args.self.now.tally p) (sym c.replace.ensures.value ∙ c.in-Session.is) s.6.serving)
+    let here = in_session c.args.self.now.exchange c.args.self.now.session c.args.self.now.ended c.args.self.now.half c.in-Some.exchange c.in-Some-session.session (sym c.take.ensures.value ∙ c.in-Some.is) c.in-Some-session.is in
+    (s.0, s.1, s.2, s.3, rw here at s.6.serving)
 
-pub returns-in-Session-clause-stands : goal.returns-in-Session-clause-stands
-returns-in-Session-clause-stands g c app limits start now before pauses s = record {
-  serving = subst (λ (p : Place g.row.X.Denot). IsServing g.A.Task.AppTask.answers g.U.Pipes.Conn.ConnEnd g.U.Pipes.App.AppEnd g.U.Runner.conn g.U.Runner.began (g.A.Application.answers app) limits c.args.setting.now.client.now c.args.setting.now.server.now c.args.setting.now.state.now start now c.end_session-place.new.tally p) (sym c.go_to-in-Session.ensures) (c.end_session-place.ensures.serves app limits start now
-      (subst (λ (p : Place g.row.X.Denot). IsServing g.A.Task.AppTask.answers g.U.Pipes.Conn.ConnEnd g.U.Pipes.App.AppEnd g.U.Runner.conn g.U.Runner.began (g.A.Application.answers app) limits c.args.setting.now.client.now c.args.setting.now.server.now c.args.setting.now.state.now start now c.args.self.now.tally p) (sym c.replace.ensures.value ∙ c.in-Session.is) s.serving));
-  counted = subst (λ (p : Place g.row.X.Denot). IsCounted limits before pauses p c.end_session-place.new.tally) (sym c.go_to-in-Session.ensures) (c.end_session-place.ensures.counts limits before pauses
-      (subst (λ (p : Place g.row.X.Denot). IsCounted limits before pauses p c.args.self.now.tally) (sym c.replace.ensures.value ∙ c.in-Session.is) s.counted)
-      (subst (λ (p : Place g.row.X.Denot). IsOver p c.args.self.now.tally.turns) (sym c.replace.ensures.value ∙ c.in-Session.is) (c.goes_on.ensures.no c.if-goes_on.false)));
-}
+pub returns-in-Some-session-clause-stands : goal.returns-in-Some-session-clause-stands
+returns-in-Some-session-clause-stands g c app limits start now before pauses s =
+    let here = in_session c.args.self.now.exchange c.args.self.now.session c.args.self.now.ended c.args.self.now.half c.in-Some.exchange c.in-Some-session.session (sym c.take.ensures.value ∙ c.in-Some.is) c.in-Some-session.is in
+    let gone = gone_at c.take.new.self (Some c.end_session.new.half) (Some c.end_session.result) c.args.self.now.half c.take.ensures.after in
+    record {
+      serving = rw gone (c.end_session.ensures.serves app limits start now (rw here at s.serving));
+      counted = rw gone (c.end_session.ensures.counts limits before pauses (rw here at s.counted) (rw here at c.goes_on.ensures.no c.if-goes_on.false));
+    }
 
-pub returns-in-Http-clause-rests : goal.returns-in-Http-clause-rests
-returns-in-Http-clause-rests g c = subst (λ (p : Place g.row.X.Denot). IsDueOrBetween p c.end_request-place.new.tally.turns) (sym c.go_to.ensures) (
-    lemma.rest_left c.end_request-place.result c.end_request-place.new.tally.turns c.end_request-place.ensures.left)
+pub returns-in-None-clause-rests : goal.returns-in-None-clause-rests
+returns-in-None-clause-rests g c =
+    let gone = gone_at c.take.new.self c.args.self.now.session c.end_request-self.result c.end_request-self.new.half c.take.ensures.after in
+    rw gone (lemma.rest_left (place_at None None c.end_request-self.result c.end_request-self.new.half) c.end_request-self.new.tally.turns c.end_request-self.ensures.left)
 
-pub returns-in-Http-clause-due : goal.returns-in-Http-clause-due
-returns-in-Http-clause-due g c next = subst (λ (p : Place g.row.X.Denot). IsDue p c.end_request-place.new.tally.turns) (sym c.go_to.ensures) (
-    lemma.due_rest c.end_request-place.result c.end_request-place.new.tally.turns (lemma.rest_left c.end_request-place.result c.end_request-place.new.tally.turns c.end_request-place.ensures.left)
-    (λ between. (subst (λ (p : Place g.row.X.Denot). IsNext p c.args.self.now.tally.turns) (sym c.replace.ensures.value ∙ c.in-Http.is) next) (c.end_request-place.ensures.rests between)))
-
-pub returns-in-Session-clause-rests : goal.returns-in-Session-clause-rests
-returns-in-Session-clause-rests g c = subst (λ (p : Place g.row.X.Denot). IsDueOrBetween p c.end_session-place.new.tally.turns) (sym c.go_to-in-Session.ensures) (
-    lemma.rest_left c.end_session-place.result c.end_session-place.new.tally.turns (inr c.end_session-place.ensures.ended))
-
-pub returns-in-Session-clause-due : goal.returns-in-Session-clause-due
-returns-in-Session-clause-due g c next = subst (λ (p : Place g.row.X.Denot). IsDue p c.end_session-place.new.tally.turns) (sym c.go_to-in-Session.ensures) (
-    lemma.due_ended c.end_session-place.result c.end_session-place.new.tally.turns c.end_session-place.ensures.ended)
+pub returns-in-None-clause-due : goal.returns-in-None-clause-due
+returns-in-None-clause-due g c next =
+    let here = in_request c.args.self.now.exchange c.args.self.now.session c.args.self.now.ended c.args.self.now.half c.in-Some.exchange (sym c.take.ensures.value ∙ c.in-Some.is) c.in-None.is in
+    let gone = gone_at c.take.new.self c.args.self.now.session c.end_request-self.result c.end_request-self.new.half c.take.ensures.after in
+    let at = place_at {X = g.row.X.Denot} None None c.end_request-self.result c.end_request-self.new.half in
+    rw gone (lemma.due_rest at c.end_request-self.new.tally.turns (lemma.rest_left at c.end_request-self.new.tally.turns c.end_request-self.ensures.left)
+    (λ between. (rw here at next) (c.end_request-self.ensures.rests between)))

@@ -4,14 +4,14 @@ use Rattle.asgi_conn.proofs.connection.Connection.new.Goals as goal
 
 pub returns-clause-stands : goal.returns-clause-stands
 returns-clause-stands g c app start before = record {
-  serving = begins g.A.Task.AppTask.answers g.U.Pipes.Conn.ConnEnd g.U.Pipes.App.AppEnd g.U.Runner.conn g.U.Runner.began (g.A.Application.answers app) c.args.limits.now c.args.setting.now.client.now c.args.setting.now.server.now c.args.setting.now.state.now start c.new.result _ c.new.ensures.limits c.new.ensures.unread c.new.ensures.empty refl refl;
+  serving = rw c.new-2.ensures.wire (begins g.A.Task.AppTask.answers g.U.Pipes.Conn.ConnEnd g.U.Pipes.App.AppEnd g.U.Runner.conn g.U.Runner.began (g.A.Application.answers app) c.args.limits.now c.args.setting.now.client.now c.args.setting.now.server.now c.args.setting.now.state.now start c.new.result _ c.new.ensures.limits c.new.ensures.unread c.new.ensures.empty refl refl);
   counted = record {
-    turn_limit = c.new-2.ensures.turn_limit;
-    idle_limit = c.new-2.ensures.idle_limit;
+    turn_limit = c.new-3.ensures.turn_limit;
+    idle_limit = c.new-3.ensures.idle_limit;
     turned = [];
-    counts = c.new-2.ensures.none before;
+    counts = c.new-3.ensures.none before;
     at_limit = λ is. cc;
-    within = subst (λ (n : ℕ). n ≤ 2 ^ 48) (sym c.new-2.ensures.turn_limit) c.args.limits.now.turns_in_range.1;
+    within = subst (λ (n : ℕ). n ≤ 2 ^ 48) (sym c.new-3.ensures.turn_limit) c.args.limits.now.turns_in_range.1;
     room = omega arith;
   };
 }

@@ -4,6 +4,7 @@ use Rattle.asgi_conn.specs.declared.connection.Step.TheVariants as step
 use Rattle.asgi_conn.specs.declared.tally.Tally.{Tally}
 use Rattle.asgi_conn.specs.Standing.{IsCounted}
 use Rattle.asgi_conn.specs.private.Loop.{IsGoing}
+use Rattle.asgi_conn.specs.Places.{place_of}
 use Rattle.asgi_conn.proofs.TurnLemmas as lemma
 use Rattle.asgi_conn.proofs.connection.Connection.turn.Goals as goal
 
@@ -25,12 +26,12 @@ returns-in-None-clause-stands g c limits start before s =
     let m = c.go_on.ensures.stands limits start before (g.P.Pause.count c.args.pause.now) s in
     record {
       serving = c.move_on.ensures.serves c.args.calls.now.app.now limits start m.serving;
-      counted = lemma.counted_none limits before (g.P.Pause.count c.args.pause.now) c.go_on.new.self.place c.move_on.new.self.place c.go_on.new.self.tally c.move_on.new.self.tally m.counted
+      counted = lemma.counted_none limits before (g.P.Pause.count c.args.pause.now) (place_of c.go_on.new.self) (place_of c.move_on.new.self) c.go_on.new.self.tally c.move_on.new.self.tally m.counted
           c.move_on.ensures.tally (c.in-None.ensures.none refl);
     }
 
 pub report-requires-in-None : goal.report-requires-in-None
-report-requires-in-None g c = lemma.ended_none c.go_on.new.self.place c.move_on.new.self.place (c.in-None.ensures.none refl)
+report-requires-in-None g c = lemma.ended_none (place_of c.go_on.new.self) (place_of c.move_on.new.self) (c.in-None.ensures.none refl)
 
 pub returns-in-None-clause-over : goal.returns-in-None-clause-over
 returns-in-None-clause-over g c limits start before s =
@@ -38,7 +39,7 @@ returns-in-None-clause-over g c limits start before s =
     lemma.told g.A.Task.AppTask.answers g.U.Pipes.Conn.ConnEnd g.U.Pipes.App.AppEnd g.U.Runner.conn g.U.Runner.began (g.A.Application.answers c.args.calls.now.app.now) limits c.args.setting.now.client.now c.args.setting.now.server.now c.args.setting.now.state.now start before (g.L.Line.state c.move_on.new.line) (g.P.Pause.count c.args.pause.now) c.move_on.new.self c.report-in-None.result
     (record {
       serving = c.move_on.ensures.serves c.args.calls.now.app.now limits start m.serving;
-      counted = lemma.counted_none limits before (g.P.Pause.count c.args.pause.now) c.go_on.new.self.place c.move_on.new.self.place c.go_on.new.self.tally c.move_on.new.self.tally m.counted
+      counted = lemma.counted_none limits before (g.P.Pause.count c.args.pause.now) (place_of c.go_on.new.self) (place_of c.move_on.new.self) c.go_on.new.self.tally c.move_on.new.self.tally m.counted
           c.move_on.ensures.tally (c.in-None.ensures.none refl);
     }) c.report-in-None.ensures
 
@@ -46,18 +47,18 @@ pub returns-in-None-clause-again : goal.returns-in-None-clause-again
 returns-in-None-clause-again g c report is = absurd (subst IsGoing is.0 (c.has_ended.ensures.no c.if-has_ended.false))
 
 pub take-requires-clause-turns : goal.take-requires-clause-turns
-take-requires-clause-turns g c = (lemma.may_turn c.go_on.new.self.place c.go_on.new.self.tally c.move_on.new.self.tally c.move_on.ensures.tally c.go_on.ensures.due c.in-Some.ensures.some.0).0
+take-requires-clause-turns g c = (lemma.may_turn (place_of c.go_on.new.self) c.go_on.new.self.tally c.move_on.new.self.tally c.move_on.ensures.tally c.go_on.ensures.due c.in-Some.ensures.some.0).0
 
 pub take-requires-clause-idle : goal.take-requires-clause-idle
-take-requires-clause-idle g c = (lemma.may_turn c.go_on.new.self.place c.go_on.new.self.tally c.move_on.new.self.tally c.move_on.ensures.tally c.go_on.ensures.due c.in-Some.ensures.some.0).1
+take-requires-clause-idle g c = (lemma.may_turn (place_of c.go_on.new.self) c.go_on.new.self.tally c.move_on.new.self.tally c.move_on.ensures.tally c.go_on.ensures.due c.in-Some.ensures.some.0).1
 
 pub returns-in-Some-clause-stands : goal.returns-in-Some-clause-stands
 returns-in-Some-clause-stands g c limits start before s =
     let m = c.go_on.ensures.stands limits start before (g.P.Pause.count c.args.pause.now) s in
     record {
-      serving = lemma.turned g.A.Task.AppTask.answers g.U.Pipes.Conn.ConnEnd g.U.Pipes.App.AppEnd g.U.Runner.conn g.U.Runner.began (g.A.Application.answers c.args.calls.now.app.now) limits c.args.setting.now.client.now c.args.setting.now.server.now c.args.setting.now.state.now start (g.L.Line.state c.move_on.new.line) c.move_on.new.self.tally _ c.move_on.new.self.place refl refl (c.move_on.ensures.serves c.args.calls.now.app.now limits start m.serving);
-      counted = lemma.counted_more limits before (g.P.Pause.count c.args.pause.now) c.go_on.new.self.place c.move_on.new.self.place c.move_on.new.self.tally _ (g.P.Pause.count c.take.new.pause) c.in-Some.turn
-          (subst (λ (t : Tally). IsCounted limits before (g.P.Pause.count c.args.pause.now) c.go_on.new.self.place t) (sym c.move_on.ensures.tally) m.counted)
+      serving = lemma.turned g.A.Task.AppTask.answers g.U.Pipes.Conn.ConnEnd g.U.Pipes.App.AppEnd g.U.Runner.conn g.U.Runner.began (g.A.Application.answers c.args.calls.now.app.now) limits c.args.setting.now.client.now c.args.setting.now.server.now c.args.setting.now.state.now start (g.L.Line.state c.move_on.new.line) c.move_on.new.self.tally _ (place_of c.move_on.new.self) refl refl (c.move_on.ensures.serves c.args.calls.now.app.now limits start m.serving);
+      counted = lemma.counted_more limits before (g.P.Pause.count c.args.pause.now) (place_of c.go_on.new.self) (place_of c.move_on.new.self) c.move_on.new.self.tally _ (g.P.Pause.count c.take.new.pause) c.in-Some.turn
+          (subst (λ (t : Tally). IsCounted limits before (g.P.Pause.count c.args.pause.now) (place_of c.go_on.new.self) t) (sym c.move_on.ensures.tally) m.counted)
           c.in-Some.ensures.some.0 c.in-Some.ensures.some.1 refl c.take.ensures.one c.take.ensures.turn_limit c.take.ensures.idle_limit c.take.ensures.counts;
     }
 
@@ -75,7 +76,7 @@ pub returns-in-Some-clause-again : goal.returns-in-Some-clause-again
 returns-in-Some-clause-again g c report is = absurd (subst IsGoing is.0 (c.has_ended.ensures.no c.if-has_ended.false))
 
 pub returns-in-Some-clause-took : goal.returns-in-Some-clause-took
-returns-in-Some-clause-took g c going = (c.in-Some.turn, g.L.Line.state c.go_on.new.line, c.go_on.new.self.place, c.go_on.ensures.unread, c.in-Some.ensures.took, c.step_of.ensures.step)
+returns-in-Some-clause-took g c going = (c.in-Some.turn, g.L.Line.state c.go_on.new.line, (place_of c.go_on.new.self), c.go_on.ensures.unread, c.in-Some.ensures.took, c.step_of.ensures.step)
 
 pub returns-in-None-clause-called : goal.returns-in-None-clause-called
 returns-in-None-clause-called g c = c.go_on.ensures.called ∙ ap (λ (n : ℕ). length c.args.calls.now.scopes.items + n) (sym c.move_on.ensures.counts)

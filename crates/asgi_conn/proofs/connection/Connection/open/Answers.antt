@@ -1,0 +1,32 @@
+use Rattle.std.proofs.Common.{ℕ, List, inl, refl, subst}
+use Rattle.asgi_conversation.specs.declared.report.Outcome.TheVariants.{NoMemory}
+use Rattle.asgi_conversation.specs.Exchanges.{requests_of}
+use Rattle.asgi_halves.specs.ReadAhead.{ReadsAhead}
+use Rattle.asgi_conn.proofs.SessionServeLemmas as lemma
+use Rattle.asgi_conn.proofs.TurnLemmas.{session_begun}
+use Rattle.asgi_conn.proofs.connection.Connection.open.Goals as goal
+
+pub returns-in_default-clause-serves : goal.returns-in_default-clause-serves
+returns-in_default-clause-serves g c scene client server state read tally scope opens promised tallied =
+    rw c.end_with.ensures.at (lemma.opens_short scene (g.L.Line.state c.args.line.now) c.args.self.now.half.wire c.args.facts read opens
+    g.A.Task.AppTask.answers g.U.Pipes.Conn.ConnEnd g.U.Pipes.App.AppEnd g.U.Runner.conn g.U.Runner.began (g.A.Application.answers c.args.calls.now.app.now) client server state tally promised tallied NoMemory (inl refl))
+
+pub returns-in_default-copy-clause-serves : goal.returns-in_default-copy-clause-serves
+returns-in_default-copy-clause-serves g c scene client server state read tally scope opens promised tallied =
+    rw c.end_with-in_default-copy.ensures.at (lemma.opens_short scene (g.L.Line.state c.args.line.now) c.args.self.now.half.wire c.args.facts read opens
+    g.A.Task.AppTask.answers g.U.Pipes.Conn.ConnEnd g.U.Pipes.App.AppEnd g.U.Runner.conn g.U.Runner.began (g.A.Application.answers c.args.calls.now.app.now) client server state tally promised tallied NoMemory (inl refl))
+
+pub returns-in-Err-clause-serves : goal.returns-in-Err-clause-serves
+returns-in-Err-clause-serves g c scene client server state read tally scope opens promised tallied =
+    rw c.end_with-in-Err.ensures.at (lemma.opens_short scene (g.L.Line.state c.args.line.now) c.args.self.now.half.wire c.args.facts read opens
+    g.A.Task.AppTask.answers g.U.Pipes.Conn.ConnEnd g.U.Pipes.App.AppEnd g.U.Runner.conn g.U.Runner.began (g.A.Application.answers c.args.calls.now.app.now) client server state tally promised tallied c.in-Err.outcome c.in-Err.ensures.lacking)
+
+pub returns-in-Ok-begin-clause-serves : goal.returns-in-Ok-begin-clause-serves
+returns-in-Ok-begin-clause-serves g c scene client server state read tally scope opens promised tallied =
+    let now = g.L.Line.state c.args.line.now in
+    let frames = lemma.frames_are scene now c.args.self.now.half.wire c.args.facts read opens c.in-Ok.frames.items c.in-Ok.ensures.frames in
+    let starts = lemma.opens_session scene now c.args.self.now.half.wire c.args.facts read opens
+    c.take_frames.new.self c.in-Ok-copy.own c.new-text.result c.in-Ok.frames.items c.in-Ok.ensures.same c.in-Ok-copy.ensures.same frames c.new-text.ensures.denial c.requires.upgrade in
+    rw c.enter_session.ensures.at (session_begun g.A.Task.AppTask.answers g.U.Pipes.Conn.ConnEnd g.U.Pipes.App.AppEnd g.U.Runner.conn g.U.Runner.began (g.A.Application.answers c.args.calls.now.app.now) client server state c.args.scope.now now tally c.in-Ok-begin.exchange
+    scene c.args.facts c.begin-in-Ok-begin.result read c.in-Ok-begin.ensures.begun scope opens.facts_are (c.begin-in-Ok-begin.ensures.begins scene now read (rw c.replace-wire.ensures.value starts))
+    (subst (λ (l : List ℕ). ReadsAhead scene.limits l (requests_of scene.exchanges)) opens.read_is opens.ahead) promised tallied)
