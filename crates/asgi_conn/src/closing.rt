@@ -113,8 +113,8 @@ fn end_session<A: Application, X, U: Runner<A::Task, Exchange = X>>(
     ensures one { tally.new.exchanges ≡ tally.old.exchanges + 1 }
     ensures turns { tally.new.turns ≡ tally.old.turns }
 {
-    let kind = runner.finish(exchange, half);
-    tally.count(kind);
+    let ended = runner.finish(exchange, half);
+    tally.count(ended);
     outcome_of(half.stage)
 }
 

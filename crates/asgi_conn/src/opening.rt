@@ -1,5 +1,5 @@
 //! An exchange begins: its ends are made, the application is called, and the half takes the wire.
-ghost use Rattle.std.specs.Prelude.{◌≡◌, ◌≢◌, ◌++◌, ◌∷◌, ℕ, [], List, Option, None, IfOk, IfErr};
+ghost use Rattle.std.specs.Prelude.{◌≡◌, ◌≢◌, ◌++◌, ◌∷◌, ℕ, [], List, Option, Some, None, IfNone, IfSome};
 ghost use Rattle.asgi_types.specs.declared.facts.Facts.{Facts};
 ghost use Rattle.asgi_types.specs.declared.scope.Kind.TheVariants.{Http, WebSocket};
 ghost use Rattle.asgi_types.specs.declared.scope.Peer.{Peer};
@@ -19,6 +19,7 @@ ghost use Rattle.asgi_conn.specs.private.Loop.{CallsWith, HasBegun, IsFree, IsNe
 ghost use Rattle.asgi_conn.specs.declared.tally.Tally.{Tally};
 
 use crate::connection::Connection;
+use crate::place::{leave_session, put};
 use crate::tally::Tally;
 use asgi_apps::{AppTask, Application, Calls, Running};
 use asgi_conversation::Outcome;
@@ -57,11 +58,20 @@ impl<X> Connection<X> {
     {
         let wire = &self.half.wire;
         let text = ResponseText::new(wire.alloc, &facts);
-        match begin(wire, Kind::Http, scope, facts, calls, &self.tally, runner) {
-            Err(outcome) => self.end_with(outcome),
-            Ok(exchange) => {
+        match begin(
+            &mut self.exchange,
+            wire,
+            Kind::Http,
+            scope,
+            facts,
+            calls,
+            &self.tally,
+            runner,
+        ) {
+            Some(outcome) => self.end_with(outcome),
+            None => {
+                leave_session(&mut self.session);
                 self.half.begin(text, line);
-                self.enter(exchange);
             }
         }
     }
@@ -97,6 +107,7 @@ impl<X> Connection<X> {
         };
         let text = ResponseText::new(self.half.wire.alloc, &own);
         match begin(
+            &mut self.exchange,
             &self.half.wire,
             Kind::WebSocket,
             scope,
@@ -105,19 +116,20 @@ impl<X> Connection<X> {
             &self.tally,
             runner,
         ) {
-            Err(outcome) => self.end_with(outcome),
-            Ok(exchange) => {
+            Some(outcome) => self.end_with(outcome),
+            None => {
                 let fresh = Wire::new(self.half.wire.alloc, self.half.wire.limits);
                 let wire = mem::replace(&mut self.half.wire, fresh);
-                self.enter_session(WebSocketHalf::begin(wire, own, text, frames), exchange);
+                self.session = Some(WebSocketHalf::begin(wire, own, text, frames));
             }
         }
     }
 }
 
-/// Makes the ends of an exchange, calls the application over one of them, and begins it. If memory or a
-/// thread is refused, the application is not called, and the connection ends like this.
+/// Makes the ends of an exchange, calls the application over one of them, and begins it, in this place. If memory
+/// or a thread is refused, the application is not called, and the connection ends as is returned.
 fn begin<A: Application, X, U: Runner<A::Task, Exchange = X>>(
+    place: &mut Option<X>,
     wire: &Wire,
     kind: Kind,
     scope: &Scope,
@@ -125,20 +137,23 @@ fn begin<A: Application, X, U: Runner<A::Task, Exchange = X>>(
     calls: &mut Calls<'_, A>,
     tally: &Tally,
     runner: &mut U,
-) -> Result<X, Outcome>
-    requires { kind_of scope.now ≡ kind }
-    ensures lacking { IfErr result (λ outcome. IsLacking outcome) }
-    ensures begun { IfOk result (λ exchange. HasBegun A.Task.answers U.Pipes.Conn.ConnEnd U.Pipes.App.AppEnd U.conn U.began (A.answers calls.old.app.now scope.now) kind facts exchange) }
-    ensures called { IfOk result (λ exchange. calls.new.scopes.items ≡ calls.old.scopes.items ++ scope.now ∷ []) }
-    ensures uncalled { IfErr result (λ outcome. calls.new.scopes.items ≡ calls.old.scopes.items) }
+) -> Option<Outcome>
+    requires empty { place.old ≡ None }
+    requires kind { kind_of scope.now ≡ kind }
+    ensures lacking { IfSome result (λ outcome. IsLacking outcome × (place.new ≡ None)) }
+    ensures begun { IfNone result ((exchange : X) × (place.new ≡ Some exchange)
+        × HasBegun A.Task.answers U.Pipes.Conn.ConnEnd U.Pipes.App.AppEnd U.conn U.began (A.answers calls.old.app.now scope.now) kind facts exchange) }
+    ensures called { IfNone result (calls.new.scopes.items ≡ calls.old.scopes.items ++ scope.now ∷ []) }
+    ensures uncalled { IfSome result (λ outcome. calls.new.scopes.items ≡ calls.old.scopes.items) }
     ensures same { calls.new.app.now ≡ calls.old.app.now }
 {
     let (end, app_end) = match runner.make(wire.alloc, kind, facts, wire.limits.ring) {
-        Err(why) => return Err(without_ends(why)),
+        Err(why) => return Some(without_ends(why)),
         Ok(ends) => ends,
     };
     let side = call(wire.alloc, calls, scope, app_end);
-    Ok(runner.begin(end, side, &tally.turns))
+    put(place, runner.begin(end, side, &tally.turns));
+    None
 }
 
 /// How a connection ends if its next exchange got no ends.

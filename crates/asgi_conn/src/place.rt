@@ -1,5 +1,5 @@
 //! Where a connection stands between two turns, and how it goes from place to place.
-ghost use Rattle.std.specs.Prelude.{◌≡◌, None, IsTrue, IsFalse};
+ghost use Rattle.std.specs.Prelude.{◌≡◌, Some, None, IsTrue, IsFalse};
 ghost use Rattle.asgi_conn.specs.Places as place;
 ghost use Rattle.asgi_conn.specs.Places.{place_of};
 ghost use Rattle.asgi_conn.specs.private.Loop.{IsBetween, IsFree, IsGoing, IsOver, IsDueOrBetween, HasEnded};
@@ -55,31 +55,10 @@ impl<X> Connection<X> {
     {
         self.ended = Some(outcome);
     }
-
-    /// Goes into the exchange of the half of requests, from where none is: what its runner keeps of an exchange is
-    /// given back to that runner, and never dropped here.
-    pub(crate) fn enter(&mut self, exchange: X)
-        requires { IsFree (place_of self.old) }
-        ensures at { place_of self.new ≡ place.Http self.old.half exchange }
-        ensures tally { self.new.tally ≡ self.old.tally }
-    {
-        leave_session(&mut self.session);
-        put(&mut self.exchange, exchange);
-    }
-
-    /// Goes into the exchange of an opening handshake, from where none is.
-    pub(crate) fn enter_session(&mut self, session: WebSocketHalf, exchange: X)
-        requires { IsFree (place_of self.old) }
-        ensures at { place_of self.new ≡ place.Session session exchange }
-        ensures tally { self.new.tally ≡ self.old.tally }
-    {
-        self.session = Some(session);
-        put(&mut self.exchange, exchange);
-    }
 }
 
-/// Puts an exchange where none is.
-fn put<X>(place: &mut Option<X>, exchange: X)
+/// Puts an exchange where none is: what its runner keeps of one is given back to that runner, and never dropped here.
+pub(crate) fn put<X>(place: &mut Option<X>, exchange: X)
     requires { place.old ≡ None }
     ensures { place.new ≡ Some exchange }
 {
@@ -92,7 +71,7 @@ fn put<X>(place: &mut Option<X>, exchange: X)
 /// Drops the half of a session, if there is one.
 ///
 /// The exchange of a handshake is the last one, so there is none: this costs one look.
-fn leave_session(session: &mut Option<WebSocketHalf>)
+pub(crate) fn leave_session(session: &mut Option<WebSocketHalf>)
     ensures { session.new ≡ None }
 {
     if session.is_some() {

@@ -14,14 +14,17 @@ returns-clause-begun g c =
     let E = g.U.Pipes.App.AppEnd in
     let F = g.U.Pipes.Conn.ConnEnd in
     let was = c.in-Ok.ends.1 in
-    let made = c.in-Ok.ensures in
-    record {
-      side = c.call-side.result;
-      begun = c.begin.ensures.began;
-      fresh = was;
-      opened = c.call-side.ensures.opens;
-      unheard = (made.inward.2, made.outward.0);
-      request = of_request (g.A.Application.answers c.args.calls.now.app.now c.args.scope.now) g.A.Task.AppTask.answers E was (λ app. (c.args.kind ≡ E.kind app) × (c.args.facts ≡ E.facts app))
-          (sym made.scope.0, sym made.scope.1) c.call-side.result c.call-side.ensures.opens (λ app same. (sym (same.0 ∙ made.scope.0), sym (same.1 ∙ made.scope.1)));
-      empty = subst (λ conn. (F.offered conn ≡ []) × (F.is_broken conn ≡ false) × (F.got conn ≡ [])) (sym c.begin.ensures.conn) (made.inward.0, made.inward.1, made.outward.2);
-    }
+    let made = c.in-Ok.ensures in (
+      c.begin.result,
+      c.put.ensures,
+      record {
+        side = c.call-side.result;
+        begun = c.begin.ensures.began;
+        fresh = was;
+        opened = c.call-side.ensures.opens;
+        unheard = (made.inward.2, made.outward.0);
+        request = of_request (g.A.Application.answers c.args.calls.now.app.now c.args.scope.now) g.A.Task.AppTask.answers E was (λ app. (c.args.kind ≡ E.kind app) × (c.args.facts ≡ E.facts app))
+            (sym made.scope.0, sym made.scope.1) c.call-side.result c.call-side.ensures.opens (λ app same. (sym (same.0 ∙ made.scope.0), sym (same.1 ∙ made.scope.1)));
+        empty = subst (λ conn. (F.offered conn ≡ []) × (F.is_broken conn ≡ false) × (F.got conn ≡ [])) (sym c.begin.ensures.conn) (made.inward.0, made.inward.1, made.outward.2);
+      },
+    )
