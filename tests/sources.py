@@ -154,6 +154,18 @@ def private_uses(path, text):
     return [f"{it[0]} is private" for it in re.finditer(r"\bRattle\.(\w+)\.specs\.private\.\w+", text) if it[1] != crate or is_public]
 
 
+# A use that does not say by its first words what it reads of one of our crates. What reads uses as text (here and in record.py) would pass it over.
+HIDDEN = re.compile(
+    r"\bRattle\.\{[^}\n]*|\bRattle\.(asgi_\w+)(?:\.\{[^}\n]*| as \w+|\.(?:specs|proofs) as \w+|\.specs\.\{[^}\n]*\bprivate\b[^}\n]*)"
+)
+
+
+def hidden_uses(path, text):
+    """Returns the uses of a file that hide what they read of another crate."""
+    crate = path.split("/")[1]
+    return [f"{it[0]} hides what it reads" for it in HIDDEN.finditer(text) if it[1] != crate]
+
+
 def self_test():
     """Returns what is wrong with what is said of the texts, and how many there are."""
     failed = [f"self-test: of a good text is said: {it}" for it in faults_of("good.rt", GOOD)]
@@ -167,11 +179,16 @@ def self_test():
         said = private_uses(path, "use Rattle.a.specs.private.A.{x}\nuse Rattle.b.specs.private.B.{y}\nuse Rattle.b.specs.C.{z}\n")
         if len(said) != count:
             failed.append(f"self-test: of private words in {path} is said: {said}")
+    uses = ["b.{proofs.F.x}", "{asgi_b.proofs.F.x}", "asgi_b as b", "asgi_b.specs.{A.x, private.B.y}", "asgi_b.specs as words", "asgi_b.{proofs.F.x, specs.A.y}"]
+    plain = ["asgi_a.specs.{A.x, private.B.y}", "asgi_b.proofs.F.{x, y}", "asgi_b.specs.{A.x, declared.b.B.B}", "asgi_b.specs.A as a", "asgi_b.specs.private.A.{x}"]
+    for words, count in ((uses[1:], 1), ([uses[0], *plain], 0)):
+        said = {it: hidden_uses("crates/asgi_a/proofs/A.antt", f"use Rattle.{it}\n") for it in words}
+        failed += [f"self-test: of 'use Rattle.{it}' is said: {found}" for it, found in said.items() if len(found) != count]
     for edit, word in UNFIT:
         said = unfit(edit, TOP)
         if (word or said) and (not word or word not in (said or "")):
             failed.append(f"self-test: of the edit '{edit}' is said: {said}")
-    return failed, 6 + len(BAD) + len(UNFIT)
+    return failed, 17 + len(BAD) + len(UNFIT)
 
 
 def names_there():
@@ -221,7 +238,8 @@ def main(words):
         words = [it for it in words if it.split("/")[2] in ("specs", "proofs")]
         for path in [*files, *words]:
             with open(f"{TOP}/{path}", encoding="utf-8") as it:
-                said = private_uses(path, it.read())
+                text = it.read()
+            said = private_uses(path, text) + hidden_uses(path, text)
             failed += [f"{path}: {'; '.join(said)}"] * bool(said)
         with open(f"{TOP}/docs/DECISIONS.md", encoding="utf-8") as it:
             unknown = unknown_names(it.read(), names_there())
