@@ -1,13 +1,10 @@
 -- An event of a denial is sent that the judge has passed: if the invariant of the half held, it holds again.
-use Rattle.asgi_halves.proofs.SessionWords.{◌≡◌, ℕ, ◌<◌, true, false, List, [], ◌∷◌, ◌++◌, length, take, refl, sym, ap, ◌∙◌, subst, None, map, Result, Ok, Err, OnOk, Appends, map-append, append_cancel_left, RoseBy, TriesWrites, Facts, Outgoing, DenialStart, DenialBody, WebSocket, Judge, passes, Event, denial_text, ResponseText, Msg, end_of}
-use Rattle.asgi_halves.proofs.SessionWords.{Output, Byte, Handshake, event_output, output_of, session_output, ConnView, taken_of, event_adds, WriteFailed, NoMemory, handshake_of, Running, Cut, Unanswered, WebSocketHalf, Wire, LineState, SessionScene, Invariant, IsDenial, Talks, answer_of, answer_to, said_in}
-use Rattle.std.specs.Result.{is_err}
-use Rattle.asgi_io.specs.declared.write.Wrote.TheVariants as wrote
-use Rattle.asgi_protocol.specs.Stages as judging
-use Rattle.asgi_response.specs.Standing as standing
-use Rattle.asgi_halves.proofs.SessionPassLemmas.{body_follows, goes, is_first, more_said}
-use Rattle.asgi_halves.proofs.SessionSayLemmas.{accept_cut, denial_out, text_short}
-use Rattle.asgi_halves.proofs.SessionOfferLemmas.{runs}
+use Rattle.asgi_halves.proofs.SessionWords.{Byte, ConnView, Cut, DenialBody, DenialStart, Err, Facts, Grows, Handshake, HasPut, IsDenial, Judge, LineState, List, Msg, NoMemory, Ok, OnOk, Outgoing}
+use Rattle.asgi_halves.proofs.SessionWords.{Output, ResponseText, Result, SessionScene, Stage, StandsForSession, Unanswered, WebSocket, WebSocketHalf, Wire, WriteFailed, [], answer_of, answer_to, ap}
+use Rattle.asgi_halves.proofs.SessionWords.{append_cancel_left, denial_text, false, handshake_of, inl, is_err, length, map, map-append, output_of, passes, refl, said_in, session_output, subst, sym}
+use Rattle.asgi_halves.proofs.SessionWords.{take, taken_of, true, ℕ, ◌++◌, ◌<◌, ◌∙◌, ◌∷◌, ◌≡◌}
+use Rattle.asgi_halves.proofs.SessionPassLemmas.{accepted_more, body_follows, goes, is_first}
+use Rattle.asgi_halves.proofs.SessionSayLemmas.{Holds, Sending, adds, all_out, before, cut_off, denial, text_after, text_short}
 
 -- what a call promises that was not refused
 pub from_ok : {T E P : Type 0} (r : Result T E) → false ≡ is_err r → OnOk r P → P
@@ -21,84 +18,62 @@ record IsDenied (handshake : Handshake) (facts : Facts) (said : List Outgoing) :
   answer : answer_to said ≡ Unanswered
   text : output_of handshake facts said ≡ map Byte (denial_text facts said)
 
-record GoesOnDenying (handshake : Handshake) (facts : Facts) (said : List Outgoing) (event : Outgoing) : Type 0 where
-  old : IsDenied handshake facts said
-  new : IsDenied handshake facts (said ++ event ∷ [])
-
-goes_on_denying : (handshake : Handshake) (facts : Facts) (said : List Outgoing) (event : Outgoing) → IsDenial event → passes WebSocket facts said event ≡ true → GoesOnDenying handshake facts said event
+goes_on_denying : (handshake : Handshake) (facts : Facts) (said : List Outgoing) (event : Outgoing) → IsDenial event → passes WebSocket facts said event ≡ true
+    → IsDenied handshake facts said × IsDenied handshake facts (said ++ event ∷ [])
 goes_on_denying handshake facts said (DenialStart status headers) d pass =
-    subst (λ (l : List Outgoing). GoesOnDenying handshake facts l (DenialStart status headers)) (sym (is_first said (DenialStart status headers) refl refl refl refl (goes facts said (DenialStart status headers) pass)))
-    (record { old = record { answer = refl; text = refl }; new = record { answer = refl; text = refl } })
+    let first = is_first said (DenialStart status headers) refl refl refl refl (goes facts said (DenialStart status headers) pass) in
+    subst (λ (l : List Outgoing). IsDenied handshake facts l × IsDenied handshake facts (l ++ DenialStart status headers ∷ [])) (sym first)
+    (record { answer = refl; text = refl }, record { answer = refl; text = refl })
 goes_on_denying handshake facts said (DenialBody body more_body) d pass =
     let s = body_follows said body more_body (goes facts said (DenialBody body more_body) pass) in
-    subst (λ (l : List Outgoing). GoesOnDenying handshake facts l (DenialBody body more_body)) (sym s.3)
-    (record { old = record { answer = refl; text = refl }; new = record { answer = refl; text = refl } })
+    subst (λ (l : List Outgoing). IsDenied handshake facts l × IsDenied handshake facts (l ++ DenialBody body more_body ∷ [])) (sym s.3)
+    (record { answer = refl; text = refl }, record { answer = refl; text = refl })
 goes_on_denying handshake facts said _ d pass = absurd d
 
 -- ---- an event of the denial is sent
 
-module _ (scene : SessionScene) (was : LineState) (half : WebSocketHalf) (read : List ℕ) (view : ConnView Msg Output) (before : Judge) (x : Invariant scene was (record half { judge = before }) read view)
-    (running : half.stage ≡ Running) (event : Outgoing) (denies : IsDenial event) (pass : passes WebSocket scene.facts (said_in scene view) event ≡ true)
-    (judged : judging.StandsFor half.judge WebSocket scene.facts (said_in scene view ++ event ∷ []) false) where
-  abbrev later : List Output → ConnView Msg Output
-  later written = record view { got = view.got ++ Event event ∷ []; written = written }
+module _ {scene : SessionScene} {was : LineState} {old : WebSocketHalf} {read : List ℕ} {view : ConnView Msg Output} {judge : Judge} {event : Outgoing}
+    (p : Sending scene was old read view judge event) (denies : IsDenial event) where
+  denying : IsDenied (handshake_of scene.facts) scene.facts (said_in scene view) × IsDenied (handshake_of scene.facts) scene.facts (said_in scene view ++ event ∷ [])
+  denying = goes_on_denying (handshake_of scene.facts) scene.facts (said_in scene view) event denies p.pass
 
-  at : Talks scene (record half { judge = before }) view × (end_of view.got ≡ None)
-  at = runs scene was (record half { judge = before }) read view x running
-
-  denying : GoesOnDenying (handshake_of scene.facts) scene.facts (said_in scene view) event
-  denying = goes_on_denying (handshake_of scene.facts) scene.facts (said_in scene view) event denies pass
-
-  unanswered : answer_of half.session ≡ Unanswered
-  unanswered = at.0.answered ∙ denying.old.answer
+  unanswered : answer_of old.session ≡ Unanswered
+  unanswered = (before p).0.answered ∙ denying.0.answer
 
   -- the text in hand rests on those before
-  pub text_before : standing.StandsForSession half.text scene.facts (said_in scene view)
-  text_before = at.0.text unanswered
+  pub text_before : StandsForSession old.text scene.facts (said_in scene view)
+  text_before = (before p).0.text unanswered
 
-  -- ---- the text in hand is written
+  module _ (text : ResponseText) (wire : Wire) (wire_is : wire ≡ record old.wire { out = wire.out }) where
+    on_wire : (now : LineState) (s : Stage) → Holds p now (denial p text wire.out s) → Holds p now (record old { judge = judge; text = text; wire = wire; stage = s })
+    on_wire now s = subst (λ (w : Wire). Holds p now (record old { judge = judge; text = text; wire = w; stage = s })) (sym wire_is)
 
-  module _ (now : LineState) (text : ResponseText) (hand : List ℕ) (stands : standing.StandsForSession text scene.facts (said_in scene view ++ event ∷ []))
-      (grows : standing.Grows (denial_text scene.facts (said_in scene view)) (denial_text scene.facts (said_in scene view ++ event ∷ [])) half.wire.out.items hand)
-      (same_left : now.left ≡ was.left) (same_reads : now.reads ≡ was.reads) (same_session : now.session ≡ was.session) (wire : Wire) (wire_is : wire ≡ record half.wire { out = wire.out }) where
-    in_hand : hand ≡ grows.added
-    in_hand = grows.output ∙ ap (λ (l : List ℕ). l ++ grows.added) at.0.empty
+    -- there is no memory for it
+    pub denied_short : Holds p was (record old { judge = judge; text = text; wire = wire; stage = Cut NoMemory })
+    denied_short = on_wire was (Cut NoMemory) (text_short p unanswered text wire.out)
 
-    text_after : session_output (handshake_of scene.facts) scene.facts (taken_of view ++ event ∷ []) ≡ view.written ++ map Byte hand
-    text_after =
-        ap (output_of (handshake_of scene.facts) scene.facts) (more_said scene.facts (taken_of view) event pass)
-        ∙ (denying.new.text
-        ∙ (ap (map Byte) (grows.text ∙ ap (λ (l : List ℕ). denial_text scene.facts (said_in scene view) ++ l) (sym in_hand))
-        ∙ (map-append Byte (denial_text scene.facts (said_in scene view)) hand
-        ∙ ap (λ (l : List Output). l ++ map Byte hand) (sym (at.0.written ∙ denying.old.text)))))
+    -- ---- the text in hand is written
 
-    adds_hand : event_output (handshake_of scene.facts) scene.facts (said_in scene view) event ≡ map Byte hand
-    adds_hand =
-        let adds = event_output (handshake_of scene.facts) scene.facts (said_in scene view) event in
-        append_cancel_left view.written adds (map Byte hand)
-        (sym (event_adds (handshake_of scene.facts) scene.facts (taken_of view) event pass ∙ ap (λ (l : List Output). l ++ adds) (sym at.0.written)) ∙ text_after)
+    module _ (now : LineState) (hand : List ℕ) (stands : StandsForSession text scene.facts (said_in scene view ++ event ∷ []))
+        (grows : Grows (denial_text scene.facts (said_in scene view)) (denial_text scene.facts (said_in scene view ++ event ∷ [])) old.wire.out.items hand) where
+      in_hand : hand ≡ grows.added
+      in_hand = grows.output ∙ ap (λ (l : List ℕ). l ++ grows.added) (before p).0.empty
 
-    abbrev after : WebSocketHalf
-    after = record half { wire = record half.wire { out = wire.out }; text = text }
+      text_in_hand : session_output (handshake_of scene.facts) scene.facts (taken_of view ++ event ∷ []) ≡ view.written ++ map Byte hand
+      text_in_hand =
+          ap (output_of (handshake_of scene.facts) scene.facts) (accepted_more scene.facts (taken_of view) event true p.pass)
+          ∙ (denying.1.text
+          ∙ (ap (map Byte) (grows.text ∙ ap (λ (l : List ℕ). denial_text scene.facts (said_in scene view) ++ l) (sym in_hand))
+          ∙ (map-append Byte (denial_text scene.facts (said_in scene view)) hand ∙ ap (λ (l : List Output). l ++ map Byte hand) (sym ((before p).0.written ∙ denying.0.text)))))
 
-    -- all of it went out
-    pub denied_whole : wire.out.items ≡ [] → Appends was.written now.written hand → RoseBy 0 was.failed now.failed → TriesWrites was.writes now.writes (length hand) wrote.Done
-        → (written : List Output) × Invariant scene now (record half { wire = wire; text = text }) read (later written)
-    denied_whole empty appends rose tries =
-        subst (λ (w : Wire). (written : List Output) × Invariant scene now (record half { wire = w; text = text }) read (later written)) (sym wire_is)
-        (denial_out scene was after read view before half.text half.wire.out x running event pass judged unanswered hand adds_hand now same_left same_reads same_session appends rose tries
-        empty denying.new.answer stands)
+      adds_hand : adds p ≡ map Byte hand
+      adds_hand = append_cancel_left view.written (adds p) (map Byte hand) (sym (text_after p) ∙ text_in_hand)
 
-    -- its first n bytes did
-    pub denied_part : (n : ℕ) → n < length hand → Appends was.written now.written (take n hand) → RoseBy 1 was.failed now.failed → TriesWrites was.writes now.writes n (wrote.Failed n)
-        → (written : List Output) × Invariant scene now (record half { wire = wire; text = text; stage = Cut (WriteFailed n) }) read (later written)
-    denied_part n less appends rose tries =
-        subst (λ (w : Wire). (written : List Output) × Invariant scene now (record half { wire = w; text = text; stage = Cut (WriteFailed n) }) read (later written)) (sym wire_is)
-        (accept_cut scene was after read view before half.text half.wire.out x running event pass judged unanswered hand adds_hand now same_left same_reads same_session n less appends rose tries)
+      -- all of it went out
+      pub denied_whole : wire.out.items ≡ [] → HasPut was now hand 0 → Holds p now (record old { judge = judge; text = text; wire = wire })
+      denied_whole empty put =
+          on_wire now old.stage (all_out p unanswered hand adds_hand now text wire.out old.session refl (inl unanswered) empty (denying.1.answer ∙ sym unanswered) (λ e. stands) (before p).0.due put)
 
-  -- there is no memory for it
-  pub denied_short : (text : ResponseText) (wire : Wire) → wire ≡ record half.wire { out = wire.out }
-      → (written : List Output) × Invariant scene was (record half { wire = wire; text = text; stage = Cut NoMemory }) read (later written)
-  denied_short text wire wire_is =
-      subst (λ (w : Wire). (written : List Output) × Invariant scene was (record half { wire = w; text = text; stage = Cut NoMemory }) read (later written)) (sym wire_is)
-      (text_short scene was (record half { wire = record half.wire { out = wire.out }; text = text }) read view before half.text half.wire.out x running event pass judged unanswered)
+      -- its first n bytes did
+      pub denied_part : (n : ℕ) → n < length hand → HasPut was now (take n hand) 1 → Holds p now (record old { judge = judge; text = text; wire = wire; stage = Cut (WriteFailed n) })
+      denied_part n less put = on_wire now (Cut (WriteFailed n)) (cut_off p unanswered hand adds_hand now text wire.out old.session refl (inl unanswered) n less put)

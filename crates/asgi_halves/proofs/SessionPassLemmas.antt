@@ -1,30 +1,17 @@
 -- What an event that passes shows about those that were sent before it, in a session.
-use Rattle.asgi_halves.proofs.SessionWords.{◌≡◌, ℕ, Bool, true, false, ◌⊎◌, inl, inr, List, [], ◌∷◌, ◌++◌, refl, ap, sym, ◌∙◌, Option, ◌||◌, if◌then◌else◌, HeaderField, Facts, Outgoing, WsAccept, WsSend, WsClose, DenialStart, DenialBody, WebSocket, passes, is_of, is_message, is_closed, with_session_event, accepted_session, Open, Closed}
-use Rattle.asgi_halves.proofs.SessionWords.{answer_to}
-use Rattle.std.specs.Prelude.{◌&&◌}
-use Rattle.std.proofs.lemmas.List.Sums.{fold-append}
-use Rattle.asgi_types.specs.declared.incoming.Payload.{Payload}
-use Rattle.asgi_protocol.specs.Shapes.{is_row, begins_row, is_empty, is_close, is_denial_part, is_last_denial_part, goes_on}
-use Rattle.asgi_protocol.specs.Verdicts.{lines_on, verdict_on}
+use Rattle.asgi_halves.proofs.SessionWords.{Bool, Closed, DenialBody, DenialStart, Facts, HeaderField, List, Open, Option, Outgoing, Payload, WebSocket, WsAccept, WsClose, WsSend, []}
+use Rattle.asgi_halves.proofs.SessionWords.{accepted_session, answer_to, ap, begins_row, both, both_true, either, either_first, either_second, false, fold-append, goes_on, if◌then◌else◌, inl, inr}
+use Rattle.asgi_halves.proofs.SessionWords.{is_close, is_closed, is_denial_part, is_empty, is_last_denial_part, is_message, is_of, is_passed, is_row, lines_on, passes, refl, sym, true, verdict_on}
+use Rattle.asgi_halves.proofs.SessionWords.{with_session_event, ℕ, ◌&&◌, ◌++◌, ◌||◌, ◌∙◌, ◌∷◌, ◌≡◌, ◌⊎◌}
 use Rattle.asgi_protocol.proofs.PassLemmas as passing
-use Rattle.asgi_protocol.proofs.PassingLemmas.{is_passed}
-use Rattle.asgi_protocol.proofs.RowLemmas.{either, both, both_true, either_first, either_second}
 
 -- ---- what was sent, with one more event
 
-accepted_more : (facts : Facts) (events : List Outgoing) (event : Outgoing) (b : Bool) → passes WebSocket facts (accepted_session facts events) event ≡ b
+pub accepted_more : (facts : Facts) (events : List Outgoing) (event : Outgoing) (b : Bool) → passes WebSocket facts (accepted_session facts events) event ≡ b
     → accepted_session facts (events ++ event ∷ []) ≡ (if b then accepted_session facts events ++ event ∷ [] else accepted_session facts events)
 accepted_more facts events event b h =
     fold-append (with_session_event facts) [] events (event ∷ [])
     ∙ ap (λ (pass : Bool). if pass then accepted_session facts events ++ event ∷ [] else accepted_session facts events) h
-
-pub more_said : (facts : Facts) (events : List Outgoing) (event : Outgoing) → passes WebSocket facts (accepted_session facts events) event ≡ true
-    → accepted_session facts (events ++ event ∷ []) ≡ accepted_session facts events ++ event ∷ []
-more_said facts events event h = accepted_more facts events event true h
-
-pub same_said : (facts : Facts) (events : List Outgoing) (event : Outgoing) → passes WebSocket facts (accepted_session facts events) event ≡ false
-    → accepted_session facts (events ++ event ∷ []) ≡ accepted_session facts events
-same_said facts events event h = accepted_more facts events event false h
 
 -- ---- the last event of a row
 
@@ -133,15 +120,14 @@ open_after_send facts said payload h =
     ap (λ (l : List Outgoing). answer_to (l ++ WsSend payload ∷ [])) s.3
     ∙ ap (λ (b : Bool). if b then Closed else Open) (row_open is_message is_close s.2 (WsSend payload) refl)
 
-pub closed_after_close : (facts : Facts) (said : List Outgoing) (code : ℕ) (reason : List ℕ) (subprotocol : Option (List ℕ)) (headers : List HeaderField) (events : List Outgoing)
-    → said ≡ WsAccept subprotocol headers ∷ events → passes WebSocket facts said (WsClose code reason) ≡ true → answer_to (said ++ WsClose code reason ∷ []) ≡ Closed
-closed_after_close facts said code reason subprotocol headers events is h =
-    let goes : begins_row is_message is_close (events ++ WsClose code reason ∷ []) ≡ true =
-    sym (ap (λ (l : List Outgoing). goes_on WebSocket l (WsClose code reason)) is) ∙ goes facts said (WsClose code reason) h in
-    ap (λ (l : List Outgoing). answer_to (l ++ WsClose code reason ∷ [])) is
-    ∙ ap (λ (b : Bool). if b then Closed else Open) (row_whole is_message is_close events (WsClose code reason) refl goes)
+pub closed_after_close : (facts : Facts) (said : List Outgoing) (code : ℕ) (reason : List ℕ) → IsAccepted said → passes WebSocket facts said (WsClose code reason) ≡ true
+    → answer_to (said ++ WsClose code reason ∷ []) ≡ Closed
+closed_after_close facts said code reason s h =
+    let goes : begins_row is_message is_close (s.2 ++ WsClose code reason ∷ []) ≡ true =
+    sym (ap (λ (l : List Outgoing). goes_on WebSocket l (WsClose code reason)) s.3) ∙ goes facts said (WsClose code reason) h in
+    ap (λ (l : List Outgoing). answer_to (l ++ WsClose code reason ∷ [])) s.3
+    ∙ ap (λ (b : Bool). if b then Closed else Open) (row_whole is_message is_close s.2 (WsClose code reason) refl goes)
 
-pub open_is_accepted : (said : List Outgoing) → answer_to said ≡ Open
-    → (subprotocol : Option (List ℕ)) × (headers : List HeaderField) × (events : List Outgoing) × (said ≡ WsAccept subprotocol headers ∷ events)
+pub open_is_accepted : (said : List Outgoing) → answer_to said ≡ Open → IsAccepted said
 open_is_accepted (WsAccept a b ∷ events) h = (a, b, events, refl)
 open_is_accepted _ h = absurd (cc)

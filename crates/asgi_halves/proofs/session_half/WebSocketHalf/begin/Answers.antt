@@ -1,4 +1,4 @@
-use Rattle.asgi_halves.proofs.SessionTakeLemmas.{begun}
+use Rattle.asgi_halves.proofs.{SessionTakeLemmas.begun}
 use Rattle.asgi_halves.proofs.session_half.WebSocketHalf.begin.Goals as goal
 
 pub returns-clause-begins : goal.returns-clause-begins

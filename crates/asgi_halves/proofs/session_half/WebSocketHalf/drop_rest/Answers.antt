@@ -1,5 +1,5 @@
-use Rattle.asgi_halves.proofs.SessionWords.{◌∙◌, refl, subst, sym, Stage, MayDrop}
 use Rattle.asgi_halves.proofs.SessionReadLemmas.{out_none, out_then}
+use Rattle.asgi_halves.proofs.SessionWords.{MayDrop, Stage, refl, subst, sym, ◌∙◌}
 use Rattle.asgi_halves.proofs.session_half.WebSocketHalf.drop_rest.Goals as goal
 
 pub loop-read-init : goal.loop-read-init

@@ -1,5 +1,4 @@
-use Rattle.asgi_halves.proofs.SessionWords.{sym, subst, Outgoing}
-use Rattle.asgi_halves.specs.WebSocketHalf.{Speaks}
+use Rattle.asgi_halves.proofs.SessionWords.{Outgoing, Speaks, subst, sym}
 use Rattle.asgi_halves.proofs.session_half.WebSocketHalf.speak.Goals as goal
 
 pub returns-in-WsSend-clause-speaks : goal.returns-in-WsSend-clause-speaks

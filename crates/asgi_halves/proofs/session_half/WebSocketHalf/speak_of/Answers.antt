@@ -1,7 +1,4 @@
-use Rattle.asgi_halves.proofs.SessionWords.{sym, subst, Outgoing, said_in}
-use Rattle.asgi_halves.specs.WebSocketHalf.{Speaks}
-use Rattle.asgi_halves.proofs.SessionPassLemmas.{is_in_scope}
-use Rattle.asgi_halves.proofs.SessionTakeLemmas.{none_left}
+use Rattle.asgi_halves.proofs.{SessionPassLemmas.is_in_scope, SessionTakeLemmas.none_left, SessionWords.Outgoing, SessionWords.Speaks, SessionWords.said_in, SessionWords.subst, SessionWords.sym}
 use Rattle.asgi_halves.proofs.session_half.WebSocketHalf.speak_of.Goals as goal
 
 pub returns-in-WsClose-clause-speaks : goal.returns-in-WsClose-clause-speaks
