@@ -312,31 +312,13 @@ module _ {scene : SessionScene} {was : LineState} {half : WebSocketHalf} {read :
 
 -- ---- the connection is cut short
 
--- what is out does not depend on a disconnect of a cut, nor on what is taken after it
-short_on : (scene : SessionScene) (view : ConnView Msg Output) (out : Outcome) (offered : List Incoming) (broken : Option Break) → is_by_input broken ≡ is_by_input view.broken
-    → IsCutShort scene view out → IsCutShort scene (record view { offered = offered; broken = broken }) out
-short_on scene view out offered broken same short = by (class_of out) short
-  where
-    by : (k : OutcomeClass) → IsCutShortAs k scene view → IsCutShortAs k scene (record view { offered = offered; broken = broken })
-    by (ByWrite n) short = subst (λ (b : Bool). StopsSession n (record (known scene view) { input_broke = b }) view.written) (sym same) short
-    by _ short = short
-
-short_after : (scene : SessionScene) (view : ConnView Msg Output) (out : Outcome) (item : OutItem) → end_of view.got ≡ None
-    → IsCutShort scene view out → IsCutShort scene (record view { got = view.got ++ item ∷ [] }) out
-short_after scene view out item none short = by (class_of out) short
-  where
-    by : (k : OutcomeClass) → IsCutShortAs k scene view → IsCutShortAs k scene (record view { got = view.got ++ item ∷ [] })
-    by Uncut short = absurd short
-    by (ByWrite n) short =
-        let last = end_of (view.got ++ item ∷ []) in
-        let next = next_on (session_output (handshake_of scene.facts) scene.facts) (λ (k : EndKind). session_ending scene.facts (events_of view.got) k (is_by_input view.broken))
-        (λ (k : EndKind). session_ending scene.facts (events_of view.got ++ events_of (item ∷ [])) k (is_by_input view.broken))
-        (known scene view) (events_of view.got) (events_of (item ∷ [])) last short.out short.more
-        (subst (λ (o : Option EndKind). IsNextOutput (record (known scene view) { ended = o }) short.out short.more) none short.is_next) in
-        subst (λ (l : List Outgoing). StopsSession n (record (known scene view) { said = l; ended = last }) view.written) (sym (events_append view.got (item ∷ [])))
-        (record { out = short.out; more = short.more; is_next = next; within = short.within; written_is = short.written_is })
-    by Unbegun short = absurd short
-    by _ short = prefix_trans view.written (output_in scene view) (output_in scene (record view { got = view.got ++ item ∷ [] })) short (output_after scene view.got item)
+-- it is in a later view too, if what is out still begins what is to be written, or stops in what comes next
+cut_on : (scene : SessionScene) (view seen : ConnView Msg Output) → ((n : ℕ) → StopsSession n (known scene view) view.written → StopsSession n (known scene seen) seen.written)
+    → (IsPrefix view.written (output_in scene view) → IsPrefix seen.written (output_in scene seen)) → (k : OutcomeClass) → IsCutShortAs k scene view → IsCutShortAs k scene seen
+cut_on scene view seen stops front Uncut short = absurd short
+cut_on scene view seen stops front (ByWrite n) short = stops n short
+cut_on scene view seen stops front Unbegun short = absurd short
+cut_on scene view seen stops front _ short = front short
 
 module _ {scene : SessionScene} {was : LineState} {half : WebSocketHalf} {read : List ℕ} {view : ConnView Msg Output} (x : Invariant scene was half read view) where
   -- Cut short in another stage, the half's invariant holds again.
@@ -347,13 +329,12 @@ module _ {scene : SessionScene} {was : LineState} {half : WebSocketHalf} {read :
       subst (λ (v : ConnView Msg Output). Invariant scene was (record half { stage = s }) read v) (sym e)
       (stands_at x (record half { stage = s }) view refl refl refl failures (prefix_self (said_in scene view)) x.keeps x.breaks (at view short refl))
   stands_cut out s failures short at later (inr (none, e)) =
-      let offered : List Incoming = view.offered ++ WsDisconnect 1006 [] ∷ [] in
-      let cut : ConnView Msg Output = record view { offered = offered; broken = Some ByCut } in
+      let cut : ConnView Msg Output = record view { offered = view.offered ++ WsDisconnect 1006 [] ∷ []; broken = Some ByCut } in
       let keeps : ConnKeeps (exchange_of scene) cut =
       record { offered = (view.offered, subst (λ (b : Option Break). IsOffered (exchange_of scene) view.arrived view.offered b) none x.keeps.offered, refl); written = x.keeps.written } in
+      let still = cut_on scene view cut (λ n. subst (λ (b : Bool). StopsSession n (record (known scene view) { input_broke = b }) view.written) (ap is_by_input none)) (λ p. p) (class_of out) short in
       subst (λ (v : ConnView Msg Output). Invariant scene was (record half { stage = s }) read v) (sym e)
-      (stands_at x (record half { stage = s }) cut refl refl refl failures (prefix_self (said_in scene view)) keeps (λ b. cc)
-      (at cut (short_on scene view out offered (Some ByCut) (sym (ap is_by_input none)) short) refl))
+      (stands_at x (record half { stage = s }) cut refl refl refl failures (prefix_self (said_in scene view)) keeps (λ b. cc) (at cut still refl))
 
   -- the exchange is given up when all that was taken is written
   pub stops : (out : Outcome) → out ≡ Outcome.Idle → (later : ConnView Msg Output) → IsOpen half.stage → IsCutOff (WsDisconnect 1006 []) view later
@@ -381,6 +362,16 @@ module _ {scene : SessionScene} {was : LineState} {half : WebSocketHalf} {read :
 
     -- ---- what is taken is dropped
 
+    stops_after : (item : OutItem) (n : ℕ) → StopsSession n (known scene view) view.written → StopsSession n (known scene (record view { got = view.got ++ item ∷ [] })) view.written
+    stops_after item n short =
+        let last = end_of (view.got ++ item ∷ []) in
+        let next = next_on (session_output (handshake_of scene.facts) scene.facts) (λ (k : EndKind). session_ending scene.facts (events_of view.got) k (is_by_input view.broken))
+        (λ (k : EndKind). session_ending scene.facts (events_of view.got ++ events_of (item ∷ [])) k (is_by_input view.broken))
+        (known scene view) (events_of view.got) (events_of (item ∷ [])) last short.out short.more
+        (subst (λ (o : Option EndKind). IsNextOutput (record (known scene view) { ended = o }) short.out short.more) unended.1 short.is_next) in
+        subst (λ (l : List Outgoing). StopsSession n (record (known scene view) { said = l; ended = last }) view.written) (sym (events_append view.got (item ∷ [])))
+        (record { out = short.out; more = short.more; is_next = next; within = short.within; written_is = short.written_is })
+
     took : (item : OutItem) (s : Stage) → failures_at half.stage ≡ failures_at s
         → (IsCutShort scene (record view { got = view.got ++ item ∷ [] }) out → IsAt s scene (record half { stage = s }) (record view { got = view.got ++ item ∷ [] }))
         → Invariant scene was (record half { stage = s }) read (record view { got = view.got ++ item ∷ [] })
@@ -389,11 +380,11 @@ module _ {scene : SessionScene} {was : LineState} {half : WebSocketHalf} {read :
         let p = x.keeps.written in
         let whole : view.written ++ p.0 ≡ output_in scene view =
         p.1 ∙ (ap (λ (o : Option EndKind). output_in scene view ++ added_by (exchange_of scene) (taken_of view) o view.broken_first view.arrived) unended.1 ∙ append-nil (output_in scene view)) in
-        let more = prefix_trans view.written (output_in scene view) (output_in scene later) (p.0, whole) (output_after scene view.got item) in
-        let written = prefix_trans view.written (output_in scene later) (output (exchange_of scene) later) more
+        let front = λ (q : IsPrefix view.written (output_in scene view)). prefix_trans view.written (output_in scene view) (output_in scene later) q (output_after scene view.got item) in
+        let written = prefix_trans view.written (output_in scene later) (output (exchange_of scene) later) (front (p.0, whole))
         (added_by (exchange_of scene) (taken_of later) (end_of later.got) later.broken_first later.arrived, refl) in
         stands_at x (record half { stage = s }) later refl refl refl failures (grows_with (accepted_session scene.facts) (accepted_grows scene.facts) view.got item)
-        (record { offered = x.keeps.offered; written = written }) x.breaks (at (short_after scene view out item unended.1 unended.0))
+        (record { offered = x.keeps.offered; written = written }) x.breaks (at (cut_on scene view later (stops_after item) front (class_of out) unended.0))
 
     pub took_event : (event : Outgoing) → Invariant scene was half read (record view { got = view.got ++ Event event ∷ [] })
     took_event event =

@@ -185,21 +185,13 @@ leads_noted was now half is open_still answer call later same scene read view x 
 -- ---- it is dropped
 
 -- exactly one read less is left, or none
-over_after : (spare : ℕ) (answer : Got) → is_over_with (rest_after spare answer) ≡ is_end answer
-over_after spare (Got.Message message) = refl
-over_after spare _ = refl
+one_less : (spare : ℕ) (answer : Got) → 0 < spare → (is_over_with (rest_after spare answer) ≡ is_end answer) × (spare_with (rest_after spare answer) + 1 ≤ spare)
+one_less spare (Got.Message message) some = (refl, omega arith)
+one_less spare _ some = (refl, omega arith)
 
-one_less : (spare : ℕ) (answer : Got) → 0 < spare → spare_with (rest_after spare answer) + 1 ≤ spare
-one_less spare (Got.Message message) some = omega arith
-one_less spare _ some = omega arith
-
-same_side : (side : Side) (rest later : Option ℕ) → answer_of (Session.Closed side rest) ≡ answer_of (Session.Closed side later)
-same_side Application rest later = refl
-same_side Client rest later = refl
-
-carries_closed : (side : Side) (rest : Option ℕ) → Carries (answer_of (Session.Closed side rest))
-carries_closed Application rest = inr refl
-carries_closed Client rest = inl refl
+of_side : (side : Side) (rest later : Option ℕ) → Carries (answer_of (Session.Closed side rest)) × (answer_of (Session.Closed side rest) ≡ answer_of (Session.Closed side later))
+of_side Application rest later = (inr refl, refl)
+of_side Client rest later = (inl refl, refl)
 
 closed_still : (side : Side) (rest later : Option ℕ) (offered : List Incoming) (arrived more : List Msg) (broke : Bool) → IsDue (Session.Closed side rest) offered arrived broke
     → IsDue (Session.Closed side later) offered (arrived ++ more) broke
@@ -216,7 +208,7 @@ module _ (was now : LineState) (half : WebSocketHalf) (may : MayDrop half.stage)
     later_view = record view { arrived = view.arrived ++ given_by answer }
 
     same : answer_of half.session ≡ answer_of next
-    same = ap answer_of is ∙ same_side side (Some spare) (rest_after spare answer)
+    same = ap answer_of is ∙ (of_side side (Some spare) (rest_after spare answer)).1
 
     -- more messages may follow, so that a break by the input was by a close
     closed_before : is_by_input view.broken ≡ true → has_close view.arrived ≡ true
@@ -243,10 +235,9 @@ module _ (was now : LineState) (half : WebSocketHalf) (may : MayDrop half.stage)
     dropped : Invariant scene now (record half { session = next }) read later_view
     dropped =
         let s = stage_on may in
-        arrives x now s.0 (ap is_over_at is) (subst (λ (s : Session). Carries (answer_of s)) (sym is) (carries_closed side (Some spare))) closed_before answer call next half.stage s.0 same
-        (over_after spare answer)
-        (omega (arith, read_after x.line.carried.calls answer, subst (λ (s : Session). reads_after_close x.line.carried.calls + spare_at s ≤ drop_limit) is x.line.within, one_less spare answer some))
-        s.1
+        let less = one_less spare answer some in
+        arrives x now s.0 (ap is_over_at is) (subst (λ (s : Session). Carries (answer_of s)) (sym is) (of_side side (Some spare) None).0) closed_before answer call next half.stage s.0 same
+        less.0 (omega (arith, read_after x.line.carried.calls answer, subst (λ (s : Session). reads_after_close x.line.carried.calls + spare_at s ≤ drop_limit) is x.line.within, less.1)) s.1
 
   pub leads_dropped : (later : WebSocketHalf) → later ≡ record half { session = Session.Closed side (rest_after spare answer) } → PreservesByLine was half now later
   leads_dropped later same scene read view x = (

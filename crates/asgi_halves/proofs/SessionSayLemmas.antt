@@ -16,14 +16,10 @@ no_text (b ∷ text) handed e = absurd (cc)
 -- ---- the handshake is answered
 
 -- nothing else changes
-same_rest : (reply : Answer) (state : Session) → rest_at state ≡ rest_at (answered_with reply state)
-same_rest reply (Session.Begun before waits) = refl
-same_rest reply _ = refl
-
-same_due : (reply : Answer) (state : Session) (offered : List Incoming) (arrived : List Msg) (broke : Bool) → IsDue state offered arrived broke
-    → IsDue (answered_with reply state) offered arrived broke
-same_due reply (Session.Begun before waits) offered arrived broke d = d
-same_due reply _ offered arrived broke d = d
+same_besides : (reply : Answer) (state : Session) (offered : List Incoming) (arrived : List Msg) (broke : Bool) → IsDue state offered arrived broke
+    → (rest_at state ≡ rest_at (answered_with reply state)) × IsDue (answered_with reply state) offered arrived broke
+same_besides reply (Session.Begun before waits) offered arrived broke d = (refl, d)
+same_besides reply _ offered arrived broke d = (refl, d)
 
 answers_so : (reply : Answer) (state : Session) → answer_of state ≡ Unanswered → answer_of (answered_with reply state) ≡ answer_of (Session.Begun reply None)
 answers_so reply (Session.Begun Awaited waits) is = same_answer reply waits None
@@ -197,20 +193,22 @@ module _ {scene : SessionScene} {was : LineState} {old : WebSocketHalf} {read : 
     adds_refusal =
         ap (λ (l : List Outgoing). event_output (handshake_of scene.facts) scene.facts l (WsClose code reason)) unsaid ∙ ap (λ (l : List ℕ). map Byte l) (sym text_is)
 
+    besides : (rest_at old.session ≡ rest_at (answered_with Answer.Refused old.session)) × IsDue (answered_with Answer.Refused old.session) view.offered view.arrived (is_by_input view.broken)
+    besides = same_besides Answer.Refused old.session view.offered view.arrived (is_by_input view.broken) (before p).0.due
+
     refused : answer_of (answered_with Answer.Refused old.session) ≡ Answered.Refused
     refused = answers_so Answer.Refused old.session unanswered_yet
 
     pub refused_whole : HasPut was now text 0 → Holds p now new
     refused_whole put =
         subst (λ (h : WebSocketHalf). Holds p now h) (sym same)
-        (all_out p unanswered_yet text adds_refusal now old.text old.wire.out (answered_with Answer.Refused old.session) (same_rest Answer.Refused old.session) (inr refused) (before p).0.empty
-        (ap (λ (l : List Outgoing). answer_to (l ++ WsClose code reason ∷ [])) unsaid ∙ sym refused) (λ e. absurd (cc (sym refused ∙ e)))
-        (same_due Answer.Refused old.session view.offered view.arrived (is_by_input view.broken) (before p).0.due) put)
+        (all_out p unanswered_yet text adds_refusal now old.text old.wire.out (answered_with Answer.Refused old.session) besides.0 (inr refused) (before p).0.empty
+        (ap (λ (l : List Outgoing). answer_to (l ++ WsClose code reason ∷ [])) unsaid ∙ sym refused) (λ e. absurd (cc (sym refused ∙ e))) besides.1 put)
 
     pub refused_part : (n : ℕ) → n < length text → HasPut was now (take n text) 1 → Holds p now (record new { stage = Cut (WriteFailed n) })
     refused_part n less put =
         subst (λ (h : WebSocketHalf). Holds p now (record h { stage = Cut (WriteFailed n) })) (sym same)
-        (cut_off p unanswered_yet text adds_refusal now old.text old.wire.out (answered_with Answer.Refused old.session) (same_rest Answer.Refused old.session) (inr refused) n less put)
+        (cut_off p unanswered_yet text adds_refusal now old.text old.wire.out (answered_with Answer.Refused old.session) besides.0 (inr refused) n less put)
 
 -- ---- an accept
 
@@ -257,6 +255,7 @@ module _ {scene : SessionScene} {was : LineState} {old : WebSocketHalf} {read : 
         let u = subst (λ (l : List ℕ). HasUpgraded now switched l) bytes_are upgraded in
         let by : answer_of next ≡ Open = answers_so Answer.Accepted old.session not_answered in
         let silent = carried_at x Unanswered not_answered in
+        let besides = same_besides Answer.Accepted old.session view.offered view.arrived (is_by_input view.broken) (before p).0.due in
         let none : x.text ≡ [] = no_text x.text x.handed (sym x.written ∙ ((before p).0.written ∙ ap (output_of (handshake_of scene.facts) scene.facts) none_before)) in
         let out : seen.written ≡ view.written ++ adds p = as_text x.text text x.handed view.written silent.0.sent x.written ∙ ap (λ (l : List Output). view.written ++ l) (sym adds_handshake) in
         let passed : Passed x switched whole 0 (Some scene.frames) x.handed =
@@ -273,8 +272,8 @@ module _ {scene : SessionScene} {was : LineState} {old : WebSocketHalf} {read : 
         } in
         let stage = talks_still p leftover old.text old.wire.out next seen.written (before p).0.empty
         (ap (λ (l : List Outgoing). answer_to (l ++ event ∷ [])) none_before ∙ (ap (λ (e : Outgoing). answer_to (e ∷ [])) a.2 ∙ sym by)) (λ e. absurd (cc (sym by ∙ e)))
-        (same_due Answer.Accepted old.session view.offered view.arrived (is_by_input view.broken) (before p).0.due) out in
+        besides.1 out in
         subst (λ (h : WebSocketHalf). Holds p switched h) (sym new_is)
         (subst (λ (s : Stage). Holds p switched (record later { stage = s })) (sym p.running)
-        (goes_out x (ap failures_at p.running) (adding p) switched later whole (Some scene.frames) x.handed (adds p) [] (same_rest Answer.Accepted old.session) passed out (append-nil (adds p))
+        (goes_out x (ap failures_at p.running) (adding p) switched later whole (Some scene.frames) x.handed (adds p) [] besides.0 passed out (append-nil (adds p))
         ((carrying scene later seen whole (Some scene.frames) x.handed (answer_of next) (inl by)).1 carried) stage))
