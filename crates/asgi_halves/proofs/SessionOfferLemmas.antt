@@ -257,17 +257,6 @@ module _ {scene : SessionScene} {was : LineState} {half : WebSocketHalf} {read :
         runs_on (Session.Begun reply None) (view.offered ++ event ∷ []) view.broken (ap answer_of waits ∙ same_answer reply (Some event) None) (ap rest_at waits)
         (subst (λ (b : Option Break). IsOffered (exchange_of scene) view.arrived (view.offered ++ event ∷ []) b) (sym none) ([], all)) t.uncut (λ e. cc (w.0, e)) (w.0, all, w.2)
 
-    -- the disconnect is
-    left_on : (next : Session) (event : Incoming) → answer_of half.session ≡ answer_of next → rest_at half.session ≡ rest_at next → is_by_input view.broken ≡ false
-        → view.offered ≡ session_events view.arrived → event ≡ session_disconnect view.arrived → (has_close view.arrived ≡ true) ⊎ (is_over_at next ≡ true)
-        → IsDue next (view.offered ++ event ∷ []) view.arrived true
-        → (view.broken ≡ None) × Invariant scene was (record half { session = next }) read (record view { offered = view.offered ++ event ∷ []; broken = Some ByInput })
-    left_on next event answered rest unbroke all is_it why is_due = (
-      unbroken view.broken (runs is).0.uncut unbroke,
-      runs_on next (view.offered ++ event ∷ []) (Some ByInput) answered rest
-          (ap (λ (l : List Incoming). l ++ event ∷ []) all ∙ ap (λ (e : Incoming). session_events view.arrived ++ e ∷ []) is_it) refl (λ e. why) is_due,
-    )
-
     -- the same, with the clauses of the end's calls: the session was taken out of the half before
     module _ {E : Type 0} (C : ConnGhosts E) (old new : E) (taken : Session) (value : taken ≡ half.session) (v : IsViewOf C old view) where
       pub offered_view : (reply : Answer) (event : Incoming) → taken ≡ Session.Begun reply (Some event) → C.offered new ≡ C.offered old ++ event ∷ [] → C.is_broken new ≡ C.is_broken old
@@ -286,10 +275,17 @@ module _ {scene : SessionScene} {was : LineState} {half : WebSocketHalf} {read :
 
       module _ (first : Bool) (event : Incoming) (is_first : first ≡ not (C.is_broken old)) (on_first : IsTrue first → C.offered new ≡ C.offered old ++ event ∷ []) (broken : C.is_broken new ≡ true)
           (got : C.got new ≡ C.got old) where
-        seen : view.broken ≡ None → IsViewOf C new (record view { offered = view.offered ++ event ∷ []; broken = Some ByInput })
-        seen none =
-            let unbroke : C.is_broken old ≡ false = sym v.1 ∙ ap is_some none in
-            (ap (λ (l : List Incoming). l ++ event ∷ []) v.0 ∙ sym (on_first (is_first ∙ ap not unbroke)), sym broken, v.2 ∙ sym got)
+        -- the disconnect is
+        left_on : (next : Session) → answer_of half.session ≡ answer_of next → rest_at half.session ≡ rest_at next → is_by_input view.broken ≡ false → view.offered ≡ session_events view.arrived
+            → event ≡ session_disconnect view.arrived → (has_close view.arrived ≡ true) ⊎ (is_over_at next ≡ true) → IsDue next (view.offered ++ event ∷ []) view.arrived true
+            → (later : ConnView Msg Output) × Invariant scene was (record half { session = next }) read later × IsViewOf C new later
+        left_on next answered rest unbroke all is_it why is_due =
+            let none : view.broken ≡ None = unbroken view.broken (runs is).0.uncut unbroke in
+            let open_yet : C.is_broken old ≡ false = sym v.1 ∙ ap is_some none in
+            let offered = ap (λ (l : List Incoming). l ++ event ∷ []) all ∙ ap (λ (e : Incoming). session_events view.arrived ++ e ∷ []) is_it in
+            let on = runs_on next (view.offered ++ event ∷ []) (Some ByInput) answered rest offered refl (λ e. why) is_due in
+            let seen = ap (λ (l : List Incoming). l ++ event ∷ []) v.0 ∙ sym (on_first (is_first ∙ ap not open_yet)) in
+            (record view { offered = view.offered ++ event ∷ []; broken = Some ByInput }, on, (seen, sym broken, v.2 ∙ sym got))
 
         -- the client has closed
         pub left_view : taken ≡ Session.Leaves event
@@ -297,8 +293,7 @@ module _ {scene : SessionScene} {was : LineState} {half : WebSocketHalf} {read :
         left_view leaves =
             let is_left : half.session ≡ Session.Leaves event = sym value ∙ leaves in
             let w = due_of (runs is).0 (Session.Leaves event) is_left in
-            let on = left_on (Session.Closed Client (Some drop_limit)) event (ap answer_of is_left) (ap rest_at is_left) w.0 w.1 w.3 (inl w.2) (refl, w.2) in
-            (record view { offered = view.offered ++ event ∷ []; broken = Some ByInput }, on.1, seen on.0)
+            left_on (Session.Closed Client (Some drop_limit)) (ap answer_of is_left) (ap rest_at is_left) w.0 w.1 w.3 (inl w.2) (refl, w.2)
 
         -- no message follows
         pub broken_view : taken ≡ Session.Breaks → event ≡ WsDisconnect 1006 [] → (next : Session) → next ≡ Session.Broken
@@ -306,9 +301,8 @@ module _ {scene : SessionScene} {was : LineState} {half : WebSocketHalf} {read :
         broken_view breaks is_it next after =
             let is_left : half.session ≡ Session.Breaks = sym value ∙ breaks in
             let w = due_of (runs is).0 Session.Breaks is_left in
-            let on = left_on Session.Broken event (ap answer_of is_left) (ap rest_at is_left) w.0 w.1 (is_it ∙ sym (none_is_heard view.arrived w.2)) (inr refl) (refl, w.2) in
-            let later : ConnView Msg Output = record view { offered = view.offered ++ event ∷ []; broken = Some ByInput } in
-            (later, subst (λ (s : Session). Invariant scene was (record half { session = s }) read later) (sym after) on.1, seen on.0)
+            subst (λ (s : Session). (later : ConnView Msg Output) × Invariant scene was (record half { session = s }) read later × IsViewOf C new later) (sym after)
+            (left_on Session.Broken (ap answer_of is_left) (ap rest_at is_left) w.0 w.1 (is_it ∙ sym (none_is_heard view.arrived w.2)) (inr refl) (refl, w.2))
 
 -- ---- the connection is cut short
 
