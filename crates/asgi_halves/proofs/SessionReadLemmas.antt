@@ -6,7 +6,7 @@ use Rattle.asgi_halves.proofs.SessionWords.{WebSocketHalf, WsAccept, WsReceive, 
 use Rattle.asgi_halves.proofs.SessionWords.{end_of, events_grow, events_in, exchange_of, failures_at, false, given_by, handshake_of, has_close, heard_by, inl, inr, is_by_input, is_end, is_over_at}
 use Rattle.asgi_halves.proofs.SessionWords.{is_over_with, lost_by, map, none_after, noted_by, open_closes, output, output_in, prefix_same, prefix_self, prefix_trans, read_after, reads_after_close}
 use Rattle.asgi_halves.proofs.SessionWords.{refl, rest_after, said_in, session_disconnect, session_events, session_outcome, spare_at, spare_with, subst, sym, taken_of, talk_in, talk_read}
-use Rattle.asgi_halves.proofs.SessionWords.{test_of_beginning, true, web_socket_is_steady, ℕ, ◌++◌, ◌+◌, ◌<◌, ◌||◌, ◌∙◌, ◌∷◌, ◌≡◌, ◌≤◌, ◌⊎◌}
+use Rattle.asgi_halves.proofs.SessionWords.{test_of_beginning, true, waiting, web_socket_is_steady, ℕ, ◌++◌, ◌+◌, ◌<◌, ◌||◌, ◌∙◌, ◌∷◌, ◌≡◌, ◌≤◌, ◌⊎◌}
 use Rattle.asgi_halves.proofs.SessionOfferLemmas.{Carries, at_stage, carrying, carrying_on, due_of, runs, talks_on}
 use Rattle.asgi_halves.proofs.{CallLemmas.closes_after}
 
@@ -96,6 +96,9 @@ module _ {scene : SessionScene} {was : LineState} {half : WebSocketHalf} {read :
   abbrev seen : Got → ConnView Msg Output
   seen answer = record view { arrived = view.arrived ++ given_by answer }
 
+  as_before : (later : ConnView Msg Output) → Invariant scene now (record half { session = Session.Begun Accepted None }) read later → Invariant scene now half read later
+  as_before later = subst (λ (s : Session). Invariant scene now (record half { session = s }) read later) (sym open_still)
+
   module _ (answer : Got) (call : HasRead was now answer) where
     -- no close was read, and none went out
     few : reads_after_close (x.line.carried.calls ++ Read answer ∷ []) ≡ 0
@@ -122,13 +125,6 @@ module _ {scene : SessionScene} {was : LineState} {half : WebSocketHalf} {read :
         (subst (λ (s : Stage). IsAt s scene (record half { session = next }) (seen answer)) (sym is)
         (talks_on t next half.stage (seen answer) refl (ap answer_of open_still ∙ answered) t.uncut is_due, (runs x is).1))
 
-    -- nothing is heard of it
-    stays_so : is_end answer ≡ false → session_events view.arrived ≡ session_events (view.arrived ++ given_by answer) → has_close (view.arrived ++ given_by answer) ≡ false
-        → Invariant scene now half read (seen answer)
-    stays_so on same unclosed =
-        subst (λ (s : Session). Invariant scene now (record half { session = s }) read (seen answer)) (sym open_still)
-        (goes_on (Session.Begun Accepted None) refl (sym on) (omega arith) (due_here.0, due_here.1 ∙ same, unclosed))
-
     -- no message follows
     lost : given_by answer ≡ [] → is_end answer ≡ true → Invariant scene now (lost_by half) read (seen answer)
     lost none ends =
@@ -139,35 +135,29 @@ module _ {scene : SessionScene} {was : LineState} {half : WebSocketHalf} {read :
     grown : view.offered ++ events_in message ≡ session_events (view.arrived ++ message ∷ [])
     grown = ap (λ (l : List Incoming). l ++ events_in message) all_offered ∙ sym (events_grow view.arrived message due_here.2)
 
-    after : has_close (view.arrived ++ message ∷ []) ≡ has_close (message ∷ [])
-    after = close_later view.arrived (message ∷ []) due_here.2
-
-    -- its event waits
-    waits : (event : Incoming) → events_in message ≡ event ∷ [] → has_close (message ∷ []) ≡ false
-        → Invariant scene now (record half { session = Session.Begun Accepted (Some event) }) read (seen (Got.Message message))
+    -- its event waits, if it has one
+    waits : (event : Option Incoming) → events_in message ≡ waiting event → has_close (message ∷ []) ≡ false
+        → Invariant scene now (record half { session = Session.Begun Accepted event }) read (seen (Got.Message message))
     waits event gives unclosed =
-        goes_on (Got.Message message) call (Session.Begun Accepted (Some event)) refl refl (omega arith)
-        (due_here.0, ap (λ (l : List Incoming). view.offered ++ l) (sym gives) ∙ grown, after ∙ unclosed)
-
-    passes_by : events_in message ≡ [] → has_close (message ∷ []) ≡ false → Invariant scene now half read (seen (Got.Message message))
-    passes_by none unclosed =
-        stays_so (Got.Message message) call refl (sym due_here.1 ∙ ap (λ (l : List Incoming). view.offered ++ l) (sym none) ∙ grown) (after ∙ unclosed)
+        goes_on (Got.Message message) call (Session.Begun Accepted event) refl refl (omega arith)
+        (due_here.0, ap (λ (l : List Incoming). view.offered ++ l) (sym gives) ∙ grown, close_later view.arrived (message ∷ []) due_here.2 ∙ unclosed)
 
   heard : (message : Msg) → HasRead was now (Got.Message message) → Invariant scene now (heard_by half message) read (seen (Got.Message message))
-  heard (Msg.Text text) call = waits (Msg.Text text) call (WsReceive (Payload.Text text)) refl refl
-  heard (Msg.Bytes bytes) call = waits (Msg.Bytes bytes) call (WsReceive (Payload.Bytes bytes)) refl refl
-  heard Msg.Ping call = passes_by Msg.Ping call refl refl
-  heard Msg.Pong call = passes_by Msg.Pong call refl refl
+  heard (Msg.Text text) call = waits (Msg.Text text) call (Some (WsReceive (Payload.Text text))) refl refl
+  heard (Msg.Bytes bytes) call = waits (Msg.Bytes bytes) call (Some (WsReceive (Payload.Bytes bytes))) refl refl
+  heard Msg.Ping call = as_before (seen (Got.Message Msg.Ping)) (waits Msg.Ping call None refl refl)
+  heard Msg.Pong call = as_before (seen (Got.Message Msg.Pong)) (waits Msg.Pong call None refl refl)
   heard (Msg.Close close) call =
       let message : Msg = Msg.Close close in
       goes_on (Got.Message message) call (Session.Leaves (disconnect_of (Some close))) refl refl (omega arith)
-      (due_here.0, sym (append-nil view.offered) ∙ grown message call, after message call, sym (close_is_heard view.arrived close due_here.2))
+      (due_here.0, sym (append-nil view.offered) ∙ grown message call, close_later view.arrived (message ∷ []) due_here.2, sym (close_is_heard view.arrived close due_here.2))
 
   noted : (answer : Got) → HasRead was now answer → Invariant scene now (noted_by half answer) read (seen answer)
   noted (Got.Message message) call = heard message call
   noted Got.Idle call =
       let same : view.arrived ++ [] ≡ view.arrived = append-nil view.arrived in
-      stays_so Got.Idle call refl (ap session_events (sym same)) (ap has_close same ∙ due_here.2)
+      as_before (seen Got.Idle)
+      (goes_on Got.Idle call (Session.Begun Accepted None) refl refl (omega arith) (due_here.0, due_here.1 ∙ ap session_events (sym same), ap has_close same ∙ due_here.2))
   noted Got.Ended call = lost Got.Ended call refl refl
   noted Got.Failed call = lost Got.Failed call refl refl
   noted Got.NoMemory call =

@@ -1,9 +1,9 @@
 -- The words that the lemmas of a session share.
 pub use Rattle.asgi_conversation.proofs.NextLemmas.{next_on}
-pub use Rattle.asgi_conversation.specs.{ExchangeRecord.Ending, ExchangeRecord.Saying, declared.following.NextStep.TheVariants.ConnectionEnds, declared.report.Outcome.Outcome}
+pub use Rattle.asgi_conversation.specs.{ExchangeRecord.Ending, ExchangeRecord.Saying, declared.following.NextStep.TheVariants.ConnectionEnds}
 pub use Rattle.asgi_conversation.specs.OutcomeClasses.{ByWrite, OutcomeClass, Unbegun, Uncut, class_of}
 pub use Rattle.asgi_conversation.specs.Sessions.{IsNextOutput, StopsSession, after_session, handshake_of, no_traffic, open_outcome, session_outcome}
-pub use Rattle.asgi_conversation.specs.declared.report.Outcome.TheVariants.{Finished, NoMemory, WriteFailed}
+pub use Rattle.asgi_conversation.specs.declared.report.Outcome.{Outcome, TheVariants.Finished, TheVariants.NoMemory, TheVariants.WriteFailed}
 pub use Rattle.asgi_exchange.proofs.EventLemmas.{end_ended, end_event, events_append}
 pub use Rattle.asgi_exchange.proofs.ListLemmas.{prefix_same, prefix_self, prefix_trans}
 pub use Rattle.asgi_exchange.proofs.MessageLemmas.{close_is_heard, events_grow, none_is_heard}
@@ -18,7 +18,7 @@ pub use Rattle.asgi_halves.proofs.LineCallLemmas.{HasRead, HasSent, HasUpgraded,
 pub use Rattle.asgi_halves.specs.{Half.failures_at, Kinds.IsCutOff, Kinds.IsOpen, Kinds.PreservesAlone, Traffic.drop_limit, Traffic.failures_of, Traffic.is_end, declared.wire.Wire.Wire}
 pub use Rattle.asgi_halves.specs.WebSocketHalf.{CarriesOn, EndsByTask, Invariant, IsAccept, IsAt, IsCarried, IsCarrying, IsCutShort, IsCutShortAs, IsDenial, IsDue, IsOf, IsSilent, IsUnended, MayDrop}
 pub use Rattle.asgi_halves.specs.WebSocketHalf.{OpensSession, PreservesByLine, SessionScene, Speaks, Talks, answer_of, answer_to, answered_with, exchange_of, heard_by, is_over_at, is_over_with, known}
-pub use Rattle.asgi_halves.specs.WebSocketHalf.{lost_by, noted_by, outcome_of, output_in, rest_after, rest_at, said_in, spare_at, spare_with, stage_of, talk_in}
+pub use Rattle.asgi_halves.specs.WebSocketHalf.{lost_by, noted_by, outcome_of, output_in, rest_after, rest_at, said_in, spare_at, spare_with, stage_of, talk_in, waiting}
 pub use Rattle.asgi_halves.specs.declared.session_half.{Answered.Answered, Session.Session, Side.Side, Side.TheVariants.Application, Side.TheVariants.Client, WebSocketHalf.WebSocketHalf}
 pub use Rattle.asgi_halves.specs.declared.session_half.Answer.{Answer, TheVariants.Accepted, TheVariants.Awaited}
 pub use Rattle.asgi_halves.specs.declared.session_half.Answered.TheVariants.{Closed, Open, Unanswered}
@@ -27,9 +27,9 @@ pub use Rattle.asgi_pipes.specs.declared.{ends.ConnEnd.Ghosts as ConnGhosts, ite
 pub use Rattle.asgi_protocol.proofs.PassingLemmas.{is_passed}
 pub use Rattle.asgi_protocol.proofs.RowLemmas.{both, both_true, either, either_first, either_second}
 pub use Rattle.asgi_protocol.proofs.WordLemmas.{test_of_beginning}
-pub use Rattle.asgi_protocol.specs.{Lawful.IsLawful, Passing.is_pass, Passing.passes, Stages.StandsFor as JudgeStandsFor, declared.judge.Judge.Judge, declared.verdict.Verdict.Verdict}
+pub use Rattle.asgi_protocol.specs.{Lawful.IsLawful, Passing.is_pass, Passing.passes, Stages.StandsFor as JudgeStandsFor, Verdicts.lines_on, Verdicts.verdict_on}
 pub use Rattle.asgi_protocol.specs.Shapes.{begins_row, goes_on, is_close, is_closed, is_denial_part, is_empty, is_last_denial_part, is_message, is_of, is_row}
-pub use Rattle.asgi_protocol.specs.Verdicts.{lines_on, verdict_on}
+pub use Rattle.asgi_protocol.specs.declared.{judge.Judge.Judge, verdict.Verdict.Verdict}
 pub use Rattle.asgi_response.proofs.DenialLemmas.{is_lawful_response}
 pub use Rattle.asgi_response.proofs.LawfulLemmas.{lawful_is_accepted}
 pub use Rattle.asgi_response.specs.{Denial.as_response, Denial.closing_facts, Denial.denial_progress, Denial.denial_text, Exchange.refusal_text, Progress.progress_in, Standing.Grows}
