@@ -21,12 +21,12 @@ record IsDenied (handshake : Handshake) (facts : Facts) (said : List Outgoing) :
 goes_on_denying : (handshake : Handshake) (facts : Facts) (said : List Outgoing) (event : Outgoing) → IsDenial event → passes WebSocket facts said event ≡ true
     → IsDenied handshake facts said × IsDenied handshake facts (said ++ event ∷ [])
 goes_on_denying handshake facts said (DenialStart status headers) d pass =
-    let first = is_first said (DenialStart status headers) refl refl refl refl (goes facts said (DenialStart status headers) pass) in
-    subst (λ (l : List Outgoing). IsDenied handshake facts l × IsDenied handshake facts (l ++ DenialStart status headers ∷ [])) (sym first)
+    subst (λ (l : List Outgoing). IsDenied handshake facts l × IsDenied handshake facts (l ++ DenialStart status headers ∷ []))
+    (sym (is_first said (DenialStart status headers) refl refl refl refl (goes facts said (DenialStart status headers) pass)))
     (record { answer = refl; text = refl }, record { answer = refl; text = refl })
 goes_on_denying handshake facts said (DenialBody body more_body) d pass =
-    let s = body_follows said body more_body (goes facts said (DenialBody body more_body) pass) in
-    subst (λ (l : List Outgoing). IsDenied handshake facts l × IsDenied handshake facts (l ++ DenialBody body more_body ∷ [])) (sym s.3)
+    subst (λ (l : List Outgoing). IsDenied handshake facts l × IsDenied handshake facts (l ++ DenialBody body more_body ∷ []))
+    (sym (body_follows said body more_body (goes facts said (DenialBody body more_body) pass)).3)
     (record { answer = refl; text = refl }, record { answer = refl; text = refl })
 goes_on_denying handshake facts said _ d pass = absurd d
 

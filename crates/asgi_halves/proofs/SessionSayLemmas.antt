@@ -222,7 +222,8 @@ module _ {scene : SessionScene} {was : LineState} {old : WebSocketHalf} {read : 
   a = accept_of event accepts
 
   none_before : said_in scene view ≡ []
-  none_before = is_first (said_in scene view) (WsAccept a.0 a.1) refl refl refl refl
+  none_before =
+      is_first (said_in scene view) (WsAccept a.0 a.1) refl refl refl refl
       (subst (λ (e : Outgoing). goes_on WebSocket (said_in scene view) e ≡ true) a.2 (goes scene.facts (said_in scene view) event p.pass))
 
   not_answered : answer_of old.session ≡ Unanswered
