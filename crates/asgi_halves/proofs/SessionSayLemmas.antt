@@ -1,11 +1,11 @@
 -- An event is sent that the judge has passed: if the invariant of the half held, it holds again.
-use Rattle.asgi_halves.proofs.SessionWords.{Answer, Answered, Application, Awaited, Bool, Byte, Closed, ConnView, Cut, EndKind, Event, Facts, Global, HasPut, HasSent, HasUpgraded, HeaderField}
-use Rattle.asgi_halves.proofs.SessionWords.{Incoming, Invariant, IsAccept, IsAt, IsCarrying, IsDue, Judge, JudgeStandsFor, LineState, List, Message, Msg, NoMemory, None, Open, Option, Outgoing}
-use Rattle.asgi_halves.proofs.SessionWords.{Output, Payload, Put, ResponseText, Running, Saying, SentMessage, Session, SessionScene, Some, Stage, StandsForSession, Talks, Unanswered, Vec, WebSocket}
-use Rattle.asgi_halves.proofs.SessionWords.{WebSocketHalf, WriteFailed, WsAccept, WsClose, WsSend, [], accept_text, accepted_session, added_by, answer_of, answer_to, answered_with, ap, append-nil}
-use Rattle.asgi_halves.proofs.SessionWords.{as_text, end_event, end_of, event_adds, event_output, events_append, exchange_of, failures_at, failures_by, false, goes_on, handshake_of, if◌then◌else◌}
-use Rattle.asgi_halves.proofs.SessionWords.{inl, inr, is_by_input, is_closed, length, map, output_in, output_of, passes, refl, refusal_text, rest_at, said_in, session_output, spare_at, stage_of}
-use Rattle.asgi_halves.proofs.SessionWords.{subst, sym, take, taken_of, talk_in, talk_upgraded, true, ℕ, ◌++◌, ◌<◌, ◌∙◌, ◌∷◌, ◌≡◌, ◌≢◌, ◌⊎◌}
+use Rattle.asgi_halves.proofs.SessionWords.{Answer, Answered, Application, Awaited, Bool, Byte, Closed, ConnKeeps, ConnView, Cut, EndKind, Event, Facts, Global, HasPut, HasSent, HasUpgraded}
+use Rattle.asgi_halves.proofs.SessionWords.{HeaderField, Incoming, Invariant, IsAccept, IsAt, IsCarrying, IsDue, Judge, JudgeStandsFor, LineState, List, Message, Msg, NoMemory, None, Open, Option}
+use Rattle.asgi_halves.proofs.SessionWords.{Outgoing, Output, Payload, Put, ResponseText, Running, Saying, SentMessage, Session, SessionScene, Some, Stage, StandsForSession, Talks, Unanswered, Vec}
+use Rattle.asgi_halves.proofs.SessionWords.{WebSocket, WebSocketHalf, WriteFailed, WsAccept, WsClose, WsSend, [], accept_text, accepted_session, added_by, answer_of, answer_to, answered_with, ap}
+use Rattle.asgi_halves.proofs.SessionWords.{append-nil, as_text, end_event, end_of, event_adds, event_output, events_append, exchange_of, failures_at, failures_by, false, goes_on, handshake_of}
+use Rattle.asgi_halves.proofs.SessionWords.{if◌then◌else◌, inl, inr, is_by_input, is_closed, length, map, output_in, output_of, passes, refl, refusal_text, rest_at, said_in, session_output, spare_at}
+use Rattle.asgi_halves.proofs.SessionWords.{stage_of, subst, sym, take, taken_of, talk_in, talk_upgraded, true, ℕ, ◌++◌, ◌<◌, ◌∙◌, ◌∷◌, ◌≡◌, ◌≢◌, ◌⊎◌}
 use Rattle.asgi_halves.proofs.SessionOfferLemmas.{Adds, Carries, IsSent, Passed, apart, carried_at, carrying, goes_out, message_out, runs, same_answer, stands_at, text_cut, text_out, text_passed}
 use Rattle.asgi_halves.proofs.SessionPassLemmas.{IsAccepted, accepted_more, close_follows, closed_after_close, goes, is_first, message_follows, not_closed, open_after_send, open_is_accepted}
 
@@ -135,11 +135,9 @@ module _ {scene : SessionScene} {was : LineState} {old : WebSocketHalf} {read : 
   module _ (unanswered : answer_of old.session ≡ Unanswered) where
     -- there is no memory for it
     pub text_short : (text : ResponseText) (out : Vec ℕ Global) → Holds was (denial text out (Cut NoMemory))
-    text_short text out = (
-      view.written,
-      stands_at p.held (denial text out (Cut NoMemory)) taken refl refl refl (ap failures_at p.running) adding.said (record { offered = p.held.keeps.offered; written = (adds, sym adding.all) })
-          p.held.breaks (adding.short, still_open),
-    )
+    text_short text out =
+        let keeps : ConnKeeps (exchange_of scene) taken = record { offered = p.held.keeps.offered; written = (adds, sym adding.all) } in
+        (view.written, stands_at p.held (denial text out (Cut NoMemory)) taken refl refl refl (ap failures_at p.running) adding.said keeps p.held.breaks (adding.short, still_open))
 
     module _ (more : List ℕ) (adds_it : adds ≡ map Byte more) (now : LineState) (text : ResponseText) (out : Vec ℕ Global) (next : Session) (same : rest_at old.session ≡ rest_at next) where
       -- its first n bytes went out
