@@ -180,12 +180,8 @@ record Own (half : WebSocketHalf) (code : ℕ) : Type 0 where
   follows : (said : List Outgoing) (input_broke : Bool) (received : List Msg) → after_session ended said input_broke received ≡ session_outcome said input_broke received
 
 own : (half : WebSocketHalf) (code : ℕ) → EndsWith half code → Own half code
-own half code (inl (is, e)) =
-    let adds = λ (facts : Facts) (events : List Outgoing) (broken : Bool). ap (λ (c : ℕ). ending_of c broken (accepted_session facts events)) (sym e) in
-    record { ended = EndKind.Returned; at = is; adds = adds; follows = λ said input_broke received. refl }
-own half code (inr (is, e)) =
-    let adds = λ (facts : Facts) (events : List Outgoing) (broken : Bool). ap (λ (c : ℕ). ending_of c broken (accepted_session facts events)) (sym e) in
-    record { ended = EndKind.Faulted; at = is; adds = adds; follows = λ said input_broke received. refl }
+own half code (inl (is, e)) = record { ended = EndKind.Returned; at = is; adds = λ facts events broken. rw e refl; follows = λ said input_broke received. refl }
+own half code (inr (is, e)) = record { ended = EndKind.Faulted; at = is; adds = λ facts events broken. rw e refl; follows = λ said input_broke received. refl }
 
 module _ {scene : SessionScene} {was : LineState} {half : WebSocketHalf} {read : List ℕ} {view : ConnView Msg Output} (x : Invariant scene was half read view) where
   -- a limit of turns ended it
@@ -277,6 +273,5 @@ module _ {scene : SessionScene} {was : LineState} {half : WebSocketHalf} {read :
           → HasSent was now (SentMessage.Close code reason) answer → (out : Outcome) → out ≡ outcome_of answer → Goes scene now (closes_so half left out) read view
       closed_last stays left left_is reason none now answer sent out is =
           let unbroke : broke ≡ false = unbroken_in half.session refl stays in
-          subst (λ (q : Outcome). Goes scene now (closes_so half left q) read view) (sym is)
-          (close_out x o.ended o.at opened left left_is (SentMessage.Close code []) (adds_by false unbroke) now answer
+          rw is (close_out x o.ended o.at opened left left_is (SentMessage.Close code []) (adds_by false unbroke) now answer
           (subst (λ (r : List ℕ). HasSent was now (SentMessage.Close code r) answer) none sent) (follows_by false unbroke))

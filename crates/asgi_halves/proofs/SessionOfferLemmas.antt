@@ -57,10 +57,8 @@ apart state (inr is) (inr e) = cc
 
 pub carrying : (scene : SessionScene) (half : WebSocketHalf) (view : ConnView Msg Output) (text : List ℕ) (leftover : Option (List ℕ)) (handed : List SentMessage) (state : Answered) → Carries state
     → IsCarried state scene half view text leftover handed ↔ IsCarrying scene view text leftover
-carrying scene half view text leftover handed state (inl is) =
-    subst (λ (a : Answered). IsCarried a scene half view text leftover handed ↔ IsCarrying scene view text leftover) (sym is) ((λ c. c), (λ c. c))
-carrying scene half view text leftover handed state (inr is) =
-    subst (λ (a : Answered). IsCarried a scene half view text leftover handed ↔ IsCarrying scene view text leftover) (sym is) ((λ c. c), (λ c. c))
+carrying scene half view text leftover handed state (inl is) = rw is ((λ c. c), (λ c. c))
+carrying scene half view text leftover handed state (inr is) = rw is ((λ c. c), (λ c. c))
 
 pub carrying_on : {scene : SessionScene} {view : ConnView Msg Output} {text : List ℕ} {leftover : Option (List ℕ)} → IsCarrying scene view text leftover → (seen : ConnView Msg Output)
     → IsPrefix (said_in scene view) (said_in scene seen) → IsCarrying scene seen text leftover
@@ -270,8 +268,7 @@ module _ {scene : SessionScene} {was : LineState} {half : WebSocketHalf} {read :
       -- nothing is due, or no place is free
       pub none_view : (next : Session) → taken ≡ next → C.offered new ≡ C.offered old → C.is_broken new ≡ C.is_broken old → C.got new ≡ C.got old
           → (later : ConnView Msg Output) × Invariant scene was (record half { session = next }) read later × IsViewOf C new later
-      none_view next none offered broken got =
-          (view, subst (λ (s : Session). Invariant scene was (record half { session = s }) read view) (sym value ∙ none) x, (v.0 ∙ sym offered, v.1 ∙ sym broken, v.2 ∙ sym got))
+      none_view next none offered broken got = (view, rw (sym none ∙ value) x, (v.0 ∙ sym offered, v.1 ∙ sym broken, v.2 ∙ sym got))
 
       module _ (first : Bool) (event : Incoming) (is_first : first ≡ not (C.is_broken old)) (on_first : IsTrue first → C.offered new ≡ C.offered old ++ event ∷ []) (broken : C.is_broken new ≡ true)
           (got : C.got new ≡ C.got old) where
@@ -301,8 +298,7 @@ module _ {scene : SessionScene} {was : LineState} {half : WebSocketHalf} {read :
         broken_view breaks is_it next after =
             let is_left : half.session ≡ Session.Breaks = sym value ∙ breaks in
             let w = due_of (runs is).0 Session.Breaks is_left in
-            subst (λ (s : Session). (later : ConnView Msg Output) × Invariant scene was (record half { session = s }) read later × IsViewOf C new later) (sym after)
-            (left_on Session.Broken (ap answer_of is_left) (ap rest_at is_left) w.0 w.1 (is_it ∙ sym (none_is_heard view.arrived w.2)) (inr refl) (refl, w.2))
+            rw after (left_on Session.Broken (ap answer_of is_left) (ap rest_at is_left) w.0 w.1 (is_it ∙ sym (none_is_heard view.arrived w.2)) (inr refl) (refl, w.2))
 
 -- ---- the connection is cut short
 
@@ -320,23 +316,20 @@ module _ {scene : SessionScene} {was : LineState} {half : WebSocketHalf} {read :
       → ((v : ConnView Msg Output) → IsCutShort scene v out → v.got ≡ view.got → IsAt s scene (record half { stage = s }) v)
       → (later : ConnView Msg Output) → IsCutOff (WsDisconnect 1006 []) view later → Invariant scene was (record half { stage = s }) read later
   stands_cut out s failures short at later (inl e) =
-      subst (λ (v : ConnView Msg Output). Invariant scene was (record half { stage = s }) read v) (sym e)
-      (stands_at x (record half { stage = s }) view refl refl refl failures (prefix_self (said_in scene view)) x.keeps x.breaks (at view short refl))
+      rw e (stands_at x (record half { stage = s }) view refl refl refl failures (prefix_self (said_in scene view)) x.keeps x.breaks (at view short refl))
   stands_cut out s failures short at later (inr (none, e)) =
       let cut : ConnView Msg Output = record view { offered = view.offered ++ WsDisconnect 1006 [] ∷ []; broken = Some ByCut } in
       let keeps : ConnKeeps (exchange_of scene) cut =
       record { offered = (view.offered, subst (λ (b : Option Break). IsOffered (exchange_of scene) view.arrived view.offered b) none x.keeps.offered, refl); written = x.keeps.written } in
       let still = cut_on scene view cut (λ n. subst (λ (b : Bool). StopsSession n (record (known scene view) { input_broke = b }) view.written) (ap is_by_input none)) (λ p. p) (class_of out) short in
-      subst (λ (v : ConnView Msg Output). Invariant scene was (record half { stage = s }) read v) (sym e)
-      (stands_at x (record half { stage = s }) cut refl refl refl failures (prefix_self (said_in scene view)) keeps (λ b. cc) (at cut still refl))
+      rw e (stands_at x (record half { stage = s }) cut refl refl refl failures (prefix_self (said_in scene view)) keeps (λ b. cc) (at cut still refl))
 
   -- the exchange is given up when all that was taken is written
   pub stops : (out : Outcome) → out ≡ Outcome.Idle → (later : ConnView Msg Output) → IsOpen half.stage → IsCutOff (WsDisconnect 1006 []) view later
       → Invariant scene was (record half { stage = Over (ConnectionEnds out) }) read later
   stops out idle later goes_on off =
       let t = by half.stage refl goes_on in
-      subst (λ (o : Outcome). Invariant scene was (record half { stage = Over (ConnectionEnds o) }) read later) (sym idle)
-      (stands_cut Outcome.Idle (Over (ConnectionEnds Outcome.Idle)) t.1 ([], append-nil view.written ∙ t.0.written) (λ v s e. inr s) later off)
+      rw idle (stands_cut Outcome.Idle (Over (ConnectionEnds Outcome.Idle)) t.1 ([], append-nil view.written ∙ t.0.written) (λ v s e. inr s) later off)
     where
       by : (s : Stage) → half.stage ≡ s → IsOpen s → Talks scene half view × (failures_at half.stage ≡ 0)
       by Running is goes_on = ((at_stage x Running is).0, ap failures_at is)

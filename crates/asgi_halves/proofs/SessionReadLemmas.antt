@@ -166,11 +166,7 @@ module _ {scene : SessionScene} {was : LineState} {half : WebSocketHalf} {read :
 
 pub leads_noted : (was now : LineState) (half : WebSocketHalf) → half.stage ≡ Running → half.session ≡ Session.Begun Accepted None → (answer : Got) → HasRead was now answer
     → (later : WebSocketHalf) → later ≡ noted_by half answer → PreservesByLine was half now later
-leads_noted was now half is open_still answer call later same scene read view x = (
-  view.arrived ++ given_by answer,
-  view.written,
-  subst (λ (h : WebSocketHalf). Invariant scene now h read (record view { arrived = view.arrived ++ given_by answer })) (sym same) (noted x now is open_still answer call),
-)
+leads_noted was now half is open_still answer call later same scene read view x = (view.arrived ++ given_by answer, view.written, rw same (noted x now is open_still answer call))
 
 -- ---- it is dropped
 
@@ -230,11 +226,7 @@ module _ (was now : LineState) (half : WebSocketHalf) (may : MayDrop half.stage)
         less.0 (omega (arith, read_after x.line.carried.calls answer, subst (λ (s : Session). reads_after_close x.line.carried.calls + spare_at s ≤ drop_limit) is x.line.within, less.1)) s.1
 
   pub leads_dropped : (later : WebSocketHalf) → later ≡ record half { session = Session.Closed side (rest_after spare answer) } → PreservesByLine was half now later
-  leads_dropped later same scene read view x = (
-    view.arrived ++ given_by answer,
-    view.written,
-    subst (λ (h : WebSocketHalf). Invariant scene now h read (record view { arrived = view.arrived ++ given_by answer })) (sym same) (dropped x),
-  )
+  leads_dropped later same scene read view x = (view.arrived ++ given_by answer, view.written, rw same (dropped x))
 
 -- ---- one step after the other
 
@@ -251,5 +243,4 @@ out_then was mid now old half new first second scene read view x =
 pub alone : (was now : LineState) (old new : WebSocketHalf) → PreservesByLine was old now new → PreservesAlone Invariant was old now new
 alone was now old new on scene read view x =
     let y = on scene read view x in
-    let later : ConnView Msg Output = record view { arrived = y.0; written = y.1 } in
-    ([], y.0, y.1, subst (λ (l : List ℕ). Invariant scene now new l later) (sym (append-nil read)) y.2)
+    ([], y.0, y.1, rw append-nil y.2)

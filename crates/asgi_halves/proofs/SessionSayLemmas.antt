@@ -121,8 +121,7 @@ module _ {scene : SessionScene} {was : LineState} {old : WebSocketHalf} {read : 
       → Carries (answer_of next) → rest_at old.session ≡ rest_at next → answer_to (said_in scene view ++ event ∷ []) ≡ answer_of next → IsDue next view.offered view.arrived (is_by_input view.broken)
       → (s : Stage) → s ≡ stage_of answer → Holds now (after next s)
   handed_over opened now message adds_it answer sent next carries same becomes is_due s is =
-      subst (λ (s : Stage). Holds now (after next s)) (sym is)
-      (message_out p.held (ap failures_at p.running) adding now opened message adds_it answer sent (after next (stage_of answer)) same carries (fails_as answer) (by answer))
+      rw is (message_out p.held (ap failures_at p.running) adding now opened message adds_it answer sent (after next (stage_of answer)) same carries (fails_as answer) (by answer))
     where
       by : (put : Put) (written : List Output) → IsSent put scene (record taken { written = written }) (view.written ++ adds)
           → IsAt (stage_of put) scene (after next (stage_of put)) (record taken { written = written })
@@ -199,14 +198,12 @@ module _ {scene : SessionScene} {was : LineState} {old : WebSocketHalf} {read : 
 
     pub refused_whole : HasPut was now text 0 → Holds p now new
     refused_whole put =
-        subst (λ (h : WebSocketHalf). Holds p now h) (sym same)
-        (all_out p unanswered_yet text adds_refusal now old.text old.wire.out (answered_with Answer.Refused old.session) besides.0 (inr refused) (before p).0.empty
+        rw same (all_out p unanswered_yet text adds_refusal now old.text old.wire.out (answered_with Answer.Refused old.session) besides.0 (inr refused) (before p).0.empty
         (ap (λ (l : List Outgoing). answer_to (l ++ WsClose code reason ∷ [])) unsaid ∙ sym refused) (λ e. absurd (cc (sym refused ∙ e))) besides.1 put)
 
     pub refused_part : (n : ℕ) → n < length text → HasPut was now (take n text) 1 → Holds p now (record new { stage = Cut (WriteFailed n) })
     refused_part n less put =
-        subst (λ (h : WebSocketHalf). Holds p now (record h { stage = Cut (WriteFailed n) })) (sym same)
-        (cut_off p unanswered_yet text adds_refusal now old.text old.wire.out (answered_with Answer.Refused old.session) besides.0 (inr refused) n less put)
+        rw same (cut_off p unanswered_yet text adds_refusal now old.text old.wire.out (answered_with Answer.Refused old.session) besides.0 (inr refused) n less put)
 
 -- ---- an accept
 

@@ -61,9 +61,7 @@ module _ {scene : SessionScene} {now : LineState} {half : WebSocketHalf} {read :
 
     pub not_passed : (after : Judge) → (answer ≡ Verdict.Pass → ⊥) → (answer ≢ Verdict.Pass → after ≡ half.judge)
         → (written : List Output) × Invariant scene now (record half { judge = after }) read (record view { got = view.got ++ Event event ∷ []; written = written })
-    not_passed after fails kept =
-        subst (λ (j : Judge). (written : List Output) × Invariant scene now (record half { judge = j }) read (record view { got = view.got ++ Event event ∷ []; written = written })) (sym (kept fails))
-        (view.written, unsaid event (ap is_pass (sym verdict_is) ∙ no_pass answer fails))
+    not_passed after fails kept = rw (kept fails) (view.written, unsaid event (ap is_pass (sym verdict_is) ∙ no_pass answer fails))
 
     pub passed : answer ≡ Verdict.Pass → passes WebSocket scene.facts (said_in scene view) event ≡ true
     passed pass = ap is_pass (sym verdict_is ∙ pass)

@@ -1,5 +1,4 @@
-use Rattle.asgi_halves.proofs.SessionReadLemmas.{out_none, out_then}
-use Rattle.asgi_halves.proofs.SessionWords.{MayDrop, Stage, refl, subst, sym, ◌∙◌}
+use Rattle.asgi_halves.proofs.{SessionReadLemmas.out_none, SessionReadLemmas.out_then, SessionWords.refl, SessionWords.◌∙◌}
 use Rattle.asgi_halves.proofs.session_half.WebSocketHalf.drop_rest.Goals as goal
 
 pub loop-read-init : goal.loop-read-init
@@ -14,6 +13,6 @@ loop-read-preserved g c = record {
   leads =
       out_then (g.L.Line.state c.args.line.now) (g.L.Line.state c.loop-read.line) (g.L.Line.state c.drop_one-turn.new.line)
       c.args.self.now c.loop-read.self c.drop_one-turn.new.self c.loop-read.invariant.leads c.drop_one-turn.ensures.leads;
-  may = subst (λ (s : Stage). MayDrop s) (sym c.drop_one-turn.ensures.stage) c.loop-read.invariant.may;
+  may = rw c.drop_one-turn.ensures.stage c.loop-read.invariant.may;
   stage = c.drop_one-turn.ensures.stage ∙ c.loop-read.invariant.stage;
 }
