@@ -6,7 +6,6 @@ pub mod FramesLemmas
 pub mod SessionPassLemmas
 pub mod SessionSayLemmas
 pub mod SessionTakeLemmas
-pub mod SessionDenyLemmas
 pub mod SessionEndLemmas
 pub mod SessionReadLemmas
 pub mod ReadAheadLemmas

@@ -1,5 +1,5 @@
-use Rattle.asgi_halves.proofs.{SessionSayLemmas.passed_so, SessionWords.refl, SessionWords.said_in, SessionWords.sym, SessionWords.tries_front, SessionWords.◌∙◌}
-use Rattle.asgi_halves.proofs.SessionDenyLemmas.{denied_part, denied_short, denied_whole, from_ok, text_before}
+use Rattle.asgi_halves.proofs.SessionSayLemmas.{denied_part, denied_short, denied_whole, from_ok, passed_so, text_before}
+use Rattle.asgi_halves.proofs.SessionWords.{refl, said_in, sym, tries_front, ◌∙◌}
 use Rattle.asgi_halves.proofs.session_half.WebSocketHalf.deny.Goals as goal
 
 pub returns-then-is_err-clause-speaks : goal.returns-then-is_err-clause-speaks
