@@ -4,7 +4,7 @@ use Rattle.asgi_halves.proofs.SessionWords.{Invariant, IsAt, IsLawful, IsUnended
 use Rattle.asgi_halves.proofs.SessionWords.{SessionScene, Side, Some, Stage, StandsForSession, Talks, Unanswered, WebSocket, WebSocketHalf, WriteFailed, WsAccept, WsClose, [], accepted_session}
 use Rattle.asgi_halves.proofs.SessionWords.{added_by, after_session, answer_of, answer_to, ap, append-nil, as_response, closing_facts, denial_progress, end_of, ending_after, ending_of, exchange_of}
 use Rattle.asgi_halves.proofs.SessionWords.{failures_at, failures_by, failures_of, false, handshake_of, has_close, if◌then◌else◌, inl, inr, is_by_input, is_closed, is_lawful_response}
-use Rattle.asgi_halves.proofs.SessionWords.{lawful_is_accepted, length, map, open_outcome, outcome_of, output_in, prefix_same, prefix_self, progress_in, refl, refusal_text, rest_at, said_in}
+use Rattle.asgi_halves.proofs.SessionWords.{lawful_is_accepted, length, map, open_outcome, outcome_of, output, output_in, prefix_same, prefix_self, progress_in, refl, refusal_text, rest_at, said_in}
 use Rattle.asgi_halves.proofs.SessionWords.{session_ending, session_outcome, session_text, subst, sym, take, taken_of, test_of_beginning, true, ℕ, ◌++◌, ◌<◌, ◌∙◌, ◌∷◌, ◌≡◌, ◌⊎◌}
 use Rattle.asgi_halves.proofs.SessionOfferLemmas.{Adds, Carries, IsSent, apart, at_stage, due_of, message_out, stands_at, text_cut, text_out}
 use Rattle.asgi_response.specs.{Progress.closes_after}
@@ -113,15 +113,12 @@ module _ {scene : SessionScene} {was : LineState} {half : WebSocketHalf} {read :
   follows_so out = after_session ended (said_in scene view) (is_by_input view.broken) view.arrived ≡ out
 
   adding : Adds scene view view.got adds
-  adding = record {
-    said = prefix_self (said_in scene view);
-    all =
-        ap (λ (o : Option EndKind). output_in scene view ++ added_by (exchange_of scene) (taken_of view) o view.broken_first view.arrived) at_end.1
-        ∙ (ap (λ (b : Bool). output_in scene view ++ session_ending scene.facts (taken_of view) ended b) at_end.2
-        ∙ ap (λ (l : List Output). l ++ adds) (sym at_end.0.written));
-    next = Ending ended at_end.1 at_end.0.written refl;
-    short = prefix_same view.written (output_in scene view) at_end.0.written;
-  }
+  adding =
+      let all : output (exchange_of scene) view ≡ view.written ++ adds =
+      ap (λ (o : Option EndKind). output_in scene view ++ added_by (exchange_of scene) (taken_of view) o view.broken_first view.arrived) at_end.1
+      ∙ (ap (λ (b : Bool). output_in scene view ++ session_ending scene.facts (taken_of view) ended b) at_end.2 ∙ ap (λ (l : List Output). l ++ adds) (sym at_end.0.written)) in
+      let short = prefix_same view.written (output_in scene view) at_end.0.written in
+      record { said = prefix_self (said_in scene view); all = all; next = Ending ended at_end.1 at_end.0.written refl; short = short }
 
   by_task : (out : Outcome) (written : List Output) → follows_so out → written ≡ view.written ++ adds → EndsByTask scene (record view { written = written }) out
   by_task out written follows gone =
@@ -217,17 +214,13 @@ module _ {scene : SessionScene} {was : LineState} {half : WebSocketHalf} {read :
       so_far = is_progress scene.facts (said_in scene view) (talks.text unanswered)
 
       pub ends_denied : (progress ≡ Progress.Nothing → ⊥) → Goes scene was (ends_so half Outcome.Finished) read view
-      ends_denied begun = elim (denied_or_none scene.facts (said_in scene view) talks.judged.lawful (sym talks.answered ∙ unanswered)) [
-        | inl none ↦ absurd (begun (so_far ∙ none.0))
-        | inr denied ↦ well denied.1
-      ]
+      ends_denied begun =
+          elim (denied_or_none scene.facts (said_in scene view) talks.judged.lawful (sym talks.answered ∙ unanswered)) [ inl none ↦ absurd (begun (so_far ∙ none.0)) | inr denied ↦ well denied.1 ]
 
       module _ (nothing : progress ≡ Progress.Nothing) (text : List ℕ) (text_is : text ≡ refusal_text 500) (now : LineState) where
         little : EndsRefused (said_in scene view)
-        little = elim (denied_or_none scene.facts (said_in scene view) talks.judged.lawful (sym talks.answered ∙ unanswered)) [
-          | inl none ↦ none.1
-          | inr denied ↦ absurd (denied.0 (sym so_far ∙ nothing))
-        ]
+        little =
+            elim (denied_or_none scene.facts (said_in scene view) talks.judged.lawful (sym talks.answered ∙ unanswered)) [ inl none ↦ none.1 | inr denied ↦ absurd (denied.0 (sym so_far ∙ nothing)) ]
 
         adds_refusal : session_ending scene.facts (taken_of view) o.ended broke ≡ map Byte text
         adds_refusal = o.adds scene.facts (taken_of view) broke ∙ (little.adds code broke ∙ ap (λ (l : List ℕ). map Byte l) (sym text_is))

@@ -73,15 +73,12 @@ module _ {scene : SessionScene} {half : WebSocketHalf} {view : ConnView Msg Outp
   -- nothing more is sent
   pub talks_on : (next : Session) (s : Stage) (seen : ConnView Msg Output) → said_in scene seen ≡ said_in scene view → answer_of half.session ≡ answer_of next → is_by_cut seen.broken ≡ false
       → IsDue next seen.offered seen.arrived (is_by_input seen.broken) → Talks scene (record half { session = next; stage = s }) (record seen { written = view.written })
-  talks_on next s seen same answered uncut is_due = record {
-    uncut = uncut;
-    due = is_due;
-    judged = subst (λ (l : List Outgoing). JudgeStandsFor half.judge WebSocket scene.facts l false) (sym same) t.judged;
-    answered = sym answered ∙ (t.answered ∙ ap answer_to (sym same));
-    text = λ e. subst (λ (l : List Outgoing). StandsForSession half.text scene.facts l) (sym same) (t.text (answered ∙ e));
-    written = t.written ∙ ap (output_of (handshake_of scene.facts) scene.facts) (sym same);
-    empty = t.empty;
-  }
+  talks_on next s seen same answered uncut is_due =
+      let judged = subst (λ (l : List Outgoing). JudgeStandsFor half.judge WebSocket scene.facts l false) (sym same) t.judged in
+      let text = λ (e : answer_of next ≡ Unanswered). subst (λ (l : List Outgoing). StandsForSession half.text scene.facts l) (sym same) (t.text (answered ∙ e)) in
+      let answers = sym answered ∙ (t.answered ∙ ap answer_to (sym same)) in
+      let written = t.written ∙ ap (output_of (handshake_of scene.facts) scene.facts) (sym same) in
+      record { uncut = uncut; due = is_due; judged = judged; answered = answers; text = text; written = written; empty = t.empty }
 
 -- what is to be written next, once these items were taken
 pub record Adds (scene : SessionScene) (view : ConnView Msg Output) (got : List OutItem) (adds : List Output) : Type 0 where

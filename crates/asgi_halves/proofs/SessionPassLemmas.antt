@@ -1,8 +1,8 @@
 -- What an event that passes shows about those that were sent before it, in a session.
 use Rattle.asgi_halves.proofs.SessionWords.{Bool, Closed, DenialBody, DenialStart, Facts, HeaderField, List, Open, Option, Outgoing, Payload, WebSocket, WsAccept, WsClose, WsSend, []}
-use Rattle.asgi_halves.proofs.SessionWords.{accepted_session, answer_to, ap, begins_row, both, both_true, either, either_first, either_second, false, fold-append, goes_on, if◌then◌else◌, inl, inr}
-use Rattle.asgi_halves.proofs.SessionWords.{is_close, is_closed, is_denial_part, is_empty, is_last_denial_part, is_message, is_of, is_passed, is_row, lines_on, passes, refl, sym, true, verdict_on}
-use Rattle.asgi_halves.proofs.SessionWords.{with_session_event, ℕ, ◌&&◌, ◌++◌, ◌||◌, ◌∙◌, ◌∷◌, ◌≡◌, ◌⊎◌}
+use Rattle.asgi_halves.proofs.SessionWords.{accepted_session, answer_to, ap, begins_row, both, false, fold-append, goes_on, if◌then◌else◌, inl, inr, is_close, is_closed, is_denial_part, is_empty}
+use Rattle.asgi_halves.proofs.SessionWords.{is_last_denial_part, is_message, is_of, is_passed, is_row, lines_on, or_none, passes, refl, sym, true, verdict_on, with_session_event, ℕ, ◌&&◌, ◌++◌, ◌∙◌}
+use Rattle.asgi_halves.proofs.SessionWords.{◌∷◌, ◌≡◌, ◌⊎◌}
 use Rattle.asgi_protocol.proofs.PassLemmas as passing
 
 -- ---- what was sent, with one more event
@@ -23,42 +23,29 @@ and_false : (b : Bool) → (b && false) ≡ false
 and_false true = refl
 and_false false = refl
 
-row_ends : (each last : Outgoing → Bool) (events : List Outgoing) (event : Outgoing) → begins_row each last (events ++ event ∷ []) ≡ true → (each event ≡ true) ⊎ (last event ≡ true)
-row_ends each last [] event h = elim (either (each event && true) (last event && true) h) [
-  | inl p ↦ inl ((both (each event) true p).0)
-  | inr p ↦ inr ((both (last event) true p).0)
-]
-row_ends each last (x ∷ events) event h = elim (either (each x && begins_row each last (events ++ event ∷ [])) (last x && is_empty (events ++ event ∷ [])) h) [
-  | inl p ↦ row_ends each last events event ((both (each x) (begins_row each last (events ++ event ∷ [])) p).1)
-  | inr p ↦ absurd (cc (sym (not_empty events event) ∙ (both (last x) (is_empty (events ++ event ∷ [])) p).1))
-]
-
 -- no row ends with an event that is not of the last sort
 row_open : (each last : Outgoing → Bool) (events : List Outgoing) (event : Outgoing) → last event ≡ false → is_row each last (events ++ event ∷ []) ≡ false
-row_open each last [] event other = rw other (ap (λ (b : Bool). b || false) (and_false (each event)))
-row_open each last (x ∷ events) event other =
-    rw (row_open each last events event other, not_empty events event) (ap (λ (b : Bool). b || (last x && false)) (and_false (each x)) ∙ and_false (last x))
+row_open each last [] event other = simp (other, and_false)
+row_open each last (x ∷ events) event other = simp (row_open each last events event other, not_empty events event, and_false)
 
 -- what begins a row is a whole one, if it ends with an event of the last sort
 row_whole : (each last : Outgoing → Bool) (events : List Outgoing) (event : Outgoing) → last event ≡ true → begins_row each last (events ++ event ∷ []) ≡ true
     → is_row each last (events ++ event ∷ []) ≡ true
-row_whole each last [] event is h = either_second (each event && false) (last event && true) (both_true (last event) true is refl)
-row_whole each last (x ∷ events) event is h = elim (either (each x && begins_row each last (events ++ event ∷ [])) (last x && is_empty (events ++ event ∷ [])) h) [
-  | inl p ↦ let q = both (each x) (begins_row each last (events ++ event ∷ [])) p in
-      either_first (each x && is_row each last (events ++ event ∷ [])) (last x && is_empty (events ++ event ∷ []))
-      (both_true (each x) (is_row each last (events ++ event ∷ [])) q.0 (row_whole each last events event is q.1))
-  | inr p ↦ absurd (cc (sym (not_empty events event) ∙ (both (last x) (is_empty (events ++ event ∷ [])) p).1))
-]
+row_whole each last [] event is h = simp (is, and_false)
+row_whole each last (x ∷ events) event is h =
+    let q = both (each x) (begins_row each last (events ++ event ∷ [])) (simp (not_empty events event, and_false, or_none) at h) in
+    rw (q.0, row_whole each last events event is q.1) refl
 
 -- ---- by the order of events
 
 -- neither sort of a row has such an event
 no_row : {A : Type 0} (each last : Outgoing → Bool) (events : List Outgoing) (event : Outgoing) → each event ≡ false → last event ≡ false
     → begins_row each last (events ++ event ∷ []) ≡ true → A
-no_row each last events event a b h = elim (row_ends each last events event h) [
-  | inl p ↦ absurd (cc (sym a ∙ p))
-  | inr p ↦ absurd (cc (sym b ∙ p))
-]
+no_row each last events event a b h = absurd (cc (sym (ends events) ∙ h))
+  where
+    ends : (events : List Outgoing) → begins_row each last (events ++ event ∷ []) ≡ false
+    ends [] = rw (a, b) refl
+    ends (x ∷ events) = simp (ends events, not_empty events event, and_false)
 
 no_more : {A : Type 0} (events : List Outgoing) (event : Outgoing) → is_empty (events ++ event ∷ []) ≡ true → A
 no_more events event h = absurd (cc (sym (not_empty events event) ∙ h))

@@ -5,8 +5,8 @@ use Rattle.asgi_halves.proofs.SessionWords.{List, Message, Msg, NoMemory, None, 
 use Rattle.asgi_halves.proofs.SessionWords.{SessionScene, Some, Stage, StandsForSession, Talks, Unanswered, Vec, WebSocket, WebSocketHalf, Wire, WriteFailed, WsAccept, WsClose, WsSend, []}
 use Rattle.asgi_halves.proofs.SessionWords.{accept_text, accepted_session, added_by, answer_of, answer_to, answered_with, ap, append-nil, append_cancel_left, as_text, denial_text, end_event, end_of}
 use Rattle.asgi_halves.proofs.SessionWords.{event_adds, event_output, events_append, exchange_of, failures_at, failures_by, false, goes_on, handshake_of, if◌then◌else◌, inl, inr, is_by_input}
-use Rattle.asgi_halves.proofs.SessionWords.{is_closed, is_err, length, map, map-append, output_in, output_of, passes, refl, refusal_text, rest_at, said_in, session_output, spare_at, stage_of, subst}
-use Rattle.asgi_halves.proofs.SessionWords.{sym, take, taken_of, talk_in, talk_upgraded, true, ℕ, ◌++◌, ◌<◌, ◌∙◌, ◌∷◌, ◌≡◌, ◌≢◌, ◌⊎◌}
+use Rattle.asgi_halves.proofs.SessionWords.{is_closed, is_err, length, map, map-append, output, output_in, output_of, passes, refl, refusal_text, rest_at, said_in, session_output, spare_at, stage_of}
+use Rattle.asgi_halves.proofs.SessionWords.{subst, sym, take, taken_of, talk_in, talk_upgraded, true, ℕ, ◌++◌, ◌<◌, ◌∙◌, ◌∷◌, ◌≡◌, ◌≢◌, ◌⊎◌}
 use Rattle.asgi_halves.proofs.SessionOfferLemmas.{Adds, Carries, IsSent, Passed, apart, carried_at, carrying, goes_out, message_out, runs, same_answer, stands_at, text_cut, text_out, text_passed}
 use Rattle.asgi_halves.proofs.SessionPassLemmas.{IsAccepted, accepted_more, body_follows, close_follows, closed_after_close, goes, is_first, message_follows, not_closed, open_after_send}
 use Rattle.asgi_halves.proofs.SessionPassLemmas.{open_is_accepted}
@@ -85,32 +85,22 @@ module _ {scene : SessionScene} {was : LineState} {old : WebSocketHalf} {read : 
   output_later = ap (session_output (handshake_of scene.facts) scene.facts) more_taken ∙ text_after
 
   adding : Adds scene view (view.got ++ Event event ∷ []) adds
-  adding = record {
-    said = (event ∷ [], sym said_later);
-    all =
-        ap (λ (o : Option EndKind). output_in scene taken ++ added_by (exchange_of scene) (taken_of taken) o view.broken_first view.arrived) still_open
-        ∙ (append-nil (output_in scene taken) ∙ output_later);
-    next = Saying (taken_of view) [] event more_taken before.0.written text_after;
-    short = (adds, sym output_later);
-  }
+  adding =
+      let all : output (exchange_of scene) taken ≡ view.written ++ adds =
+      ap (λ (o : Option EndKind). output_in scene taken ++ added_by (exchange_of scene) (taken_of taken) o view.broken_first view.arrived) still_open
+      ∙ (append-nil (output_in scene taken) ∙ output_later) in
+      record { said = (event ∷ [], sym said_later); all = all; next = Saying (taken_of view) [] event more_taken before.0.written text_after; short = (adds, sym output_later) }
 
   -- all of it went out
   talks_still : (leftover : Vec ℕ Global) (text : ResponseText) (out : Vec ℕ Global) (next : Session) (written : List Output) → out.items ≡ []
       → answer_to (said_in scene view ++ event ∷ []) ≡ answer_of next
       → (answer_of next ≡ Unanswered → StandsForSession text scene.facts (said_in scene view ++ event ∷ [])) → IsDue next view.offered view.arrived (is_by_input view.broken)
       → written ≡ view.written ++ adds → IsAt Running scene (record (denial text out Running) { leftover = leftover; session = next }) (record taken { written = written })
-  talks_still leftover text out next written empty becomes stands is_due is = (
-    record {
-      uncut = before.0.uncut;
-      due = is_due;
-      judged = subst (λ (l : List Outgoing). JudgeStandsFor judge WebSocket scene.facts l false) (sym said_later) p.judged;
-      answered = sym becomes ∙ ap answer_to (sym said_later);
-      text = λ e. subst (λ (l : List Outgoing). StandsForSession text scene.facts l) (sym said_later) (stands e);
-      written = is ∙ sym output_later;
-      empty = empty;
-    },
-    still_open,
-  )
+  talks_still leftover text out next written empty becomes stands is_due is =
+      let judged = subst (λ (l : List Outgoing). JudgeStandsFor judge WebSocket scene.facts l false) (sym said_later) p.judged in
+      let denied = λ (e : answer_of next ≡ Unanswered). subst (λ (l : List Outgoing). StandsForSession text scene.facts l) (sym said_later) (stands e) in
+      let answered = sym becomes ∙ ap answer_to (sym said_later) in
+      (record { uncut = before.0.uncut; due = is_due; judged = judged; answered = answered; text = denied; written = is ∙ sym output_later; empty = empty }, still_open)
 
   -- after an accept the session is open, as long as something passes
   pub is_open : IsAccepted (said_in scene view) → answer_of old.session ≡ Open
@@ -260,19 +250,13 @@ module _ {scene : SessionScene} {was : LineState} {old : WebSocketHalf} {read : 
         talk_upgraded scene.start now switched old.wire.input read (scene.before ++ whole) 0 refl (talk_in old view x.leftover x.handed) (talk_in old view (Some scene.frames) x.handed)
         (spare_at old.session) (text_passed x (ap failures_at p.running) (adding p) now not_answered text 0 put) u.text old.leftover.items silent.0.kept u.keeps u.count u.calls u.coming
         (ap (λ (l : List ℕ). Some l) (sym silent.1)) refl refl refl in
-        let carried : IsCarrying scene seen whole (Some scene.frames) = record {
-          kept = refl;
-          subprotocol = a.0;
-          headers = a.1;
-          events = [];
-          said = said_later p ∙ (ap (λ (l : List Outgoing). l ++ event ∷ []) none_before ∙ ap (λ (e : Outgoing). e ∷ []) a.2);
-          text_is = ap (λ (l : List ℕ). l ++ text) none ∙ (text_is ∙ (ap (λ (f : Facts). accept_text f event) x.fixed.facts_are ∙ ap (λ (e : Outgoing). accept_text scene.facts e) a.2));
-        } in
+        let said = said_later p ∙ (ap (λ (l : List Outgoing). l ++ event ∷ []) none_before ∙ ap (λ (e : Outgoing). e ∷ []) a.2) in
+        let handshake = ap (λ (l : List ℕ). l ++ text) none ∙ (text_is ∙ (ap (λ (f : Facts). accept_text f event) x.fixed.facts_are ∙ ap (λ (e : Outgoing). accept_text scene.facts e) a.2)) in
+        let carried : IsCarrying scene seen whole (Some scene.frames) = record { kept = refl; subprotocol = a.0; headers = a.1; events = []; said = said; text_is = handshake } in
         let stage = talks_still p leftover old.text old.wire.out next seen.written (before p).0.empty
         (ap (λ (l : List Outgoing). answer_to (l ++ event ∷ [])) none_before ∙ (ap (λ (e : Outgoing). answer_to (e ∷ [])) a.2 ∙ sym by)) (λ e. absurd (cc (sym by ∙ e)))
         besides.1 out in
-        subst (λ (h : WebSocketHalf). Holds p switched h) (sym new_is)
-        (subst (λ (s : Stage). Holds p switched (record later { stage = s })) (sym p.running)
+        rw new_is (subst (λ (s : Stage). Holds p switched (record later { stage = s })) (sym p.running)
         (goes_out x (ap failures_at p.running) (adding p) switched later whole (Some scene.frames) x.handed (adds p) [] besides.0 passed out (append-nil (adds p))
         ((carrying scene later seen whole (Some scene.frames) x.handed (answer_of next) (inl by)).1 carried) stage))
 
@@ -291,13 +275,11 @@ record IsDenied (handshake : Handshake) (facts : Facts) (said : List Outgoing) :
 goes_on_denying : (handshake : Handshake) (facts : Facts) (said : List Outgoing) (event : Outgoing) → IsDenial event → passes WebSocket facts said event ≡ true
     → IsDenied handshake facts said × IsDenied handshake facts (said ++ event ∷ [])
 goes_on_denying handshake facts said (DenialStart status headers) d pass =
-    subst (λ (l : List Outgoing). IsDenied handshake facts l × IsDenied handshake facts (l ++ DenialStart status headers ∷ []))
-    (sym (is_first said (DenialStart status headers) refl refl refl refl (goes facts said (DenialStart status headers) pass)))
+    rw (is_first said (DenialStart status headers) refl refl refl refl (goes facts said (DenialStart status headers) pass))
     (record { answer = refl; text = refl }, record { answer = refl; text = refl })
 goes_on_denying handshake facts said (DenialBody body more_body) d pass =
-    subst (λ (l : List Outgoing). IsDenied handshake facts l × IsDenied handshake facts (l ++ DenialBody body more_body ∷ []))
-    (sym (body_follows said body more_body (goes facts said (DenialBody body more_body) pass)).3)
-    (record { answer = refl; text = refl }, record { answer = refl; text = refl })
+    let s = body_follows said body more_body (goes facts said (DenialBody body more_body) pass) in
+    rw s.3 (record { answer = refl; text = refl }, record { answer = refl; text = refl })
 goes_on_denying handshake facts said _ d pass = absurd d
 
 module _ {scene : SessionScene} {was : LineState} {old : WebSocketHalf} {read : List ℕ} {view : ConnView Msg Output} {judge : Judge} {event : Outgoing}

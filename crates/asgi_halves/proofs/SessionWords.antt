@@ -1,9 +1,9 @@
 -- The words that the lemmas of a session share.
 pub use Rattle.asgi_conversation.proofs.NextLemmas.{next_on}
-pub use Rattle.asgi_conversation.specs.{ExchangeRecord.Ending, ExchangeRecord.Saying, declared.following.NextStep.TheVariants.ConnectionEnds, declared.report.Outcome.Outcome}
+pub use Rattle.asgi_conversation.specs.{ExchangeRecord.Ending, ExchangeRecord.Saying, declared.following.NextStep.TheVariants.ConnectionEnds}
 pub use Rattle.asgi_conversation.specs.OutcomeClasses.{ByWrite, OutcomeClass, Unbegun, Uncut, class_of}
-pub use Rattle.asgi_conversation.specs.Sessions.{IsNextOutput, StopsSession, after_session, handshake_of, no_traffic, open_outcome, session_outcome}
-pub use Rattle.asgi_conversation.specs.declared.report.Outcome.TheVariants.{Finished, NoMemory, WriteFailed}
+pub use Rattle.asgi_conversation.specs.Sessions.{IsNextOutput, StopsSession, after_session, handshake_of, open_outcome, session_outcome}
+pub use Rattle.asgi_conversation.specs.declared.report.Outcome.{Outcome, TheVariants.Finished, TheVariants.NoMemory, TheVariants.WriteFailed}
 pub use Rattle.asgi_exchange.proofs.EventLemmas.{end_ended, end_event, events_append}
 pub use Rattle.asgi_exchange.proofs.ListLemmas.{prefix_same, prefix_self, prefix_trans}
 pub use Rattle.asgi_exchange.proofs.MessageLemmas.{close_is_heard, events_grow, none_is_heard}
@@ -13,7 +13,7 @@ pub use Rattle.asgi_exchange.specs.{Messages.disconnect_of, Messages.events_in, 
 pub use Rattle.asgi_exchange.specs.Session.{Byte, Handshake, Message, Output, accepted_session, ending_of, event_output, output_of, session_ending, session_output, with_session_event}
 pub use Rattle.asgi_exchange.specs.Views.{Break, ByCut, ByInput, ConnView, added_by, empty_conn, output, taken_of}
 pub use Rattle.asgi_halves.proofs.{HalfBodyLemmas.unbroken, HalfLemmas.HasPut, TalkLemmas.talk_begins, TalkLemmas.talk_read, TalkLemmas.talk_sent, TalkLemmas.talk_upgraded, TalkLemmas.talk_written}
-pub use Rattle.asgi_halves.proofs.CallLemmas.{as_messages, as_text, closes, failures_by, none_after, open_closes, read_after}
+pub use Rattle.asgi_halves.proofs.CallLemmas.{as_messages, as_text, closes, failures_by, none_after, open_closes, or_none, read_after}
 pub use Rattle.asgi_halves.proofs.LineCallLemmas.{HasRead, HasSent, HasUpgraded, has_read, has_sent, has_upgraded, turn_of_message}
 pub use Rattle.asgi_halves.specs.{Half.failures_at, Kinds.IsCutOff, Kinds.IsOpen, Kinds.PreservesAlone, Traffic.drop_limit, Traffic.failures_of, Traffic.is_end, declared.wire.Wire.Wire}
 pub use Rattle.asgi_halves.specs.WebSocketHalf.{CarriesOn, EndsByTask, Invariant, IsAccept, IsAt, IsCarried, IsCarrying, IsCutShort, IsCutShortAs, IsDenial, IsDue, IsOf, IsSilent, IsUnended, MayDrop}
@@ -25,7 +25,7 @@ pub use Rattle.asgi_halves.specs.declared.session_half.Answered.TheVariants.{Clo
 pub use Rattle.asgi_halves.specs.declared.stage.Stage.{Stage, TheVariants.Cut, TheVariants.Over, TheVariants.Running}
 pub use Rattle.asgi_pipes.specs.declared.{ends.ConnEnd.Ghosts as ConnGhosts, items.OutItem.OutItem, items.OutItem.TheVariants.Ended, items.OutItem.TheVariants.Event}
 pub use Rattle.asgi_protocol.proofs.PassingLemmas.{is_passed}
-pub use Rattle.asgi_protocol.proofs.RowLemmas.{both, both_true, either, either_first, either_second}
+pub use Rattle.asgi_protocol.proofs.RowLemmas.{both}
 pub use Rattle.asgi_protocol.proofs.WordLemmas.{test_of_beginning}
 pub use Rattle.asgi_protocol.specs.{Lawful.IsLawful, Passing.is_pass, Passing.passes, Stages.StandsFor as JudgeStandsFor, Verdicts.lines_on, Verdicts.verdict_on}
 pub use Rattle.asgi_protocol.specs.Shapes.{begins_row, goes_on, is_close, is_closed, is_denial_part, is_empty, is_last_denial_part, is_message, is_of, is_row}
