@@ -6,55 +6,46 @@ use Rattle.asgi_halves.proofs.SessionWords.{added_by, after_session, answer_of, 
 use Rattle.asgi_halves.proofs.SessionWords.{failures_at, failures_by, failures_of, false, handshake_of, has_close, if◌then◌else◌, inl, inr, is_by_input, is_closed, is_lawful_response}
 use Rattle.asgi_halves.proofs.SessionWords.{lawful_is_accepted, length, map, open_outcome, outcome_of, output, output_in, prefix_same, prefix_self, progress_in, refl, refusal_text, rest_at, said_in}
 use Rattle.asgi_halves.proofs.SessionWords.{session_ending, session_outcome, session_text, subst, sym, take, taken_of, test_of_beginning, true, ℕ, ◌++◌, ◌<◌, ◌∙◌, ◌∷◌, ◌≡◌, ◌⊎◌}
-use Rattle.asgi_halves.proofs.SessionOfferLemmas.{Adds, Carries, IsSent, apart, at_stage, due_of, message_out, stands_at, text_cut, text_out}
+use Rattle.asgi_halves.proofs.SessionOfferLemmas.{Adds, IsSent, at_stage, due_of, message_out, stands_at, text_cut, text_out}
 use Rattle.asgi_response.specs.{Progress.closes_after}
 
 -- ---- what the end adds, by what was sent
 
+record Ends (said : List Outgoing) (out : ℕ → Bool → List Output) (so : Bool → List Msg → Outcome) : Type 0 where
+  adds : (code : ℕ) (broken : Bool) → ending_of code broken said ≡ out code broken
+  follows : (input_broke : Bool) (received : List Msg) → session_outcome said input_broke received ≡ so input_broke received
+
 -- nothing
-record EndsWell (said : List Outgoing) : Type 0 where
-  adds : (code : ℕ) (broken : Bool) → ending_of code broken said ≡ []
-  follows : (input_broke : Bool) (received : List Msg) → session_outcome said input_broke received ≡ Outcome.Finished
+abbrev EndsWell : List Outgoing → Type 0
+EndsWell said = Ends said (λ code broken. []) (λ input_broke received. Outcome.Finished)
 
 -- 500
-record EndsRefused (said : List Outgoing) : Type 0 where
-  adds : (code : ℕ) (broken : Bool) → ending_of code broken said ≡ map Byte (refusal_text 500)
-  follows : (input_broke : Bool) (received : List Msg) → session_outcome said input_broke received ≡ Outcome.Refused 500
+abbrev EndsRefused : List Outgoing → Type 0
+EndsRefused said = Ends said (λ code broken. map Byte (refusal_text 500)) (λ input_broke received. Outcome.Refused 500)
 
 -- a close, if the client did not close and the input did not end before
-record EndsOpen (said : List Outgoing) : Type 0 where
-  adds : (code : ℕ) (broken : Bool) → ending_of code broken said ≡ (if broken then [] else Message (SentMessage.Close code []) ∷ [])
-  follows : (input_broke : Bool) (received : List Msg) → session_outcome said input_broke received ≡ open_outcome input_broke received
+abbrev EndsOpen : List Outgoing → Type 0
+EndsOpen said = Ends said (λ code broken. if broken then [] else Message (SentMessage.Close code []) ∷ []) open_outcome
 
--- an accepted session is open or closed
-accepted_is : (b : Bool) → Carries (if b then Closed else Open)
-accepted_is true = inr refl
-accepted_is false = inl refl
-
-if_closed : {A : Type 0} (b : Bool) (x y : A) → (if b then Closed else Open) ≡ Closed → (if b then x else y) ≡ x
-if_closed true x y h = refl
-if_closed false x y h = absurd (cc)
-
-if_open : {A : Type 0} (b : Bool) (x y : A) → (if b then Closed else Open) ≡ Open → (if b then x else y) ≡ y
-if_open true x y h = absurd (cc)
-if_open false x y h = refl
+-- an accepted session is closed or open
+closed_if : (b : Bool) (a : Answered) → (if b then Closed else Open) ≡ a → ((a ≡ Closed) × (b ≡ true)) ⊎ ((a ≡ Open) × (b ≡ false))
+closed_if true a h = inl (sym h, refl)
+closed_if false a h = inr (sym h, refl)
 
 left_open : (said : List Outgoing) → answer_to said ≡ Open → EndsOpen said
-left_open (WsAccept a b ∷ events) h = record {
-  adds = λ code broken. if_open (is_closed WebSocket (WsAccept a b ∷ events)) [] (if broken then [] else Message (SentMessage.Close code []) ∷ []) h;
-  follows = λ input_broke received. if_open (is_closed WebSocket (WsAccept a b ∷ events)) Outcome.Finished (open_outcome input_broke received) h;
-}
+left_open (WsAccept a b ∷ events) h =
+    elim (closed_if (is_closed WebSocket (WsAccept a b ∷ events)) Open h)
+    [ inl e ↦ absurd (cc e.0) | inr e ↦ record { adds = λ code broken. rw e.1 refl; follows = λ input_broke received. rw e.1 refl } ]
 left_open _ h = cc
 
 was_closed : (said : List Outgoing) → answer_to said ≡ Closed → EndsWell said
-was_closed (WsAccept a b ∷ events) h = record {
-  adds = λ code broken. if_closed (is_closed WebSocket (WsAccept a b ∷ events)) [] (if broken then [] else Message (SentMessage.Close code []) ∷ []) h;
-  follows = λ input_broke received. if_closed (is_closed WebSocket (WsAccept a b ∷ events)) Outcome.Finished (open_outcome input_broke received) h;
-}
+was_closed (WsAccept a b ∷ events) h =
+    elim (closed_if (is_closed WebSocket (WsAccept a b ∷ events)) Closed h)
+    [ inl e ↦ record { adds = λ code broken. rw e.1 refl; follows = λ input_broke received. rw e.1 refl } | inr e ↦ absurd (cc e.0) ]
 was_closed _ h = cc
 
 was_refused : (said : List Outgoing) → answer_to said ≡ Answered.Refused → EndsWell said
-was_refused (WsAccept a b ∷ events) h = absurd (apart (answer_to (WsAccept a b ∷ events)) (accepted_is (is_closed WebSocket (WsAccept a b ∷ events))) (inr h))
+was_refused (WsAccept a b ∷ events) h = elim (closed_if (is_closed WebSocket (WsAccept a b ∷ events)) Answered.Refused h) [ inl e ↦ absurd (cc e.0) | inr e ↦ absurd (cc e.0) ]
 was_refused (WsClose a b ∷ events) h = record { adds = λ code broken. refl; follows = λ input_broke received. refl }
 was_refused _ h = cc
 
@@ -79,7 +70,7 @@ denied_or_none facts (DenialStart a b ∷ event ∷ events) lawful u =
     let never = λ (h : denial_progress facts (DenialStart a b ∷ event ∷ events) ≡ Progress.Nothing).
     begun_or_whole (is_closed Http said) (closes_after (closing_facts facts) said) (sym (denied_so_far facts a b (event ∷ events) lawful) ∙ h) in
     inr (never, record { adds = λ code broken. refl; follows = λ input_broke received. refl })
-denied_or_none facts (WsAccept a b ∷ events) lawful u = absurd (apart (answer_to (WsAccept a b ∷ events)) (accepted_is (is_closed WebSocket (WsAccept a b ∷ events))) (inl u))
+denied_or_none facts (WsAccept a b ∷ events) lawful u = elim (closed_if (is_closed WebSocket (WsAccept a b ∷ events)) Unanswered u) [ inl e ↦ absurd (cc e.0) | inr e ↦ absurd (cc e.0) ]
 denied_or_none facts (WsClose a b ∷ events) lawful u = absurd (cc)
 denied_or_none facts (event ∷ events) lawful u = (let never : false ≡ true = test_of_beginning WebSocket (event ∷ events) lawful.begins in absurd (cc))
 
@@ -133,32 +124,6 @@ module _ {scene : SessionScene} {was : LineState} {half : WebSocketHalf} {read :
       let all : view.written ≡ view.written ++ adds = sym (append-nil view.written) ∙ ap (λ (l : List Output). view.written ++ l) (sym nothing) in
       let later = stands_at x (ends_so half out) view refl refl refl (ap failures_at is ∙ sym none) (prefix_self (said_in scene view)) x.keeps x.breaks (inl (by_task out view.written follows all)) in
       (view.arrived, view.written, later)
-
-  -- 500 is, or its first n bytes are
-  module _ (unanswered : answer_of half.session ≡ Unanswered) (more : List ℕ) (adds_it : adds ≡ map Byte more) (now : LineState) where
-    refusal_out : follows_so (Outcome.Refused 500) → HasPut was now more 0 → Goes scene now (ends_so half (Outcome.Refused 500)) read view
-    refusal_out follows put =
-        let later = text_out x (ap failures_at is) adding now unanswered (ends_so half (Outcome.Refused 500)) more [] refl refl (inl unanswered) put (append-nil (map Byte more) ∙ sym adds_it)
-        (λ written gone. inl (by_task (Outcome.Refused 500) written follows (gone ∙ ap (λ (l : List Output). view.written ++ l) (sym adds_it)))) in
-        (view.arrived, later.0, later.1)
-
-    refusal_cut : (n : ℕ) → n < length more → HasPut was now (take n more) 1 → Goes scene now (ends_so half (WriteFailed n)) read view
-    refusal_cut n less put =
-        let later = text_cut x (ap failures_at is) adding now unanswered (ends_so half (WriteFailed n)) more adds_it refl refl (inl unanswered) refl n less put (λ seen same short. inr short) in
-        (view.arrived, later.0, later.1)
-
-  -- a close is, in an open session
-  close_out : answer_of half.session ≡ Open → (left : Option ℕ) → left ≡ rest_at half.session → (message : SentMessage) → adds ≡ Message message ∷ [] → (now : LineState)
-      (answer : Put) → HasSent was now message answer → follows_so Outcome.Finished → Goes scene now (closes_so half left (outcome_of answer)) read view
-  close_out opened left left_is message adds_it now answer sent follows =
-      let later = message_out x (ap failures_at is) adding now opened message adds_it answer sent (closes_so half left (outcome_of answer)) (sym left_is) (inr refl) (fails_as answer) (by answer) in
-      (view.arrived, later.0, later.1)
-    where
-      by : (put : Put) (written : List Output) → IsSent put scene (record view { written = written }) (view.written ++ adds)
-          → IsAt (Over (ConnectionEnds (outcome_of put))) scene (closes_so half left (outcome_of put)) (record view { written = written })
-      by Put.Done written all = inl (by_task Outcome.Finished written follows all)
-      by Put.Failed written cut = inr cut
-      by Put.NoMemory written cut = inr cut
 
 -- ---- by how the task ended
 
@@ -226,10 +191,18 @@ module _ {scene : SessionScene} {was : LineState} {half : WebSocketHalf} {read :
         adds_refusal = o.adds scene.facts (taken_of view) broke ∙ (little.adds code broke ∙ ap (λ (l : List ℕ). map Byte l) (sym text_is))
 
         pub answered_whole : HasPut was now text 0 → Goes scene now (ends_so half (Outcome.Refused 500)) read view
-        answered_whole = refusal_out x o.ended o.at unanswered text adds_refusal now (o.follows (said_in scene view) broke view.arrived ∙ little.follows broke view.arrived)
+        answered_whole put =
+            let follows = o.follows (said_in scene view) broke view.arrived ∙ little.follows broke view.arrived in
+            let later = text_out x (ap failures_at o.at) (adding x o.ended o.at) now unanswered (ends_so half (Outcome.Refused 500)) text [] refl refl (inl unanswered) put
+            (append-nil (map Byte text) ∙ sym adds_refusal)
+            (λ written gone. inl (by_task x o.ended o.at (Outcome.Refused 500) written follows (gone ∙ ap (λ (l : List Output). view.written ++ l) (sym adds_refusal)))) in
+            (view.arrived, later.0, later.1)
 
         pub answered_part : (n : ℕ) → n < length text → HasPut was now (take n text) 1 → Goes scene now (ends_so half (WriteFailed n)) read view
-        answered_part = refusal_cut x o.ended o.at unanswered text adds_refusal now
+        answered_part n less put =
+            let later = text_cut x (ap failures_at o.at) (adding x o.ended o.at) now unanswered (ends_so half (WriteFailed n)) text adds_refusal refl refl (inl unanswered) refl n less put
+            (λ seen same short. inr short) in
+            (view.arrived, later.0, later.1)
 
     -- ---- an open session
 
@@ -266,5 +239,12 @@ module _ {scene : SessionScene} {was : LineState} {half : WebSocketHalf} {read :
           → HasSent was now (SentMessage.Close code reason) answer → (out : Outcome) → out ≡ outcome_of answer → Goes scene now (closes_so half left out) read view
       closed_last stays left left_is reason none now answer sent out is =
           let unbroke : broke ≡ false = unbroken_in half.session refl stays in
-          rw is (close_out x o.ended o.at opened left left_is (SentMessage.Close code []) (adds_by false unbroke) now answer
-          (subst (λ (r : List ℕ). HasSent was now (SentMessage.Close code r) answer) none sent) (follows_by false unbroke))
+          let later = message_out x (ap failures_at o.at) (adding x o.ended o.at) now opened (SentMessage.Close code []) (adds_by false unbroke) answer
+          (subst (λ (r : List ℕ). HasSent was now (SentMessage.Close code r) answer) none sent) (closes_so half left (outcome_of answer)) (sym left_is) (inr refl) (fails_as answer) (by answer) in
+          rw is (view.arrived, later.0, later.1)
+        where
+          by : (put : Put) (written : List Output) → IsSent put scene (record view { written = written }) (view.written ++ adds x o.ended o.at)
+              → IsAt (Over (ConnectionEnds (outcome_of put))) scene (closes_so half left (outcome_of put)) (record view { written = written })
+          by Put.Done written all = inl (by_task x o.ended o.at Outcome.Finished written (follows_by false (unbroken_in half.session refl stays)) all)
+          by Put.Failed written cut = inr cut
+          by Put.NoMemory written cut = inr cut

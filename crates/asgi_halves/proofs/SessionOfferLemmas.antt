@@ -49,11 +49,9 @@ same_answer Answer.Refused one other = refl
 abbrev pub Carries : Answered → Type 0
 Carries state = (state ≡ Open) ⊎ (state ≡ Closed)
 
-pub apart : (state : Answered) → Carries state → (state ≡ Unanswered) ⊎ (state ≡ Answered.Refused) → ⊥
-apart state (inl is) (inl e) = cc
-apart state (inl is) (inr e) = cc
-apart state (inr is) (inl e) = cc
-apart state (inr is) (inr e) = cc
+pub is_answered : (state : Answered) → Carries state → state ≡ Unanswered → ⊥
+is_answered state (inl is) e = cc
+is_answered state (inr is) e = cc
 
 pub carrying : (scene : SessionScene) (half : WebSocketHalf) (view : ConnView Msg Output) (text : List ℕ) (leftover : Option (List ℕ)) (handed : List SentMessage) (state : Answered) → Carries state
     → IsCarried state scene half view text leftover handed ↔ IsCarrying scene view text leftover

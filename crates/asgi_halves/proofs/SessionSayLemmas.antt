@@ -7,7 +7,8 @@ use Rattle.asgi_halves.proofs.SessionWords.{accept_text, accepted_session, added
 use Rattle.asgi_halves.proofs.SessionWords.{event_adds, event_output, events_append, exchange_of, failures_at, failures_by, false, goes_on, handshake_of, if◌then◌else◌, inl, inr, is_by_input}
 use Rattle.asgi_halves.proofs.SessionWords.{is_closed, is_err, length, map, map-append, output, output_in, output_of, passes, refl, refusal_text, rest_at, said_in, session_output, spare_at, stage_of}
 use Rattle.asgi_halves.proofs.SessionWords.{subst, sym, take, taken_of, talk_in, talk_upgraded, true, ℕ, ◌++◌, ◌<◌, ◌∙◌, ◌∷◌, ◌≡◌, ◌≢◌, ◌⊎◌}
-use Rattle.asgi_halves.proofs.SessionOfferLemmas.{Adds, Carries, IsSent, Passed, apart, carried_at, carrying, goes_out, message_out, runs, same_answer, stands_at, text_cut, text_out, text_passed}
+use Rattle.asgi_halves.proofs.SessionOfferLemmas.{Adds, Carries, IsSent, Passed, carried_at, carrying, goes_out, is_answered, message_out, runs, same_answer, stands_at, text_cut, text_out}
+use Rattle.asgi_halves.proofs.SessionOfferLemmas.{text_passed}
 use Rattle.asgi_halves.proofs.SessionPassLemmas.{IsAccepted, accepted_more, body_follows, close_follows, closed_after_close, goes, is_first, message_follows, not_closed, open_after_send}
 use Rattle.asgi_halves.proofs.SessionPassLemmas.{open_is_accepted}
 
@@ -117,7 +118,7 @@ module _ {scene : SessionScene} {was : LineState} {old : WebSocketHalf} {read : 
     where
       by : (put : Put) (written : List Output) → IsSent put scene (record taken { written = written }) (view.written ++ adds)
           → IsAt (stage_of put) scene (after next (stage_of put)) (record taken { written = written })
-      by Put.Done written out = talks_still old.leftover old.text old.wire.out next written before.0.empty becomes (λ e. absurd (apart (answer_of next) carries (inl e))) is_due out
+      by Put.Done written out = talks_still old.leftover old.text old.wire.out next written before.0.empty becomes (λ e. absurd (is_answered (answer_of next) carries e)) is_due out
       by Put.Failed written cut = (cut, still_open)
       by Put.NoMemory written cut = (cut, still_open)
 
@@ -306,18 +307,15 @@ module _ {scene : SessionScene} {was : LineState} {old : WebSocketHalf} {read : 
 
     module _ (now : LineState) (hand : List ℕ) (stands : StandsForSession text scene.facts (said_in scene view ++ event ∷ []))
         (grows : Grows (denial_text scene.facts (said_in scene view)) (denial_text scene.facts (said_in scene view ++ event ∷ [])) old.wire.out.items hand) where
-      in_hand : hand ≡ grows.added
-      in_hand = grows.output ∙ ap (λ (l : List ℕ). l ++ grows.added) (before p).0.empty
-
-      text_in_hand : session_output (handshake_of scene.facts) scene.facts (taken_of view ++ event ∷ []) ≡ view.written ++ map Byte hand
-      text_in_hand =
+      adds_hand : adds p ≡ map Byte hand
+      adds_hand =
+          let in_hand : hand ≡ grows.added = grows.output ∙ ap (λ (l : List ℕ). l ++ grows.added) (before p).0.empty in
+          let text_in_hand : session_output (handshake_of scene.facts) scene.facts (taken_of view ++ event ∷ []) ≡ view.written ++ map Byte hand =
           ap (output_of (handshake_of scene.facts) scene.facts) (accepted_more scene.facts (taken_of view) event true p.pass)
           ∙ (denying.1.text
           ∙ (ap (map Byte) (grows.text ∙ ap (λ (l : List ℕ). denial_text scene.facts (said_in scene view) ++ l) (sym in_hand))
-          ∙ (map-append Byte (denial_text scene.facts (said_in scene view)) hand ∙ ap (λ (l : List Output). l ++ map Byte hand) (sym ((before p).0.written ∙ denying.0.text)))))
-
-      adds_hand : adds p ≡ map Byte hand
-      adds_hand = append_cancel_left view.written (adds p) (map Byte hand) (sym (text_after p) ∙ text_in_hand)
+          ∙ (map-append Byte (denial_text scene.facts (said_in scene view)) hand ∙ ap (λ (l : List Output). l ++ map Byte hand) (sym ((before p).0.written ∙ denying.0.text))))) in
+          append_cancel_left view.written (adds p) (map Byte hand) (sym (text_after p) ∙ text_in_hand)
 
       -- all of it went out
       pub denied_whole : wire.out.items ≡ [] → HasPut was now hand 0 → Holds p now (record old { judge = judge; text = text; wire = wire })

@@ -41,14 +41,6 @@ module _ {scene : SessionScene} {now : LineState} {half : WebSocketHalf} {read :
       taken_so (Stage.Ending kind) (view.got ++ Ended kind ∷ []) (is_by_input view.broken) refl
       (ap (accepted_session scene.facts) (events_append view.got (Ended kind ∷ []) ∙ append-nil (taken_of view))) (λ talks. (talks, end_ended view.got kind (runs x is).1, refl))
 
-  -- an event that the judge does not pass
-  unsaid : (event : Outgoing) → passes WebSocket scene.facts (said_in scene view) event ≡ false → Invariant scene now half read (record view { got = view.got ++ Event event ∷ [] })
-  unsaid event other =
-      subst (λ (s : Stage). Invariant scene now (record half { stage = s }) read (record view { got = view.got ++ Event event ∷ [] })) (sym is)
-      (taken_so Running (view.got ++ Event event ∷ []) view.broken_first refl
-      (ap (accepted_session scene.facts) (events_append view.got (Event event ∷ [])) ∙ accepted_more scene.facts (taken_of view) event false other)
-      (λ talks. (talks, end_event view.got event ∙ (runs x is).1)))
-
   -- the judge knows the facts of the half, which are those of the scene
   judged_here : JudgeStandsFor half.judge WebSocket half.facts (said_in scene view) false
   judged_here = subst (λ (f : Facts). JudgeStandsFor half.judge WebSocket f (said_in scene view) false) (sym x.fixed.facts_are) (runs x is).0.judged
@@ -59,9 +51,14 @@ module _ {scene : SessionScene} {now : LineState} {half : WebSocketHalf} {read :
     verdict_is : answer ≡ verdict_on WebSocket scene.facts (said_in scene view) false event
     verdict_is = subst (λ (f : Facts). answer ≡ verdict_on WebSocket f (said_in scene view) false event) x.fixed.facts_are (judged (said_in scene view) judged_here)
 
+    -- nothing is sent
     pub not_passed : (after : Judge) → (answer ≡ Verdict.Pass → ⊥) → (answer ≢ Verdict.Pass → after ≡ half.judge)
         → (written : List Output) × Invariant scene now (record half { judge = after }) read (record view { got = view.got ++ Event event ∷ []; written = written })
-    not_passed after fails kept = rw (kept fails) (view.written, unsaid event (ap is_pass (sym verdict_is) ∙ no_pass answer fails))
+    not_passed after fails kept =
+        let same = ap (accepted_session scene.facts) (events_append view.got (Event event ∷ []))
+        ∙ accepted_more scene.facts (taken_of view) event false (ap is_pass (sym verdict_is) ∙ no_pass answer fails) in
+        let later = taken_so Running (view.got ++ Event event ∷ []) view.broken_first refl same (λ talks. (talks, end_event view.got event ∙ (runs x is).1)) in
+        rw (kept fails) (view.written, subst (λ (s : Stage). Invariant scene now (record half { stage = s }) read (record view { got = view.got ++ Event event ∷ [] })) (sym is) later)
 
     pub passed : answer ≡ Verdict.Pass → passes WebSocket scene.facts (said_in scene view) event ≡ true
     passed pass = ap is_pass (sym verdict_is ∙ pass)

@@ -9,9 +9,6 @@ returns g c =
     let got = c.read_message-got.result in
     let dropped = c.note_dropped.ensures.dropped in
     let call = has_read g.L.Line g.L.Reads g.L.Counts g.L.Messages g.met.L.Line.state_is c.args.line.now c.read_message-got.new.self got r.told r.coming.0 r.counts r.same r.text in
-    record {
-      leads = leads_dropped was now c.args.self.now c.requires.may c.args.side c.args.spare c.requires.closed c.requires.spare got call c.note_dropped.new.self dropped;
-      stage = ap (λ (h : WebSocketHalf). h.stage) dropped;
-      turn = turn_of_message ⊥ was now got c.note_dropped.result call c.note_dropped.ensures.turn;
-      same = (got, call.told, dropped);
-    }
+    let leads = leads_dropped was now c.args.self.now c.requires.may c.args.side c.args.spare c.requires.closed c.requires.spare got call c.note_dropped.new.self dropped in
+    let turn = turn_of_message ⊥ was now got c.note_dropped.result call c.note_dropped.ensures.turn in
+    record { leads = leads; stage = ap (λ (h : WebSocketHalf). h.stage) dropped; turn = turn; same = (got, call.told, dropped) }
