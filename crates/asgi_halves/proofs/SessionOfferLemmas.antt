@@ -7,27 +7,23 @@ use Rattle.asgi_halves.proofs.SessionWords.{Unbegun, Uncut, WebSocket, WebSocket
 use Rattle.asgi_halves.proofs.SessionWords.{arith, as_messages, as_text, class_of, drop, drop_limit, end_event, end_of, events_append, events_of, exchange_of, failures_at, failures_by, false}
 use Rattle.asgi_halves.proofs.SessionWords.{fold-append, handshake_of, has_close, if◌then◌else◌, inl, inr, is_by_cut, is_by_input, is_over_at, is_over_with, is_some, known, length, length-map, map}
 use Rattle.asgi_halves.proofs.SessionWords.{next_on, none_is_heard, not, output, output_in, output_of, passes, prefix_self, prefix_trans, refl, rest_at, said_in, session_disconnect, session_ending}
-use Rattle.asgi_halves.proofs.SessionWords.{session_events, session_output, spare_at, spare_with, subst, sym, take, take-append-drop, take-map, taken_by, taken_of, talk_in, talk_sent, talk_written}
-use Rattle.asgi_halves.proofs.SessionWords.{true, unbroken, web_socket_is_steady, with_session_event, ℕ, ◌++◌, ◌<◌, ◌↔◌, ◌∙◌, ◌∷◌, ◌≡◌, ◌⊎◌}
+use Rattle.asgi_halves.proofs.SessionWords.{session_events, session_output, spare_at, subst, sym, take, take-append-drop, take-map, taken_by, taken_of, talk_in, talk_sent, talk_written, true}
+use Rattle.asgi_halves.proofs.SessionWords.{unbroken, web_socket_is_steady, with_session_event, ℕ, ◌++◌, ◌<◌, ◌↔◌, ◌∙◌, ◌∷◌, ◌≡◌, ◌⊎◌}
 
 -- ---- what was taken grows
 
 -- what a judge passes of a list begins what it passes of a longer one
 accepted_grows : (facts : Facts) (events : List Outgoing) (event : Outgoing) → IsPrefix (accepted_session facts events) (accepted_session facts (events ++ event ∷ []))
 accepted_grows facts events event =
-    let r = by (passes WebSocket facts (accepted_session facts events) event) in
+    let said : List Outgoing = accepted_session facts events in
+    let r = elim (passes WebSocket facts said event) as (λ b. IsPrefix said (if b then said ++ event ∷ [] else said)) [ true ↦ (event ∷ [], refl) | false ↦ prefix_self said ] in
     (r.0, r.1 ∙ sym (fold-append (with_session_event facts) [] events (event ∷ [])))
-  where
-    by : (b : Bool) → IsPrefix (accepted_session facts events) (if b then accepted_session facts events ++ event ∷ [] else accepted_session facts events)
-    by true = (event ∷ [], refl)
-    by false = prefix_self (accepted_session facts events)
 
 -- so does what is made of the items of a queue, of which some are no events
 grows_with : {A : Type 0} (f : List Outgoing → List A) → ((events : List Outgoing) (event : Outgoing) → IsPrefix (f events) (f (events ++ event ∷ []))) → (got : List OutItem) (item : OutItem)
     → IsPrefix (f (events_of got)) (f (events_of (got ++ item ∷ [])))
-grows_with f grows got (Event event) = subst (λ (l : List Outgoing). IsPrefix (f (events_of got)) (f l)) (sym (events_append got (Event event ∷ []))) (grows (events_of got) event)
-grows_with f grows got (Ended kind) =
-    subst (λ (l : List Outgoing). IsPrefix (f (events_of got)) (f l)) (sym (events_append got (Ended kind ∷ []) ∙ append-nil (events_of got))) (prefix_self (f (events_of got)))
+grows_with f grows got (Event event) = rw (events_append got (Event event ∷ [])) (grows (events_of got) event)
+grows_with f grows got (Ended kind) = rw (events_append got (Ended kind ∷ []) ∙ append-nil (events_of got)) (prefix_self (f (events_of got)))
 
 output_after : (scene : SessionScene) (got : List OutItem) (item : OutItem)
     → IsPrefix (session_output (handshake_of scene.facts) scene.facts (events_of got)) (session_output (handshake_of scene.facts) scene.facts (events_of (got ++ item ∷ [])))
@@ -85,7 +81,7 @@ pub record Adds (scene : SessionScene) (view : ConnView Msg Output) (got : List 
   pub next : IsNextOutput (known scene (record view { got = got })) view.written adds
   pub short : IsPrefix view.written (output_in scene (record view { got = got }))
 
--- what is out after a message was handed over, which were all then
+-- what is out once a message was handed over: all, or less, and the connection is cut short
 abbrev pub IsSent : Put → SessionScene → ConnView Msg Output → List Output → Type 0
 IsSent Put.Done scene seen all = seen.written ≡ all
 IsSent Put.Failed scene seen all = IsCutShort scene seen (WriteFailed 0)
@@ -118,8 +114,7 @@ module _ {scene : SessionScene} {was : LineState} {half : WebSocketHalf} {read :
       let f = x.fixed in
       let fixed : IsOf scene half.facts (record half.wire { out = later.wire.out }) read =
       record { facts_are = f.facts_are; limits_are = f.limits_are; after = f.after; answered = f.answered; head = f.head; before_is = f.before_is; read_is = f.read_is } in
-      let line = subst (λ (r : Option ℕ). CarriesOn scene.start now half.wire.input read (scene.before ++ text) (failures_at later.stage)
-      (record { leftover = kept; received = view.arrived; is_over = is_over_with r; handed = handed }) (spare_with r)) same passed in
+      let line = rw same at passed in
       record { fixed = fixed; text = text; leftover = kept; handed = handed; line = line; written = written; carried = carried; keeps = keeps; breaks = breaks; stage = stage }
 
   -- what the line carries is the same, or more is sent
@@ -239,26 +234,20 @@ module _ {scene : SessionScene} {was : LineState} {half : WebSocketHalf} {read :
         stands_at (record half { session = next }) seen refl answered rest refl (prefix_self (said_in scene view)) (record { offered = offers; written = x.keeps.written }) breaks
         (subst (λ (s : Stage). IsAt s scene (record half { session = next }) seen) (sym is) (talks_on (runs is).0 next half.stage seen refl answered uncut is_due, (runs is).1))
 
-    -- the event that waits is offered
-    offered_on : (reply : Answer) (event : Incoming) → half.session ≡ Session.Begun reply (Some event)
-        → Invariant scene was (record half { session = Session.Begun reply None }) read (record view { offered = view.offered ++ event ∷ [] })
-    offered_on reply event waits =
-        let t = (runs is).0 in
-        let w = due_of t (Session.Begun reply (Some event)) waits in
-        let none : view.broken ≡ None = unbroken view.broken t.uncut w.0 in
-        let all : (view.offered ++ event ∷ []) ++ [] ≡ session_events view.arrived = append-nil (view.offered ++ event ∷ []) ∙ w.1 in
-        runs_on (Session.Begun reply None) (view.offered ++ event ∷ []) view.broken (ap answer_of waits ∙ same_answer reply (Some event) None) (ap rest_at waits)
-        (subst (λ (b : Option Break). IsOffered (exchange_of scene) view.arrived (view.offered ++ event ∷ []) b) (sym none) ([], all)) t.uncut (λ e. cc (w.0, e)) (w.0, all, w.2)
-
-    -- the same, with the clauses of the end's calls: the session was taken out of the half before
+    -- by the clauses of the end's calls: the session was taken out of the half before
     module _ {E : Type 0} (C : ConnGhosts E) (old new : E) (taken : Session) (value : taken ≡ half.session) (v : IsViewOf C old view) where
+      -- the event that waits is offered
       pub offered_view : (reply : Answer) (event : Incoming) → taken ≡ Session.Begun reply (Some event) → C.offered new ≡ C.offered old ++ event ∷ [] → C.is_broken new ≡ C.is_broken old
           → C.got new ≡ C.got old → (later : ConnView Msg Output) × Invariant scene was (record half { session = Session.Begun reply None }) read later × IsViewOf C new later
-      offered_view reply event waits offered broken got = (
-        record view { offered = view.offered ++ event ∷ [] },
-        offered_on reply event (sym value ∙ waits),
-        (ap (λ (l : List Incoming). l ++ event ∷ []) v.0 ∙ sym offered, v.1 ∙ sym broken, v.2 ∙ sym got),
-      )
+      offered_view reply event taken_is offered broken got =
+          let waits : half.session ≡ Session.Begun reply (Some event) = sym value ∙ taken_is in
+          let t = (runs is).0 in
+          let w = due_of t (Session.Begun reply (Some event)) waits in
+          let none : view.broken ≡ None = unbroken view.broken t.uncut w.0 in
+          let all : (view.offered ++ event ∷ []) ++ [] ≡ session_events view.arrived = append-nil (view.offered ++ event ∷ []) ∙ w.1 in
+          let on = runs_on (Session.Begun reply None) (view.offered ++ event ∷ []) view.broken (ap answer_of waits ∙ same_answer reply (Some event) None) (ap rest_at waits)
+          (subst (λ (b : Option Break). IsOffered (exchange_of scene) view.arrived (view.offered ++ event ∷ []) b) (sym none) ([], all)) t.uncut (λ e. cc (w.0, e)) (w.0, all, w.2) in
+          (record view { offered = view.offered ++ event ∷ [] }, on, (ap (λ (l : List Incoming). l ++ event ∷ []) v.0 ∙ sym offered, v.1 ∙ sym broken, v.2 ∙ sym got))
 
       -- nothing is due, or no place is free
       pub none_view : (next : Session) → taken ≡ next → C.offered new ≡ C.offered old → C.is_broken new ≡ C.is_broken old → C.got new ≡ C.got old

@@ -1,12 +1,12 @@
 -- The reads of a session: a message arrives and is heard, or it is dropped after a close.
 use Rattle.asgi_halves.proofs.SessionWords.{Accepted, Application, Bool, Break, ByCut, ByInput, CarriesOn, Client, ConnKeeps, ConnView, ConnectionEnds, Cut, DenialStart, EndKind, EndsByTask, Finished}
 use Rattle.asgi_halves.proofs.SessionWords.{Got, HasRead, Incoming, Invariant, IsAt, IsDue, IsOffered, IsPrefix, IsSteady, LineState, List, MayDrop, Message, Msg, NoMemory, None, Open, Option}
-use Rattle.asgi_halves.proofs.SessionWords.{Outgoing, Output, Over, Payload, PreservesAlone, PreservesByLine, Read, Running, SentMessage, Session, SessionScene, Side, Some, Stage, WebSocket}
-use Rattle.asgi_halves.proofs.SessionWords.{WebSocketHalf, WsAccept, WsReceive, [], added_by, after_session, answer_of, ap, append-nil, arith, close_is_heard, closes, disconnect_of, drop_limit}
-use Rattle.asgi_halves.proofs.SessionWords.{end_of, events_grow, events_in, exchange_of, failures_at, false, given_by, handshake_of, has_close, heard_by, inl, inr, is_by_input, is_end, is_over_at}
-use Rattle.asgi_halves.proofs.SessionWords.{is_over_with, lost_by, map, none_after, noted_by, open_closes, output, output_in, prefix_same, prefix_self, prefix_trans, read_after, reads_after_close}
-use Rattle.asgi_halves.proofs.SessionWords.{refl, rest_after, said_in, session_disconnect, session_events, session_outcome, spare_at, spare_with, subst, sym, taken_of, talk_in, talk_read}
-use Rattle.asgi_halves.proofs.SessionWords.{test_of_beginning, true, waiting, web_socket_is_steady, ℕ, ◌++◌, ◌+◌, ◌<◌, ◌||◌, ◌∙◌, ◌∷◌, ◌≡◌, ◌≤◌, ◌⊎◌}
+use Rattle.asgi_halves.proofs.SessionWords.{Outgoing, Output, Over, Payload, PreservesByLine, Read, Running, SentMessage, Session, SessionScene, Side, Some, Stage, WebSocket, WebSocketHalf, WsAccept}
+use Rattle.asgi_halves.proofs.SessionWords.{WsReceive, [], added_by, after_session, answer_of, ap, append-nil, arith, close_is_heard, closes, disconnect_of, drop_limit, end_of, events_grow, events_in}
+use Rattle.asgi_halves.proofs.SessionWords.{exchange_of, failures_at, false, given_by, handshake_of, has_close, heard_by, inl, inr, is_by_input, is_end, is_over_at, is_over_with, lost_by, map}
+use Rattle.asgi_halves.proofs.SessionWords.{none_after, noted_by, open_closes, output, output_in, prefix_same, prefix_self, prefix_trans, read_after, reads_after_close, refl, rest_after, said_in}
+use Rattle.asgi_halves.proofs.SessionWords.{session_disconnect, session_events, session_outcome, spare_at, spare_with, subst, sym, taken_of, talk_in, talk_read, test_of_beginning, true, waiting}
+use Rattle.asgi_halves.proofs.SessionWords.{web_socket_is_steady, ℕ, ◌++◌, ◌+◌, ◌<◌, ◌||◌, ◌∙◌, ◌∷◌, ◌≡◌, ◌≤◌, ◌⊎◌}
 use Rattle.asgi_halves.proofs.SessionOfferLemmas.{Carries, at_stage, carrying, carrying_on, due_of, runs, talks_on}
 use Rattle.asgi_halves.proofs.{CallLemmas.closes_after}
 
@@ -238,9 +238,3 @@ out_then was mid now old half new first second scene read view x =
     let a = first scene read view x in
     let b = second scene read (record view { arrived = a.0; written = a.1 }) a.2 in
     (b.0, b.1, b.2)
-
--- no text is read
-pub alone : (was now : LineState) (old new : WebSocketHalf) → PreservesByLine was old now new → PreservesAlone Invariant was old now new
-alone was now old new on scene read view x =
-    let y = on scene read view x in
-    ([], y.0, y.1, rw append-nil y.2)

@@ -15,14 +15,14 @@ pub use Rattle.asgi_exchange.specs.Views.{Break, ByCut, ByInput, ConnView, added
 pub use Rattle.asgi_halves.proofs.{HalfBodyLemmas.unbroken, HalfLemmas.HasPut, TalkLemmas.talk_begins, TalkLemmas.talk_read, TalkLemmas.talk_sent, TalkLemmas.talk_upgraded, TalkLemmas.talk_written}
 pub use Rattle.asgi_halves.proofs.CallLemmas.{as_messages, as_text, closes, failures_by, none_after, open_closes, or_none, read_after}
 pub use Rattle.asgi_halves.proofs.LineCallLemmas.{HasRead, HasSent, HasUpgraded, has_read, has_sent, has_upgraded, turn_of_message}
-pub use Rattle.asgi_halves.specs.{Half.failures_at, Kinds.IsCutOff, Kinds.IsOpen, Kinds.PreservesAlone, Traffic.drop_limit, Traffic.failures_of, Traffic.is_end, declared.wire.Wire.Wire}
+pub use Rattle.asgi_halves.specs.{Half.failures_at, Kinds.IsCutOff, Kinds.IsOpen, Traffic.drop_limit, Traffic.failures_of, Traffic.is_end, declared.stage.Stage.Stage, declared.wire.Wire.Wire}
 pub use Rattle.asgi_halves.specs.WebSocketHalf.{CarriesOn, EndsByTask, Invariant, IsAccept, IsAt, IsCarried, IsCarrying, IsCutShort, IsCutShortAs, IsDenial, IsDue, IsOf, IsSilent, IsUnended, MayDrop}
 pub use Rattle.asgi_halves.specs.WebSocketHalf.{OpensSession, PreservesByLine, SessionScene, Talks, answer_of, answer_to, answered_with, exchange_of, heard_by, is_over_at, is_over_with, known}
 pub use Rattle.asgi_halves.specs.WebSocketHalf.{lost_by, noted_by, outcome_of, output_in, rest_after, rest_at, said_in, spare_at, spare_with, stage_of, talk_in, waiting}
 pub use Rattle.asgi_halves.specs.declared.session_half.{Answered.Answered, Session.Session, Side.Side, Side.TheVariants.Application, Side.TheVariants.Client, WebSocketHalf.WebSocketHalf}
 pub use Rattle.asgi_halves.specs.declared.session_half.Answer.{Answer, TheVariants.Accepted, TheVariants.Awaited}
 pub use Rattle.asgi_halves.specs.declared.session_half.Answered.TheVariants.{Closed, Open, Unanswered}
-pub use Rattle.asgi_halves.specs.declared.stage.Stage.{Stage, TheVariants.Cut, TheVariants.Over, TheVariants.Running}
+pub use Rattle.asgi_halves.specs.declared.stage.Stage.TheVariants.{Cut, Over, Running}
 pub use Rattle.asgi_pipes.specs.declared.{ends.ConnEnd.Ghosts as ConnGhosts, items.OutItem.OutItem, items.OutItem.TheVariants.Ended, items.OutItem.TheVariants.Event}
 pub use Rattle.asgi_protocol.proofs.PassingLemmas.{is_passed}
 pub use Rattle.asgi_protocol.proofs.RowLemmas.{both}

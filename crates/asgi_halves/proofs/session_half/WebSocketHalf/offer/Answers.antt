@@ -4,18 +4,16 @@ use Rattle.asgi_halves.proofs.session_half.WebSocketHalf.offer.Goals as goal
 
 pub returns-in-Ok-clause-leads : goal.returns-in-Ok-clause-leads
 returns-in-Ok-clause-leads g c scene line read view x v =
-    let same = c.offer.ensures.same in
     let w = c.in-Begun-default-Some in
     offered_view x c.requires.running g.C.ConnEnd c.args.end.now c.offer.new.self c.replace.result c.replace.ensures.value v w.answer w.event
-    (w.is ∙ ap (λ (o : Option Incoming). Session.Begun w.answer o) w.field-1-is) c.in-Ok.ensures.ok.0 same.0 same.1
+    (w.is ∙ ap (λ (o : Option Incoming). Session.Begun w.answer o) w.field-1-is) c.in-Ok.ensures.ok.0 c.offer.ensures.same.0 c.offer.ensures.same.1
 
 pub returns-in-Err-clause-leads : goal.returns-in-Err-clause-leads
 returns-in-Err-clause-leads g c scene line read view x v =
-    let same = c.offer.ensures.same in
     let err = c.in-Err.ensures.err in
     let w = c.in-Begun-default-Some in
     none_view x c.requires.running g.C.ConnEnd c.args.end.now c.offer.new.self c.replace.result c.replace.ensures.value v (Session.Begun w.answer (Some c.in-Err.back))
-    (w.is ∙ ap (λ (o : Option Incoming). Session.Begun w.answer o) (w.field-1-is ∙ ap (λ (e : Incoming). Some e) (sym err.0))) err.1 same.0 same.1
+    (w.is ∙ ap (λ (o : Option Incoming). Session.Begun w.answer o) (w.field-1-is ∙ ap (λ (e : Incoming). Some e) (sym err.0))) err.1 c.offer.ensures.same.0 c.offer.ensures.same.1
 
 pub returns-in-Leaves-clause-leads : goal.returns-in-Leaves-clause-leads
 returns-in-Leaves-clause-leads g c scene line read view x v =
@@ -31,10 +29,10 @@ returns-in-Breaks-clause-leads g c scene line read view x v =
 
 pub returns-in-Begun-default-None-clause-leads : goal.returns-in-Begun-default-None-clause-leads
 returns-in-Begun-default-None-clause-leads g c scene line read view x v =
-    let end = c.args.end.now in
     let w = c.in-Begun-default-None in
-    none_view x c.requires.running g.C.ConnEnd end end c.replace.result c.replace.ensures.value v _ (w.is ∙ ap (λ (o : Option Incoming). Session.Begun w.answer o) w.field-1-is) refl refl refl
+    none_view x c.requires.running g.C.ConnEnd c.args.end.now c.args.end.now c.replace.result c.replace.ensures.value v _
+    (w.is ∙ ap (λ (o : Option Incoming). Session.Begun w.answer o) w.field-1-is) refl refl refl
 
 pub returns-in-Closed-clause-leads : goal.returns-in-Closed-clause-leads
 returns-in-Closed-clause-leads g c scene line read view x v =
-    let end = c.args.end.now in none_view x c.requires.running g.C.ConnEnd end end c.replace.result c.replace.ensures.value v _ c.in-Closed.is refl refl refl
+    none_view x c.requires.running g.C.ConnEnd c.args.end.now c.args.end.now c.replace.result c.replace.ensures.value v _ c.in-Closed.is refl refl refl
