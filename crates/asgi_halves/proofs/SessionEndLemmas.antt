@@ -2,10 +2,10 @@
 use Rattle.asgi_halves.proofs.SessionWords.{Answered, Application, Bool, Byte, Client, Closed, ConnView, ConnectionEnds, DenialStart, EndKind, Ending, EndsByTask, Facts, HasPut, HasSent, Http}
 use Rattle.asgi_halves.proofs.SessionWords.{Invariant, IsAt, IsLawful, IsUnended, LineState, List, Message, Msg, Open, Option, Outcome, Outgoing, Output, Over, Progress, Put, SentMessage, Session}
 use Rattle.asgi_halves.proofs.SessionWords.{SessionScene, Side, Some, Stage, StandsForSession, Talks, Unanswered, WebSocket, WebSocketHalf, WriteFailed, WsAccept, WsClose, [], accepted_session}
-use Rattle.asgi_halves.proofs.SessionWords.{added_by, after_session, answer_of, answer_to, ap, append-nil, as_response, closing_facts, denial_progress, end_of, ending_after, ending_of, exchange_of}
-use Rattle.asgi_halves.proofs.SessionWords.{failures_at, failures_by, failures_of, false, handshake_of, has_close, if◌then◌else◌, inl, inr, is_by_input, is_closed, is_lawful_response}
-use Rattle.asgi_halves.proofs.SessionWords.{lawful_is_accepted, length, map, open_outcome, outcome_of, output, output_in, prefix_same, prefix_self, progress_in, refl, refusal_text, rest_at, said_in}
-use Rattle.asgi_halves.proofs.SessionWords.{session_ending, session_outcome, session_text, subst, sym, take, taken_of, test_of_beginning, true, ℕ, ◌++◌, ◌<◌, ◌∙◌, ◌∷◌, ◌≡◌, ◌⊎◌}
+use Rattle.asgi_halves.proofs.SessionWords.{after_session, answer_of, answer_to, ap, append-nil, as_response, closing_facts, denial_progress, end_of, ending_of, exchange_of, failures_at, failures_by}
+use Rattle.asgi_halves.proofs.SessionWords.{failures_of, false, handshake_of, has_close, if◌then◌else◌, inl, inr, is_by_input, is_closed, is_lawful_response, lawful_is_accepted, length, map}
+use Rattle.asgi_halves.proofs.SessionWords.{open_outcome, outcome_of, output, output_in, prefix_same, prefix_self, progress_in, refl, refusal_text, rest_at, said_in, session_ending, session_outcome}
+use Rattle.asgi_halves.proofs.SessionWords.{session_text, subst, sym, take, taken_of, test_of_beginning, true, ℕ, ◌++◌, ◌<◌, ◌∙◌, ◌∷◌, ◌≡◌, ◌⊎◌}
 use Rattle.asgi_halves.proofs.SessionOfferLemmas.{Adds, IsSent, at_stage, due_of, message_out, stands_at, text_cut, text_out}
 use Rattle.asgi_response.specs.{Progress.closes_after}
 
@@ -105,17 +105,14 @@ module _ {scene : SessionScene} {was : LineState} {half : WebSocketHalf} {read :
 
   adding : Adds scene view view.got adds
   adding =
-      let all : output (exchange_of scene) view ≡ view.written ++ adds =
-      ap (λ (o : Option EndKind). output_in scene view ++ added_by (exchange_of scene) (taken_of view) o view.broken_first view.arrived) at_end.1
-      ∙ (ap (λ (b : Bool). output_in scene view ++ session_ending scene.facts (taken_of view) ended b) at_end.2 ∙ ap (λ (l : List Output). l ++ adds) (sym at_end.0.written)) in
+      let all : output (exchange_of scene) view ≡ view.written ++ adds = rw (at_end.1, at_end.2, at_end.0.written) refl in
       let short = prefix_same view.written (output_in scene view) at_end.0.written in
       record { said = prefix_self (said_in scene view); all = all; next = Ending ended at_end.1 at_end.0.written refl; short = short }
 
   by_task : (out : Outcome) (written : List Output) → follows_so out → written ≡ view.written ++ adds → EndsByTask scene (record view { written = written }) out
   by_task out written follows gone =
       let whole : view.written ++ adds ≡ session_text (handshake_of scene.facts) scene.facts (taken_of view) (end_of view.got) (is_by_input view.broken) =
-      ap (λ (l : List Output). l ++ adds) at_end.0.written
-      ∙ sym (ap (λ (o : Option EndKind). output_in scene view ++ ending_after scene.facts (taken_of view) o (is_by_input view.broken)) at_end.1) in
+      rw (at_end.1, at_end.0.written) refl in
       record { kind = ended; taken = at_end.1; uncut = at_end.0.uncut; follows = follows; out = gone ∙ whole }
 
   -- nothing is added

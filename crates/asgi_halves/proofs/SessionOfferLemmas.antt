@@ -151,8 +151,7 @@ module _ {scene : SessionScene} {was : LineState} {half : WebSocketHalf} {read :
         → (written : List Output) × Invariant scene now (among half later) read (record view { got = got; written = written })
     goes_out later text kept handed front rest same passed out is carried stage =
         let written : List Output = map Byte text ++ map Message handed in
-        let all : written ++ rest ≡ output (exchange_of scene) (record view { got = got }) =
-        ap (λ (l : List Output). l ++ rest) out ∙ (append_assoc view.written front rest ∙ (ap (λ (l : List Output). view.written ++ l) is ∙ sym a.all)) in
+        let all : written ++ rest ≡ output (exchange_of scene) (record view { got = got }) = rw (out, append_assoc view.written front rest, is) (sym a.all) in
         let breaks = λ (e : is_by_input view.broken ≡ true). subst (λ (r : Option ℕ). (has_close view.arrived ≡ true) ⊎ (is_over_with r ≡ true)) same (x.breaks e) in
         (written, again now later (record view { got = got; written = written }) text kept handed same passed refl carried (record { offered = x.keeps.offered; written = (rest, all) }) breaks stage)
 
@@ -189,8 +188,7 @@ module _ {scene : SessionScene} {was : LineState} {half : WebSocketHalf} {read :
       text_cut later more adds_it kept same answered one n less put stage =
           let part : map Byte (take n more) ≡ take n adds = sym (take-map Byte n more) ∙ ap (λ (l : List Output). take n l) (sym adds_it) in
           let within : n < length adds = subst (λ (k : ℕ). n < k) (sym (ap (λ (l : List Output). length l) adds_it ∙ length-map more Byte)) less in
-          text_out later (take n more) (drop n adds) kept same answered (subst (λ (k : ℕ). HasPut was now (take n more) k) (sym one) put)
-          (ap (λ (l : List Output). l ++ drop n adds) part ∙ take-append-drop n adds)
+          text_out later (take n more) (drop n adds) kept same answered (rw one put) (ap (λ (l : List Output). l ++ drop n adds) part ∙ take-append-drop n adds)
           (λ written out. stage (record view { got = got; written = written }) refl
           (record { out = view.written; more = adds; is_next = a.next; within = within; written_is = out ∙ ap (λ (l : List Output). view.written ++ l) part }))
 
@@ -199,11 +197,7 @@ module _ {scene : SessionScene} {was : LineState} {half : WebSocketHalf} {read :
       sent_so : (put : Put) (written : List Output) → written ≡ view.written ++ map Message (taken_by message put)
           → (rest : List Output) × (map Message (taken_by message put) ++ rest ≡ adds) × IsSent put scene (record view { got = got; written = written }) (view.written ++ adds)
       sent_so Put.Done written out = ([], sym adds_it, out ∙ ap (λ (l : List Output). view.written ++ l) (sym adds_it))
-      sent_so Put.Failed written out = (
-        adds,
-        refl,
-        record { out = view.written; more = adds; is_next = a.next; within = subst (λ (l : List Output). 0 < length l) (sym adds_it) (omega arith); written_is = out },
-      )
+      sent_so Put.Failed written out = (adds, refl, record { out = view.written; more = adds; is_next = a.next; within = rw adds_it (omega arith); written_is = out })
       sent_so Put.NoMemory written out = (adds, refl, (a.short.0, ap (λ (l : List Output). l ++ a.short.0) (out ∙ append-nil view.written) ∙ a.short.1))
 
       pub message_out : (answer : Put) → HasSent was now message answer → (later : WebSocketHalf) → rest_at half.session ≡ rest_at later.session → Carries (answer_of later.session)
@@ -216,7 +210,7 @@ module _ {scene : SessionScene} {was : LineState} {half : WebSocketHalf} {read :
           let seen : ConnView Msg Output = record view { got = got; written = map Byte x.text ++ map Message handed } in
           let out = as_messages x.text x.handed (taken_by message answer) view.written x.written in
           let s = sent_so answer seen.written out in
-          let passed = subst (λ (n : ℕ). Passed now x.text n x.leftover handed) fails
+          let passed = rw fails at
           (talk_sent scene.start was now half.wire.input read (scene.before ++ x.text) 0 refl (talk_in half view x.leftover x.handed) (talk_in half view x.leftover handed)
           (spare_at half.session) (line_at 0 unfailed) sent.text message answer sent.told sent.count sent.coming sent.kept refl refl refl refl scene.frames c.kept) in
           let carried = (carrying scene (among half later) seen x.text x.leftover handed (answer_of later.session) carries).1 (carrying_on c seen a.said) in
@@ -349,8 +343,7 @@ module _ {scene : SessionScene} {was : LineState} {half : WebSocketHalf} {read :
     took item s failures at =
         let later : ConnView Msg Output = record view { got = view.got ++ item ∷ [] } in
         let p = x.keeps.written in
-        let whole : view.written ++ p.0 ≡ output_in scene view =
-        p.1 ∙ (ap (λ (o : Option EndKind). output_in scene view ++ added_by (exchange_of scene) (taken_of view) o view.broken_first view.arrived) unended.1 ∙ append-nil (output_in scene view)) in
+        let whole = rw (unended.1, append-nil (output_in scene view)) at p.1 in
         let front = λ (q : IsPrefix view.written (output_in scene view)). prefix_trans view.written (output_in scene view) (output_in scene later) q (output_after scene view.got item) in
         let written = prefix_trans view.written (output_in scene later) (output (exchange_of scene) later) (front (p.0, whole))
         (added_by (exchange_of scene) (taken_of later) (end_of later.got) later.broken_first later.arrived, refl) in

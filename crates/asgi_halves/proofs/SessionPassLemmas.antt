@@ -1,6 +1,6 @@
 -- What an event that passes shows about those that were sent before it, in a session.
 use Rattle.asgi_halves.proofs.SessionWords.{Bool, Closed, DenialBody, DenialStart, Facts, HeaderField, List, Open, Option, Outgoing, Payload, WebSocket, WsAccept, WsClose, WsSend, []}
-use Rattle.asgi_halves.proofs.SessionWords.{accepted_session, answer_to, ap, begins_row, both, false, fold-append, goes_on, if◌then◌else◌, inl, inr, is_close, is_closed, is_denial_part, is_empty}
+use Rattle.asgi_halves.proofs.SessionWords.{accepted_session, answer_to, begins_row, both, false, fold-append, goes_on, if◌then◌else◌, inl, inr, is_close, is_closed, is_denial_part, is_empty}
 use Rattle.asgi_halves.proofs.SessionWords.{is_last_denial_part, is_message, is_of, is_passed, is_row, lines_on, or_none, passes, refl, sym, true, verdict_on, with_session_event, ℕ, ◌&&◌, ◌++◌, ◌∙◌}
 use Rattle.asgi_halves.proofs.SessionWords.{◌∷◌, ◌≡◌, ◌⊎◌}
 use Rattle.asgi_protocol.proofs.PassLemmas as passing
@@ -9,9 +9,7 @@ use Rattle.asgi_protocol.proofs.PassLemmas as passing
 
 pub accepted_more : (facts : Facts) (events : List Outgoing) (event : Outgoing) (b : Bool) → passes WebSocket facts (accepted_session facts events) event ≡ b
     → accepted_session facts (events ++ event ∷ []) ≡ (if b then accepted_session facts events ++ event ∷ [] else accepted_session facts events)
-accepted_more facts events event b h =
-    fold-append (with_session_event facts) [] events (event ∷ [])
-    ∙ ap (λ (pass : Bool). if pass then accepted_session facts events ++ event ∷ [] else accepted_session facts events) h
+accepted_more facts events event b h = rw (fold-append (with_session_event facts) [] events (event ∷ []), h) refl
 
 -- ---- the last event of a row
 
@@ -104,16 +102,12 @@ not_closed facts said event h =
 pub open_after_send : (facts : Facts) (said : List Outgoing) (payload : Payload) → passes WebSocket facts said (WsSend payload) ≡ true → answer_to (said ++ WsSend payload ∷ []) ≡ Open
 open_after_send facts said payload h =
     let s = message_follows said payload (goes facts said (WsSend payload) h) in
-    ap (λ (l : List Outgoing). answer_to (l ++ WsSend payload ∷ [])) s.3
-    ∙ ap (λ (b : Bool). if b then Closed else Open) (row_open is_message is_close s.2 (WsSend payload) refl)
+    rw (s.3, row_open is_message is_close s.2 (WsSend payload) refl) refl
 
 pub closed_after_close : (facts : Facts) (said : List Outgoing) (code : ℕ) (reason : List ℕ) → IsAccepted said → passes WebSocket facts said (WsClose code reason) ≡ true
     → answer_to (said ++ WsClose code reason ∷ []) ≡ Closed
 closed_after_close facts said code reason s h =
-    let goes : begins_row is_message is_close (s.2 ++ WsClose code reason ∷ []) ≡ true =
-    sym (ap (λ (l : List Outgoing). goes_on WebSocket l (WsClose code reason)) s.3) ∙ goes facts said (WsClose code reason) h in
-    ap (λ (l : List Outgoing). answer_to (l ++ WsClose code reason ∷ [])) s.3
-    ∙ ap (λ (b : Bool). if b then Closed else Open) (row_whole is_message is_close s.2 (WsClose code reason) refl goes)
+    let goes = rw s.3 at (goes facts said (WsClose code reason) h) in rw (s.3, row_whole is_message is_close s.2 (WsClose code reason) refl goes) refl
 
 pub open_is_accepted : (said : List Outgoing) → answer_to said ≡ Open → IsAccepted said
 open_is_accepted (WsAccept a b ∷ events) h = (a, b, events, refl)

@@ -1,12 +1,12 @@
 -- An event is sent that the judge has passed: if the invariant of the half held, it holds again.
-use Rattle.asgi_halves.proofs.SessionWords.{Answer, Answered, Application, Awaited, Bool, Byte, Closed, ConnKeeps, ConnView, Cut, DenialBody, DenialStart, EndKind, Err, Event, Facts, Global, Grows}
-use Rattle.asgi_halves.proofs.SessionWords.{Handshake, HasPut, HasSent, HasUpgraded, HeaderField, Incoming, Invariant, IsAccept, IsAt, IsCarrying, IsDenial, IsDue, Judge, JudgeStandsFor, LineState}
-use Rattle.asgi_halves.proofs.SessionWords.{List, Message, Msg, NoMemory, None, Ok, OnOk, Open, Option, Outgoing, Output, Payload, Put, ResponseText, Result, Running, Saying, SentMessage, Session}
+use Rattle.asgi_halves.proofs.SessionWords.{Answer, Answered, Application, Awaited, Bool, Byte, Closed, ConnKeeps, ConnView, Cut, DenialBody, DenialStart, Err, Event, Facts, Global, Grows, Handshake}
+use Rattle.asgi_halves.proofs.SessionWords.{HasPut, HasSent, HasUpgraded, HeaderField, Incoming, Invariant, IsAccept, IsAt, IsCarrying, IsDenial, IsDue, Judge, JudgeStandsFor, LineState, List}
+use Rattle.asgi_halves.proofs.SessionWords.{Message, Msg, NoMemory, None, Ok, OnOk, Open, Option, Outgoing, Output, Payload, Put, ResponseText, Result, Running, Saying, SentMessage, Session}
 use Rattle.asgi_halves.proofs.SessionWords.{SessionScene, Some, Stage, StandsForSession, Talks, Unanswered, Vec, WebSocket, WebSocketHalf, Wire, WriteFailed, WsAccept, WsClose, WsSend, []}
-use Rattle.asgi_halves.proofs.SessionWords.{accept_text, accepted_session, added_by, answer_of, answer_to, answered_with, ap, append-nil, append_cancel_left, as_text, denial_text, end_event, end_of}
-use Rattle.asgi_halves.proofs.SessionWords.{event_adds, event_output, events_append, exchange_of, failures_at, failures_by, false, goes_on, handshake_of, if◌then◌else◌, inl, inr, is_by_input}
-use Rattle.asgi_halves.proofs.SessionWords.{is_closed, is_err, length, map, map-append, output, output_in, output_of, passes, refl, refusal_text, rest_at, said_in, session_output, spare_at, stage_of}
-use Rattle.asgi_halves.proofs.SessionWords.{subst, sym, take, taken_of, talk_in, talk_upgraded, true, ℕ, ◌++◌, ◌<◌, ◌∙◌, ◌∷◌, ◌≡◌, ◌≢◌, ◌⊎◌}
+use Rattle.asgi_halves.proofs.SessionWords.{accept_text, accepted_session, answer_of, answer_to, answered_with, ap, append-nil, append_cancel_left, as_text, denial_text, end_event, end_of, event_adds}
+use Rattle.asgi_halves.proofs.SessionWords.{event_output, events_append, exchange_of, failures_at, failures_by, false, handshake_of, if◌then◌else◌, inl, inr, is_by_input, is_closed, is_err, length}
+use Rattle.asgi_halves.proofs.SessionWords.{map, map-append, output, output_in, output_of, passes, refl, refusal_text, rest_at, said_in, session_output, spare_at, stage_of, subst, sym, take, taken_of}
+use Rattle.asgi_halves.proofs.SessionWords.{talk_in, talk_upgraded, true, ℕ, ◌++◌, ◌<◌, ◌∙◌, ◌∷◌, ◌≡◌, ◌≢◌, ◌⊎◌}
 use Rattle.asgi_halves.proofs.SessionOfferLemmas.{Adds, Carries, IsSent, Passed, carried_at, carrying, goes_out, is_answered, message_out, runs, same_answer, stands_at, text_cut, text_out}
 use Rattle.asgi_halves.proofs.SessionOfferLemmas.{text_passed}
 use Rattle.asgi_halves.proofs.SessionPassLemmas.{IsAccepted, accepted_more, body_follows, close_follows, closed_after_close, goes, is_first, message_follows, not_closed, open_after_send}
@@ -87,9 +87,7 @@ module _ {scene : SessionScene} {was : LineState} {old : WebSocketHalf} {read : 
 
   adding : Adds scene view (view.got ++ Event event ∷ []) adds
   adding =
-      let all : output (exchange_of scene) taken ≡ view.written ++ adds =
-      ap (λ (o : Option EndKind). output_in scene taken ++ added_by (exchange_of scene) (taken_of taken) o view.broken_first view.arrived) still_open
-      ∙ (append-nil (output_in scene taken) ∙ output_later) in
+      let all : output (exchange_of scene) taken ≡ view.written ++ adds = rw (still_open, append-nil (output_in scene taken)) output_later in
       record { said = (event ∷ [], sym said_later); all = all; next = Saying (taken_of view) [] event more_taken before.0.written text_after; short = (adds, sym output_later) }
 
   -- all of it went out
@@ -157,8 +155,8 @@ module _ {scene : SessionScene} {was : LineState} {old : WebSocketHalf} {read : 
   payload_sent now answer sent =
       let s = message_follows (said_in scene view) payload (goes scene.facts (said_in scene view) (WsSend payload) p.pass) in
       let opened = is_open p s in
-      handed_over p opened now (SentMessage.Payload payload) (ap (λ (l : List Outgoing). event_output (handshake_of scene.facts) scene.facts l (WsSend payload)) s.3) answer sent
-      old.session (inl opened) refl (open_after_send scene.facts (said_in scene view) payload p.pass ∙ sym opened) (before p).0.due
+      handed_over p opened now (SentMessage.Payload payload) (rw s.3 refl) answer sent old.session (inl opened) refl
+      (open_after_send scene.facts (said_in scene view) payload p.pass ∙ sym opened) (before p).0.due
 
 module _ {scene : SessionScene} {was : LineState} {old : WebSocketHalf} {read : List ℕ} {view : ConnView Msg Output} {judge : Judge} {code : ℕ} {reason : List ℕ}
     (p : Sending scene was old read view judge (WsClose code reason)) where
@@ -166,8 +164,7 @@ module _ {scene : SessionScene} {was : LineState} {old : WebSocketHalf} {read : 
       → (rest : Option ℕ) → rest ≡ rest_at old.session → (s : Stage) → s ≡ stage_of answer → Holds p now (after p (Session.Closed Application rest) s)
   close_sent opened now answer copy copied sent rest same =
       let s = open_is_accepted (said_in scene view) (sym (before p).0.answered ∙ opened) in
-      handed_over p opened now (SentMessage.Close code reason) (ap (λ (l : List Outgoing). event_output (handshake_of scene.facts) scene.facts l (WsClose code reason)) s.3)
-      answer (subst (λ (r : List ℕ). HasSent was now (SentMessage.Close code r) answer) copied sent) (Session.Closed Application rest) (inr refl) (sym same)
+      handed_over p opened now (SentMessage.Close code reason) (rw s.3 refl) answer (rw copied at sent) (Session.Closed Application rest) (inr refl) (sym same)
       (closed_after_close scene.facts (said_in scene view) code reason s p.pass) tt
 
   -- a close in place of an accept
@@ -180,8 +177,7 @@ module _ {scene : SessionScene} {was : LineState} {old : WebSocketHalf} {read : 
     unanswered_yet = (before p).0.answered ∙ ap answer_to unsaid
 
     adds_refusal : adds p ≡ map Byte text
-    adds_refusal =
-        ap (λ (l : List Outgoing). event_output (handshake_of scene.facts) scene.facts l (WsClose code reason)) unsaid ∙ ap (λ (l : List ℕ). map Byte l) (sym text_is)
+    adds_refusal = rw (unsaid, text_is) refl
 
     besides : (rest_at old.session ≡ rest_at (answered_with Answer.Refused old.session)) × IsDue (answered_with Answer.Refused old.session) view.offered view.arrived (is_by_input view.broken)
     besides = same_besides Answer.Refused old.session view.offered view.arrived (is_by_input view.broken) (before p).0.due
@@ -192,7 +188,7 @@ module _ {scene : SessionScene} {was : LineState} {old : WebSocketHalf} {read : 
     pub refused_whole : HasPut was now text 0 → Holds p now new
     refused_whole put =
         rw same (all_out p unanswered_yet text adds_refusal now old.text old.wire.out (answered_with Answer.Refused old.session) besides.0 (inr refused) (before p).0.empty
-        (ap (λ (l : List Outgoing). answer_to (l ++ WsClose code reason ∷ [])) unsaid ∙ sym refused) (λ e. absurd (cc (sym refused ∙ e))) besides.1 put)
+        (rw (unsaid, refused) refl) (λ e. absurd (cc (sym refused ∙ e))) besides.1 put)
 
     pub refused_part : (n : ℕ) → n < length text → HasPut was now (take n text) 1 → Holds p now (record new { stage = Cut (WriteFailed n) })
     refused_part n less put =
@@ -211,8 +207,7 @@ module _ {scene : SessionScene} {was : LineState} {old : WebSocketHalf} {read : 
 
   none_before : said_in scene view ≡ []
   none_before =
-      is_first (said_in scene view) (WsAccept a.0 a.1) refl refl refl refl
-      (subst (λ (e : Outgoing). goes_on WebSocket (said_in scene view) e ≡ true) a.2 (goes scene.facts (said_in scene view) event p.pass))
+      is_first (said_in scene view) (WsAccept a.0 a.1) refl refl refl refl (rw a.2 at (goes scene.facts (said_in scene view) event p.pass))
 
   not_answered : answer_of old.session ≡ Unanswered
   not_answered = (before p).0.answered ∙ ap answer_to none_before
@@ -223,11 +218,7 @@ module _ {scene : SessionScene} {was : LineState} {old : WebSocketHalf} {read : 
 
   module _ (text : List ℕ) (text_is : text ≡ accept_text old.facts event) (now : LineState) where
     adds_handshake : adds p ≡ map Byte text
-    adds_handshake =
-        let by_event : event_output (handshake_of scene.facts) scene.facts [] event ≡ map Byte (accept_text scene.facts event) =
-        ap (λ (e : Outgoing). event_output (handshake_of scene.facts) scene.facts [] e) a.2 ∙ ap (λ (e : Outgoing). map Byte (accept_text scene.facts e)) (sym a.2) in
-        ap (λ (l : List Outgoing). event_output (handshake_of scene.facts) scene.facts l event) none_before
-        ∙ (by_event ∙ ap (λ (l : List ℕ). map Byte l) (ap (λ (f : Facts). accept_text f event) (sym p.held.fixed.facts_are) ∙ sym text_is))
+    adds_handshake = rw (none_before, text_is, p.held.fixed.facts_are, a.2) refl
 
     pub accept_part : (n : ℕ) → n < length text → HasPut was now (take n text) 1 → Holds p now (after p old.session (Cut (WriteFailed n)))
     accept_part = cut_off p not_answered text adds_handshake now old.text old.wire.out old.session refl (inl not_answered)
@@ -255,8 +246,7 @@ module _ {scene : SessionScene} {was : LineState} {old : WebSocketHalf} {read : 
         let handshake = ap (λ (l : List ℕ). l ++ text) none ∙ (text_is ∙ (ap (λ (f : Facts). accept_text f event) x.fixed.facts_are ∙ ap (λ (e : Outgoing). accept_text scene.facts e) a.2)) in
         let carried : IsCarrying scene seen whole (Some scene.frames) = record { kept = refl; subprotocol = a.0; headers = a.1; events = []; said = said; text_is = handshake } in
         let stage = talks_still p leftover old.text old.wire.out next seen.written (before p).0.empty
-        (ap (λ (l : List Outgoing). answer_to (l ++ event ∷ [])) none_before ∙ (ap (λ (e : Outgoing). answer_to (e ∷ [])) a.2 ∙ sym by)) (λ e. absurd (cc (sym by ∙ e)))
-        besides.1 out in
+        (rw (none_before, a.2, by) refl) (λ e. absurd (cc (sym by ∙ e))) besides.1 out in
         rw new_is (subst (λ (s : Stage). Holds p switched (record later { stage = s })) (sym p.running)
         (goes_out x (ap failures_at p.running) (adding p) switched later whole (Some scene.frames) x.handed (adds p) [] besides.0 passed out (append-nil (adds p))
         ((carrying scene later seen whole (Some scene.frames) x.handed (answer_of next) (inl by)).1 carried) stage))
