@@ -2,10 +2,10 @@
 use Rattle.asgi_halves.proofs.SessionWords.{Answered, Application, Bool, Byte, Client, Closed, ConnView, ConnectionEnds, DenialStart, EndKind, Ending, EndsByTask, Facts, HasPut, HasSent, Http}
 use Rattle.asgi_halves.proofs.SessionWords.{Invariant, IsAt, IsLawful, IsUnended, LineState, List, Message, Msg, Open, Option, Outcome, Outgoing, Output, Over, Progress, Put, SentMessage, Session}
 use Rattle.asgi_halves.proofs.SessionWords.{SessionScene, Side, Some, Stage, StandsForSession, Talks, Unanswered, WebSocket, WebSocketHalf, WriteFailed, WsAccept, WsClose, [], accepted_session}
-use Rattle.asgi_halves.proofs.SessionWords.{after_session, answer_of, answer_to, ap, append-nil, as_response, closing_facts, denial_progress, end_of, ending_of, exchange_of, failures_at, failures_by}
-use Rattle.asgi_halves.proofs.SessionWords.{failures_of, false, handshake_of, has_close, if◌then◌else◌, inl, inr, is_by_input, is_closed, is_lawful_response, lawful_is_accepted, length, map}
-use Rattle.asgi_halves.proofs.SessionWords.{open_outcome, outcome_of, output, output_in, prefix_same, prefix_self, progress_in, refl, refusal_text, rest_at, said_in, session_ending, session_outcome}
-use Rattle.asgi_halves.proofs.SessionWords.{session_text, subst, sym, take, taken_of, test_of_beginning, true, ℕ, ◌++◌, ◌<◌, ◌∙◌, ◌∷◌, ◌≡◌, ◌⊎◌}
+use Rattle.asgi_halves.proofs.SessionWords.{after_session, answer_of, answer_to, ap, append-nil, as_response, closing_facts, denial_progress, end_of, ending_of, failures_at, failures_by, failures_of}
+use Rattle.asgi_halves.proofs.SessionWords.{false, has_close, if◌then◌else◌, inl, inr, is_by_input, is_closed, is_lawful_response, lawful_is_accepted, length, map, open_outcome, outcome_of, output_in}
+use Rattle.asgi_halves.proofs.SessionWords.{prefix_same, prefix_self, progress_in, refl, refusal_text, rest_at, said_in, session_ending, session_outcome, subst, sym, take, taken_of, test_of_beginning}
+use Rattle.asgi_halves.proofs.SessionWords.{true, ℕ, ◌++◌, ◌<◌, ◌∙◌, ◌∷◌, ◌≡◌, ◌⊎◌}
 use Rattle.asgi_halves.proofs.SessionOfferLemmas.{Adds, IsSent, at_stage, due_of, message_out, stands_at, text_cut, text_out}
 use Rattle.asgi_response.specs.{Progress.closes_after}
 
@@ -105,15 +105,11 @@ module _ {scene : SessionScene} {was : LineState} {half : WebSocketHalf} {read :
 
   adding : Adds scene view view.got adds
   adding =
-      let all : output (exchange_of scene) view ≡ view.written ++ adds = rw (at_end.1, at_end.2, at_end.0.written) refl in
       let short = prefix_same view.written (output_in scene view) at_end.0.written in
-      record { said = prefix_self (said_in scene view); all = all; next = Ending ended at_end.1 at_end.0.written refl; short = short }
+      record { said = prefix_self (said_in scene view); all = rw (at_end.1, at_end.2, at_end.0.written) refl; next = Ending ended at_end.1 at_end.0.written refl; short = short }
 
   by_task : (out : Outcome) (written : List Output) → follows_so out → written ≡ view.written ++ adds → EndsByTask scene (record view { written = written }) out
-  by_task out written follows gone =
-      let whole : view.written ++ adds ≡ session_text (handshake_of scene.facts) scene.facts (taken_of view) (end_of view.got) (is_by_input view.broken) =
-      rw (at_end.1, at_end.0.written) refl in
-      record { kind = ended; taken = at_end.1; uncut = at_end.0.uncut; follows = follows; out = gone ∙ whole }
+  by_task out written follows gone = record { kind = ended; taken = at_end.1; uncut = at_end.0.uncut; follows = follows; out = rw (gone, at_end.1, at_end.0.written) refl }
 
   -- nothing is added
   ends_silent : (out : Outcome) → failures_of out ≡ 0 → adds ≡ [] → follows_so out → Goes scene was (ends_so half out) read view

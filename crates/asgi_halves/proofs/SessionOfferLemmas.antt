@@ -1,14 +1,14 @@
 -- What the steps of a session's half keep, and those at its own end of the pair: it offers what is due, and the disconnect of a cut.
 use Rattle.asgi_halves.proofs.SessionWords.{Answer, Answered, Bool, Break, ByCut, ByInput, ByWrite, Byte, CarriesOn, Client, Closed, ConnGhosts, ConnKeeps, ConnView, ConnectionEnds, Cut, EndKind}
 use Rattle.asgi_halves.proofs.SessionWords.{Ended, Event, Facts, HasPut, HasSent, Incoming, Invariant, IsAt, IsCarried, IsCarrying, IsCutOff, IsCutShort, IsCutShortAs, IsDue, IsNextOutput, IsOf}
-use Rattle.asgi_halves.proofs.SessionWords.{IsOffered, IsOpen, IsPrefix, IsSilent, IsTrue, IsViewOf, JudgeStandsFor, LineState, List, Message, Msg, NoMemory, None, Open, Option, OutItem, Outcome}
-use Rattle.asgi_halves.proofs.SessionWords.{OutcomeClass, Outgoing, Output, Over, Put, Running, SentMessage, Session, SessionScene, Some, Stage, StandsForSession, StopsSession, Talks, Unanswered}
-use Rattle.asgi_halves.proofs.SessionWords.{Unbegun, Uncut, WebSocket, WebSocketHalf, WriteFailed, WsDisconnect, [], accepted_session, added_by, answer_of, answer_to, ap, append-nil, append_assoc}
-use Rattle.asgi_halves.proofs.SessionWords.{arith, as_messages, as_text, class_of, drop, drop_limit, end_event, end_of, events_append, events_of, exchange_of, failures_at, failures_by, false}
-use Rattle.asgi_halves.proofs.SessionWords.{fold-append, handshake_of, has_close, if◌then◌else◌, inl, inr, is_by_cut, is_by_input, is_over_at, is_over_with, is_some, known, length, length-map, map}
-use Rattle.asgi_halves.proofs.SessionWords.{next_on, none_is_heard, not, output, output_in, output_of, passes, prefix_self, prefix_trans, refl, rest_at, said_in, session_disconnect, session_ending}
-use Rattle.asgi_halves.proofs.SessionWords.{session_events, session_output, spare_at, subst, sym, take, take-append-drop, take-map, taken_by, taken_of, talk_in, talk_sent, talk_written, true}
-use Rattle.asgi_halves.proofs.SessionWords.{unbroken, web_socket_is_steady, with_session_event, ℕ, ◌++◌, ◌<◌, ◌↔◌, ◌∙◌, ◌∷◌, ◌≡◌, ◌⊎◌}
+use Rattle.asgi_halves.proofs.SessionWords.{IsOffered, IsOpen, IsPrefix, IsSilent, IsTrue, IsViewOf, LineState, List, Message, Msg, NoMemory, None, Open, Option, OutItem, Outcome, OutcomeClass}
+use Rattle.asgi_halves.proofs.SessionWords.{Outgoing, Output, Over, Put, Running, SentMessage, Session, SessionScene, Some, Stage, StopsSession, Talks, Unanswered, Unbegun, Uncut, WebSocket}
+use Rattle.asgi_halves.proofs.SessionWords.{WebSocketHalf, WriteFailed, WsDisconnect, [], accepted_session, added_by, answer_of, ap, append-nil, append_assoc, arith, as_messages, as_text, class_of}
+use Rattle.asgi_halves.proofs.SessionWords.{drop, drop_limit, end_event, end_of, events_append, events_of, exchange_of, failures_at, failures_by, false, fold-append, handshake_of, has_close}
+use Rattle.asgi_halves.proofs.SessionWords.{if◌then◌else◌, inl, inr, is_by_cut, is_by_input, is_over_at, is_over_with, is_some, known, length, length-map, map, next_on, none_is_heard, not, output}
+use Rattle.asgi_halves.proofs.SessionWords.{output_in, passes, prefix_self, prefix_trans, refl, rest_at, said_in, session_disconnect, session_ending, session_events, session_output, spare_at, subst}
+use Rattle.asgi_halves.proofs.SessionWords.{sym, take, take-append-drop, take-map, taken_by, taken_of, talk_in, talk_sent, talk_written, true, unbroken, web_socket_is_steady, with_session_event, ℕ}
+use Rattle.asgi_halves.proofs.SessionWords.{◌++◌, ◌<◌, ◌↔◌, ◌∙◌, ◌∷◌, ◌≡◌, ◌⊎◌}
 
 -- ---- what was taken grows
 
@@ -68,11 +68,8 @@ module _ {scene : SessionScene} {half : WebSocketHalf} {view : ConnView Msg Outp
   pub talks_on : (next : Session) (s : Stage) (seen : ConnView Msg Output) → said_in scene seen ≡ said_in scene view → answer_of half.session ≡ answer_of next → is_by_cut seen.broken ≡ false
       → IsDue next seen.offered seen.arrived (is_by_input seen.broken) → Talks scene (record half { session = next; stage = s }) (record seen { written = view.written })
   talks_on next s seen same answered uncut is_due =
-      let judged = subst (λ (l : List Outgoing). JudgeStandsFor half.judge WebSocket scene.facts l false) (sym same) t.judged in
-      let text = λ (e : answer_of next ≡ Unanswered). subst (λ (l : List Outgoing). StandsForSession half.text scene.facts l) (sym same) (t.text (answered ∙ e)) in
-      let answers = sym answered ∙ (t.answered ∙ ap answer_to (sym same)) in
-      let written = t.written ∙ ap (output_of (handshake_of scene.facts) scene.facts) (sym same) in
-      record { uncut = uncut; due = is_due; judged = judged; answered = answers; text = text; written = written; empty = t.empty }
+      let answers = sym answered ∙ t.answered in
+      record { uncut = uncut; due = is_due; judged = rw same t.judged; answered = rw same answers; text = λ e. rw same (t.text (answered ∙ e)); written = rw same t.written; empty = t.empty }
 
 -- what is to be written next, once these items were taken
 pub record Adds (scene : SessionScene) (view : ConnView Msg Output) (got : List OutItem) (adds : List Output) : Type 0 where
@@ -187,7 +184,7 @@ module _ {scene : SessionScene} {was : LineState} {half : WebSocketHalf} {read :
           → (written : List Output) × Invariant scene now (among half later) read (record view { got = got; written = written })
       text_cut later more adds_it kept same answered one n less put stage =
           let part : map Byte (take n more) ≡ take n adds = sym (take-map Byte n more) ∙ ap (λ (l : List Output). take n l) (sym adds_it) in
-          let within : n < length adds = subst (λ (k : ℕ). n < k) (sym (ap (λ (l : List Output). length l) adds_it ∙ length-map more Byte)) less in
+          let within : n < length adds = rw (adds_it, length-map more Byte) less in
           text_out later (take n more) (drop n adds) kept same answered (rw one put) (ap (λ (l : List Output). l ++ drop n adds) part ∙ take-append-drop n adds)
           (λ written out. stage (record view { got = got; written = written }) refl
           (record { out = view.written; more = adds; is_next = a.next; within = within; written_is = out ∙ ap (λ (l : List Output). view.written ++ l) part }))
@@ -332,10 +329,8 @@ module _ {scene : SessionScene} {was : LineState} {half : WebSocketHalf} {read :
         let last = end_of (view.got ++ item ∷ []) in
         let next = next_on (session_output (handshake_of scene.facts) scene.facts) (λ (k : EndKind). session_ending scene.facts (events_of view.got) k (is_by_input view.broken))
         (λ (k : EndKind). session_ending scene.facts (events_of view.got ++ events_of (item ∷ [])) k (is_by_input view.broken))
-        (known scene view) (events_of view.got) (events_of (item ∷ [])) last short.out short.more
-        (subst (λ (o : Option EndKind). IsNextOutput (record (known scene view) { ended = o }) short.out short.more) unended.1 short.is_next) in
-        subst (λ (l : List Outgoing). StopsSession n (record (known scene view) { said = l; ended = last }) view.written) (sym (events_append view.got (item ∷ [])))
-        (record { out = short.out; more = short.more; is_next = next; within = short.within; written_is = short.written_is })
+        (known scene view) (events_of view.got) (events_of (item ∷ [])) last short.out short.more (rw unended.1 at short.is_next) in
+        rw (events_append view.got (item ∷ [])) (record { out = short.out; more = short.more; is_next = next; within = short.within; written_is = short.written_is })
 
     took : (item : OutItem) (s : Stage) → failures_at half.stage ≡ failures_at s
         → (IsCutShort scene (record view { got = view.got ++ item ∷ [] }) out → IsAt s scene (record half { stage = s }) (record view { got = view.got ++ item ∷ [] }))

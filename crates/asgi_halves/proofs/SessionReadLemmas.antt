@@ -1,12 +1,12 @@
 -- The reads of a session: a message arrives and is heard, or it is dropped after a close.
-use Rattle.asgi_halves.proofs.SessionWords.{Accepted, Application, Bool, Break, ByCut, ByInput, CarriesOn, Client, ConnKeeps, ConnView, ConnectionEnds, Cut, DenialStart, EndKind, EndsByTask, Finished}
-use Rattle.asgi_halves.proofs.SessionWords.{Got, HasRead, Incoming, Invariant, IsAt, IsDue, IsOffered, IsPrefix, IsSteady, LineState, List, MayDrop, Message, Msg, NoMemory, None, Open, Option}
-use Rattle.asgi_halves.proofs.SessionWords.{Outgoing, Output, Over, Payload, PreservesByLine, Read, Running, SentMessage, Session, SessionScene, Side, Some, Stage, WebSocket, WebSocketHalf, WsAccept}
-use Rattle.asgi_halves.proofs.SessionWords.{WsReceive, [], added_by, after_session, answer_of, ap, append-nil, arith, close_is_heard, closes, disconnect_of, drop_limit, end_of, events_grow, events_in}
+use Rattle.asgi_halves.proofs.SessionWords.{Accepted, Application, Bool, Break, ByCut, ByInput, Client, ConnKeeps, ConnView, ConnectionEnds, Cut, DenialStart, EndKind, EndsByTask, Finished, Got}
+use Rattle.asgi_halves.proofs.SessionWords.{HasRead, Incoming, Invariant, IsAt, IsDue, IsOffered, IsPrefix, IsSteady, LineState, List, MayDrop, Message, Msg, NoMemory, None, Open, Option, Outgoing}
+use Rattle.asgi_halves.proofs.SessionWords.{Output, Over, Payload, PreservesByLine, Read, Running, SentMessage, Session, SessionScene, Side, Some, Stage, WebSocket, WebSocketHalf, WsAccept, WsReceive}
+use Rattle.asgi_halves.proofs.SessionWords.{[], added_by, after_session, answer_of, ap, append-nil, arith, close_is_heard, closes, disconnect_of, drop_limit, end_of, events_grow, events_in}
 use Rattle.asgi_halves.proofs.SessionWords.{exchange_of, failures_at, false, given_by, handshake_of, has_close, heard_by, inl, inr, is_by_input, is_end, is_over_at, is_over_with, lost_by, map}
 use Rattle.asgi_halves.proofs.SessionWords.{none_after, noted_by, open_closes, output, output_in, prefix_same, prefix_self, prefix_trans, read_after, reads_after_close, refl, rest_after, said_in}
 use Rattle.asgi_halves.proofs.SessionWords.{session_disconnect, session_events, session_outcome, spare_at, spare_with, subst, sym, taken_of, talk_in, talk_read, test_of_beginning, true, waiting}
-use Rattle.asgi_halves.proofs.SessionWords.{web_socket_is_steady, ℕ, ◌++◌, ◌+◌, ◌<◌, ◌||◌, ◌∙◌, ◌∷◌, ◌≡◌, ◌≤◌, ◌⊎◌}
+use Rattle.asgi_halves.proofs.SessionWords.{web_socket_is_steady, ℕ, ◌++◌, ◌+◌, ◌<◌, ◌∙◌, ◌∷◌, ◌≡◌, ◌≤◌, ◌⊎◌}
 use Rattle.asgi_halves.proofs.SessionOfferLemmas.{Carries, at_stage, carrying, carrying_on, due_of, runs, talks_on}
 use Rattle.asgi_halves.proofs.{CallLemmas.closes_after}
 
@@ -71,17 +71,16 @@ module _ {scene : SessionScene} {was : LineState} {half : WebSocketHalf} {read :
       let later : WebSocketHalf = record half { session = next; stage = stage } in
       let seen : ConnView Msg Output = record view { arrived = view.arrived ++ given_by answer } in
       let c = (carrying scene half view x.text x.leftover x.handed (answer_of half.session) carries).0 x.carried in
-      let line = subst (λ (n : ℕ). CarriesOn scene.start now half.wire.input read (scene.before ++ x.text) n (talk_in later seen x.leftover x.handed) (spare_at next)) (sym none)
-      (talk_read scene.start was now half.wire.input read (scene.before ++ x.text) (failures_at half.stage) unfailed (talk_in half view x.leftover x.handed) (talk_in later seen x.leftover x.handed)
-      (spare_at half.session) x.line call.text answer follows call.told call.loses call.count call.kept refl (over ∙ ap (λ (b : Bool). b || is_end answer) (sym follows)) refl refl (spare_at next) few
-      scene.frames c.kept) in
+      let line = talk_read scene.start was now half.wire.input read (scene.before ++ x.text) (failures_at half.stage) unfailed (talk_in half view x.leftover x.handed)
+      (talk_in later seen x.leftover x.handed) (spare_at half.session) x.line call.text answer follows call.told call.loses call.count call.kept refl (rw follows over) refl refl
+      (spare_at next) few scene.frames c.kept in
       let carried = (carrying scene later seen x.text x.leftover x.handed (answer_of next) (subst Carries answered carries)).1 (carrying_on c seen (prefix_self (said_in scene view))) in
       let p = x.keeps.written in
       let written : IsPrefix view.written (output (exchange_of scene) seen) =
       (p.0, p.1 ∙ ap (λ (l : List Output). output_in scene view ++ l) (added_still scene (taken_of view) (end_of view.got) view.broken_first view.arrived seen.arrived)) in
       let keeps : ConnKeeps (exchange_of scene) seen = record { offered = offered_still scene view.arrived (given_by answer) view.offered view.broken closed x.keeps.offered; written = written } in
       let breaks : is_by_input view.broken ≡ true → (has_close seen.arrived ≡ true) ⊎ (is_over_at next ≡ true) = λ e. inl (close_stays view.arrived (given_by answer) (closed e)) in
-      record { fixed = x.fixed; text = x.text; leftover = x.leftover; handed = x.handed; line = line; written = x.written; carried = carried; keeps = keeps; breaks = breaks; stage = stands }
+      record { fixed = x.fixed; text = x.text; leftover = x.leftover; handed = x.handed; line = rw none line; written = x.written; carried = carried; keeps = keeps; breaks = breaks; stage = stands }
 
 -- ---- it is heard
 
@@ -222,8 +221,8 @@ module _ (was now : LineState) (half : WebSocketHalf) (may : MayDrop half.stage)
     dropped =
         let s = stage_on may in
         let less = one_less spare answer some in
-        arrives x now s.0 (ap is_over_at is) (subst (λ (s : Session). Carries (answer_of s)) (sym is) (of_side side (Some spare) None).0) closed_before answer call next half.stage s.0 same
-        less.0 (omega (arith, read_after x.line.carried.calls answer, subst (λ (s : Session). reads_after_close x.line.carried.calls + spare_at s ≤ drop_limit) is x.line.within, less.1)) s.1
+        arrives x now s.0 (ap is_over_at is) (rw is (of_side side (Some spare) None).0) closed_before answer call next half.stage s.0 same
+        less.0 (omega (arith, read_after x.line.carried.calls answer, rw is at x.line.within, less.1)) s.1
 
   pub leads_dropped : (later : WebSocketHalf) → later ≡ record half { session = Session.Closed side (rest_after spare answer) } → PreservesByLine was half now later
   leads_dropped later same scene read view x = (view.arrived ++ given_by answer, view.written, rw same (dropped x))

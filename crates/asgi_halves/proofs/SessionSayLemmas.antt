@@ -1,12 +1,12 @@
 -- An event is sent that the judge has passed: if the invariant of the half held, it holds again.
-use Rattle.asgi_halves.proofs.SessionWords.{Answer, Answered, Application, Awaited, Bool, Byte, Closed, ConnKeeps, ConnView, Cut, DenialBody, DenialStart, Err, Event, Facts, Global, Grows, Handshake}
-use Rattle.asgi_halves.proofs.SessionWords.{HasPut, HasSent, HasUpgraded, HeaderField, Incoming, Invariant, IsAccept, IsAt, IsCarrying, IsDenial, IsDue, Judge, JudgeStandsFor, LineState, List}
-use Rattle.asgi_halves.proofs.SessionWords.{Message, Msg, NoMemory, None, Ok, OnOk, Open, Option, Outgoing, Output, Payload, Put, ResponseText, Result, Running, Saying, SentMessage, Session}
-use Rattle.asgi_halves.proofs.SessionWords.{SessionScene, Some, Stage, StandsForSession, Talks, Unanswered, Vec, WebSocket, WebSocketHalf, Wire, WriteFailed, WsAccept, WsClose, WsSend, []}
-use Rattle.asgi_halves.proofs.SessionWords.{accept_text, accepted_session, answer_of, answer_to, answered_with, ap, append-nil, append_cancel_left, as_text, denial_text, end_event, end_of, event_adds}
-use Rattle.asgi_halves.proofs.SessionWords.{event_output, events_append, exchange_of, failures_at, failures_by, false, handshake_of, if◌then◌else◌, inl, inr, is_by_input, is_closed, is_err, length}
-use Rattle.asgi_halves.proofs.SessionWords.{map, map-append, output, output_in, output_of, passes, refl, refusal_text, rest_at, said_in, session_output, spare_at, stage_of, subst, sym, take, taken_of}
-use Rattle.asgi_halves.proofs.SessionWords.{talk_in, talk_upgraded, true, ℕ, ◌++◌, ◌<◌, ◌∙◌, ◌∷◌, ◌≡◌, ◌≢◌, ◌⊎◌}
+use Rattle.asgi_halves.proofs.SessionWords.{Answer, Answered, Application, Awaited, Bool, Byte, ConnKeeps, ConnView, Cut, DenialBody, DenialStart, Err, Event, Facts, Global, Grows, Handshake, HasPut}
+use Rattle.asgi_halves.proofs.SessionWords.{HasSent, HasUpgraded, HeaderField, Incoming, Invariant, IsAccept, IsAt, IsCarrying, IsDenial, IsDue, Judge, JudgeStandsFor, LineState, List, Message, Msg}
+use Rattle.asgi_halves.proofs.SessionWords.{NoMemory, None, Ok, OnOk, Open, Option, Outgoing, Output, Payload, Put, ResponseText, Result, Running, Saying, SentMessage, Session, SessionScene, Some}
+use Rattle.asgi_halves.proofs.SessionWords.{Stage, StandsForSession, Talks, Unanswered, Vec, WebSocket, WebSocketHalf, Wire, WriteFailed, WsAccept, WsClose, WsSend, [], accept_text, accepted_session}
+use Rattle.asgi_halves.proofs.SessionWords.{answer_of, answer_to, answered_with, ap, append-nil, append_cancel_left, as_text, denial_text, end_event, end_of, event_adds, event_output, events_append}
+use Rattle.asgi_halves.proofs.SessionWords.{exchange_of, failures_at, failures_by, false, handshake_of, inl, inr, is_by_input, is_err, length, map, map-append, output, output_in, output_of, passes}
+use Rattle.asgi_halves.proofs.SessionWords.{refl, refusal_text, rest_at, said_in, session_output, spare_at, stage_of, subst, sym, take, taken_of, talk_in, talk_upgraded, true, ℕ, ◌++◌, ◌<◌, ◌∙◌, ◌∷◌}
+use Rattle.asgi_halves.proofs.SessionWords.{◌≡◌, ◌≢◌, ◌⊎◌}
 use Rattle.asgi_halves.proofs.SessionOfferLemmas.{Adds, Carries, IsSent, Passed, carried_at, carrying, goes_out, is_answered, message_out, runs, same_answer, stands_at, text_cut, text_out}
 use Rattle.asgi_halves.proofs.SessionOfferLemmas.{text_passed}
 use Rattle.asgi_halves.proofs.SessionPassLemmas.{IsAccepted, accepted_more, body_follows, close_follows, closed_after_close, goes, is_first, message_follows, not_closed, open_after_send}
@@ -96,16 +96,13 @@ module _ {scene : SessionScene} {was : LineState} {old : WebSocketHalf} {read : 
       → (answer_of next ≡ Unanswered → StandsForSession text scene.facts (said_in scene view ++ event ∷ [])) → IsDue next view.offered view.arrived (is_by_input view.broken)
       → written ≡ view.written ++ adds → IsAt Running scene (record (denial text out Running) { leftover = leftover; session = next }) (record taken { written = written })
   talks_still leftover text out next written empty becomes stands is_due is =
-      let judged = subst (λ (l : List Outgoing). JudgeStandsFor judge WebSocket scene.facts l false) (sym said_later) p.judged in
-      let denied = λ (e : answer_of next ≡ Unanswered). subst (λ (l : List Outgoing). StandsForSession text scene.facts l) (sym said_later) (stands e) in
-      let answered = sym becomes ∙ ap answer_to (sym said_later) in
-      (record { uncut = before.0.uncut; due = is_due; judged = judged; answered = answered; text = denied; written = is ∙ sym output_later; empty = empty }, still_open)
+      let written = is ∙ sym output_later in
+      (record { uncut = before.0.uncut; due = is_due; judged = rw said_later p.judged; answered = rw said_later (sym becomes); text = λ e. rw said_later (stands e); written = written; empty = empty },
+      still_open)
 
   -- after an accept the session is open, as long as something passes
   pub is_open : IsAccepted (said_in scene view) → answer_of old.session ≡ Open
-  is_open s =
-      before.0.answered ∙ (ap answer_to s.3 ∙ (ap (λ (l : List Outgoing). if is_closed WebSocket l then Closed else Open) (sym s.3)
-      ∙ ap (λ (b : Bool). if b then Closed else Open) (not_closed scene.facts (said_in scene view) event p.pass)))
+  is_open s = let not_yet = rw s.3 at (not_closed scene.facts (said_in scene view) event p.pass) in before.0.answered ∙ rw (s.3, not_yet) refl
 
   -- a message
   pub handed_over : answer_of old.session ≡ Open → (now : LineState) (message : SentMessage) → adds ≡ Message message ∷ [] → (answer : Put) → HasSent was now message answer → (next : Session)

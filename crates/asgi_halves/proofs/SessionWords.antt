@@ -8,8 +8,8 @@ pub use Rattle.asgi_exchange.proofs.EventLemmas.{end_ended, end_event, events_ap
 pub use Rattle.asgi_exchange.proofs.ListLemmas.{prefix_same, prefix_self, prefix_trans}
 pub use Rattle.asgi_exchange.proofs.MessageLemmas.{close_is_heard, events_grow, none_is_heard}
 pub use Rattle.asgi_exchange.proofs.SessionLemmas.{event_adds, web_socket_is_steady}
-pub use Rattle.asgi_exchange.specs.{Calls.IsViewOf, Exchange.IsSteady, ExchangeTexts.session_text, Halves.ConnKeeps, Halves.IsOffered, Items.end_of, Items.events_of, Messages.disconnect_of}
-pub use Rattle.asgi_exchange.specs.{Messages.events_in, Messages.has_close, Messages.session_disconnect, Messages.session_events, Steps.is_by_cut, Steps.is_by_input}
+pub use Rattle.asgi_exchange.specs.{Calls.IsViewOf, Exchange.IsSteady, Halves.ConnKeeps, Halves.IsOffered, Items.end_of, Items.events_of, Steps.is_by_cut, Steps.is_by_input}
+pub use Rattle.asgi_exchange.specs.Messages.{disconnect_of, events_in, has_close, session_disconnect, session_events}
 pub use Rattle.asgi_exchange.specs.Session.{Byte, Handshake, Message, Output, accepted_session, ending_of, event_output, output_of, session_ending, session_output, with_session_event}
 pub use Rattle.asgi_exchange.specs.Views.{Break, ByCut, ByInput, ConnView, added_by, empty_conn, output, taken_of}
 pub use Rattle.asgi_halves.proofs.{HalfBodyLemmas.unbroken, HalfLemmas.HasPut, TalkLemmas.talk_begins, TalkLemmas.talk_read, TalkLemmas.talk_sent, TalkLemmas.talk_upgraded, TalkLemmas.talk_written}
@@ -42,7 +42,7 @@ pub use Rattle.asgi_types.specs.declared.scope.Kind.TheVariants.{Http, WebSocket
 pub use Rattle.asgi_ws.specs.{Handshake.accept_text, Lines.LineState, Sessions.given_by, Sessions.reads_after_close, Sessions.taken_by}
 pub use Rattle.asgi_ws.specs.declared.messages.{Call.TheVariants.Read, Got.Got, Msg.Msg, Put.Put, SentMessage.SentMessage}
 pub use Rattle.std.proofs.Common.{Bool, Err, Global, List, None, Ok, OnOk, Option, Result, Some, Vec, [], ap, append-nil, append_assoc, arith, drop, false, if◌then◌else◌, inl, inr, length, map, refl}
-pub use Rattle.std.proofs.Common.{subst, sym, take, true, ℕ, ◌++◌, ◌+◌, ◌<◌, ◌||◌, ◌∙◌, ◌∷◌, ◌≡◌, ◌≢◌, ◌≤◌, ◌⊎◌}
+pub use Rattle.std.proofs.Common.{subst, sym, take, true, ℕ, ◌++◌, ◌+◌, ◌<◌, ◌∙◌, ◌∷◌, ◌≡◌, ◌≢◌, ◌≤◌, ◌⊎◌}
 pub use Rattle.std.proofs.lemmas.List.{Sums.fold-append, append_cancel_left, length-map, map-append, take-append-drop, take-map}
 pub use Rattle.std.specs.{Prelude.IsTrue, Prelude.is_some, Prelude.not, Prelude.◌&&◌, Prelude.◌↔◌, Result.is_err}
 pub use mathlib.Core.List.{IsPrefix}
