@@ -2,11 +2,11 @@
 use Rattle.asgi_halves.proofs.SessionWords.{Answered, Application, Bool, Byte, Client, Closed, ConnView, ConnectionEnds, DenialStart, EndKind, Ending, EndsByTask, Facts, HasPut, HasSent, Http}
 use Rattle.asgi_halves.proofs.SessionWords.{Invariant, IsAt, IsLawful, IsUnended, LineState, List, Message, Msg, Open, Option, Outcome, Outgoing, Output, Over, Progress, Put, SentMessage, Session}
 use Rattle.asgi_halves.proofs.SessionWords.{SessionScene, Side, Some, Stage, StandsForSession, Talks, Unanswered, WebSocket, WebSocketHalf, WriteFailed, WsAccept, WsClose, [], accepted_session}
-use Rattle.asgi_halves.proofs.SessionWords.{after_session, answer_of, answer_to, ap, append-nil, as_response, closing_facts, denial_progress, end_of, ending_of, failures_at, failures_by, failures_of}
-use Rattle.asgi_halves.proofs.SessionWords.{false, has_close, if◌then◌else◌, inl, inr, is_by_input, is_closed, is_lawful_response, lawful_is_accepted, length, map, open_outcome, outcome_of, output_in}
+use Rattle.asgi_halves.proofs.SessionWords.{after_session, answer_of, answer_to, ap, append-nil, as_response, closing_facts, denial_progress, end_of, ending_of, failures_at, failures_of, false}
+use Rattle.asgi_halves.proofs.SessionWords.{has_close, if◌then◌else◌, inl, inr, is_by_input, is_closed, is_lawful_response, lawful_is_accepted, length, map, open_outcome, outcome_of, output_in}
 use Rattle.asgi_halves.proofs.SessionWords.{prefix_same, prefix_self, progress_in, refl, refusal_text, rest_at, said_in, session_ending, session_outcome, subst, sym, take, taken_of, test_of_beginning}
 use Rattle.asgi_halves.proofs.SessionWords.{true, ℕ, ◌++◌, ◌<◌, ◌∙◌, ◌∷◌, ◌≡◌, ◌⊎◌}
-use Rattle.asgi_halves.proofs.SessionOfferLemmas.{Adds, IsSent, at_stage, due_of, message_out, stands_at, text_cut, text_out}
+use Rattle.asgi_halves.proofs.SessionOfferLemmas.{Adds, IsSent, at_stage, due_of, fails_as, message_out, stands_at, text_cut, text_out}
 use Rattle.asgi_response.specs.{Progress.closes_after}
 
 -- ---- what the end adds, by what was sent
@@ -53,8 +53,7 @@ was_refused _ h = cc
 denied_so_far : (facts : Facts) (status : ℕ) (headers : _) (bodies : List Outgoing) → IsLawful WebSocket facts (DenialStart status headers ∷ bodies)
     → denial_progress facts (DenialStart status headers ∷ bodies) ≡ progress_in (closing_facts facts) (map as_response (DenialStart status headers ∷ bodies))
 denied_so_far facts status headers bodies lawful =
-    ap (progress_in (closing_facts facts))
-    (lawful_is_accepted (closing_facts facts) (map as_response (DenialStart status headers ∷ bodies)) (is_lawful_response facts status headers bodies lawful))
+    ap (progress_in (closing_facts facts)) (lawful_is_accepted (closing_facts facts) (map as_response (DenialStart status headers ∷ bodies)) (is_lawful_response facts status headers bodies lawful))
 
 begun_or_whole : (b : Bool) (closes : Bool) → (if b then Progress.Complete closes else Progress.Begun) ≡ Progress.Nothing → ⊥
 begun_or_whole true closes h = cc
@@ -67,9 +66,8 @@ denied_or_none facts [] lawful u = inl (refl, record { adds = λ code broken. re
 denied_or_none facts (DenialStart a b ∷ []) lawful u = inl (denied_so_far facts a b [] lawful, record { adds = λ code broken. refl; follows = λ input_broke received. refl })
 denied_or_none facts (DenialStart a b ∷ event ∷ events) lawful u =
     let said = map as_response (DenialStart a b ∷ event ∷ events) in
-    let never = λ (h : denial_progress facts (DenialStart a b ∷ event ∷ events) ≡ Progress.Nothing).
-    begun_or_whole (is_closed Http said) (closes_after (closing_facts facts) said) (sym (denied_so_far facts a b (event ∷ events) lawful) ∙ h) in
-    inr (never, record { adds = λ code broken. refl; follows = λ input_broke received. refl })
+    let so_far = denied_so_far facts a b (event ∷ events) lawful in
+    inr ((λ h. begun_or_whole (is_closed Http said) (closes_after (closing_facts facts) said) (sym so_far ∙ h)), record { adds = λ code broken. refl; follows = λ input_broke received. refl })
 denied_or_none facts (WsAccept a b ∷ events) lawful u = elim (closed_if (is_closed WebSocket (WsAccept a b ∷ events)) Unanswered u) [ inl e ↦ absurd (cc e.0) | inr e ↦ absurd (cc e.0) ]
 denied_or_none facts (WsClose a b ∷ events) lawful u = absurd (cc)
 denied_or_none facts (event ∷ events) lawful u = (let never : false ≡ true = test_of_beginning WebSocket (event ∷ events) lawful.begins in absurd (cc))
@@ -87,10 +85,6 @@ closes_so half rest out = record half { session = Session.Closed Application res
 -- the invariant holds, and the line moved on
 abbrev pub Goes : SessionScene → LineState → WebSocketHalf → List ℕ → ConnView Msg Output → Type 0
 Goes scene now half read view = (arrived : List Msg) × (written : List Output) × Invariant scene now half read (record view { arrived = arrived; written = written })
-
-fails_as : (put : Put) → failures_by put ≡ failures_of (outcome_of put)
-fails_as Put.Done = refl
-fails_as _ = refl
 
 module _ {scene : SessionScene} {was : LineState} {half : WebSocketHalf} {read : List ℕ} {view : ConnView Msg Output} (x : Invariant scene was half read view)
     (ended : EndKind) (is : half.stage ≡ Stage.Ending ended) where
@@ -233,7 +227,7 @@ module _ {scene : SessionScene} {was : LineState} {half : WebSocketHalf} {read :
       closed_last stays left left_is reason none now answer sent out is =
           let unbroke : broke ≡ false = unbroken_in half.session refl stays in
           let later = message_out x (ap failures_at o.at) (adding x o.ended o.at) now opened (SentMessage.Close code []) (adds_by false unbroke) answer
-          (subst (λ (r : List ℕ). HasSent was now (SentMessage.Close code r) answer) none sent) (closes_so half left (outcome_of answer)) (sym left_is) (inr refl) (fails_as answer) (by answer) in
+          (subst (λ (r : List ℕ). HasSent was now (SentMessage.Close code r) answer) none sent) (closes_so half left (outcome_of answer)) (sym left_is) (inr refl) (fails_as answer).1 (by answer) in
           rw is (view.arrived, later.0, later.1)
         where
           by : (put : Put) (written : List Output) → IsSent put scene (record view { written = written }) (view.written ++ adds x o.ended o.at)

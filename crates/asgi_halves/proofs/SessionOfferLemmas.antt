@@ -4,11 +4,11 @@ use Rattle.asgi_halves.proofs.SessionWords.{Ended, Event, Facts, HasPut, HasSent
 use Rattle.asgi_halves.proofs.SessionWords.{IsOffered, IsOpen, IsPrefix, IsSilent, IsTrue, IsViewOf, LineState, List, Message, Msg, NoMemory, None, Open, Option, OutItem, Outcome, OutcomeClass}
 use Rattle.asgi_halves.proofs.SessionWords.{Outgoing, Output, Over, Put, Running, SentMessage, Session, SessionScene, Some, Stage, StopsSession, Talks, Unanswered, Unbegun, Uncut, WebSocket}
 use Rattle.asgi_halves.proofs.SessionWords.{WebSocketHalf, WriteFailed, WsDisconnect, [], accepted_session, added_by, answer_of, ap, append-nil, append_assoc, arith, as_messages, as_text, class_of}
-use Rattle.asgi_halves.proofs.SessionWords.{drop, drop_limit, end_event, end_of, events_append, events_of, exchange_of, failures_at, failures_by, false, fold-append, handshake_of, has_close}
-use Rattle.asgi_halves.proofs.SessionWords.{if◌then◌else◌, inl, inr, is_by_cut, is_by_input, is_over_at, is_over_with, is_some, known, length, length-map, map, next_on, none_is_heard, not, output}
-use Rattle.asgi_halves.proofs.SessionWords.{output_in, passes, prefix_self, prefix_trans, refl, rest_at, said_in, session_disconnect, session_ending, session_events, session_output, spare_at, subst}
-use Rattle.asgi_halves.proofs.SessionWords.{sym, take, take-append-drop, take-map, taken_by, taken_of, talk_in, talk_sent, talk_written, true, unbroken, web_socket_is_steady, with_session_event, ℕ}
-use Rattle.asgi_halves.proofs.SessionWords.{◌++◌, ◌<◌, ◌↔◌, ◌∙◌, ◌∷◌, ◌≡◌, ◌⊎◌}
+use Rattle.asgi_halves.proofs.SessionWords.{drop, drop_limit, end_event, end_of, events_append, events_of, exchange_of, failures_at, failures_by, failures_of, false, fold-append, handshake_of}
+use Rattle.asgi_halves.proofs.SessionWords.{has_close, if◌then◌else◌, inl, inr, is_by_cut, is_by_input, is_over_at, is_over_with, is_some, known, length, length-map, map, next_on, none_is_heard, not}
+use Rattle.asgi_halves.proofs.SessionWords.{outcome_of, output, output_in, passes, prefix_self, prefix_trans, refl, rest_at, said_in, session_disconnect, session_ending, session_events}
+use Rattle.asgi_halves.proofs.SessionWords.{session_output, spare_at, stage_of, subst, sym, take, take-append-drop, take-map, taken_by, taken_of, talk_in, talk_sent, talk_written, true, unbroken}
+use Rattle.asgi_halves.proofs.SessionWords.{web_socket_is_steady, with_session_event, ℕ, ◌++◌, ◌<◌, ◌↔◌, ◌∙◌, ◌∷◌, ◌≡◌, ◌⊎◌}
 
 -- ---- what was taken grows
 
@@ -25,10 +25,6 @@ grows_with : {A : Type 0} (f : List Outgoing → List A) → ((events : List Out
 grows_with f grows got (Event event) = rw (events_append got (Event event ∷ [])) (grows (events_of got) event)
 grows_with f grows got (Ended kind) = rw (events_append got (Ended kind ∷ []) ∙ append-nil (events_of got)) (prefix_self (f (events_of got)))
 
-output_after : (scene : SessionScene) (got : List OutItem) (item : OutItem)
-    → IsPrefix (session_output (handshake_of scene.facts) scene.facts (events_of got)) (session_output (handshake_of scene.facts) scene.facts (events_of (got ++ item ∷ [])))
-output_after scene = grows_with (session_output (handshake_of scene.facts) scene.facts) (web_socket_is_steady (handshake_of scene.facts) scene.facts scene.limits.ring).text_grows
-
 -- ---- what any step keeps
 
 -- a half of the same exchange
@@ -44,10 +40,6 @@ same_answer Answer.Refused one other = refl
 -- the line carries messages
 abbrev pub Carries : Answered → Type 0
 Carries state = (state ≡ Open) ⊎ (state ≡ Closed)
-
-pub is_answered : (state : Answered) → Carries state → state ≡ Unanswered → ⊥
-is_answered state (inl is) e = cc
-is_answered state (inr is) e = cc
 
 pub carrying : (scene : SessionScene) (half : WebSocketHalf) (view : ConnView Msg Output) (text : List ℕ) (leftover : Option (List ℕ)) (handed : List SentMessage) (state : Answered) → Carries state
     → IsCarried state scene half view text leftover handed ↔ IsCarrying scene view text leftover
@@ -83,6 +75,10 @@ abbrev pub IsSent : Put → SessionScene → ConnView Msg Output → List Output
 IsSent Put.Done scene seen all = seen.written ≡ all
 IsSent Put.Failed scene seen all = IsCutShort scene seen (WriteFailed 0)
 IsSent Put.NoMemory scene seen all = IsCutShort scene seen NoMemory
+
+pub fails_as : (put : Put) → (failures_by put ≡ failures_at (stage_of put)) × (failures_by put ≡ failures_of (outcome_of put))
+fails_as Put.Done = (refl, refl)
+fails_as _ = (refl, refl)
 
 module _ {scene : SessionScene} {was : LineState} {half : WebSocketHalf} {read : List ℕ} {view : ConnView Msg Output} (x : Invariant scene was half read view) where
   pub at_stage : (s : Stage) → half.stage ≡ s → IsAt s scene half view
@@ -207,8 +203,7 @@ module _ {scene : SessionScene} {was : LineState} {half : WebSocketHalf} {read :
           let seen : ConnView Msg Output = record view { got = got; written = map Byte x.text ++ map Message handed } in
           let out = as_messages x.text x.handed (taken_by message answer) view.written x.written in
           let s = sent_so answer seen.written out in
-          let passed = rw fails at
-          (talk_sent scene.start was now half.wire.input read (scene.before ++ x.text) 0 refl (talk_in half view x.leftover x.handed) (talk_in half view x.leftover handed)
+          let passed = rw fails at (talk_sent scene.start was now half.wire.input read (scene.before ++ x.text) 0 refl (talk_in half view x.leftover x.handed) (talk_in half view x.leftover handed)
           (spare_at half.session) (line_at 0 unfailed) sent.text message answer sent.told sent.count sent.coming sent.kept refl refl refl refl scene.frames c.kept) in
           let carried = (carrying scene (among half later) seen x.text x.leftover handed (answer_of later.session) carries).1 (carrying_on c seen a.said) in
           goes_out later x.text x.leftover handed (map Message (taken_by message answer)) s.0 same passed out s.1 carried (stage seen.written s.2)
@@ -339,7 +334,8 @@ module _ {scene : SessionScene} {was : LineState} {half : WebSocketHalf} {read :
         let later : ConnView Msg Output = record view { got = view.got ++ item ∷ [] } in
         let p = x.keeps.written in
         let whole = rw (unended.1, append-nil (output_in scene view)) at p.1 in
-        let front = λ (q : IsPrefix view.written (output_in scene view)). prefix_trans view.written (output_in scene view) (output_in scene later) q (output_after scene view.got item) in
+        let grows = grows_with (session_output (handshake_of scene.facts) scene.facts) (web_socket_is_steady (handshake_of scene.facts) scene.facts scene.limits.ring).text_grows view.got item in
+        let front = λ (q : IsPrefix view.written (output_in scene view)). prefix_trans view.written (output_in scene view) (output_in scene later) q grows in
         let written = prefix_trans view.written (output_in scene later) (output (exchange_of scene) later) (front (p.0, whole))
         (added_by (exchange_of scene) (taken_of later) (end_of later.got) later.broken_first later.arrived, refl) in
         stands_at x (record half { stage = s }) later refl refl refl failures (grows_with (accepted_session scene.facts) (accepted_grows scene.facts) view.got item)

@@ -37,8 +37,7 @@ row_whole each last (x ∷ events) event is h =
 -- ---- by the order of events
 
 -- neither sort of a row has such an event
-no_row : {A : Type 0} (each last : Outgoing → Bool) (events : List Outgoing) (event : Outgoing) → each event ≡ false → last event ≡ false
-    → begins_row each last (events ++ event ∷ []) ≡ true → A
+no_row : {A : Type 0} (each last : Outgoing → Bool) (events : List Outgoing) (event : Outgoing) → each event ≡ false → last event ≡ false → begins_row each last (events ++ event ∷ []) ≡ true → A
 no_row each last events event a b h = absurd (cc (sym (ends events) ∙ h))
   where
     ends : (events : List Outgoing) → begins_row each last (events ++ event ∷ []) ≡ false
@@ -94,8 +93,7 @@ pub is_in_scope : (facts : Facts) (said : List Outgoing) (event : Outgoing) → 
 is_in_scope facts said event h = (met facts said event h).of
 
 pub not_closed : (facts : Facts) (said : List Outgoing) (event : Outgoing) → passes WebSocket facts said event ≡ true → is_closed WebSocket said ≡ false
-not_closed facts said event h =
-    (passing.no_line WebSocket (lines_on WebSocket facts said false event) (is_passed (verdict_on WebSocket facts said false event) h)).closed
+not_closed facts said event h = (passing.no_line WebSocket (lines_on WebSocket facts said false event) (is_passed (verdict_on WebSocket facts said false event) h)).closed
 
 -- ---- how far the answer is
 

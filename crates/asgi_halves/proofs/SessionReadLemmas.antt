@@ -4,7 +4,7 @@ use Rattle.asgi_halves.proofs.SessionWords.{HasRead, Incoming, Invariant, IsAt, 
 use Rattle.asgi_halves.proofs.SessionWords.{Output, Over, Payload, PreservesByLine, Read, Running, SentMessage, Session, SessionScene, Side, Some, Stage, WebSocket, WebSocketHalf, WsAccept, WsReceive}
 use Rattle.asgi_halves.proofs.SessionWords.{[], added_by, after_session, answer_of, ap, append-nil, arith, close_is_heard, closes, disconnect_of, drop_limit, end_of, events_grow, events_in}
 use Rattle.asgi_halves.proofs.SessionWords.{exchange_of, failures_at, false, given_by, handshake_of, has_close, heard_by, inl, inr, is_by_input, is_end, is_over_at, is_over_with, lost_by, map}
-use Rattle.asgi_halves.proofs.SessionWords.{none_after, noted_by, open_closes, output, output_in, prefix_same, prefix_self, prefix_trans, read_after, reads_after_close, refl, rest_after, said_in}
+use Rattle.asgi_halves.proofs.SessionWords.{none_after, noted_by, open_closes, output_in, prefix_same, prefix_self, prefix_trans, read_after, reads_after_close, refl, rest_after, said_in}
 use Rattle.asgi_halves.proofs.SessionWords.{session_disconnect, session_events, session_outcome, spare_at, spare_with, subst, sym, taken_of, talk_in, talk_read, test_of_beginning, true, waiting}
 use Rattle.asgi_halves.proofs.SessionWords.{web_socket_is_steady, ℕ, ◌++◌, ◌+◌, ◌<◌, ◌∙◌, ◌∷◌, ◌≡◌, ◌≤◌, ◌⊎◌}
 use Rattle.asgi_halves.proofs.SessionOfferLemmas.{Carries, at_stage, carrying, carrying_on, due_of, runs, talks_on}
@@ -23,7 +23,7 @@ close_stays [] more h = absurd (cc (h))
 close_stays (Msg.Close close ∷ messages) more h = refl
 close_stays (_ ∷ messages) more h = close_stays messages more h
 
--- ---- what was offered and written
+-- ---- what was offered
 
 steady : (scene : SessionScene) → IsSteady (exchange_of scene)
 steady scene = web_socket_is_steady (handshake_of scene.facts) scene.facts scene.limits.ring
@@ -36,12 +36,6 @@ offered_still scene arrived more offered (Some ByInput) closed all =
     ∙ ap (λ (e : Incoming). session_events (arrived ++ more) ++ e ∷ []) (sym ((steady scene).over_disconnect arrived more (closed refl)))
 offered_still scene arrived more offered (Some ByCut) closed cut =
     (cut.0, prefix_trans cut.0 (session_events arrived) (session_events (arrived ++ more)) cut.1 ((steady scene).due_grows arrived more), cut.2)
-
--- what the end adds does not depend on what arrived
-added_still : (scene : SessionScene) (taken : List Outgoing) (ended : Option EndKind) (broken : Bool) (arrived later : List Msg)
-    → added_by (exchange_of scene) taken ended broken arrived ≡ added_by (exchange_of scene) taken ended broken later
-added_still scene taken None broken arrived later = refl
-added_still scene taken (Some kind) broken arrived later = refl
 
 -- ---- how the connection ends
 
@@ -75,9 +69,8 @@ module _ {scene : SessionScene} {was : LineState} {half : WebSocketHalf} {read :
       (talk_in later seen x.leftover x.handed) (spare_at half.session) x.line call.text answer follows call.told call.loses call.count call.kept refl (rw follows over) refl refl
       (spare_at next) few scene.frames c.kept in
       let carried = (carrying scene later seen x.text x.leftover x.handed (answer_of next) (subst Carries answered carries)).1 (carrying_on c seen (prefix_self (said_in scene view))) in
-      let p = x.keeps.written in
-      let written : IsPrefix view.written (output (exchange_of scene) seen) =
-      (p.0, p.1 ∙ ap (λ (l : List Output). output_in scene view ++ l) (added_still scene (taken_of view) (end_of view.got) view.broken_first view.arrived seen.arrived)) in
+      let written = (elim (end_of view.got) as (λ o. IsPrefix view.written (output_in scene view ++ added_by (exchange_of scene) (taken_of view) o view.broken_first view.arrived)
+      → IsPrefix view.written (output_in scene view ++ added_by (exchange_of scene) (taken_of view) o view.broken_first seen.arrived)) [ None ↦ (λ p. p) | Some kind ↦ (λ p. p) ]) x.keeps.written in
       let keeps : ConnKeeps (exchange_of scene) seen = record { offered = offered_still scene view.arrived (given_by answer) view.offered view.broken closed x.keeps.offered; written = written } in
       let breaks : is_by_input view.broken ≡ true → (has_close seen.arrived ≡ true) ⊎ (is_over_at next ≡ true) = λ e. inl (close_stays view.arrived (given_by answer) (closed e)) in
       record { fixed = x.fixed; text = x.text; leftover = x.leftover; handed = x.handed; line = rw none line; written = x.written; carried = carried; keeps = keeps; breaks = breaks; stage = stands }
@@ -155,8 +148,7 @@ module _ {scene : SessionScene} {was : LineState} {half : WebSocketHalf} {read :
   noted (Got.Message message) call = heard message call
   noted Got.Idle call =
       let same : view.arrived ++ [] ≡ view.arrived = append-nil view.arrived in
-      as_before (seen Got.Idle)
-      (goes_on Got.Idle call (Session.Begun Accepted None) refl refl (omega arith) (due_here.0, due_here.1 ∙ ap session_events (sym same), ap has_close same ∙ due_here.2))
+      as_before (seen Got.Idle) (goes_on Got.Idle call (Session.Begun Accepted None) refl refl (omega arith) (due_here.0, due_here.1 ∙ ap session_events (sym same), ap has_close same ∙ due_here.2))
   noted Got.Ended call = lost Got.Ended call refl refl
   noted Got.Failed call = lost Got.Failed call refl refl
   noted Got.NoMemory call =

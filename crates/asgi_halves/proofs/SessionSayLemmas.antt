@@ -4,11 +4,10 @@ use Rattle.asgi_halves.proofs.SessionWords.{HasSent, HasUpgraded, HeaderField, I
 use Rattle.asgi_halves.proofs.SessionWords.{NoMemory, None, Ok, OnOk, Open, Option, Outgoing, Output, Payload, Put, ResponseText, Result, Running, Saying, SentMessage, Session, SessionScene, Some}
 use Rattle.asgi_halves.proofs.SessionWords.{Stage, StandsForSession, Talks, Unanswered, Vec, WebSocket, WebSocketHalf, Wire, WriteFailed, WsAccept, WsClose, WsSend, [], accept_text, accepted_session}
 use Rattle.asgi_halves.proofs.SessionWords.{answer_of, answer_to, answered_with, ap, append-nil, append_cancel_left, as_text, denial_text, end_event, end_of, event_adds, event_output, events_append}
-use Rattle.asgi_halves.proofs.SessionWords.{exchange_of, failures_at, failures_by, false, handshake_of, inl, inr, is_by_input, is_err, length, map, map-append, output, output_in, output_of, passes}
-use Rattle.asgi_halves.proofs.SessionWords.{refl, refusal_text, rest_at, said_in, session_output, spare_at, stage_of, subst, sym, take, taken_of, talk_in, talk_upgraded, true, ℕ, ◌++◌, ◌<◌, ◌∙◌, ◌∷◌}
-use Rattle.asgi_halves.proofs.SessionWords.{◌≡◌, ◌≢◌, ◌⊎◌}
-use Rattle.asgi_halves.proofs.SessionOfferLemmas.{Adds, Carries, IsSent, Passed, carried_at, carrying, goes_out, is_answered, message_out, runs, same_answer, stands_at, text_cut, text_out}
-use Rattle.asgi_halves.proofs.SessionOfferLemmas.{text_passed}
+use Rattle.asgi_halves.proofs.SessionWords.{exchange_of, failures_at, false, handshake_of, inl, inr, is_by_input, is_err, length, map, map-append, output, output_in, output_of, passes, refl}
+use Rattle.asgi_halves.proofs.SessionWords.{refusal_text, rest_at, said_in, session_output, spare_at, stage_of, subst, sym, take, taken_of, talk_in, talk_upgraded, true, ℕ, ◌++◌, ◌<◌, ◌∙◌, ◌∷◌, ◌≡◌}
+use Rattle.asgi_halves.proofs.SessionWords.{◌≢◌, ◌⊎◌}
+use Rattle.asgi_halves.proofs.SessionOfferLemmas.{Adds, Carries, IsSent, Passed, carried_at, carrying, fails_as, goes_out, message_out, runs, same_answer, stands_at, text_cut, text_out, text_passed}
 use Rattle.asgi_halves.proofs.SessionPassLemmas.{IsAccepted, accepted_more, body_follows, close_follows, closed_after_close, goes, is_first, message_follows, not_closed, open_after_send}
 use Rattle.asgi_halves.proofs.SessionPassLemmas.{open_is_accepted}
 
@@ -42,10 +41,6 @@ pub passed_so : {scene : SessionScene} {was : LineState} {old : WebSocketHalf} {
     → Invariant scene was old read view → old.stage ≡ Running → passes WebSocket scene.facts (said_in scene view) event ≡ true
     → JudgeStandsFor judge WebSocket scene.facts (said_in scene view ++ event ∷ []) false → Sending scene was old read view judge event
 passed_so event x running pass judged = record { held = x; running = running; pass = pass; judged = judged }
-
-fails_as : (put : Put) → failures_by put ≡ failures_at (stage_of put)
-fails_as Put.Done = refl
-fails_as _ = refl
 
 module _ {scene : SessionScene} {was : LineState} {old : WebSocketHalf} {read : List ℕ} {view : ConnView Msg Output} {judge : Judge} {event : Outgoing}
     (p : Sending scene was old read view judge event) where
@@ -109,11 +104,12 @@ module _ {scene : SessionScene} {was : LineState} {old : WebSocketHalf} {read : 
       → Carries (answer_of next) → rest_at old.session ≡ rest_at next → answer_to (said_in scene view ++ event ∷ []) ≡ answer_of next → IsDue next view.offered view.arrived (is_by_input view.broken)
       → (s : Stage) → s ≡ stage_of answer → Holds now (after next s)
   handed_over opened now message adds_it answer sent next carries same becomes is_due s is =
-      rw is (message_out p.held (ap failures_at p.running) adding now opened message adds_it answer sent (after next (stage_of answer)) same carries (fails_as answer) (by answer))
+      rw is (message_out p.held (ap failures_at p.running) adding now opened message adds_it answer sent (after next (stage_of answer)) same carries (fails_as answer).0 (by answer))
     where
       by : (put : Put) (written : List Output) → IsSent put scene (record taken { written = written }) (view.written ++ adds)
           → IsAt (stage_of put) scene (after next (stage_of put)) (record taken { written = written })
-      by Put.Done written out = talks_still old.leftover old.text old.wire.out next written before.0.empty becomes (λ e. absurd (is_answered (answer_of next) carries e)) is_due out
+      by Put.Done written out =
+          talks_still old.leftover old.text old.wire.out next written before.0.empty becomes (λ e. elim carries [ inl is ↦ absurd (cc (sym is ∙ e)) | inr is ↦ absurd (cc (sym is ∙ e)) ]) is_due out
       by Put.Failed written cut = (cut, still_open)
       by Put.NoMemory written cut = (cut, still_open)
 
@@ -173,9 +169,6 @@ module _ {scene : SessionScene} {was : LineState} {old : WebSocketHalf} {read : 
     unanswered_yet : answer_of old.session ≡ Unanswered
     unanswered_yet = (before p).0.answered ∙ ap answer_to unsaid
 
-    adds_refusal : adds p ≡ map Byte text
-    adds_refusal = rw (unsaid, text_is) refl
-
     besides : (rest_at old.session ≡ rest_at (answered_with Answer.Refused old.session)) × IsDue (answered_with Answer.Refused old.session) view.offered view.arrived (is_by_input view.broken)
     besides = same_besides Answer.Refused old.session view.offered view.arrived (is_by_input view.broken) (before p).0.due
 
@@ -184,12 +177,12 @@ module _ {scene : SessionScene} {was : LineState} {old : WebSocketHalf} {read : 
 
     pub refused_whole : HasPut was now text 0 → Holds p now new
     refused_whole put =
-        rw same (all_out p unanswered_yet text adds_refusal now old.text old.wire.out (answered_with Answer.Refused old.session) besides.0 (inr refused) (before p).0.empty
+        rw same (all_out p unanswered_yet text (rw (unsaid, text_is) refl) now old.text old.wire.out (answered_with Answer.Refused old.session) besides.0 (inr refused) (before p).0.empty
         (rw (unsaid, refused) refl) (λ e. absurd (cc (sym refused ∙ e))) besides.1 put)
 
     pub refused_part : (n : ℕ) → n < length text → HasPut was now (take n text) 1 → Holds p now (record new { stage = Cut (WriteFailed n) })
     refused_part n less put =
-        rw same (cut_off p unanswered_yet text adds_refusal now old.text old.wire.out (answered_with Answer.Refused old.session) besides.0 (inr refused) n less put)
+        rw same (cut_off p unanswered_yet text (rw (unsaid, text_is) refl) now old.text old.wire.out (answered_with Answer.Refused old.session) besides.0 (inr refused) n less put)
 
 -- ---- an accept
 
@@ -203,8 +196,7 @@ module _ {scene : SessionScene} {was : LineState} {old : WebSocketHalf} {read : 
   a = accept_of event accepts
 
   none_before : said_in scene view ≡ []
-  none_before =
-      is_first (said_in scene view) (WsAccept a.0 a.1) refl refl refl refl (rw a.2 at (goes scene.facts (said_in scene view) event p.pass))
+  none_before = is_first (said_in scene view) (WsAccept a.0 a.1) refl refl refl refl (rw a.2 at (goes scene.facts (said_in scene view) event p.pass))
 
   not_answered : answer_of old.session ≡ Unanswered
   not_answered = (before p).0.answered ∙ ap answer_to none_before
@@ -242,8 +234,7 @@ module _ {scene : SessionScene} {was : LineState} {old : WebSocketHalf} {read : 
         let said = said_later p ∙ (ap (λ (l : List Outgoing). l ++ event ∷ []) none_before ∙ ap (λ (e : Outgoing). e ∷ []) a.2) in
         let handshake = ap (λ (l : List ℕ). l ++ text) none ∙ (text_is ∙ (ap (λ (f : Facts). accept_text f event) x.fixed.facts_are ∙ ap (λ (e : Outgoing). accept_text scene.facts e) a.2)) in
         let carried : IsCarrying scene seen whole (Some scene.frames) = record { kept = refl; subprotocol = a.0; headers = a.1; events = []; said = said; text_is = handshake } in
-        let stage = talks_still p leftover old.text old.wire.out next seen.written (before p).0.empty
-        (rw (none_before, a.2, by) refl) (λ e. absurd (cc (sym by ∙ e))) besides.1 out in
+        let stage = talks_still p leftover old.text old.wire.out next seen.written (before p).0.empty (rw (none_before, a.2, by) refl) (λ e. absurd (cc (sym by ∙ e))) besides.1 out in
         rw new_is (subst (λ (s : Stage). Holds p switched (record later { stage = s })) (sym p.running)
         (goes_out x (ap failures_at p.running) (adding p) switched later whole (Some scene.frames) x.handed (adds p) [] besides.0 passed out (append-nil (adds p))
         ((carrying scene later seen whole (Some scene.frames) x.handed (answer_of next) (inl by)).1 carried) stage))
@@ -298,10 +289,8 @@ module _ {scene : SessionScene} {was : LineState} {old : WebSocketHalf} {read : 
       adds_hand =
           let in_hand : hand ≡ grows.added = grows.output ∙ ap (λ (l : List ℕ). l ++ grows.added) (before p).0.empty in
           let text_in_hand : session_output (handshake_of scene.facts) scene.facts (taken_of view ++ event ∷ []) ≡ view.written ++ map Byte hand =
-          ap (output_of (handshake_of scene.facts) scene.facts) (accepted_more scene.facts (taken_of view) event true p.pass)
-          ∙ (denying.1.text
-          ∙ (ap (map Byte) (grows.text ∙ ap (λ (l : List ℕ). denial_text scene.facts (said_in scene view) ++ l) (sym in_hand))
-          ∙ (map-append Byte (denial_text scene.facts (said_in scene view)) hand ∙ ap (λ (l : List Output). l ++ map Byte hand) (sym ((before p).0.written ∙ denying.0.text))))) in
+          rw (accepted_more scene.facts (taken_of view) event true p.pass, denying.1.text, grows.text, map-append Byte (denial_text scene.facts (said_in scene view)) grows.added, (before p).0.written,
+          denying.0.text, in_hand) refl in
           append_cancel_left view.written (adds p) (map Byte hand) (sym (text_after p) ∙ text_in_hand)
 
       -- all of it went out

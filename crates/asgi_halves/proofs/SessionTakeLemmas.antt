@@ -39,7 +39,7 @@ module _ {scene : SessionScene} {now : LineState} {half : WebSocketHalf} {read :
   pub ended_taken : (kind : EndKind) → Invariant scene now (record half { stage = Stage.Ending kind }) read (record view { got = view.got ++ Ended kind ∷ []; broken_first = is_by_input view.broken })
   ended_taken kind =
       taken_so (Stage.Ending kind) (view.got ++ Ended kind ∷ []) (is_by_input view.broken) refl
-      (ap (accepted_session scene.facts) (events_append view.got (Ended kind ∷ []) ∙ append-nil (taken_of view))) (λ talks. (talks, end_ended view.got kind (runs x is).1, refl))
+      (rw (events_append view.got (Ended kind ∷ []), append-nil (taken_of view)) refl) (λ talks. (talks, end_ended view.got kind (runs x is).1, refl))
 
   -- the judge knows the facts of the half, which are those of the scene
   judged_here : JudgeStandsFor half.judge WebSocket half.facts (said_in scene view) false
@@ -55,9 +55,9 @@ module _ {scene : SessionScene} {now : LineState} {half : WebSocketHalf} {read :
     pub not_passed : (after : Judge) → (answer ≡ Verdict.Pass → ⊥) → (answer ≢ Verdict.Pass → after ≡ half.judge)
         → (written : List Output) × Invariant scene now (record half { judge = after }) read (record view { got = view.got ++ Event event ∷ []; written = written })
     not_passed after fails kept =
-        let same = ap (accepted_session scene.facts) (events_append view.got (Event event ∷ []))
-        ∙ accepted_more scene.facts (taken_of view) event false (ap is_pass (sym verdict_is) ∙ no_pass answer fails) in
-        let later = taken_so Running (view.got ++ Event event ∷ []) view.broken_first refl same (λ talks. (talks, end_event view.got event ∙ (runs x is).1)) in
+        let none = accepted_more scene.facts (taken_of view) event false (ap is_pass (sym verdict_is) ∙ no_pass answer fails) in
+        let later = taken_so Running (view.got ++ Event event ∷ []) view.broken_first refl (rw (events_append view.got (Event event ∷ [])) none)
+        (λ talks. (talks, end_event view.got event ∙ (runs x is).1)) in
         rw (kept fails) (view.written, subst (λ (s : Stage). Invariant scene now (record half { stage = s }) read (record view { got = view.got ++ Event event ∷ [] })) (sym is) later)
 
     pub passed : answer ≡ Verdict.Pass → passes WebSocket scene.facts (said_in scene view) event ≡ true
@@ -67,15 +67,14 @@ module _ {scene : SessionScene} {now : LineState} {half : WebSocketHalf} {read :
   pub judged_after : (event : Outgoing) (after : Judge)
       → ((said : List Outgoing) → JudgeStandsFor half.judge WebSocket half.facts said false → JudgeStandsFor after WebSocket half.facts (said ++ event ∷ []) false)
       → JudgeStandsFor after WebSocket scene.facts (said_in scene view ++ event ∷ []) false
-  judged_after event after keeps =
-      subst (λ (f : Facts). JudgeStandsFor after WebSocket f (said_in scene view ++ event ∷ []) false) x.fixed.facts_are (keeps (said_in scene view) judged_here)
+  judged_after event after keeps = subst (λ (f : Facts). JudgeStandsFor after WebSocket f (said_in scene view ++ event ∷ []) false) x.fixed.facts_are (keeps (said_in scene view) judged_here)
 
 -- ---- an exchange begins
 
 pub begun : (scene : SessionScene) (now : LineState) (wire : Wire) (facts : Facts) (text : ResponseText) (leftover : Vec ℕ Global) (read : List ℕ) (judge : Judge)
     → OpensSession scene now wire facts text leftover.items read → JudgeStandsFor judge WebSocket scene.facts [] false
-    → Invariant scene now
-    (record { wire = wire; facts = facts; judge = judge; text = text; leftover = leftover; session = Session.Begun Awaited (Some WsConnect); stage = Running }) read empty_conn
+    → Invariant scene now (record { wire = wire; facts = facts; judge = judge; text = text; leftover = leftover; session = Session.Begun Awaited (Some WsConnect); stage = Running })
+    read empty_conn
 begun scene now wire facts text leftover read judge o judged = record {
   fixed = o.fixed; text = []; leftover = None; handed = []; written = refl; breaks = λ e. cc;
   line = rw append-nil (talk_begins scene.start now wire.input read scene.before drop_limit (omega arith) o.moved);
