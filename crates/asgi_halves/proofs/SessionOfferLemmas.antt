@@ -150,12 +150,12 @@ module _ {scene : SessionScene} {was : LineState} {half : WebSocketHalf} {read :
 
     -- a text, if no answer was given
     module _ (unanswered : answer_of half.session ≡ Unanswered) where
-      pub silent : IsSilent half view x.leftover x.handed × (half.leftover.items ≡ scene.frames)
+      silent : IsSilent half view x.leftover x.handed × (half.leftover.items ≡ scene.frames)
       silent = carried_at Unanswered unanswered
 
       quiet : (state : Answered) → (state ≡ Unanswered) ⊎ (state ≡ Answered.Refused) → (text : List ℕ) → IsCarried state scene half view text x.leftover x.handed
-      quiet state (inl is) text = subst (λ (a : Answered). IsCarried a scene half view text x.leftover x.handed) (sym is) silent
-      quiet state (inr is) text = subst (λ (a : Answered). IsCarried a scene half view text x.leftover x.handed) (sym is) silent.0
+      quiet state (inl is) text = rw is silent
+      quiet state (inr is) text = rw is silent.0
 
       pub text_passed : (part : List ℕ) (failures : ℕ) → HasPut was now part failures → Passed now (x.text ++ part) failures x.leftover x.handed
       text_passed part failures p =

@@ -1,9 +1,9 @@
 -- The words that the lemmas of a session share.
 pub use Rattle.asgi_conversation.proofs.NextLemmas.{next_on}
-pub use Rattle.asgi_conversation.specs.{ExchangeRecord.Ending, ExchangeRecord.Saying, declared.following.NextStep.TheVariants.ConnectionEnds}
+pub use Rattle.asgi_conversation.specs.{ExchangeRecord.Ending, ExchangeRecord.Saying, declared.following.NextStep.TheVariants.ConnectionEnds, declared.report.Outcome.Outcome}
 pub use Rattle.asgi_conversation.specs.OutcomeClasses.{ByWrite, OutcomeClass, Unbegun, Uncut, class_of}
 pub use Rattle.asgi_conversation.specs.Sessions.{IsNextOutput, StopsSession, after_session, handshake_of, open_outcome, session_outcome}
-pub use Rattle.asgi_conversation.specs.declared.report.Outcome.{Outcome, TheVariants.Finished, TheVariants.NoMemory, TheVariants.WriteFailed}
+pub use Rattle.asgi_conversation.specs.declared.report.Outcome.TheVariants.{Finished, NoMemory, WriteFailed}
 pub use Rattle.asgi_exchange.proofs.EventLemmas.{end_ended, end_event, events_append}
 pub use Rattle.asgi_exchange.proofs.ListLemmas.{prefix_same, prefix_self, prefix_trans}
 pub use Rattle.asgi_exchange.proofs.MessageLemmas.{close_is_heard, events_grow, none_is_heard}

@@ -1,19 +1,19 @@
 use Rattle.asgi_halves.proofs.SessionOfferLemmas.{broken_view, left_view, none_view, offered_view}
-use Rattle.asgi_halves.proofs.SessionWords.{Incoming, Option, Session, Some, ap, refl, sym, ◌∙◌}
+use Rattle.asgi_halves.proofs.SessionWords.{Session, Some, refl}
 use Rattle.asgi_halves.proofs.session_half.WebSocketHalf.offer.Goals as goal
 
 pub returns-in-Ok-clause-leads : goal.returns-in-Ok-clause-leads
 returns-in-Ok-clause-leads g c scene line read view x v =
     let w = c.in-Begun-default-Some in
     offered_view x c.requires.running g.C.ConnEnd c.args.end.now c.offer.new.self c.replace.result c.replace.ensures.value v w.answer w.event
-    (w.is ∙ ap (λ (o : Option Incoming). Session.Begun w.answer o) w.field-1-is) c.in-Ok.ensures.ok.0 c.offer.ensures.same.0 c.offer.ensures.same.1
+    (rw w.field-1-is at w.is) c.in-Ok.ensures.ok.0 c.offer.ensures.same.0 c.offer.ensures.same.1
 
 pub returns-in-Err-clause-leads : goal.returns-in-Err-clause-leads
 returns-in-Err-clause-leads g c scene line read view x v =
     let err = c.in-Err.ensures.err in
     let w = c.in-Begun-default-Some in
     none_view x c.requires.running g.C.ConnEnd c.args.end.now c.offer.new.self c.replace.result c.replace.ensures.value v (Session.Begun w.answer (Some c.in-Err.back))
-    (w.is ∙ ap (λ (o : Option Incoming). Session.Begun w.answer o) (w.field-1-is ∙ ap (λ (e : Incoming). Some e) (sym err.0))) err.1 c.offer.ensures.same.0 c.offer.ensures.same.1
+    (rw (w.field-1-is, ← err.0) at w.is) err.1 c.offer.ensures.same.0 c.offer.ensures.same.1
 
 pub returns-in-Leaves-clause-leads : goal.returns-in-Leaves-clause-leads
 returns-in-Leaves-clause-leads g c scene line read view x v =
@@ -30,8 +30,7 @@ returns-in-Breaks-clause-leads g c scene line read view x v =
 pub returns-in-Begun-default-None-clause-leads : goal.returns-in-Begun-default-None-clause-leads
 returns-in-Begun-default-None-clause-leads g c scene line read view x v =
     let w = c.in-Begun-default-None in
-    none_view x c.requires.running g.C.ConnEnd c.args.end.now c.args.end.now c.replace.result c.replace.ensures.value v _
-    (w.is ∙ ap (λ (o : Option Incoming). Session.Begun w.answer o) w.field-1-is) refl refl refl
+    none_view x c.requires.running g.C.ConnEnd c.args.end.now c.args.end.now c.replace.result c.replace.ensures.value v _ (rw w.field-1-is at w.is) refl refl refl
 
 pub returns-in-Closed-clause-leads : goal.returns-in-Closed-clause-leads
 returns-in-Closed-clause-leads g c scene line read view x v =
