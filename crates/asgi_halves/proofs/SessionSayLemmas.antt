@@ -221,7 +221,7 @@ module _ {scene : SessionScene} {was : LineState} {old : WebSocketHalf} {read : 
         let next : Session = answered_with Answer.Accepted old.session in
         let later : WebSocketHalf = record (after p next Running) { leftover = leftover } in
         let seen : ConnView Msg Output = record view { got = view.got ++ Event event ∷ []; written = map Byte whole ++ map Message x.handed } in
-        let u = subst (λ (l : List ℕ). HasUpgraded now switched l) bytes_are upgraded in
+        let u = rw bytes_are at upgraded in
         let by : answer_of next ≡ Open = answers_so Answer.Accepted old.session not_answered in
         let silent = carried_at x Unanswered not_answered in
         let besides = same_besides Answer.Accepted old.session view.offered view.arrived (is_by_input view.broken) (before p).0.due in
@@ -274,12 +274,9 @@ module _ {scene : SessionScene} {was : LineState} {old : WebSocketHalf} {read : 
   text_before = (before p).0.text unanswered
 
   module _ (text : ResponseText) (wire : Wire) (wire_is : wire ≡ record old.wire { out = wire.out }) where
-    on_wire : (now : LineState) (s : Stage) → Holds p now (denial p text wire.out s) → Holds p now (record old { judge = judge; text = text; wire = wire; stage = s })
-    on_wire now s = subst (λ (w : Wire). Holds p now (record old { judge = judge; text = text; wire = w; stage = s })) (sym wire_is)
-
     -- there is no memory for it
     pub denied_short : Holds p was (record old { judge = judge; text = text; wire = wire; stage = Cut NoMemory })
-    denied_short = on_wire was (Cut NoMemory) (text_short p unanswered text wire.out)
+    denied_short = rw wire_is (text_short p unanswered text wire.out)
 
     -- ---- the text in hand is written
 
@@ -296,8 +293,8 @@ module _ {scene : SessionScene} {was : LineState} {old : WebSocketHalf} {read : 
       -- all of it went out
       pub denied_whole : wire.out.items ≡ [] → HasPut was now hand 0 → Holds p now (record old { judge = judge; text = text; wire = wire })
       denied_whole empty put =
-          on_wire now old.stage (all_out p unanswered hand adds_hand now text wire.out old.session refl (inl unanswered) empty (denying.1.answer ∙ sym unanswered) (λ e. stands) (before p).0.due put)
+          rw wire_is (all_out p unanswered hand adds_hand now text wire.out old.session refl (inl unanswered) empty (denying.1.answer ∙ sym unanswered) (λ e. stands) (before p).0.due put)
 
       -- its first n bytes did
       pub denied_part : (n : ℕ) → n < length hand → HasPut was now (take n hand) 1 → Holds p now (record old { judge = judge; text = text; wire = wire; stage = Cut (WriteFailed n) })
-      denied_part n less put = on_wire now (Cut (WriteFailed n)) (cut_off p unanswered hand adds_hand now text wire.out old.session refl (inl unanswered) n less put)
+      denied_part n less put = rw wire_is (cut_off p unanswered hand adds_hand now text wire.out old.session refl (inl unanswered) n less put)
