@@ -167,13 +167,9 @@ one_less spare (Got.Message message) some = (refl, omega arith)
 one_less spare _ some = (refl, omega arith)
 
 of_side : (side : Side) (rest later : Option ℕ) → Carries (answer_of (Session.Closed side rest)) × (answer_of (Session.Closed side rest) ≡ answer_of (Session.Closed side later))
-of_side Application rest later = (inr refl, refl)
-of_side Client rest later = (inl refl, refl)
-
-closed_still : (side : Side) (rest later : Option ℕ) (offered : List Incoming) (arrived more : List Msg) (broke : Bool) → IsDue (Session.Closed side rest) offered arrived broke
-    → IsDue (Session.Closed side later) offered (arrived ++ more) broke
-closed_still Application rest later offered arrived more broke d = tt
-closed_still Client rest later offered arrived more broke d = (d.0, close_stays arrived more d.1)
+    × ((offered : List Incoming) (arrived more : List Msg) (broke : Bool) → IsDue (Session.Closed side rest) offered arrived broke → IsDue (Session.Closed side later) offered (arrived ++ more) broke)
+of_side Application rest later = (inr refl, refl, λ offered arrived more broke d. tt)
+of_side Client rest later = (inl refl, refl, λ offered arrived more broke d. (d.0, close_stays arrived more d.1))
 
 module _ (was now : LineState) (half : WebSocketHalf) (may : MayDrop half.stage) (side : Side) (spare : ℕ) (is : half.session ≡ Session.Closed side (Some spare)) (some : 0 < spare) (answer : Got)
     (call : HasRead was now answer) where
@@ -200,7 +196,7 @@ module _ (was now : LineState) (half : WebSocketHalf) (may : MayDrop half.stage)
     stage_on : MayDrop half.stage → (failures_at half.stage ≡ 0) × IsAt half.stage scene (record half { session = next }) later_view
     stage_on (inl running) =
         let r = runs x running in
-        let is_due = closed_still side (Some spare) (rest_after spare answer) view.offered view.arrived (given_by answer) (is_by_input view.broken)
+        let is_due = (of_side side (Some spare) (rest_after spare answer)).2 view.offered view.arrived (given_by answer) (is_by_input view.broken)
         (due_of r.0 (Session.Closed side (Some spare)) is) in
         let at = subst (λ (s : Stage). IsAt s scene (record half { session = next }) later_view) (sym running) (talks_on r.0 next half.stage later_view refl same r.0.uncut is_due, r.1) in
         (ap failures_at running, at)

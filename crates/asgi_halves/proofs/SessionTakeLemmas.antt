@@ -1,9 +1,8 @@
 -- What the half of a session takes: nothing, the end of the task, or an event, which adds nothing if the judge does not pass it.
-use Rattle.asgi_halves.proofs.SessionWords.{Awaited, Bool, ConnKeeps, ConnView, DenialBody, DenialStart, EndKind, Ended, Event, Facts, Global, HeaderField, Invariant, IsAt, Judge, JudgeStandsFor}
-use Rattle.asgi_halves.proofs.SessionWords.{LineState, List, Msg, None, OpensSession, Option, OutItem, Outgoing, Output, ResponseText, Running, Session, SessionScene, Some, Stage, Talks, Vec, Verdict}
-use Rattle.asgi_halves.proofs.SessionWords.{WebSocket, WebSocketHalf, Wire, WsAccept, WsClose, WsConnect, [], accepted_session, added_by, ap, append-nil, arith, drop_limit, empty_conn, end_ended}
-use Rattle.asgi_halves.proofs.SessionWords.{end_event, end_of, events_append, events_of, exchange_of, failures_at, false, is_by_input, is_message, is_of, is_pass, output, passes, refl, said_in}
-use Rattle.asgi_halves.proofs.SessionWords.{session_events, subst, sym, taken_of, talk_begins, true, verdict_on, ℕ, ◌++◌, ◌∙◌, ◌∷◌, ◌≡◌, ◌≢◌}
+use Rattle.asgi_halves.proofs.SessionWords.{Bool, ConnKeeps, ConnView, DenialBody, DenialStart, EndKind, Ended, Event, Facts, HeaderField, Invariant, IsAt, Judge, JudgeStandsFor, LineState, List, Msg}
+use Rattle.asgi_halves.proofs.SessionWords.{Option, OutItem, Outgoing, Output, Running, SessionScene, Stage, Talks, Verdict, WebSocket, WebSocketHalf, WsAccept, WsClose, [], accepted_session}
+use Rattle.asgi_halves.proofs.SessionWords.{added_by, ap, append-nil, end_ended, end_event, end_of, events_append, events_of, exchange_of, failures_at, false, is_by_input, is_message, is_of, is_pass}
+use Rattle.asgi_halves.proofs.SessionWords.{passes, refl, said_in, subst, sym, taken_of, true, verdict_on, ℕ, ◌++◌, ◌∙◌, ◌∷◌, ◌≡◌, ◌≢◌}
 use Rattle.asgi_halves.proofs.{SessionOfferLemmas.runs, SessionOfferLemmas.stands_at, SessionOfferLemmas.talks_on, SessionPassLemmas.accepted_more}
 
 no_pass : (v : Verdict) → (v ≡ Verdict.Pass → ⊥) → is_pass v ≡ false
@@ -68,17 +67,3 @@ module _ {scene : SessionScene} {now : LineState} {half : WebSocketHalf} {read :
       → ((said : List Outgoing) → JudgeStandsFor half.judge WebSocket half.facts said false → JudgeStandsFor after WebSocket half.facts (said ++ event ∷ []) false)
       → JudgeStandsFor after WebSocket scene.facts (said_in scene view ++ event ∷ []) false
   judged_after event after keeps = subst (λ (f : Facts). JudgeStandsFor after WebSocket f (said_in scene view ++ event ∷ []) false) x.fixed.facts_are (keeps (said_in scene view) judged_here)
-
--- ---- an exchange begins
-
-pub begun : (scene : SessionScene) (now : LineState) (wire : Wire) (facts : Facts) (text : ResponseText) (leftover : Vec ℕ Global) (read : List ℕ) (judge : Judge)
-    → OpensSession scene now wire facts text leftover.items read → JudgeStandsFor judge WebSocket scene.facts [] false
-    → Invariant scene now (record { wire = wire; facts = facts; judge = judge; text = text; leftover = leftover; session = Session.Begun Awaited (Some WsConnect); stage = Running })
-    read empty_conn
-begun scene now wire facts text leftover read judge o judged = record {
-  fixed = o.fixed; text = []; leftover = None; handed = []; written = refl; breaks = λ e. cc;
-  line = rw append-nil (talk_begins scene.start now wire.input read scene.before drop_limit (omega arith) o.moved);
-  carried = (record { kept = refl; received = refl; over = refl; sent = refl }, o.frames);
-  keeps = record { offered = (session_events [], refl); written = (output (exchange_of scene) empty_conn, refl) };
-  stage = (record { uncut = refl; due = (refl, refl, refl); judged = judged; answered = refl; text = λ e. o.denial; written = refl; empty = o.empty }, refl);
-}
