@@ -106,7 +106,7 @@ module _ {scene : SessionScene} {was : LineState} {half : WebSocketHalf} {read :
   by_task out written follows gone = record { kind = ended; taken = at_end.1; uncut = at_end.0.uncut; follows = follows; out = rw (gone, at_end.1, at_end.0.written) refl }
 
   -- nothing is added
-  ends_silent : (out : Outcome) → failures_of out ≡ 0 → adds ≡ [] → follows_so out → Goes scene was (ends_so half out) read view
+  pub ends_silent : (out : Outcome) → failures_of out ≡ 0 → adds ≡ [] → follows_so out → Goes scene was (ends_so half out) read view
   ends_silent out none nothing follows =
       let all : view.written ≡ view.written ++ adds = sym (append-nil view.written) ∙ ap (λ (l : List Output). view.written ++ l) (sym nothing) in
       let later = stands_at x (ends_so half out) view refl refl refl (ap failures_at is ∙ sym none) (prefix_self (said_in scene view)) x.keeps x.breaks (inl (by_task out view.written follows all)) in
@@ -133,10 +133,6 @@ own half code (inl (is, e)) = record { ended = EndKind.Returned; at = is; adds =
 own half code (inr (is, e)) = record { ended = EndKind.Faulted; at = is; adds = λ facts events broken. rw e refl; follows = λ said input_broke received. refl }
 
 module _ {scene : SessionScene} {was : LineState} {half : WebSocketHalf} {read : List ℕ} {view : ConnView Msg Output} (x : Invariant scene was half read view) where
-  -- a limit of turns ended it
-  pub ends_idle : half.stage ≡ Stage.Ending EndKind.Idle → Goes scene was (ends_so half Outcome.Idle) read view
-  ends_idle is = ends_silent x EndKind.Idle is Outcome.Idle refl refl refl
-
   module _ (code : ℕ) (ends : EndsWith half code) where
     o : Own half code
     o = own half code ends

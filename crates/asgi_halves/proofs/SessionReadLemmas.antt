@@ -144,7 +144,7 @@ module _ {scene : SessionScene} {was : LineState} {half : WebSocketHalf} {read :
       goes_on (Got.Message message) call (Session.Leaves (disconnect_of (Some close))) refl refl (omega arith)
       (due_here.0, sym (append-nil view.offered) ∙ grown message call, close_later view.arrived (message ∷ []) due_here.2, sym (close_is_heard view.arrived close due_here.2))
 
-  noted : (answer : Got) → HasRead was now answer → Invariant scene now (noted_by half answer) read (seen answer)
+  pub noted : (answer : Got) → HasRead was now answer → Invariant scene now (noted_by half answer) read (seen answer)
   noted (Got.Message message) call = heard message call
   noted Got.Idle call =
       let same : view.arrived ++ [] ≡ view.arrived = append-nil view.arrived in
@@ -154,10 +154,6 @@ module _ {scene : SessionScene} {was : LineState} {half : WebSocketHalf} {read :
   noted Got.NoMemory call =
       subst (λ (s : Session). Invariant scene now (record half { session = s; stage = Cut NoMemory }) read (seen Got.NoMemory)) (sym open_still)
       (goes_so Got.NoMemory call (Session.Begun Accepted None) (Cut NoMemory) refl refl refl (omega arith) (prefix_same view.written (output_in scene view) (runs x is).0.written, (runs x is).1))
-
-pub leads_noted : (was now : LineState) (half : WebSocketHalf) → half.stage ≡ Running → half.session ≡ Session.Begun Accepted None → (answer : Got) → HasRead was now answer
-    → (later : WebSocketHalf) → later ≡ noted_by half answer → PreservesByLine was half now later
-leads_noted was now half is open_still answer call later same scene read view x = (view.arrived ++ given_by answer, view.written, rw same (noted x now is open_still answer call))
 
 -- ---- it is dropped
 
@@ -171,49 +167,45 @@ of_side : (side : Side) (rest later : Option ℕ) → Carries (answer_of (Sessio
 of_side Application rest later = (inr refl, refl, λ offered arrived more broke d. tt)
 of_side Client rest later = (inl refl, refl, λ offered arrived more broke d. (d.0, close_stays arrived more d.1))
 
-module _ (was now : LineState) (half : WebSocketHalf) (may : MayDrop half.stage) (side : Side) (spare : ℕ) (is : half.session ≡ Session.Closed side (Some spare)) (some : 0 < spare) (answer : Got)
-    (call : HasRead was now answer) where
-  module _ {scene : SessionScene} {read : List ℕ} {view : ConnView Msg Output} (x : Invariant scene was half read view) where
-    abbrev next : Session
-    next = Session.Closed side (rest_after spare answer)
+module _ {scene : SessionScene} {was : LineState} {half : WebSocketHalf} {read : List ℕ} {view : ConnView Msg Output} (x : Invariant scene was half read view) (now : LineState)
+    (may : MayDrop half.stage) (side : Side) (spare : ℕ) (is : half.session ≡ Session.Closed side (Some spare)) (some : 0 < spare) (answer : Got) (call : HasRead was now answer) where
+  abbrev next : Session
+  next = Session.Closed side (rest_after spare answer)
 
-    abbrev later_view : ConnView Msg Output
-    later_view = record view { arrived = view.arrived ++ given_by answer }
+  abbrev later_view : ConnView Msg Output
+  later_view = record view { arrived = view.arrived ++ given_by answer }
 
-    same : answer_of half.session ≡ answer_of next
-    same = ap answer_of is ∙ (of_side side (Some spare) (rest_after spare answer)).1
+  same : answer_of half.session ≡ answer_of next
+  same = ap answer_of is ∙ (of_side side (Some spare) (rest_after spare answer)).1
 
-    -- more messages may follow, so that a break by the input was by a close
-    closed_before : is_by_input view.broken ≡ true → has_close view.arrived ≡ true
-    closed_before e = elim (x.breaks e) [ inl closed ↦ closed | inr over ↦ absurd (cc (sym (ap is_over_at is) ∙ over)) ]
+  -- more messages may follow, so that a break by the input was by a close
+  closed_before : is_by_input view.broken ≡ true → has_close view.arrived ≡ true
+  closed_before e = elim (x.breaks e) [ inl closed ↦ closed | inr over ↦ absurd (cc (sym (ap is_over_at is) ∙ over)) ]
 
-    over_on : EndsByTask scene view Finished → EndsByTask scene later_view Finished
-    over_on ends =
-        let follows = follows_still ends.kind (said_in scene view) (is_by_input view.broken) view.arrived (given_by answer) closed_before ∙ ends.follows in
-        record { kind = ends.kind; taken = ends.taken; uncut = ends.uncut; follows = follows; out = ends.out }
+  over_on : EndsByTask scene view Finished → EndsByTask scene later_view Finished
+  over_on ends =
+      let follows = follows_still ends.kind (said_in scene view) (is_by_input view.broken) view.arrived (given_by answer) closed_before ∙ ends.follows in
+      record { kind = ends.kind; taken = ends.taken; uncut = ends.uncut; follows = follows; out = ends.out }
 
-    -- while the application goes on, or once the exchange is over
-    stage_on : MayDrop half.stage → (failures_at half.stage ≡ 0) × IsAt half.stage scene (record half { session = next }) later_view
-    stage_on (inl running) =
-        let r = runs x running in
-        let is_due = (of_side side (Some spare) (rest_after spare answer)).2 view.offered view.arrived (given_by answer) (is_by_input view.broken)
-        (due_of r.0 (Session.Closed side (Some spare)) is) in
-        let at = subst (λ (s : Stage). IsAt s scene (record half { session = next }) later_view) (sym running) (talks_on r.0 next half.stage later_view refl same r.0.uncut is_due, r.1) in
-        (ap failures_at running, at)
-    stage_on (inr over) =
-        let at = subst (λ (s : Stage). IsAt s scene (record half { session = next }) later_view) (sym over)
-        (elim (at_stage x (Over (ConnectionEnds Finished)) over) [ inl ends ↦ inl (over_on ends) | inr cut ↦ absurd cut ]) in
-        (ap failures_at over, at)
+  -- while the application goes on, or once the exchange is over
+  stage_on : MayDrop half.stage → (failures_at half.stage ≡ 0) × IsAt half.stage scene (record half { session = next }) later_view
+  stage_on (inl running) =
+      let r = runs x running in
+      let is_due = (of_side side (Some spare) (rest_after spare answer)).2 view.offered view.arrived (given_by answer) (is_by_input view.broken)
+      (due_of r.0 (Session.Closed side (Some spare)) is) in
+      let at = subst (λ (s : Stage). IsAt s scene (record half { session = next }) later_view) (sym running) (talks_on r.0 next half.stage later_view refl same r.0.uncut is_due, r.1) in
+      (ap failures_at running, at)
+  stage_on (inr over) =
+      let at = subst (λ (s : Stage). IsAt s scene (record half { session = next }) later_view) (sym over)
+      (elim (at_stage x (Over (ConnectionEnds Finished)) over) [ inl ends ↦ inl (over_on ends) | inr cut ↦ absurd cut ]) in
+      (ap failures_at over, at)
 
-    dropped : Invariant scene now (record half { session = next }) read later_view
-    dropped =
-        let s = stage_on may in
-        let less = one_less spare answer some in
-        arrives x now s.0 (ap is_over_at is) (rw is (of_side side (Some spare) None).0) closed_before answer call next half.stage s.0 same
-        less.0 (omega (arith, read_after x.line.carried.calls answer, rw is at x.line.within, less.1)) s.1
-
-  pub leads_dropped : (later : WebSocketHalf) → later ≡ record half { session = Session.Closed side (rest_after spare answer) } → PreservesByLine was half now later
-  leads_dropped later same scene read view x = (view.arrived ++ given_by answer, view.written, rw same (dropped x))
+  pub dropped : Invariant scene now (record half { session = next }) read later_view
+  dropped =
+      let s = stage_on may in
+      let less = one_less spare answer some in
+      arrives x now s.0 (ap is_over_at is) (rw is (of_side side (Some spare) None).0) closed_before answer call next half.stage s.0 same
+      less.0 (omega (arith, read_after x.line.carried.calls answer, rw is at x.line.within, less.1)) s.1
 
 -- ---- one step after the other
 

@@ -1,9 +1,9 @@
 -- The words that the lemmas of a session share.
 pub use Rattle.asgi_conversation.proofs.NextLemmas.{next_on}
-pub use Rattle.asgi_conversation.specs.{ExchangeRecord.Ending, ExchangeRecord.Saying, declared.following.NextStep.TheVariants.ConnectionEnds}
+pub use Rattle.asgi_conversation.specs.{ExchangeRecord.Ending, ExchangeRecord.Saying, declared.following.NextStep.TheVariants.ConnectionEnds, declared.report.Outcome.Outcome}
 pub use Rattle.asgi_conversation.specs.OutcomeClasses.{ByWrite, OutcomeClass, Unbegun, Uncut, class_of}
 pub use Rattle.asgi_conversation.specs.Sessions.{IsNextOutput, StopsSession, after_session, handshake_of, open_outcome, session_outcome}
-pub use Rattle.asgi_conversation.specs.declared.report.Outcome.{Outcome, TheVariants.Finished, TheVariants.NoMemory, TheVariants.WriteFailed}
+pub use Rattle.asgi_conversation.specs.declared.report.Outcome.TheVariants.{Finished, NoMemory, WriteFailed}
 pub use Rattle.asgi_exchange.proofs.EventLemmas.{end_ended, end_event, events_append}
 pub use Rattle.asgi_exchange.proofs.ListLemmas.{prefix_same, prefix_self, prefix_trans}
 pub use Rattle.asgi_exchange.proofs.MessageLemmas.{close_is_heard, events_grow, none_is_heard}
@@ -27,9 +27,9 @@ pub use Rattle.asgi_pipes.specs.declared.{ends.ConnEnd.Ghosts as ConnGhosts, ite
 pub use Rattle.asgi_protocol.proofs.PassingLemmas.{is_passed}
 pub use Rattle.asgi_protocol.proofs.RowLemmas.{both}
 pub use Rattle.asgi_protocol.proofs.WordLemmas.{test_of_beginning}
-pub use Rattle.asgi_protocol.specs.{Lawful.IsLawful, Passing.is_pass, Passing.passes, Stages.StandsFor as JudgeStandsFor, declared.judge.Judge.Judge, declared.verdict.Verdict.Verdict}
+pub use Rattle.asgi_protocol.specs.{Lawful.IsLawful, Passing.is_pass, Passing.passes, Stages.StandsFor as JudgeStandsFor, Verdicts.lines_on, Verdicts.verdict_on}
 pub use Rattle.asgi_protocol.specs.Shapes.{begins_row, goes_on, is_close, is_closed, is_denial_part, is_empty, is_last_denial_part, is_message, is_of, is_row}
-pub use Rattle.asgi_protocol.specs.Verdicts.{lines_on, verdict_on}
+pub use Rattle.asgi_protocol.specs.declared.{judge.Judge.Judge, verdict.Verdict.Verdict}
 pub use Rattle.asgi_response.proofs.DenialLemmas.{is_lawful_response}
 pub use Rattle.asgi_response.proofs.LawfulLemmas.{lawful_is_accepted}
 pub use Rattle.asgi_response.specs.{Denial.as_response, Denial.closing_facts, Denial.denial_progress, Denial.denial_text, Exchange.refusal_text, Progress.progress_in, Standing.Grows}
