@@ -113,8 +113,7 @@ module _ {scene : SessionScene} {was : LineState} {half : WebSocketHalf} {read :
         → IsDue next view.offered (view.arrived ++ given_by answer) (is_by_input view.broken) → Invariant scene now (record half { session = next }) read (seen answer)
     goes_on next answered over within is_due =
         let t = (runs x is).0 in
-        goes_so next half.stage (ap failures_at is) answered over within
-        (subst (λ (s : Stage). IsAt s scene (record half { session = next }) (seen answer)) (sym is)
+        goes_so next half.stage (ap failures_at is) answered over within (subst (λ (s : Stage). IsAt s scene (record half { session = next }) (seen answer)) (sym is)
         (talks_on t next half.stage (seen answer) refl (ap answer_of open_still ∙ answered) t.uncut is_due, (runs x is).1))
 
     -- no message follows
@@ -191,8 +190,7 @@ module _ {scene : SessionScene} {was : LineState} {half : WebSocketHalf} {read :
   stage_on : MayDrop half.stage → (failures_at half.stage ≡ 0) × IsAt half.stage scene (record half { session = next }) later_view
   stage_on (inl running) =
       let r = runs x running in
-      let is_due = (of_side side (Some spare) (rest_after spare answer)).2 view.offered view.arrived (given_by answer) (is_by_input view.broken)
-      (due_of r.0 (Session.Closed side (Some spare)) is) in
+      let is_due = (of_side side (Some spare) (rest_after spare answer)).2 view.offered view.arrived (given_by answer) (is_by_input view.broken) (due_of r.0 (Session.Closed side (Some spare)) is) in
       let at = subst (λ (s : Stage). IsAt s scene (record half { session = next }) later_view) (sym running) (talks_on r.0 next half.stage later_view refl same r.0.uncut is_due, r.1) in
       (ap failures_at running, at)
   stage_on (inr over) =
