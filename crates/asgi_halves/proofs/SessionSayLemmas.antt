@@ -71,8 +71,8 @@ module _ {scene : SessionScene} {was : LineState} {old : WebSocketHalf} {read : 
   more_taken : taken_of taken ≡ taken_of view ++ event ∷ []
   more_taken = events_append view.got (Event event ∷ [])
 
-  said_later : said_in scene taken ≡ said_in scene view ++ event ∷ []
-  said_later = ap (accepted_session scene.facts) more_taken ∙ accepted_more scene.facts (taken_of view) event true p.pass
+  said_on : said_in scene taken ≡ said_in scene view ++ event ∷ []
+  said_on = ap (accepted_session scene.facts) more_taken ∙ accepted_more scene.facts (taken_of view) event true p.pass
 
   pub text_after : session_output (handshake_of scene.facts) scene.facts (taken_of view ++ event ∷ []) ≡ view.written ++ adds
   text_after = event_adds (handshake_of scene.facts) scene.facts (taken_of view) event p.pass ∙ ap (λ (l : List Output). l ++ adds) (sym before.0.written)
@@ -83,7 +83,7 @@ module _ {scene : SessionScene} {was : LineState} {old : WebSocketHalf} {read : 
   adding : Adds scene view (view.got ++ Event event ∷ []) adds
   adding =
       let all : output (exchange_of scene) taken ≡ view.written ++ adds = rw (still_open, append-nil (output_in scene taken)) output_later in
-      record { said = (event ∷ [], sym said_later); all = all; next = Saying (taken_of view) [] event more_taken before.0.written text_after; short = (adds, sym output_later) }
+      record { said = (event ∷ [], sym said_on); all = all; next = Saying (taken_of view) [] event more_taken before.0.written text_after; short = (adds, sym output_later) }
 
   -- all of it went out
   talks_still : (leftover : Vec ℕ Global) (text : ResponseText) (out : Vec ℕ Global) (next : Session) (written : List Output) → out.items ≡ []
@@ -92,8 +92,7 @@ module _ {scene : SessionScene} {was : LineState} {old : WebSocketHalf} {read : 
       → written ≡ view.written ++ adds → IsAt Running scene (record (denial text out Running) { leftover = leftover; session = next }) (record taken { written = written })
   talks_still leftover text out next written empty becomes stands is_due is =
       let written = is ∙ sym output_later in
-      (record { uncut = before.0.uncut; due = is_due; judged = rw said_later p.judged; answered = rw said_later (sym becomes); text = λ e. rw said_later (stands e); written = written; empty = empty },
-      still_open)
+      (record { uncut = before.0.uncut; due = is_due; judged = rw said_on p.judged; answered = rw said_on (sym becomes); text = λ e. rw said_on (stands e); written = written; empty = empty }, still_open)
 
   -- after an accept the session is open, as long as something passes
   pub is_open : IsAccepted (said_in scene view) → answer_of old.session ≡ Open
@@ -231,7 +230,7 @@ module _ {scene : SessionScene} {was : LineState} {old : WebSocketHalf} {read : 
         talk_upgraded scene.start now switched old.wire.input read (scene.before ++ whole) 0 refl (talk_in old view x.leftover x.handed) (talk_in old view (Some scene.frames) x.handed)
         (spare_at old.session) (text_passed x (ap failures_at p.running) (adding p) now not_answered text 0 put) u.text old.leftover.items silent.0.kept u.keeps u.count u.calls u.coming
         (ap (λ (l : List ℕ). Some l) (sym silent.1)) refl refl refl in
-        let said = said_later p ∙ (ap (λ (l : List Outgoing). l ++ event ∷ []) none_before ∙ ap (λ (e : Outgoing). e ∷ []) a.2) in
+        let said = said_on p ∙ (ap (λ (l : List Outgoing). l ++ event ∷ []) none_before ∙ ap (λ (e : Outgoing). e ∷ []) a.2) in
         let handshake = ap (λ (l : List ℕ). l ++ text) none ∙ (text_is ∙ (ap (λ (f : Facts). accept_text f event) x.fixed.facts_are ∙ ap (λ (e : Outgoing). accept_text scene.facts e) a.2)) in
         let carried : IsCarrying scene seen whole (Some scene.frames) = record { kept = refl; subprotocol = a.0; headers = a.1; events = []; said = said; text_is = handshake } in
         let stage = talks_still p leftover old.text old.wire.out next seen.written (before p).0.empty (rw (none_before, a.2, by) refl) (λ e. absurd (cc (sym by ∙ e))) besides.1 out in
@@ -285,9 +284,9 @@ module _ {scene : SessionScene} {was : LineState} {old : WebSocketHalf} {read : 
       adds_hand : adds p ≡ map Byte hand
       adds_hand =
           let in_hand : hand ≡ grows.added = grows.output ∙ ap (λ (l : List ℕ). l ++ grows.added) (before p).0.empty in
+          let joined = map-append Byte (denial_text scene.facts (said_in scene view)) grows.added in
           let text_in_hand : session_output (handshake_of scene.facts) scene.facts (taken_of view ++ event ∷ []) ≡ view.written ++ map Byte hand =
-          rw (accepted_more scene.facts (taken_of view) event true p.pass, denying.1.text, grows.text, map-append Byte (denial_text scene.facts (said_in scene view)) grows.added, (before p).0.written,
-          denying.0.text, in_hand) refl in
+          rw (accepted_more scene.facts (taken_of view) event true p.pass, denying.1.text, grows.text, joined, (before p).0.written, denying.0.text, in_hand) refl in
           append_cancel_left view.written (adds p) (map Byte hand) (sym (text_after p) ∙ text_in_hand)
 
       -- all of it went out

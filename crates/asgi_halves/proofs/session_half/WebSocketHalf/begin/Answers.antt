@@ -3,7 +3,12 @@ use Rattle.asgi_halves.proofs.session_half.WebSocketHalf.begin.Goals as goal
 
 pub returns-clause-begins : goal.returns-clause-begins
 returns-clause-begins c scene now read o = record {
-  fixed = o.fixed; text = []; leftover = None; handed = []; written = refl; breaks = λ e. cc;
+  fixed = o.fixed;
+  text = [];
+  leftover = None;
+  handed = [];
+  written = refl;
+  breaks = λ e. cc;
   line = rw append-nil (talk_begins scene.start now c.args.wire.input read scene.before drop_limit (omega arith) o.moved);
   carried = (record { kept = refl; received = refl; over = refl; sent = refl }, o.frames);
   keeps = record { offered = (session_events [], refl); written = (output (exchange_of scene) empty_conn, refl) };

@@ -13,5 +13,7 @@ returns g c =
     record {
       leads = λ scene read view x.
           (view.arrived ++ given_by got, view.written, rw same (dropped x now c.requires.may c.args.side c.args.spare c.requires.closed c.requires.spare got call));
-      stage = ap (λ (h : WebSocketHalf). h.stage) same; turn = turn; same = (got, call.told, same);
+      stage = ap (λ (h : WebSocketHalf). h.stage) same;
+      turn = turn;
+      same = (got, call.told, same);
     }
