@@ -6,7 +6,6 @@ pub mod FramesLemmas
 pub mod SessionPassLemmas
 pub mod SessionSayLemmas
 pub mod SessionTakeLemmas
-pub mod SessionDenyLemmas
 pub mod SessionEndLemmas
 pub mod SessionReadLemmas
 pub mod ReadAheadLemmas
@@ -18,6 +17,5 @@ pub mod SessionOfferLemmas
 pub mod HttpHalfLemmas
 pub mod CallLemmas
 pub mod HttpKindLemmas
-pub mod SessionKindLemmas
 pub mod TurnLemmas
 pub mod StageLemmas

@@ -1,347 +1,350 @@
--- The steps of a session's half at its own end of the pair: it offers what is due, and the disconnect of a cut.
-use Rattle.asgi_halves.proofs.SessionWords.{length, Appends, Put, RoseBy, TriesWrites, how_wrote, taken_by, failures_by, talk_written, talk_sent}
-use Rattle.asgi_halves.proofs.LineCallLemmas.{HasSent}
-use Rattle.asgi_halves.proofs.SessionWords.{◌≡◌, ℕ, Bool, true, false, List, [], ◌∷◌, ◌++◌, refl, sym, ap, ◌∙◌, subst, inl, inr, append-nil, Option, Some, None, if◌then◌else◌, ◌⊎◌, not, is_some, IsTrue, IsPrefix, EndKind, Facts, Incoming, WsDisconnect, Outgoing, WebSocket, passes, OutItem, Event, Ended, ConnKeeps, IsOffered, end_of, events_of}
-use Rattle.asgi_halves.proofs.SessionWords.{has_close, session_disconnect, session_events, Output, with_session_event, accepted_session, session_output, session_ending, is_by_input, is_by_cut, Break, ByInput, ByCut, ConnView, output, added_by, taken_of, events_append, end_event, prefix_self, prefix_trans, none_is_heard, web_socket_is_steady}
-use Rattle.asgi_halves.proofs.SessionWords.{SentMessage, Msg, ConnectionEnds, Outcome, IsNextOutput, StopsSession, handshake_of, Stage, Answered, Unanswered, Open, Closed, Answer, Session, Client, WebSocketHalf, failures_at, LineState, SessionScene, Invariant, Talks, IsAt, IsCarried, IsCarrying, IsCutShort, IsCutShortAs, IsDue, answer_of}
-use Rattle.asgi_halves.proofs.SessionWords.{exchange_of, is_over_at, is_over_with, known, output_in, rest_at, said_in, spare_at, spare_with, talk_in, drop_limit, CarriesOn, IsCutOff}
-use Rattle.std.proofs.lemmas.List.Sums.{fold-append}
-use Rattle.asgi_pipes.specs.declared.ends.ConnEnd as conn_end
-use Rattle.asgi_exchange.specs.Calls.{IsViewOf}
-use Rattle.asgi_conversation.specs.declared.report.Outcome.TheVariants as outcome
-use Rattle.asgi_halves.specs.declared.stage.Stage.TheVariants as stage
-use Rattle.asgi_halves.specs.declared.session_half.Answered.TheVariants.{Refused}
-use Rattle.asgi_halves.specs.declared.session_half.Answer.TheVariants as to
-use Rattle.asgi_halves.specs.declared.session_half.Session.TheVariants as session
-use Rattle.asgi_conversation.specs.OutcomeClasses.{OutcomeClass, Uncut, ByWrite, Unbegun, class_of}
-use Rattle.asgi_conversation.proofs.NextLemmas.{next_on}
-use Rattle.asgi_halves.proofs.HalfBodyLemmas.{unbroken}
+-- What the steps of a session's half keep, and those at its own end of the pair: it offers what is due, and the disconnect of a cut.
+use Rattle.asgi_halves.proofs.SessionWords.{Answer, Answered, Bool, Break, ByCut, ByInput, ByWrite, Byte, CarriesOn, Client, Closed, ConnGhosts, ConnKeeps, ConnView, ConnectionEnds, Cut, EndKind}
+use Rattle.asgi_halves.proofs.SessionWords.{Ended, Event, Facts, HasPut, HasSent, Incoming, Invariant, IsAt, IsCarried, IsCarrying, IsCutOff, IsCutShort, IsCutShortAs, IsDue, IsNextOutput, IsOf}
+use Rattle.asgi_halves.proofs.SessionWords.{IsOffered, IsOpen, IsPrefix, IsSilent, IsTrue, IsViewOf, LineState, List, Message, Msg, NoMemory, None, Open, Option, OutItem, Outcome, OutcomeClass}
+use Rattle.asgi_halves.proofs.SessionWords.{Outgoing, Output, Over, Put, Running, SentMessage, Session, SessionScene, Some, Stage, StopsSession, Talks, Unanswered, Unbegun, Uncut, WebSocket}
+use Rattle.asgi_halves.proofs.SessionWords.{WebSocketHalf, WriteFailed, WsDisconnect, [], accepted_session, added_by, answer_of, ap, append-nil, append_assoc, arith, as_messages, as_text, class_of}
+use Rattle.asgi_halves.proofs.SessionWords.{drop, drop_limit, end_event, end_of, events_append, events_of, exchange_of, failures_at, failures_by, failures_of, false, fold-append, handshake_of}
+use Rattle.asgi_halves.proofs.SessionWords.{has_close, if◌then◌else◌, inl, inr, is_by_cut, is_by_input, is_over_at, is_over_with, is_some, known, length, length-map, map, next_on, none_is_heard, not}
+use Rattle.asgi_halves.proofs.SessionWords.{outcome_of, output, output_in, passes, prefix_self, prefix_trans, refl, rest_at, said_in, session_disconnect, session_ending, session_events}
+use Rattle.asgi_halves.proofs.SessionWords.{session_output, spare_at, stage_of, subst, sym, take, take-append-drop, take-map, taken_by, taken_of, talk_in, talk_sent, talk_written, true, unbroken}
+use Rattle.asgi_halves.proofs.SessionWords.{web_socket_is_steady, with_session_event, ℕ, ◌++◌, ◌<◌, ◌↔◌, ◌∙◌, ◌∷◌, ◌≡◌, ◌⊎◌}
 
 -- ---- what was taken grows
 
 -- what a judge passes of a list begins what it passes of a longer one
-pub accepted_grows : (facts : Facts) (events : List Outgoing) (event : Outgoing) → IsPrefix (accepted_session facts events) (accepted_session facts (events ++ event ∷ []))
+accepted_grows : (facts : Facts) (events : List Outgoing) (event : Outgoing) → IsPrefix (accepted_session facts events) (accepted_session facts (events ++ event ∷ []))
 accepted_grows facts events event =
-    let r = by (passes WebSocket facts (accepted_session facts events) event) in
+    let said : List Outgoing = accepted_session facts events in
+    let r = elim (passes WebSocket facts said event) as (λ b. IsPrefix said (if b then said ++ event ∷ [] else said)) [ true ↦ (event ∷ [], refl) | false ↦ prefix_self said ] in
     (r.0, r.1 ∙ sym (fold-append (with_session_event facts) [] events (event ∷ [])))
-  where
-    by : (b : Bool) → IsPrefix (accepted_session facts events) (if b then accepted_session facts events ++ event ∷ [] else accepted_session facts events)
-    by true = (event ∷ [], refl)
-    by false = prefix_self (accepted_session facts events)
 
--- so do the items of a queue, of which some are no events
-pub accepted_after : (facts : Facts) (got : List OutItem) (item : OutItem) → IsPrefix (accepted_session facts (events_of got)) (accepted_session facts (events_of (got ++ item ∷ [])))
-accepted_after facts got (Event event) =
-    subst (λ (l : List Outgoing). IsPrefix (accepted_session facts (events_of got)) (accepted_session facts l)) (sym (events_append got (Event event ∷ []))) (accepted_grows facts (events_of got) event)
-accepted_after facts got (Ended kind) =
-    subst (λ (l : List Outgoing). IsPrefix (accepted_session facts (events_of got)) (accepted_session facts l)) (sym (events_append got (Ended kind ∷ []) ∙ append-nil (events_of got)))
-    (prefix_self (accepted_session facts (events_of got)))
+-- so does what is made of the items of a queue, of which some are no events
+grows_with : {A : Type 0} (f : List Outgoing → List A) → ((events : List Outgoing) (event : Outgoing) → IsPrefix (f events) (f (events ++ event ∷ []))) → (got : List OutItem) (item : OutItem)
+    → IsPrefix (f (events_of got)) (f (events_of (got ++ item ∷ [])))
+grows_with f grows got (Event event) = rw (events_append got (Event event ∷ [])) (grows (events_of got) event)
+grows_with f grows got (Ended kind) = rw (events_append got (Ended kind ∷ []) ∙ append-nil (events_of got)) (prefix_self (f (events_of got)))
 
-output_after : (scene : SessionScene) (got : List OutItem) (item : OutItem)
-    → IsPrefix (session_output (handshake_of scene.facts) scene.facts (events_of got)) (session_output (handshake_of scene.facts) scene.facts (events_of (got ++ item ∷ [])))
-output_after scene got (Event event) =
-    subst (λ (l : List Outgoing). IsPrefix (session_output (handshake_of scene.facts) scene.facts (events_of got)) (session_output (handshake_of scene.facts) scene.facts l))
-    (sym (events_append got (Event event ∷ []))) ((web_socket_is_steady (handshake_of scene.facts) scene.facts scene.limits.ring).text_grows (events_of got) event)
-output_after scene got (Ended kind) =
-    subst (λ (l : List Outgoing). IsPrefix (session_output (handshake_of scene.facts) scene.facts (events_of got)) (session_output (handshake_of scene.facts) scene.facts l))
-    (sym (events_append got (Ended kind ∷ []) ∙ append-nil (events_of got))) (prefix_self (session_output (handshake_of scene.facts) scene.facts (events_of got)))
+-- ---- what any step keeps
 
--- ---- what an end does not touch
-
--- what the line carries, if no message arrived and what was sent goes on
-pub carried_on : (answered : Answered) (scene : SessionScene) (half later : WebSocketHalf) (view next : ConnView Msg Output) (text : List ℕ) (leftover : Option (List ℕ)) (handed : List SentMessage)
-    → later.leftover ≡ half.leftover → is_over_at later.session ≡ is_over_at half.session → next.arrived ≡ view.arrived → IsPrefix (said_in scene view) (said_in scene next)
-    → IsCarried answered scene half view text leftover handed → IsCarried answered scene later next text leftover handed
-carried_on Unanswered scene half later view next text leftover handed kept over arrived more c = (
-  record { kept = c.0.kept; received = arrived ∙ c.0.received; over = over ∙ c.0.over; sent = c.0.sent },
-  ap (λ v. v.items) kept ∙ c.1,
-)
-carried_on Refused scene half later view next text leftover handed kept over arrived more c =
-    record { kept = c.kept; received = arrived ∙ c.received; over = over ∙ c.over; sent = c.sent }
-carried_on Open scene half later view next text leftover handed kept over arrived more c =
-    record { kept = c.kept; subprotocol = c.subprotocol; headers = c.headers; events = c.events ++ more.0; said = sym more.1 ∙ ap (λ (l : List Outgoing). l ++ more.0) c.said; text_is = c.text_is }
-carried_on Closed scene half later view next text leftover handed kept over arrived more c =
-    record { kept = c.kept; subprotocol = c.subprotocol; headers = c.headers; events = c.events ++ more.0; said = sym more.1 ∙ ap (λ (l : List Outgoing). l ++ more.0) c.said; text_is = c.text_is }
+-- a half of the same exchange
+abbrev pub among : WebSocketHalf → WebSocketHalf → WebSocketHalf
+among half later = record later { facts = half.facts; wire = record half.wire { out = later.wire.out } }
 
 -- the answer is that to the handshake, whatever waits
-pub same_answer : (reply : Answer) (one other : Option Incoming) → answer_of (session.Begun reply one) ≡ answer_of (session.Begun reply other)
-same_answer to.Awaited one other = refl
-same_answer to.Accepted one other = refl
-same_answer to.Refused one other = refl
+pub same_answer : (reply : Answer) (one other : Option Incoming) → answer_of (Session.Begun reply one) ≡ answer_of (Session.Begun reply other)
+same_answer Answer.Awaited one other = refl
+same_answer Answer.Accepted one other = refl
+same_answer Answer.Refused one other = refl
 
 -- the line carries messages
 abbrev pub Carries : Answered → Type 0
 Carries state = (state ≡ Open) ⊎ (state ≡ Closed)
 
-pub carrying : (state : Answered) (scene : SessionScene) (half : WebSocketHalf) (view : ConnView Msg Output) (text : List ℕ) (leftover : Option (List ℕ)) (handed : List SentMessage) → Carries state
-    → IsCarrying scene view text leftover → IsCarried state scene half view text leftover handed
-carrying state scene half view text leftover handed (inl is) c = subst (λ (a : Answered). IsCarried a scene half view text leftover handed) (sym is) c
-carrying state scene half view text leftover handed (inr is) c = subst (λ (a : Answered). IsCarried a scene half view text leftover handed) (sym is) c
+pub carrying : (scene : SessionScene) (half : WebSocketHalf) (view : ConnView Msg Output) (text : List ℕ) (leftover : Option (List ℕ)) (handed : List SentMessage) (state : Answered) → Carries state
+    → IsCarried state scene half view text leftover handed ↔ IsCarrying scene view text leftover
+carrying scene half view text leftover handed state (inl is) = rw is ((λ c. c), (λ c. c))
+carrying scene half view text leftover handed state (inr is) = rw is ((λ c. c), (λ c. c))
 
-pub carrying_of : (state : Answered) (scene : SessionScene) (half : WebSocketHalf) (view : ConnView Msg Output) (text : List ℕ) (leftover : Option (List ℕ)) (handed : List SentMessage) → Carries state
-    → IsCarried state scene half view text leftover handed → IsCarrying scene view text leftover
-carrying_of state scene half view text leftover handed (inl is) x = subst (λ (a : Answered). IsCarried a scene half view text leftover handed) is x
-carrying_of state scene half view text leftover handed (inr is) x = subst (λ (a : Answered). IsCarried a scene half view text leftover handed) is x
+pub carrying_on : {scene : SessionScene} {view : ConnView Msg Output} {text : List ℕ} {leftover : Option (List ℕ)} → IsCarrying scene view text leftover → (seen : ConnView Msg Output)
+    → IsPrefix (said_in scene view) (said_in scene seen) → IsCarrying scene seen text leftover
+carrying_on c seen more =
+    record { kept = c.kept; subprotocol = c.subprotocol; headers = c.headers; events = c.events ++ more.0; said = sym more.1 ∙ ap (λ (l : List Outgoing). l ++ more.0) c.said; text_is = c.text_is }
 
--- what is due in this session
-pub due_of : (scene : SessionScene) (half : WebSocketHalf) (view : ConnView Msg Output) → Talks scene half view → (state : Session) → half.session ≡ state
-    → IsDue state view.offered view.arrived (is_by_input view.broken)
-due_of scene half view t state is = subst (λ (s : Session). IsDue s view.offered view.arrived (is_by_input view.broken)) is t.due
+module _ {scene : SessionScene} {half : WebSocketHalf} {view : ConnView Msg Output} (t : Talks scene half view) where
+  -- what is due in this session
+  pub due_of : (state : Session) → half.session ≡ state → IsDue state view.offered view.arrived (is_by_input view.broken)
+  due_of state is = subst (λ (s : Session). IsDue s view.offered view.arrived (is_by_input view.broken)) is t.due
 
-module _ (scene : SessionScene) (line : LineState) (half : WebSocketHalf) (read : List ℕ) (view : ConnView Msg Output) (x : Invariant scene line half read view) where
-  -- by how many calls failed
-  pub line_at : (failures : ℕ) → failures_at half.stage ≡ failures → CarriesOn scene.start line half.wire.input read (scene.before ++ x.text) failures (talk_in half view x.leftover x.handed) (spare_at half.session)
-  line_at failures is = subst (λ (n : ℕ). CarriesOn scene.start line half.wire.input read (scene.before ++ x.text) n (talk_in half view x.leftover x.handed) (spare_at half.session)) is x.line
+  -- nothing more is sent
+  pub talks_on : (next : Session) (s : Stage) (seen : ConnView Msg Output) → said_in scene seen ≡ said_in scene view → answer_of half.session ≡ answer_of next → is_by_cut seen.broken ≡ false
+      → IsDue next seen.offered seen.arrived (is_by_input seen.broken) → Talks scene (record half { session = next; stage = s }) (record seen { written = view.written })
+  talks_on next s seen same answered uncut is_due =
+      let answers = sym answered ∙ t.answered in
+      record { uncut = uncut; due = is_due; judged = rw same t.judged; answered = rw same answers; text = λ e. rw same (t.text (answered ∙ e)); written = rw same t.written; empty = t.empty }
 
-  -- the line after one more text, if it carries no messages, and after one more message
-  module _ (unfailed : failures_at half.stage ≡ 0) (now : LineState) where
-    pub text_moved : x.leftover ≡ None → now.left ≡ line.left → now.reads ≡ line.reads → now.session ≡ line.session → (part : List ℕ) (failures : ℕ) → Appends line.written now.written part
-        → RoseBy failures line.failed now.failed → TriesWrites line.writes now.writes (length part) (how_wrote failures (length part))
-        → CarriesOn scene.start now half.wire.input read (scene.before ++ (x.text ++ part)) failures (talk_in half view x.leftover x.handed) (spare_at half.session)
-    text_moved none same_left same_reads same_session part failures appends rose tries =
-        talk_written scene.start line now half.wire.input read scene.before x.text part failures (talk_in half view x.leftover x.handed) (spare_at half.session) (line_at 0 unfailed) none same_left same_reads same_session
-        appends rose tries
+-- what is to be written next, once these items were taken
+pub record Adds (scene : SessionScene) (view : ConnView Msg Output) (got : List OutItem) (adds : List Output) : Type 0 where
+  pub said : IsPrefix (said_in scene view) (said_in scene (record view { got = got }))
+  pub all : output (exchange_of scene) (record view { got = got }) ≡ view.written ++ adds
+  pub next : IsNextOutput (known scene (record view { got = got })) view.written adds
+  pub short : IsPrefix view.written (output_in scene (record view { got = got }))
 
-    pub message_moved : IsCarrying scene view x.text x.leftover → (message : SentMessage) (answer : Put) → HasSent line now message answer → (result : Put) → answer ≡ result
-        → CarriesOn scene.start now half.wire.input read (scene.before ++ x.text) (failures_by result) (talk_in half view x.leftover (x.handed ++ taken_by message result)) (spare_at half.session)
-    message_moved carries message answer sent result is =
-        subst (λ (a : Put). CarriesOn scene.start now half.wire.input read (scene.before ++ x.text) (failures_by a) (talk_in half view x.leftover (x.handed ++ taken_by message a)) (spare_at half.session)) is
-        (talk_sent scene.start line now half.wire.input read (scene.before ++ x.text) 0 refl (talk_in half view x.leftover x.handed) (talk_in half view x.leftover (x.handed ++ taken_by message answer))
-        (spare_at half.session) (line_at 0 unfailed) sent.text message answer sent.told sent.count sent.coming sent.kept refl refl refl refl scene.frames carries.kept)
+-- what is out once a message was handed over: all, or less, and the connection is cut short
+abbrev pub IsSent : Put → SessionScene → ConnView Msg Output → List Output → Type 0
+IsSent Put.Done scene seen all = seen.written ≡ all
+IsSent Put.Failed scene seen all = IsCutShort scene seen (WriteFailed 0)
+IsSent Put.NoMemory scene seen all = IsCutShort scene seen NoMemory
 
-  -- The half's invariant holds in a stage again, if the line is the same.
-  pub stands_at : (next : Session) (s : Stage) (offered : List Incoming) (broken : Option Break) (got : List OutItem)
-      → answer_of half.session ≡ answer_of next → rest_at half.session ≡ rest_at next → failures_at half.stage ≡ failures_at s
-      → IsPrefix (said_in scene view) (said_in scene (record view { offered = offered; broken = broken; got = got }))
-      → ConnKeeps (exchange_of scene) (record view { offered = offered; broken = broken; got = got })
-      → (is_by_input broken ≡ true → (has_close view.arrived ≡ true) ⊎ (is_over_at next ≡ true))
-      → IsAt s scene (record half { session = next; stage = s }) (record view { offered = offered; broken = broken; got = got })
-      → Invariant scene line (record half { session = next; stage = s }) read (record view { offered = offered; broken = broken; got = got })
-  stands_at next s offered broken got answered rest failures more keeps breaks at =
-      let later : WebSocketHalf = record half { session = next; stage = s } in
-      record {
-        fixed = x.fixed;
-        text = x.text;
-        leftover = x.leftover;
-        handed = x.handed;
-        line = subst (λ (r : Option ℕ). CarriesOn scene.start line half.wire.input read (scene.before ++ x.text) (failures_at s)
-            (record { leftover = x.leftover; received = view.arrived; is_over = is_over_with r; handed = x.handed }) (spare_with r)) rest (line_at (failures_at s) failures);
-        written = x.written;
-        carried = subst (λ (a : Answered). IsCarried a scene later (record view { offered = offered; broken = broken; got = got }) x.text x.leftover x.handed) answered
-            (carried_on (answer_of half.session) scene half later view (record view { offered = offered; broken = broken; got = got }) x.text x.leftover x.handed refl (ap is_over_with (sym rest)) refl more x.carried);
-        keeps = keeps;
-        breaks = breaks;
-        stage = at;
-      }
+pub fails_as : (put : Put) → (failures_by put ≡ failures_at (stage_of put)) × (failures_by put ≡ failures_of (outcome_of put))
+fails_as Put.Done = (refl, refl)
+fails_as _ = (refl, refl)
+
+module _ {scene : SessionScene} {was : LineState} {half : WebSocketHalf} {read : List ℕ} {view : ConnView Msg Output} (x : Invariant scene was half read view) where
+  pub at_stage : (s : Stage) → half.stage ≡ s → IsAt s scene half view
+  at_stage s is = subst (λ (s : Stage). IsAt s scene half view) is x.stage
+
+  pub runs : half.stage ≡ Running → Talks scene half view × (end_of view.got ≡ None)
+  runs is = at_stage Running is
+
+  pub carried_at : (a : Answered) → answer_of half.session ≡ a → IsCarried a scene half view x.text x.leftover x.handed
+  carried_at a is = subst (λ (a : Answered). IsCarried a scene half view x.text x.leftover x.handed) is x.carried
+
+  -- this text and these messages passed over the line, and so many calls failed
+  abbrev pub Passed : LineState → List ℕ → ℕ → Option (List ℕ) → List SentMessage → Type 0
+  Passed now text failures kept handed = CarriesOn scene.start now half.wire.input read (scene.before ++ text) failures (talk_in half view kept handed) (spare_at half.session)
+
+  line_at : (failures : ℕ) → failures_at half.stage ≡ failures → Passed was x.text failures x.leftover x.handed
+  line_at failures is = subst (λ (n : ℕ). Passed was x.text n x.leftover x.handed) is x.line
+
+  -- the half's invariant holds again, if nothing more arrived
+  again : (now : LineState) (later : WebSocketHalf) (seen : ConnView Msg Output) (text : List ℕ) (kept : Option (List ℕ)) (handed : List SentMessage) → rest_at half.session ≡ rest_at later.session
+      → Passed now text (failures_at later.stage) kept handed → seen.written ≡ map Byte text ++ map Message handed
+      → IsCarried (answer_of later.session) scene (among half later) (record seen { arrived = view.arrived }) text kept handed → ConnKeeps (exchange_of scene) (record seen { arrived = view.arrived })
+      → (is_by_input seen.broken ≡ true → (has_close view.arrived ≡ true) ⊎ (is_over_at later.session ≡ true)) → IsAt later.stage scene (among half later) (record seen { arrived = view.arrived })
+      → Invariant scene now (among half later) read (record seen { arrived = view.arrived })
+  again now later seen text kept handed same passed written carried keeps breaks stage =
+      let f = x.fixed in
+      let fixed : IsOf scene half.facts (record half.wire { out = later.wire.out }) read =
+      record { facts_are = f.facts_are; limits_are = f.limits_are; after = f.after; answered = f.answered; head = f.head; before_is = f.before_is; read_is = f.read_is } in
+      let line = rw same at passed in
+      record { fixed = fixed; text = text; leftover = kept; handed = handed; line = line; written = written; carried = carried; keeps = keeps; breaks = breaks; stage = stage }
+
+  -- what the line carries is the same, or more is sent
+  carried_on : (later : WebSocketHalf) (seen : ConnView Msg Output) (text : List ℕ) → later.leftover ≡ half.leftover → rest_at half.session ≡ rest_at later.session
+      → IsPrefix (said_in scene view) (said_in scene seen) → (a : Answered) → IsCarried a scene half view text x.leftover x.handed
+      → IsCarried a scene later (record seen { arrived = view.arrived }) text x.leftover x.handed
+  carried_on later seen text kept rest more Unanswered c =
+      (record { kept = c.0.kept; received = c.0.received; over = ap is_over_with (sym rest) ∙ c.0.over; sent = c.0.sent }, ap (λ v. v.items) kept ∙ c.1)
+  carried_on later seen text kept rest more Answered.Refused c = record { kept = c.kept; received = c.received; over = ap is_over_with (sym rest) ∙ c.over; sent = c.sent }
+  carried_on later seen text kept rest more Open c = carrying_on c (record seen { arrived = view.arrived }) more
+  carried_on later seen text kept rest more Closed c = carrying_on c (record seen { arrived = view.arrived }) more
+
+  -- the line is the same
+  pub stands_at : (later : WebSocketHalf) (seen : ConnView Msg Output) → later.leftover ≡ half.leftover → answer_of half.session ≡ answer_of later.session
+      → rest_at half.session ≡ rest_at later.session → failures_at half.stage ≡ failures_at later.stage → IsPrefix (said_in scene view) (said_in scene seen)
+      → ConnKeeps (exchange_of scene) (record seen { arrived = view.arrived; written = view.written })
+      → (is_by_input seen.broken ≡ true → (has_close view.arrived ≡ true) ⊎ (is_over_at later.session ≡ true))
+      → IsAt later.stage scene (among half later) (record seen { arrived = view.arrived; written = view.written })
+      → Invariant scene was (among half later) read (record seen { arrived = view.arrived; written = view.written })
+  stands_at later seen kept answered rest failures more keeps breaks stage =
+      let new : WebSocketHalf = among half later in
+      let after : ConnView Msg Output = record seen { arrived = view.arrived; written = view.written } in
+      let carried = subst (λ (a : Answered). IsCarried a scene new after x.text x.leftover x.handed) answered (carried_on new after x.text kept rest more (answer_of half.session) x.carried) in
+      again was later after x.text x.leftover x.handed rest (line_at (failures_at later.stage) failures) x.written carried keeps breaks stage
+
+  -- ---- more is written
+
+  module _ (unfailed : failures_at half.stage ≡ 0) {got : List OutItem} {adds : List Output} (a : Adds scene view got adds) (now : LineState) where
+    -- this much of it went out, as text or as messages
+    pub goes_out : (later : WebSocketHalf) (text : List ℕ) (kept : Option (List ℕ)) (handed : List SentMessage) (front rest : List Output) → rest_at half.session ≡ rest_at later.session
+        → Passed now text (failures_at later.stage) kept handed → map Byte text ++ map Message handed ≡ view.written ++ front → front ++ rest ≡ adds
+        → IsCarried (answer_of later.session) scene (among half later) (record view { got = got; written = map Byte text ++ map Message handed }) text kept handed
+        → IsAt later.stage scene (among half later) (record view { got = got; written = map Byte text ++ map Message handed })
+        → (written : List Output) × Invariant scene now (among half later) read (record view { got = got; written = written })
+    goes_out later text kept handed front rest same passed out is carried stage =
+        let written : List Output = map Byte text ++ map Message handed in
+        let all : written ++ rest ≡ output (exchange_of scene) (record view { got = got }) = rw (out, append_assoc view.written front rest, is) (sym a.all) in
+        let breaks = λ (e : is_by_input view.broken ≡ true). subst (λ (r : Option ℕ). (has_close view.arrived ≡ true) ⊎ (is_over_with r ≡ true)) same (x.breaks e) in
+        (written, again now later (record view { got = got; written = written }) text kept handed same passed refl carried (record { offered = x.keeps.offered; written = (rest, all) }) breaks stage)
+
+    -- a text, if no answer was given
+    module _ (unanswered : answer_of half.session ≡ Unanswered) where
+      silent : IsSilent half view x.leftover x.handed × (half.leftover.items ≡ scene.frames)
+      silent = carried_at Unanswered unanswered
+
+      quiet : (state : Answered) → (state ≡ Unanswered) ⊎ (state ≡ Answered.Refused) → (text : List ℕ) → IsCarried state scene half view text x.leftover x.handed
+      quiet state (inl is) text = rw is silent
+      quiet state (inr is) text = rw is silent.0
+
+      pub text_passed : (part : List ℕ) (failures : ℕ) → HasPut was now part failures → Passed now (x.text ++ part) failures x.leftover x.handed
+      text_passed part failures p =
+          talk_written scene.start was now half.wire.input read scene.before x.text part failures (talk_in half view x.leftover x.handed) (spare_at half.session) (line_at 0 unfailed)
+          silent.0.kept p.beside.0 p.beside.1 p.session p.appends p.rose p.tries
+
+      pub text_out : (later : WebSocketHalf) (part : List ℕ) (rest : List Output) → later.leftover ≡ half.leftover → rest_at half.session ≡ rest_at later.session
+          → (answer_of later.session ≡ Unanswered) ⊎ (answer_of later.session ≡ Answered.Refused) → HasPut was now part (failures_at later.stage) → map Byte part ++ rest ≡ adds
+          → ((written : List Output) → written ≡ view.written ++ map Byte part → IsAt later.stage scene (among half later) (record view { got = got; written = written }))
+          → (written : List Output) × Invariant scene now (among half later) read (record view { got = got; written = written })
+      text_out later part rest kept same answered put is stage =
+          let text : List ℕ = x.text ++ part in
+          let seen : ConnView Msg Output = record view { got = got; written = map Byte text ++ map Message x.handed } in
+          let out = as_text x.text part x.handed view.written silent.0.sent x.written in
+          let carried = carried_on (among half later) seen text kept same a.said (answer_of later.session) (quiet (answer_of later.session) answered text) in
+          goes_out later text x.leftover x.handed (map Byte part) rest same (text_passed part (failures_at later.stage) put) out is carried (stage seen.written out)
+
+      -- its first n bytes
+      pub text_cut : (later : WebSocketHalf) (more : List ℕ) → adds ≡ map Byte more → later.leftover ≡ half.leftover → rest_at half.session ≡ rest_at later.session
+          → (answer_of later.session ≡ Unanswered) ⊎ (answer_of later.session ≡ Answered.Refused) → failures_at later.stage ≡ 1 → (n : ℕ) → n < length more → HasPut was now (take n more) 1
+          → ((seen : ConnView Msg Output) → seen.got ≡ got → IsCutShort scene seen (WriteFailed n) → IsAt later.stage scene (among half later) seen)
+          → (written : List Output) × Invariant scene now (among half later) read (record view { got = got; written = written })
+      text_cut later more adds_it kept same answered one n less put stage =
+          let part : map Byte (take n more) ≡ take n adds = sym (take-map Byte n more) ∙ ap (λ (l : List Output). take n l) (sym adds_it) in
+          let within : n < length adds = rw (adds_it, length-map more Byte) less in
+          text_out later (take n more) (drop n adds) kept same answered (rw one put) (ap (λ (l : List Output). l ++ drop n adds) part ∙ take-append-drop n adds)
+          (λ written out. stage (record view { got = got; written = written }) refl
+          (record { out = view.written; more = adds; is_next = a.next; within = within; written_is = out ∙ ap (λ (l : List Output). view.written ++ l) part }))
+
+    -- a message, which is all of it
+    module _ (opened : answer_of half.session ≡ Open) (message : SentMessage) (adds_it : adds ≡ Message message ∷ []) where
+      sent_so : (put : Put) (written : List Output) → written ≡ view.written ++ map Message (taken_by message put)
+          → (rest : List Output) × (map Message (taken_by message put) ++ rest ≡ adds) × IsSent put scene (record view { got = got; written = written }) (view.written ++ adds)
+      sent_so Put.Done written out = ([], sym adds_it, out ∙ ap (λ (l : List Output). view.written ++ l) (sym adds_it))
+      sent_so Put.Failed written out = (adds, refl, record { out = view.written; more = adds; is_next = a.next; within = rw adds_it (omega arith); written_is = out })
+      sent_so Put.NoMemory written out = (adds, refl, (a.short.0, ap (λ (l : List Output). l ++ a.short.0) (out ∙ append-nil view.written) ∙ a.short.1))
+
+      pub message_out : (answer : Put) → HasSent was now message answer → (later : WebSocketHalf) → rest_at half.session ≡ rest_at later.session → Carries (answer_of later.session)
+          → failures_by answer ≡ failures_at later.stage → ((written : List Output) → IsSent answer scene (record view { got = got; written = written }) (view.written ++ adds)
+          → IsAt later.stage scene (among half later) (record view { got = got; written = written }))
+          → (written : List Output) × Invariant scene now (among half later) read (record view { got = got; written = written })
+      message_out answer sent later same carries fails stage =
+          let c : IsCarrying scene view x.text x.leftover = carried_at Open opened in
+          let handed : List SentMessage = x.handed ++ taken_by message answer in
+          let seen : ConnView Msg Output = record view { got = got; written = map Byte x.text ++ map Message handed } in
+          let out = as_messages x.text x.handed (taken_by message answer) view.written x.written in
+          let s = sent_so answer seen.written out in
+          let passed = rw fails at (talk_sent scene.start was now half.wire.input read (scene.before ++ x.text) 0 refl (talk_in half view x.leftover x.handed) (talk_in half view x.leftover handed)
+          (spare_at half.session) (line_at 0 unfailed) sent.text message answer sent.told sent.count sent.coming sent.kept refl refl refl refl scene.frames c.kept) in
+          let carried = (carrying scene (among half later) seen x.text x.leftover handed (answer_of later.session) carries).1 (carrying_on c seen a.said) in
+          goes_out later x.text x.leftover handed (map Message (taken_by message answer)) s.0 same passed out s.1 carried (stage seen.written s.2)
 
   -- ---- what is due is offered
 
-  module _ (is : half.stage ≡ stage.Running) where
-    pub runs : Talks scene half view × (end_of view.got ≡ None)
-    runs = subst (λ (s : Stage). IsAt s scene half view) is x.stage
-
-    pub due_in : (state : Session) → half.session ≡ state → IsDue state view.offered view.arrived (is_by_input view.broken)
-    due_in = due_of scene half view runs.0
-
+  module _ (is : half.stage ≡ Running) where
     -- all that was taken is out, whatever is offered
     runs_on : (next : Session) (offered : List Incoming) (broken : Option Break) → answer_of half.session ≡ answer_of next → rest_at half.session ≡ rest_at next
-        → IsOffered (exchange_of scene) view.arrived offered broken → is_by_cut broken ≡ false
-        → (is_by_input broken ≡ true → (has_close view.arrived ≡ true) ⊎ (is_over_at next ≡ true))
-        → IsDue next offered view.arrived (is_by_input broken)
-        → Invariant scene line (record half { session = next }) read (record view { offered = offered; broken = broken })
+        → IsOffered (exchange_of scene) view.arrived offered broken → is_by_cut broken ≡ false → (is_by_input broken ≡ true → (has_close view.arrived ≡ true) ⊎ (is_over_at next ≡ true))
+        → IsDue next offered view.arrived (is_by_input broken) → Invariant scene was (record half { session = next }) read (record view { offered = offered; broken = broken })
     runs_on next offered broken answered rest offers uncut breaks is_due =
-        let t = runs.0 in
-        stands_at next half.stage offered broken view.got answered rest refl (prefix_self (said_in scene view)) (record { offered = offers; written = x.keeps.written }) breaks
-        (subst (λ (s : Stage). IsAt s scene (record half { session = next }) (record view { offered = offered; broken = broken })) (sym is) (
-          record {
-            uncut = uncut;
-            due = is_due;
-            judged = t.judged;
-            answered = sym answered ∙ t.answered;
-            text = λ e. t.text (answered ∙ e);
-            written = t.written;
-            empty = t.empty;
-          },
-          runs.1,
-        ))
+        let seen : ConnView Msg Output = record view { offered = offered; broken = broken } in
+        stands_at (record half { session = next }) seen refl answered rest refl (prefix_self (said_in scene view)) (record { offered = offers; written = x.keeps.written }) breaks
+        (subst (λ (s : Stage). IsAt s scene (record half { session = next }) seen) (sym is) (talks_on (runs is).0 next half.stage seen refl answered uncut is_due, (runs is).1))
 
-    -- the event that waits is offered
-    offered_on : (reply : Answer) (event : Incoming) → half.session ≡ session.Begun reply (Some event)
-        → Invariant scene line (record half { session = session.Begun reply None }) read (record view { offered = view.offered ++ event ∷ [] })
-    offered_on reply event waits =
-        let w = due_in (session.Begun reply (Some event)) waits in
-        let none : view.broken ≡ None = unbroken view.broken runs.0.uncut w.0 in
-        let all : (view.offered ++ event ∷ []) ++ [] ≡ session_events view.arrived = append-nil (view.offered ++ event ∷ []) ∙ w.1 in
-        runs_on (session.Begun reply None) (view.offered ++ event ∷ []) view.broken (ap answer_of waits ∙ same_answer reply (Some event) None) (ap rest_at waits)
-        (subst (λ (b : Option Break). IsOffered (exchange_of scene) view.arrived (view.offered ++ event ∷ []) b) (sym none) ([], all))
-        runs.0.uncut (λ e. cc (w.0, e)) (w.0, all, w.2)
+    -- by the clauses of the end's calls: the session was taken out of the half before
+    module _ {E : Type 0} (C : ConnGhosts E) (old new : E) (taken : Session) (value : taken ≡ half.session) (v : IsViewOf C old view) where
+      -- the event that waits is offered
+      pub offered_view : (reply : Answer) (event : Incoming) → taken ≡ Session.Begun reply (Some event) → C.offered new ≡ C.offered old ++ event ∷ [] → C.is_broken new ≡ C.is_broken old
+          → C.got new ≡ C.got old → (later : ConnView Msg Output) × Invariant scene was (record half { session = Session.Begun reply None }) read later × IsViewOf C new later
+      offered_view reply event taken_is offered broken got =
+          let waits : half.session ≡ Session.Begun reply (Some event) = sym value ∙ taken_is in
+          let t = (runs is).0 in
+          let w = due_of t (Session.Begun reply (Some event)) waits in
+          let none : view.broken ≡ None = unbroken view.broken t.uncut w.0 in
+          let all : (view.offered ++ event ∷ []) ++ [] ≡ session_events view.arrived = append-nil (view.offered ++ event ∷ []) ∙ w.1 in
+          let on = runs_on (Session.Begun reply None) (view.offered ++ event ∷ []) view.broken (ap answer_of waits ∙ same_answer reply (Some event) None) (ap rest_at waits)
+          (subst (λ (b : Option Break). IsOffered (exchange_of scene) view.arrived (view.offered ++ event ∷ []) b) (sym none) ([], all)) t.uncut (λ e. cc (w.0, e)) (w.0, all, w.2) in
+          (record view { offered = view.offered ++ event ∷ [] }, on, (ap (λ (l : List Incoming). l ++ event ∷ []) v.0 ∙ sym offered, v.1 ∙ sym broken, v.2 ∙ sym got))
 
-    -- the disconnect is
-    left_on : (next : Session) (event : Incoming) → answer_of half.session ≡ answer_of next → rest_at half.session ≡ rest_at next → is_by_input view.broken ≡ false
-        → view.offered ≡ session_events view.arrived → event ≡ session_disconnect view.arrived → (has_close view.arrived ≡ true) ⊎ (is_over_at next ≡ true)
-        → IsDue next (view.offered ++ event ∷ []) view.arrived true
-        → (view.broken ≡ None) × Invariant scene line (record half { session = next }) read (record view { offered = view.offered ++ event ∷ []; broken = Some ByInput })
-    left_on next event answered rest unbroke all is why is_due = (
-      unbroken view.broken runs.0.uncut unbroke,
-      runs_on next (view.offered ++ event ∷ []) (Some ByInput) answered rest
-          (ap (λ (l : List Incoming). l ++ event ∷ []) all ∙ ap (λ (e : Incoming). session_events view.arrived ++ e ∷ []) is) refl (λ e. why) is_due,
-    )
-
-    -- the same, with the clauses of the end's calls: the session was taken out of the half before
-    module _ {E : Type 0} (C : conn_end.Ghosts E) (old new : E) (taken : Session) (value : taken ≡ half.session) (v : IsViewOf C old view) where
-      pub offered_view : (reply : Answer) (event : Incoming) → taken ≡ session.Begun reply (Some event) → C.offered new ≡ C.offered old ++ event ∷ [] → C.is_broken new ≡ C.is_broken old
-          → C.got new ≡ C.got old → (later : ConnView Msg Output) × Invariant scene line (record half { session = session.Begun reply None }) read later × IsViewOf C new later
-      offered_view reply event waits offered broken got = (
-        record view { offered = view.offered ++ event ∷ [] },
-        offered_on reply event (sym value ∙ waits),
-        (ap (λ (l : List Incoming). l ++ event ∷ []) v.0 ∙ sym offered, v.1 ∙ sym broken, v.2 ∙ sym got),
-      )
-
-      -- no place is free, and it is due again
-      pub waits_view : (reply : Answer) (event back : Incoming) → taken ≡ session.Begun reply (Some event) → back ≡ event → C.offered new ≡ C.offered old → C.is_broken new ≡ C.is_broken old
-          → C.got new ≡ C.got old → (later : ConnView Msg Output) × Invariant scene line (record half { session = session.Begun reply (Some back) }) read later × IsViewOf C new later
-      waits_view reply event back waits same offered broken got = (
-        view,
-        subst (λ (s : Session). Invariant scene line (record half { session = s }) read view)
-            (sym value ∙ waits ∙ ap (λ (e : Incoming). session.Begun reply (Some e)) (sym same)) x,
-        (v.0 ∙ sym offered, v.1 ∙ sym broken, v.2 ∙ sym got),
-      )
-
-      -- nothing is due
-      pub none_view : (next : Session) → taken ≡ next → (later : ConnView Msg Output) × Invariant scene line (record half { session = next }) read later × IsViewOf C old later
-      none_view next none = (view, subst (λ (s : Session). Invariant scene line (record half { session = s }) read view) (sym value ∙ none) x, v)
+      -- nothing is due, or no place is free
+      pub none_view : (next : Session) → taken ≡ next → C.offered new ≡ C.offered old → C.is_broken new ≡ C.is_broken old → C.got new ≡ C.got old
+          → (later : ConnView Msg Output) × Invariant scene was (record half { session = next }) read later × IsViewOf C new later
+      none_view next none offered broken got = (view, rw (sym none ∙ value) x, (v.0 ∙ sym offered, v.1 ∙ sym broken, v.2 ∙ sym got))
 
       module _ (first : Bool) (event : Incoming) (is_first : first ≡ not (C.is_broken old)) (on_first : IsTrue first → C.offered new ≡ C.offered old ++ event ∷ []) (broken : C.is_broken new ≡ true)
           (got : C.got new ≡ C.got old) where
-        seen : view.broken ≡ None → IsViewOf C new (record view { offered = view.offered ++ event ∷ []; broken = Some ByInput })
-        seen none =
-            let unbroke : C.is_broken old ≡ false = sym v.1 ∙ ap is_some none in
-            (ap (λ (l : List Incoming). l ++ event ∷ []) v.0 ∙ sym (on_first (is_first ∙ ap not unbroke)), sym broken, v.2 ∙ sym got)
+        -- the disconnect is
+        left_on : (next : Session) → answer_of half.session ≡ answer_of next → rest_at half.session ≡ rest_at next → is_by_input view.broken ≡ false → view.offered ≡ session_events view.arrived
+            → event ≡ session_disconnect view.arrived → (has_close view.arrived ≡ true) ⊎ (is_over_at next ≡ true) → IsDue next (view.offered ++ event ∷ []) view.arrived true
+            → (later : ConnView Msg Output) × Invariant scene was (record half { session = next }) read later × IsViewOf C new later
+        left_on next answered rest unbroke all is_it why is_due =
+            let none : view.broken ≡ None = unbroken view.broken (runs is).0.uncut unbroke in
+            let open_yet : C.is_broken old ≡ false = sym v.1 ∙ ap is_some none in
+            let offered = ap (λ (l : List Incoming). l ++ event ∷ []) all ∙ ap (λ (e : Incoming). session_events view.arrived ++ e ∷ []) is_it in
+            let on = runs_on next (view.offered ++ event ∷ []) (Some ByInput) answered rest offered refl (λ e. why) is_due in
+            let seen = ap (λ (l : List Incoming). l ++ event ∷ []) v.0 ∙ sym (on_first (is_first ∙ ap not open_yet)) in
+            (record view { offered = view.offered ++ event ∷ []; broken = Some ByInput }, on, (seen, sym broken, v.2 ∙ sym got))
 
         -- the client has closed
-        pub left_view : taken ≡ session.Leaves event
-            → (later : ConnView Msg Output) × Invariant scene line (record half { session = session.Closed Client (Some drop_limit) }) read later × IsViewOf C new later
+        pub left_view : taken ≡ Session.Leaves event
+            → (later : ConnView Msg Output) × Invariant scene was (record half { session = Session.Closed Client (Some drop_limit) }) read later × IsViewOf C new later
         left_view leaves =
-            let is_left : half.session ≡ session.Leaves event = sym value ∙ leaves in
-            let w = due_in (session.Leaves event) is_left in
-            let on = left_on (session.Closed Client (Some drop_limit)) event (ap answer_of is_left) (ap rest_at is_left) w.0 w.1 w.3 (inl w.2) (refl, w.2) in
-            (record view { offered = view.offered ++ event ∷ []; broken = Some ByInput }, on.1, seen on.0)
+            let is_left : half.session ≡ Session.Leaves event = sym value ∙ leaves in
+            let w = due_of (runs is).0 (Session.Leaves event) is_left in
+            left_on (Session.Closed Client (Some drop_limit)) (ap answer_of is_left) (ap rest_at is_left) w.0 w.1 w.3 (inl w.2) (refl, w.2)
 
         -- no message follows
-        pub broken_view : taken ≡ session.Breaks → event ≡ WsDisconnect 1006 [] → (next : Session) → next ≡ session.Broken
-            → (later : ConnView Msg Output) × Invariant scene line (record half { session = next }) read later × IsViewOf C new later
-        broken_view breaks is next after =
-            let is_left : half.session ≡ session.Breaks = sym value ∙ breaks in
-            let w = due_in session.Breaks is_left in
-            let on = left_on session.Broken event (ap answer_of is_left) (ap rest_at is_left) w.0 w.1 (is ∙ sym (none_is_heard view.arrived w.2)) (inr refl) (refl, w.2) in
-            let later : ConnView Msg Output = record view { offered = view.offered ++ event ∷ []; broken = Some ByInput } in
-            (later, subst (λ (s : Session). Invariant scene line (record half { session = s }) read later) (sym after) on.1, seen on.0)
+        pub broken_view : taken ≡ Session.Breaks → event ≡ WsDisconnect 1006 [] → (next : Session) → next ≡ Session.Broken
+            → (later : ConnView Msg Output) × Invariant scene was (record half { session = next }) read later × IsViewOf C new later
+        broken_view breaks is_it next after =
+            let is_left : half.session ≡ Session.Breaks = sym value ∙ breaks in
+            let w = due_of (runs is).0 Session.Breaks is_left in
+            rw after (left_on Session.Broken (ap answer_of is_left) (ap rest_at is_left) w.0 w.1 (is_it ∙ sym (none_is_heard view.arrived w.2)) (inr refl) (refl, w.2))
 
 -- ---- the connection is cut short
 
--- what is out does not depend on a disconnect of a cut, nor on what is taken after it
-pub short_on : (scene : SessionScene) (view : ConnView Msg Output) (out : Outcome) (offered : List Incoming) (broken : Option Break) → is_by_input broken ≡ is_by_input view.broken
-    → IsCutShort scene view out → IsCutShort scene (record view { offered = offered; broken = broken }) out
-short_on scene view out offered broken same short = by (class_of out) short
-  where
-    by : (k : OutcomeClass) → IsCutShortAs k scene view → IsCutShortAs k scene (record view { offered = offered; broken = broken })
-    by (ByWrite n) short = subst (λ (b : Bool). StopsSession n (record (known scene view) { input_broke = b }) view.written) (sym same) short
-    by _ short = short
+-- it is in a later view too, if what is out still begins what is to be written, or stops in what comes next
+cut_on : (scene : SessionScene) (view seen : ConnView Msg Output) → ((n : ℕ) → StopsSession n (known scene view) view.written → StopsSession n (known scene seen) seen.written)
+    → (IsPrefix view.written (output_in scene view) → IsPrefix seen.written (output_in scene seen)) → (k : OutcomeClass) → IsCutShortAs k scene view → IsCutShortAs k scene seen
+cut_on scene view seen stops front Uncut short = absurd short
+cut_on scene view seen stops front (ByWrite n) short = stops n short
+cut_on scene view seen stops front Unbegun short = absurd short
+cut_on scene view seen stops front _ short = front short
 
-pub short_after : (scene : SessionScene) (view : ConnView Msg Output) (out : Outcome) (item : OutItem) → end_of view.got ≡ None
-    → IsCutShort scene view out → IsCutShort scene (record view { got = view.got ++ item ∷ [] }) out
-short_after scene view out item none short = by (class_of out) short
-  where
-    front : IsPrefix view.written (output_in scene view) → IsPrefix view.written (output_in scene (record view { got = view.got ++ item ∷ [] }))
-    front short = prefix_trans view.written (output_in scene view) (output_in scene (record view { got = view.got ++ item ∷ [] })) short (output_after scene view.got item)
-
-    by : (k : OutcomeClass) → IsCutShortAs k scene view → IsCutShortAs k scene (record view { got = view.got ++ item ∷ [] })
-    by Uncut short = absurd short
-    by (ByWrite n) short =
-        let last = end_of (view.got ++ item ∷ []) in
-        subst (λ (l : List Outgoing). StopsSession n (record (known scene view) { said = l; ended = last }) view.written) (sym (events_append view.got (item ∷ [])))
-        (record {
-          out = short.out;
-          more = short.more;
-          is_next = next_on (session_output (handshake_of scene.facts) scene.facts) (λ (k : EndKind). session_ending scene.facts (events_of view.got) k (is_by_input view.broken))
-              (λ (k : EndKind). session_ending scene.facts (events_of view.got ++ events_of (item ∷ [])) k (is_by_input view.broken))
-              (known scene view) (events_of view.got) (events_of (item ∷ [])) last short.out short.more
-              (subst (λ (o : Option EndKind). IsNextOutput (record (known scene view) { ended = o }) short.out short.more) none short.is_next);
-          within = short.within;
-          written_is = short.written_is;
-        })
-    by Unbegun short = absurd short
-    by _ short = front short
-
--- the disconnect of a cut is a beginning of what is due, and that
-offers_of_cut : (scene : SessionScene) (view : ConnView Msg Output) → view.broken ≡ None → ConnKeeps (exchange_of scene) view
-    → ConnKeeps (exchange_of scene) (record view { offered = view.offered ++ WsDisconnect 1006 [] ∷ []; broken = Some ByCut })
-offers_of_cut scene view none keeps = record {
-  offered = (view.offered, subst (λ (b : Option Break). IsOffered (exchange_of scene) view.arrived view.offered b) none keeps.offered, refl);
-  written = keeps.written;
-}
-
-module _ (scene : SessionScene) (line : LineState) (half : WebSocketHalf) (read : List ℕ) (view : ConnView Msg Output) (x : Invariant scene line half read view) where
+module _ {scene : SessionScene} {was : LineState} {half : WebSocketHalf} {read : List ℕ} {view : ConnView Msg Output} (x : Invariant scene was half read view) where
   -- Cut short in another stage, the half's invariant holds again.
   stands_cut : (out : Outcome) (s : Stage) → failures_at half.stage ≡ failures_at s → IsCutShort scene view out
       → ((v : ConnView Msg Output) → IsCutShort scene v out → v.got ≡ view.got → IsAt s scene (record half { stage = s }) v)
-      → (later : ConnView Msg Output) → IsCutOff (WsDisconnect 1006 []) view later → Invariant scene line (record half { stage = s }) read later
+      → (later : ConnView Msg Output) → IsCutOff (WsDisconnect 1006 []) view later → Invariant scene was (record half { stage = s }) read later
   stands_cut out s failures short at later (inl e) =
-      subst (λ (v : ConnView Msg Output). Invariant scene line (record half { stage = s }) read v) (sym e)
-      (stands_at scene line half read view x half.session s view.offered view.broken view.got refl refl failures (prefix_self (said_in scene view)) x.keeps x.breaks (at view short refl))
+      rw e (stands_at x (record half { stage = s }) view refl refl refl failures (prefix_self (said_in scene view)) x.keeps x.breaks (at view short refl))
   stands_cut out s failures short at later (inr (none, e)) =
-      let offered = view.offered ++ WsDisconnect 1006 [] ∷ [] in
-      subst (λ (v : ConnView Msg Output). Invariant scene line (record half { stage = s }) read v) (sym e)
-      (stands_at scene line half read view x half.session s offered (Some ByCut) view.got refl refl failures (prefix_self (said_in scene view)) (offers_of_cut scene view none x.keeps) (λ b. cc)
-      (at (record view { offered = offered; broken = Some ByCut }) (short_on scene view out offered (Some ByCut) (sym (ap is_by_input none)) short) refl))
+      let cut : ConnView Msg Output = record view { offered = view.offered ++ WsDisconnect 1006 [] ∷ []; broken = Some ByCut } in
+      let keeps : ConnKeeps (exchange_of scene) cut =
+      record { offered = (view.offered, subst (λ (b : Option Break). IsOffered (exchange_of scene) view.arrived view.offered b) none x.keeps.offered, refl); written = x.keeps.written } in
+      let still = cut_on scene view cut (λ n. subst (λ (b : Bool). StopsSession n (record (known scene view) { input_broke = b }) view.written) (ap is_by_input none)) (λ p. p) (class_of out) short in
+      rw e (stands_at x (record half { stage = s }) cut refl refl refl failures (prefix_self (said_in scene view)) keeps (λ b. cc) (at cut still refl))
 
   -- the exchange is given up when all that was taken is written
-  stops_here : Talks scene half view → failures_at half.stage ≡ 0 → (later : ConnView Msg Output) → IsCutOff (WsDisconnect 1006 []) view later
-      → Invariant scene line (record half { stage = stage.Over (ConnectionEnds outcome.Idle) }) read later
-  stops_here t none later off =
-      stands_cut outcome.Idle (stage.Over (ConnectionEnds outcome.Idle)) none ([], append-nil view.written ∙ t.written) (λ v s e. inr s) later off
+  pub stops : (out : Outcome) → out ≡ Outcome.Idle → (later : ConnView Msg Output) → IsOpen half.stage → IsCutOff (WsDisconnect 1006 []) view later
+      → Invariant scene was (record half { stage = Over (ConnectionEnds out) }) read later
+  stops out idle later goes_on off =
+      let t = by half.stage refl goes_on in
+      rw idle (stands_cut Outcome.Idle (Over (ConnectionEnds Outcome.Idle)) t.1 ([], append-nil view.written ∙ t.0.written) (λ v s e. inr s) later off)
+    where
+      by : (s : Stage) → half.stage ≡ s → IsOpen s → Talks scene half view × (failures_at half.stage ≡ 0)
+      by Running is goes_on = ((at_stage x Running is).0, ap failures_at is)
+      by (Stage.Ending kind) is goes_on = ((at_stage x (Stage.Ending kind) is).0, ap failures_at is)
+      by _ is goes_on = absurd goes_on
 
-  pub stops_running : half.stage ≡ stage.Running → (later : ConnView Msg Output) → IsCutOff (WsDisconnect 1006 []) view later
-      → Invariant scene line (record half { stage = stage.Over (ConnectionEnds outcome.Idle) }) read later
-  stops_running is = stops_here (runs scene line half read view x is).0 (ap failures_at is)
-
-  pub stops_ending : (kind : EndKind) → half.stage ≡ stage.Ending kind → (later : ConnView Msg Output) → IsCutOff (WsDisconnect 1006 []) view later
-      → Invariant scene line (record half { stage = stage.Over (ConnectionEnds outcome.Idle) }) read later
-  stops_ending kind is = stops_here (subst (λ (s : Stage). IsAt s scene half view) is x.stage).0 (ap failures_at is)
-
-  module _ (out : Outcome) (is : half.stage ≡ stage.Cut out) where
+  module _ (out : Outcome) (is : half.stage ≡ Cut out) where
     unended : IsCutShort scene view out × (end_of view.got ≡ None)
-    unended = subst (λ (s : Stage). IsAt s scene half view) is x.stage
+    unended = at_stage x (Cut out) is
 
-    pub cut_stops : (later : ConnView Msg Output) → IsCutOff (WsDisconnect 1006 []) view later → Invariant scene line (record half { stage = stage.Over (ConnectionEnds out) }) read later
-    cut_stops = stands_cut out (stage.Over (ConnectionEnds out)) (ap failures_at is) unended.0 (λ v s e. inr s)
+    pub cut_stops : (later : ConnView Msg Output) → IsCutOff (WsDisconnect 1006 []) view later → Invariant scene was (record half { stage = Over (ConnectionEnds out) }) read later
+    cut_stops = stands_cut out (Over (ConnectionEnds out)) (ap failures_at is) unended.0 (λ v s e. inr s)
 
     -- the disconnect is offered, and the end of the task is awaited
-    pub cut_waits : (later : ConnView Msg Output) → IsCutOff (WsDisconnect 1006 []) view later → Invariant scene line half read later
-    cut_waits later off =
-        stands_cut out half.stage refl unended.0 (λ v s e. subst (λ (t : Stage). IsAt t scene half v) (sym is) (s, ap end_of e ∙ unended.1)) later off
+    pub cut_waits : (later : ConnView Msg Output) → IsCutOff (WsDisconnect 1006 []) view later → Invariant scene was half read later
+    cut_waits = stands_cut out half.stage refl unended.0 (λ v s e. subst (λ (t : Stage). IsAt t scene half v) (sym is) (s, ap end_of e ∙ unended.1))
 
     -- ---- what is taken is dropped
 
-    keeps_after : (item : OutItem) → ConnKeeps (exchange_of scene) (record view { got = view.got ++ item ∷ [] })
-    keeps_after item =
+    stops_after : (item : OutItem) (n : ℕ) → StopsSession n (known scene view) view.written → StopsSession n (known scene (record view { got = view.got ++ item ∷ [] })) view.written
+    stops_after item n short =
+        let last = end_of (view.got ++ item ∷ []) in
+        let next = next_on (session_output (handshake_of scene.facts) scene.facts) (λ (k : EndKind). session_ending scene.facts (events_of view.got) k (is_by_input view.broken))
+        (λ (k : EndKind). session_ending scene.facts (events_of view.got ++ events_of (item ∷ [])) k (is_by_input view.broken))
+        (known scene view) (events_of view.got) (events_of (item ∷ [])) last short.out short.more (rw unended.1 at short.is_next) in
+        rw (events_append view.got (item ∷ [])) (record { out = short.out; more = short.more; is_next = next; within = short.within; written_is = short.written_is })
+
+    took : (item : OutItem) (s : Stage) → failures_at half.stage ≡ failures_at s
+        → (IsCutShort scene (record view { got = view.got ++ item ∷ [] }) out → IsAt s scene (record half { stage = s }) (record view { got = view.got ++ item ∷ [] }))
+        → Invariant scene was (record half { stage = s }) read (record view { got = view.got ++ item ∷ [] })
+    took item s failures at =
         let later : ConnView Msg Output = record view { got = view.got ++ item ∷ [] } in
         let p = x.keeps.written in
-        let whole : view.written ++ p.0 ≡ output_in scene view =
-        p.1 ∙ (ap (λ (o : Option EndKind). output_in scene view ++ added_by (exchange_of scene) (taken_of view) o view.broken_first view.arrived) unended.1 ∙ append-nil (output_in scene view)) in
-        let more = prefix_trans view.written (output_in scene view) (output_in scene later) (p.0, whole) (output_after scene view.got item) in
-        record {
-          offered = x.keeps.offered;
-          written = prefix_trans view.written (output_in scene later) (output (exchange_of scene) later) more (added_by (exchange_of scene) (taken_of later) (end_of later.got) later.broken_first later.arrived, refl);
-        }
+        let whole = rw (unended.1, append-nil (output_in scene view)) at p.1 in
+        let grows = grows_with (session_output (handshake_of scene.facts) scene.facts) (web_socket_is_steady (handshake_of scene.facts) scene.facts scene.limits.ring).text_grows view.got item in
+        let front = λ (q : IsPrefix view.written (output_in scene view)). prefix_trans view.written (output_in scene view) (output_in scene later) q grows in
+        let written = prefix_trans view.written (output_in scene later) (output (exchange_of scene) later) (front (p.0, whole))
+        (added_by (exchange_of scene) (taken_of later) (end_of later.got) later.broken_first later.arrived, refl) in
+        stands_at x (record half { stage = s }) later refl refl refl failures (grows_with (accepted_session scene.facts) (accepted_grows scene.facts) view.got item)
+        (record { offered = x.keeps.offered; written = written }) x.breaks (at (cut_on scene view later (stops_after item) front (class_of out) unended.0))
 
-    pub took_event : (event : Outgoing) → Invariant scene line half read (record view { got = view.got ++ Event event ∷ [] })
+    pub took_event : (event : Outgoing) → Invariant scene was half read (record view { got = view.got ++ Event event ∷ [] })
     took_event event =
-        stands_at scene line half read view x half.session half.stage view.offered view.broken (view.got ++ Event event ∷ []) refl refl refl (accepted_after scene.facts view.got (Event event)) (keeps_after (Event event)) x.breaks
-        (subst (λ (s : Stage). IsAt s scene half (record view { got = view.got ++ Event event ∷ [] })) (sym is)
-        (short_after scene view out (Event event) unended.1 unended.0, end_event view.got event ∙ unended.1))
+        took (Event event) half.stage refl
+        (λ short. subst (λ (s : Stage). IsAt s scene half (record view { got = view.got ++ Event event ∷ [] })) (sym is) (short, end_event view.got event ∙ unended.1))
 
-    pub took_end : (kind : EndKind) → Invariant scene line (record half { stage = stage.Over (ConnectionEnds out) }) read (record view { got = view.got ++ Ended kind ∷ [] })
-    took_end kind =
-        stands_at scene line half read view x half.session (stage.Over (ConnectionEnds out)) view.offered view.broken (view.got ++ Ended kind ∷ []) refl refl (ap failures_at is) (accepted_after scene.facts view.got (Ended kind))
-        (keeps_after (Ended kind)) x.breaks (inr (short_after scene view out (Ended kind) unended.1 unended.0))
+    pub took_end : (kind : EndKind) → Invariant scene was (record half { stage = Over (ConnectionEnds out) }) read (record view { got = view.got ++ Ended kind ∷ [] })
+    took_end kind = took (Ended kind) (Over (ConnectionEnds out)) (ap failures_at is) (λ short. inr short)

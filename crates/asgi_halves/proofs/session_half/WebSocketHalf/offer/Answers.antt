@@ -1,42 +1,37 @@
-use Rattle.asgi_halves.proofs.SessionWords.{Option, ap, ◌∙◌, Incoming}
-use Rattle.asgi_halves.specs.declared.session_half.Session.TheVariants as session
-use Rattle.asgi_halves.proofs.SessionOfferLemmas.{broken_view, left_view, none_view, offered_view, waits_view}
+use Rattle.asgi_halves.proofs.SessionOfferLemmas.{broken_view, left_view, none_view, offered_view}
+use Rattle.asgi_halves.proofs.SessionWords.{Session, Some, refl}
 use Rattle.asgi_halves.proofs.session_half.WebSocketHalf.offer.Goals as goal
 
 pub returns-in-Ok-clause-leads : goal.returns-in-Ok-clause-leads
 returns-in-Ok-clause-leads g c scene line read view x v =
-    let same = c.offer.ensures.same in
     let w = c.in-Begun-default-Some in
-    offered_view scene line c.args.self.now read view x c.requires.running g.C.ConnEnd c.args.end.now c.offer.new.self c.replace.result c.replace.ensures.value v w.answer w.event
-    (w.is ∙ ap (λ (o : Option Incoming). session.Begun w.answer o) w.field-1-is) c.in-Ok.ensures.ok.0 same.0 same.1
+    offered_view x c.requires.running g.C.ConnEnd c.args.end.now c.offer.new.self c.replace.result c.replace.ensures.value v w.answer w.event
+    (rw w.field-1-is at w.is) c.in-Ok.ensures.ok.0 c.offer.ensures.same.0 c.offer.ensures.same.1
 
 pub returns-in-Err-clause-leads : goal.returns-in-Err-clause-leads
 returns-in-Err-clause-leads g c scene line read view x v =
-    let same = c.offer.ensures.same in
     let err = c.in-Err.ensures.err in
     let w = c.in-Begun-default-Some in
-    waits_view scene line c.args.self.now read view x c.requires.running g.C.ConnEnd c.args.end.now c.offer.new.self c.replace.result c.replace.ensures.value v w.answer w.event c.in-Err.back
-    (w.is ∙ ap (λ (o : Option Incoming). session.Begun w.answer o) w.field-1-is) err.0 err.1 same.0 same.1
+    none_view x c.requires.running g.C.ConnEnd c.args.end.now c.offer.new.self c.replace.result c.replace.ensures.value v (Session.Begun w.answer (Some c.in-Err.back))
+    (rw (w.field-1-is, ← err.0) at w.is) err.1 c.offer.ensures.same.0 c.offer.ensures.same.1
 
 pub returns-in-Leaves-clause-leads : goal.returns-in-Leaves-clause-leads
 returns-in-Leaves-clause-leads g c scene line read view x v =
     let o = c.offer_disconnect.ensures in
-    left_view scene line c.args.self.now read view x c.requires.running g.C.ConnEnd c.args.end.now c.offer_disconnect.new.self c.replace.result c.replace.ensures.value v
+    left_view x c.requires.running g.C.ConnEnd c.args.end.now c.offer_disconnect.new.self c.replace.result c.replace.ensures.value v
     c.offer_disconnect.result c.in-Leaves.disconnect o.first o.yes o.broken o.same.0 c.in-Leaves.is
 
 pub returns-in-Breaks-clause-leads : goal.returns-in-Breaks-clause-leads
 returns-in-Breaks-clause-leads g c scene line read view x v =
     let o = c.offer_disconnect-in-Breaks.ensures in
-    broken_view scene line c.args.self.now read view x c.requires.running g.C.ConnEnd c.args.end.now c.offer_disconnect-in-Breaks.new.self c.replace.result c.replace.ensures.value v
+    broken_view x c.requires.running g.C.ConnEnd c.args.end.now c.offer_disconnect-in-Breaks.new.self c.replace.result c.replace.ensures.value v
     c.offer_disconnect-in-Breaks.result c.disconnect.result o.first o.yes o.broken o.same.0 c.in-Breaks.is c.disconnect.ensures c.replace.new.dest c.replace.ensures.after
 
 pub returns-in-Begun-default-None-clause-leads : goal.returns-in-Begun-default-None-clause-leads
 returns-in-Begun-default-None-clause-leads g c scene line read view x v =
-    let end = c.args.end.now in
     let w = c.in-Begun-default-None in
-    none_view scene line c.args.self.now read view x c.requires.running g.C.ConnEnd end end c.replace.result c.replace.ensures.value v _ (w.is ∙ ap (λ (o : Option Incoming). session.Begun w.answer o) w.field-1-is)
+    none_view x c.requires.running g.C.ConnEnd c.args.end.now c.args.end.now c.replace.result c.replace.ensures.value v _ (rw w.field-1-is at w.is) refl refl refl
 
 pub returns-in-Closed-clause-leads : goal.returns-in-Closed-clause-leads
 returns-in-Closed-clause-leads g c scene line read view x v =
-    let end = c.args.end.now in
-    none_view scene line c.args.self.now read view x c.requires.running g.C.ConnEnd end end c.replace.result c.replace.ensures.value v _ c.in-Closed.is
+    none_view x c.requires.running g.C.ConnEnd c.args.end.now c.args.end.now c.replace.result c.replace.ensures.value v _ c.in-Closed.is refl refl refl

@@ -1,5 +1,4 @@
-use Rattle.asgi_halves.proofs.SessionReadLemmas.{out_none}
-use Rattle.asgi_halves.proofs.TurnLemmas.{rests_else}
+use Rattle.asgi_halves.proofs.{SessionReadLemmas.out_none, TurnLemmas.rests_else}
 use Rattle.asgi_halves.proofs.session_half.WebSocketHalf.read.Goals as goal
 
 pub returns-in-Rests-clause-leads : goal.returns-in-Rests-clause-leads

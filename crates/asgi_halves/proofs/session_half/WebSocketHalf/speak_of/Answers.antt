@@ -1,13 +1,8 @@
-use Rattle.asgi_halves.proofs.SessionWords.{sym, subst, Outgoing, said_in}
-use Rattle.asgi_halves.specs.WebSocketHalf.{Speaks}
-use Rattle.asgi_halves.proofs.SessionPassLemmas.{is_in_scope}
-use Rattle.asgi_halves.proofs.SessionTakeLemmas.{none_left}
+use Rattle.asgi_halves.proofs.{SessionPassLemmas.is_in_scope, SessionTakeLemmas.none_left, SessionWords.said_in}
 use Rattle.asgi_halves.proofs.session_half.WebSocketHalf.speak_of.Goals as goal
 
 pub returns-in-WsClose-clause-speaks : goal.returns-in-WsClose-clause-speaks
-returns-in-WsClose-clause-speaks g c =
-    subst (λ (e : Outgoing). Speaks (g.L.Line.state c.args.line.now) c.args.self.now e (g.L.Line.state c.close_by.new.line) c.close_by.new.self)
-    (sym c.in-WsClose.is) c.close_by.ensures.speaks
+returns-in-WsClose-clause-speaks g c = rw c.in-WsClose.is c.close_by.ensures.speaks
 
 pub returns-in_default-clause-speaks : goal.returns-in_default-clause-speaks
 returns-in_default-clause-speaks g c scene read view before x pass judged =

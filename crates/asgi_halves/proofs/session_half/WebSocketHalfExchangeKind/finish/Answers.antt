@@ -1,6 +1,5 @@
-use Rattle.asgi_halves.proofs.SessionKindLemmas as law
+use Rattle.asgi_halves.proofs.SessionWords.{[], append-nil}
 use Rattle.asgi_halves.proofs.session_half.WebSocketHalfExchangeKind.finish.Goals as goal
 
 pub returns-clause-leads : goal.returns-clause-leads
-returns-clause-leads g c =
-    law.alone (g.L.Line.state c.args.line.now) (g.L.Line.state c.finish_task.new.line) c.args.self.now c.finish_task.new.self c.finish_task.ensures.leads
+returns-clause-leads g c scene read view x = let y = c.finish_task.ensures.leads scene read view x in ([], y.0, y.1, rw append-nil y.2)
