@@ -1,7 +1,7 @@
 -- One request is answered: its exchange comes after those before it, and the connection is between two requests or has ended.
 use Rattle.asgi_conn.proofs.ConnWords.{◌≡◌, ℕ, ◌+◌, List, [], ◌∷◌, ◌++◌, inl, inr, sym, ap, ◌∙◌, append-nil, subst, Option, Some, None, IsSomeAnd}
-use Rattle.asgi_conn.proofs.ConnWords.{arith, Bool, EndKind, Facts, Incoming, Outgoing, Peer, Scope, StateValue, scope_with, AppEnds, ConnEnds, Promise}
-use Rattle.asgi_conn.proofs.ConnWords.{said_of, end_of, Outcome, IsLacking, InputEnd, fault_of, ExchangeRecord, Converses, IsPromised, ArePromised, Ended, Tally, IsTallied, IsServing}
+use Rattle.asgi_conn.proofs.ConnWords.{arith, Bool, EndKind, Facts, Incoming, Outgoing, Setting, Scope, scope_in, AppEnds, ConnEnds, Promise}
+use Rattle.asgi_conn.proofs.ConnWords.{said_of, end_of, Outcome, IsLacking, InputEnd, fault_of, ExchangeRecord, Converses, IsPromised, ArePromisedIn, Ended, Tally, IsTallied, IsServing}
 use Rattle.asgi_conn.proofs.ConnWords.{AppSide, Transferred, OfEnd, IsOpened, HasRun, AnyHalf, Wire, Scene, failures_of, LineState, All-nil}
 use Rattle.asgi_types.specs.declared.end_kind.EndKind.TheVariants.{Faulted}
 use Rattle.asgi_pipes.specs.Items.{items_of}
@@ -68,14 +68,14 @@ module _ {H T E : Type 0} (halves : AnyHalf H) (answers : T → List Incoming �
   one = record { scope = scope; facts = facts; heard = run.world.app.heard; said = said_of run.world.app; ended = end_of run.world.app.put; input_broke = broke }
 
   -- it is as the application promises it
-  pub promised_more : (promise : Promise) (client server : Option Peer) (state : List (List ℕ × StateValue)) (was : E)
-      → IsOpened (promise (scope_with scope client server state)) answers ends was side → ends.heard was ≡ [] → ends.said was ≡ []
-      → ArePromised promise client server state before → ArePromised promise client server state (before ++ one ∷ [])
-  promised_more promise client server state was opened none silent promised =
-      let whole = scope_with scope client server state in
+  pub promised_more : (promise : Promise) (setting : Setting) (was : E)
+      → IsOpened (promise (scope_in setting scope)) answers ends was side → ends.heard was ≡ [] → ends.said was ≡ []
+      → ArePromisedIn promise setting before → ArePromisedIn promise setting (before ++ one ∷ [])
+  promised_more promise setting was opened none silent promised =
+      let whole = scope_in setting scope in
       let kept = is_kept (promise whole) answers ends was side run.world.app kind opened run.answers_for run.ended none silent in
       let last = subst (λ (o : Option EndKind). promise whole run.world.app.heard (said_of run.world.app) (task_end o)) (sym run.ended) kept in
-      let P = IsPromised promise client server state in All-append P before (one ∷ []) promised (All-cons P one [] last (All-nil P))
+      let P = IsPromised promise setting.client.now setting.server.now setting.state.now in All-append P before (one ∷ []) promised (All-cons P one [] last (All-nil P))
 
   -- and is counted
   pub tallied_more : (old new : Tally) → IsTallied old before → new.exchanges ≡ old.exchanges + 1 → new.faults ≡ old.faults + fault_of (Some kind) → IsTallied new (before ++ one ∷ [])
@@ -91,12 +91,12 @@ pub lacks_moved : (start now : LineState) (end : InputEnd) (read written : List 
 lacks_moved start now end read written outcome (inl is) moved = subst (λ (n : ℕ). Transferred start now end read written n) (sym (ap failures_as is)) moved
 lacks_moved start now end read written outcome (inr is) moved = subst (λ (n : ℕ). Transferred start now end read written n) (sym (ap failures_as is)) moved
 
-pub serves_short : {T C E X : Type 0} (answers : T → List Incoming → List Outgoing → Option EndKind → Type 0) (conns : ConnEnds C) (ends : AppEnds E)
-    (conn : X → C) (began : X → AppSide T E → Type 0) (promise : Promise) (client server : Option Peer) (state : List (List ℕ × StateValue)) (scene : Scene) (now : LineState)
+pub serves_short : {T C E X : Type 0} {answers : T → List Incoming → List Outgoing → Option EndKind → Type 0} {conns : ConnEnds C} {ends : AppEnds E}
+    {conn : X → C} {began : X → AppSide T E → Type 0} {promise : Promise} {setting : Setting} (scene : Scene) (now : LineState)
     (wire : Wire) (facts : Facts) (read arrived : List ℕ) (tally : Tally) → Opens scene now wire facts read arrived
-    → ArePromised promise client server state scene.exchanges → IsTallied tally scene.exchanges → (outcome : Outcome) → IsLacking outcome
-    → IsServing answers conns ends conn began promise wire.limits client server state scene.start now tally (Ended outcome)
-serves_short answers conns ends conn began promise client server state scene now wire facts read arrived tally opens promised tallied outcome lacks =
+    → ArePromisedIn promise setting scene.exchanges → IsTallied tally scene.exchanges → (outcome : Outcome) → IsLacking outcome
+    → IsServing answers conns ends conn began promise wire.limits setting scene.start now tally (Ended outcome)
+serves_short scene now wire facts read arrived tally opens promised tallied outcome lacks =
     let one = opens.within.one in
     let moved = lacks_moved scene.start now wire.input read scene.before outcome lacks opens.moved in
     let ended = http_ends wire.limits scene.start now wire.input read scene.exchanges scene.before outcome moved (λ report o c.

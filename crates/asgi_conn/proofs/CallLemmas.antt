@@ -1,5 +1,5 @@
 -- The calls of the application, counted.
-use Rattle.std.proofs.Common.{◌≡◌, ℕ, ◌+◌, List, [], ◌∷◌, ◌++◌, arith, refl, sym, ap, ◌∙◌, subst}
+use Rattle.std.proofs.Common.{◌≡◌, ℕ, ◌+◌, List, [], ◌∷◌, ◌++◌, arith, refl, ap, ◌∙◌}
 use Rattle.std.specs.Prelude.{length}
 use Rattle.asgi_types.specs.declared.scope.Scope.{Scope}
 use Rattle.asgi_conversation.specs.declared.report.Report.{Report}
@@ -43,7 +43,3 @@ none_yet calls begun none = omega (arith, none)
 
 pub counted_on : (first here there was is : ℕ) → here ≡ first + was → there + was ≡ here + is → there ≡ first + is
 counted_on first here there was is before turn = omega (arith, before, turn)
-
--- what a turn keeps for an application, it keeps for an equal one
-pub kept_for : {A : Type 0} (P Q : A → Type 0) (here there : A) → here ≡ there → (P here → Q here) → P there → Q there
-kept_for P Q here there same turn p = subst Q same (turn (subst P (sym same) p))

@@ -1,13 +1,12 @@
 -- What the fields of a connection say of where it stands.
-use Rattle.std.proofs.Common.{◌≡◌, refl, sym, ap, Option, Some, None, true, false}
-use Rattle.std.specs.Prelude.{IsTrue, is_some}
+use Rattle.std.proofs.Common.{◌≡◌, refl, ap, Option, Some, None}
 use Rattle.asgi_io.specs.declared.turns.Turns.{Turns}
 use Rattle.asgi_conversation.specs.declared.report.Outcome.{Outcome}
 use Rattle.asgi_halves.specs.declared.half.HttpHalf.{HttpHalf}
 use Rattle.asgi_halves.specs.declared.session_half.WebSocketHalf.{WebSocketHalf}
 use Rattle.asgi_conn.specs.Places.{Place, place_at}
 use Rattle.asgi_conn.specs.Places as place
-use Rattle.asgi_conn.specs.private.Loop.{HasEnded, IsBetween, IsFree, IsOver}
+use Rattle.asgi_conn.specs.private.Loop.{IsBetween, IsOver}
 
 -- ---- with no exchange
 

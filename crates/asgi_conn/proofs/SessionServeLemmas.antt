@@ -1,6 +1,6 @@
 -- An opening handshake is served: its exchange comes after those before it, and the connection has ended in it.
-use Rattle.asgi_conn.proofs.ConnWords.{◌≡◌, ℕ, List, [], ◌∷◌, ◌++◌, sym, ap, ◌∙◌, subst, Option, EndKind, Facts, Upgrade, Incoming, Limits, Outgoing, Peer, Scope, StateValue, Next, Head}
-use Rattle.asgi_conn.proofs.ConnWords.{BeginsWithHandshake, HasClosed, StandsFor, AppEnds, ConnEnds, Outcome, IsLacking, ArePromised, NextRequest, ConnectionEnds, NextStep, Ended, Tally}
+use Rattle.asgi_conn.proofs.ConnWords.{◌≡◌, ℕ, List, [], ◌∷◌, ◌++◌, sym, ap, ◌∙◌, subst, Option, EndKind, Facts, Upgrade, Incoming, Limits, Outgoing, Setting, Scope, Next, Head}
+use Rattle.asgi_conn.proofs.ConnWords.{BeginsWithHandshake, HasClosed, StandsFor, AppEnds, ConnEnds, Outcome, IsLacking, ArePromisedIn, NextRequest, ConnectionEnds, NextStep, Ended, Tally}
 use Rattle.asgi_conn.proofs.ConnWords.{IsTallied, IsServing, Stage, Over, WebSocketHalf, Wire, SessionScene, OpensHandshake, AppSide, LineState, Promise}
 use Rattle.asgi_halves.specs.WebSocketHalf.{IsAt, IsOf, OpensSession}
 use Rattle.asgi_response.specs.declared.text.ResponseText.{ResponseText}
@@ -29,11 +29,11 @@ module _ (scene : SessionScene) (now : LineState) (wire : Wire) (facts : Facts) 
       subst (λ (w : Wire). OpensSession scene now w own text taken read) (sym same) (record { fixed = fixed; moved = o.moved; denial = denied; frames = frames; empty = o.empty })
 
   -- memory or a thread is refused, before the application is called
-  pub opens_short : {T C E X : Type 0} (answers : T → List Incoming → List Outgoing → Option EndKind → Type 0) (conns : ConnEnds C) (ends : AppEnds E)
-      (conn : X → C) (began : X → AppSide T E → Type 0) (promise : Promise) (client server : Option Peer) (state : List (List ℕ × StateValue)) (tally : Tally)
-      → ArePromised promise client server state scene.exchanges → IsTallied tally scene.exchanges → (outcome : Outcome) → IsLacking outcome
-      → IsServing answers conns ends conn began promise scene.limits client server state scene.start now tally (Ended outcome)
-  opens_short answers conns ends conn began promise client server state tally promised tallied outcome lacks =
+  pub opens_short : {T C E X : Type 0} {answers : T → List Incoming → List Outgoing → Option EndKind → Type 0} {conns : ConnEnds C} {ends : AppEnds E}
+      {conn : X → C} {began : X → AppSide T E → Type 0} {promise : Promise} {setting : Setting} (tally : Tally)
+      → ArePromisedIn promise setting scene.exchanges → IsTallied tally scene.exchanges → (outcome : Outcome) → IsLacking outcome
+      → IsServing answers conns ends conn began promise scene.limits setting scene.start now tally (Ended outcome)
+  opens_short tally promised tallied outcome lacks =
       let moved = lacks_moved scene.start now wire.input read scene.before outcome lacks o.moved in
       let ended = http_ends scene.limits scene.start now wire.input read scene.exchanges scene.before outcome moved (λ report is c.
       loop.unbegun scene.limits wire.input read o.given scene.exchanges o.after scene.before report o.between c (subst (λ (q : Outcome). IsLacking q) (sym is) lacks)

@@ -1,7 +1,7 @@
 -- What a turn of a connection does to where it stands.
-use Rattle.asgi_conn.proofs.ConnWords.{◌≡◌, ℕ, ◌+◌, ◌⊎◌, inl, inr, List, [], ◌∷◌, ◌++◌, arith, refl, sym, ap, ◌∙◌, subst, Option, Some, None, true, false, length, EndKind, Facts, Incoming, Limits}
-use Rattle.asgi_conn.proofs.ConnWords.{Outgoing, Http, WebSocket, Peer, Scope, StateValue, scope_with, Promise, StandsFor, AllGiven, Next, IsHttpExchange, is_by_input, NextStep, NextRequest}
-use Rattle.asgi_conn.proofs.ConnWords.{ConnectionEnds, Outcome, Idle, NoMemory, Report, fault_of, requests_of, ArePromised, has_ended, exchanged, handshake_of, AppSide, OfEnd, IsOpened, HasRun}
+use Rattle.asgi_conn.proofs.ConnWords.{◌≡◌, ℕ, ◌+◌, ◌⊎◌, inl, inr, List, [], ◌∷◌, ◌++◌, arith, refl, sym, ap, ◌∙◌, subst, Option, Some, None, false, length, EndKind, Facts, Incoming, Limits}
+use Rattle.asgi_conn.proofs.ConnWords.{Outgoing, Http, WebSocket, Setting, Scope, scope_in, Promise, StandsFor, AllGiven, Next, IsHttpExchange, is_by_input, NextStep, NextRequest}
+use Rattle.asgi_conn.proofs.ConnWords.{ConnectionEnds, Outcome, Idle, NoMemory, Report, fault_of, requests_of, ArePromisedIn, has_ended, exchanged, handshake_of, AppSide, OfEnd, IsOpened, HasRun}
 use Rattle.asgi_conn.proofs.ConnWords.{Transferred, piece_size, AnyHalf, HttpHalf, WebSocketHalf, Stage, Over, Wire, Scene, ReadsAhead, SessionScene, session_of, LineState, Place, place_at, place_of, Tally}
 use Rattle.asgi_conn.proofs.ConnWords.{IsServing, IsTallied, BetweenRequests, IsLeft, AppEnds, ConnEnds}
 use Rattle.asgi_halves.specs.{Half.Invariant, declared.stage.Stage.TheVariants.Running, declared.stage.Stage.TheVariants.Ending, declared.stage.Stage.TheVariants.Cut, Kinds.following_of}
@@ -197,7 +197,7 @@ one_report {X} connection a b x y =
 
 -- ---- an exchange
 
-module _ {T C E X : Type 0} (answers : T → List Incoming → List Outgoing → Option EndKind → Type 0) (conns : ConnEnds C) (ends : AppEnds E) (conn : X → C) (began : X → AppSide T E → Type 0) where
+module _ {T C E X : Type 0} {answers : T → List Incoming → List Outgoing → Option EndKind → Type 0} {conns : ConnEnds C} {ends : AppEnds E} {conn : X → C} {began : X → AppSide T E → Type 0} where
   moves : {H : Type 0} (halves : AnyHalf H) (promise : List Incoming → List Outgoing → Option EndKind → Type 0) (scene : halves.Scene) (now next : LineState) (half later : H)
       (read : List ℕ) (was is : X) → InExchange halves answers conns ends conn began promise scene now half read was
       → PreservesOn halves.stands now half (IsViewOf conns (conn was)) next later (IsViewOf conns (conn is)) → ((side : AppSide T E) → began was side → began is side)
@@ -207,37 +207,34 @@ module _ {T C E X : Type 0} (answers : T → List Incoming → List Outgoing →
       let z : InExchange halves answers conns ends conn began promise scene next later (read ++ y.0) is =
       record { view = y.1; stands = y.2; seen = y.3; side = x.side; begun = on x.side x.begun; fresh = x.fresh; opened = x.opened; unheard = x.unheard; request = x.request } in (y.0, z)
 
-  module _ (promise : Promise) (limits : Limits) (client server : Option Peer) (state : List (List ℕ × StateValue)) (start now : LineState) (tally : Tally) where
-    abbrev At : LineState → Tally → Place X → Type 0
-    At line counted at = IsServing answers conns ends conn began promise limits client server state start line counted at
-
+  module _ {promise : Promise} {limits : Limits} {setting : Setting} {start now : LineState} {tally : Tally} where
     -- ---- a turn of it
 
     module _ (next : LineState) (was is : X) (on : (side : AppSide T E) → began was side → began is side) where
-      pub http_moves : (half later : HttpHalf) → At now tally (place.Http half was)
-          → PreservesOn http_half.stands now half (IsViewOf conns (conn was)) next later (IsViewOf conns (conn is)) → At next tally (place.Http later is)
+      pub http_moves : (half later : HttpHalf) → IsServing answers conns ends conn began promise limits setting start now tally (place.Http half was)
+          → PreservesOn http_half.stands now half (IsViewOf conns (conn was)) next later (IsViewOf conns (conn is)) → IsServing answers conns ends conn began promise limits setting start next tally (place.Http later is)
       http_moves half later s leads =
-          let y = moves http_half (promise (scope_with s.stands.0 client server state)) (http_scene limits start s.exchanges s.written s.stands.0 s.stands.1 s.stands.2)
+          let y = moves http_half (promise (scope_in setting s.stands.0)) (http_scene limits start s.exchanges s.written s.stands.0 s.stands.1 s.stands.2)
           now next half later s.read was is s.stands.3 leads on in
           record { read = s.read ++ y.0; written = s.written; exchanges = s.exchanges; promised = s.promised; counted = s.counted; stands = (s.stands.0, s.stands.1, s.stands.2, y.1) }
 
-      pub session_moves : (half later : WebSocketHalf) → At now tally (place.Session half was)
-          → PreservesOn session_half.stands now half (IsViewOf conns (conn was)) next later (IsViewOf conns (conn is)) → At next tally (place.Session later is)
+      pub session_moves : (half later : WebSocketHalf) → IsServing answers conns ends conn began promise limits setting start now tally (place.Session half was)
+          → PreservesOn session_half.stands now half (IsViewOf conns (conn was)) next later (IsViewOf conns (conn is)) → IsServing answers conns ends conn began promise limits setting start next tally (place.Session later is)
       session_moves half later s leads =
           let t = s.stands in
-          let y = moves session_half (promise (scope_with t.0 client server state)) (session_scene limits start s.exchanges s.written t.0 t.1 t.2 t.3)
+          let y = moves session_half (promise (scope_in setting t.0)) (session_scene limits start s.exchanges s.written t.0 t.1 t.2 t.3)
           now next half later s.read was is t.5 leads on in
           record { read = s.read ++ y.0; written = s.written; exchanges = s.exchanges; promised = s.promised; counted = s.counted; stands = (t.0, t.1, t.2, t.3, t.4, y.1) }
 
     -- only turns were counted
-    pub turned : (new : Tally) (at : Place X) → new.exchanges ≡ tally.exchanges → new.faults ≡ tally.faults → At now tally at → At now new at
+    pub turned : (new : Tally) (at : Place X) → new.exchanges ≡ tally.exchanges → new.faults ≡ tally.faults → IsServing answers conns ends conn began promise limits setting start now tally at → IsServing answers conns ends conn began promise limits setting start now new at
     turned new at exchanges faults s =
         let counted : IsTallied new s.exchanges = (exchanges ∙ s.counted.0, faults ∙ s.counted.1) in
         record { read = s.read; written = s.written; exchanges = s.exchanges; promised = s.promised; counted = counted; stands = s.stands }
 
     -- ---- more is read
 
-    module _ (next : LineState) (wire later : Wire) (s : At now tally (place.Between wire)) (flows : has_ended wire.input ≡ false) (waits : IsWaiting wire.requests) (more : List ℕ)
+    module _ (next : LineState) (wire later : Wire) (s : IsServing answers conns ends conn began promise limits setting start now tally (place.Between wire)) (flows : has_ended wire.input ≡ false) (waits : IsWaiting wire.requests) (more : List ℕ)
         (moved : (start : LineState) (read written : List ℕ) (failures : ℕ) → Transferred start now wire.input read written failures
         → Transferred start next later.input (read ++ more) written failures) (short : length more ≤ piece_size) where
       rests : BetweenRequests limits start now wire s.read s.stands.0 s.exchanges s.stands.1 s.written
@@ -246,27 +243,24 @@ module _ {T C E X : Type 0} (answers : T → List Incoming → List Outgoing →
       all : AllGiven wire.requests s.read s.stands.0
       all = all_results wire.requests.limits wire.requests.limits.block_in_range.0 s.read s.stands.0 wire.requests.place wire.requests.held rests.stands waits
 
-      still : has_ended wire.input ≡ true → has_ended later.input ≡ true
-      still ended = let never = flows in cc
-
       pub read_on : later ≡ record wire { requests = later.requests; input = later.input } → later.requests.limits ≡ wire.requests.limits
-          → ((bytes : List ℕ) (given : List Next) → StandsFor wire.requests bytes given → StandsFor later.requests (bytes ++ more) given) → At next tally (place.Between later)
+          → ((bytes : List ℕ) (given : List Next) → StandsFor wire.requests bytes given → StandsFor later.requests (bytes ++ more) given) → IsServing answers conns ends conn began promise limits setting start next tally (place.Between later)
       read_on same reader fed =
-          let on = rests_on limits start now wire s.read s.stands.0 s.exchanges s.stands.1 s.written rests next later more moved still all short same reader fed in
+          let on = rests_on limits start now wire s.read s.stands.0 s.exchanges s.stands.1 s.written rests next later more moved (λ ended. let never = flows in cc) all short same reader fed in
           record { read = s.read ++ more; written = s.written; exchanges = s.exchanges; promised = s.promised; counted = s.counted; stands = (s.stands.0, s.stands.1 ++ more, on) }
 
-      pub read_short : At next tally (place.Ended NoMemory)
+      pub read_short : IsServing answers conns ends conn began promise limits setting start next tally (place.Ended NoMemory)
       read_short =
-          let ended = ends_fed_short limits start now wire s.read s.stands.0 s.exchanges s.stands.1 s.written rests next later more moved still all short in
+          let ended = ends_fed_short limits start now wire s.read s.stands.0 s.exchanges s.stands.1 s.written rests next later more moved (λ ended. let never = flows in cc) all short in
           record { read = s.read ++ more; written = s.written; exchanges = s.exchanges; promised = s.promised; counted = s.counted; stands = ended }
 
     -- ---- its end
 
     module _ (exchange : X) (kind : EndKind) (new : Tally) (exchanges : new.exchanges ≡ tally.exchanges + 1) (faults : new.faults ≡ tally.faults + fault_of (Some kind)) where
-      pub http_left : (half later : HttpHalf) (at : Place X) → At now tally (place.Http half exchange)
+      pub http_left : (half later : HttpHalf) (at : Place X) → IsServing answers conns ends conn began promise limits setting start now tally (place.Http half exchange)
           → ((side : AppSide T E) (scene : http_half.Scene) (now : LineState) (read : List ℕ) (view : ConnView http_half.In http_half.Out) → began exchange side
           → http_half.stands scene now half read view → IsViewOf conns (conn exchange) view → OfEnd side (λ app. IsExchangeOf ends app (http_half.exchange scene))
-          → HasRun http_half answers ends scene now later read side kind) → IsLeft later at → At now new at
+          → HasRun http_half answers ends scene now later read side kind) → IsLeft later at → IsServing answers conns ends conn began promise limits setting start now new at
       http_left half later at s runs left =
           let x = s.stands.3 in
           let scene = http_scene limits start s.exchanges s.written s.stands.0 s.stands.1 s.stands.2 in
@@ -275,18 +269,18 @@ module _ {T C E X : Type 0} (answers : T → List Incoming → List Outgoing →
           let broke = is_by_input run.world.conn.broken in
           let all = s.exchanges ++ exchanged s.stands.0 s.stands.1 run.world ∷ [] in
           let out = s.written ++ run.world.conn.written in
-          let promised = answer.promised_more http_half answers ends scene now later s.read x.side kind run s.exchanges s.stands.0 s.stands.1 broke promise client server state
+          let promised = answer.promised_more http_half answers ends scene now later s.read x.side kind run s.exchanges s.stands.0 s.stands.1 broke promise setting
           x.fresh x.opened x.unheard.0 x.unheard.1 s.promised in
           let counted = answer.tallied_more http_half answers ends scene now later s.read x.side kind run s.exchanges s.stands.0 s.stands.1 broke tally new s.counted exchanges faults in
-          let rests = at_rest answers conns ends conn began promise limits client server state start now s.read all out at
+          let rests = at_rest answers conns ends conn began promise limits setting start now s.read all out at
           (left_at limits scene.at now later s.read run.world run.stands.stands words run.stands.limits at left) in
           record { read = s.read; written = out; exchanges = all; promised = promised; counted = counted; stands = rests }
 
-      module _ (half later : WebSocketHalf) (s : At now tally (place.Session half exchange))
+      module _ (half later : WebSocketHalf) (s : IsServing answers conns ends conn began promise limits setting start now tally (place.Session half exchange))
           (runs : (side : AppSide T E) (scene : session_half.Scene) (now : LineState) (read : List ℕ) (view : ConnView session_half.In session_half.Out) → began exchange side
           → session_half.stands scene now half read view → IsViewOf conns (conn exchange) view → OfEnd side (λ app. IsExchangeOf ends app (session_half.exchange scene))
           → HasRun session_half answers ends scene now later read side kind) where
-        x : InExchange session_half answers conns ends conn began (promise (scope_with s.stands.0 client server state))
+        x : InExchange session_half answers conns ends conn began (promise (scope_in setting s.stands.0))
             (session_scene limits start s.exchanges s.written s.stands.0 s.stands.1 s.stands.2 s.stands.3) now half s.read exchange
         x = s.stands.5
 
@@ -299,12 +293,12 @@ module _ {T C E X : Type 0} (answers : T → List Incoming → List Outgoing →
         pub session_over : (following : NextStep) × (later.stage ≡ Over following) → (outcome : Outcome) × (later.stage ≡ Over (ConnectionEnds outcome))
         session_over over = ends_connection scene later run.world.conn run.stands.stage over.0 over.1
 
-        pub session_left : (outcome : Outcome) → later.stage ≡ Over (ConnectionEnds outcome) → At now new (place.Ended outcome)
+        pub session_left : (outcome : Outcome) → later.stage ≡ Over (ConnectionEnds outcome) → IsServing answers conns ends conn began promise limits setting start now new (place.Ended outcome)
         session_left outcome over =
             let broke = is_by_input run.world.conn.broken in
             let words = session_words (handshake_of scene.facts) scene.facts scene.limits.ring run.world run.exchange in
             let all = s.exchanges ++ session_of scene run.world ∷ [] in
-            let promised = answer.promised_more session_half answers ends scene now later s.read x.side kind run s.exchanges s.stands.0 s.stands.1 broke promise client server state
+            let promised = answer.promised_more session_half answers ends scene now later s.read x.side kind run s.exchanges s.stands.0 s.stands.1 broke promise setting
             x.fresh x.opened x.unheard.0 x.unheard.1 s.promised in
             let counted = answer.tallied_more session_half answers ends scene now later s.read x.side kind run s.exchanges s.stands.0 s.stands.1 broke tally new s.counted exchanges faults in
             let ended = ends_after scene now later s.read run.world outcome run.stands words over s.stands.4 in
@@ -313,12 +307,12 @@ module _ {T C E X : Type 0} (answers : T → List Incoming → List Outgoing →
 -- ---- an exchange begins
 
 module _ {T C E X : Type 0} (answers : T → List Incoming → List Outgoing → Option EndKind → Type 0) (conns : ConnEnds C) (ends : AppEnds E)
-    (conn : X → C) (began : X → AppSide T E → Type 0) (promise : Promise) (client server : Option Peer) (state : List (List ℕ × StateValue)) (whole : Scope) (now : LineState)
+    (conn : X → C) (began : X → AppSide T E → Type 0) (promise : Promise) (setting : Setting) (whole : Scope) (now : LineState)
     (tally : Tally) (exchange : X) where
   begun_in : {H : Type 0} (halves : AnyHalf H) (scene : halves.Scene) (scope : Scope) (half : H) (read : List ℕ) (view : ConnView halves.In halves.Out) (kind : Kind) (facts : Facts)
-      → HasBegun answers conns ends conn began (promise whole) kind facts exchange → whole ≡ scope_with scope client server state
+      → HasBegun answers conns ends conn began (promise whole) kind facts exchange → whole ≡ scope_in setting scope
       → kind ≡ (halves.exchange scene).kind → facts ≡ (halves.exchange scene).facts → halves.stands scene now half read view → view.offered ≡ [] → is_some view.broken ≡ false → view.got ≡ []
-      → InExchange halves answers conns ends conn began (promise (scope_with scope client server state)) scene now half read exchange
+      → InExchange halves answers conns ends conn began (promise (scope_in setting scope)) scene now half read exchange
   begun_in halves scene scope half read view kind facts b is kind_is facts_is stands offered broken got =
       let seen : IsViewOf conns (conn exchange) view = (offered ∙ sym b.empty.0, broken ∙ sym b.empty.1, got ∙ sym b.empty.2) in
       let opened = subst (λ (w : Scope). IsOpened (promise w) answers ends b.fresh b.side) is b.opened in
@@ -326,43 +320,43 @@ module _ {T C E X : Type 0} (answers : T → List Incoming → List Outgoing →
       record { view = view; stands = stands; seen = seen; side = b.side; begun = b.begun; fresh = b.fresh; opened = opened; unheard = b.unheard; request = request }
 
   pub http_begun : (scene : Scene) (facts : Facts) (limits : Limits) (half : HttpHalf) (read arrived : List ℕ) → HasBegun answers conns ends conn began (promise whole) Http facts exchange
-      → whole ≡ scope_with scene.scope client server state → facts ≡ scene.facts → half.wire.limits ≡ limits
+      → whole ≡ scope_in setting scene.scope → facts ≡ scene.facts → half.wire.limits ≡ limits
       → ((written : List ℕ) × Invariant scene now half read (record empty_conn { arrived = arrived; written = written }))
-      → ArePromised promise client server state scene.exchanges → IsTallied tally scene.exchanges
-      → IsServing answers conns ends conn began promise limits client server state scene.start now tally (place.Http half exchange)
+      → ArePromisedIn promise setting scene.exchanges → IsTallied tally scene.exchanges
+      → IsServing answers conns ends conn began promise limits setting scene.start now tally (place.Http half exchange)
   http_begun scene facts limits half read arrived b is facts_are limits_are s promised tallied =
       let view : ConnView ℕ ℕ = record empty_conn { arrived = arrived; written = s.0 } in
       let x = begun_in http_half (record { limits = limits; at = scene }) scene.scope half read view Http facts b is refl facts_are (record { limits = limits_are; stands = s.1 }) refl refl refl in
       record { read = read; written = scene.before; exchanges = scene.exchanges; promised = promised; counted = tallied; stands = (scene.scope, scene.facts, scene.opened, x) }
 
   pub session_begun : (scene : SessionScene) (facts : Facts) (half : WebSocketHalf) (read : List ℕ) → HasBegun answers conns ends conn began (promise whole) WebSocket facts exchange
-      → whole ≡ scope_with scene.scope client server state → facts ≡ scene.facts → SessionInvariant scene now half read empty_conn → ReadsAhead scene.limits scene.read (requests_of scene.exchanges)
-      → ArePromised promise client server state scene.exchanges → IsTallied tally scene.exchanges
-      → IsServing answers conns ends conn began promise scene.limits client server state scene.start now tally (place.Session half exchange)
+      → whole ≡ scope_in setting scene.scope → facts ≡ scene.facts → SessionInvariant scene now half read empty_conn → ReadsAhead scene.limits scene.read (requests_of scene.exchanges)
+      → ArePromisedIn promise setting scene.exchanges → IsTallied tally scene.exchanges
+      → IsServing answers conns ends conn began promise scene.limits setting scene.start now tally (place.Session half exchange)
   session_begun scene facts half read b is facts_are s ahead promised tallied =
       let x = begun_in session_half scene scene.scope half read empty_conn WebSocket facts b is refl facts_are s refl refl refl in
       record { read = read; written = scene.before; exchanges = scene.exchanges; promised = promised; counted = tallied; stands = (scene.scope, scene.facts, scene.frames, scene.read, ahead, x) }
 
 -- ---- the report
 
-module _ {T C E X : Type 0} (answers : T → List Incoming → List Outgoing → Option EndKind → Type 0) (conns : ConnEnds C) (ends : AppEnds E)
-    (conn : X → C) (began : X → AppSide T E → Type 0) (promise : Promise) (limits : Limits) (client server : Option Peer) (state : List (List ℕ × StateValue)) (start : LineState)
-    (before : ℕ) (now : LineState) (pauses : ℕ) where
+module _ {T C E X : Type 0} {answers : T → List Incoming → List Outgoing → Option EndKind → Type 0} {conns : ConnEnds C} {ends : AppEnds E}
+    {conn : X → C} {began : X → AppSide T E → Type 0} {promise : Promise} {limits : Limits} {setting : Setting} {start : LineState}
+    {before : ℕ} {now : LineState} {pauses : ℕ} where
   -- the reader gave its next result
-  pub stands_next : (old new : Connection X) → IsServing answers conns ends conn began promise limits client server state start now old.tally (place_of new)
+  pub stands_next : (old new : Connection X) → IsServing answers conns ends conn began promise limits setting start now old.tally (place_of new)
       → IsCounted limits before pauses (place_of old) old.tally → IsBetween (place_of old) → new.tally ≡ old.tally → IsNext (place_of new) old.tally.turns
-      → Stands answers conns ends conn began promise limits client server state start before now pauses new
+      → Stands answers conns ends conn began promise limits setting start before now pauses new
   stands_next old new s counted between same next = record {
-    serving = subst (λ (t : Tally). IsServing answers conns ends conn began promise limits client server state start now t (place_of new)) (sym same) s;
+    serving = subst (λ (t : Tally). IsServing answers conns ends conn began promise limits setting start now t (place_of new)) (sym same) s;
     counted = counted_next limits before pauses (place_of old) (place_of new) old.tally new.tally counted between same next;
   }
 
-  pub told : (connection : Connection X) (report : Report) → Stands answers conns ends conn began promise limits client server state start before now pauses connection → IsReportOf connection report
-      → Serves promise limits client server state start now before pauses report
+  pub told : (connection : Connection X) (report : Report) → Stands answers conns ends conn began promise limits setting start before now pauses connection → IsReportOf connection report
+      → Serves promise limits setting.client.now setting.server.now setting.state.now start now before pauses report
   told connection report x is =
       let s = x.serving in
       let c = x.counted in
-      let e = subst (λ (p : Place X). IsAt answers conns ends conn began promise limits client server state start p now s.read s.exchanges s.written) is.0 s.stands in
+      let e = subst (λ (p : Place X). IsAt answers conns ends conn began promise limits setting start p now s.read s.exchanges s.written) is.0 s.stands in
       record {
         read = s.read;
         end = e.end;

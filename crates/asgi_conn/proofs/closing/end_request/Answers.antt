@@ -14,7 +14,7 @@ ended_by-requires g c = over_at c.finish-kind.new.half.stage c.finish-kind.ensur
 
 pub returns-clause-serves : goal.returns-clause-serves
 returns-clause-serves g c app limits start now s =
-    lemma.http_left g.A.Task.AppTask.answers g.U.Pipes.Conn.ConnEnd g.U.Pipes.App.AppEnd g.U.Runner.conn g.U.Runner.began (g.A.Application.answers app) limits c.args.setting.now.client.now c.args.setting.now.server.now c.args.setting.now.state.now start now c.args.tally.now c.args.exchange c.finish-kind.result c.count.new.self c.count.ensures.exchanges c.count.ensures.faults
+    lemma.http_left c.args.exchange c.finish-kind.result c.count.new.self c.count.ensures.exchanges c.count.ensures.faults
     c.args.half.now c.finish-kind.new.half (place_at None None c.ended_by.result c.finish-kind.new.half) s c.finish-kind.ensures.runs (lemma.left_by c.finish-kind.new.half c.ended_by.result c.ended_by.ensures)
 
 pub returns-clause-counts : goal.returns-clause-counts

@@ -11,12 +11,12 @@ finish-ended-requires g c = let x = c.requires.stands.4.stands.5 in record { beg
 pub outcome_of-requires : goal.outcome_of-requires
 outcome_of-requires g c =
     let limits = c.requires.stands.1 in
-    lemma.session_over g.A.Task.AppTask.answers g.U.Pipes.Conn.ConnEnd g.U.Pipes.App.AppEnd g.U.Runner.conn g.U.Runner.began (g.A.Application.answers c.requires.stands.0) limits c.args.setting.now.client.now c.args.setting.now.server.now c.args.setting.now.state.now c.requires.stands.2 c.requires.stands.3 c.args.tally.now c.args.exchange c.finish-ended.result c.count.new.self c.count.ensures.exchanges c.count.ensures.faults
+    lemma.session_over c.args.exchange c.finish-ended.result c.count.new.self c.count.ensures.exchanges c.count.ensures.faults
     c.args.half.now c.finish-ended.new.half c.requires.stands.4 c.finish-ended.ensures.runs (over_at c.finish-ended.new.half.stage c.finish-ended.ensures.over)
 
 pub returns-clause-serves : goal.returns-clause-serves
 returns-clause-serves g c app limits start now s =
-    lemma.session_left g.A.Task.AppTask.answers g.U.Pipes.Conn.ConnEnd g.U.Pipes.App.AppEnd g.U.Runner.conn g.U.Runner.began (g.A.Application.answers app) limits c.args.setting.now.client.now c.args.setting.now.server.now c.args.setting.now.state.now start now c.args.tally.now c.args.exchange c.finish-ended.result c.count.new.self c.count.ensures.exchanges c.count.ensures.faults
+    lemma.session_left c.args.exchange c.finish-ended.result c.count.new.self c.count.ensures.exchanges c.count.ensures.faults
     c.args.half.now c.finish-ended.new.half s c.finish-ended.ensures.runs c.outcome_of.result c.outcome_of.ensures
 
 pub returns-clause-counts : goal.returns-clause-counts

@@ -1,7 +1,7 @@
 use Rattle.std.proofs.Common.{ℕ, ◌+◌, sym, ap}
 use Rattle.std.specs.Prelude.{length}
 use Rattle.asgi_conn.specs.Places.{place_of}
-use Rattle.asgi_conn.specs.Standing.{Stands, exchanges_of}
+use Rattle.asgi_conn.specs.Standing.{exchanges_of}
 use Rattle.asgi_conn.proofs.CallLemmas.{went_on}
 use Rattle.asgi_conn.proofs.TurnLemmas as lemma
 use Rattle.asgi_conn.proofs.connection.Connection.go_on.Goals as goal
@@ -37,7 +37,7 @@ finish-requires-2 g c =
       g.L.Line.state c.next.new.line,
       r.2,
       r.3,
-      lemma.stands_next g.A.Task.AppTask.answers g.U.Pipes.Conn.ConnEnd g.U.Pipes.App.AppEnd g.U.Runner.conn g.U.Runner.began (g.A.Application.answers c.args.calls.now.app.now) r.0 c.args.setting.now.client.now c.args.setting.now.server.now c.args.setting.now.state.now r.1 r.2 (g.L.Line.state c.next.new.line) r.3 c.finish.new.self c.next.new.self
+      lemma.stands_next c.finish.new.self c.next.new.self
           (c.next.ensures.serves r.0 r.1 s.serving) s.counted (c.is_between.ensures.yes c.if-not-is_between.false) c.next.ensures.tally c.next.ensures.next,
     )
 
@@ -45,7 +45,7 @@ pub returns-clause-stands : goal.returns-clause-stands
 returns-clause-stands g c limits start before pauses stood =
     let s = c.finish.ensures.stands c.args.calls.now.app.now limits start (g.L.Line.state c.args.line.now) before pauses stood in
     c.finish-2.ensures.stands c.args.calls.now.app.now limits start (g.L.Line.state c.next.new.line) before pauses
-    (lemma.stands_next g.A.Task.AppTask.answers g.U.Pipes.Conn.ConnEnd g.U.Pipes.App.AppEnd g.U.Runner.conn g.U.Runner.began (g.A.Application.answers c.args.calls.now.app.now) limits c.args.setting.now.client.now c.args.setting.now.server.now c.args.setting.now.state.now start before (g.L.Line.state c.next.new.line) pauses c.finish.new.self c.next.new.self
+    (lemma.stands_next c.finish.new.self c.next.new.self
     (c.next.ensures.serves limits start s.serving) s.counted (c.is_between.ensures.yes c.if-not-is_between.false) c.next.ensures.tally c.next.ensures.next)
 
 pub returns-clause-due : goal.returns-clause-due

@@ -9,17 +9,17 @@ use Rattle.asgi_conn.proofs.connection.Connection.next.Goals as goal
 pub returns-in_default-clause-serves : goal.returns-in_default-clause-serves
 returns-in_default-clause-serves g c limits start s =
     let here = between_at c.args.self.now.exchange c.args.self.now.session c.args.self.now.ended c.args.self.now.half c.requires.between in
-    rw c.end_with-in_default.ensures.at (lemma.short g.A.Task.AppTask.answers g.U.Pipes.Conn.ConnEnd g.U.Pipes.App.AppEnd g.U.Runner.conn g.U.Runner.began (g.A.Application.answers c.args.calls.now.app.now) limits c.args.setting.now.client.now c.args.setting.now.server.now c.args.setting.now.state.now start (g.L.Line.state c.args.line.now) c.args.self.now.tally c.args.self.now.half.wire (rw here at s))
+    rw c.end_with-in_default.ensures.at (lemma.short (rw here at s))
 
 pub returns-in-Err-clause-serves : goal.returns-in-Err-clause-serves
 returns-in-Err-clause-serves g c limits start s =
     let here = between_at c.args.self.now.exchange c.args.self.now.session c.args.self.now.ended c.args.self.now.half c.requires.between in
-    rw c.end_with.ensures.at (lemma.short g.A.Task.AppTask.answers g.U.Pipes.Conn.ConnEnd g.U.Pipes.App.AppEnd g.U.Runner.conn g.U.Runner.began (g.A.Application.answers c.args.calls.now.app.now) limits c.args.setting.now.client.now c.args.setting.now.server.now c.args.setting.now.state.now start (g.L.Line.state c.args.line.now) c.args.self.now.tally c.args.self.now.half.wire (rw here at s))
+    rw c.end_with.ensures.at (lemma.short (rw here at s))
 
 pub returns-in-Ok-Need-clause-serves : goal.returns-in-Ok-Need-clause-serves
 returns-in-Ok-Need-clause-serves g c limits start s =
     let here = between_at c.args.self.now.exchange c.args.self.now.session c.args.self.now.ended c.args.self.now.half c.requires.between in
-    lemma.waited g.A.Task.AppTask.answers g.U.Pipes.Conn.ConnEnd g.U.Pipes.App.AppEnd g.U.Runner.conn g.U.Runner.began (g.A.Application.answers c.args.calls.now.app.now) limits c.args.setting.now.client.now c.args.setting.now.server.now c.args.setting.now.state.now start (g.L.Line.state c.args.line.now) c.args.self.now.tally c.args.self.now.half.wire (rw here at s)
+    lemma.waited (rw here at s)
     c.next.new.self c.next.ensures.limits (place_of c.wait.new.self) (c.in-Ok-Need.ensures.need c.in-Ok-Need.field-0-is) c.wait.ensures.waits
 
 pub returns-in-Ok-Bad-clause-serves : goal.returns-in-Ok-Bad-clause-serves
@@ -27,7 +27,7 @@ returns-in-Ok-Bad-clause-serves g c limits start s =
     let here = between_at c.args.self.now.exchange c.args.self.now.session c.args.self.now.ended c.args.self.now.half c.requires.between in
     let bad = c.in-Ok-Bad in
     let gave = lemma.given_as c.args.self.now.half.wire.requests c.next.new.self bad.field-0 (Bad bad.status) bad.field-0-is (λ never. cc) bad.ensures.given in
-    rw c.end_with-in-Ok-Bad.ensures.at (lemma.refused g.A.Task.AppTask.answers g.U.Pipes.Conn.ConnEnd g.U.Pipes.App.AppEnd g.U.Runner.conn g.U.Runner.began (g.A.Application.answers c.args.calls.now.app.now) limits c.args.setting.now.client.now c.args.setting.now.server.now c.args.setting.now.state.now start (g.L.Line.state c.args.line.now) c.args.self.now.tally c.args.self.now.half.wire (rw here at s)
+    rw c.end_with-in-Ok-Bad.ensures.at (lemma.refused (rw here at s)
     c.next.new.self c.next.ensures.limits (g.L.Line.state c.refuse-outcome.new.line) (place.Ended c.refuse-outcome.result) bad.status gave c.refuse-outcome.ensures.refuses)
 
 pub returns-in_default-framing-clause-serves : goal.returns-in_default-framing-clause-serves
@@ -35,7 +35,7 @@ returns-in_default-framing-clause-serves g c limits start s =
     let here = between_at c.args.self.now.exchange c.args.self.now.session c.args.self.now.ended c.args.self.now.half c.requires.between in
     let head = c.in-Ok-Head in
     let gave = lemma.given_as c.args.self.now.half.wire.requests c.next.new.self head.field-0 (Head head.scope head.facts) head.field-0-is (λ never. cc) head.ensures.given in
-    lemma.answered g.A.Task.AppTask.answers g.U.Pipes.Conn.ConnEnd g.U.Pipes.App.AppEnd g.U.Runner.conn g.U.Runner.began (g.A.Application.answers c.args.calls.now.app.now) limits c.args.setting.now.client.now c.args.setting.now.server.now c.args.setting.now.state.now start (g.L.Line.state c.args.line.now) c.args.self.now.tally c.args.self.now.half.wire (rw here at s)
+    lemma.answered (rw here at s)
     c.next.new.self c.next.ensures.limits head.scope head.facts gave c.in_default-framing.not-Upgrade c.in-Ok.scope (g.L.Line.state c.answer.new.line) (place_of c.answer.new.self) c.in-Ok.ensures c.answer.ensures.serves
 
 pub returns-in-Upgrade-clause-serves : goal.returns-in-Upgrade-clause-serves
@@ -43,7 +43,7 @@ returns-in-Upgrade-clause-serves g c limits start s =
     let here = between_at c.args.self.now.exchange c.args.self.now.session c.args.self.now.ended c.args.self.now.half c.requires.between in
     let head = c.in-Ok-Head in
     let gave = lemma.given_as c.args.self.now.half.wire.requests c.next.new.self head.field-0 (Head head.scope head.facts) head.field-0-is (λ never. cc) head.ensures.given in
-    lemma.opened g.A.Task.AppTask.answers g.U.Pipes.Conn.ConnEnd g.U.Pipes.App.AppEnd g.U.Runner.conn g.U.Runner.began (g.A.Application.answers c.args.calls.now.app.now) limits c.args.setting.now.client.now c.args.setting.now.server.now c.args.setting.now.state.now start (g.L.Line.state c.args.line.now) c.args.self.now.tally c.args.self.now.half.wire (rw here at s)
+    lemma.opened (rw here at s)
     c.next.new.self c.next.ensures.limits head.scope head.facts gave c.in-Upgrade.is c.in-Ok.scope (g.L.Line.state c.open.new.line) (place_of c.open.new.self) c.in-Ok.ensures c.open.ensures.serves
 
 pub answer-requires-clause-http : goal.answer-requires-clause-http
@@ -51,7 +51,7 @@ answer-requires-clause-http g c =
     let here = between_at c.args.self.now.exchange c.args.self.now.session c.args.self.now.ended c.args.self.now.half c.requires.between in
     let head = c.in-Ok-Head in
     let gave = lemma.given_as c.args.self.now.half.wire.requests c.next.new.self head.field-0 (Head head.scope head.facts) head.field-0-is (λ never. cc) head.ensures.given in
-    lemma.is_http g.A.Task.AppTask.answers g.U.Pipes.Conn.ConnEnd g.U.Pipes.App.AppEnd g.U.Runner.conn g.U.Runner.began (g.A.Application.answers c.args.calls.now.app.now) c.requires.stands.0 c.args.setting.now.client.now c.args.setting.now.server.now c.args.setting.now.state.now c.requires.stands.1 (g.L.Line.state c.args.line.now) c.args.self.now.tally c.args.self.now.half.wire (rw here at c.requires.stands.2)
+    lemma.is_http (rw here at c.requires.stands.2)
     c.next.new.self c.next.ensures.limits head.scope head.facts gave c.in_default-framing.not-Upgrade c.in-Ok.scope c.in-Ok.ensures
 
 pub open-requires-clause-websocket : goal.open-requires-clause-websocket
@@ -59,7 +59,7 @@ open-requires-clause-websocket g c =
     let here = between_at c.args.self.now.exchange c.args.self.now.session c.args.self.now.ended c.args.self.now.half c.requires.between in
     let head = c.in-Ok-Head in
     let gave = lemma.given_as c.args.self.now.half.wire.requests c.next.new.self head.field-0 (Head head.scope head.facts) head.field-0-is (λ never. cc) head.ensures.given in
-    lemma.is_websocket g.A.Task.AppTask.answers g.U.Pipes.Conn.ConnEnd g.U.Pipes.App.AppEnd g.U.Runner.conn g.U.Runner.began (g.A.Application.answers c.args.calls.now.app.now) c.requires.stands.0 c.args.setting.now.client.now c.args.setting.now.server.now c.args.setting.now.state.now c.requires.stands.1 (g.L.Line.state c.args.line.now) c.args.self.now.tally c.args.self.now.half.wire (rw here at c.requires.stands.2)
+    lemma.is_websocket (rw here at c.requires.stands.2)
     c.next.new.self c.next.ensures.limits head.scope head.facts gave c.in-Upgrade.is c.in-Ok.scope c.in-Ok.ensures
 
 pub unreachable-requires : goal.unreachable-requires
@@ -67,7 +67,7 @@ unreachable-requires g c =
     let here = between_at c.args.self.now.exchange c.args.self.now.session c.args.self.now.ended c.args.self.now.half c.requires.between in
     let event = c.in-Ok-Event in
     let gave = lemma.given_as c.args.self.now.half.wire.requests c.next.new.self event.field-0 (Event event.field-0-0) event.field-0-is (λ never. cc) event.ensures.given in
-    lemma.opens g.A.Task.AppTask.answers g.U.Pipes.Conn.ConnEnd g.U.Pipes.App.AppEnd g.U.Runner.conn g.U.Runner.began (g.A.Application.answers c.args.calls.now.app.now) c.requires.stands.0 c.args.setting.now.client.now c.args.setting.now.server.now c.args.setting.now.state.now c.requires.stands.1 (g.L.Line.state c.args.line.now) c.args.self.now.tally c.args.self.now.half.wire (rw here at c.requires.stands.2)
+    lemma.opens (rw here at c.requires.stands.2)
     c.next.new.self c.next.ensures.limits (Event event.field-0-0) gave
 
 pub unreachable-requires-in-Ok-Whole : goal.unreachable-requires-in-Ok-Whole
@@ -75,7 +75,7 @@ unreachable-requires-in-Ok-Whole g c =
     let here = between_at c.args.self.now.exchange c.args.self.now.session c.args.self.now.ended c.args.self.now.half c.requires.between in
     let whole = c.in-Ok-Whole in
     let gave = lemma.given_as c.args.self.now.half.wire.requests c.next.new.self whole.field-0 (Whole) whole.field-0-is (λ never. cc) whole.ensures.given in
-    lemma.opens g.A.Task.AppTask.answers g.U.Pipes.Conn.ConnEnd g.U.Pipes.App.AppEnd g.U.Runner.conn g.U.Runner.began (g.A.Application.answers c.args.calls.now.app.now) c.requires.stands.0 c.args.setting.now.client.now c.args.setting.now.server.now c.args.setting.now.state.now c.requires.stands.1 (g.L.Line.state c.args.line.now) c.args.self.now.tally c.args.self.now.half.wire (rw here at c.requires.stands.2)
+    lemma.opens (rw here at c.requires.stands.2)
     c.next.new.self c.next.ensures.limits Whole gave
 
 pub returns-in_default-framing-clause-called : goal.returns-in_default-framing-clause-called

@@ -10,7 +10,7 @@ use Rattle.asgi_conn.proofs.connection.Connection.turn.Goals as goal
 
 pub returns-then-has_ended-clause-over : goal.returns-then-has_ended-clause-over
 returns-then-has_ended-clause-over g c limits start before s =
-    lemma.told g.A.Task.AppTask.answers g.U.Pipes.Conn.ConnEnd g.U.Pipes.App.AppEnd g.U.Runner.conn g.U.Runner.began (g.A.Application.answers c.args.calls.now.app.now) limits c.args.setting.now.client.now c.args.setting.now.server.now c.args.setting.now.state.now start before (g.L.Line.state c.args.line.now) (g.P.Pause.count c.args.pause.now) c.args.self.now c.report.result s c.report.ensures
+    lemma.told c.args.self.now c.report.result s c.report.ensures
 
 pub returns-then-has_ended-clause-again : goal.returns-then-has_ended-clause-again
 returns-then-has_ended-clause-again g c report is = (ap step.Over (lemma.one_report c.args.self.now c.report.result report c.report.ensures is), refl, refl, refl)
@@ -36,7 +36,7 @@ report-requires-in-None g c = lemma.ended_none (place_of c.go_on.new.self) (plac
 pub returns-in-None-clause-over : goal.returns-in-None-clause-over
 returns-in-None-clause-over g c limits start before s =
     let m = c.go_on.ensures.stands limits start before (g.P.Pause.count c.args.pause.now) s in
-    lemma.told g.A.Task.AppTask.answers g.U.Pipes.Conn.ConnEnd g.U.Pipes.App.AppEnd g.U.Runner.conn g.U.Runner.began (g.A.Application.answers c.args.calls.now.app.now) limits c.args.setting.now.client.now c.args.setting.now.server.now c.args.setting.now.state.now start before (g.L.Line.state c.move_on.new.line) (g.P.Pause.count c.args.pause.now) c.move_on.new.self c.report-in-None.result
+    lemma.told c.move_on.new.self c.report-in-None.result
     (record {
       serving = c.move_on.ensures.serves c.args.calls.now.app.now limits start m.serving;
       counted = lemma.counted_none limits before (g.P.Pause.count c.args.pause.now) (place_of c.go_on.new.self) (place_of c.move_on.new.self) c.go_on.new.self.tally c.move_on.new.self.tally m.counted
@@ -56,7 +56,7 @@ pub returns-in-Some-clause-stands : goal.returns-in-Some-clause-stands
 returns-in-Some-clause-stands g c limits start before s =
     let m = c.go_on.ensures.stands limits start before (g.P.Pause.count c.args.pause.now) s in
     record {
-      serving = lemma.turned g.A.Task.AppTask.answers g.U.Pipes.Conn.ConnEnd g.U.Pipes.App.AppEnd g.U.Runner.conn g.U.Runner.began (g.A.Application.answers c.args.calls.now.app.now) limits c.args.setting.now.client.now c.args.setting.now.server.now c.args.setting.now.state.now start (g.L.Line.state c.move_on.new.line) c.move_on.new.self.tally _ (place_of c.move_on.new.self) refl refl (c.move_on.ensures.serves c.args.calls.now.app.now limits start m.serving);
+      serving = lemma.turned _ (place_of c.move_on.new.self) refl refl (c.move_on.ensures.serves c.args.calls.now.app.now limits start m.serving);
       counted = lemma.counted_more limits before (g.P.Pause.count c.args.pause.now) (place_of c.go_on.new.self) (place_of c.move_on.new.self) c.move_on.new.self.tally _ (g.P.Pause.count c.take.new.pause) c.in-Some.turn
           (subst (λ (t : Tally). IsCounted limits before (g.P.Pause.count c.args.pause.now) (place_of c.go_on.new.self) t) (sym c.move_on.ensures.tally) m.counted)
           c.in-Some.ensures.some.0 c.in-Some.ensures.some.1 refl c.take.ensures.one c.take.ensures.turn_limit c.take.ensures.idle_limit c.take.ensures.counts;
