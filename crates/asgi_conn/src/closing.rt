@@ -80,8 +80,8 @@ fn end_request<A: Application, X, U: Runner<A::Task, Exchange = X>>(
         limits setting.now start now tally.old (place.Http half.old exchange)
         → IsServing A.Task.answers U.Pipes.Conn.ConnEnd U.Pipes.App.AppEnd U.conn U.began (A.answers app)
         limits setting.now start now tally.new (place_at None None result half.new) }
-    ensures counts { (limits : Limits) (before pauses : ℕ) → IsCounted {X = X} limits before pauses (place.Http half.old exchange) tally.old → IsOver (place.Http half.old exchange) tally.old.turns
-        → IsCounted {X = X} limits before pauses (place_at None None result half.new) tally.new }
+    ensures counts { (limits : Limits) (before pauses : ℕ) → IsCounted {X = X} limits before pauses (place.Http half.old exchange) tally.old
+        → IsOver (place.Http half.old exchange) tally.old.turns → IsCounted {X = X} limits before pauses (place_at None None result half.new) tally.new }
     ensures one { tally.new.exchanges ≡ tally.old.exchanges + 1 }
     ensures turns { tally.new.turns ≡ tally.old.turns }
     // The next request follows only what was over so.
