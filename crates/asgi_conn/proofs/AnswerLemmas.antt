@@ -1,17 +1,15 @@
 -- One request is answered: its exchange comes after those before it, and the connection is between two requests or has ended.
-use Rattle.asgi_conn.proofs.ConnWords.{◌≡◌, ℕ, ◌+◌, List, [], ◌∷◌, ◌++◌, inl, inr, sym, ap, ◌∙◌, append-nil, subst, Option, Some, None, IsSomeAnd}
-use Rattle.asgi_conn.proofs.ConnWords.{arith, Bool, EndKind, Facts, Incoming, Outgoing, Setting, Scope, scope_in, AppEnds, ConnEnds, Promise}
-use Rattle.asgi_conn.proofs.ConnWords.{said_of, end_of, Outcome, IsLacking, InputEnd, fault_of, ExchangeRecord, Converses, IsPromised, ArePromisedIn, Ended, Tally, IsTallied, IsServing}
-use Rattle.asgi_conn.proofs.ConnWords.{AppSide, Transferred, OfEnd, IsOpened, HasRun, AnyHalf, Wire, Scene, failures_of, LineState, All-nil}
+use Rattle.asgi_conn.proofs.ConnWords.{refl, ◌≡◌, ℕ, ◌+◌, List, [], ◌∷◌, ◌++◌, inl, inr, sym, ap, ◌∙◌, append-nil, subst, Option, Some, None, IsSomeAnd, arith, Bool, EndKind, Facts, Incoming}
+use Rattle.asgi_conn.proofs.ConnWords.{Outgoing, Setting, Scope, scope_in, AppEnds, ConnEnds, Promise, said_of, end_of, Outcome, IsLacking, InputEnd, fault_of, ExchangeRecord, IsPromised}
+use Rattle.asgi_conn.proofs.ConnWords.{ArePromisedIn, Ended, Tally, IsTallied, IsServing, AppSide, Transferred, OfEnd, IsOpened, HasRun, AnyHalf, Wire, Scene, failures_of, LineState, All-nil}
 use Rattle.asgi_types.specs.declared.end_kind.EndKind.TheVariants.{Faulted}
-use Rattle.asgi_pipes.specs.Items.{items_of}
 use Rattle.asgi_apps.specs.{declared.running.Lent.Lent, Ends.own_end}
-use Rattle.asgi_exchange.specs.{Views.AppView, Items.events_of}
-use Rattle.asgi_conversation.specs.{Exchanges.fault_count, Persistence.EndsBetween, Promised.task_end}
+use Rattle.asgi_exchange.specs.{Views.AppView}
+use Rattle.asgi_conversation.specs.{Exchanges.fault_count, Persistence.EndsBetween}
 use Rattle.asgi_conversation.proofs.LoopLemmas.{lacks_in_front}
 use Rattle.asgi_conversation.proofs.SoFarLemmas.{ends_between}
 use Rattle.asgi_run.specs.{declared.runner.AppSide.TheVariants.Runs, declared.runner.AppSide.TheVariants.HasEnded, Running.IsOfRequest, Running.Answers}
-use Rattle.asgi_halves.specs.{Half.Opens, Traffic.failures_as}
+use Rattle.asgi_halves.specs.{Half.Opens}
 use Rattle.asgi_conn.proofs.LeaveLemmas.{http_ends}
 use Rattle.std.proofs.lemmas.List.{Elements.All-cons, Elements.All-append, length-append}
 use Rattle.asgi_exchange.proofs.EventLemmas.{events_are, end_is}

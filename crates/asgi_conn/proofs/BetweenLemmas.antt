@@ -1,8 +1,7 @@
 -- Between two requests: the next result is a head or a refusal, more is read, and the connection ends.
-use Rattle.asgi_conn.proofs.ConnWords.{◌≡◌, ℕ, true, List, [], ◌∷◌, ◌++◌, ◌⊎◌, inl, inr, map, refl, sym, ap, ◌∙◌, append-nil, append_assoc, subst, Option, length, Facts, Upgrade, Scope, Limits}
-use Rattle.asgi_conn.proofs.ConnWords.{Next, Head, Bad, record_of, BeginsWithHandshake, HasClosed, Reaches, Reading, StandsFor, AllGiven, IsRefused, scope_of, RefusesWith, Finished, Refused}
-use Rattle.asgi_conn.proofs.ConnWords.{InputBroke, Idle, NoMemory, class_of, requests_of, ExchangeRecord, Between, has_ended, Wire, ReadsAhead, LineState, Transferred, piece_size}
-use Rattle.asgi_conn.proofs.ConnWords.{BetweenRequests, EndsSo}
+use Rattle.asgi_conn.proofs.ConnWords.{◌≡◌, ℕ, true, List, [], ◌∷◌, ◌++◌, ◌⊎◌, inl, inr, map, refl, sym, ap, ◌∙◌, append-nil, append_assoc, subst, Option, length, Facts, Upgrade, Scope, Limits, Next}
+use Rattle.asgi_conn.proofs.ConnWords.{Head, Bad, record_of, BeginsWithHandshake, HasClosed, Reaches, Reading, StandsFor, AllGiven, IsRefused, scope_of, RefusesWith, Finished, Refused, InputBroke}
+use Rattle.asgi_conn.proofs.ConnWords.{Idle, NoMemory, class_of, requests_of, ExchangeRecord, Between, has_ended, Wire, ReadsAhead, LineState, Transferred, piece_size, BetweenRequests, EndsSo}
 use Rattle.asgi_request.specs.{Results.Opens, Results.AreRequests, Results.GivesResults, declared.next.Next.TheVariants.Event, declared.next.Next.TheVariants.Whole, declared.place.Place.Place}
 use Rattle.asgi_request.specs.{declared.place.Place.TheVariants.Start, declared.place.Place.TheVariants.Upgraded, declared.place.Place.TheVariants.Stopped, Places.Reads, Places.shown}
 use Rattle.asgi_request.specs.{Reading.EndsWhole, Reading.WholeGiven, Scopes.facts_of}

@@ -5,7 +5,7 @@ pub use Rattle.std.{proofs.lemmas.List.Elements.All-nil, specs.Prelude.length}
 pub use Rattle.asgi_apps.specs.Promises.{Promise}
 pub use Rattle.asgi_conn.specs.{Standing.BetweenRequests, Standing.EndsSo, Standing.IsServing, Standing.IsTallied, Places.Place, Places.Ended, Places.place_at, Places.place_of}
 pub use Rattle.asgi_conn.specs.declared.tally.Tally.{Tally}
-pub use Rattle.asgi_conn.specs.private.Loop.{IsAtRest, IsLeft}
+pub use Rattle.asgi_conn.specs.private.Loop.{IsAtRest, next_step_of}
 pub use Rattle.asgi_conversation.proofs.RequestLemmas.{requests_join}
 pub use Rattle.asgi_conversation.specs.{ExchangeRecord.Beginning, ExchangeRecord.Ending, ExchangeRecord.ExchangeRecord, ExchangeRecord.Saying, Exchanges.fault_of, Exchanges.requests_of}
 pub use Rattle.asgi_conversation.specs.{Kinds.Converses, OutcomeClasses.IsLacking, OutcomeClasses.class_of, Persistence.CountsExchanges, Persistence.RefusesWith}

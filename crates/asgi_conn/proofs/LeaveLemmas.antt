@@ -1,14 +1,13 @@
 -- Where an exchange leaves its connection: between two requests, or at its end.
-use Rattle.asgi_conn.proofs.ConnWords.{◌≡◌, ℕ, List, [], ◌∷◌, ◌++◌, ◌⊎◌, inl, inr, map, sym, ap, ◌∙◌, append_assoc, subst, Some, refl, EndKind, Facts, Limits, Outgoing, Scope, Next}
-use Rattle.asgi_conn.proofs.ConnWords.{Reaches, IsHttpExchange, end_of, is_by_input, World, taken_of, NextRequest, ConnectionEnds, Outcome, Report, requests_of, ExchangeRecord}
-use Rattle.asgi_conn.proofs.ConnWords.{Beginning, Saying, Ending, CountsExchanges, Converses, exchanged, Between, InputEnd, requests_join, HttpHalf, Stage, Over, Scene}
-use Rattle.asgi_conn.proofs.ConnWords.{failures_at, ReadsAhead, failures_of, LineState, Transferred, BetweenRequests, EndsSo, Place, IsLeft, IsAtRest}
-use Rattle.asgi_halves.specs.Half.{Invariant, IsAt, KeepsOn, EndsByTask, IsCutShort, known, requests_in, state_in}
+use Rattle.asgi_conn.proofs.ConnWords.{None, Option, next_step_of, place_at, ◌≡◌, ℕ, List, [], ◌∷◌, ◌++◌, ◌⊎◌, inl, inr, map, sym, ap, ◌∙◌, append_assoc, subst, Some, refl, Limits, Outgoing, Next}
+use Rattle.asgi_conn.proofs.ConnWords.{IsHttpExchange, World, NextRequest, ConnectionEnds, Outcome, Report, requests_of, ExchangeRecord, Beginning, Saying, Ending, CountsExchanges, Converses}
+use Rattle.asgi_conn.proofs.ConnWords.{exchanged, Between, InputEnd, requests_join, HttpHalf, Over, Scene, ReadsAhead, failures_of, LineState, Transferred, BetweenRequests, EndsSo, IsAtRest}
+use Rattle.asgi_halves.specs.Half.{Invariant, KeepsOn, EndsByTask, IsCutShort, known, requests_in, state_in}
 use Rattle.asgi_request.specs.{BodyOf.body_events, ChunkedBody.BodyState}
 use Rattle.asgi_request.proofs.BodyOfLemmas.{body_is_read}
-use Rattle.asgi_response.specs.{declared.refusal.Input.Input, Exchange.added_by_end, Progress.progress_of, Response.response_text}
+use Rattle.asgi_response.specs.{declared.refusal.Input.Input}
 use Rattle.asgi_exchange.specs.{ExchangeTexts.input_of, Steps.is_by_cut}
-use Rattle.asgi_conversation.specs.{Exchanges.IsFollowed, Persistence.InHand, Persistence.StopsWithin, SoFar.TaskIsOver, TaskEnds.after_task, Sessions.no_traffic}
+use Rattle.asgi_conversation.specs.{Exchanges.IsFollowed, Persistence.InHand, SoFar.TaskIsOver, Sessions.no_traffic}
 use Rattle.asgi_conversation.proofs.LoopLemmas.{keeps_on}
 use Rattle.asgi_conversation.proofs.SoFarLemmas.{taken_whole, end_put, ends_by_task, ends_cut}
 use Rattle.asgi_halves.proofs.ReadAheadLemmas.{heads_after, within_of}
@@ -50,9 +49,10 @@ module _ {limits : Limits} {scene : Scene} {now : LineState} {half : HttpHalf} {
       let r = half.wire.requests in
       let on = keeps_on half.wire.limits half.wire.input read scene.opened scene.exchanges scene.before scene.scope scene.facts w k.kind k.events r.place r.held
       (within_of scene half.wire.limits half.wire.input read w.conn.arrived s.within) i over k.complete k.input_broke k.written (rw s.limits at k.given) in
+      let between = subst (λ (l : Limits). Between l half.wire.input read given exchanges_then on.0 out) lim on.1 in
       let heads = heads_after scene.opened k.events ∙ s.within.heads ∙ sym all_requests in
       let rests : BetweenRequests limits scene.start now half.wire read given exchanges_then on.0 out =
-      record { moved = rw e at s.moved; limits_are = (lim, s.limits ∙ lim); between = rw lim at on.1; stands = k.given; empty = k.empty; heads = heads; ahead = all_ahead } in (given, on.0, rests)
+      record { moved = rw e at s.moved; limits_are = (lim, s.limits ∙ lim); between = between; stands = k.given; empty = k.empty; heads = heads; ahead = all_ahead } in (given, on.0, rests)
 
   -- ---- the connection ends
 
@@ -88,6 +88,6 @@ module _ {limits : Limits} {scene : Scene} {now : LineState} {half : HttpHalf} {
       rw (← lim) (elim ends [ inl t ↦ by_task report c t | inr t ↦ by_cut report c t ])) all_ahead
 
   -- between two requests, or at the end
-  pub left_at : {X : Type 0} (ended : Option Outcome) → half.stage ≡ Over (next_step_of ended) → IsAtRest {X = X} (place_at None None ended half) limits scene.start now read exchanges_then out
-  left_at None e = left_resting e
-  left_at (Some outcome) e = left_ended outcome e
+  pub left_at : (X : Type 0) (ended : Option Outcome) → half.stage ≡ Over (next_step_of ended) → IsAtRest {X = X} (place_at None None ended half) limits scene.start now read exchanges_then out
+  left_at X None e = left_resting e
+  left_at X (Some outcome) e = left_ended outcome e

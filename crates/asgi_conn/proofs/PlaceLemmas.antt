@@ -3,7 +3,7 @@ use Rattle.std.proofs.Common.{◌≡◌, refl, Option, Some, None}
 use Rattle.asgi_io.specs.declared.turns.Turns.{Turns}
 use Rattle.asgi_conversation.specs.declared.report.Outcome.{Outcome}
 use Rattle.asgi_halves.specs.declared.{half.HttpHalf.HttpHalf, session_half.WebSocketHalf.WebSocketHalf}
-use Rattle.asgi_conn.specs.{declared.connection.Connection.Connection, Places.Place, Places.place_at, Places.place_of}
+use Rattle.asgi_conn.specs.{declared.connection.Connection.Connection, Places.place_at, Places.place_of}
 use Rattle.asgi_conn.specs.Places as place
 use Rattle.asgi_conn.specs.private.Loop.{IsBetween, IsOver}
 

@@ -1,16 +1,15 @@
 -- A connection at its beginning, and what one step of it does.
-use Rattle.asgi_conn.proofs.ConnWords.{◌≡◌, ◌≢◌, ℕ, List, [], ◌∷◌, ◌++◌, refl, sym, ap, ◌∙◌, append-nil, subst, Option, All-nil, Facts, Upgrade, Limits, Http, WebSocket, Setting, Scope}
-use Rattle.asgi_conn.proofs.ConnWords.{scope_in, EndKind, Incoming, Outgoing, Promise, Next, Head, Bad, Reading, StandsFor, AllGiven, IsRefused, record_of, BeginsWithHandshake, scope_of}
-use Rattle.asgi_conn.proofs.ConnWords.{RefusesWith, InputEnd, NoMemory, requests_of, ExchangeRecord, IsPromised, ArePromisedIn, Place, Tally, BetweenRequests, IsTallied, IsServing, Wire, Scene}
-use Rattle.asgi_conn.proofs.ConnWords.{ReadsAhead, SessionScene, OpensHandshake, LineState, Transferred, AppSide, IsAtRest, more_requests, AppEnds, ConnEnds}
-use Rattle.asgi_request.specs.{Results.Opens, declared.next.Next.TheVariants.Need, Reading.GoesOn, declared.head.HeadRecord.HeadRecord}
-use Rattle.asgi_types.specs.declared.facts.Framing.{Framing, TheVariants.Length, TheVariants.Chunked}
+use Rattle.asgi_conn.proofs.ConnWords.{◌≡◌, ◌≢◌, ℕ, List, [], ◌∷◌, ◌++◌, refl, sym, ap, ◌∙◌, append-nil, Option, All-nil, Facts, Upgrade, Limits, Http, WebSocket, Setting, Scope, scope_in, EndKind}
+use Rattle.asgi_conn.proofs.ConnWords.{Incoming, Outgoing, Promise, Next, Head, Bad, Reading, StandsFor, AllGiven, IsRefused, record_of, BeginsWithHandshake, scope_of, RefusesWith, NoMemory}
+use Rattle.asgi_conn.proofs.ConnWords.{requests_of, ExchangeRecord, IsPromised, ArePromisedIn, Place, Tally, BetweenRequests, IsTallied, IsServing, Wire, Scene, SessionScene, OpensHandshake}
+use Rattle.asgi_conn.proofs.ConnWords.{LineState, Transferred, AppSide, IsAtRest, more_requests, AppEnds, ConnEnds}
+use Rattle.asgi_request.specs.{Results.Opens, Reading.GoesOn, declared.head.HeadRecord.HeadRecord}
+use Rattle.asgi_types.specs.declared.facts.Framing.{Framing}
 use Rattle.asgi_io.proofs.BytesLemmas.{Appends-nothing, Consumes-nothing, Keeps-same}
 use Rattle.asgi_io.proofs.CountLemmas.{never_fell}
 use Rattle.asgi_io.proofs.WriteLemmas.{no_parts, tries_all}
 use Rattle.asgi_apps.specs.Scopes.{kind_of}
 use Rattle.asgi_conversation.specs.{declared.input.InputEnd.TheVariants.Open, SoFar.Within}
-use Rattle.asgi_conn.specs.Standing.{IsAt}
 use Rattle.asgi_halves.specs.Half.{WithinScene, Opens as OpensRequest}
 use Rattle.asgi_run.specs.Lines.{GoesOn as ReadsOn}
 use Rattle.asgi_halves.proofs.ReadAheadLemmas.{nothing_ahead, heads_more}
@@ -53,9 +52,11 @@ module _ {T C E X : Type 0} {answers : T → List Incoming → List Outgoing →
   pub begins : (start : LineState) (wire : Wire) (tally : Tally) → (wire.limits ≡ limits) × (wire.requests.limits ≡ limits) → StandsFor wire.requests [] [] × (wire.input ≡ Open)
       → wire.out.items ≡ [] → tally.exchanges ≡ 0 → tally.faults ≡ 0 → IsServing answers conns ends conn began promise limits setting start start tally (place.Between wire)
   begins start wire tally limits_are unread empty none no_faults =
+      let moved : Transferred start start wire.input [] [] 0 = rw unread.1 (moved_nothing start) in
       let x : BetweenRequests limits start start wire [] [] [] [] [] =
-      record { moved = rw unread.1 (moved_nothing start); limits_are = limits_are; between = loop.starts limits wire.input; stands = unread.0; empty = empty; heads = refl; ahead = nothing_ahead limits } in
-      record { read = []; written = []; exchanges = []; promised = All-nil (IsPromised promise setting.client.now setting.server.now setting.state.now); counted = (none, no_faults); stands = ([], [], x) }
+      record { moved = moved; limits_are = limits_are; between = loop.starts limits wire.input; stands = unread.0; empty = empty; heads = refl; ahead = nothing_ahead limits } in
+      let promised = All-nil (IsPromised promise setting.client.now setting.server.now setting.state.now) in
+      record { read = []; written = []; exchanges = []; promised = promised; counted = (none, no_faults); stands = ([], [], x) }
 
   module _ {start now : LineState} {tally : Tally} {wire : Wire} (s : IsServing answers conns ends conn began promise limits setting start now tally (place.Between wire)) where
     x : BetweenRequests limits start now wire s.read s.stands.0 s.exchanges s.stands.1 s.written

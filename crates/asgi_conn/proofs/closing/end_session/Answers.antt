@@ -1,5 +1,4 @@
-use Rattle.std.proofs.Common.{ap}
-use Rattle.std.specs.Prelude.{is_some}
+use Rattle.std.proofs.Common.{ap, is_some}
 use Rattle.asgi_halves.specs.declared.session_half.WebSocketHalf.{WebSocketHalf}
 use Rattle.asgi_halves.proofs.HttpHalfLemmas.{over_at}
 use Rattle.asgi_conn.proofs.TurnLemmas as lemma
@@ -10,16 +9,14 @@ finish-ended-requires g c = let x = c.requires.stands.4.stands.5 in record { beg
 
 pub outcome_of-requires : goal.outcome_of-requires
 outcome_of-requires g c =
-    let limits = c.requires.stands.1 in
-    lemma.session_over c.args.exchange c.finish-ended.result c.count.new.self c.count.ensures.exchanges c.count.ensures.faults
-    c.args.half.now c.finish-ended.new.half c.requires.stands.4 c.finish-ended.ensures.runs (over_at c.finish-ended.new.half.stage c.finish-ended.ensures.over)
+    lemma.session_over c.count.new.self c.count.ensures.exchanges c.count.ensures.faults c.finish-ended.new.half c.requires.stands.4
+    c.finish-ended.ensures.runs (over_at c.finish-ended.new.half.stage c.finish-ended.ensures.over)
 
 pub returns-clause-serves : goal.returns-clause-serves
 returns-clause-serves g c app limits start now s =
-    lemma.session_left c.args.exchange c.finish-ended.result c.count.new.self c.count.ensures.exchanges c.count.ensures.faults
-    c.args.half.now c.finish-ended.new.half s c.finish-ended.ensures.runs c.outcome_of.result c.outcome_of.ensures
+    lemma.session_left c.count.new.self c.count.ensures.exchanges c.count.ensures.faults c.finish-ended.new.half s c.finish-ended.ensures.runs c.outcome_of.result c.outcome_of.ensures
 
 pub returns-clause-counts : goal.returns-clause-counts
 returns-clause-counts g c limits before pauses counted over =
-    lemma.counted_closed limits before pauses c.args.half.now c.finish-ended.new.half c.args.exchange c.outcome_of.result c.args.tally.now c.count.new.self counted over
-    (λ last is. ap (λ (h : WebSocketHalf). h.stage) (c.finish-ended.ensures.stays (ap is_some is))) c.count.ensures.turns c.outcome_of.ensures
+    lemma.counted_closed c.finish-ended.new.half counted over (λ last is. ap (λ (h : WebSocketHalf). h.stage) (c.finish-ended.ensures.stays (ap is_some is)))
+    c.count.ensures.turns c.outcome_of.ensures

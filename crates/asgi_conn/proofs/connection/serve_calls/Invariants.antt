@@ -1,5 +1,4 @@
-use Rattle.std.proofs.Common.{◌≡◌, ◌+◌, ◌-◌}
-use Rattle.std.specs.Prelude.{length}
+use Rattle.std.proofs.Common.{◌≡◌, ◌+◌, ◌-◌, length}
 use Rattle.asgi_conn.specs.Standing.{Stands, exchanges_of}
 use Rattle.asgi_conn.proofs.connection.serve_calls.Given as goal
 

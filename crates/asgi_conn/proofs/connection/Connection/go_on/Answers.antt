@@ -1,7 +1,5 @@
-use Rattle.std.proofs.Common.{ℕ, ◌+◌, sym, ap}
-use Rattle.std.specs.Prelude.{length}
-use Rattle.asgi_conn.specs.Places.{place_of}
-use Rattle.asgi_conn.specs.Standing.{exchanges_of}
+use Rattle.std.proofs.Common.{ℕ, ◌+◌, length, sym, ap}
+use Rattle.asgi_conn.specs.{Places.place_of, Standing.exchanges_of}
 use Rattle.asgi_conn.proofs.CallLemmas.{went_on}
 use Rattle.asgi_conn.proofs.TurnLemmas as lemma
 use Rattle.asgi_conn.proofs.connection.Connection.go_on.Goals as goal
@@ -24,28 +22,19 @@ next-requires-clause-between g c = c.is_between.ensures.yes c.if-not-is_between.
 
 pub next-requires-clause-stands : goal.next-requires-clause-stands
 next-requires-clause-stands g c =
-    let r = c.requires in
-    (r.0, r.1, (c.finish.ensures.stands c.args.calls.now.app.now r.0 r.1 (g.L.Line.state c.args.line.now) r.2 r.3 r.4).serving)
+    let r = c.requires in (r.0, r.1, (c.finish.ensures.stands c.args.calls.now.app.now r.0 r.1 (g.L.Line.state c.args.line.now) r.2 r.3 r.4).serving)
 
 pub finish-requires-2 : goal.finish-requires-2
 finish-requires-2 g c =
     let r = c.requires in
-    let s = c.finish.ensures.stands c.args.calls.now.app.now r.0 r.1 (g.L.Line.state c.args.line.now) r.2 r.3 r.4 in (
-      c.args.calls.now.app.now,
-      r.0,
-      r.1,
-      g.L.Line.state c.next.new.line,
-      r.2,
-      r.3,
-      lemma.stands_next c.finish.new.self c.next.new.self
-          (c.next.ensures.serves r.0 r.1 s.serving) s.counted (c.is_between.ensures.yes c.if-not-is_between.false) c.next.ensures.tally c.next.ensures.next,
-    )
+    let s = c.finish.ensures.stands c.args.calls.now.app.now r.0 r.1 (g.L.Line.state c.args.line.now) r.2 r.3 r.4 in
+    (c.args.calls.now.app.now, r.0, r.1, g.L.Line.state c.next.new.line, r.2, r.3, lemma.stands_next c.finish.new.self (c.next.ensures.serves r.0 r.1 s.serving) s.counted
+    (c.is_between.ensures.yes c.if-not-is_between.false) c.next.ensures.tally c.next.ensures.next)
 
 pub returns-clause-stands : goal.returns-clause-stands
 returns-clause-stands g c limits start before pauses stood =
     let s = c.finish.ensures.stands c.args.calls.now.app.now limits start (g.L.Line.state c.args.line.now) before pauses stood in
-    c.finish-2.ensures.stands c.args.calls.now.app.now limits start (g.L.Line.state c.next.new.line) before pauses
-    (lemma.stands_next c.finish.new.self c.next.new.self
+    c.finish-2.ensures.stands c.args.calls.now.app.now limits start (g.L.Line.state c.next.new.line) before pauses (lemma.stands_next c.finish.new.self
     (c.next.ensures.serves limits start s.serving) s.counted (c.is_between.ensures.yes c.if-not-is_between.false) c.next.ensures.tally c.next.ensures.next)
 
 pub returns-clause-due : goal.returns-clause-due
