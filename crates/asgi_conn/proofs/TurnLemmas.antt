@@ -256,18 +256,18 @@ module _ {T C E X : Type 0} {answers : T → List Incoming → List Outgoing →
 -- ---- an exchange begins
 
 module _ {T C E X : Type 0} {answers : T → List Incoming → List Outgoing → Option EndKind → Type 0} {conns : ConnEnds C} {ends : AppEnds E}
-    {conn : X → C} {began : X → AppSide T E → Type 0} (promise : Promise) {setting : Setting} {whole : Scope} {now : LineState} {exchange : X} where
-  begun_in : {H : Type 0} (halves : AnyHalf H) (scene : halves.Scene) (scope : Scope) (half : H) (read : List ℕ) (view : ConnView halves.In halves.Out) (kind : Kind) (facts : Facts)
+    {conn : X → C} {began : X → AppSide T E → Type 0} (promise : Promise) {whole : Scope} {now : LineState} {exchange : X} where
+  begun_in : {H : Type 0} (setting : Setting) (halves : AnyHalf H) (scene : halves.Scene) (scope : Scope) (half : H) (read : List ℕ) (view : ConnView halves.In halves.Out) (kind : Kind) (facts : Facts)
       → HasBegun answers conns ends conn began (promise whole) kind facts exchange → whole ≡ scope_in setting scope
       → kind ≡ (halves.exchange scene).kind → facts ≡ (halves.exchange scene).facts → halves.stands scene now half read view → view.offered ≡ [] → is_some view.broken ≡ false → view.got ≡ []
       → InExchange halves answers conns ends conn began (promise (scope_in setting scope)) scene now half read exchange
-  begun_in halves scene scope half read view kind facts b is kind_is facts_is stands offered broken got =
+  begun_in setting halves scene scope half read view kind facts b is kind_is facts_is stands offered broken got =
       let seen : IsViewOf conns (conn exchange) view = (offered ∙ sym b.empty.0, broken ∙ sym b.empty.1, got ∙ sym b.empty.2) in
       let opened = subst (λ (w : Scope). IsOpened (promise w) answers ends b.fresh b.side) is b.opened in
       let request : OfEnd b.side (λ app. IsExchangeOf ends app (halves.exchange scene)) = rw (← kind_is, ← facts_is) b.request in
       record { view = view; stands = stands; seen = seen; side = b.side; begun = b.begun; fresh = b.fresh; opened = opened; unheard = b.unheard; request = request }
 
-  module _ {tally : Tally} where
+  module _ {setting : Setting} {tally : Tally} where
     pub http_begun : {facts : Facts} {limits : Limits} {half : HttpHalf} {read : List ℕ} (scene : Scene) (arrived : List ℕ) → HasBegun answers conns ends conn began (promise whole) Http facts exchange
         → whole ≡ scope_in setting scene.scope → facts ≡ scene.facts → half.wire.limits ≡ limits
         → ((written : List ℕ) × Invariant scene now half read (record empty_conn { arrived = arrived; written = written }))
@@ -275,7 +275,7 @@ module _ {T C E X : Type 0} {answers : T → List Incoming → List Outgoing →
         → IsServing answers conns ends conn began promise limits setting scene.start now tally (place.Http half exchange)
     http_begun {facts} {limits} {half} {read} scene arrived b is facts_are limits_are s promised tallied =
         let view : ConnView ℕ ℕ = record empty_conn { arrived = arrived; written = s.0 } in
-        let x = begun_in http_half (record { limits = limits; at = scene }) scene.scope half read view Http facts b is refl facts_are (record { limits = limits_are; stands = s.1 }) refl refl refl in
+        let x = begun_in setting http_half (record { limits = limits; at = scene }) scene.scope half read view Http facts b is refl facts_are (record { limits = limits_are; stands = s.1 }) refl refl refl in
         record { read = read; written = scene.before; exchanges = scene.exchanges; promised = promised; counted = tallied; stands = (scene.scope, scene.facts, scene.opened, x) }
 
     pub session_begun : {facts : Facts} {half : WebSocketHalf} {read : List ℕ} (scene : SessionScene) → HasBegun answers conns ends conn began (promise whole) WebSocket facts exchange
@@ -283,7 +283,7 @@ module _ {T C E X : Type 0} {answers : T → List Incoming → List Outgoing →
         → ArePromisedIn promise setting scene.exchanges → IsTallied tally scene.exchanges
         → IsServing answers conns ends conn began promise scene.limits setting scene.start now tally (place.Session half exchange)
     session_begun {facts} {half} {read} scene b is facts_are s ahead promised tallied =
-        let x = begun_in session_half scene scene.scope half read empty_conn WebSocket facts b is refl facts_are s refl refl refl in
+        let x = begun_in setting session_half scene scene.scope half read empty_conn WebSocket facts b is refl facts_are s refl refl refl in
         record { read = read; written = scene.before; exchanges = scene.exchanges; promised = promised; counted = tallied; stands = (scene.scope, scene.facts, scene.frames, scene.read, ahead, x) }
 
 -- ---- the report
