@@ -1,12 +1,12 @@
 -- Between two requests: the next result is a head or a refusal, more is read, and the connection ends.
-use Rattle.asgi_conn.proofs.ConnWords.{◌≡◌, ℕ, true, List, [], ◌∷◌, ◌++◌, ◌⊎◌, inl, inr, map, refl, sym, ap, ◌∙◌, append-nil, append_assoc, subst, Option, length, Facts, Upgrade, Scope, Limits, Next}
-use Rattle.asgi_conn.proofs.ConnWords.{Head, Bad, record_of, BeginsWithHandshake, HasClosed, Reaches, Reading, StandsFor, AllGiven, IsRefused, scope_of, RefusesWith, Finished, Refused, InputBroke}
-use Rattle.asgi_conn.proofs.ConnWords.{Idle, NoMemory, class_of, requests_of, ExchangeRecord, Between, has_ended, Wire, ReadsAhead, LineState, Transferred, piece_size, BetweenRequests, EndsSo}
+use Rattle.asgi_conn.proofs.ConnWords.{flat_map, take, ◌<◌, ◌≤◌, ◌≡◌, ℕ, true, List, [], ◌∷◌, ◌++◌, ◌⊎◌, inl, inr, map, refl, sym, ap, ◌∙◌, append-nil, append_assoc, subst, Option, length, Facts}
+use Rattle.asgi_conn.proofs.ConnWords.{Upgrade, Scope, Limits, Next, Head, Bad, record_of, BeginsWithHandshake, HasClosed, Reaches, Reading, StandsFor, AllGiven, IsRefused, scope_of, RefusesWith}
+use Rattle.asgi_conn.proofs.ConnWords.{Finished, Refused, InputBroke, Idle, NoMemory, class_of, requests_of, ExchangeRecord, Between, has_ended, Wire, ReadsAhead, LineState, Transferred, piece_size}
+use Rattle.asgi_conn.proofs.ConnWords.{BetweenRequests, EndsSo}
 use Rattle.asgi_request.specs.{Results.Opens, Results.AreRequests, Results.GivesResults, declared.next.Next.TheVariants.Event, declared.next.Next.TheVariants.Whole, declared.place.Place.Place}
 use Rattle.asgi_request.specs.{declared.place.Place.TheVariants.Start, declared.place.Place.TheVariants.Upgraded, declared.place.Place.TheVariants.Stopped, Places.Reads, Places.shown}
 use Rattle.asgi_request.specs.{Reading.EndsWhole, Reading.WholeGiven, Scopes.facts_of}
-use Rattle.std.proofs.Common.{flat_map}
-use Rattle.std.specs.{Prelude.◌<◌, Prelude.◌≤◌, Prelude.take, Io.KnownBytes.Appends}
+use Rattle.std.specs.Io.KnownBytes.{Appends}
 use Rattle.asgi_io.specs.{Counting.RoseBy, Writing.TriesWrites}
 use Rattle.asgi_request.proofs.BodyGrowthLemmas.{Further}
 use Rattle.asgi_request.proofs.DueLemmas.{ClosesAt, runs_compare, same_after}

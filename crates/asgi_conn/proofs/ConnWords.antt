@@ -1,7 +1,7 @@
 -- The names of other modules that the proofs of this crate share.
 pub use Rattle.std.proofs.Common.{Bool, IsSomeAnd, List, None, Option, Some, [], ap, append-nil, append_assoc, arith, false, inl, inr, map, refl, subst, sym, true, ℕ, ◌++◌, ◌+◌, ◌∙◌, ◌∷◌, ◌≡◌}
-pub use Rattle.std.proofs.Common.{◌≢◌, ◌⊎◌}
-pub use Rattle.std.{proofs.lemmas.List.Elements.All-nil, specs.Prelude.length}
+pub use Rattle.std.proofs.Common.{◌≢◌, ◌⊎◌, ◌<◌, ◌≤◌, ◌^◌, flat_map, if◌then◌else◌, is_some, length, take}
+pub use Rattle.std.proofs.lemmas.List.Elements.{All-nil}
 pub use Rattle.asgi_apps.specs.Promises.{Promise}
 pub use Rattle.asgi_conn.specs.{Standing.BetweenRequests, Standing.EndsSo, Standing.IsServing, Standing.IsTallied, Places.Place, Places.Ended, Places.place_at, Places.place_of}
 pub use Rattle.asgi_conn.specs.declared.tally.Tally.{Tally}
@@ -16,7 +16,7 @@ pub use Rattle.asgi_conversation.specs.declared.report.Outcome.TheVariants.{Fini
 pub use Rattle.asgi_conversation.specs.declared.report.Report.{Report}
 pub use Rattle.asgi_exchange.specs.{HttpExchange.IsHttpExchange, Items.end_of, SessionExchange.IsSessionExchange, Steps.is_by_input, Views.World, Views.said_of, Views.taken_of}
 pub use Rattle.asgi_halves.proofs.ReadAheadLemmas.{more_requests}
-pub use Rattle.asgi_halves.specs.{Half.Scene, Half.failures_at, ReadAhead.ReadsAhead, Traffic.failures_of, WebSocketHalf.IsCarried, WebSocketHalf.OpensHandshake, WebSocketHalf.SessionScene}
+pub use Rattle.asgi_halves.specs.{Half.Scene, ReadAhead.ReadsAhead, Traffic.failures_of, WebSocketHalf.IsCarried, WebSocketHalf.OpensHandshake, WebSocketHalf.SessionScene}
 pub use Rattle.asgi_halves.specs.{WebSocketHalf.session_of, WebSocketHalf.talk_in, declared.half.HttpHalf.HttpHalf, declared.session_half.WebSocketHalf.WebSocketHalf, declared.stage.Stage.Stage}
 pub use Rattle.asgi_halves.specs.declared.{stage.Stage.TheVariants.Over, wire.Wire.Wire}
 pub use Rattle.asgi_pipes.specs.declared.ends.{AppEnd.Ghosts as AppEnds, ConnEnd.Ghosts as ConnEnds}

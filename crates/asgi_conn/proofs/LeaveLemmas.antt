@@ -5,7 +5,7 @@ use Rattle.asgi_conn.proofs.ConnWords.{exchanged, Between, InputEnd, requests_jo
 use Rattle.asgi_halves.specs.Half.{Invariant, KeepsOn, EndsByTask, IsCutShort, known, requests_in, state_in}
 use Rattle.asgi_request.specs.{BodyOf.body_events, ChunkedBody.BodyState}
 use Rattle.asgi_request.proofs.BodyOfLemmas.{body_is_read}
-use Rattle.asgi_response.specs.{declared.refusal.Input.Input}
+use Rattle.asgi_response.specs.declared.refusal.Input.{Input}
 use Rattle.asgi_exchange.specs.{ExchangeTexts.input_of, Steps.is_by_cut}
 use Rattle.asgi_conversation.specs.{Exchanges.IsFollowed, Persistence.InHand, SoFar.TaskIsOver, Sessions.no_traffic}
 use Rattle.asgi_conversation.proofs.LoopLemmas.{keeps_on}

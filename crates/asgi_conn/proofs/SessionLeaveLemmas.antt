@@ -1,14 +1,13 @@
 -- How a session leaves its connection: at its end.
-use Rattle.asgi_conn.proofs.ConnWords.{◌≡◌, ◌≢◌, ℕ, Bool, true, false, List, [], ◌∷◌, ◌++◌, ◌⊎◌, inl, inr, refl, sym, ap, ◌∙◌, append_assoc, append-nil, subst, Option, Some, None, EndKind, Facts}
-use Rattle.asgi_conn.proofs.ConnWords.{Incoming, Outgoing, WebSocket, end_of, IsSessionExchange, is_by_input, World, said_of, taken_of, LineState, ConnectionEnds, Outcome, Finished, Refused}
-use Rattle.asgi_conn.proofs.ConnWords.{InputBroke, Idle, Report, ExchangeRecord, Beginning, Saying, Ending, CountsExchanges, handshake_of, class_of, requests_of, Over, WebSocketHalf, SessionScene}
-use Rattle.asgi_conn.proofs.ConnWords.{IsCarried, session_of, talk_in, ReadsAhead, requests_join, EndsSo, more_requests}
+use Rattle.asgi_conn.proofs.ConnWords.{if◌then◌else◌, ◌≡◌, ◌≢◌, ℕ, Bool, true, false, List, [], ◌∷◌, ◌++◌, ◌⊎◌, inl, inr, refl, sym, ap, ◌∙◌, append_assoc, append-nil, subst, Option, Some, None}
+use Rattle.asgi_conn.proofs.ConnWords.{EndKind, Facts, Incoming, Outgoing, WebSocket, end_of, IsSessionExchange, is_by_input, World, said_of, taken_of, LineState, ConnectionEnds, Outcome, Finished}
+use Rattle.asgi_conn.proofs.ConnWords.{Refused, InputBroke, Idle, Report, ExchangeRecord, Beginning, Saying, Ending, CountsExchanges, handshake_of, class_of, requests_of, Over, WebSocketHalf}
+use Rattle.asgi_conn.proofs.ConnWords.{SessionScene, IsCarried, session_of, talk_in, ReadsAhead, requests_join, EndsSo, more_requests}
 use Rattle.asgi_halves.specs.WebSocketHalf.{answer_of, is_over_at, Invariant, IsCarrying, IsCutShort, IsCutShortAs, IsSilent, EndsByTask, known, output_in, said_in}
 use Rattle.asgi_halves.specs.declared.session_half.Answered.{Answered}
-use Rattle.std.specs.Prelude.{if◌then◌else◌}
 use mathlib.Core.List.{IsPrefix}
 use Rattle.asgi_types.specs.declared.outgoing.Outgoing.TheVariants.{WsAccept, DenialStart}
-use Rattle.asgi_protocol.specs.{Shapes.is_closed}
+use Rattle.asgi_protocol.specs.Shapes.{is_closed}
 use Rattle.asgi_protocol.proofs.PassingLemmas.{fronts_are_lawful}
 use Rattle.asgi_exchange.specs.{Messages.has_close, Session.Output, Session.session_output, Session.session_ending, SessionExchange.HasSessionCause, ExchangeTexts.session_text, Views.ByCut}
 use Rattle.asgi_exchange.proofs.ListLemmas.{prefix_same, prefix_self, prefix_trans}

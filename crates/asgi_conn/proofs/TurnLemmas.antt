@@ -1,12 +1,11 @@
 -- What a turn of a connection does to where it stands.
-use Rattle.asgi_conn.proofs.ConnWords.{◌≡◌, ℕ, ◌+◌, ◌⊎◌, inl, inr, List, [], ◌∷◌, ◌++◌, arith, refl, sym, ap, ◌∙◌, subst, Option, Some, None, false, length, EndKind, Facts, Incoming, Limits, Outgoing}
-use Rattle.asgi_conn.proofs.ConnWords.{Http, WebSocket, Setting, Scope, scope_in, Promise, StandsFor, AllGiven, Next, IsHttpExchange, is_by_input, NextStep, NextRequest, ConnectionEnds, Outcome, Idle}
-use Rattle.asgi_conn.proofs.ConnWords.{NoMemory, Report, fault_of, requests_of, ArePromisedIn, has_ended, exchanged, handshake_of, AppSide, OfEnd, IsOpened, HasRun, Transferred, piece_size, AnyHalf}
-use Rattle.asgi_conn.proofs.ConnWords.{HttpHalf, WebSocketHalf, Stage, Over, Wire, Scene, ReadsAhead, SessionScene, session_of, LineState, Place, place_at, place_of, Tally, IsServing, IsTallied}
-use Rattle.asgi_conn.proofs.ConnWords.{AppEnds, ConnEnds}
+use Rattle.asgi_conn.proofs.ConnWords.{◌≤◌, ◌^◌, is_some, ◌≡◌, ℕ, ◌+◌, ◌⊎◌, inl, inr, List, [], ◌∷◌, ◌++◌, arith, refl, sym, ap, ◌∙◌, subst, Option, Some, None, false, length, EndKind, Facts}
+use Rattle.asgi_conn.proofs.ConnWords.{Incoming, Limits, Outgoing, Http, WebSocket, Setting, Scope, scope_in, Promise, StandsFor, AllGiven, Next, IsHttpExchange, is_by_input, NextStep, NextRequest}
+use Rattle.asgi_conn.proofs.ConnWords.{ConnectionEnds, Outcome, Idle, NoMemory, Report, fault_of, requests_of, ArePromisedIn, has_ended, exchanged, handshake_of, AppSide, OfEnd, IsOpened, HasRun}
+use Rattle.asgi_conn.proofs.ConnWords.{Transferred, piece_size, AnyHalf, HttpHalf, WebSocketHalf, Stage, Over, Wire, Scene, ReadsAhead, SessionScene, session_of, LineState, Place, place_at, place_of}
+use Rattle.asgi_conn.proofs.ConnWords.{Tally, IsServing, IsTallied, AppEnds, ConnEnds}
 use Rattle.asgi_halves.specs.{Half.Invariant, Kinds.following_of, WebSocketHalf.Invariant as SessionInvariant}
 use Rattle.asgi_halves.specs.contracts.impls.{HttpHalfHalf.TheImpl.ghosts as http_half, WebSocketHalfHalf.TheImpl.ghosts as session_half}
-use Rattle.std.proofs.Common.{◌≤◌, ◌^◌, is_some}
 use Rattle.asgi_types.specs.declared.scope.Kind.{Kind}
 use Rattle.asgi_io.specs.{declared.turns.Turn.Turn, declared.turns.Turns.Turns, Turns.CountsTurns}
 use Rattle.asgi_apps.proofs.PauseLemmas.{counts_more}
@@ -257,8 +256,8 @@ module _ {T C E X : Type 0} {answers : T → List Incoming → List Outgoing →
 
 module _ {T C E X : Type 0} {answers : T → List Incoming → List Outgoing → Option EndKind → Type 0} {conns : ConnEnds C} {ends : AppEnds E}
     {conn : X → C} {began : X → AppSide T E → Type 0} (promise : Promise) {whole : Scope} {now : LineState} {exchange : X} where
-  begun_in : {H : Type 0} (setting : Setting) (halves : AnyHalf H) (scene : halves.Scene) (scope : Scope) (half : H) (read : List ℕ) (view : ConnView halves.In halves.Out) (kind : Kind) (facts : Facts)
-      → HasBegun answers conns ends conn began (promise whole) kind facts exchange → whole ≡ scope_in setting scope
+  begun_in : {H : Type 0} (setting : Setting) (halves : AnyHalf H) (scene : halves.Scene) (scope : Scope) (half : H) (read : List ℕ) (view : ConnView halves.In halves.Out)
+      (kind : Kind) (facts : Facts) → HasBegun answers conns ends conn began (promise whole) kind facts exchange → whole ≡ scope_in setting scope
       → kind ≡ (halves.exchange scene).kind → facts ≡ (halves.exchange scene).facts → halves.stands scene now half read view → view.offered ≡ [] → is_some view.broken ≡ false → view.got ≡ []
       → InExchange halves answers conns ends conn began (promise (scope_in setting scope)) scene now half read exchange
   begun_in setting halves scene scope half read view kind facts b is kind_is facts_is stands offered broken got =
@@ -268,14 +267,15 @@ module _ {T C E X : Type 0} {answers : T → List Incoming → List Outgoing →
       record { view = view; stands = stands; seen = seen; side = b.side; begun = b.begun; fresh = b.fresh; opened = opened; unheard = b.unheard; request = request }
 
   module _ {setting : Setting} {tally : Tally} where
-    pub http_begun : {facts : Facts} {limits : Limits} {half : HttpHalf} {read : List ℕ} (scene : Scene) (arrived : List ℕ) → HasBegun answers conns ends conn began (promise whole) Http facts exchange
-        → whole ≡ scope_in setting scene.scope → facts ≡ scene.facts → half.wire.limits ≡ limits
+    pub http_begun : {facts : Facts} {limits : Limits} {half : HttpHalf} {read : List ℕ} (scene : Scene) (arrived : List ℕ)
+        → HasBegun answers conns ends conn began (promise whole) Http facts exchange → whole ≡ scope_in setting scene.scope → facts ≡ scene.facts → half.wire.limits ≡ limits
         → ((written : List ℕ) × Invariant scene now half read (record empty_conn { arrived = arrived; written = written }))
         → ArePromisedIn promise setting scene.exchanges → IsTallied tally scene.exchanges
         → IsServing answers conns ends conn began promise limits setting scene.start now tally (place.Http half exchange)
     http_begun {facts} {limits} {half} {read} scene arrived b is facts_are limits_are s promised tallied =
         let view : ConnView ℕ ℕ = record empty_conn { arrived = arrived; written = s.0 } in
-        let x = begun_in setting http_half (record { limits = limits; at = scene }) scene.scope half read view Http facts b is refl facts_are (record { limits = limits_are; stands = s.1 }) refl refl refl in
+        let x = begun_in setting http_half (record { limits = limits; at = scene }) scene.scope half read view Http facts b is refl facts_are
+        (record { limits = limits_are; stands = s.1 }) refl refl refl in
         record { read = read; written = scene.before; exchanges = scene.exchanges; promised = promised; counted = tallied; stands = (scene.scope, scene.facts, scene.opened, x) }
 
     pub session_begun : {facts : Facts} {half : WebSocketHalf} {read : List ℕ} (scene : SessionScene) → HasBegun answers conns ends conn began (promise whole) WebSocket facts exchange
