@@ -4,7 +4,7 @@ use Rattle.asgi_conn.proofs.ConnWords.{Upgrade, Scope, Limits, Next, Head, Bad, 
 use Rattle.asgi_conn.proofs.ConnWords.{Finished, Refused, InputBroke, Idle, NoMemory, class_of, requests_of, ExchangeRecord, Between, has_ended, Wire, ReadsAhead, LineState, Transferred, piece_size}
 use Rattle.asgi_conn.proofs.ConnWords.{BetweenRequests, EndsSo}
 use Rattle.asgi_request.specs.{Results.Opens, Results.AreRequests, Results.GivesResults, declared.next.Next.TheVariants.Event, declared.next.Next.TheVariants.Whole, declared.place.Place.Place}
-use Rattle.asgi_request.specs.{declared.place.Place.TheVariants.Start, declared.place.Place.TheVariants.Upgraded, declared.place.Place.TheVariants.Stopped, Places.Reads, Places.shown}
+use Rattle.asgi_request.specs.{declared.place.Place.TheVariants.Start, declared.place.Place.TheVariants.Stopped, Places.Reads, Places.shown}
 use Rattle.asgi_request.specs.{Reading.EndsWhole, Reading.WholeGiven, Scopes.facts_of}
 use Rattle.std.specs.Io.KnownBytes.{Appends}
 use Rattle.asgi_io.specs.{Counting.RoseBy, Writing.TriesWrites}
@@ -44,11 +44,9 @@ ends_whole limits bytes given after x = subst EndsWhole (sym x.2) (all_whole lim
 
 module _ (reader : Reading) (bytes : List ℕ) (given : List Next) (after : List ℕ) (x : HasClosed reader.limits bytes given after) (stands : StandsFor reader bytes given) where
   at_start : reader.place ≡ Start
-  at_start = by (between reader.limits bytes given reader.place reader.held stands (ends_whole reader.limits bytes given after x))
-    where
-      by : (reader.place ≡ Start) ⊎ (reader.place ≡ Upgraded) → reader.place ≡ Start
-      by (inl s) = s
-      by (inr s) = let P : Place → Type 0 = λ p. Reaches reader.limits bytes given p reader.held in absurd (closed_not_upgraded reader.limits bytes given after reader.held x (subst P s stands))
+  at_start =
+      let here = between reader.limits bytes given reader.place reader.held stands (ends_whole reader.limits bytes given after x) in
+      elim here [ inl start ↦ start | inr upgraded ↦ absurd (closed_not_upgraded reader.limits bytes given after reader.held x (rw upgraded at stands)) ]
 
   pub unrefused : (status : ℕ) → IsRefused reader status → ⊥
   unrefused status refused = let never : Start ≡ Stopped refused.0 = sym at_start ∙ refused.1 in cc
