@@ -1,8 +1,9 @@
 -- Where an exchange leaves its connection: between two requests, or at its end.
-use Rattle.asgi_conn.proofs.ConnWords.{None, Option, next_step_of, place_at, ◌≡◌, ℕ, List, [], ◌∷◌, ◌++◌, ◌⊎◌, inl, inr, map, sym, ap, ◌∙◌, append_assoc, subst, Some, refl, Limits, Outgoing, Next}
-use Rattle.asgi_conn.proofs.ConnWords.{IsHttpExchange, World, NextRequest, ConnectionEnds, Outcome, Report, requests_of, ExchangeRecord, Beginning, Saying, Ending, CountsExchanges, Converses}
-use Rattle.asgi_conn.proofs.ConnWords.{exchanged, Between, InputEnd, requests_join, HttpHalf, Over, Scene, ReadsAhead, failures_of, LineState, Transferred, BetweenRequests, EndsSo, IsAtRest}
-use Rattle.asgi_halves.specs.Half.{Invariant, KeepsOn, EndsByTask, IsCutShort, known, requests_in, state_in}
+use Rattle.asgi_conn.proofs.ConnWords.{Reaches, Stage, None, Option, next_step_of, place_at, ◌≡◌, ℕ, List, [], ◌∷◌, ◌++◌, ◌⊎◌, inl, inr, map, sym, ap, ◌∙◌, append_assoc, subst, Some, refl, Limits}
+use Rattle.asgi_conn.proofs.ConnWords.{Outgoing, Next, IsHttpExchange, World, NextRequest, ConnectionEnds, Outcome, Report, requests_of, ExchangeRecord, Beginning, Saying, Ending, CountsExchanges}
+use Rattle.asgi_conn.proofs.ConnWords.{Converses, exchanged, Between, InputEnd, requests_join, HttpHalf, Over, Scene, ReadsAhead, failures_of, LineState, Transferred, BetweenRequests, EndsSo}
+use Rattle.asgi_conn.proofs.ConnWords.{IsAtRest}
+use Rattle.asgi_halves.specs.Half.{Invariant, IsAt, KeepsOn, EndsByTask, IsCutShort, known, requests_in, state_in}
 use Rattle.asgi_request.specs.{BodyOf.body_events, ChunkedBody.BodyState}
 use Rattle.asgi_request.proofs.BodyOfLemmas.{body_is_read}
 use Rattle.asgi_response.specs.declared.refusal.Input.{Input}
@@ -43,12 +44,13 @@ module _ {limits : Limits} {scene : Scene} {now : LineState} {half : HttpHalf} {
 
   left_resting : half.stage ≡ Over NextRequest → (given : List Next) × (after : List ℕ) × BetweenRequests limits scene.start now half.wire read given exchanges_then after out
   left_resting e =
-      let k : KeepsOn scene half read w.conn = rw e at s.stage in
+      let k : KeepsOn scene half read w.conn = subst (λ (st : Stage). IsAt st scene half read w.conn) e s.stage in
       let given = scene.opened ++ (map next.Event k.events ++ next.Whole ∷ []) in
       let over : TaskIsOver w k.kind = record { taken = k.over.taken; no_limit = k.over.no_limit; uncut = k.over.uncut } in
       let r = half.wire.requests in
+      let reaches = subst (λ (l : Limits). Reaches l read given r.place r.held) s.limits k.given in
       let on = keeps_on half.wire.limits half.wire.input read scene.opened scene.exchanges scene.before scene.scope scene.facts w k.kind k.events r.place r.held
-      (within_of scene half.wire.limits half.wire.input read w.conn.arrived s.within) i over k.complete k.input_broke k.written (rw s.limits at k.given) in
+      (within_of scene half.wire.limits half.wire.input read w.conn.arrived s.within) i over k.complete k.input_broke k.written reaches in
       let between = subst (λ (l : Limits). Between l half.wire.input read given exchanges_then on.0 out) lim on.1 in
       let heads = heads_after scene.opened k.events ∙ s.within.heads ∙ sym all_requests in
       let rests : BetweenRequests limits scene.start now half.wire read given exchanges_then on.0 out =
@@ -84,7 +86,7 @@ module _ {limits : Limits} {scene : Scene} {now : LineState} {half : HttpHalf} {
   left_ended : (outcome : Outcome) → half.stage ≡ Over (ConnectionEnds outcome) → EndsSo limits scene.start now read exchanges_then out outcome
   left_ended outcome e =
       http_ends outcome (rw e at s.moved) (λ report o c.
-      let ends : EndsByTask scene half w.conn report.outcome ⊎ IsCutShort scene half w.conn report.outcome = rw o (rw e at s.stage) in
+      let ends : EndsByTask scene half w.conn report.outcome ⊎ IsCutShort scene half w.conn report.outcome = rw o (subst (λ (st : Stage). IsAt st scene half read w.conn) e s.stage) in
       rw (← lim) (elim ends [ inl t ↦ by_task report c t | inr t ↦ by_cut report c t ])) all_ahead
 
   -- between two requests, or at the end

@@ -18,6 +18,6 @@ module _ {X : Type 0} where
   pub between_of : (connection : Connection X) → IsBetween (place_of connection) → place_of connection ≡ place.Between connection.half.wire
   between_of connection between = between_at connection.exchange connection.session connection.ended connection.half between
 
-  pub none_over : (session : Option WebSocketHalf) (ended : Option Outcome) (half : HttpHalf) (turns : Turns) → IsOver {X = X} (place_at None session ended half) turns → ⊥
-  none_over session None half turns over = over
-  none_over session (Some outcome) half turns over = over
+pub none_over : (X : Type 0) (session : Option WebSocketHalf) (ended : Option Outcome) (half : HttpHalf) (turns : Turns) → IsOver {X = X} (place_at None session ended half) turns → ⊥
+none_over X session None half turns over = over
+none_over X session (Some outcome) half turns over = over

@@ -1,7 +1,7 @@
 -- A connection at its beginning, and what one step of it does.
-use Rattle.asgi_conn.proofs.ConnWords.{◌≡◌, ◌≢◌, ℕ, List, [], ◌∷◌, ◌++◌, refl, sym, ap, ◌∙◌, append-nil, Option, All-nil, Facts, Upgrade, Limits, Http, WebSocket, Setting, Scope, scope_in, EndKind}
-use Rattle.asgi_conn.proofs.ConnWords.{Incoming, Outgoing, Promise, Next, Head, Bad, Reading, StandsFor, AllGiven, IsRefused, record_of, BeginsWithHandshake, scope_of, RefusesWith, NoMemory}
-use Rattle.asgi_conn.proofs.ConnWords.{requests_of, ExchangeRecord, IsPromised, ArePromisedIn, Place, Tally, BetweenRequests, IsTallied, IsServing, Wire, Scene, SessionScene, OpensHandshake}
+use Rattle.asgi_conn.proofs.ConnWords.{subst, ReadsAhead, ◌≡◌, ◌≢◌, ℕ, List, [], ◌∷◌, ◌++◌, refl, sym, ap, ◌∙◌, append-nil, Option, All-nil, Facts, Upgrade, Limits, Http, WebSocket, Setting, Scope}
+use Rattle.asgi_conn.proofs.ConnWords.{scope_in, EndKind, Incoming, Outgoing, Promise, Next, Head, Bad, Reading, StandsFor, AllGiven, IsRefused, record_of, BeginsWithHandshake, scope_of, RefusesWith}
+use Rattle.asgi_conn.proofs.ConnWords.{NoMemory, requests_of, ExchangeRecord, IsPromised, ArePromisedIn, Place, Tally, BetweenRequests, IsTallied, IsServing, Wire, Scene, SessionScene, OpensHandshake}
 use Rattle.asgi_conn.proofs.ConnWords.{LineState, Transferred, AppSide, IsAtRest, more_requests, AppEnds, ConnEnds}
 use Rattle.asgi_request.specs.{Results.Opens, Reading.GoesOn, declared.head.HeadRecord.HeadRecord}
 use Rattle.asgi_types.specs.declared.facts.Framing.{Framing}
@@ -144,20 +144,19 @@ module _ {T C E X : Type 0} {answers : T → List Incoming → List Outgoing →
         abbrev scene : Scene
         scene = record { start = start; exchanges = s.exchanges; before = s.written; scope = scope; facts = facts; opened = s.stands.0 ++ Head scope facts ∷ [] }
 
-        within_scene : WithinScene scene wire.limits wire.input s.read in_one.0
+        within_scene : WithinScene scene limits wire.input s.read in_one.0
         within_scene =
             let heads = heads_more s.stands.0 scope facts ∙ ap (λ (l : List (Scope × Facts)). l ++ (scope, facts) ∷ []) x.heads in
-            let ahead = more_requests limits s.read (requests_of s.exchanges) ((scope, facts) ∷ []) x.ahead in
-            rw x.limits_are.0 (record { one = in_one.1.one; opens = in_one.1.opens; heads = heads; ahead = ahead })
+            let ahead = more_requests limits s.read (requests_of s.exchanges) ((scope, facts) ∷ []) x.ahead in record { one = in_one.1.one; opens = in_one.1.opens; heads = heads; ahead = ahead }
 
         pub answered : {whole : Scope} {next : LineState} {result : Place X} → whole ≡ scope_in setting scope
             → ((scene : Scene) (setting : Setting) (read arrived : List ℕ) (tally : Tally) → whole ≡ scope_in setting scene.scope
             → OpensRequest scene now (record wire { requests = later }) facts read arrived → ArePromisedIn promise setting scene.exchanges → IsTallied tally scene.exchanges
             → IsServing answers conns ends conn began promise wire.limits setting scene.start next tally result)
             → IsServing answers conns ends conn began promise limits setting start next tally result
-        answered whole_is serves =
-            let limits_are = limits_stay ∙ sym x.limits_are.0 in
-            let given = gave (Head scope facts) goes_on in
-            let opens : OpensRequest scene now (record wire { requests = later }) facts s.read in_one.0 =
-            record { facts_are = refl; moved = x.moved; limits = limits_are; within = within_scene; given = given; empty = x.empty; ahead = rw x.limits_are.0 x.ahead } in
-            rw x.limits_are.0 at (serves scene setting s.read in_one.0 tally whole_is opens s.promised s.counted)
+        answered {next = next} {result} whole_is serves =
+            let within = subst (λ (l : Limits). WithinScene scene l wire.input s.read in_one.0) (sym x.limits_are.0) within_scene in
+            let ahead = subst (λ (l : Limits). ReadsAhead l s.read (requests_of s.exchanges)) (sym x.limits_are.0) x.ahead in
+            let limits_are = limits_stay ∙ sym x.limits_are.0 in subst (λ (l : Limits). IsServing answers conns ends conn began promise l setting start next tally result) x.limits_are.0
+            (serves scene setting s.read in_one.0 tally whole_is
+            (record { facts_are = refl; moved = x.moved; limits = limits_are; within = within; given = gave (Head scope facts) goes_on; empty = x.empty; ahead = ahead }) s.promised s.counted)

@@ -10,7 +10,7 @@ returns-then-goes_on-clause-due g c next = lemma.due_next (place_of c.args.self.
 pub unreachable-requires : goal.unreachable-requires
 unreachable-requires g c =
     let none : c.args.self.now.exchange ≡ None = cc in
-    none_over c.args.self.now.session c.args.self.now.ended c.args.self.now.half c.args.self.now.tally.turns (rw none at (c.goes_on.ensures.no c.if-goes_on.false))
+    none_over g.row.X.Denot c.args.self.now.session c.args.self.now.ended c.args.self.now.half c.args.self.now.tally.turns (rw none at (c.goes_on.ensures.no c.if-goes_on.false))
 
 pub end_request-self-requires-clause-room : goal.end_request-self-requires-clause-room
 end_request-self-requires-clause-room g c =
