@@ -142,8 +142,8 @@ module _ {limits : Limits} {start now : LineState} {wire : Wire} {read : List �
     ends_unwritten n within appends rose tries =
         let less = rw text_is at within in
         let moved = moved_by_write start now next wire.input read written (take n text) 1 x.moved left reads session appends rose (tries_front now.writes next.writes n text within tries) in
-        (take n text, http_ends (WriteFailed n) moved
-        (λ report o c. rw text_is (loop.refusal_failed limits wire.input read given exchanges after written report x.between c status n due less o)) x.ahead)
+        let ended = http_ends (WriteFailed n) moved
+        (λ report o c. rw text_is (loop.refusal_failed limits wire.input read given exchanges after written report x.between c status n due less o)) x.ahead in (take n text, ended)
 
   -- ---- more is read
 

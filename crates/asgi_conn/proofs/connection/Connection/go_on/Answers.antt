@@ -28,8 +28,9 @@ pub finish-requires-2 : goal.finish-requires-2
 finish-requires-2 g c =
     let r = c.requires in
     let s = c.finish.ensures.stands c.args.calls.now.app.now r.0 r.1 (g.L.Line.state c.args.line.now) r.2 r.3 r.4 in
-    (c.args.calls.now.app.now, r.0, r.1, g.L.Line.state c.next.new.line, r.2, r.3, lemma.stands_next c.finish.new.self (c.next.ensures.serves r.0 r.1 s.serving) s.counted
-    (c.is_between.ensures.yes c.if-not-is_between.false) c.next.ensures.tally c.next.ensures.next)
+    let stands = lemma.stands_next {new = c.next.new.self} c.finish.new.self (c.next.ensures.serves r.0 r.1 s.serving) s.counted
+    (c.is_between.ensures.yes c.if-not-is_between.false) c.next.ensures.tally c.next.ensures.next in
+    (c.args.calls.now.app.now, r.0, r.1, g.L.Line.state c.next.new.line, r.2, r.3, stands)
 
 pub returns-clause-stands : goal.returns-clause-stands
 returns-clause-stands g c limits start before pauses stood =
