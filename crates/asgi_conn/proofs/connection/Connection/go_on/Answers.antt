@@ -1,4 +1,4 @@
-use Rattle.std.proofs.Common.{ℕ, ◌+◌, length, sym, ap}
+use Rattle.std.proofs.Common.{length}
 use Rattle.asgi_conn.specs.{Places.place_of, Standing.exchanges_of}
 use Rattle.asgi_conn.proofs.CallLemmas.{went_on}
 use Rattle.asgi_conn.proofs.TurnLemmas as lemma
@@ -13,12 +13,6 @@ returns-then-not-is_between-clause-stands g c limits start before pauses s = c.f
 pub returns-then-not-is_between-clause-due : goal.returns-then-not-is_between-clause-due
 returns-then-not-is_between-clause-due g c =
     lemma.due_rest (place_of c.finish.new.self) c.finish.new.self.tally.turns c.finish.ensures.rests (c.is_between.ensures.no c.if-not-is_between.true)
-
-pub returns-then-not-is_between-clause-called : goal.returns-then-not-is_between-clause-called
-returns-then-not-is_between-clause-called g c = ap (λ (n : ℕ). length c.args.calls.now.scopes.items + n) (sym c.finish.ensures.counts)
-
-pub next-requires-clause-between : goal.next-requires-clause-between
-next-requires-clause-between g c = c.is_between.ensures.yes c.if-not-is_between.false
 
 pub next-requires-clause-stands : goal.next-requires-clause-stands
 next-requires-clause-stands g c =

@@ -1,4 +1,3 @@
-use Rattle.std.proofs.Common.{inl}
 use Rattle.asgi_conn.proofs.TurnLemmas as lemma
 use Rattle.asgi_conn.proofs.connection.Connection.move_on.Goals as goal
 
@@ -17,9 +16,6 @@ returns-in-Err-clause-serves g c app limits start s =
     let due = rw (c.in-None.is, c.in-None-ended.is) at c.requires.due in
     let moved = c.read.ensures.moved in
     rw (c.end_with.ensures.at, c.end_with.ensures.tally) (lemma.read_short c.read.new.self (rw (c.in-None.is, c.in-None-ended.is) at s) due.0 due.1 moved.0 moved.1 moved.3)
-
-pub returns-in-Err-clause-none : goal.returns-in-Err-clause-none
-returns-in-Err-clause-none g c none = inl c.end_with.ensures.at
 
 pub turn-requires : goal.turn-requires
 turn-requires g c = let x = (rw (c.in-Some.is, c.in-None-session.is) at c.requires.stands.3).stands.3 in record { began = (x.side, x.begun) }

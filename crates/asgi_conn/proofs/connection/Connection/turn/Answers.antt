@@ -1,4 +1,4 @@
-use Rattle.std.proofs.Common.{ℕ, ◌+◌, length, sym, ap, ◌∙◌, subst, refl}
+use Rattle.std.proofs.Common.{ap, subst, refl}
 use Rattle.asgi_conn.specs.declared.connection.Step.TheVariants as step
 use Rattle.asgi_conn.specs.private.Loop.{IsGoing}
 use Rattle.asgi_conn.specs.Places.{place_of}
@@ -61,12 +61,3 @@ returns-in-Some-clause-takes g c going = rw (← c.go_on.ensures.turns, ← c.mo
 
 pub returns-in-Some-clause-again : goal.returns-in-Some-clause-again
 returns-in-Some-clause-again g c report is = absurd (subst IsGoing is.0 (c.has_ended.ensures.no c.if-has_ended.false))
-
-pub returns-in-Some-clause-took : goal.returns-in-Some-clause-took
-returns-in-Some-clause-took g c going = (c.in-Some.turn, g.L.Line.state c.go_on.new.line, place_of c.go_on.new.self, c.go_on.ensures.unread, c.in-Some.ensures.took, c.step_of.ensures.step)
-
-pub returns-in-None-clause-called : goal.returns-in-None-clause-called
-returns-in-None-clause-called g c = c.go_on.ensures.called ∙ ap (λ (n : ℕ). length c.args.calls.now.scopes.items + n) (sym c.move_on.ensures.counts)
-
-pub returns-in-Some-clause-called : goal.returns-in-Some-clause-called
-returns-in-Some-clause-called g c = c.go_on.ensures.called ∙ ap (λ (n : ℕ). length c.args.calls.now.scopes.items + n) (sym c.move_on.ensures.counts)
