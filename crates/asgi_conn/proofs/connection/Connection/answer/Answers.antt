@@ -1,4 +1,3 @@
-use Rattle.asgi_conversation.specs.declared.following.NextStep.TheVariants.{NextRequest}
 use Rattle.asgi_conn.proofs.AnswerLemmas.{serves_short}
 use Rattle.asgi_conn.proofs.TurnLemmas.{http_begun}
 use Rattle.asgi_conn.proofs.connection.Connection.answer.Goals as goal
@@ -12,9 +11,3 @@ returns-in-None-clause-serves g c scene setting read arrived tally scope opens p
     let begun = c.in-None.ensures.begun in
     rw (begun.1, c.leave_session.ensures) (http_begun (g.A.Application.answers c.args.calls.now.app.now) scene arrived begun.2 scope opens.facts_are c.begin-in-None.ensures.limits
     (c.begin-in-None.ensures.begins scene c.args.facts read arrived opens (c.new-text.ensures.response c.requires.plain)) promised tallied)
-
-pub returns-in-None-clause-next : goal.returns-in-None-clause-next
-returns-in-None-clause-next g c = rw (c.in-None.ensures.begun.1, c.leave_session.ensures) (c.begin-in-None.ensures.open NextRequest)
-
-pub returns-in-None-clause-called : goal.returns-in-None-clause-called
-returns-in-None-clause-called g c = rw (c.in-None.ensures.begun.1, c.leave_session.ensures) c.in-None.ensures.called

@@ -32,9 +32,6 @@ returns-clause-stands g c limits start before pauses stood =
     c.finish-2.ensures.stands c.args.calls.now.app.now limits start (g.L.Line.state c.next.new.line) before pauses (lemma.stands_next c.finish.new.self
     (c.next.ensures.serves limits start s.serving) s.counted (c.is_between.ensures.yes c.if-not-is_between.false) c.next.ensures.tally c.next.ensures.next)
 
-pub returns-clause-due : goal.returns-clause-due
-returns-clause-due g c = c.finish-2.ensures.due (rw c.next.ensures.tally c.next.ensures.next)
-
 pub returns-clause-called : goal.returns-clause-called
 returns-clause-called g c =
     went_on c.finish.new.self c.next.new.self (exchanges_of c.args.self.now) (exchanges_of c.finish-2.new.self)

@@ -30,12 +30,3 @@ turn-requires-in-Some-session g c = let x = (rw (c.in-Some.is, c.in-Some-session
 pub returns-in-Some-session-clause-serves : goal.returns-in-Some-session-clause-serves
 returns-in-Some-session-clause-serves g c app limits start s =
     lemma.session_moves c.turn-in-Some-session.ensures.began (rw (c.in-Some.is, c.in-Some-session.is) at s) c.turn-in-Some-session.ensures.leads
-
-pub returns-in-Ok-clause-took : goal.returns-in-Ok-clause-took
-returns-in-Ok-clause-took g c = rw (c.in-None.is, c.in-None-ended.is) c.in-Ok.ensures.turn
-
-pub returns-in-None-session-clause-took : goal.returns-in-None-session-clause-took
-returns-in-None-session-clause-took g c = rw (c.in-Some.is, c.in-None-session.is) c.turn.ensures.taken
-
-pub returns-in-Some-session-clause-took : goal.returns-in-Some-session-clause-took
-returns-in-Some-session-clause-took g c = rw (c.in-Some.is, c.in-Some-session.is) c.turn-in-Some-session.ensures.taken

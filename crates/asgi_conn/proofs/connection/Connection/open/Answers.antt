@@ -24,9 +24,3 @@ returns-in-None-clause-serves g c scene setting read tally scope opens promised 
     let begun = c.in-None.ensures.begun in
     rw begun.1 (session_begun (g.A.Application.answers c.args.calls.now.app.now) scene begun.2 scope opens.facts_are
     (c.begin-in-None.ensures.begins scene now read (rw c.replace-wire.ensures.value starts)) (rw opens.read_is at opens.ahead) promised tallied)
-
-pub returns-in-None-clause-called : goal.returns-in-None-clause-called
-returns-in-None-clause-called g c = rw c.in-None.ensures.begun.1 c.in-None.ensures.called
-
-pub returns-in-None-clause-next : goal.returns-in-None-clause-next
-returns-in-None-clause-next g c = rw c.in-None.ensures.begun.1 tt

@@ -1,6 +1,5 @@
-use Rattle.std.proofs.Common.{ap, subst, refl}
+use Rattle.std.proofs.Common.{ap, refl}
 use Rattle.asgi_conn.specs.declared.connection.Step.TheVariants as step
-use Rattle.asgi_conn.specs.private.Loop.{IsGoing}
 use Rattle.asgi_conn.specs.Places.{place_of}
 use Rattle.asgi_conn.proofs.TurnLemmas as lemma
 use Rattle.asgi_conn.proofs.connection.Connection.turn.Goals as goal
@@ -32,9 +31,6 @@ returns-in-None-clause-over g c limits start before s =
     lemma.told (lemma.stands_none c.go_on.new.self (c.move_on.ensures.serves c.args.calls.now.app.now limits start m.serving) m.counted
     c.move_on.ensures.tally (c.in-None.ensures.none refl)) c.report-in-None.ensures
 
-pub returns-in-None-clause-again : goal.returns-in-None-clause-again
-returns-in-None-clause-again g c report is = absurd (subst IsGoing is.0 (c.has_ended.ensures.no c.if-has_ended.false))
-
 pub take-requires-clause-turns : goal.take-requires-clause-turns
 take-requires-clause-turns g c = rw c.move_on.ensures.tally (lemma.may_turn (place_of c.go_on.new.self) c.go_on.new.self.tally.turns c.go_on.ensures.due c.in-Some.ensures.some.0).0
 
@@ -58,6 +54,3 @@ returns-in-Some-clause-ended g c = lemma.no_report c.step_of.result _ c.step_of.
 
 pub returns-in-Some-clause-takes : goal.returns-in-Some-clause-takes
 returns-in-Some-clause-takes g c going = rw (← c.go_on.ensures.turns, ← c.move_on.ensures.tally) (c.take.ensures.one, c.take.ensures.turn_limit)
-
-pub returns-in-Some-clause-again : goal.returns-in-Some-clause-again
-returns-in-Some-clause-again g c report is = absurd (subst IsGoing is.0 (c.has_ended.ensures.no c.if-has_ended.false))
