@@ -4,9 +4,6 @@ use Rattle.asgi_halves.proofs.HttpHalfLemmas.{over_at}
 use Rattle.asgi_conn.proofs.TurnLemmas as lemma
 use Rattle.asgi_conn.proofs.closing.end_request.Goals as goal
 
-pub finish-kind-requires : goal.finish-kind-requires
-finish-kind-requires g c = let x = c.requires.stands.4.stands.3 in record { began = (x.side, x.begun) }
-
 pub ended_by-requires : goal.ended_by-requires
 ended_by-requires g c = over_at c.finish-kind.new.half.stage c.finish-kind.ensures.over
 

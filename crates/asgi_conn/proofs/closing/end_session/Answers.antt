@@ -4,9 +4,6 @@ use Rattle.asgi_halves.proofs.HttpHalfLemmas.{over_at}
 use Rattle.asgi_conn.proofs.TurnLemmas as lemma
 use Rattle.asgi_conn.proofs.closing.end_session.Goals as goal
 
-pub finish-ended-requires : goal.finish-ended-requires
-finish-ended-requires g c = let x = c.requires.stands.4.stands.5 in record { began = (x.side, x.begun) }
-
 pub outcome_of-requires : goal.outcome_of-requires
 outcome_of-requires g c =
     lemma.session_over c.count.new.self c.count.ensures.exchanges c.count.ensures.faults c.finish-ended.new.half c.requires.stands.4

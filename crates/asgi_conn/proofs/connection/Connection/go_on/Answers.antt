@@ -4,9 +4,6 @@ use Rattle.asgi_conn.proofs.CallLemmas.{went_on}
 use Rattle.asgi_conn.proofs.TurnLemmas as lemma
 use Rattle.asgi_conn.proofs.connection.Connection.go_on.Goals as goal
 
-pub finish-requires : goal.finish-requires
-finish-requires g c = let r = c.requires in (c.args.calls.now.app.now, r.0, r.1, g.L.Line.state c.args.line.now, r.2, r.3, r.4)
-
 pub returns-then-not-is_between-clause-stands : goal.returns-then-not-is_between-clause-stands
 returns-then-not-is_between-clause-stands g c limits start before pauses s = c.finish.ensures.stands c.args.calls.now.app.now limits start (g.L.Line.state c.args.line.now) before pauses s
 

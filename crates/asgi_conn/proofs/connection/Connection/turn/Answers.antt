@@ -1,5 +1,4 @@
-use Rattle.std.proofs.Common.{ap, refl}
-use Rattle.asgi_conn.specs.declared.connection.Step.TheVariants as step
+use Rattle.std.proofs.Common.{refl}
 use Rattle.asgi_conn.specs.Places.{place_of}
 use Rattle.asgi_conn.proofs.TurnLemmas as lemma
 use Rattle.asgi_conn.proofs.connection.Connection.turn.Goals as goal
@@ -8,12 +7,6 @@ pub returns-then-has_ended-clause-over : goal.returns-then-has_ended-clause-over
 returns-then-has_ended-clause-over g c limits start before s =
     lemma.told s c.report.ensures
 
-pub returns-then-has_ended-clause-again : goal.returns-then-has_ended-clause-again
-returns-then-has_ended-clause-again g c report is = (ap step.Over (lemma.one_report c.args.self.now c.report.result report c.report.ensures is), refl, refl, refl)
-
-pub go_on-requires : goal.go_on-requires
-go_on-requires g c = let r = c.requires in (r.0, r.1, r.2, g.P.Pause.count c.args.pause.now, r.3)
-
 pub move_on-requires-clause-stands : goal.move_on-requires-clause-stands
 move_on-requires-clause-stands g c = let r = c.requires in (c.args.calls.now.app.now, r.0, r.1, (c.go_on.ensures.stands r.0 r.1 r.2 (g.P.Pause.count c.args.pause.now) r.3).serving)
 
@@ -21,9 +14,6 @@ pub returns-in-None-clause-stands : goal.returns-in-None-clause-stands
 returns-in-None-clause-stands g c limits start before s =
     let m = c.go_on.ensures.stands limits start before (g.P.Pause.count c.args.pause.now) s in
     lemma.stands_none c.go_on.new.self (c.move_on.ensures.serves c.args.calls.now.app.now limits start m.serving) m.counted c.move_on.ensures.tally (c.in-None.ensures.none refl)
-
-pub report-requires-in-None : goal.report-requires-in-None
-report-requires-in-None g c = lemma.ended_none (place_of c.go_on.new.self) (place_of c.move_on.new.self) (c.in-None.ensures.none refl)
 
 pub returns-in-None-clause-over : goal.returns-in-None-clause-over
 returns-in-None-clause-over g c limits start before s =
@@ -51,6 +41,3 @@ returns-in-Some-clause-over g c = lemma.no_report c.step_of.result _ c.step_of.e
 
 pub returns-in-Some-clause-ended : goal.returns-in-Some-clause-ended
 returns-in-Some-clause-ended g c = lemma.no_report c.step_of.result _ c.step_of.ensures.on
-
-pub returns-in-Some-clause-takes : goal.returns-in-Some-clause-takes
-returns-in-Some-clause-takes g c going = rw (← c.go_on.ensures.turns, ← c.move_on.ensures.tally) (c.take.ensures.one, c.take.ensures.turn_limit)
