@@ -108,10 +108,6 @@ module _ {X : Type 0} {limits : Limits} {before pauses : ℕ} where
   pub room_48 : {at : Place X} {tally : Tally} → IsCounted limits before pauses at tally → IsGoing at → tally.turns.turns ≤ tally.turns.turn_limit → tally.exchanges ≤ 2 ^ 48
   room_48 {at} {tally} c going turns = let room = room_of at tally going c.room in omega (arith, room, turns, c.within)
 
-pub ended_none : {X : Type 0} (at later : Place X) → (later ≡ place.Ended NoMemory) ⊎ (HasEnded at × (later ≡ at)) → HasEnded later
-ended_none at later (inl short) = rw short tt
-ended_none at later (inr stays) = rw stays.1 stays.0
-
 pub may_turn : {X : Type 0} (at : Place X) (turns : Turns) → IsDue at turns → IsGoing at → MayTurn turns
 may_turn (place.Between wire) turns due going = due.2
 may_turn (place.Ended outcome) turns due going = absurd going
@@ -145,13 +141,6 @@ module _ (X : Type 0) where
       → (following_of later.stage ≡ Some NextRequest → following_of half.stage ≡ Some NextRequest) → IsBetween {X = X} (place_at None None ended later) → half.stage ≡ Over NextRequest
   followed_of half later None is follows between = over_of half.stage NextRequest (follows (ap following_of is))
   followed_of half later (Some outcome) is follows between = absurd between
-
--- a connection has one report
-pub one_report : {X : Type 0} (connection : Connection X) (a b : Report) → IsReportOf connection a → IsReportOf connection b → a ≡ b
-one_report {X} connection a b x y =
-    let outcome : a.outcome ≡ b.outcome = let e : ◌≡◌ {A = Place X} (place.Ended a.outcome) (place.Ended b.outcome) = sym x.0 ∙ y.0 in cc in
-    let same : ◌≡◌ {A = Report} (record { exchanges = a.exchanges; faults = a.faults; turns = a.turns; idle = a.idle; outcome = a.outcome }) b =
-    rw (x.1 ∙ sym y.1, x.2 ∙ sym y.2, x.3 ∙ sym y.3, x.4 ∙ sym y.4, outcome) in same
 
 -- ---- an exchange
 

@@ -15,9 +15,3 @@ pub returns-clause-counts : goal.returns-clause-counts
 returns-clause-counts g c limits before pauses counted over =
     lemma.counted_left c.ended_by.result c.finish-kind.new.half counted over (λ last is. ap (λ (h : HttpHalf). h.stage) (c.finish-kind.ensures.stays (ap is_some is)))
     c.finish-kind.ensures.follows c.count.ensures.exchanges c.count.ensures.turns c.ended_by.ensures
-
-pub returns-clause-rests : goal.returns-clause-rests
-returns-clause-rests g c between = lemma.followed_of g.row.X.Denot c.args.half.now c.finish-kind.new.half c.ended_by.result c.ended_by.ensures c.finish-kind.ensures.follows between
-
-pub returns-clause-left : goal.returns-clause-left
-returns-clause-left g c = lemma.left_of g.row.X.Denot c.finish-kind.new.half c.ended_by.result

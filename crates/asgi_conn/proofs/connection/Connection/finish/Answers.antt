@@ -1,16 +1,10 @@
-use Rattle.std.proofs.Common.{◌≡◌, sym, ◌∙◌, None}
+use Rattle.std.proofs.Common.{sym, ◌∙◌, None}
 use Rattle.asgi_conn.specs.Places.{place_at, place_of}
-use Rattle.asgi_conn.proofs.PlaceLemmas.{none_over}
 use Rattle.asgi_conn.proofs.TurnLemmas as lemma
 use Rattle.asgi_conn.proofs.connection.Connection.finish.Goals as goal
 
 pub returns-then-goes_on-clause-due : goal.returns-then-goes_on-clause-due
 returns-then-goes_on-clause-due g c next = lemma.due_next (place_of c.args.self.now) c.args.self.now.tally.turns (c.goes_on.ensures.yes c.if-goes_on.true) next
-
-pub unreachable-requires : goal.unreachable-requires
-unreachable-requires g c =
-    let none : c.args.self.now.exchange ≡ None = cc in
-    none_over g.row.X.Denot c.args.self.now.session c.args.self.now.ended c.args.self.now.half c.args.self.now.tally.turns (rw none at (c.goes_on.ensures.no c.if-goes_on.false))
 
 pub end_request-self-requires-clause-room : goal.end_request-self-requires-clause-room
 end_request-self-requires-clause-room g c =

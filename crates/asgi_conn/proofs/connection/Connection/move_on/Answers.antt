@@ -1,9 +1,6 @@
 use Rattle.asgi_conn.proofs.TurnLemmas as lemma
 use Rattle.asgi_conn.proofs.connection.Connection.move_on.Goals as goal
 
-pub read-requires : goal.read-requires
-read-requires g c = (rw (c.in-None.is, c.in-None-ended.is) at c.requires.due).0
-
 pub returns-in-Ok-clause-serves : goal.returns-in-Ok-clause-serves
 returns-in-Ok-clause-serves g c app limits start s =
     let due = rw (c.in-None.is, c.in-None-ended.is) at c.requires.due in
@@ -17,15 +14,9 @@ returns-in-Err-clause-serves g c app limits start s =
     let moved = c.read.ensures.moved in
     rw (c.end_with.ensures.at, c.end_with.ensures.tally) (lemma.read_short c.read.new.self (rw (c.in-None.is, c.in-None-ended.is) at s) due.0 due.1 moved.0 moved.1 moved.3)
 
-pub turn-requires : goal.turn-requires
-turn-requires g c = let x = (rw (c.in-Some.is, c.in-None-session.is) at c.requires.stands.3).stands.3 in record { began = (x.side, x.begun) }
-
 pub returns-in-None-session-clause-serves : goal.returns-in-None-session-clause-serves
 returns-in-None-session-clause-serves g c app limits start s =
     rw c.in-None-session.is (lemma.http_moves c.turn.ensures.began (rw (c.in-Some.is, c.in-None-session.is) at s) c.turn.ensures.leads)
-
-pub turn-requires-in-Some-session : goal.turn-requires-in-Some-session
-turn-requires-in-Some-session g c = let x = (rw (c.in-Some.is, c.in-Some-session.is) at c.requires.stands.3).stands.5 in record { began = (x.side, x.begun) }
 
 pub returns-in-Some-session-clause-serves : goal.returns-in-Some-session-clause-serves
 returns-in-Some-session-clause-serves g c app limits start s =

@@ -1,5 +1,4 @@
 use Rattle.std.proofs.Common.{refl}
-use Rattle.asgi_conn.specs.Places.{place_of}
 use Rattle.asgi_conn.proofs.TurnLemmas as lemma
 use Rattle.asgi_conn.proofs.connection.Connection.turn.Goals as goal
 
@@ -21,12 +20,6 @@ returns-in-None-clause-over g c limits start before s =
     lemma.told (lemma.stands_none c.go_on.new.self (c.move_on.ensures.serves c.args.calls.now.app.now limits start m.serving) m.counted
     c.move_on.ensures.tally (c.in-None.ensures.none refl)) c.report-in-None.ensures
 
-pub take-requires-clause-turns : goal.take-requires-clause-turns
-take-requires-clause-turns g c = rw c.move_on.ensures.tally (lemma.may_turn (place_of c.go_on.new.self) c.go_on.new.self.tally.turns c.go_on.ensures.due c.in-Some.ensures.some.0).0
-
-pub take-requires-clause-idle : goal.take-requires-clause-idle
-take-requires-clause-idle g c = rw c.move_on.ensures.tally (lemma.may_turn (place_of c.go_on.new.self) c.go_on.new.self.tally.turns c.go_on.ensures.due c.in-Some.ensures.some.0).1
-
 pub returns-in-Some-clause-stands : goal.returns-in-Some-clause-stands
 returns-in-Some-clause-stands g c limits start before s =
     let m = c.go_on.ensures.stands limits start before (g.P.Pause.count c.args.pause.now) s in
@@ -35,9 +28,3 @@ returns-in-Some-clause-stands g c limits start before s =
       counted = lemma.counted_more c.in-Some.turn (rw (← c.move_on.ensures.tally) at m.counted) c.in-Some.ensures.some.0 c.in-Some.ensures.some.1
           refl c.take.ensures.one c.take.ensures.turn_limit c.take.ensures.idle_limit c.take.ensures.counts;
     }
-
-pub returns-in-Some-clause-over : goal.returns-in-Some-clause-over
-returns-in-Some-clause-over g c = lemma.no_report c.step_of.result _ c.step_of.ensures.on
-
-pub returns-in-Some-clause-ended : goal.returns-in-Some-clause-ended
-returns-in-Some-clause-ended g c = lemma.no_report c.step_of.result _ c.step_of.ensures.on
