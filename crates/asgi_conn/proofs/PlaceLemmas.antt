@@ -1,11 +1,10 @@
 -- With no exchange to be ended: what the fields of a connection say of where it stands.
 use Rattle.std.proofs.Common.{◌≡◌, refl, Option, Some, None}
-use Rattle.asgi_io.specs.declared.turns.Turns.{Turns}
 use Rattle.asgi_conversation.specs.declared.report.Outcome.{Outcome}
 use Rattle.asgi_halves.specs.declared.{half.HttpHalf.HttpHalf, session_half.WebSocketHalf.WebSocketHalf}
 use Rattle.asgi_conn.specs.{declared.connection.Connection.Connection, Places.place_at, Places.place_of}
 use Rattle.asgi_conn.specs.Places as place
-use Rattle.asgi_conn.specs.private.Loop.{IsBetween, IsOver}
+use Rattle.asgi_conn.specs.private.Loop.{IsBetween}
 
 module _ {X : Type 0} where
   between_at : (exchange : Option X) (session : Option WebSocketHalf) (ended : Option Outcome) (half : HttpHalf) → IsBetween (place_at exchange session ended half)
@@ -17,7 +16,3 @@ module _ {X : Type 0} where
 
   pub between_of : (connection : Connection X) → IsBetween (place_of connection) → place_of connection ≡ place.Between connection.half.wire
   between_of connection between = between_at connection.exchange connection.session connection.ended connection.half between
-
-pub none_over : (X : Type 0) (session : Option WebSocketHalf) (ended : Option Outcome) (half : HttpHalf) (turns : Turns) → IsOver {X = X} (place_at None session ended half) turns → ⊥
-none_over X session None half turns over = over
-none_over X session (Some outcome) half turns over = over

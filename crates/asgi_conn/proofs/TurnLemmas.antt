@@ -12,14 +12,13 @@ use Rattle.asgi_apps.proofs.PauseLemmas.{counts_more}
 use Rattle.asgi_request.specs.Reading.{IsWaiting}
 use Rattle.asgi_exchange.specs.{Calls.IsViewOf, Calls.IsExchangeOf, Views.ConnView, Views.empty_conn}
 use Rattle.asgi_run.specs.{AnyHalf.PreservesOn, Limits.IsAtLimit, Limits.IsSettled}
-use Rattle.asgi_conn.specs.{declared.connection.Connection.Connection, declared.connection.Step.Step, Serving.Serves, Standing.GoesOn, Standing.IfOver, Standing.InExchange, Standing.IsAt}
+use Rattle.asgi_conn.specs.{declared.connection.Connection.Connection, Serving.Serves, Standing.InExchange, Standing.IsAt}
 use Rattle.asgi_conn.specs.Standing.{IsCounted, HasRoom, Stands, IsReportOf, http_scene, session_scene}
-use Rattle.asgi_conn.specs.private.Loop.{HasBegun, MayTurn, IsNext, IsGoing, IsDue, IsDueOrBetween, IsBetween, HasEnded, next_step_of}
+use Rattle.asgi_conn.specs.private.Loop.{HasBegun, IsNext, IsGoing, IsDue, IsDueOrBetween, IsBetween, HasEnded, next_step_of}
 use Rattle.asgi_request.proofs.StandardLemmas.{all_results}
 use Rattle.asgi_conn.proofs.{BetweenLemmas.rests_on, BetweenLemmas.ends_fed_short, LeaveLemmas.left_at, ServeLemmas.rested, SessionLeaveLemmas.ends_after, SessionServeLemmas.ends_connection}
 use Rattle.asgi_exchange.proofs.HttpExchangeLemmas.{in_words}
 use Rattle.asgi_exchange.proofs.SessionExchangeLemmas.{in_words as session_words}
-use Rattle.asgi_conn.specs.declared.connection.Step.TheVariants as step
 use Rattle.asgi_conn.specs.Places as place
 use Rattle.asgi_conn.proofs.AnswerLemmas as answer
 
@@ -105,42 +104,11 @@ module _ {X : Type 0} {limits : Limits} {before pauses : ℕ} where
   counted_none c same (inl short) = counted_at c (ap (λ (t : Tally). t.turns) same) (λ idle. cc) (rw short tt)
   counted_none c same (inr stays) = rw (same, stays.1) c
 
-  pub room_48 : {at : Place X} {tally : Tally} → IsCounted limits before pauses at tally → IsGoing at → tally.turns.turns ≤ tally.turns.turn_limit → tally.exchanges ≤ 2 ^ 48
-  room_48 {at} {tally} c going turns = let room = room_of at tally going c.room in omega (arith, room, turns, c.within)
-
-pub may_turn : {X : Type 0} (at : Place X) (turns : Turns) → IsDue at turns → IsGoing at → MayTurn turns
-may_turn (place.Between wire) turns due going = due.2
-may_turn (place.Ended outcome) turns due going = absurd going
-may_turn _ turns due going = due
-
-pub no_report : (it : Step) (P : Report → Type 0) → GoesOn it → IfOver it P
-no_report (step.Over report) P going = absurd going
-no_report _ P going = tt
-
 -- ---- where the connection stands
-
-pub due_next : {X : Type 0} (at : Place X) (turns : Turns) → IsDueOrBetween at turns → IsNext at turns → IsDue at turns
-due_next (place.Between wire) turns due next = next
-due_next _ turns due next = due
 
 pub due_rest : {X : Type 0} (at : Place X) (turns : Turns) → IsDueOrBetween at turns → (IsBetween at → ⊥) → IsDue at turns
 due_rest (place.Between wire) turns due not = absurd (not tt)
 due_rest _ turns due not = due
-
-module _ (X : Type 0) where
-  pub rest_left : (ended : Option Outcome) (half : HttpHalf) (turns : Turns) → IsDueOrBetween {X = X} (place_at None None ended half) turns
-  rest_left None half turns = tt
-  rest_left (Some outcome) half turns = tt
-
-  pub left_of : (half : HttpHalf) (ended : Option Outcome) → IsBetween {X = X} (place_at None None ended half) ⊎ HasEnded {X = X} (place_at None None ended half)
-  left_of half None = inl tt
-  left_of half (Some outcome) = inr tt
-
-  -- as an exchange that is over ends its connection
-  pub followed_of : (half later : HttpHalf) (ended : Option Outcome) → later.stage ≡ Over (next_step_of ended)
-      → (following_of later.stage ≡ Some NextRequest → following_of half.stage ≡ Some NextRequest) → IsBetween {X = X} (place_at None None ended later) → half.stage ≡ Over NextRequest
-  followed_of half later None is follows between = over_of half.stage NextRequest (follows (ap following_of is))
-  followed_of half later (Some outcome) is follows between = absurd between
 
 -- ---- an exchange
 

@@ -1,15 +1,8 @@
-use Rattle.std.proofs.Common.{length}
-use Rattle.asgi_conn.specs.{Places.place_of, Standing.exchanges_of}
-use Rattle.asgi_conn.proofs.CallLemmas.{went_on}
 use Rattle.asgi_conn.proofs.TurnLemmas as lemma
 use Rattle.asgi_conn.proofs.connection.Connection.go_on.Goals as goal
 
 pub returns-then-not-is_between-clause-stands : goal.returns-then-not-is_between-clause-stands
 returns-then-not-is_between-clause-stands g c limits start before pauses s = c.finish.ensures.stands c.args.calls.now.app.now limits start (g.L.Line.state c.args.line.now) before pauses s
-
-pub returns-then-not-is_between-clause-due : goal.returns-then-not-is_between-clause-due
-returns-then-not-is_between-clause-due g c =
-    lemma.due_rest (place_of c.finish.new.self) c.finish.new.self.tally.turns c.finish.ensures.rests (c.is_between.ensures.no c.if-not-is_between.true)
 
 pub next-requires-clause-stands : goal.next-requires-clause-stands
 next-requires-clause-stands g c =
@@ -28,9 +21,3 @@ returns-clause-stands g c limits start before pauses stood =
     let s = c.finish.ensures.stands c.args.calls.now.app.now limits start (g.L.Line.state c.args.line.now) before pauses stood in
     c.finish-2.ensures.stands c.args.calls.now.app.now limits start (g.L.Line.state c.next.new.line) before pauses (lemma.stands_next c.finish.new.self
     (c.next.ensures.serves limits start s.serving) s.counted (c.is_between.ensures.yes c.if-not-is_between.false) c.next.ensures.tally c.next.ensures.next)
-
-pub returns-clause-called : goal.returns-clause-called
-returns-clause-called g c =
-    went_on c.finish.new.self c.next.new.self (exchanges_of c.args.self.now) (exchanges_of c.finish-2.new.self)
-    (length c.args.calls.now.scopes.items) (length c.next.new.calls.scopes.items) c.finish.ensures.counts (c.is_between.ensures.yes c.if-not-is_between.false)
-    c.next.ensures.called c.next.ensures.tally c.finish-2.ensures.counts
