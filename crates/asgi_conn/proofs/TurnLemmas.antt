@@ -14,7 +14,7 @@ use Rattle.asgi_exchange.specs.{Calls.IsViewOf, Calls.IsExchangeOf, Views.ConnVi
 use Rattle.asgi_run.specs.{AnyHalf.PreservesOn, Limits.IsAtLimit, Limits.IsSettled}
 use Rattle.asgi_conn.specs.{declared.connection.Connection.Connection, Serving.Serves, Standing.InExchange, Standing.IsAt}
 use Rattle.asgi_conn.specs.Standing.{IsCounted, HasRoom, Stands, IsReportOf, http_scene, session_scene}
-use Rattle.asgi_conn.specs.private.Loop.{HasBegun, IsNext, IsGoing, IsDue, IsDueOrBetween, IsBetween, HasEnded, next_step_of}
+use Rattle.asgi_conn.specs.private.Loop.{HasBegun, IsNext, IsGoing, IsBetween, HasEnded, next_step_of}
 use Rattle.asgi_request.proofs.StandardLemmas.{all_results}
 use Rattle.asgi_conn.proofs.{BetweenLemmas.rests_on, BetweenLemmas.ends_fed_short, LeaveLemmas.left_at, ServeLemmas.rested, SessionLeaveLemmas.ends_after, SessionServeLemmas.ends_connection}
 use Rattle.asgi_exchange.proofs.HttpExchangeLemmas.{in_words}
@@ -103,12 +103,6 @@ module _ {X : Type 0} {limits : Limits} {before pauses : ℕ} where
       → IsCounted limits before pauses later new
   counted_none c same (inl short) = counted_at c (ap (λ (t : Tally). t.turns) same) (λ idle. cc) (rw short tt)
   counted_none c same (inr stays) = rw (same, stays.1) c
-
--- ---- where the connection stands
-
-pub due_rest : {X : Type 0} (at : Place X) (turns : Turns) → IsDueOrBetween at turns → (IsBetween at → ⊥) → IsDue at turns
-due_rest (place.Between wire) turns due not = absurd (not tt)
-due_rest _ turns due not = due
 
 -- ---- an exchange
 
