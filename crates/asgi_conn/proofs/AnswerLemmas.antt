@@ -1,43 +1,34 @@
 -- One request is answered: its exchange comes after those before it, and the connection is between two requests or has ended.
-use Rattle.asgi_conn.proofs.ConnWords.{◌≡◌, ℕ, ◌+◌, List, [], ◌∷◌, ◌++◌, inl, inr, sym, ap, ◌∙◌, append-nil, subst, Option, Some, None, IsSomeAnd}
-use Rattle.asgi_conn.proofs.ConnWords.{arith, Bool, EndKind, Facts, Incoming, Outgoing, Peer, Scope, StateValue, scope_with, AppEnds, ConnEnds, Promise}
-use Rattle.asgi_conn.proofs.ConnWords.{said_of, end_of, Outcome, IsLacking, InputEnd, fault_of, ExchangeRecord, Converses, IsPromised, ArePromised, Ended, Tally, IsTallied, IsServing}
-use Rattle.asgi_conn.proofs.ConnWords.{AppSide, Transferred, OfEnd, IsOpened, HasRun, AnyHalf, Wire, Scene, failures_of, LineState, All-nil}
+use Rattle.asgi_conn.proofs.ConnWords.{refl, ◌≡◌, ℕ, ◌+◌, List, [], ◌∷◌, ◌++◌, inl, inr, sym, ap, ◌∙◌, append-nil, subst, Option, Some, None, IsSomeAnd, arith, Bool, EndKind, Facts, Incoming}
+use Rattle.asgi_conn.proofs.ConnWords.{Outgoing, Setting, Scope, scope_in, AppEnds, ConnEnds, Promise, said_of, end_of, Outcome, IsLacking, InputEnd, fault_of, ExchangeRecord, IsPromised}
+use Rattle.asgi_conn.proofs.ConnWords.{ArePromisedIn, Ended, Tally, IsTallied, IsServing, AppSide, Transferred, OfEnd, IsOpened, HasRun, AnyHalf, Wire, Scene, failures_of, LineState, All-nil}
 use Rattle.asgi_types.specs.declared.end_kind.EndKind.TheVariants.{Faulted}
-use Rattle.asgi_pipes.specs.Items.{items_of}
 use Rattle.asgi_apps.specs.{declared.running.Lent.Lent, Ends.own_end}
-use Rattle.asgi_exchange.specs.{Views.AppView, Items.events_of}
-use Rattle.asgi_conversation.specs.{Exchanges.fault_count, Persistence.EndsBetween, Promised.task_end}
+use Rattle.asgi_exchange.specs.{Views.AppView}
+use Rattle.asgi_conversation.specs.{Exchanges.fault_count, Persistence.EndsBetween}
 use Rattle.asgi_conversation.proofs.LoopLemmas.{lacks_in_front}
 use Rattle.asgi_conversation.proofs.SoFarLemmas.{ends_between}
 use Rattle.asgi_run.specs.{declared.runner.AppSide.TheVariants.Runs, declared.runner.AppSide.TheVariants.HasEnded, Running.IsOfRequest, Running.Answers}
-use Rattle.asgi_halves.specs.{Half.Opens, Traffic.failures_as}
+use Rattle.asgi_halves.specs.{Half.Opens}
 use Rattle.asgi_conn.proofs.LeaveLemmas.{http_ends}
 use Rattle.std.proofs.lemmas.List.{Elements.All-cons, Elements.All-append, length-append}
 use Rattle.asgi_exchange.proofs.EventLemmas.{events_are, end_is}
 
 -- ---- the end that the application's side has
 
-module _ {T E : Type 0} (promise : List Incoming → List Outgoing → Option EndKind → Type 0) (answers : T → List Incoming → List Outgoing → Option EndKind → Type 0) (ends : AppEnds E)
-    (was : E) (P : E → Type 0) (p : P was) where
-  of_lent : (lent : Option (Lent T E)) → IsSomeAnd lent (λ is. (is.app_end ≡ was) × ((h : List Incoming) (s : List Outgoing) (e : Option EndKind) → answers is.task h s e → promise h s e))
-      → IsSomeAnd lent (λ is. P is.app_end)
-  of_lent (Some is) opened = subst P (sym opened.0) p
-  of_lent None opened = absurd opened
-
-  -- what holds of the end that was made, and of each end of its pair, holds of this one
-  pub of_pair : (side : AppSide T E) → IsOpened promise answers ends was side → ((app : E) → ends.tag app ≡ ends.tag was → P app) → OfEnd side P
-  of_pair (Runs running) opened on = of_lent running.lent opened
-  of_pair (HasEnded app_end kind) opened on = on app_end opened.5
-
-  -- the same for each end of its request
-  pub of_request : (side : AppSide T E) → IsOpened promise answers ends was side → ((app : E) → IsOfRequest ends was app → P app) → OfEnd side P
-  of_request (Runs running) opened on = of_lent running.lent opened
-  of_request (HasEnded app_end kind) opened on = on app_end opened.4
-
--- ---- the promise
-
 module _ {T E : Type 0} (promise : List Incoming → List Outgoing → Option EndKind → Type 0) (answers : T → List Incoming → List Outgoing → Option EndKind → Type 0) (ends : AppEnds E) (was : E) where
+  of_lent : (P : E → Type 0) → P was → (lent : Option (Lent T E))
+      → IsSomeAnd lent (λ is. (is.app_end ≡ was) × ((h : List Incoming) (s : List Outgoing) (e : Option EndKind) → answers is.task h s e → promise h s e)) → IsSomeAnd lent (λ is. P is.app_end)
+  of_lent P p (Some is) opened = subst P (sym opened.0) p
+  of_lent P p None opened = absurd opened
+
+  -- what holds of each end of its pair and of its request holds of this one
+  pub of_opened : (P : E → Type 0) (side : AppSide T E) → IsOpened promise answers ends was side → ((app : E) → ends.tag app ≡ ends.tag was → IsOfRequest ends was app → P app) → OfEnd side P
+  of_opened P (Runs running) opened on = of_lent P (on was refl (refl, refl)) running.lent opened
+  of_opened P (HasEnded app_end kind) opened on = on app_end opened.5 opened.4
+
+  -- ---- the promise
+
   of_task : (lent : Option (Lent T E)) (heard : List Incoming) (said : List Outgoing) (ended : Option EndKind)
       → IsSomeAnd lent (λ is. (is.app_end ≡ was) × ((h : List Incoming) (s : List Outgoing) (e : Option EndKind) → answers is.task h s e → promise h s e))
       → IsSomeAnd lent (λ is. answers is.task heard said ended) → promise heard said ended
@@ -48,12 +39,9 @@ module _ {T E : Type 0} (promise : List Incoming → List Outgoing → Option En
       → ends.heard was ≡ [] → ends.said was ≡ [] → promise app.heard (said_of app) (own_end kind)
   is_kept (Runs running) app kind opened a e none silent = of_task running.lent app.heard (said_of app) (own_end kind) opened a
   is_kept (HasEnded app_end before) app kind opened a e none silent =
-      let heard : app.heard ≡ [] = ap (λ (v : AppView). v.heard) a ∙ opened.3.1 ∙ none in
-      let put : app.put ≡ items_of (ends.said app_end) (ends.ended app_end) = ap (λ (v : AppView). v.put) a in
-      let said : said_of app ≡ [] = ap events_of put ∙ events_are (ends.said app_end) (ends.ended app_end) ∙ opened.3.2 ∙ silent in
-      let last : Some kind ≡ Some Faulted = sym e ∙ ap end_of put ∙ end_is (ends.said app_end) (ends.ended app_end) ∙ opened.2 in
-      let so : own_end kind ≡ Some Faulted = ap own_end (let is : kind ≡ Faulted = cc in is) in subst (λ (h : List Incoming). promise h (said_of app) (own_end kind)) (sym heard)
-      (subst (λ (s : List Outgoing). promise [] s (own_end kind)) (sym said) (subst (λ (o : Option EndKind). promise [] [] o) (sym so) opened.1))
+      let said = events_are (ends.said app_end) (ends.ended app_end) ∙ opened.3.2 ∙ silent in
+      let last : Some kind ≡ Some Faulted = sym e ∙ ap (λ (v : AppView). end_of v.put) a ∙ end_is (ends.said app_end) (ends.ended app_end) ∙ opened.2 in
+      let is : kind ≡ Faulted = cc in rw (a, opened.3.1 ∙ none, said, is) opened.1
 
 -- ---- one more exchange
 
@@ -61,21 +49,20 @@ faults_more : (exchanges : List ExchangeRecord) (x : ExchangeRecord) → fault_c
 faults_more [] x = omega arith
 faults_more (e ∷ exchanges) x = let one = faults_more exchanges x in omega (arith, one)
 
-module _ {H T E : Type 0} (halves : AnyHalf H) (answers : T → List Incoming → List Outgoing → Option EndKind → Type 0) (ends : AppEnds E) (scene : halves.Scene) (now : LineState) (half : H)
-    (read : List ℕ) (side : AppSide T E) (kind : EndKind) (run : HasRun halves answers ends scene now half read side kind)
+module _ {H T E : Type 0} {halves : AnyHalf H} {answers : T → List Incoming → List Outgoing → Option EndKind → Type 0} {ends : AppEnds E} {scene : halves.Scene} {now : LineState} {half : H}
+    {read : List ℕ} {side : AppSide T E} {kind : EndKind} (run : HasRun halves answers ends scene now half read side kind)
     (before : List ExchangeRecord) (scope : Scope) (facts : Facts) (broke : Bool) where
   abbrev one : ExchangeRecord
   one = record { scope = scope; facts = facts; heard = run.world.app.heard; said = said_of run.world.app; ended = end_of run.world.app.put; input_broke = broke }
 
   -- it is as the application promises it
-  pub promised_more : (promise : Promise) (client server : Option Peer) (state : List (List ℕ × StateValue)) (was : E)
-      → IsOpened (promise (scope_with scope client server state)) answers ends was side → ends.heard was ≡ [] → ends.said was ≡ []
-      → ArePromised promise client server state before → ArePromised promise client server state (before ++ one ∷ [])
-  promised_more promise client server state was opened none silent promised =
-      let whole = scope_with scope client server state in
-      let kept = is_kept (promise whole) answers ends was side run.world.app kind opened run.answers_for run.ended none silent in
-      let last = subst (λ (o : Option EndKind). promise whole run.world.app.heard (said_of run.world.app) (task_end o)) (sym run.ended) kept in
-      let P = IsPromised promise client server state in All-append P before (one ∷ []) promised (All-cons P one [] last (All-nil P))
+  pub promised_more : (promise : Promise) (setting : Setting) (was : E)
+      → IsOpened (promise (scope_in setting scope)) answers ends was side → ends.heard was ≡ [] → ends.said was ≡ []
+      → ArePromisedIn promise setting before → ArePromisedIn promise setting (before ++ one ∷ [])
+  promised_more promise setting was opened none silent promised =
+      let P = IsPromised promise setting.client.now setting.server.now setting.state.now in
+      let kept = is_kept (promise (scope_in setting scope)) answers ends was side run.world.app kind opened run.answers_for run.ended none silent in
+      All-append P before (one ∷ []) promised (All-cons P one [] (rw run.ended kept) (All-nil P))
 
   -- and is counted
   pub tallied_more : (old new : Tally) → IsTallied old before → new.exchanges ≡ old.exchanges + 1 → new.faults ≡ old.faults + fault_of (Some kind) → IsTallied new (before ++ one ∷ [])
@@ -86,21 +73,20 @@ module _ {H T E : Type 0} (halves : AnyHalf H) (answers : T → List Incoming �
 -- ---- memory or a thread is refused, before the application is called
 
 -- no write failed
-pub lacks_moved : (start now : LineState) (end : InputEnd) (read written : List ℕ) (outcome : Outcome) → IsLacking outcome → Transferred start now end read written 0
+pub lacks_moved : {start now : LineState} {end : InputEnd} {read written : List ℕ} (outcome : Outcome) → IsLacking outcome → Transferred start now end read written 0
     → Transferred start now end read written (failures_of outcome)
-lacks_moved start now end read written outcome (inl is) moved = subst (λ (n : ℕ). Transferred start now end read written n) (sym (ap failures_as is)) moved
-lacks_moved start now end read written outcome (inr is) moved = subst (λ (n : ℕ). Transferred start now end read written n) (sym (ap failures_as is)) moved
+lacks_moved outcome (inl is) moved = rw is moved
+lacks_moved outcome (inr is) moved = rw is moved
 
-pub serves_short : {T C E X : Type 0} (answers : T → List Incoming → List Outgoing → Option EndKind → Type 0) (conns : ConnEnds C) (ends : AppEnds E)
-    (conn : X → C) (began : X → AppSide T E → Type 0) (promise : Promise) (client server : Option Peer) (state : List (List ℕ × StateValue)) (scene : Scene) (now : LineState)
-    (wire : Wire) (facts : Facts) (read arrived : List ℕ) (tally : Tally) → Opens scene now wire facts read arrived
-    → ArePromised promise client server state scene.exchanges → IsTallied tally scene.exchanges → (outcome : Outcome) → IsLacking outcome
-    → IsServing answers conns ends conn began promise wire.limits client server state scene.start now tally (Ended outcome)
-serves_short answers conns ends conn began promise client server state scene now wire facts read arrived tally opens promised tallied outcome lacks =
+pub serves_short : {T C E X : Type 0} {answers : T → List Incoming → List Outgoing → Option EndKind → Type 0} {conns : ConnEnds C} {ends : AppEnds E}
+    {conn : X → C} {began : X → AppSide T E → Type 0} {promise : Promise} {setting : Setting} {scene : Scene} {now : LineState}
+    {wire : Wire} {facts : Facts} {read arrived : List ℕ} {tally : Tally} → Opens scene now wire facts read arrived
+    → ArePromisedIn promise setting scene.exchanges → IsTallied tally scene.exchanges → (outcome : Outcome) → IsLacking outcome
+    → IsServing answers conns ends conn began promise wire.limits setting scene.start now tally (Ended outcome)
+serves_short {scene} {now} {wire} {facts} {read} {arrived} opens promised tallied outcome lacks =
     let one = opens.within.one in
-    let moved = lacks_moved scene.start now wire.input read scene.before outcome lacks opens.moved in
-    let ended = http_ends wire.limits scene.start now wire.input read scene.exchanges scene.before outcome moved (λ report o c.
-    let ends : EndsBetween report.outcome wire.limits wire.input one.after [] = lacks_in_front wire.limits wire.input one.after report.outcome (subst (λ (q : Outcome). IsLacking q) (sym o) lacks)
-    (one.head.head, scene.facts.framing, arrived, one.head.reads) in subst (λ (l : List ℕ). Converses wire.limits wire.input read scene.exchanges l report) (append-nil scene.before)
-    (ends_between wire.limits wire.input read scene.exchanges one.after scene.before [] report one.so_far ends c)) opens.ahead in
+    let ended = http_ends outcome (lacks_moved outcome lacks opens.moved) (λ report o c.
+    let ends : EndsBetween report.outcome wire.limits wire.input one.after [] = lacks_in_front wire.limits wire.input one.after report.outcome (rw o lacks)
+    (one.head.head, scene.facts.framing, arrived, one.head.reads) in
+    rw append-nil at (ends_between wire.limits wire.input read scene.exchanges one.after scene.before [] report one.so_far ends c)) opens.ahead in
     record { read = read; written = scene.before; exchanges = scene.exchanges; promised = promised; counted = tallied; stands = ended }

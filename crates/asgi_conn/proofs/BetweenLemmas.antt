@@ -1,13 +1,12 @@
 -- Between two requests: the next result is a head or a refusal, more is read, and the connection ends.
-use Rattle.asgi_conn.proofs.ConnWords.{◌≡◌, ℕ, true, List, [], ◌∷◌, ◌++◌, ◌⊎◌, inl, inr, map, refl, sym, ap, ◌∙◌, append-nil, append_assoc, subst, Option, length, Facts, Upgrade, Scope, Limits}
-use Rattle.asgi_conn.proofs.ConnWords.{Next, Head, Bad, record_of, BeginsWithHandshake, HasClosed, Reaches, Reading, StandsFor, AllGiven, IsRefused, scope_of, RefusesWith, Finished, Refused}
-use Rattle.asgi_conn.proofs.ConnWords.{InputBroke, Idle, NoMemory, class_of, requests_of, ExchangeRecord, Between, has_ended, Wire, ReadsAhead, LineState, Transferred, piece_size}
+use Rattle.asgi_conn.proofs.ConnWords.{flat_map, take, ◌<◌, ◌≤◌, ◌≡◌, ℕ, true, List, [], ◌∷◌, ◌++◌, ◌⊎◌, inl, inr, map, refl, sym, ap, ◌∙◌, append-nil, append_assoc, subst, Option, length, Facts}
+use Rattle.asgi_conn.proofs.ConnWords.{Upgrade, Scope, Limits, Next, Head, Bad, record_of, BeginsWithHandshake, HasClosed, Reaches, Reading, StandsFor, AllGiven, IsRefused, scope_of, RefusesWith}
+use Rattle.asgi_conn.proofs.ConnWords.{Finished, Refused, InputBroke, Idle, NoMemory, class_of, requests_of, ExchangeRecord, Between, has_ended, Wire, ReadsAhead, LineState, Transferred, piece_size}
 use Rattle.asgi_conn.proofs.ConnWords.{BetweenRequests, EndsSo}
 use Rattle.asgi_request.specs.{Results.Opens, Results.AreRequests, Results.GivesResults, declared.next.Next.TheVariants.Event, declared.next.Next.TheVariants.Whole, declared.place.Place.Place}
-use Rattle.asgi_request.specs.{declared.place.Place.TheVariants.Start, declared.place.Place.TheVariants.Upgraded, declared.place.Place.TheVariants.Stopped, Places.Reads, Places.shown}
+use Rattle.asgi_request.specs.{declared.place.Place.TheVariants.Start, declared.place.Place.TheVariants.Stopped, Places.Reads, Places.shown}
 use Rattle.asgi_request.specs.{Reading.EndsWhole, Reading.WholeGiven, Scopes.facts_of}
-use Rattle.std.proofs.Common.{flat_map}
-use Rattle.std.specs.{Prelude.◌<◌, Prelude.◌≤◌, Prelude.take, Io.KnownBytes.Appends}
+use Rattle.std.specs.Io.KnownBytes.{Appends}
 use Rattle.asgi_io.specs.{Counting.RoseBy, Writing.TriesWrites}
 use Rattle.asgi_request.proofs.BodyGrowthLemmas.{Further}
 use Rattle.asgi_request.proofs.DueLemmas.{ClosesAt, runs_compare, same_after}
@@ -45,11 +44,9 @@ ends_whole limits bytes given after x = subst EndsWhole (sym x.2) (all_whole lim
 
 module _ (reader : Reading) (bytes : List ℕ) (given : List Next) (after : List ℕ) (x : HasClosed reader.limits bytes given after) (stands : StandsFor reader bytes given) where
   at_start : reader.place ≡ Start
-  at_start = by (between reader.limits bytes given reader.place reader.held stands (ends_whole reader.limits bytes given after x))
-    where
-      by : (reader.place ≡ Start) ⊎ (reader.place ≡ Upgraded) → reader.place ≡ Start
-      by (inl s) = s
-      by (inr s) = let P : Place → Type 0 = λ p. Reaches reader.limits bytes given p reader.held in absurd (closed_not_upgraded reader.limits bytes given after reader.held x (subst P s stands))
+  at_start =
+      let here = between reader.limits bytes given reader.place reader.held stands (ends_whole reader.limits bytes given after x) in
+      elim here [ inl start ↦ start | inr upgraded ↦ absurd (closed_not_upgraded reader.limits bytes given after reader.held x (rw upgraded at stands)) ]
 
   pub unrefused : (status : ℕ) → IsRefused reader status → ⊥
   unrefused status refused = let never : Start ≡ Stopped refused.0 = sym at_start ∙ refused.1 in cc
@@ -81,29 +78,20 @@ opens_next limits bytes closed after place held item closes r = by (runs_compare
 
 -- ---- with what the connection keeps
 
-module _ (limits : Limits) (start now : LineState) (wire : Wire) (read : List ℕ) (given : List Next) (exchanges : List ExchangeRecord) (after written : List ℕ)
+module _ {limits : Limits} {start now : LineState} {wire : Wire} {read : List ℕ} {given : List Next} {exchanges : List ExchangeRecord} {after written : List ℕ}
     (x : BetweenRequests limits start now wire read given exchanges after written) where
   closes : HasClosed wire.requests.limits read given after
-  closes = subst (λ (l : Limits). HasClosed l read given after) (sym x.limits_are.1) x.between.closed
+  closes = rw x.limits_are.1 x.between.closed
 
   pub no_refusal : (status : ℕ) → IsRefused wire.requests status → ⊥
   no_refusal = unrefused wire.requests read given after closes x.stands
 
-  reaches : (reader : Reading) (given : List Next) → reader.limits ≡ limits → StandsFor reader read given → Reaches limits read given reader.place reader.held
-  reaches reader list same stands = subst (λ (l : Limits). Reaches l read list reader.place reader.held) same stands
-
   pub no_event : (reader : Reading) (item : Next) → reader.limits ≡ limits → StandsFor reader read (given ++ item ∷ []) → Opens item
-  no_event reader item same stands = opens_next limits read given after reader.place reader.held item x.between.closed (reaches reader (given ++ item ∷ []) same stands)
+  no_event reader item same stands = opens_next limits read given after reader.place reader.held item x.between.closed (rw same at stands)
 
   -- the bytes that the reader holds come after the requests
-  pub rests_whole : EndsWhole given
-  rests_whole = ends_whole wire.requests.limits read given after closes
-
-  pub rests_blank : (held : List ℕ) → WholeGiven wire.requests read given held → IsBlank held → IsBlank after
-  rests_blank held whole blank = subst IsBlank (sym (after_is wire.requests read given after closes x.stands held whole)) blank
-
-  pub rests_unblank : (held : List ℕ) → WholeGiven wire.requests read given held → (IsBlank held → ⊥) → IsBlank after → ⊥
-  rests_unblank held whole unblank blank = unblank (subst IsBlank (after_is wire.requests read given after closes x.stands held whole) blank)
+  pub held_is : (held : List ℕ) → (EndsWhole given → WholeGiven wire.requests read given held) → after ≡ held
+  held_is held whole = after_is wire.requests read given after closes x.stands held (whole (ends_whole wire.requests.limits read given after closes))
 
   -- another reader that gave no more
   pub asked : (later : Reading) → later.limits ≡ limits → StandsFor later read given → BetweenRequests limits start now (record wire { requests = later }) read given exchanges after written
@@ -112,52 +100,49 @@ module _ (limits : Limits) (start now : LineState) (wire : Wire) (read : List �
   -- ---- the end without a text
 
   results : AllGiven wire.requests read given → (rest : List ℕ) × GivesResults limits read given rest
-  results all = subst (λ (l : Limits). (rest : List ℕ) × GivesResults l read given rest) x.limits_are.1 all
+  results all = rw x.limits_are.1 at all
 
   pub ends_idle : AllGiven wire.requests read given → EndsSo limits start now read exchanges written Idle
-  ends_idle all = let g = results all in http_ends limits start now wire.input read exchanges written Idle x.moved
-      (λ report o c. loop.idle limits wire.input read given exchanges after written report x.between c g.0 g.1 o) x.ahead
+  ends_idle all =
+      let g = results all in http_ends Idle x.moved (λ report o c. loop.idle limits wire.input read given exchanges after written report x.between c g.0 g.1 o) x.ahead
 
   pub ends_short : EndsSo limits start now read exchanges written NoMemory
-  ends_short = http_ends limits start now wire.input read exchanges written NoMemory x.moved
-      (λ report o c. loop.lacking limits wire.input read given exchanges after written report x.between c (ap class_of o)) x.ahead
+  ends_short = http_ends NoMemory x.moved (λ report o c. loop.lacking limits wire.input read given exchanges after written report x.between c (ap class_of o)) x.ahead
 
   pub ends_finished : AllGiven wire.requests read given → wire.input ≡ AtEnd → IsBlank after → EndsSo limits start now read exchanges written Finished
-  ends_finished all at blank = let g = results all in http_ends limits start now wire.input read exchanges written Finished x.moved
-      (λ report o c. loop.finished limits wire.input read given exchanges after written report x.between c g.0 g.1 at blank o) x.ahead
+  ends_finished all at blank =
+      let g = results all in http_ends Finished x.moved (λ report o c. loop.finished limits wire.input read given exchanges after written report x.between c g.0 g.1 at blank o) x.ahead
 
   pub ends_broken : AllGiven wire.requests read given → (wire.input ≡ Failed) ⊎ ((wire.input ≡ AtEnd) × (IsBlank after → ⊥)) → EndsSo limits start now read exchanges written InputBroke
-  ends_broken all why = let g = results all in http_ends limits start now wire.input read exchanges written InputBroke x.moved
-      (λ report o c. loop.input_broke limits wire.input read given exchanges after written report x.between c g.0 g.1 why o) x.ahead
+  ends_broken all why =
+      let g = results all in http_ends InputBroke x.moved (λ report o c. loop.input_broke limits wire.input read given exchanges after written report x.between c g.0 g.1 why o) x.ahead
 
   -- ---- the end with the text of a refusal
 
   pub refused_due : (reader : Reading) (status : ℕ) → reader.limits ≡ limits → StandsFor reader read (given ++ Bad status ∷ []) → RefusesWith limits after status
-  refused_due reader status same stands =
-      loop.refusal_due limits wire.input read given exchanges after written reader.place reader.held status x.between (reaches reader (given ++ Bad status ∷ []) same stands)
+  refused_due reader status same stands = loop.refusal_due limits wire.input read given exchanges after written reader.place reader.held status x.between (rw same at stands)
 
   -- an opening handshake that the reader gave
   pub handshake_here : (reader : Reading) (scope : Scope) (facts : Facts) → reader.limits ≡ limits → StandsFor reader read (given ++ Head scope facts ∷ []) → facts.framing ≡ Upgrade
       → (frames : List ℕ) × BeginsWithHandshake limits after scope facts frames
   handshake_here reader scope facts same stands e =
-      let n = next_head limits read given after reader.place reader.held scope facts [] (closed_at limits read given after x.between.closed)
-      (reaches reader (given ++ Head scope facts ∷ []) same stands) in (n.0, begins_with_handshake limits after scope facts n.0 n.1 e)
+      let n = next_head limits read given after reader.place reader.held scope facts [] (closed_at limits read given after x.between.closed) (rw same at stands) in
+      (n.0, begins_with_handshake limits after scope facts n.0 n.1 e)
 
-  module _ (next : LineState) (status : ℕ) (due : RefusesWith limits after status)
-      (text : List ℕ) (text_is : text ≡ refusal_text status) (left : next.left ≡ now.left) (reads : next.reads ≡ now.reads) (session : next.session ≡ now.session) where
+  module _ (next : LineState) (status : ℕ) (due : RefusesWith limits after status) {text : List ℕ} (text_is : text ≡ refusal_text status)
+      (left : next.left ≡ now.left) (reads : next.reads ≡ now.reads) (session : next.session ≡ now.session) where
     pub ends_refused : Appends now.written next.written text → RoseBy 0 now.failed next.failed → TriesWrites now.writes next.writes (length text) wrote.Done
         → (more : List ℕ) × EndsSo limits start next read exchanges (written ++ more) (Refused status)
     ends_refused appends rose tries =
         let moved = moved_by_write start now next wire.input read written text 0 x.moved left reads session appends rose tries in
-        let ended = http_ends limits start next wire.input read exchanges (written ++ text) (Refused status) moved
-        (λ report o c. rw text_is (loop.refused limits wire.input read given exchanges after written report x.between c status due o)) x.ahead in (text, ended)
+        (text, http_ends (Refused status) moved (λ report o c. rw text_is (loop.refused limits wire.input read given exchanges after written report x.between c status due o)) x.ahead)
 
     pub ends_unwritten : (n : ℕ) → n < length text → Appends now.written next.written (take n text) → RoseBy 1 now.failed next.failed → TriesWrites now.writes next.writes n (wrote.Failed n)
         → (more : List ℕ) × EndsSo limits start next read exchanges (written ++ more) (WriteFailed n)
     ends_unwritten n within appends rose tries =
-        let less = subst (λ (l : List ℕ). n < length l) text_is within in
+        let less = rw text_is at within in
         let moved = moved_by_write start now next wire.input read written (take n text) 1 x.moved left reads session appends rose (tries_front now.writes next.writes n text within tries) in
-        let ended = http_ends limits start next wire.input read exchanges (written ++ take n text) (WriteFailed n) moved
+        let ended = http_ends (WriteFailed n) moved
         (λ report o c. rw text_is (loop.refusal_failed limits wire.input read given exchanges after written report x.between c status n due less o)) x.ahead in (take n text, ended)
 
   -- ---- more is read
@@ -185,5 +170,4 @@ module _ (limits : Limits) (start now : LineState) (wire : Wire) (read : List �
 
     pub ends_fed_short : EndsSo limits start next (read ++ more) exchanges written NoMemory
     ends_fed_short =
-        http_ends limits start next later.input (read ++ more) exchanges written NoMemory moved
-        (λ report o c. loop.lacking limits later.input (read ++ more) given exchanges (after ++ more) written report further c (ap class_of o)) ahead_of
+        http_ends NoMemory moved (λ report o c. loop.lacking limits later.input (read ++ more) given exchanges (after ++ more) written report further c (ap class_of o)) ahead_of

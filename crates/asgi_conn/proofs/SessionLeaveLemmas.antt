@@ -1,18 +1,16 @@
 -- How a session leaves its connection: at its end.
-use Rattle.asgi_conn.proofs.ConnWords.{◌≡◌, ◌≢◌, ℕ, Bool, true, false, List, [], ◌∷◌, ◌++◌, ◌⊎◌, inl, inr, refl, sym, ap, ◌∙◌, append_assoc, append-nil, subst, Option, Some, None}
-use Rattle.asgi_conn.proofs.ConnWords.{Scope, EndKind, Facts, Incoming, Outgoing, WebSocket, end_of, IsSessionExchange}
-use Rattle.asgi_conn.proofs.ConnWords.{is_by_input, World, said_of, taken_of, LineState, ConnectionEnds, Outcome, Finished, Refused, InputBroke, Idle, Report}
-use Rattle.asgi_conn.proofs.ConnWords.{ExchangeRecord, Beginning, Saying, Ending, CountsExchanges, handshake_of, class_of, requests_of, Stage, Over, WebSocketHalf}
-use Rattle.asgi_conn.proofs.ConnWords.{SessionScene, IsCarried, session_of, talk_in, ReadsAhead, failures_at, requests_join, EndsSo, more_requests}
-use Rattle.asgi_halves.specs.WebSocketHalf.{answer_of, is_over_at, spare_at, IsAt, Invariant, IsCarrying, IsCutShort, IsCutShortAs, IsSilent, EndsByTask, known, output_in, said_in, CarriesOn}
+use Rattle.asgi_conn.proofs.ConnWords.{if◌then◌else◌, ◌≡◌, ◌≢◌, ℕ, Bool, true, false, List, [], ◌∷◌, ◌++◌, ◌⊎◌, inl, inr, refl, sym, ap, ◌∙◌, append_assoc, append-nil, subst, Option, Some, None}
+use Rattle.asgi_conn.proofs.ConnWords.{EndKind, Facts, Incoming, Outgoing, WebSocket, end_of, IsSessionExchange, is_by_input, World, said_of, taken_of, LineState, ConnectionEnds, Outcome, Finished}
+use Rattle.asgi_conn.proofs.ConnWords.{Refused, InputBroke, Idle, Report, ExchangeRecord, Beginning, Saying, Ending, CountsExchanges, handshake_of, class_of, requests_of, Over, WebSocketHalf}
+use Rattle.asgi_conn.proofs.ConnWords.{SessionScene, IsCarried, session_of, talk_in, ReadsAhead, requests_join, EndsSo, more_requests}
+use Rattle.asgi_halves.specs.WebSocketHalf.{answer_of, is_over_at, Invariant, IsCarrying, IsCutShort, IsCutShortAs, IsSilent, EndsByTask, known, output_in, said_in}
 use Rattle.asgi_halves.specs.declared.session_half.Answered.{Answered}
-use Rattle.std.specs.Prelude.{if◌then◌else◌}
 use mathlib.Core.List.{IsPrefix}
 use Rattle.asgi_types.specs.declared.outgoing.Outgoing.TheVariants.{WsAccept, DenialStart}
-use Rattle.asgi_protocol.specs.{Lawful.IsLawful, Shapes.is_closed}
+use Rattle.asgi_protocol.specs.Shapes.{is_closed}
 use Rattle.asgi_protocol.proofs.PassingLemmas.{fronts_are_lawful}
 use Rattle.asgi_exchange.specs.{Messages.has_close, Session.Output, Session.session_output, Session.session_ending, SessionExchange.HasSessionCause, ExchangeTexts.session_text, Views.ByCut}
-use Rattle.asgi_exchange.proofs.ListLemmas.{prefix_same, prefix_trans}
+use Rattle.asgi_exchange.proofs.ListLemmas.{prefix_same, prefix_self, prefix_trans}
 use Rattle.asgi_exchange.proofs.SessionLemmas.{lawful_is_accepted, web_socket_is_steady}
 use Rattle.asgi_ws.specs.declared.messages.Msg.{Msg}
 use Rattle.asgi_conversation.specs.Sessions.{SessionTraffic, IsLeft, ByApplication, ByClient, ByCut as left_by_cut, IsSessionDone, IsNextOutput, Opens, Accepted, Silent, ServesHandshake}
@@ -26,59 +24,50 @@ use Rattle.asgi_halves.specs.declared.session_half.Answered.TheVariants as answe
 -- ---- how an exchange may end that was not cut short
 
 -- the ways in which a task that ended by itself ends the connection
-record Way (said : List Outgoing) (input_broke : Bool) (received : List Msg) : Type 0 where
-  pub uncut : class_of (session_outcome said input_broke received) ≡ Uncut
-  pub broken : session_outcome said input_broke received ≡ InputBroke → (input_broke ≡ true) × (has_close received ≡ false)
+record Way (input_broke : Bool) (received : List Msg) (outcome : Outcome) : Type 0 where
+  pub uncut : class_of outcome ≡ Uncut
+  pub broken : outcome ≡ InputBroke → (input_broke ≡ true) × (has_close received ≡ false)
 
-finished : (said : List Outgoing) (input_broke : Bool) (received : List Msg) → session_outcome said input_broke received ≡ Finished → Way said input_broke received
-finished said input_broke received is = record { uncut = ap class_of is; broken = λ e. cc (is, e) }
+finished : (input_broke : Bool) (received : List Msg) → Way input_broke received Finished
+finished input_broke received = record { uncut = refl; broken = λ e. cc }
 
-refused : (said : List Outgoing) (input_broke : Bool) (received : List Msg) → session_outcome said input_broke received ≡ Refused 500 → Way said input_broke received
-refused said input_broke received is = record { uncut = ap class_of is; broken = λ e. cc (is, e) }
+refused : (input_broke : Bool) (received : List Msg) → Way input_broke received (Refused 500)
+refused input_broke received = record { uncut = refl; broken = λ e. cc }
 
-open_way : (said : List Outgoing) (input_broke : Bool) (received : List Msg) → session_outcome said input_broke received ≡ open_outcome input_broke received → Way said input_broke received
-open_way said false received is = finished said false received is
-open_way said true received is = by (has_close received) refl
+open_way : (input_broke : Bool) (received : List Msg) → Way input_broke received (open_outcome input_broke received)
+open_way false received = finished false received
+open_way true received = by (has_close received) refl
   where
-    by : (b : Bool) → has_close received ≡ b → Way said true received
-    by true h = finished said true received (is ∙ ap (λ (c : Bool). if c then Finished else InputBroke) h)
-    by false h = record { uncut = ap class_of (is ∙ ap (λ (c : Bool). if c then Finished else InputBroke) h); broken = λ e. (refl, h) }
+    by : (b : Bool) → has_close received ≡ b → Way true received (if b then Finished else InputBroke)
+    by true h = finished true received
+    by false h = record { uncut = refl; broken = λ e. (refl, h) }
 
-session_way : (said : List Outgoing) (input_broke : Bool) (received : List Msg) → Way said input_broke received
-session_way [] input_broke received = refused [] input_broke received refl
-session_way (DenialStart status headers ∷ []) input_broke received = refused (DenialStart status headers ∷ []) input_broke received refl
-session_way (WsAccept subprotocol headers ∷ events) input_broke received = by (is_closed WebSocket (WsAccept subprotocol headers ∷ events)) refl
+session_way : (said : List Outgoing) (input_broke : Bool) (received : List Msg) → Way input_broke received (session_outcome said input_broke received)
+session_way [] input_broke received = refused input_broke received
+session_way (DenialStart status headers ∷ []) input_broke received = refused input_broke received
+session_way (WsAccept subprotocol headers ∷ events) input_broke received = by (is_closed WebSocket (WsAccept subprotocol headers ∷ events))
   where
-    by : (b : Bool) → is_closed WebSocket (WsAccept subprotocol headers ∷ events) ≡ b → Way (WsAccept subprotocol headers ∷ events) input_broke received
-    by true h = finished (WsAccept subprotocol headers ∷ events) input_broke received (ap (λ (c : Bool). if c then Finished else open_outcome input_broke received) h)
-    by false h = open_way (WsAccept subprotocol headers ∷ events) input_broke received (ap (λ (c : Bool). if c then Finished else open_outcome input_broke received) h)
-session_way said input_broke received = finished said input_broke received refl
-
-why_broken : (ended : EndKind) (said : List Outgoing) (input_broke : Bool) (received : List Msg) → after_session ended said input_broke received ≡ InputBroke
-    → (input_broke ≡ true) × (has_close received ≡ false)
-why_broken kind.Idle said input_broke received e = cc e
-why_broken kind.Returned said input_broke received e = (session_way said input_broke received).broken e
-why_broken kind.Faulted said input_broke received e = (session_way said input_broke received).broken e
+    by : (b : Bool) → Way input_broke received (if b then Finished else open_outcome input_broke received)
+    by true = finished input_broke received
+    by false = open_way input_broke received
+session_way said input_broke received = finished input_broke received
 
 -- the outcome of a task's end does not cut the connection short, unless a limit stopped the task; and then the end adds nothing
-after_class : (facts : Facts) (ended : EndKind) (said all : List Outgoing) (input_broke : Bool) (received : List Msg) → (class_of (after_session ended said input_broke received) ≡ Uncut)
+after_way : (facts : Facts) (ended : EndKind) (said all : List Outgoing) (input_broke : Bool) (received : List Msg) → Way input_broke received (after_session ended said input_broke received)
     ⊎ ((after_session ended said input_broke received ≡ Idle) × (session_ending facts all ended input_broke ≡ []))
-after_class facts kind.Returned said all input_broke received = inl (session_way said input_broke received).uncut
-after_class facts kind.Faulted said all input_broke received = inl (session_way said input_broke received).uncut
-after_class facts kind.Idle said all input_broke received = inr (refl, refl)
+after_way facts kind.Idle said all input_broke received = inr (refl, refl)
+after_way facts _ said all input_broke received = inl (session_way said input_broke received)
 
 -- ---- the text of more
 
-output_grows : (facts : Facts) (ring : ℕ) (said more : List Outgoing) → IsPrefix (session_output (handshake_of facts) facts said) (session_output (handshake_of facts) facts (said ++ more))
-output_grows facts ring said [] = prefix_same (session_output (handshake_of facts) facts said) (session_output (handshake_of facts) facts (said ++ []))
-    (ap (session_output (handshake_of facts) facts) (sym (append-nil said)))
-output_grows facts ring said (event ∷ more) =
-    let on = output_grows facts ring (said ++ event ∷ []) more in
-    prefix_trans (session_output (handshake_of facts) facts said) (session_output (handshake_of facts) facts (said ++ event ∷ [])) (session_output (handshake_of facts) facts (said ++ event ∷ more))
-    ((web_socket_is_steady (handshake_of facts) facts ring).text_grows said event)
-    (subst (λ (l : List Outgoing). IsPrefix (session_output (handshake_of facts) facts (said ++ event ∷ [])) (session_output (handshake_of facts) facts l)) (append_assoc said (event ∷ []) more) on)
+grows : (text : List Outgoing → List Output) → ((said : List Outgoing) (event : Outgoing) → IsPrefix (text said) (text (said ++ event ∷ [])))
+    → (said more : List Outgoing) → IsPrefix (text said) (text (said ++ more))
+grows text one said [] = rw append-nil (prefix_self (text said))
+grows text one said (event ∷ more) =
+    let on = rw (append_assoc said (event ∷ []) more) at (grows text one (said ++ event ∷ []) more) in
+    prefix_trans (text said) (text (said ++ event ∷ [])) (text (said ++ event ∷ more)) (one said event) on
 
-module _ (scene : SessionScene) (now : LineState) (half : WebSocketHalf) (read : List ℕ) (w : World Msg Output) (outcome : Outcome) (s : Invariant scene now half read w.conn)
+module _ {scene : SessionScene} {now : LineState} {half : WebSocketHalf} {read : List ℕ} (w : World Msg Output) {outcome : Outcome} (s : Invariant scene now half read w.conn)
     (i : IsSessionExchange (handshake_of scene.facts) scene.facts w) (over : half.stage ≡ Over (ConnectionEnds outcome)) where
   abbrev pub one : ExchangeRecord
   one = session_of scene w
@@ -87,12 +76,10 @@ module _ (scene : SessionScene) (now : LineState) (half : WebSocketHalf) (read :
   traffic = talk_in half w.conn s.leftover s.handed
 
   ends_so : EndsByTask scene w.conn outcome ⊎ IsCutShort scene w.conn outcome
-  ends_so = subst (λ (st : Stage). IsAt st scene half w.conn) over s.stage
+  ends_so = rw over at s.stage
 
   all_lawful : said_in scene w.conn ≡ taken_of w.conn
-  all_lawful =
-      lawful_is_accepted scene.facts (taken_of w.conn)
-      (fronts_are_lawful WebSocket scene.facts (taken_of w.conn) i.taken.0 (subst (λ (l : List Outgoing). IsLawful WebSocket scene.facts l) (sym i.taken.1) i.lawful))
+  all_lawful = lawful_is_accepted scene.facts (taken_of w.conn) (fronts_are_lawful WebSocket scene.facts (taken_of w.conn) i.taken.0 (rw i.taken.1 i.lawful))
 
   -- ---- the exchange serves the handshake
 
@@ -105,8 +92,7 @@ module _ (scene : SessionScene) (now : LineState) (half : WebSocketHalf) (read :
   opens : (a : Answered) → IsCarried a scene half w.conn s.text s.leftover s.handed → Opens scene.frames one traffic s.text
   opens answered.Unanswered c = opens_silent c.0
   opens answered.Refused c = opens_silent c
-  opens answered.Open c = opens_accepted c
-  opens answered.Closed c = opens_accepted c
+  opens _ c = opens_accepted c
 
   cut_short : (k : OutcomeClass) → IsCutShortAs k scene w.conn → is_cut_class k ≡ true
   cut_short Uncut c = absurd c
@@ -135,29 +121,22 @@ module _ (scene : SessionScene) (now : LineState) (half : WebSocketHalf) (read :
 
   -- ---- the end
 
-  -- once the end was taken, all was
-  taken_end : (ended : EndKind) → end_of w.conn.got ≡ Some ended → end_of w.conn.got ≢ None
-  taken_end ended is none = cc (is, none)
-
   ended_put : (ended : EndKind) → end_of w.conn.got ≡ Some ended → end_of w.app.put ≡ Some ended
-  ended_put ended is = sym (i.end_is (taken_end ended is)) ∙ is
+  ended_put ended is = sym (i.end_is (λ none. cc (none, is))) ∙ is
 
   done : (t : EndsByTask scene w.conn outcome) → IsSessionDone outcome one traffic s.text
   done t =
-      let all = i.ended (taken_end t.kind t.taken) in
-      let follows = ap (λ (l : List Outgoing). after_session t.kind l (is_by_input w.conn.broken) w.conn.arrived) (sym all ∙ sym all_lawful) ∙ t.follows in
-      let out = sym s.written ∙ t.out ∙ ap (λ (l : List Outgoing). session_text (handshake_of scene.facts) scene.facts l (end_of w.conn.got) (is_by_input w.conn.broken)) all
-      ∙ ap (λ (o : Option EndKind). session_text (handshake_of scene.facts) scene.facts (said_of w.app) o (is_by_input w.conn.broken)) (i.end_is (taken_end t.kind t.taken)) in
-      (t.kind, ended_put t.kind t.taken, follows, out)
+      let taken : end_of w.conn.got ≢ None = λ none. cc (none, t.taken) in
+      let all = i.ended taken in (t.kind, ended_put t.kind t.taken, rw (all_lawful, all) at t.follows, rw (s.written, all, i.end_is taken) at t.out)
 
-  no_more : (t : EndsByTask scene w.conn outcome) → outcome ≡ InputBroke → (is_over_at half.session) ≡ true
-  no_more t is =
-      let why = why_broken t.kind (said_in scene w.conn) (is_by_input w.conn.broken) w.conn.arrived (t.follows ∙ is) in elim (s.breaks why.0) [ inl closed ↦ cc (closed, why.1) | inr ends ↦ ends ]
+  no_more : (is_by_input w.conn.broken ≡ true) × (has_close w.conn.arrived ≡ false) → is_over_at half.session ≡ true
+  no_more why = elim (s.breaks why.0) [ inl closed ↦ cc (closed, why.1) | inr ends ↦ ends ]
 
   ends_by_task : (t : EndsByTask scene w.conn outcome) → IsSessionDone outcome one traffic s.text → EndsInSession outcome one traffic s.text
-  ends_by_task t d = elim (after_class scene.facts t.kind (said_in scene w.conn) (said_of w.app) (is_by_input w.conn.broken) w.conn.arrived) [
-    | inl uncut ↦
-        let of : Uncut ≡ class_of outcome = sym uncut ∙ ap class_of t.follows in subst (λ (k : OutcomeClass). EndsInSessionAs k outcome one traffic s.text) of (d, no_more t)
+  ends_by_task t d = elim (after_way scene.facts t.kind (said_in scene w.conn) (said_of w.app) (is_by_input w.conn.broken) w.conn.arrived) [
+    | inl way ↦
+        let of : Uncut ≡ class_of outcome = sym way.uncut ∙ ap class_of t.follows in
+        subst (λ (k : OutcomeClass). EndsInSessionAs k outcome one traffic s.text) of (d, λ is. no_more (way.broken (t.follows ∙ is)))
     | inr idle ↦
         let of : GivenUp ≡ class_of outcome = ap class_of (sym idle.0 ∙ t.follows) in subst (λ (k : OutcomeClass). EndsInSessionAs k outcome one traffic s.text) of
         (prefix_same (spoken s.text traffic) (said_out one)
@@ -170,23 +149,18 @@ module _ (scene : SessionScene) (now : LineState) (half : WebSocketHalf) (read :
   next out more (Beginning none is) = Beginning none is
   next out more (Saying before after event said is adds) =
       Saying before (after ++ i.taken.0) event (sym i.taken.1 ∙ ap (λ (l : List Outgoing). l ++ i.taken.0) said ∙ append_assoc before (event ∷ after) i.taken.0) is adds
-  next out more (Ending ended put is adds) =
-      let all = i.ended (taken_end ended put) in Ending ended (ended_put ended put) (is ∙ ap (session_output (handshake_of scene.facts) scene.facts) all)
-      (adds ∙ ap (λ (l : List Outgoing). session_ending scene.facts l ended (is_by_input w.conn.broken)) all)
+  next out more (Ending ended put is adds) = let all = i.ended (λ none. cc (none, put)) in Ending ended (ended_put ended put) (rw all at is) (rw all at adds)
 
   front : IsPrefix w.conn.written (output_in scene w.conn) → IsPrefix (spoken s.text traffic) (said_out one)
   front p =
-      let taken = output_in scene w.conn in
-      let grown : IsPrefix taken (said_out one) = subst (λ (l : List Outgoing). IsPrefix taken (session_output (handshake_of scene.facts) scene.facts l)) i.taken.1
-      (output_grows scene.facts scene.limits.ring (taken_of w.conn) i.taken.0) in
-      subst (λ (l : List Output). IsPrefix l (said_out one)) s.written (prefix_trans w.conn.written taken (said_out one) p grown)
+      let more = grows (session_output (handshake_of scene.facts) scene.facts) (web_socket_is_steady (handshake_of scene.facts) scene.facts scene.limits.ring).text_grows (taken_of w.conn) i.taken.0 in
+      rw s.written at (prefix_trans w.conn.written (output_in scene w.conn) (said_out one) p (rw i.taken.1 at more))
 
   ends_cut : (k : OutcomeClass) → IsCutShortAs k scene w.conn → EndsInSessionAs k outcome one traffic s.text
-  ends_cut Uncut c = absurd c
   ends_cut (ByWrite n) c = record { out = c.out; more = c.more; is_next = next c.out c.more c.is_next; within = c.within; written_is = sym s.written ∙ c.written_is }
   ends_cut GivenUp c = front c
   ends_cut Lacking c = front c
-  ends_cut Unbegun c = absurd c
+  ends_cut _ c = absurd c
 
   ends : EndsInSession outcome one traffic s.text
   ends = elim ends_so [ inl t ↦ ends_by_task t (done t) | inr c ↦ ends_cut (class_of outcome) c ]
@@ -195,18 +169,14 @@ module _ (scene : SessionScene) (now : LineState) (half : WebSocketHalf) (read :
       → ConversesInSession scene.limits half.wire.input read (scene.exchanges ++ one ∷ []) traffic (scene.before ++ s.text) report
   converses report o c =
       let f = s.fixed in
-      let served = subst (λ (q : Outcome). ServesHandshake scene.limits (is_cut q) f.after one traffic s.text) (sym o) serves in
-      let ended = subst (λ (q : Outcome). EndsInSession q one traffic s.text) (sym o) ends in
       let told = ap (λ (l : List ℕ). l ++ s.text) f.before_is in
-      record { answered = scene.exchanges; session = one; in_order = refl; after = f.after; each = f.answered; text = s.text; serves = served; ends = ended; written_is = told; counts = c }
+      record { answered = scene.exchanges; session = one; in_order = refl; after = f.after; each = f.answered; text = s.text; serves = rw o serves; ends = rw o ends; written_is = told; counts = c }
 
   pub ends_after : ReadsAhead scene.limits scene.read (requests_of scene.exchanges) → EndsSo scene.limits scene.start now read (scene.exchanges ++ one ∷ []) (scene.before ++ s.text) outcome
   ends_after asked =
       let all = scene.exchanges ++ one ∷ [] in
-      let out = scene.before ++ s.text in
-      let line = subst (λ (st : Stage). CarriesOn scene.start now half.wire.input read out (failures_at st) traffic (spare_at half.session)) over s.line in
-      let so_far = subst (λ (l : List ℕ). ReadsAhead scene.limits l (requests_of scene.exchanges)) (sym s.fixed.read_is) asked in
-      let more = more_requests scene.limits read (requests_of scene.exchanges) ((scene.scope, scene.facts) ∷ []) so_far in
-      let ahead = subst (λ (l : List (Scope × Facts)). ReadsAhead scene.limits read l) (sym (requests_join scene.exchanges (one ∷ []))) more in
-      let says = λ (report : Report) (o : report.outcome ≡ outcome) (c : CountsExchanges report all). in_session scene.limits half.wire.input read all traffic out report (converses report o c) in
-      record { end = half.wire.input; traffic = traffic; carried = line.carried; converses = says; ahead = ahead }
+      let line = rw over at s.line in
+      let more = more_requests scene.limits read (requests_of scene.exchanges) ((scene.scope, scene.facts) ∷ []) (rw s.fixed.read_is asked) in
+      let says = λ (report : Report) (o : report.outcome ≡ outcome) (c : CountsExchanges report all).
+      in_session scene.limits half.wire.input read all traffic (scene.before ++ s.text) report (converses report o c) in
+      record { end = half.wire.input; traffic = traffic; carried = line.carried; converses = says; ahead = rw (requests_join scene.exchanges (one ∷ [])) more }

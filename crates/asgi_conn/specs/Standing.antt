@@ -5,9 +5,7 @@ use Rattle.asgi_types.specs.declared.facts.Facts.{Facts}
 use Rattle.asgi_types.specs.declared.incoming.Incoming.{Incoming}
 use Rattle.asgi_types.specs.declared.limits.Limits.{Limits}
 use Rattle.asgi_types.specs.declared.outgoing.Outgoing.{Outgoing}
-use Rattle.asgi_types.specs.declared.scope.Peer.{Peer}
 use Rattle.asgi_types.specs.declared.scope.Scope.{Scope}
-use Rattle.asgi_types.specs.declared.state.StateValue.{StateValue}
 use Rattle.asgi_types.specs.Scopes.{scope_with}
 use Rattle.asgi_io.specs.declared.answer.Answer.{Answer}
 use Rattle.asgi_io.specs.Answers.{turn_of}
@@ -52,6 +50,7 @@ use Rattle.asgi_conn.specs.Places.{Place, place_of}
 use Rattle.asgi_conn.specs.Places as place
 use Rattle.asgi_conn.specs.declared.connection.Step.{Step}
 use Rattle.asgi_conn.specs.declared.connection.Step.TheVariants as step
+use Rattle.asgi_conn.specs.declared.setting.Setting.{Setting}
 use Rattle.asgi_conn.specs.declared.tally.Tally.{Tally}
 
 -- ---- between two requests
@@ -104,6 +103,14 @@ pub record EndsSo (limits : Limits) (start now : LineState) (read : List ℕ) (e
 
 -- ---- wherever it stands
 
+-- the scope of a request, with what the connection knows
+abbrev pub scope_in : Setting → Scope → Scope
+scope_in setting scope = scope_with scope setting.client.now setting.server.now setting.state.now
+
+-- what was received and sent in each of these exchanges is as the application promises it, in this setting
+abbrev pub ArePromisedIn : Promise → Setting → List ExchangeRecord → Type 0
+ArePromisedIn promise setting exchanges = ArePromised promise setting.client.now setting.server.now setting.state.now exchanges
+
 -- these exchanges are counted, and those of them that faulted
 abbrev pub IsTallied : Tally → List ExchangeRecord → Type 0
 IsTallied tally exchanges = (tally.exchanges ≡ length exchanges) × (tally.faults ≡ fault_count exchanges)
@@ -126,18 +133,18 @@ pub record IsCounted {X : Type 0} (limits : Limits) (before pauses : ℕ) (at : 
   pub room : HasRoom at tally
 
 module _ {T C E X : Type 0} (answers : T → List Incoming → List Outgoing → Option EndKind → Type 0) (conns : conn_end.Ghosts C) (ends : app_end.Ghosts E) (conn : X → C)
-    (began : X → AppSide T E → Type 0) (promise : Promise) (limits : Limits) (client server : Option Peer) (state : List (List ℕ × StateValue)) (start : LineState) where
+    (began : X → AppSide T E → Type 0) (promise : Promise) (limits : Limits) (setting : Setting) (start : LineState) where
   -- between two requests, in an exchange with what it was begun for, or at the end
   abbrev pub IsAt : Place X → LineState → List ℕ → List ExchangeRecord → List ℕ → Type 0
   IsAt (place.Between wire) now read exchanges written =
       (given : List Next) × (after : List ℕ) × BetweenRequests limits start now wire read given exchanges after written
   IsAt (place.Http half exchange) now read exchanges written =
       (scope : Scope) × (facts : Facts) × (opened : List Next)
-      × InExchange http_half.ghosts answers conns ends conn began (promise (scope_with scope client server state))
+      × InExchange http_half.ghosts answers conns ends conn began (promise (scope_in setting scope))
       (http_scene limits start exchanges written scope facts opened) now half read exchange
   IsAt (place.Session half exchange) now read exchanges written =
       (scope : Scope) × (facts : Facts) × (frames asked : List ℕ) × ReadsAhead limits asked (requests_of exchanges)
-      × InExchange session_half.ghosts answers conns ends conn began (promise (scope_with scope client server state))
+      × InExchange session_half.ghosts answers conns ends conn began (promise (scope_in setting scope))
       (session_scene limits start exchanges written scope facts frames asked) now half read exchange
   IsAt (place.Ended outcome) now read exchanges written = EndsSo limits start now read exchanges written outcome
 
@@ -146,7 +153,7 @@ module _ {T C E X : Type 0} (answers : T → List Incoming → List Outgoing →
     pub read : List ℕ
     pub written : List ℕ
     pub exchanges : List ExchangeRecord
-    pub promised : ArePromised promise client server state exchanges
+    pub promised : ArePromisedIn promise setting exchanges
     pub counted : IsTallied tally exchanges
     pub stands : IsAt at now read exchanges written
 

@@ -1,9 +1,6 @@
 //! Between two requests: the reader's next result, and what it calls for.
 ghost use Rattle.std.specs.Prelude.{◌≡◌, ◌≢◌, ◌⊎◌, ◌↔◌, ◌++◌, ◌+◌, ℕ, List, length, Option, true, IsTrue, IfOk};
 ghost use Rattle.asgi_types.specs.declared.limits.Limits.{Limits};
-ghost use Rattle.asgi_types.specs.declared.scope.Peer.{Peer};
-ghost use Rattle.asgi_types.specs.declared.state.StateValue.{StateValue};
-ghost use Rattle.asgi_types.specs.Scopes.{scope_with};
 ghost use Rattle.asgi_request.specs.declared.next.Next.{Next};
 ghost use Rattle.asgi_request.specs.Reading.{AllGiven, IsWaiting};
 ghost use Rattle.asgi_response.specs.Exchange.{refusal_text};
@@ -15,7 +12,7 @@ ghost use Rattle.asgi_conversation.specs.TaskEnds.{has_ended};
 ghost use Rattle.asgi_ws.specs.Lines.{LineState};
 ghost use Rattle.asgi_halves.specs.Kinds.{ReadsNone};
 ghost use Rattle.asgi_conn.specs.Places.{place_of};
-ghost use Rattle.asgi_conn.specs.Standing.{BetweenRequests, EndsSo, IsServing, begun_at};
+ghost use Rattle.asgi_conn.specs.Standing.{BetweenRequests, EndsSo, IsServing, begun_at, scope_in};
 ghost use Rattle.asgi_conn.specs.private.Loop.{IsAtRest, IsBetween, IsFree, IsNext};
 
 use crate::connection::Connection;
@@ -42,12 +39,12 @@ impl<X> Connection<X> {
         requires between { IsBetween (place_of self.old) }
         requires stands { (limits : Limits) × (start : LineState)
             × IsServing A.Task.answers U.Pipes.Conn.ConnEnd U.Pipes.App.AppEnd U.conn U.began (A.answers calls.old.app.now)
-            limits setting.now.client.now setting.now.server.now setting.now.state.now start (L.state line.old) self.old.tally (place_of self.old) }
+            limits setting.now start (L.state line.old) self.old.tally (place_of self.old) }
         ensures serves { (limits : Limits) (start : LineState)
             → IsServing A.Task.answers U.Pipes.Conn.ConnEnd U.Pipes.App.AppEnd U.conn U.began (A.answers calls.old.app.now)
-            limits setting.now.client.now setting.now.server.now setting.now.state.now start (L.state line.old) self.old.tally (place_of self.old)
+            limits setting.now start (L.state line.old) self.old.tally (place_of self.old)
             → IsServing A.Task.answers U.Pipes.Conn.ConnEnd U.Pipes.App.AppEnd U.conn U.began (A.answers calls.old.app.now)
-            limits setting.now.client.now setting.now.server.now setting.now.state.now start (L.state line.new) self.old.tally (place_of self.new) }
+            limits setting.now start (L.state line.new) self.old.tally (place_of self.new) }
         ensures unread { ReadsNone (L.state line.old) (L.state line.new) }
         ensures next { IsNext (place_of self.new) self.old.tally.turns }
         ensures tally { self.new.tally ≡ self.old.tally }
@@ -98,7 +95,7 @@ impl<X> Connection<X> {
 
 /// The scope with what the connection knows, in memory of its own.
 fn scope_of(alloc: Global, scope: Scope, setting: &Setting<'_>) -> Result<Scope, AllocError>
-    ensures { IfOk result (λ whole. whole ≡ scope_with scope setting.now.client.now setting.now.server.now setting.now.state.now) }
+    ensures { IfOk result (λ whole. whole ≡ scope_in setting.now scope) }
 {
     let ConnInfo {
         client,

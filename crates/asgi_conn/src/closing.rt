@@ -25,12 +25,12 @@ impl<X> Connection<X> {
         runner: &mut U,
     )
         requires { (app : A) × (limits : Limits) × (start now : LineState) × (before pauses : ℕ) × Stands A.Task.answers U.Pipes.Conn.ConnEnd U.Pipes.App.AppEnd U.conn U.began (A.answers app)
-            limits setting.now.client.now setting.now.server.now setting.now.state.now start before now pauses self.old }
+            limits setting.now start before now pauses self.old }
         ensures stands { (app : A) (limits : Limits) (start now : LineState) (before pauses : ℕ)
             → Stands A.Task.answers U.Pipes.Conn.ConnEnd U.Pipes.App.AppEnd U.conn U.began (A.answers app)
-            limits setting.now.client.now setting.now.server.now setting.now.state.now start before now pauses self.old
+            limits setting.now start before now pauses self.old
             → Stands A.Task.answers U.Pipes.Conn.ConnEnd U.Pipes.App.AppEnd U.conn U.began (A.answers app)
-            limits setting.now.client.now setting.now.server.now setting.now.state.now start before now pauses self.new }
+            limits setting.now start before now pauses self.new }
         ensures rests { IsDueOrBetween (place_of self.new) self.new.tally.turns }
         ensures due { IsNext (place_of self.old) self.old.tally.turns → IsDue (place_of self.new) self.new.tally.turns }
         ensures turns { self.new.tally.turns ≡ self.old.tally.turns }
@@ -75,13 +75,13 @@ fn end_request<A: Application, X, U: Runner<A::Task, Exchange = X>>(
 ) -> Option<Outcome>
     requires room { tally.old.exchanges ≤ 2 ^ 48 }
     requires stands { (app : A) × (limits : Limits) × (start now : LineState) × IsServing A.Task.answers U.Pipes.Conn.ConnEnd U.Pipes.App.AppEnd U.conn U.began (A.answers app)
-        limits setting.now.client.now setting.now.server.now setting.now.state.now start now tally.old (place.Http half.old exchange) }
+        limits setting.now start now tally.old (place.Http half.old exchange) }
     ensures serves { (app : A) (limits : Limits) (start now : LineState) → IsServing A.Task.answers U.Pipes.Conn.ConnEnd U.Pipes.App.AppEnd U.conn U.began (A.answers app)
-        limits setting.now.client.now setting.now.server.now setting.now.state.now start now tally.old (place.Http half.old exchange)
+        limits setting.now start now tally.old (place.Http half.old exchange)
         → IsServing A.Task.answers U.Pipes.Conn.ConnEnd U.Pipes.App.AppEnd U.conn U.began (A.answers app)
-        limits setting.now.client.now setting.now.server.now setting.now.state.now start now tally.new (place_at None None result half.new) }
-    ensures counts { (limits : Limits) (before pauses : ℕ) → IsCounted {X = X} limits before pauses (place.Http half.old exchange) tally.old → IsOver (place.Http half.old exchange) tally.old.turns
-        → IsCounted {X = X} limits before pauses (place_at None None result half.new) tally.new }
+        limits setting.now start now tally.new (place_at None None result half.new) }
+    ensures counts { (limits : Limits) (before pauses : ℕ) → IsCounted {X = X} limits before pauses (place.Http half.old exchange) tally.old
+        → IsOver (place.Http half.old exchange) tally.old.turns → IsCounted {X = X} limits before pauses (place_at None None result half.new) tally.new }
     ensures one { tally.new.exchanges ≡ tally.old.exchanges + 1 }
     ensures turns { tally.new.turns ≡ tally.old.turns }
     // The next request follows only what was over so.
@@ -103,13 +103,13 @@ fn end_session<A: Application, X, U: Runner<A::Task, Exchange = X>>(
 ) -> Outcome
     requires room { tally.old.exchanges ≤ 2 ^ 48 }
     requires stands { (app : A) × (limits : Limits) × (start now : LineState) × IsServing A.Task.answers U.Pipes.Conn.ConnEnd U.Pipes.App.AppEnd U.conn U.began (A.answers app)
-        limits setting.now.client.now setting.now.server.now setting.now.state.now start now tally.old (place.Session half.old exchange) }
+        limits setting.now start now tally.old (place.Session half.old exchange) }
     ensures serves { (app : A) (limits : Limits) (start now : LineState) → IsServing A.Task.answers U.Pipes.Conn.ConnEnd U.Pipes.App.AppEnd U.conn U.began (A.answers app)
-        limits setting.now.client.now setting.now.server.now setting.now.state.now start now tally.old (place.Session half.old exchange)
+        limits setting.now start now tally.old (place.Session half.old exchange)
         → IsServing A.Task.answers U.Pipes.Conn.ConnEnd U.Pipes.App.AppEnd U.conn U.began (A.answers app)
-        limits setting.now.client.now setting.now.server.now setting.now.state.now start now tally.new (place.Ended result) }
-    ensures counts { (limits : Limits) (before pauses : ℕ) → IsCounted {X = X} limits before pauses (place.Session half.old exchange) tally.old → IsOver (place.Session half.old exchange) tally.old.turns
-        → IsCounted {X = X} limits before pauses (place.Ended result) tally.new }
+        limits setting.now start now tally.new (place.Ended result) }
+    ensures counts { (limits : Limits) (before pauses : ℕ) → IsCounted {X = X} limits before pauses (place.Session half.old exchange) tally.old
+        → IsOver (place.Session half.old exchange) tally.old.turns → IsCounted {X = X} limits before pauses (place.Ended result) tally.new }
     ensures one { tally.new.exchanges ≡ tally.old.exchanges + 1 }
     ensures turns { tally.new.turns ≡ tally.old.turns }
 {

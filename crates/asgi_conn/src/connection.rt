@@ -56,7 +56,7 @@ impl<X> Connection<X> {
     ) -> Self
         ensures stands { (app : A) (start : LineState) (before : ℕ)
             → Stands A.Task.answers U.Pipes.Conn.ConnEnd U.Pipes.App.AppEnd U.conn U.began (A.answers app)
-            limits.now setting.now.client.now setting.now.server.now setting.now.state.now start before start before result }
+            limits.now setting.now start before start before result }
         ensures none { exchanges_of result ≡ 0 }
     {
         Connection {
@@ -87,15 +87,15 @@ impl<X> Connection<X> {
     ) -> Step
         requires { (limits : Limits) × (start : LineState) × (before : ℕ)
             × Stands A.Task.answers U.Pipes.Conn.ConnEnd U.Pipes.App.AppEnd U.conn U.began (A.answers calls.old.app.now)
-            limits setting.now.client.now setting.now.server.now setting.now.state.now start before (L.state line.old) (P.count pause.old) self.old }
+            limits setting.now start before (L.state line.old) (P.count pause.old) self.old }
         ensures stands { (limits : Limits) (start : LineState) (before : ℕ)
             → Stands A.Task.answers U.Pipes.Conn.ConnEnd U.Pipes.App.AppEnd U.conn U.began (A.answers calls.old.app.now)
-            limits setting.now.client.now setting.now.server.now setting.now.state.now start before (L.state line.old) (P.count pause.old) self.old
+            limits setting.now start before (L.state line.old) (P.count pause.old) self.old
             → Stands A.Task.answers U.Pipes.Conn.ConnEnd U.Pipes.App.AppEnd U.conn U.began (A.answers calls.old.app.now)
-            limits setting.now.client.now setting.now.server.now setting.now.state.now start before (L.state line.new) (P.count pause.new) self.new }
+            limits setting.now start before (L.state line.new) (P.count pause.new) self.new }
         ensures over { IfOver result (λ report. (limits : Limits) (start : LineState) (before : ℕ)
             → Stands A.Task.answers U.Pipes.Conn.ConnEnd U.Pipes.App.AppEnd U.conn U.began (A.answers calls.old.app.now)
-            limits setting.now.client.now setting.now.server.now setting.now.state.now start before (L.state line.old) (P.count pause.old) self.old
+            limits setting.now start before (L.state line.old) (P.count pause.old) self.old
             → Serves (A.answers calls.old.app.now) limits setting.now.client.now setting.now.server.now setting.now.state.now start (L.state line.new) before (P.count pause.new) report) }
         ensures ended { IfOver result (λ report. IsReportOf self.new report) }
         // A turn that goes on takes one of the limit, and is the one that it says. Nothing is read before it.
@@ -162,12 +162,12 @@ impl<X> Connection<X> {
     )
         requires { (limits : Limits) × (start : LineState) × (before pauses : ℕ)
             × Stands A.Task.answers U.Pipes.Conn.ConnEnd U.Pipes.App.AppEnd U.conn U.began (A.answers calls.old.app.now)
-            limits setting.now.client.now setting.now.server.now setting.now.state.now start before (L.state line.old) pauses self.old }
+            limits setting.now start before (L.state line.old) pauses self.old }
         ensures stands { (limits : Limits) (start : LineState) (before pauses : ℕ)
             → Stands A.Task.answers U.Pipes.Conn.ConnEnd U.Pipes.App.AppEnd U.conn U.began (A.answers calls.old.app.now)
-            limits setting.now.client.now setting.now.server.now setting.now.state.now start before (L.state line.old) pauses self.old
+            limits setting.now start before (L.state line.old) pauses self.old
             → Stands A.Task.answers U.Pipes.Conn.ConnEnd U.Pipes.App.AppEnd U.conn U.began (A.answers calls.old.app.now)
-            limits setting.now.client.now setting.now.server.now setting.now.state.now start before (L.state line.new) pauses self.new }
+            limits setting.now start before (L.state line.new) pauses self.new }
         ensures unread { ReadsNone (L.state line.old) (L.state line.new) }
         ensures due { IsDue (place_of self.new) self.new.tally.turns }
         ensures turns { self.new.tally.turns ≡ self.old.tally.turns }
@@ -195,12 +195,12 @@ impl<X> Connection<X> {
         requires due { IsDue (place_of self.old) self.old.tally.turns }
         requires stands { (app : A) × (limits : Limits) × (start : LineState)
             × IsServing A.Task.answers U.Pipes.Conn.ConnEnd U.Pipes.App.AppEnd U.conn U.began (A.answers app)
-            limits setting.now.client.now setting.now.server.now setting.now.state.now start (L.state line.old) self.old.tally (place_of self.old) }
+            limits setting.now start (L.state line.old) self.old.tally (place_of self.old) }
         ensures serves { (app : A) (limits : Limits) (start : LineState)
             → IsServing A.Task.answers U.Pipes.Conn.ConnEnd U.Pipes.App.AppEnd U.conn U.began (A.answers app)
-            limits setting.now.client.now setting.now.server.now setting.now.state.now start (L.state line.old) self.old.tally (place_of self.old)
+            limits setting.now start (L.state line.old) self.old.tally (place_of self.old)
             → IsServing A.Task.answers U.Pipes.Conn.ConnEnd U.Pipes.App.AppEnd U.conn U.began (A.answers app)
-            limits setting.now.client.now setting.now.server.now setting.now.state.now start (L.state line.new) self.new.tally (place_of self.new) }
+            limits setting.now start (L.state line.new) self.new.tally (place_of self.new) }
         ensures tally { self.new.tally ≡ self.old.tally }
         ensures counts { exchanges_of self.new ≡ exchanges_of self.old }
         ensures took { IfSome result (λ turn. TakesTurn U.takes (L.state line.old) (place_of self.old) turn (L.state line.new) (place_of self.new)) }

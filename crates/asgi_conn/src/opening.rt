@@ -2,19 +2,16 @@
 ghost use Rattle.std.specs.Prelude.{◌≡◌, ◌≢◌, ◌++◌, ◌∷◌, ℕ, [], List, Option, Some, None, IfNone, IfSome};
 ghost use Rattle.asgi_types.specs.declared.facts.Facts.{Facts};
 ghost use Rattle.asgi_types.specs.declared.scope.Kind.TheVariants.{Http, WebSocket};
-ghost use Rattle.asgi_types.specs.declared.scope.Peer.{Peer};
 ghost use Rattle.asgi_types.specs.declared.scope.Scope.{Scope};
-ghost use Rattle.asgi_types.specs.declared.state.StateValue.{StateValue};
-ghost use Rattle.asgi_types.specs.Scopes.{scope_with};
 ghost use Rattle.asgi_apps.specs.Scopes.{kind_of};
 ghost use Rattle.asgi_conversation.specs.OutcomeClasses.{IsLacking};
-ghost use Rattle.asgi_conversation.specs.Promised.{ArePromised};
 ghost use Rattle.asgi_halves.specs.Half.{Scene, Opens};
 ghost use Rattle.asgi_halves.specs.WebSocketHalf.{SessionScene, OpensHandshake};
 ghost use Rattle.asgi_halves.specs.Kinds.{ReadsNone};
 ghost use Rattle.asgi_run.specs.Running.{MayRun, IsOpened};
 ghost use Rattle.asgi_conn.specs.Places.{place_of};
-ghost use Rattle.asgi_conn.specs.Standing.{IsServing, IsTallied};
+ghost use Rattle.asgi_conn.specs.declared.setting.Setting.{Setting};
+ghost use Rattle.asgi_conn.specs.Standing.{ArePromisedIn, IsServing, IsTallied, scope_in};
 ghost use Rattle.asgi_conn.specs.private.Loop.{CallsWith, HasBegun, IsFree, IsNext};
 ghost use Rattle.asgi_conn.specs.declared.tally.Tally.{Tally};
 
@@ -45,11 +42,11 @@ impl<X> Connection<X> {
         requires free { IsFree (place_of self.old) }
         requires http { kind_of scope.now ≡ Http }
         requires plain { facts.framing ≢ Framing.Upgrade }
-        ensures serves { (scene : Scene) (client server : Option Peer) (state : List (List ℕ × StateValue)) (read arrived : List ℕ) (tally : Tally)
-            → scope.now ≡ scope_with scene.scope client server state → Opens scene (L.state line.old) self.old.half.wire facts read arrived
-            → ArePromised (A.answers calls.old.app.now) client server state scene.exchanges → IsTallied tally scene.exchanges
+        ensures serves { (scene : Scene) (setting : Setting) (read arrived : List ℕ) (tally : Tally)
+            → scope.now ≡ scope_in setting scene.scope → Opens scene (L.state line.old) self.old.half.wire facts read arrived
+            → ArePromisedIn (A.answers calls.old.app.now) setting scene.exchanges → IsTallied tally scene.exchanges
             → IsServing A.Task.answers U.Pipes.Conn.ConnEnd U.Pipes.App.AppEnd U.conn U.began
-            (A.answers calls.old.app.now) self.old.half.wire.limits client server state scene.start (L.state line.new) tally (place_of self.new) }
+            (A.answers calls.old.app.now) self.old.half.wire.limits setting scene.start (L.state line.new) tally (place_of self.new) }
         ensures unread { ReadsNone (L.state line.old) (L.state line.new) }
         ensures next { IsNext (place_of self.new) self.old.tally.turns }
         ensures tally { self.new.tally ≡ self.old.tally }
@@ -88,11 +85,11 @@ impl<X> Connection<X> {
         requires free { IsFree (place_of self.old) }
         requires websocket { kind_of scope.now ≡ WebSocket }
         requires upgrade { facts.framing ≡ Framing.Upgrade }
-        ensures serves { (scene : SessionScene) (client server : Option Peer) (state : List (List ℕ × StateValue)) (read : List ℕ) (tally : Tally)
-            → scope.now ≡ scope_with scene.scope client server state → OpensHandshake scene (L.state line.old) self.old.half.wire facts read
-            → ArePromised (A.answers calls.old.app.now) client server state scene.exchanges → IsTallied tally scene.exchanges
+        ensures serves { (scene : SessionScene) (setting : Setting) (read : List ℕ) (tally : Tally)
+            → scope.now ≡ scope_in setting scene.scope → OpensHandshake scene (L.state line.old) self.old.half.wire facts read
+            → ArePromisedIn (A.answers calls.old.app.now) setting scene.exchanges → IsTallied tally scene.exchanges
             → IsServing A.Task.answers U.Pipes.Conn.ConnEnd U.Pipes.App.AppEnd U.conn U.began
-            (A.answers calls.old.app.now) scene.limits client server state scene.start (L.state line.new) tally (place_of self.new) }
+            (A.answers calls.old.app.now) scene.limits setting scene.start (L.state line.new) tally (place_of self.new) }
         ensures unread { ReadsNone (L.state line.old) (L.state line.new) }
         ensures next { IsNext (place_of self.new) self.old.tally.turns }
         ensures tally { self.new.tally ≡ self.old.tally }

@@ -47,9 +47,8 @@ module _ {T E : Type 0} (stands : T → Kind → List Incoming → List Outgoing
   goes_further (Runs a) (HasEnded b kind) (HasEnded c last) x y =
       on_some a.lent (EndsAs b kind) (λ o. IsSomeAnd o (EndsAs c last)) (λ was x. let lists : answers was.task (ends.heard c) (ends.said c) (own_end kind) = rw (y.2.1, y.2.2) x.1 in
       (y.0, subst (λ (k : EndKind). answers was.task (ends.heard c) (ends.said c) (own_end k)) (sym y.1) lists, same_request was.app_end b c x.2 y.3)) x
-  goes_further (Runs a) (HasEnded b kind) (Runs c) x y = absurd y
   goes_further (HasEnded a before) (Runs b) c x y = absurd x
-  goes_further (HasEnded a before) (HasEnded b kind) (Runs c) x y = absurd y
+  goes_further _ (HasEnded b kind) (Runs c) x y = absurd y
   goes_further (HasEnded a before) (HasEnded b kind) (HasEnded c last) x y = (y.0, y.1 ∙ x.1, (y.2.0 ∙ x.2.0, y.2.1 ∙ x.2.1, y.2.2 ∙ x.2.2), same_request a b c x.3 y.3)
 
   -- ---- in the end

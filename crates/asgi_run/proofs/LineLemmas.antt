@@ -4,11 +4,11 @@ use Rattle.std.specs.{Prelude.All, Prelude.replicate, Io.ReadsAtMost, Io.KnownBy
 use Rattle.std.proofs.lemmas.List.{append-nil, length-append, length-take, Elements.All-append, Elements.All-cons, Elements.All-nil, Sums.sum_by-append}
 use Rattle.asgi_io.specs.{declared.answer.Answer.Answer, Answers.answer_of, Answers.passes, Answers.bytes_of, Counting.RoseBy, Writing.IsEnd, Writing.IsPart, Writing.Part, Writing.TriesWrites}
 use Rattle.asgi_io.specs.Writing.{part_answers}
-use Rattle.asgi_ws.specs.{declared.messages.Msg.Msg, declared.messages.Call.Call, Sides.Session, Lines.LineState}
+use Rattle.asgi_ws.specs.{Sides.Session, Lines.LineState}
 use Rattle.asgi_io.proofs.BytesLemmas.{Appends-then, Consumes-nothing, Consumes-then}
 use Rattle.asgi_io.proofs.CountLemmas.{rose_after}
 use Rattle.asgi_io.proofs.WriteLemmas.{moved_some, moved_none, paused, failed}
-use Rattle.asgi_conversation.specs.declared.input.InputEnd.{InputEnd, TheVariants.Open, TheVariants.AtEnd, TheVariants.Failed}
+use Rattle.asgi_conversation.specs.declared.input.InputEnd.{InputEnd, TheVariants.Open}
 use Rattle.asgi_conversation.specs.TaskEnds.{has_ended}
 use Rattle.asgi_run.specs.Lines.{Transferred, EndsAs, GoesOn, how_wrote, input_after, piece_size}
 use Rattle.asgi_io.specs.declared.answer.Answer.TheVariants as answer
@@ -19,8 +19,7 @@ use Rattle.asgi_io.specs.declared.write.Wrote.TheVariants as wrote
 -- the session is as it was, if each part is
 pub session_is : (old new : Session) → (new.calls ≡ old.calls) × ((new.coming ≡ old.coming) × (new.leftover ≡ old.leftover)) → new ≡ old
 session_is old new same =
-    ap (λ (l : List Call). record new { calls = l }) same.0 ∙ (ap (λ (o : Option (List Msg)). record old { coming = o; leftover = new.leftover }) same.1.0
-    ∙ ap (λ (o : Option (List ℕ)). record old { leftover = o }) same.1.1)
+    let is : ◌≡◌ {A = Session} (record { calls = new.calls; coming = new.coming; leftover = new.leftover }) old = rw (same.0, same.1.0, same.1.1) in is
 
 -- ---- one read
 
@@ -33,21 +32,18 @@ pub record Gave (left next : Option (List ℕ)) (buffer : List ℕ) (a : Answer)
 goes_on_once : (a : Answer) → GoesOn a → All GoesOn (a ∷ [])
 goes_on_once a on = All-cons GoesOn a [] on (All-nil GoesOn)
 
-gave_as : (left next : Option (List ℕ)) (buffer : List ℕ) (a b : Answer) → a ≡ b → Gave left next buffer b → Gave left next buffer a
-gave_as left next buffer a b is x = subst (λ (y : Answer). Gave left next buffer y) (sym is) x
-
 pub gave : (left next : Option (List ℕ)) (buffer : List ℕ) (r : Result ℕ Error) (a : Answer) → ReadsAtMost r buffer → ReadConsumes left next r buffer
     → length buffer ≡ piece_size → a ≡ answer_of piece_size r → Gave left next buffer a
-gave left next buffer (Ok zero) a bound bytes size is = gave_as left next buffer a answer.Nothing (is ∙ moved_none piece_size (omega arith))
+gave left next buffer (Ok zero) a bound bytes size is = rw (is ∙ moved_none piece_size (omega arith))
     (record { fits = omega arith; consumes = bytes.0; ends = ([], refl, All-nil GoesOn, bytes.1 refl (omega (arith, size))) })
-gave left next buffer (Ok (suc n)) a bound bytes size is = gave_as left next buffer a (answer.Moved (suc n)) (is ∙ moved_some piece_size (suc n) (omega arith))
+gave left next buffer (Ok (suc n)) a bound bytes size is = rw (is ∙ moved_some piece_size (suc n) (omega arith))
     (record { fits = bound.0; consumes = bytes.0; ends = goes_on_once (answer.Moved (suc n)) (omega arith, omega (arith, bound.0, size)) })
 gave left next buffer (Err e) a bound bytes size is = by (passes (error_kind e)) refl
   where
     by : (pauses : Bool) → passes (error_kind e) ≡ pauses → Gave left next buffer a
-    by true passing = gave_as left next buffer a answer.Paused (is ∙ paused piece_size e passing)
+    by true passing = rw (is ∙ paused piece_size e passing)
         (record { fits = omega arith; consumes = Consumes-nothing left next bytes; ends = goes_on_once answer.Paused tt })
-    by false fails = gave_as left next buffer a answer.Failed (is ∙ failed piece_size e fails)
+    by false fails = rw (is ∙ failed piece_size e fails)
         (record { fits = omega arith; consumes = Consumes-nothing left next bytes; ends = ([], refl, All-nil GoesOn) })
 
 pub told_as : (now after : List Answer) (buffer : List ℕ) (r : Result ℕ Error) (a : Answer) → after ≡ now ++ answer_of (length buffer) r ∷ [] → length buffer ≡ piece_size
@@ -79,8 +75,7 @@ moved_by_open_read start old new Open read written failures buffer a still x y t
   failed = rw same_failed x.failed;
   quiet = same_session ∙ x.quiet;
 }
-moved_by_open_read start old new AtEnd read written failures buffer a still x y told same_written same_writes same_failed same_session = cc
-moved_by_open_read start old new Failed read written failures buffer a still x y told same_written same_writes same_failed same_session = cc
+moved_by_open_read start old new _ read written failures buffer a still x y told same_written same_writes same_failed same_session = cc
 
 -- ---- a write
 
@@ -124,7 +119,7 @@ moved_by_write start old new end read written text failures x same_left same_rea
   answers = x.answers;
   told = same_reads ∙ x.told;
   sum = x.sum;
-  ends = subst (λ (l : Option (List ℕ)). EndsAs end x.answers l) (sym same_left) x.ends;
+  ends = rw same_left x.ends;
   tries = subst (λ (k : ℕ). TriesWrites start.writes new.writes k (how_wrote failures k)) (sym (length-append written text)) (tries_then _ old.writes _ _ _ failures x.tries tries);
   failed = rose_after failures start.failed old.failed new.failed x.failed rose;
   quiet = same_session ∙ x.quiet;

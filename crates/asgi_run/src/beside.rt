@@ -1,5 +1,5 @@
 //! Both halves of an exchange at the same time, in two threads.
-ghost use Rattle.std.specs.Prelude.{◌≡◌, ◌<◌, ◌-◌, ◌⊎◌, ◌↔◌, ℕ, Bool, List, Some, IsSome, true, is_some, IfOk, IsOk, IsTrue, ⊤};
+ghost use Rattle.std.specs.Prelude.{◌≡◌, ◌<◌, ◌-◌, ◌⊎◌, ◌↔◌, ℕ, Bool, List, Some, IsSome, true, false, is_some, IfOk, IsOk, IsTrue, ⊤};
 ghost use Rattle.asgi_io.specs.declared.turns.Turn.{Turn};
 ghost use Rattle.asgi_pipes.specs.RingEnds.{IsRingPair};
 ghost use Rattle.asgi_pipes.specs.declared.ring_app.RingApp.{RingApp};
@@ -8,6 +8,7 @@ ghost use Rattle.asgi_exchange.specs.Views.{ConnView};
 ghost use Rattle.asgi_conversation.specs.declared.following.NextStep.TheVariants.{NextRequest};
 ghost use Rattle.asgi_ws.specs.Lines.{LineState};
 ghost use Rattle.asgi_run.specs.declared.runner.AppSide.{AppSide};
+ghost use Rattle.asgi_run.specs.declared.runner.NoEnds.TheVariants as no_ends;
 ghost use Rattle.asgi_run.specs.AnyHalf.{PreservesOn};
 ghost use Rattle.asgi_run.specs.Jobs.{HasJob, HasLimits, IsApart};
 ghost use Rattle.asgi_run.specs.Running.{OfEnd, MayRun, HasRun, Drives, DrivesRunning, IsTurnWith, paused_by};
@@ -135,6 +136,9 @@ impl<T: AppTask, Q: Pause + Drop, R: Wait + Drop> Runner<T> for Beside<T, Q, R> 
 
     // The thread is there.
     ghost is_ready = { λ s. is_some s.kept ≡ true };
+
+    // It tells a missing thread exactly if there is none.
+    ghost refuses = { λ s why. (why ≡ no_ends.NoThread) ↔ (is_some s.kept ≡ false) };
 
     ghost takes = { λ _ _ _. ⊤ };
 

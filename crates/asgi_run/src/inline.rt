@@ -9,6 +9,7 @@ ghost use Rattle.asgi_exchange.specs.Views.{ConnView};
 ghost use Rattle.asgi_conversation.specs.declared.following.NextStep.TheVariants.{NextRequest};
 ghost use Rattle.asgi_ws.specs.Lines.{LineState};
 ghost use Rattle.asgi_run.specs.declared.runner.AppSide.{AppSide};
+ghost use Rattle.asgi_run.specs.declared.runner.NoEnds.TheVariants.{NoMemory};
 ghost use Rattle.asgi_run.specs.AnyHalf.{PreservesOn};
 ghost use Rattle.asgi_run.specs.Running.{OfEnd, MayRun, HasRun, Drives, HasCome, HasPassed, HasMoved, IsOfRequest, IsPolled, IsPolledSo, IsNotPolled, EndsIn, GoesOnAs, HasRested, IsTurnWith, TagStays};
 
@@ -66,6 +67,9 @@ impl<'q, T: AppTask> Runner<T> for Inline<'q> {
     ghost driven = { λ _. 0 };
 
     ghost is_ready = { λ _. ⊤ };
+
+    // It needs no thread.
+    ghost refuses = { λ _ why. why ≡ NoMemory };
 
     ghost takes = { λ _ _ _. ⊤ };
 

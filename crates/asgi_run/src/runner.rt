@@ -1,5 +1,5 @@
 //! What takes up the two halves of an exchange, turn by turn.
-ghost use Rattle.std.specs.Prelude.{◌≡◌, ◌+◌, Bool, false, [], ℕ, List, Some, None, IfOk, IsOk, IsSome};
+ghost use Rattle.std.specs.Prelude.{◌≡◌, ◌+◌, Bool, false, [], ℕ, List, Some, None, IfErr, IfOk, IsOk, IsSome};
 ghost use Rattle.asgi_io.specs.declared.turns.Turn.{Turn};
 ghost use Rattle.asgi_exchange.specs.Calls.{IsViewOf, IsExchangeOf};
 ghost use Rattle.asgi_exchange.specs.Views.{ConnView};
@@ -7,6 +7,8 @@ ghost use Rattle.asgi_conversation.specs.declared.following.NextStep.TheVariants
 ghost use Rattle.asgi_ws.specs.Lines.{LineState};
 ghost use Rattle.asgi_run.specs.AnyHalf.{PreservesOn};
 ghost use Rattle.asgi_run.specs.declared.runner.AppSide.{AppSide};
+ghost use Rattle.asgi_run.specs.declared.runner.NoEnds.{NoEnds};
+ghost use Rattle.asgi_run.specs.declared.runner.NoEnds.TheVariants.{NoMemory};
 ghost use Rattle.asgi_run.specs.Running.{OfEnd, MayRun, HasRun, Drives, IsTurnWith};
 
 use crate::exchange_half::Half;
@@ -36,6 +38,8 @@ pub enum NoEnds {
 }
 
 impl From<AllocError> for NoEnds {
+    ghost from_gives = { λ _ why. why ≡ NoMemory };
+
     fn from(_: AllocError) -> NoEnds {
         NoEnds::NoMemory
     }
@@ -60,6 +64,9 @@ pub trait Runner<T: AppTask> {
 
     // The runner has what the exchange needs whose ends it made last.
     ghost is_ready: { Self → Type 0 };
+
+    // The runner as it is may refuse the ends of an exchange for this reason.
+    ghost refuses: { Self → NoEnds → Type 0 };
 
     // One turn of an exchange, with what it was said to be. Of a runner of which nothing else is known, only `turn`
     // shows that one was taken.
@@ -94,6 +101,7 @@ pub trait Runner<T: AppTask> {
         ensures scope { IfOk result (λ ends. (Self.Pipes.App.kind ends.1 ≡ kind) × (Self.Pipes.App.facts ends.1 ≡ facts) × (Self.Pipes.App.has_moved ends.1 ≡ false)) }
         ensures pair { IfOk result (λ ends. Self.Pipes.is_pair ends.0 ends.1) }
         ensures ready { IsOk result → is_ready self.new }
+        ensures refused { IfErr result (λ why. refuses self.old why) }
         ensures counts { (not_met self.new ≡ not_met self.old) × (pauses self.new ≡ pauses self.old) × (driven self.new ≡ driven self.old) };
 
     /// Begins an exchange with these ends. If the runner itself drives the task, it does so within the limits

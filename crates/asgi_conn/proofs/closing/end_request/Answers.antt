@@ -1,29 +1,17 @@
-use Rattle.std.proofs.Common.{ap, None}
-use Rattle.std.specs.Prelude.{is_some}
+use Rattle.std.proofs.Common.{ap, is_some}
 use Rattle.asgi_halves.specs.declared.half.HttpHalf.{HttpHalf}
 use Rattle.asgi_halves.proofs.HttpHalfLemmas.{over_at}
-use Rattle.asgi_conn.specs.Places.{place_at}
 use Rattle.asgi_conn.proofs.TurnLemmas as lemma
 use Rattle.asgi_conn.proofs.closing.end_request.Goals as goal
-
-pub finish-kind-requires : goal.finish-kind-requires
-finish-kind-requires g c = let x = c.requires.stands.4.stands.3 in record { began = (x.side, x.begun) }
 
 pub ended_by-requires : goal.ended_by-requires
 ended_by-requires g c = over_at c.finish-kind.new.half.stage c.finish-kind.ensures.over
 
 pub returns-clause-serves : goal.returns-clause-serves
 returns-clause-serves g c app limits start now s =
-    lemma.http_left g.A.Task.AppTask.answers g.U.Pipes.Conn.ConnEnd g.U.Pipes.App.AppEnd g.U.Runner.conn g.U.Runner.began (g.A.Application.answers app) limits c.args.setting.now.client.now c.args.setting.now.server.now c.args.setting.now.state.now start now c.args.tally.now c.args.exchange c.finish-kind.result c.count.new.self c.count.ensures.exchanges c.count.ensures.faults
-    c.args.half.now c.finish-kind.new.half (place_at None None c.ended_by.result c.finish-kind.new.half) s c.finish-kind.ensures.runs (lemma.left_by c.finish-kind.new.half c.ended_by.result c.ended_by.ensures)
+    lemma.http_left c.count.new.self c.count.ensures.exchanges c.count.ensures.faults c.finish-kind.new.half c.ended_by.result s c.finish-kind.ensures.runs c.ended_by.ensures
 
 pub returns-clause-counts : goal.returns-clause-counts
 returns-clause-counts g c limits before pauses counted over =
-    lemma.counted_left limits before pauses c.args.half.now c.finish-kind.new.half c.args.exchange (place_at None None c.ended_by.result c.finish-kind.new.half) c.args.tally.now c.count.new.self counted over
-    (λ last is. ap (λ (h : HttpHalf). h.stage) (c.finish-kind.ensures.stays (ap is_some is))) c.finish-kind.ensures.follows c.count.ensures.exchanges c.count.ensures.turns (lemma.left_by c.finish-kind.new.half c.ended_by.result c.ended_by.ensures)
-
-pub returns-clause-rests : goal.returns-clause-rests
-returns-clause-rests g c between = lemma.followed_of {X = g.row.X.Denot} c.args.half.now c.finish-kind.new.half (place_at None None c.ended_by.result c.finish-kind.new.half) (lemma.left_by c.finish-kind.new.half c.ended_by.result c.ended_by.ensures) c.finish-kind.ensures.follows between
-
-pub returns-clause-left : goal.returns-clause-left
-returns-clause-left g c = lemma.left_of {X = g.row.X.Denot} c.finish-kind.new.half (place_at None None c.ended_by.result c.finish-kind.new.half) (lemma.left_by c.finish-kind.new.half c.ended_by.result c.ended_by.ensures)
+    lemma.counted_left c.ended_by.result c.finish-kind.new.half counted over (λ last is. ap (λ (h : HttpHalf). h.stage) (c.finish-kind.ensures.stays (ap is_some is)))
+    c.finish-kind.ensures.follows c.count.ensures.exchanges c.count.ensures.turns c.ended_by.ensures

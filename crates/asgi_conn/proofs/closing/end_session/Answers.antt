@@ -1,25 +1,19 @@
-use Rattle.std.proofs.Common.{ap}
-use Rattle.std.specs.Prelude.{is_some}
+use Rattle.std.proofs.Common.{ap, is_some}
 use Rattle.asgi_halves.specs.declared.session_half.WebSocketHalf.{WebSocketHalf}
 use Rattle.asgi_halves.proofs.HttpHalfLemmas.{over_at}
 use Rattle.asgi_conn.proofs.TurnLemmas as lemma
 use Rattle.asgi_conn.proofs.closing.end_session.Goals as goal
 
-pub finish-ended-requires : goal.finish-ended-requires
-finish-ended-requires g c = let x = c.requires.stands.4.stands.5 in record { began = (x.side, x.begun) }
-
 pub outcome_of-requires : goal.outcome_of-requires
 outcome_of-requires g c =
-    let limits = c.requires.stands.1 in
-    lemma.session_over g.A.Task.AppTask.answers g.U.Pipes.Conn.ConnEnd g.U.Pipes.App.AppEnd g.U.Runner.conn g.U.Runner.began (g.A.Application.answers c.requires.stands.0) limits c.args.setting.now.client.now c.args.setting.now.server.now c.args.setting.now.state.now c.requires.stands.2 c.requires.stands.3 c.args.tally.now c.args.exchange c.finish-ended.result c.count.new.self c.count.ensures.exchanges c.count.ensures.faults
-    c.args.half.now c.finish-ended.new.half c.requires.stands.4 c.finish-ended.ensures.runs (over_at c.finish-ended.new.half.stage c.finish-ended.ensures.over)
+    lemma.session_over c.count.new.self c.count.ensures.exchanges c.count.ensures.faults c.finish-ended.new.half c.requires.stands.4
+    c.finish-ended.ensures.runs (over_at c.finish-ended.new.half.stage c.finish-ended.ensures.over)
 
 pub returns-clause-serves : goal.returns-clause-serves
 returns-clause-serves g c app limits start now s =
-    lemma.session_left g.A.Task.AppTask.answers g.U.Pipes.Conn.ConnEnd g.U.Pipes.App.AppEnd g.U.Runner.conn g.U.Runner.began (g.A.Application.answers app) limits c.args.setting.now.client.now c.args.setting.now.server.now c.args.setting.now.state.now start now c.args.tally.now c.args.exchange c.finish-ended.result c.count.new.self c.count.ensures.exchanges c.count.ensures.faults
-    c.args.half.now c.finish-ended.new.half s c.finish-ended.ensures.runs c.outcome_of.result c.outcome_of.ensures
+    lemma.session_left c.count.new.self c.count.ensures.exchanges c.count.ensures.faults c.finish-ended.new.half s c.finish-ended.ensures.runs c.outcome_of.result c.outcome_of.ensures
 
 pub returns-clause-counts : goal.returns-clause-counts
 returns-clause-counts g c limits before pauses counted over =
-    lemma.counted_closed limits before pauses c.args.half.now c.finish-ended.new.half c.args.exchange c.outcome_of.result c.args.tally.now c.count.new.self counted over
-    (λ last is. ap (λ (h : WebSocketHalf). h.stage) (c.finish-ended.ensures.stays (ap is_some is))) c.count.ensures.turns c.outcome_of.ensures
+    lemma.counted_closed c.finish-ended.new.half counted over (λ last is. ap (λ (h : WebSocketHalf). h.stage) (c.finish-ended.ensures.stays (ap is_some is)))
+    c.count.ensures.turns c.outcome_of.ensures

@@ -1,40 +1,22 @@
-use Rattle.std.proofs.Common.{sym, refl, ◌∙◌, subst}
-use Rattle.std.specs.Prelude.{length}
-use Rattle.asgi_conn.specs.Standing.{Stands, exchanges_of}
-use Rattle.asgi_conn.proofs.CallLemmas.{none_yet, counted_on, kept_for}
+use Rattle.std.proofs.Common.{refl, arith, ◌∙◌}
 use Rattle.asgi_conn.proofs.connection.serve_calls.Goals as goal
 
 pub loop-report-init : goal.loop-report-init
-loop-report-init g c = (
-  c.new-connection.ensures.stands c.args.calls.now.app.now (g.L.Line.state c.args.line.now) (g.P.Pause.count c.args.pause.now),
-  none_yet (length c.args.calls.now.scopes.items) (exchanges_of c.new-connection.result) c.new-connection.ensures.none,
-  refl,
-)
+loop-report-init g c =
+    let stands = c.new-connection.ensures.stands c.args.calls.now.app.now (g.L.Line.state c.args.line.now) (g.P.Pause.count c.args.pause.now) in
+    (stands, omega (arith, c.new-connection.ensures.none), refl)
 
 pub turn-requires : goal.turn-requires
-turn-requires g c = (
-  c.args.limits.now,
-  g.L.Line.state c.args.line.now,
-  g.P.Pause.count c.args.pause.now,
-  subst (λ (a : g.row.A.Denot). Stands g.A.Task.AppTask.answers g.U.Pipes.Conn.ConnEnd g.U.Pipes.App.AppEnd g.U.Runner.conn g.U.Runner.began (g.A.Application.answers a) c.args.limits.now c.args.client.now c.args.server.now c.args.state.now (g.L.Line.state c.args.line.now) (g.P.Pause.count c.args.pause.now) (g.L.Line.state c.loop-report.line) (g.P.Pause.count c.loop-report.pause) c.loop-report.connection) (sym c.loop-report.invariant.2) c.loop-report.invariant.0,
-)
+turn-requires g c = (c.args.limits.now, g.L.Line.state c.args.line.now, g.P.Pause.count c.args.pause.now, rw c.loop-report.invariant.2 c.loop-report.invariant.0)
 
 pub loop-report-preserved-in-Moved : goal.loop-report-preserved-in-Moved
-loop-report-preserved-in-Moved g c = (
-  kept_for (λ (a : g.row.A.Denot). Stands g.A.Task.AppTask.answers g.U.Pipes.Conn.ConnEnd g.U.Pipes.App.AppEnd g.U.Runner.conn g.U.Runner.began (g.A.Application.answers a) c.args.limits.now c.args.client.now c.args.server.now c.args.state.now (g.L.Line.state c.args.line.now) (g.P.Pause.count c.args.pause.now) (g.L.Line.state c.loop-report.line) (g.P.Pause.count c.loop-report.pause) c.loop-report.connection)
-      (λ (a : g.row.A.Denot). Stands g.A.Task.AppTask.answers g.U.Pipes.Conn.ConnEnd g.U.Pipes.App.AppEnd g.U.Runner.conn g.U.Runner.began (g.A.Application.answers a) c.args.limits.now c.args.client.now c.args.server.now c.args.state.now (g.L.Line.state c.args.line.now) (g.P.Pause.count c.args.pause.now) (g.L.Line.state c.turn.new.line) (g.P.Pause.count c.turn.new.pause) c.turn.new.self)
-      c.loop-report.calls.app.now c.args.calls.now.app.now c.loop-report.invariant.2 (c.turn.ensures.stands c.args.limits.now (g.L.Line.state c.args.line.now) (g.P.Pause.count c.args.pause.now)) c.loop-report.invariant.0,
-  counted_on (length c.args.calls.now.scopes.items) (length c.loop-report.calls.scopes.items) (length c.turn.new.calls.scopes.items) (exchanges_of c.loop-report.connection) (exchanges_of c.turn.new.self)
-      c.loop-report.invariant.1 c.turn.ensures.called,
-  c.turn.ensures.same ∙ c.loop-report.invariant.2,
-)
+loop-report-preserved-in-Moved g c =
+    let i = c.loop-report.invariant in
+    let stands = c.turn.ensures.stands c.args.limits.now (g.L.Line.state c.args.line.now) (g.P.Pause.count c.args.pause.now) (rw i.2 i.0) in
+    (rw (← i.2) stands, omega (arith, i.1, c.turn.ensures.called), c.turn.ensures.same ∙ i.2)
 
 pub loop-report-preserved : goal.loop-report-preserved
-loop-report-preserved g c = (
-  kept_for (λ (a : g.row.A.Denot). Stands g.A.Task.AppTask.answers g.U.Pipes.Conn.ConnEnd g.U.Pipes.App.AppEnd g.U.Runner.conn g.U.Runner.began (g.A.Application.answers a) c.args.limits.now c.args.client.now c.args.server.now c.args.state.now (g.L.Line.state c.args.line.now) (g.P.Pause.count c.args.pause.now) (g.L.Line.state c.loop-report.line) (g.P.Pause.count c.loop-report.pause) c.loop-report.connection)
-      (λ (a : g.row.A.Denot). Stands g.A.Task.AppTask.answers g.U.Pipes.Conn.ConnEnd g.U.Pipes.App.AppEnd g.U.Runner.conn g.U.Runner.began (g.A.Application.answers a) c.args.limits.now c.args.client.now c.args.server.now c.args.state.now (g.L.Line.state c.args.line.now) (g.P.Pause.count c.args.pause.now) (g.L.Line.state c.turn.new.line) (g.P.Pause.count c.turn.new.pause) c.turn.new.self)
-      c.loop-report.calls.app.now c.args.calls.now.app.now c.loop-report.invariant.2 (c.turn.ensures.stands c.args.limits.now (g.L.Line.state c.args.line.now) (g.P.Pause.count c.args.pause.now)) c.loop-report.invariant.0,
-  counted_on (length c.args.calls.now.scopes.items) (length c.loop-report.calls.scopes.items) (length c.turn.new.calls.scopes.items) (exchanges_of c.loop-report.connection) (exchanges_of c.turn.new.self)
-      c.loop-report.invariant.1 c.turn.ensures.called,
-  c.turn.ensures.same ∙ c.loop-report.invariant.2,
-)
+loop-report-preserved g c =
+    let i = c.loop-report.invariant in
+    let stands = c.turn.ensures.stands c.args.limits.now (g.L.Line.state c.args.line.now) (g.P.Pause.count c.args.pause.now) (rw i.2 i.0) in
+    (rw (← i.2) stands, omega (arith, i.1, c.turn.ensures.called), c.turn.ensures.same ∙ i.2)

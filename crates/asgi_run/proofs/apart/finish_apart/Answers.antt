@@ -12,9 +12,7 @@ join-met-requires g c =
 
 pub returns-clause-runs : goal.returns-clause-runs
 returns-clause-runs g c side scene now read view b s is request =
-    let app = c.end-ran.result.app_end in
     let y = c.abandon.ensures.leads scene now read view s is in
     let met = c.join-met.ensures in
-    has_run g.H.Half g.met.H.Half.steady (λ m. m.left_in) (λ m. m.left_out) g.T.AppTask.stands g.T.AppTask.answers g.E.AppEnd side app c.end-ran.result.kind c.join-met.result
-    scene now c.abandon.new.self read y.0 _ _ _ _
-    b.2 (c.end-ran.ensures.side side b.0 b.2).0 request y.1 (g.met.H.Half.keeps scene now c.abandon.new.self read y.0 y.1) y.2.0 y.2.2 met.met met.inward met.outward met.heard met.lawful
+    has_run (g.met.H.Half.steady scene) (λ m. m.left_in) (λ m. m.left_out) g.T.AppTask.stands c.end-ran.result.app_end c.join-met.result y.0 _ _ _ _ b.2
+    (c.end-ran.ensures.side side b.0 b.2).0 request y.1 (g.met.H.Half.keeps scene now c.abandon.new.self read y.0 y.1) y.2.0 y.2.2 met.met met.inward met.outward met.heard met.lawful

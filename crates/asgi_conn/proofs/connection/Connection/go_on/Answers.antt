@@ -1,58 +1,23 @@
-use Rattle.std.proofs.Common.{ℕ, ◌+◌, sym, ap}
-use Rattle.std.specs.Prelude.{length}
-use Rattle.asgi_conn.specs.Places.{place_of}
-use Rattle.asgi_conn.specs.Standing.{Stands, exchanges_of}
-use Rattle.asgi_conn.proofs.CallLemmas.{went_on}
 use Rattle.asgi_conn.proofs.TurnLemmas as lemma
 use Rattle.asgi_conn.proofs.connection.Connection.go_on.Goals as goal
-
-pub finish-requires : goal.finish-requires
-finish-requires g c = let r = c.requires in (c.args.calls.now.app.now, r.0, r.1, g.L.Line.state c.args.line.now, r.2, r.3, r.4)
 
 pub returns-then-not-is_between-clause-stands : goal.returns-then-not-is_between-clause-stands
 returns-then-not-is_between-clause-stands g c limits start before pauses s = c.finish.ensures.stands c.args.calls.now.app.now limits start (g.L.Line.state c.args.line.now) before pauses s
 
-pub returns-then-not-is_between-clause-due : goal.returns-then-not-is_between-clause-due
-returns-then-not-is_between-clause-due g c =
-    lemma.due_rest (place_of c.finish.new.self) c.finish.new.self.tally.turns c.finish.ensures.rests (c.is_between.ensures.no c.if-not-is_between.true)
-
-pub returns-then-not-is_between-clause-called : goal.returns-then-not-is_between-clause-called
-returns-then-not-is_between-clause-called g c = ap (λ (n : ℕ). length c.args.calls.now.scopes.items + n) (sym c.finish.ensures.counts)
-
-pub next-requires-clause-between : goal.next-requires-clause-between
-next-requires-clause-between g c = c.is_between.ensures.yes c.if-not-is_between.false
-
 pub next-requires-clause-stands : goal.next-requires-clause-stands
 next-requires-clause-stands g c =
-    let r = c.requires in
-    (r.0, r.1, (c.finish.ensures.stands c.args.calls.now.app.now r.0 r.1 (g.L.Line.state c.args.line.now) r.2 r.3 r.4).serving)
+    let r = c.requires in (r.0, r.1, (c.finish.ensures.stands c.args.calls.now.app.now r.0 r.1 (g.L.Line.state c.args.line.now) r.2 r.3 r.4).serving)
 
 pub finish-requires-2 : goal.finish-requires-2
 finish-requires-2 g c =
     let r = c.requires in
-    let s = c.finish.ensures.stands c.args.calls.now.app.now r.0 r.1 (g.L.Line.state c.args.line.now) r.2 r.3 r.4 in (
-      c.args.calls.now.app.now,
-      r.0,
-      r.1,
-      g.L.Line.state c.next.new.line,
-      r.2,
-      r.3,
-      lemma.stands_next g.A.Task.AppTask.answers g.U.Pipes.Conn.ConnEnd g.U.Pipes.App.AppEnd g.U.Runner.conn g.U.Runner.began (g.A.Application.answers c.args.calls.now.app.now) r.0 c.args.setting.now.client.now c.args.setting.now.server.now c.args.setting.now.state.now r.1 r.2 (g.L.Line.state c.next.new.line) r.3 c.finish.new.self c.next.new.self
-          (c.next.ensures.serves r.0 r.1 s.serving) s.counted (c.is_between.ensures.yes c.if-not-is_between.false) c.next.ensures.tally c.next.ensures.next,
-    )
+    let s = c.finish.ensures.stands c.args.calls.now.app.now r.0 r.1 (g.L.Line.state c.args.line.now) r.2 r.3 r.4 in
+    let stands = lemma.stands_next {new = c.next.new.self} c.finish.new.self (c.next.ensures.serves r.0 r.1 s.serving) s.counted
+    (c.is_between.ensures.yes c.if-not-is_between.false) c.next.ensures.tally c.next.ensures.next in
+    (c.args.calls.now.app.now, r.0, r.1, g.L.Line.state c.next.new.line, r.2, r.3, stands)
 
 pub returns-clause-stands : goal.returns-clause-stands
 returns-clause-stands g c limits start before pauses stood =
     let s = c.finish.ensures.stands c.args.calls.now.app.now limits start (g.L.Line.state c.args.line.now) before pauses stood in
-    c.finish-2.ensures.stands c.args.calls.now.app.now limits start (g.L.Line.state c.next.new.line) before pauses
-    (lemma.stands_next g.A.Task.AppTask.answers g.U.Pipes.Conn.ConnEnd g.U.Pipes.App.AppEnd g.U.Runner.conn g.U.Runner.began (g.A.Application.answers c.args.calls.now.app.now) limits c.args.setting.now.client.now c.args.setting.now.server.now c.args.setting.now.state.now start before (g.L.Line.state c.next.new.line) pauses c.finish.new.self c.next.new.self
+    c.finish-2.ensures.stands c.args.calls.now.app.now limits start (g.L.Line.state c.next.new.line) before pauses (lemma.stands_next c.finish.new.self
     (c.next.ensures.serves limits start s.serving) s.counted (c.is_between.ensures.yes c.if-not-is_between.false) c.next.ensures.tally c.next.ensures.next)
-
-pub returns-clause-due : goal.returns-clause-due
-returns-clause-due g c = c.finish-2.ensures.due (rw c.next.ensures.tally c.next.ensures.next)
-
-pub returns-clause-called : goal.returns-clause-called
-returns-clause-called g c =
-    went_on c.finish.new.self c.next.new.self (exchanges_of c.args.self.now) (exchanges_of c.finish-2.new.self)
-    (length c.args.calls.now.scopes.items) (length c.next.new.calls.scopes.items) c.finish.ensures.counts (c.is_between.ensures.yes c.if-not-is_between.false)
-    c.next.ensures.called c.next.ensures.tally c.finish-2.ensures.counts

@@ -1,65 +1,23 @@
-use Rattle.std.proofs.Common.{sym, ◌∙◌, inl}
-use Rattle.asgi_conn.specs.Places as place
-use Rattle.asgi_conn.proofs.PlaceLemmas.{in_request, in_session, rests_at}
 use Rattle.asgi_conn.proofs.TurnLemmas as lemma
 use Rattle.asgi_conn.proofs.connection.Connection.move_on.Goals as goal
 
-pub read-requires : goal.read-requires
-read-requires g c =
-    let here = rests_at c.args.self.now.exchange c.args.self.now.session c.args.self.now.ended c.args.self.now.half c.in-None.is c.in-None-ended.is in
-    (rw here at c.requires.due).0
-
 pub returns-in-Ok-clause-serves : goal.returns-in-Ok-clause-serves
 returns-in-Ok-clause-serves g c app limits start s =
-    let here = rests_at c.args.self.now.exchange c.args.self.now.session c.args.self.now.ended c.args.self.now.half c.in-None.is c.in-None-ended.is in
-    let due = rw here at c.requires.due in
+    let due = rw (c.in-None.is, c.in-None-ended.is) at c.requires.due in
     let moved = c.in-Ok.ensures.moved in
-    rw (c.in-None.is, c.in-None-ended.is) (
-    lemma.read_on g.A.Task.AppTask.answers g.U.Pipes.Conn.ConnEnd g.U.Pipes.App.AppEnd g.U.Runner.conn g.U.Runner.began (g.A.Application.answers app) limits c.args.setting.now.client.now c.args.setting.now.server.now c.args.setting.now.state.now start (g.L.Line.state c.args.line.now) c.args.self.now.tally (g.L.Line.state c.read.new.line) c.args.self.now.half.wire c.read.new.self
-    (rw here at s) due.0 due.1 moved.0 moved.1 moved.3 c.read.ensures.same c.read.ensures.limits moved.2)
+    rw (c.in-None.is, c.in-None-ended.is) (lemma.read_on c.read.new.self (rw (c.in-None.is, c.in-None-ended.is) at s)
+    due.0 due.1 moved.0 moved.1 moved.3 c.read.ensures.same c.read.ensures.limits moved.2)
 
 pub returns-in-Err-clause-serves : goal.returns-in-Err-clause-serves
 returns-in-Err-clause-serves g c app limits start s =
-    let here = rests_at c.args.self.now.exchange c.args.self.now.session c.args.self.now.ended c.args.self.now.half c.in-None.is c.in-None-ended.is in
-    let due = rw here at c.requires.due in
+    let due = rw (c.in-None.is, c.in-None-ended.is) at c.requires.due in
     let moved = c.read.ensures.moved in
-    rw (c.end_with.ensures.at, c.end_with.ensures.tally) (
-    lemma.read_short g.A.Task.AppTask.answers g.U.Pipes.Conn.ConnEnd g.U.Pipes.App.AppEnd g.U.Runner.conn g.U.Runner.began (g.A.Application.answers app) limits c.args.setting.now.client.now c.args.setting.now.server.now c.args.setting.now.state.now start (g.L.Line.state c.args.line.now) c.args.self.now.tally (g.L.Line.state c.read.new.line) c.args.self.now.half.wire c.read.new.self
-    (rw here at s) due.0 due.1 moved.0 moved.1 moved.3)
-
-pub returns-in-Err-clause-none : goal.returns-in-Err-clause-none
-returns-in-Err-clause-none g c none = inl c.end_with.ensures.at
-
-pub turn-requires : goal.turn-requires
-turn-requires g c =
-    let here = in_request c.args.self.now.exchange c.args.self.now.session c.args.self.now.ended c.args.self.now.half c.in-Some.exchange c.in-Some.is c.in-None-session.is in
-    let x = (rw here at c.requires.stands.3).stands.3 in
-    record { began = (x.side, x.begun) }
+    rw (c.end_with.ensures.at, c.end_with.ensures.tally) (lemma.read_short c.read.new.self (rw (c.in-None.is, c.in-None-ended.is) at s) due.0 due.1 moved.0 moved.1 moved.3)
 
 pub returns-in-None-session-clause-serves : goal.returns-in-None-session-clause-serves
 returns-in-None-session-clause-serves g c app limits start s =
-    let here = in_request c.args.self.now.exchange c.args.self.now.session c.args.self.now.ended c.args.self.now.half c.in-Some.exchange c.in-Some.is c.in-None-session.is in
-    rw c.in-None-session.is (
-    lemma.http_moves g.A.Task.AppTask.answers g.U.Pipes.Conn.ConnEnd g.U.Pipes.App.AppEnd g.U.Runner.conn g.U.Runner.began (g.A.Application.answers app) limits c.args.setting.now.client.now c.args.setting.now.server.now c.args.setting.now.state.now start (g.L.Line.state c.args.line.now) c.args.self.now.tally (g.L.Line.state c.turn.new.line) c.in-Some.exchange c.turn.new.exchange c.turn.ensures.began
-    c.args.self.now.half c.turn.new.half (rw here at s) c.turn.ensures.leads)
-
-pub turn-requires-in-Some-session : goal.turn-requires-in-Some-session
-turn-requires-in-Some-session g c =
-    let here = in_session c.args.self.now.exchange c.args.self.now.session c.args.self.now.ended c.args.self.now.half c.in-Some.exchange c.in-Some-session.session c.in-Some.is c.in-Some-session.is in
-    let x = (rw here at c.requires.stands.3).stands.5 in
-    record { began = (x.side, x.begun) }
+    rw c.in-None-session.is (lemma.http_moves c.turn.ensures.began (rw (c.in-Some.is, c.in-None-session.is) at s) c.turn.ensures.leads)
 
 pub returns-in-Some-session-clause-serves : goal.returns-in-Some-session-clause-serves
 returns-in-Some-session-clause-serves g c app limits start s =
-    let here = in_session c.args.self.now.exchange c.args.self.now.session c.args.self.now.ended c.args.self.now.half c.in-Some.exchange c.in-Some-session.session c.in-Some.is c.in-Some-session.is in
-    lemma.session_moves g.A.Task.AppTask.answers g.U.Pipes.Conn.ConnEnd g.U.Pipes.App.AppEnd g.U.Runner.conn g.U.Runner.began (g.A.Application.answers app) limits c.args.setting.now.client.now c.args.setting.now.server.now c.args.setting.now.state.now start (g.L.Line.state c.args.line.now) c.args.self.now.tally (g.L.Line.state c.turn-in-Some-session.new.line) c.in-Some.exchange c.turn-in-Some-session.new.exchange c.turn-in-Some-session.ensures.began
-    c.in-Some-session.session c.turn-in-Some-session.new.half (rw here at s) c.turn-in-Some-session.ensures.leads
-
-pub returns-in-Ok-clause-took : goal.returns-in-Ok-clause-took
-returns-in-Ok-clause-took g c = rw (c.in-None.is, c.in-None-ended.is) c.in-Ok.ensures.turn
-
-pub returns-in-None-session-clause-took : goal.returns-in-None-session-clause-took
-returns-in-None-session-clause-took g c = rw (c.in-Some.is, c.in-None-session.is) c.turn.ensures.taken
-
-pub returns-in-Some-session-clause-took : goal.returns-in-Some-session-clause-took
-returns-in-Some-session-clause-took g c = rw (c.in-Some.is, c.in-Some-session.is) c.turn-in-Some-session.ensures.taken
+    lemma.session_moves c.turn-in-Some-session.ensures.began (rw (c.in-Some.is, c.in-Some-session.is) at s) c.turn-in-Some-session.ensures.leads

@@ -4,7 +4,7 @@ use Rattle.asgi_conn.proofs.connection.Connection.new.Goals as goal
 
 pub returns-clause-stands : goal.returns-clause-stands
 returns-clause-stands g c app start before = record {
-  serving = rw c.new-2.ensures.wire (begins g.A.Task.AppTask.answers g.U.Pipes.Conn.ConnEnd g.U.Pipes.App.AppEnd g.U.Runner.conn g.U.Runner.began (g.A.Application.answers app) c.args.limits.now c.args.setting.now.client.now c.args.setting.now.server.now c.args.setting.now.state.now start c.new.result _ c.new.ensures.limits c.new.ensures.unread c.new.ensures.empty refl refl);
+  serving = rw c.new-2.ensures.wire (begins start c.new.result _ c.new.ensures.limits c.new.ensures.unread c.new.ensures.empty refl refl);
   counted = record {
     turn_limit = c.new-3.ensures.turn_limit;
     idle_limit = c.new-3.ensures.idle_limit;

@@ -1,82 +1,56 @@
-use Rattle.asgi_request.specs.declared.next.Next.TheVariants.{Head, Event, Whole, Bad}
+use Rattle.asgi_request.specs.declared.next.Next.TheVariants.{Event, Whole}
 use Rattle.asgi_conn.specs.Places.{place_of}
 use Rattle.asgi_conn.specs.Places as place
-use Rattle.asgi_conn.proofs.PlaceLemmas.{between_at}
+use Rattle.asgi_conn.proofs.PlaceLemmas.{between_of}
 use Rattle.asgi_conn.proofs.CallLemmas.{calls_more}
 use Rattle.asgi_conn.proofs.ServeLemmas as lemma
 use Rattle.asgi_conn.proofs.connection.Connection.next.Goals as goal
 
 pub returns-in_default-clause-serves : goal.returns-in_default-clause-serves
-returns-in_default-clause-serves g c limits start s =
-    let here = between_at c.args.self.now.exchange c.args.self.now.session c.args.self.now.ended c.args.self.now.half c.requires.between in
-    rw c.end_with-in_default.ensures.at (lemma.short g.A.Task.AppTask.answers g.U.Pipes.Conn.ConnEnd g.U.Pipes.App.AppEnd g.U.Runner.conn g.U.Runner.began (g.A.Application.answers c.args.calls.now.app.now) limits c.args.setting.now.client.now c.args.setting.now.server.now c.args.setting.now.state.now start (g.L.Line.state c.args.line.now) c.args.self.now.tally c.args.self.now.half.wire (rw here at s))
+returns-in_default-clause-serves g c limits start s = rw c.end_with-in_default.ensures.at (lemma.short (rw (between_of c.args.self.now c.requires.between) at s))
 
 pub returns-in-Err-clause-serves : goal.returns-in-Err-clause-serves
-returns-in-Err-clause-serves g c limits start s =
-    let here = between_at c.args.self.now.exchange c.args.self.now.session c.args.self.now.ended c.args.self.now.half c.requires.between in
-    rw c.end_with.ensures.at (lemma.short g.A.Task.AppTask.answers g.U.Pipes.Conn.ConnEnd g.U.Pipes.App.AppEnd g.U.Runner.conn g.U.Runner.began (g.A.Application.answers c.args.calls.now.app.now) limits c.args.setting.now.client.now c.args.setting.now.server.now c.args.setting.now.state.now start (g.L.Line.state c.args.line.now) c.args.self.now.tally c.args.self.now.half.wire (rw here at s))
+returns-in-Err-clause-serves g c limits start s = rw c.end_with.ensures.at (lemma.short (rw (between_of c.args.self.now c.requires.between) at s))
 
 pub returns-in-Ok-Need-clause-serves : goal.returns-in-Ok-Need-clause-serves
 returns-in-Ok-Need-clause-serves g c limits start s =
-    let here = between_at c.args.self.now.exchange c.args.self.now.session c.args.self.now.ended c.args.self.now.half c.requires.between in
-    lemma.waited g.A.Task.AppTask.answers g.U.Pipes.Conn.ConnEnd g.U.Pipes.App.AppEnd g.U.Runner.conn g.U.Runner.began (g.A.Application.answers c.args.calls.now.app.now) limits c.args.setting.now.client.now c.args.setting.now.server.now c.args.setting.now.state.now start (g.L.Line.state c.args.line.now) c.args.self.now.tally c.args.self.now.half.wire (rw here at s)
-    c.next.new.self c.next.ensures.limits (place_of c.wait.new.self) (c.in-Ok-Need.ensures.need c.in-Ok-Need.field-0-is) c.wait.ensures.waits
+    lemma.waited (rw (between_of c.args.self.now c.requires.between) at s) c.next.new.self c.next.ensures.limits (place_of c.wait.new.self)
+    (c.in-Ok-Need.ensures.need c.in-Ok-Need.field-0-is) c.wait.ensures.waits
 
 pub returns-in-Ok-Bad-clause-serves : goal.returns-in-Ok-Bad-clause-serves
 returns-in-Ok-Bad-clause-serves g c limits start s =
-    let here = between_at c.args.self.now.exchange c.args.self.now.session c.args.self.now.ended c.args.self.now.half c.requires.between in
-    let bad = c.in-Ok-Bad in
-    let gave = lemma.given_as c.args.self.now.half.wire.requests c.next.new.self bad.field-0 (Bad bad.status) bad.field-0-is (λ never. cc) bad.ensures.given in
-    rw c.end_with-in-Ok-Bad.ensures.at (lemma.refused g.A.Task.AppTask.answers g.U.Pipes.Conn.ConnEnd g.U.Pipes.App.AppEnd g.U.Runner.conn g.U.Runner.began (g.A.Application.answers c.args.calls.now.app.now) limits c.args.setting.now.client.now c.args.setting.now.server.now c.args.setting.now.state.now start (g.L.Line.state c.args.line.now) c.args.self.now.tally c.args.self.now.half.wire (rw here at s)
-    c.next.new.self c.next.ensures.limits (g.L.Line.state c.refuse-outcome.new.line) (place.Ended c.refuse-outcome.result) bad.status gave c.refuse-outcome.ensures.refuses)
+    rw c.end_with-in-Ok-Bad.ensures.at (lemma.refused (rw (between_of c.args.self.now c.requires.between) at s) c.next.new.self c.next.ensures.limits
+    (place.Ended c.refuse-outcome.result) c.in-Ok-Bad.status ((rw c.in-Ok-Bad.field-0-is at c.in-Ok-Bad.ensures.given) (λ never. cc)) c.refuse-outcome.ensures.refuses)
 
 pub returns-in_default-framing-clause-serves : goal.returns-in_default-framing-clause-serves
 returns-in_default-framing-clause-serves g c limits start s =
-    let here = between_at c.args.self.now.exchange c.args.self.now.session c.args.self.now.ended c.args.self.now.half c.requires.between in
-    let head = c.in-Ok-Head in
-    let gave = lemma.given_as c.args.self.now.half.wire.requests c.next.new.self head.field-0 (Head head.scope head.facts) head.field-0-is (λ never. cc) head.ensures.given in
-    lemma.answered g.A.Task.AppTask.answers g.U.Pipes.Conn.ConnEnd g.U.Pipes.App.AppEnd g.U.Runner.conn g.U.Runner.began (g.A.Application.answers c.args.calls.now.app.now) limits c.args.setting.now.client.now c.args.setting.now.server.now c.args.setting.now.state.now start (g.L.Line.state c.args.line.now) c.args.self.now.tally c.args.self.now.half.wire (rw here at s)
-    c.next.new.self c.next.ensures.limits head.scope head.facts gave c.in_default-framing.not-Upgrade c.in-Ok.scope (g.L.Line.state c.answer.new.line) (place_of c.answer.new.self) c.in-Ok.ensures c.answer.ensures.serves
+    lemma.answered (rw (between_of c.args.self.now c.requires.between) at s) c.next.new.self c.next.ensures.limits c.in-Ok-Head.scope c.in-Ok-Head.facts
+    ((rw c.in-Ok-Head.field-0-is at c.in-Ok-Head.ensures.given) (λ never. cc)) c.in_default-framing.not-Upgrade c.in-Ok.ensures c.answer.ensures.serves
 
 pub returns-in-Upgrade-clause-serves : goal.returns-in-Upgrade-clause-serves
 returns-in-Upgrade-clause-serves g c limits start s =
-    let here = between_at c.args.self.now.exchange c.args.self.now.session c.args.self.now.ended c.args.self.now.half c.requires.between in
-    let head = c.in-Ok-Head in
-    let gave = lemma.given_as c.args.self.now.half.wire.requests c.next.new.self head.field-0 (Head head.scope head.facts) head.field-0-is (λ never. cc) head.ensures.given in
-    lemma.opened g.A.Task.AppTask.answers g.U.Pipes.Conn.ConnEnd g.U.Pipes.App.AppEnd g.U.Runner.conn g.U.Runner.began (g.A.Application.answers c.args.calls.now.app.now) limits c.args.setting.now.client.now c.args.setting.now.server.now c.args.setting.now.state.now start (g.L.Line.state c.args.line.now) c.args.self.now.tally c.args.self.now.half.wire (rw here at s)
-    c.next.new.self c.next.ensures.limits head.scope head.facts gave c.in-Upgrade.is c.in-Ok.scope (g.L.Line.state c.open.new.line) (place_of c.open.new.self) c.in-Ok.ensures c.open.ensures.serves
+    lemma.opened (rw (between_of c.args.self.now c.requires.between) at s) c.next.new.self c.next.ensures.limits c.in-Ok-Head.scope c.in-Ok-Head.facts
+    ((rw c.in-Ok-Head.field-0-is at c.in-Ok-Head.ensures.given) (λ never. cc)) c.in-Upgrade.is c.in-Ok.ensures c.open.ensures.serves
 
 pub answer-requires-clause-http : goal.answer-requires-clause-http
 answer-requires-clause-http g c =
-    let here = between_at c.args.self.now.exchange c.args.self.now.session c.args.self.now.ended c.args.self.now.half c.requires.between in
-    let head = c.in-Ok-Head in
-    let gave = lemma.given_as c.args.self.now.half.wire.requests c.next.new.self head.field-0 (Head head.scope head.facts) head.field-0-is (λ never. cc) head.ensures.given in
-    lemma.is_http g.A.Task.AppTask.answers g.U.Pipes.Conn.ConnEnd g.U.Pipes.App.AppEnd g.U.Runner.conn g.U.Runner.began (g.A.Application.answers c.args.calls.now.app.now) c.requires.stands.0 c.args.setting.now.client.now c.args.setting.now.server.now c.args.setting.now.state.now c.requires.stands.1 (g.L.Line.state c.args.line.now) c.args.self.now.tally c.args.self.now.half.wire (rw here at c.requires.stands.2)
-    c.next.new.self c.next.ensures.limits head.scope head.facts gave c.in_default-framing.not-Upgrade c.in-Ok.scope c.in-Ok.ensures
+    lemma.is_http (rw (between_of c.args.self.now c.requires.between) at c.requires.stands.2) c.next.new.self c.next.ensures.limits c.in-Ok-Head.scope c.in-Ok-Head.facts
+    ((rw c.in-Ok-Head.field-0-is at c.in-Ok-Head.ensures.given) (λ never. cc)) c.in_default-framing.not-Upgrade c.in-Ok.ensures
 
 pub open-requires-clause-websocket : goal.open-requires-clause-websocket
 open-requires-clause-websocket g c =
-    let here = between_at c.args.self.now.exchange c.args.self.now.session c.args.self.now.ended c.args.self.now.half c.requires.between in
-    let head = c.in-Ok-Head in
-    let gave = lemma.given_as c.args.self.now.half.wire.requests c.next.new.self head.field-0 (Head head.scope head.facts) head.field-0-is (λ never. cc) head.ensures.given in
-    lemma.is_websocket g.A.Task.AppTask.answers g.U.Pipes.Conn.ConnEnd g.U.Pipes.App.AppEnd g.U.Runner.conn g.U.Runner.began (g.A.Application.answers c.args.calls.now.app.now) c.requires.stands.0 c.args.setting.now.client.now c.args.setting.now.server.now c.args.setting.now.state.now c.requires.stands.1 (g.L.Line.state c.args.line.now) c.args.self.now.tally c.args.self.now.half.wire (rw here at c.requires.stands.2)
-    c.next.new.self c.next.ensures.limits head.scope head.facts gave c.in-Upgrade.is c.in-Ok.scope c.in-Ok.ensures
+    lemma.is_websocket (rw (between_of c.args.self.now c.requires.between) at c.requires.stands.2) c.next.new.self c.next.ensures.limits c.in-Ok-Head.scope c.in-Ok-Head.facts
+    ((rw c.in-Ok-Head.field-0-is at c.in-Ok-Head.ensures.given) (λ never. cc)) c.in-Upgrade.is c.in-Ok.ensures
 
 pub unreachable-requires : goal.unreachable-requires
 unreachable-requires g c =
-    let here = between_at c.args.self.now.exchange c.args.self.now.session c.args.self.now.ended c.args.self.now.half c.requires.between in
-    let event = c.in-Ok-Event in
-    let gave = lemma.given_as c.args.self.now.half.wire.requests c.next.new.self event.field-0 (Event event.field-0-0) event.field-0-is (λ never. cc) event.ensures.given in
-    lemma.opens g.A.Task.AppTask.answers g.U.Pipes.Conn.ConnEnd g.U.Pipes.App.AppEnd g.U.Runner.conn g.U.Runner.began (g.A.Application.answers c.args.calls.now.app.now) c.requires.stands.0 c.args.setting.now.client.now c.args.setting.now.server.now c.args.setting.now.state.now c.requires.stands.1 (g.L.Line.state c.args.line.now) c.args.self.now.tally c.args.self.now.half.wire (rw here at c.requires.stands.2)
-    c.next.new.self c.next.ensures.limits (Event event.field-0-0) gave
+    lemma.opens (rw (between_of c.args.self.now c.requires.between) at c.requires.stands.2) c.next.new.self c.next.ensures.limits (Event c.in-Ok-Event.field-0-0)
+    ((rw c.in-Ok-Event.field-0-is at c.in-Ok-Event.ensures.given) (λ never. cc))
 
 pub unreachable-requires-in-Ok-Whole : goal.unreachable-requires-in-Ok-Whole
 unreachable-requires-in-Ok-Whole g c =
-    let here = between_at c.args.self.now.exchange c.args.self.now.session c.args.self.now.ended c.args.self.now.half c.requires.between in
-    let whole = c.in-Ok-Whole in
-    let gave = lemma.given_as c.args.self.now.half.wire.requests c.next.new.self whole.field-0 (Whole) whole.field-0-is (λ never. cc) whole.ensures.given in
-    lemma.opens g.A.Task.AppTask.answers g.U.Pipes.Conn.ConnEnd g.U.Pipes.App.AppEnd g.U.Runner.conn g.U.Runner.began (g.A.Application.answers c.args.calls.now.app.now) c.requires.stands.0 c.args.setting.now.client.now c.args.setting.now.server.now c.args.setting.now.state.now c.requires.stands.1 (g.L.Line.state c.args.line.now) c.args.self.now.tally c.args.self.now.half.wire (rw here at c.requires.stands.2)
-    c.next.new.self c.next.ensures.limits Whole gave
+    lemma.opens (rw (between_of c.args.self.now c.requires.between) at c.requires.stands.2) c.next.new.self c.next.ensures.limits Whole
+    ((rw c.in-Ok-Whole.field-0-is at c.in-Ok-Whole.ensures.given) (λ never. cc))
 
 pub returns-in_default-framing-clause-called : goal.returns-in_default-framing-clause-called
 returns-in_default-framing-clause-called g c = calls_more c.in-Ok.scope (place_of c.answer.new.self) c.args.calls.now.scopes.items c.answer.new.calls.scopes.items c.answer.ensures.called

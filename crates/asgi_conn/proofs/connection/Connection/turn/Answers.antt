@@ -1,22 +1,10 @@
-use Rattle.std.proofs.Common.{ℕ, ◌+◌, sym, ap, ◌∙◌, subst, refl}
-use Rattle.std.specs.Prelude.{length}
-use Rattle.asgi_conn.specs.declared.connection.Step.TheVariants as step
-use Rattle.asgi_conn.specs.declared.tally.Tally.{Tally}
-use Rattle.asgi_conn.specs.Standing.{IsCounted}
-use Rattle.asgi_conn.specs.private.Loop.{IsGoing}
-use Rattle.asgi_conn.specs.Places.{place_of}
+use Rattle.std.proofs.Common.{refl}
 use Rattle.asgi_conn.proofs.TurnLemmas as lemma
 use Rattle.asgi_conn.proofs.connection.Connection.turn.Goals as goal
 
 pub returns-then-has_ended-clause-over : goal.returns-then-has_ended-clause-over
 returns-then-has_ended-clause-over g c limits start before s =
-    lemma.told g.A.Task.AppTask.answers g.U.Pipes.Conn.ConnEnd g.U.Pipes.App.AppEnd g.U.Runner.conn g.U.Runner.began (g.A.Application.answers c.args.calls.now.app.now) limits c.args.setting.now.client.now c.args.setting.now.server.now c.args.setting.now.state.now start before (g.L.Line.state c.args.line.now) (g.P.Pause.count c.args.pause.now) c.args.self.now c.report.result s c.report.ensures
-
-pub returns-then-has_ended-clause-again : goal.returns-then-has_ended-clause-again
-returns-then-has_ended-clause-again g c report is = (ap step.Over (lemma.one_report c.args.self.now c.report.result report c.report.ensures is), refl, refl, refl)
-
-pub go_on-requires : goal.go_on-requires
-go_on-requires g c = let r = c.requires in (r.0, r.1, r.2, g.P.Pause.count c.args.pause.now, r.3)
+    lemma.told s c.report.ensures
 
 pub move_on-requires-clause-stands : goal.move_on-requires-clause-stands
 move_on-requires-clause-stands g c = let r = c.requires in (c.args.calls.now.app.now, r.0, r.1, (c.go_on.ensures.stands r.0 r.1 r.2 (g.P.Pause.count c.args.pause.now) r.3).serving)
@@ -24,62 +12,19 @@ move_on-requires-clause-stands g c = let r = c.requires in (c.args.calls.now.app
 pub returns-in-None-clause-stands : goal.returns-in-None-clause-stands
 returns-in-None-clause-stands g c limits start before s =
     let m = c.go_on.ensures.stands limits start before (g.P.Pause.count c.args.pause.now) s in
-    record {
-      serving = c.move_on.ensures.serves c.args.calls.now.app.now limits start m.serving;
-      counted = lemma.counted_none limits before (g.P.Pause.count c.args.pause.now) (place_of c.go_on.new.self) (place_of c.move_on.new.self) c.go_on.new.self.tally c.move_on.new.self.tally m.counted
-          c.move_on.ensures.tally (c.in-None.ensures.none refl);
-    }
-
-pub report-requires-in-None : goal.report-requires-in-None
-report-requires-in-None g c = lemma.ended_none (place_of c.go_on.new.self) (place_of c.move_on.new.self) (c.in-None.ensures.none refl)
+    lemma.stands_none c.go_on.new.self (c.move_on.ensures.serves c.args.calls.now.app.now limits start m.serving) m.counted c.move_on.ensures.tally (c.in-None.ensures.none refl)
 
 pub returns-in-None-clause-over : goal.returns-in-None-clause-over
 returns-in-None-clause-over g c limits start before s =
     let m = c.go_on.ensures.stands limits start before (g.P.Pause.count c.args.pause.now) s in
-    lemma.told g.A.Task.AppTask.answers g.U.Pipes.Conn.ConnEnd g.U.Pipes.App.AppEnd g.U.Runner.conn g.U.Runner.began (g.A.Application.answers c.args.calls.now.app.now) limits c.args.setting.now.client.now c.args.setting.now.server.now c.args.setting.now.state.now start before (g.L.Line.state c.move_on.new.line) (g.P.Pause.count c.args.pause.now) c.move_on.new.self c.report-in-None.result
-    (record {
-      serving = c.move_on.ensures.serves c.args.calls.now.app.now limits start m.serving;
-      counted = lemma.counted_none limits before (g.P.Pause.count c.args.pause.now) (place_of c.go_on.new.self) (place_of c.move_on.new.self) c.go_on.new.self.tally c.move_on.new.self.tally m.counted
-          c.move_on.ensures.tally (c.in-None.ensures.none refl);
-    }) c.report-in-None.ensures
-
-pub returns-in-None-clause-again : goal.returns-in-None-clause-again
-returns-in-None-clause-again g c report is = absurd (subst IsGoing is.0 (c.has_ended.ensures.no c.if-has_ended.false))
-
-pub take-requires-clause-turns : goal.take-requires-clause-turns
-take-requires-clause-turns g c = (lemma.may_turn (place_of c.go_on.new.self) c.go_on.new.self.tally c.move_on.new.self.tally c.move_on.ensures.tally c.go_on.ensures.due c.in-Some.ensures.some.0).0
-
-pub take-requires-clause-idle : goal.take-requires-clause-idle
-take-requires-clause-idle g c = (lemma.may_turn (place_of c.go_on.new.self) c.go_on.new.self.tally c.move_on.new.self.tally c.move_on.ensures.tally c.go_on.ensures.due c.in-Some.ensures.some.0).1
+    lemma.told (lemma.stands_none c.go_on.new.self (c.move_on.ensures.serves c.args.calls.now.app.now limits start m.serving) m.counted
+    c.move_on.ensures.tally (c.in-None.ensures.none refl)) c.report-in-None.ensures
 
 pub returns-in-Some-clause-stands : goal.returns-in-Some-clause-stands
 returns-in-Some-clause-stands g c limits start before s =
     let m = c.go_on.ensures.stands limits start before (g.P.Pause.count c.args.pause.now) s in
     record {
-      serving = lemma.turned g.A.Task.AppTask.answers g.U.Pipes.Conn.ConnEnd g.U.Pipes.App.AppEnd g.U.Runner.conn g.U.Runner.began (g.A.Application.answers c.args.calls.now.app.now) limits c.args.setting.now.client.now c.args.setting.now.server.now c.args.setting.now.state.now start (g.L.Line.state c.move_on.new.line) c.move_on.new.self.tally _ (place_of c.move_on.new.self) refl refl (c.move_on.ensures.serves c.args.calls.now.app.now limits start m.serving);
-      counted = lemma.counted_more limits before (g.P.Pause.count c.args.pause.now) (place_of c.go_on.new.self) (place_of c.move_on.new.self) c.move_on.new.self.tally _ (g.P.Pause.count c.take.new.pause) c.in-Some.turn
-          (subst (λ (t : Tally). IsCounted limits before (g.P.Pause.count c.args.pause.now) (place_of c.go_on.new.self) t) (sym c.move_on.ensures.tally) m.counted)
-          c.in-Some.ensures.some.0 c.in-Some.ensures.some.1 refl c.take.ensures.one c.take.ensures.turn_limit c.take.ensures.idle_limit c.take.ensures.counts;
+      serving = lemma.turned refl refl (c.move_on.ensures.serves c.args.calls.now.app.now limits start m.serving);
+      counted = lemma.counted_more c.in-Some.turn (rw (← c.move_on.ensures.tally) at m.counted) c.in-Some.ensures.some.0 c.in-Some.ensures.some.1
+          refl c.take.ensures.one c.take.ensures.turn_limit c.take.ensures.idle_limit c.take.ensures.counts;
     }
-
-pub returns-in-Some-clause-over : goal.returns-in-Some-clause-over
-returns-in-Some-clause-over g c = lemma.no_report c.step_of.result _ c.step_of.ensures.on
-
-pub returns-in-Some-clause-ended : goal.returns-in-Some-clause-ended
-returns-in-Some-clause-ended g c = lemma.no_report c.step_of.result _ c.step_of.ensures.on
-
-pub returns-in-Some-clause-takes : goal.returns-in-Some-clause-takes
-returns-in-Some-clause-takes g c going =
-    lemma.takes_one c.args.self.now.tally c.go_on.new.self.tally c.move_on.new.self.tally c.take.new.self c.go_on.ensures.turns c.move_on.ensures.tally c.take.ensures.one c.take.ensures.turn_limit
-
-pub returns-in-Some-clause-again : goal.returns-in-Some-clause-again
-returns-in-Some-clause-again g c report is = absurd (subst IsGoing is.0 (c.has_ended.ensures.no c.if-has_ended.false))
-
-pub returns-in-Some-clause-took : goal.returns-in-Some-clause-took
-returns-in-Some-clause-took g c going = (c.in-Some.turn, g.L.Line.state c.go_on.new.line, (place_of c.go_on.new.self), c.go_on.ensures.unread, c.in-Some.ensures.took, c.step_of.ensures.step)
-
-pub returns-in-None-clause-called : goal.returns-in-None-clause-called
-returns-in-None-clause-called g c = c.go_on.ensures.called ∙ ap (λ (n : ℕ). length c.args.calls.now.scopes.items + n) (sym c.move_on.ensures.counts)
-
-pub returns-in-Some-clause-called : goal.returns-in-Some-clause-called
-returns-in-Some-clause-called g c = c.go_on.ensures.called ∙ ap (λ (n : ℕ). length c.args.calls.now.scopes.items + n) (sym c.move_on.ensures.counts)

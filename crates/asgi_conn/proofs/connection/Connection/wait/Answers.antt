@@ -7,4 +7,4 @@ returns-then-has_ended-clause-waits g c limits start now read given exchanges af
 
 pub returns-then-is_over-clause-waits : goal.returns-then-is_over-clause-waits
 returns-then-is_over-clause-waits g c limits start now read given exchanges after written x all =
-    rw c.end_with-then-is_over.ensures.at (ends_idle limits start now c.args.self.now.half.wire read given exchanges after written x all)
+    rw c.end_with-then-is_over.ensures.at (ends_idle x all)

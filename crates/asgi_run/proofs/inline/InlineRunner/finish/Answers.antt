@@ -6,12 +6,9 @@ use Rattle.asgi_run.proofs.inline.InlineRunner.finish.Goals as goal
 
 pub returns-clause-runs : goal.returns-clause-runs
 returns-clause-runs g c side scene now read view b s is request =
-    let app = c.end_of-last.result.app_end in
-    let kind = c.end_of-last.result.kind in
-    let stands = g.T.AppTask.stands in
-    let answers = g.T.AppTask.answers in
-    let all = lemma.goes_further stands answers app_end.ghosts side c.args.exchange.side (HasEnded app kind) b.1 c.end_of-last.ensures.side in
+    let last = c.end_of-last.result in
+    let all = lemma.goes_further g.T.AppTask.stands g.T.AppTask.answers app_end.ghosts side c.args.exchange.side (HasEnded last.app_end last.kind) b.1 c.end_of-last.ensures.side in
     let y = c.abandon.ensures.leads scene now read view s is in
     let met = c.join-met.ensures in
-    has_run g.H.Half g.met.H.Half.steady (λ m. m.left_in) (λ m. m.left_out) stands answers app_end.ghosts side app kind c.join-met.result scene now c.abandon.new.self read y.0 _ _ _ _
-    b.2 all request y.1 (g.met.H.Half.keeps scene now c.abandon.new.self read y.0 y.1) y.2.0 y.2.2 met.met met.inward met.outward met.heard met.lawful
+    has_run (g.met.H.Half.steady scene) (λ m. m.left_in) (λ m. m.left_out) g.T.AppTask.stands last.app_end c.join-met.result y.0 _ _ _ _ b.2 all request y.1
+    (g.met.H.Half.keeps scene now c.abandon.new.self read y.0 y.1) y.2.0 y.2.2 met.met met.inward met.outward met.heard met.lawful
