@@ -17,7 +17,5 @@ pub mod HalfEndLemmas
 pub mod SessionOfferLemmas
 pub mod HttpHalfLemmas
 pub mod CallLemmas
-pub mod HttpKindLemmas
 pub mod SessionKindLemmas
 pub mod TurnLemmas
-pub mod StageLemmas
