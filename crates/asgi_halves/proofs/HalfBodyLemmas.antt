@@ -1,8 +1,8 @@
 -- What the connection's half knows of the body: what the reader gave of it, and what was offered.
-use Rattle.asgi_halves.proofs.HalfWords.{◌≡◌, ◌≢◌, ℕ, true, false, List, [], ◌∷◌, ◌++◌, map, refl, sym, ap, ◌∙◌, subst, inl, inr, append_assoc, Option, Some, None, Bool, ◌⊎◌, IsPrefix, Facts}
-use Rattle.asgi_halves.proofs.HalfWords.{Framing, Incoming, Scope, Next, body_events, body_state, BodyState, complete, HasOpened, Reading, StandsFor, Break, ByInput, ByCut, is_by_input, is_by_cut}
-use Rattle.asgi_halves.proofs.HalfWords.{BodyProgress, InputEnd, Input, HasGiven, BreaksAt, has_ended, is_faulty, input_of, IsSettled, known_input, body_is_read, partial, faulty, ReadsBody}
-use Rattle.asgi_halves.proofs.HalfWords.{GaveNext}
+use Rattle.asgi_halves.proofs.HalfWords.{◌≡◌, ◌≢◌, ℕ, true, false, List, [], ◌∷◌, ◌++◌, map, refl, sym, ap, ◌∙◌, inr, append_assoc, Option, None, ◌⊎◌, IsPrefix, Facts, Framing, Incoming, Scope, Next}
+use Rattle.asgi_halves.proofs.HalfWords.{body_events, body_state, BodyState, complete, HasOpened, Reading, StandsFor, Break, is_by_input, is_by_cut, BodyProgress, InputEnd, Input, HasGiven, BreaksAt}
+use Rattle.asgi_halves.proofs.HalfWords.{has_ended, is_faulty, input_of, IsSettled, known_input, body_is_read, partial, faulty, ReadsBody, GaveNext, arith}
+use Rattle.asgi_exchange.proofs.ListLemmas.{last_same}
 use Rattle.asgi_request.proofs.{DueLemmas.OpensAt, DueLemmas.bad_is_faulty, DueLemmas.events_are_due, DueLemmas.need_is_partial, DueLemmas.no_head as none_inside, DueLemmas.whole_is_complete}
 use Rattle.asgi_request.proofs.{OpenedLemmas.opened_at, OpenedLemmas.opened_plain, RefusalLemmas.refused_last}
 use Rattle.asgi_request.specs.{Reading.AllGiven, Reading.GoesOn, Reading.IsRefused, Refusals.status_of}
@@ -10,44 +10,23 @@ use Rattle.asgi_request.specs.{Reading.AllGiven, Reading.GoesOn, Reading.IsRefus
 -- ---- breaks
 
 pub unbroken : (b : Option Break) → is_by_cut b ≡ false → is_by_input b ≡ false → b ≡ None
-unbroken None uncut not_by_input = refl
-unbroken (Some ByInput) uncut not_by_input = absurd (cc (not_by_input))
-unbroken (Some ByCut) uncut not_by_input = absurd (cc (uncut))
+unbroken b uncut not_by_input = grind arith
 
 -- ---- no refusal was given before
 
-is_bad : Next → Bool
-is_bad (Next.Bad status) = true
-is_bad _ = false
-
-ends_bad : List Next → Bool
-ends_bad [] = false
-ends_bad (x ∷ []) = is_bad x
-ends_bad (x ∷ y ∷ l) = ends_bad (y ∷ l)
-
-ends_after : (l : List Next) (x : Next) (m : List Next) → ends_bad (l ++ x ∷ m) ≡ ends_bad (x ∷ m)
-unfolding ends_bad
-ends_after [] x m = refl
-ends_after (y ∷ []) x m = refl
-ends_after (y ∷ z ∷ l) x m = ends_after (z ∷ l) x m
-
-no_bad_events : (x : Next) (events : List Incoming) → is_bad x ≡ false → ends_bad (x ∷ map Next.Event events) ≡ false
-unfolding ends_bad is_bad
-no_bad_events x [] no_bad = no_bad
-no_bad_events x (e ∷ events) no_bad = no_bad_events (Next.Event e) events refl
+no_bad : (front : List Next) (x : Next) (events : List Incoming) (before : List Next) (status : ℕ) → x ≢ Next.Bad status
+    → front ++ x ∷ map Next.Event events ≡ before ++ Next.Bad status ∷ [] → ⊥
+no_bad front x [] before status other e = other (last_same front before x (Next.Bad status) e).1
+no_bad front x (event ∷ events) before status other e =
+    no_bad (front ++ x ∷ []) (Next.Event event) events before status (λ is. cc) (append_assoc front (x ∷ []) (map Next.Event (event ∷ events)) ∙ e)
 
 -- a reader that gave a head and events after it has not refused
-pub not_refused : (reader : Reading) (read : List ℕ) (opened : List Next) (framing : Framing) (arrived : List ℕ) (events : List Incoming) (status : ℕ)
+not_refused : (reader : Reading) (read : List ℕ) (opened : List Next) (framing : Framing) (arrived : List ℕ) (events : List Incoming) (status : ℕ)
     → HasOpened reader.limits read opened framing arrived → StandsFor reader read (opened ++ map Next.Event events) → IsRefused reader status → ⊥
-unfolding ends_bad is_bad
 not_refused reader read opened framing arrived events status x stands refused =
     let last = refused_last reader.limits read (opened ++ map Next.Event events) reader.place reader.held refused.0 stands refused.1 in
-    let bad : ends_bad (opened ++ map Next.Event events) ≡ true = ap ends_bad last.1 ∙ ends_after last.0 (Next.Bad (status_of refused.0)) [] in
-    let good : ends_bad (opened ++ map Next.Event events) ≡ false =
-    ap (λ (l : List Next). ends_bad (l ++ map Next.Event events)) x.opened_is
-    ∙ (ap ends_bad (append_assoc x.closed (Next.Head x.scope x.facts ∷ []) (map Next.Event events))
-    ∙ (ends_after x.closed (Next.Head x.scope x.facts) (map Next.Event events) ∙ no_bad_events (Next.Head x.scope x.facts) events refl)) in
-    cc (bad, good)
+    let all = ap (λ (l : List Next). l ++ map Next.Event events) x.opened_is ∙ append_assoc x.closed (Next.Head x.scope x.facts ∷ []) (map Next.Event events) in
+    no_bad x.closed (Next.Head x.scope x.facts) events last.0 (status_of refused.0) (λ is. cc) (sym all ∙ last.1)
 
 -- ---- the body, by what the reader gave of it
 
@@ -85,21 +64,16 @@ module _ (reader : Reading) (read : List ℕ) (opened : List Next) (framing : Fr
   state_by events _ given settled = absurd settled
 
   pub all_due : (events : List Incoming) (body : BodyProgress) (end : InputEnd) → HasGiven reader read opened events body → BreaksAt body end → events ≡ due
-  all_due events BodyProgress.Open end given breaks = absurd breaks
-  all_due events (BodyProgress.Waits event) end given breaks = absurd breaks
-  all_due events body end given breaks = (state_by events body given tt).0
+  all_due events body end given breaks = (state_by events body given (grind arith)).0
 
   pub why_broken : (events : List Incoming) (body : BodyProgress) (end : InputEnd) → HasGiven reader read opened events body → BreaksAt body end → (has_ended end ≡ true) ⊎ (is_faulty state ≡ true)
-  why_broken events BodyProgress.Whole end given breaks = inl breaks
-  why_broken events BodyProgress.BrokenOff end given breaks = inl breaks
   why_broken events (BodyProgress.Refused status) end given breaks =
       let w = bad_is_faulty reader.limits read opened framing arrived due state reader.place reader.held at plain body_read events status given in inr (ap is_faulty w.1.1)
-  why_broken events _ end given breaks = absurd breaks
+  why_broken events _ end given breaks = grind arith
 
   pub no_head : (events : List Incoming) (scope : Scope) (facts : Facts) → StandsFor reader read ((opened ++ map Next.Event events) ++ Next.Head scope facts ∷ []) → ⊥
   no_head events scope facts stands =
-      none_inside reader.limits read opened framing arrived due state reader.place reader.held at plain body_read events scope facts
-      (subst (λ (l : List Next). StandsFor reader read l) (append_assoc opened (map Next.Event events) (Next.Head scope facts ∷ [])) stands)
+      none_inside reader.limits read opened framing arrived due state reader.place reader.held at plain body_read events scope facts (rw append_assoc at stands)
 
 -- ---- from what the reader gave
 

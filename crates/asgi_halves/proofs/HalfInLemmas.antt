@@ -1,29 +1,25 @@
 -- The steps of the connection's half on its input: it reads, and offers what is due.
-use Rattle.asgi_halves.proofs.HalfWords.{◌≡◌, ℕ, true, false, List, [], ◌∷◌, ◌++◌, map, refl, sym, ap, ◌∙◌, subst, Option, Some, None, Bool, ◌⊎◌, ◌≤◌, length, IsPrefix, Incoming, Limits, Next}
-use Rattle.asgi_halves.proofs.HalfWords.{body_events, body_state, Reading, StandsFor, IsViewOf, IsOffered, http, Break, ByInput, ConnView, prefix_trans, BodyProgress, HttpHalf, Stage, InputEnd}
-use Rattle.asgi_halves.proofs.HalfWords.{Outcome, Wire, Scene, Invariant, requests_in, IsRunning, HasGiven, EndsWhere, BreaksAt, KeepsBesidesBody, GivesAfter, HasAsked, HoldsFew, ReadsAt, LineState}
-use Rattle.asgi_halves.proofs.HalfWords.{Transferred, piece_size, ReadsAhead, has_ended, is_faulty, ConnGhosts, IsAt, NextStep, end_of, failures_at, EndKind, inr, Talks, ConnKeeps}
+use Rattle.asgi_halves.proofs.HalfWords.{◌≡◌, ℕ, true, false, List, [], ◌∷◌, ◌++◌, refl, sym, ap, ◌∙◌, subst, Some, None, ◌⊎◌, ◌≤◌, length, IsPrefix, Incoming, Limits, Next, body_events, body_state}
+use Rattle.asgi_halves.proofs.HalfWords.{Reading, StandsFor, http, ByInput, ConnView, prefix_trans, BodyProgress, HttpHalf, Stage, Outcome, Wire, Scene, Invariant, requests_in, IsRunning, HasGiven}
+use Rattle.asgi_halves.proofs.HalfWords.{BreaksAt, KeepsBesidesBody, GivesAfter, HasAsked, HoldsFew, ReadsAt, LineState, Transferred, piece_size, has_ended, is_faulty, IsAt, NextStep, end_of}
+use Rattle.asgi_halves.proofs.HalfWords.{failures_at, EndKind, inr, Talks, ConnKeeps, arith}
 use Rattle.asgi_exchange.proofs.HttpLemmas.{http_is_steady}
-use Rattle.asgi_halves.proofs.{HalfBodyLemmas.unbroken, HalfBodyLemmas.first_due, HalfBodyLemmas.all_due, HalfBodyLemmas.why_broken, HalfLemmas.running_of, HalfLemmas.unfailed}
+use Rattle.asgi_halves.proofs.{HalfBodyLemmas.unbroken, HalfBodyLemmas.first_due, HalfBodyLemmas.all_due, HalfBodyLemmas.why_broken, HalfLemmas.stage_of, HalfLemmas.unfailed}
 use Rattle.asgi_halves.proofs.{ReadAheadLemmas.reads_in, ReadAheadLemmas.within_reads, HalfLemmas.restage, HalfLemmas.lacks, HalfLemmas.talks_on, HalfLemmas.opens_in, HalfLemmas.all_written}
-
-pub not_both : (b : Bool) → b ≡ false → b ≡ true → ⊥
-not_both b is_false is_true = cc (is_false, is_true)
 
 module _ {scene : Scene} {now : LineState} {half : HttpHalf} {read : List ℕ} {view : ConnView ℕ ℕ} (x : Invariant scene now half read view) (is : half.stage ≡ Stage.Running) where
   r : IsRunning scene half read view
-  r = running_of x is
+  r = stage_of x is
 
   -- the reader gave more, or needs more
-  pub pulled : (later : HttpHalf) → half.input_broke ≡ false → KeepsBesidesBody half later → later.wire.requests.limits ≡ half.wire.requests.limits → GivesAfter half later
+  pub pulled : {later : HttpHalf} → half.input_broke ≡ false → KeepsBesidesBody half later → later.wire.requests.limits ≡ half.wire.requests.limits → GivesAfter half later
       → Invariant scene now later read view
-  pulled later unbroke same limits gives =
+  pulled {later} unbroke same limits gives =
       let t = r.talks in
       let on = gives read scene.opened scene.facts.framing view.arrived t.events (opens_in x) t.given t.ends_where in
       let new : HttpHalf = record half { body = later.body; wire = record half.wire { requests = later.wire.requests } } in
-      let talks = talks_on t later.wire.requests half.wire.input later.body read view.arrived view.offered (λ e. absurd (not_both half.input_broke unbroke e)) t.events on.0 on.1 in
-      subst (λ (h : HttpHalf). Invariant scene now h read view) (sym same)
-      (restage x new limits refl (subst (λ (s : Stage). IsAt s scene new read view) (sym is) (record { talks = talks; unended = r.unended; offered = r.offered })))
+      let talks = talks_on t later.wire.requests half.wire.input later.body read view.arrived view.offered (λ e. cc (unbroke, e)) t.events on.0 on.1 in
+      rw same (restage x new limits refl (subst (λ (s : Stage). IsAt s scene new read view) (sym is) (record { talks = talks; unended = r.unended; offered = r.offered })))
 
   pub none_broke : half.input_broke ≡ false → view.broken ≡ None
   none_broke unbroke = unbroken view.broken r.talks.uncut (sym r.talks.input_broke ∙ unbroke)
@@ -38,30 +34,10 @@ module _ {scene : Scene} {now : LineState} {half : HttpHalf} {read : List ℕ} {
       let all : later.offered ≡ t.events ++ event ∷ [] = ap (λ (l : List Incoming). l ++ event ∷ []) (r.offered unbroke) in
       let due = first_due half.wire.requests read scene.opened scene.facts.framing view.arrived (opens_in x) (t.events ++ event ∷ []) given in
       let front = subst (λ (l : Limits). IsPrefix (t.events ++ event ∷ []) (body_events l scene.facts.framing view.arrived)) x.limits due in
-      let talks = talks_on t half.wire.requests half.wire.input BodyProgress.Open read view.arrived later.offered (λ e. absurd (not_both half.input_broke unbroke e))
-      (t.events ++ event ∷ []) given tt in
-      let offered = subst (λ (b : Option Break). IsOffered (http half.wire.limits scene.facts) view.arrived later.offered b) (sym (none_broke unbroke))
-      (subst (λ (l : List Incoming). IsPrefix l (body_events half.wire.limits scene.facts.framing view.arrived)) (sym all) front) in
-      let keeps : ConnKeeps (http half.wire.limits scene.facts) later = record { offered = offered; written = x.keeps.written } in
+      let talks = talks_on t half.wire.requests half.wire.input BodyProgress.Open read view.arrived later.offered (λ e. cc (unbroke, e)) (t.events ++ event ∷ []) given tt in
       let stage = subst (λ (s : Stage). IsAt s scene (record half { body = BodyProgress.Open }) read later) (sym is) (record { talks = talks; unended = r.unended; offered = λ e. all }) in
+      let keeps : ConnKeeps (http half.wire.limits scene.facts) later = record { offered = rw (none_broke unbroke, all) front; written = x.keeps.written } in
       record { moved = x.moved; limits = x.limits; within = x.within; keeps = keeps; breaks = x.breaks; stage = stage }
-
-  -- the same, with the clauses of the end's calls
-  pub offered_view : (E : Type 0) (C : ConnGhosts E) (old new : E) (event : Incoming) → half.input_broke ≡ false → half.body ≡ BodyProgress.Waits event → IsViewOf C old view
-      → C.offered new ≡ C.offered old ++ event ∷ [] → C.is_broken new ≡ C.is_broken old → C.got new ≡ C.got old
-      → (later : ConnView ℕ ℕ) × Invariant scene now (record half { body = BodyProgress.Open }) read later × IsViewOf C new later
-  offered_view E C old new event unbroke waits is_view offered broken got =
-      (_, offered_on event unbroke waits, (ap (λ (l : List Incoming). l ++ event ∷ []) is_view.0 ∙ sym offered, is_view.1 ∙ sym broken, is_view.2 ∙ sym got))
-
-  -- it waits on
-  pub waits_view : (E : Type 0) (C : ConnGhosts E) (old new : E) (event back : Incoming) → half.body ≡ BodyProgress.Waits event → back ≡ event → IsViewOf C old view
-      → C.offered new ≡ C.offered old → C.is_broken new ≡ C.is_broken old → C.got new ≡ C.got old
-      → (later : ConnView ℕ ℕ) × Invariant scene now (record half { body = BodyProgress.Waits back }) read later × IsViewOf C new later
-  waits_view E C old new event back waits same is_view offered broken got = (
-    view,
-    subst (λ (b : BodyProgress). Invariant scene now (record half { body = b }) read view) (waits ∙ ap (λ (e : Incoming). BodyProgress.Waits e) (sym same)) x,
-    (is_view.0 ∙ sym offered, is_view.1 ∙ sym broken, is_view.2 ∙ sym got),
-  )
 
   -- the disconnect is offered
   pub broken_off : half.input_broke ≡ false → BreaksAt half.body half.wire.input
@@ -72,8 +48,7 @@ module _ {scene : Scene} {now : LineState} {half : HttpHalf} {read : List ℕ} {
       let all = all_due half.wire.requests read scene.opened scene.facts.framing view.arrived (opens_in x) t.events half.body half.wire.input t.given breaks in
       let due = subst (λ (l : Limits). t.events ≡ body_events l scene.facts.framing view.arrived) x.limits all in
       let why = why_broken half.wire.requests read scene.opened scene.facts.framing view.arrived (opens_in x) t.events half.body half.wire.input t.given breaks in
-      let talks : Talks scene (record half { input_broke = true }) read later =
-      record { uncut = refl; input_broke = refl; settled = λ e. breaks; events = t.events; given = t.given; ends_where = t.ends_where; text = t.text; written = t.written; empty = t.empty } in
+      let talks : Talks scene (record half { input_broke = true }) read later = search t in
       let keeps : ConnKeeps (http half.wire.limits scene.facts) later =
       record { offered = ap (λ (l : List Incoming). l ++ Incoming.HttpDisconnect ∷ []) (r.offered unbroke ∙ due); written = x.keeps.written } in
       let broke = subst (λ (l : Limits). (has_ended half.wire.input ≡ true) ⊎ (is_faulty (body_state l scene.facts.framing view.arrived) ≡ true)) x.limits why in
@@ -82,28 +57,16 @@ module _ {scene : Scene} {now : LineState} {half : HttpHalf} {read : List ℕ} {
 
 -- ---- a read
 
-reads_unbroken : (input_broke : Bool) (body : BodyProgress) (end : InputEnd) → ReadsAt body → has_ended end ≡ false → (input_broke ≡ true → BreaksAt body end) → input_broke ≡ false
-reads_unbroken false body end reads still settled = refl
-reads_unbroken true BodyProgress.Open end reads still settled = absurd (settled refl)
-reads_unbroken true BodyProgress.Whole end reads still settled = absurd (not_both (has_ended end) still (settled refl))
-reads_unbroken true _ end reads still settled = absurd reads
-
 given_fed : (old new : Reading) (read more : List ℕ) (opened : List Next) (events : List Incoming) (body : BodyProgress) → ReadsAt body
     → ((bytes : List ℕ) (given : List Next) → StandsFor old bytes given → StandsFor new (bytes ++ more) given)
     → HasGiven old read opened events body → HasGiven new (read ++ more) opened events body
-given_fed old new read more opened events BodyProgress.Open reads fed given = fed read (opened ++ map Next.Event events) given
-given_fed old new read more opened events BodyProgress.Whole reads fed given = fed read (opened ++ (map Next.Event events ++ Next.Whole ∷ [])) given
-given_fed old new read more opened events _ reads fed given = absurd reads
-
-ends_anywhere : (body : BodyProgress) (end : InputEnd) → ReadsAt body → EndsWhere body end
-ends_anywhere BodyProgress.BrokenOff end reads = absurd reads
-ends_anywhere _ end reads = tt
+given_fed old new read more opened events body reads fed given = grind (arith, fed read)
 
 -- before or after the end of the task
 module _ {scene : Scene} {was now : LineState} {half : HttpHalf} {read : List ℕ} {view : ConnView ℕ ℕ} (x : Invariant scene was half read view) (t : Talks scene half read view)
     (failed : failures_at half.stage ≡ 0) (still : has_ended half.wire.input ≡ false) (reads : ReadsAt half.body) (asked : HasAsked half)
     (few : half.body ≡ BodyProgress.Whole → HoldsFew half.wire.requests)
-    (more : List ℕ) (short : length more ≤ piece_size) (wire : Wire) (same : wire ≡ record half.wire { requests = wire.requests; input = wire.input })
+    (more : List ℕ) (short : length more ≤ piece_size) {wire : Wire} (same : wire ≡ record half.wire { requests = wire.requests; input = wire.input })
     (limits : wire.requests.limits ≡ half.wire.requests.limits)
     (moved : Transferred scene.start was half.wire.input read (scene.before ++ view.written) 0 → Transferred scene.start now wire.input (read ++ more) (scene.before ++ view.written) 0) where
   abbrev reading : HttpHalf
@@ -113,43 +76,31 @@ module _ {scene : Scene} {was now : LineState} {half : HttpHalf} {read : List �
   longer = record view { arrived = view.arrived ++ more }
 
   unbroke : half.input_broke ≡ false
-  unbroke = reads_unbroken half.input_broke half.body half.wire.input reads still t.settled
+  unbroke = grind (arith, reads, still, t.settled)
 
   arrives : (s : Stage) → failures_at s ≡ 0 → IsAt s scene (record reading { stage = s }) (read ++ more) longer → Invariant scene now (record half { wire = wire; stage = s }) (read ++ more) longer
   arrives s none at =
       let never = unbroken view.broken t.uncut (sym t.input_broke ∙ unbroke) in
-      let front = subst (λ (b : Option Break). IsOffered (http half.wire.limits scene.facts) view.arrived view.offered b) never x.keeps.offered in
-      let ahead = subst (λ (l : Limits). ReadsAhead l (read ++ more) (requests_in scene)) x.limits
-      (reads_in half.wire.requests read more scene.opened scene.facts.framing view.arrived (opens_in x) t.events (requests_in scene) x.within.heads short half.body reads t.given
-      (asked unbroke) few) in
-      subst (λ (w : Wire). Invariant scene now (record half { wire = w; stage = s }) (read ++ more) longer) (sym same)
-      (record {
-        moved = subst (λ (n : ℕ). Transferred scene.start now wire.input (read ++ more) (scene.before ++ view.written) n) (sym none) (moved (unfailed x failed));
-        limits = limits ∙ x.limits;
-        within = within_reads scene half.wire.limits half.wire.input wire.input read more view.arrived x.within (λ e. absurd (not_both (has_ended half.wire.input) still e)) ahead;
-        keeps = record {
-          offered = subst (λ (b : Option Break). IsOffered (http half.wire.limits scene.facts) (view.arrived ++ more) view.offered b) (sym never)
-              (prefix_trans view.offered (body_events half.wire.limits scene.facts.framing view.arrived) (body_events half.wire.limits scene.facts.framing (view.arrived ++ more)) front
-              ((http_is_steady half.wire.limits scene.facts).due_grows view.arrived more));
-          written = all_written half.wire.limits scene.facts longer t.written;
-        };
-        breaks = λ e. absurd (not_both half.input_broke unbroke (t.input_broke ∙ e));
-        stage = at;
-      })
+      let ahead = reads_in half.wire.requests read more scene.opened scene.facts.framing view.arrived (opens_in x) t.events (requests_in scene) x.within.heads short half.body reads t.given
+      (asked unbroke) few in
+      let seen = within_reads scene half.wire.limits half.wire.input wire.input read more view.arrived x.within (λ e. cc (still, e)) (rw x.limits at ahead) in
+      let due = prefix_trans view.offered _ _ (rw never at x.keeps.offered) ((http_is_steady half.wire.limits scene.facts).due_grows view.arrived more) in
+      let keeps : ConnKeeps (http half.wire.limits scene.facts) longer = record { offered = rw never due; written = all_written half.wire.limits scene.facts longer t.written } in
+      rw same (record { moved = rw none (moved (unfailed x failed)); limits = limits ∙ x.limits; within = seen; keeps = keeps; breaks = λ e. cc (unbroke, t.input_broke, e); stage = at })
 
   module _ (fed : (bytes : List ℕ) (given : List Next) → StandsFor half.wire.requests bytes given → StandsFor wire.requests (bytes ++ more) given) where
     abbrev talks_more : Talks scene reading (read ++ more) longer
     talks_more =
-        talks_on t wire.requests wire.input half.body (read ++ more) (view.arrived ++ more) view.offered (λ e. absurd (not_both half.input_broke unbroke e)) t.events
-        (given_fed half.wire.requests wire.requests read more scene.opened t.events half.body reads fed t.given) (ends_anywhere half.body wire.input reads)
+        talks_on t wire.requests wire.input half.body (read ++ more) (view.arrived ++ more) view.offered (λ e. cc (unbroke, e)) t.events
+        (given_fed half.wire.requests wire.requests read more scene.opened t.events half.body reads fed t.given) (grind (arith, reads))
 
     pub read_more : half.stage ≡ Stage.Running → end_of view.got ≡ None → (half.input_broke ≡ false → view.offered ≡ t.events)
         → Invariant scene now (record half { wire = wire }) (read ++ more) longer
     read_more is unended offered =
         arrives half.stage failed (subst (λ (s : Stage). IsAt s scene reading (read ++ more) longer) (sym is) (record { talks = talks_more; unended = unended; offered = offered }))
 
-    pub rest_read : (kind : EndKind) → half.stage ≡ Stage.Ending kind → end_of view.got ≡ Some kind → Invariant scene now (record half { wire = wire }) (read ++ more) longer
-    rest_read kind is ended = arrives half.stage failed (subst (λ (s : Stage). IsAt s scene reading (read ++ more) longer) (sym is) (talks_more, ended))
+    pub rest_read : {kind : EndKind} → half.stage ≡ Stage.Ending kind → end_of view.got ≡ Some kind → Invariant scene now (record half { wire = wire }) (read ++ more) longer
+    rest_read is ended = arrives half.stage failed (subst (λ (s : Stage). IsAt s scene reading (read ++ more) longer) (sym is) (talks_more, ended))
 
   -- there is no memory for it
   pub read_short : end_of view.got ≡ None → Invariant scene now (record half { wire = wire; stage = Stage.Cut Outcome.NoMemory }) (read ++ more) longer

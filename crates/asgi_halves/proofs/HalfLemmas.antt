@@ -1,11 +1,10 @@
 -- The steps of the connection's half: if the invariant held, it holds again.
-use Rattle.asgi_halves.proofs.HalfWords.{◌≡◌, ℕ, false, ◌<◌, List, [], ◌∷◌, ◌++◌, length, take, drop, refl, sym, ap, ◌∙◌, subst, append_assoc, Option, None, Appends, append-nil, take-append-drop}
-use Rattle.asgi_halves.proofs.HalfWords.{IsPrefix, RoseBy, TriesWrites, EndKind, Facts, Limits, Outgoing, Next, body_events, response_text, OutItem, http, input_of, end_of, ConnView, output}
-use Rattle.asgi_halves.proofs.HalfWords.{added_by, taken_of, events_append, end_event, BodyProgress, HttpHalf, Stage, Outcome, Wire, Scene, Invariant, IsRunning, IsAt, failures_at, known, state_in}
-use Rattle.asgi_halves.proofs.HalfWords.{LineState, Transferred, StopsWithin, StandsFor, StandsForText, IsCutShort, HasOpened, InputEnd, Incoming, Reading, BreaksAt, HasGiven, EndsWhere}
-use Rattle.asgi_halves.proofs.HalfWords.{prefix_trans, events_of, Talks, true, ConnKeeps}
+use Rattle.asgi_halves.proofs.HalfWords.{◌≡◌, ℕ, false, ◌<◌, List, [], ◌∷◌, ◌++◌, length, take, drop, refl, sym, ap, ◌∙◌, subst, append_assoc, None, Appends, append-nil, take-append-drop, IsPrefix}
+use Rattle.asgi_halves.proofs.HalfWords.{RoseBy, TriesWrites, EndKind, Facts, Limits, Outgoing, response_text, OutItem, http, input_of, end_of, ConnView, output, added_by, taken_of, events_append}
+use Rattle.asgi_halves.proofs.HalfWords.{end_event, BodyProgress, HttpHalf, Stage, Outcome, Wire, Scene, Invariant, IsAt, failures_at, known, state_in, LineState, Transferred, StopsWithin, StandsFor}
+use Rattle.asgi_halves.proofs.HalfWords.{StandsForText, IsCutShort, HasOpened, InputEnd, Incoming, Reading, BreaksAt, HasGiven, EndsWhere, prefix_trans, events_of, Talks, true, ConnKeeps, arith}
 use Rattle.asgi_conversation.proofs.SoFarLemmas.{text_front}
-use Rattle.asgi_conversation.specs.ExchangeRecord.{Beginning, Saying}
+use Rattle.asgi_conversation.specs.{ExchangeRecord.Beginning, ExchangeRecord.Saying, Persistence.InHand}
 use Rattle.asgi_exchange.proofs.EventLemmas.{end_ended}
 use Rattle.asgi_exchange.specs.Views.{empty_conn}
 use Rattle.asgi_halves.specs.{Half.Opens, private.HalfSteps.Pending}
@@ -20,28 +19,20 @@ abbrev pub among : HttpHalf → HttpHalf → HttpHalf
 among half later = record later { wire = record half.wire { requests = later.wire.requests; out = later.wire.out } }
 
 module _ {scene : Scene} {now : LineState} {half : HttpHalf} {read : List ℕ} {view : ConnView ℕ ℕ} (x : Invariant scene now half read view) where
-  pub stage_of : (s : Stage) → half.stage ≡ s → IsAt s scene half read view
-  stage_of s is = subst (λ (s : Stage). IsAt s scene half read view) is x.stage
-
-  pub running_of : half.stage ≡ Stage.Running → IsRunning scene half read view
-  running_of is = stage_of Stage.Running is
+  pub stage_of : {s : Stage} → half.stage ≡ s → IsAt s scene half read view
+  stage_of is = subst (λ (s : Stage). IsAt s scene half read view) is x.stage
 
   pub unfailed : failures_at half.stage ≡ 0 → Transferred scene.start now half.wire.input read (scene.before ++ view.written) 0
   unfailed none = subst (λ (n : ℕ). Transferred scene.start now half.wire.input read (scene.before ++ view.written) n) none x.moved
 
   -- the reader knows the head of the request
   pub opens_in : HasOpened half.wire.requests.limits read scene.opened scene.facts.framing view.arrived
-  opens_in = subst (λ (l : Limits). HasOpened l read scene.opened scene.facts.framing view.arrived) (sym x.limits) x.within.opens
+  opens_in = rw x.limits x.within.opens
 
   -- another stage, with another body and another text in hand
   pub restage : (later : HttpHalf) → later.wire.requests.limits ≡ half.wire.requests.limits → failures_at half.stage ≡ failures_at later.stage
       → IsAt later.stage scene (among half later) read view → Invariant scene now (among half later) read view
-  restage later same failed at =
-      let moved = subst (λ (n : ℕ). Transferred scene.start now half.wire.input read (scene.before ++ view.written) n) failed x.moved in
-      record { moved = moved; limits = same ∙ x.limits; within = x.within; keeps = x.keeps; breaks = x.breaks; stage = at }
-
-  pub stands_still : Invariant scene now half (read ++ []) view
-  stands_still = subst (λ (l : List ℕ). Invariant scene now half l view) (sym (append-nil read)) x
+  restage later same failed at = record { moved = rw failed at x.moved; limits = same ∙ x.limits; within = x.within; keeps = x.keeps; breaks = x.breaks; stage = at }
 
 -- want of memory cuts the connection short
 pub lacks : {scene : Scene} {half : HttpHalf} {view : ConnView ℕ ℕ} → IsCutShort scene half view Outcome.NoMemory
@@ -59,28 +50,19 @@ talks_on t requests input body all arrived offered settled events given ends_whe
 
 -- all text of what was taken is out, and the task has not ended
 output_open : (limits : Limits) (facts : Facts) (view : ConnView ℕ ℕ) → end_of view.got ≡ None → output (http limits facts) view ≡ response_text facts (taken_of view)
-output_open limits facts view unended =
-    ap (λ (o : Option EndKind). response_text facts (taken_of view) ++ added_by (http limits facts) (taken_of view) o view.broken_first view.arrived) unended
-    ∙ append-nil (response_text facts (taken_of view))
-
-part_written : (limits : Limits) (facts : Facts) (view : ConnView ℕ ℕ) (rest : List ℕ) → end_of view.got ≡ None → view.written ++ rest ≡ response_text facts (taken_of view)
-    → IsPrefix view.written (output (http limits facts) view)
-part_written limits facts view rest unended is = (rest, is ∙ sym (output_open limits facts view unended))
+output_open limits facts view unended = rw (unended, append-nil)
 
 pub all_written : (limits : Limits) (facts : Facts) (view : ConnView ℕ ℕ) → view.written ≡ response_text facts (taken_of view) → IsPrefix view.written (output (http limits facts) view)
-all_written limits facts view is =
-    let more = added_by (http limits facts) (taken_of view) (end_of view.got) view.broken_first view.arrived in (more, ap (λ (l : List ℕ). l ++ more) is)
+all_written limits facts view is = (_, ap (λ (l : List ℕ). l ++ added_by (http limits facts) (taken_of view) (end_of view.got) view.broken_first view.arrived) is)
 
 -- what is out of the text stays a front of it, whatever is taken next
-pub still_written : (limits : Limits) (facts : Facts) (view : ConnView ℕ ℕ) (item : OutItem) → end_of view.got ≡ None → IsPrefix view.written (output (http limits facts) view)
-    → IsPrefix view.written (output (http limits facts) (record view { got = view.got ++ item ∷ [] }))
-still_written limits facts view item unended front =
-    let later : ConnView ℕ ℕ = record view { got = view.got ++ item ∷ [] } in
-    let more = text_front facts (taken_of view) (taken_of later) (events_of (item ∷ []), sym (events_append view.got (item ∷ []))) in
-    let on = prefix_trans view.written (response_text facts (taken_of view)) (response_text facts (taken_of later))
-    (subst (λ (l : List ℕ). IsPrefix view.written l) (output_open limits facts view unended) front) more in
-    prefix_trans view.written (response_text facts (taken_of later)) (output (http limits facts) later) on
-    (added_by (http limits facts) (taken_of later) (end_of later.got) later.broken_first later.arrived, refl)
+pub takes_on : (limits : Limits) (facts : Facts) (view : ConnView ℕ ℕ) (item : OutItem) → end_of view.got ≡ None → ConnKeeps (http limits facts) view
+    → ConnKeeps (http limits facts) (record view { got = view.got ++ item ∷ [] })
+takes_on limits facts view item unended keeps =
+    let text = response_text facts (taken_of (record view { got = view.got ++ item ∷ [] })) in
+    let more = text_front facts (taken_of view) (events_of (view.got ++ item ∷ [])) (events_of (item ∷ []), sym (events_append view.got (item ∷ []))) in
+    let on = prefix_trans view.written (response_text facts (taken_of view)) text (keeps.written.0, keeps.written.1 ∙ output_open limits facts view unended) more in
+    record { offered = keeps.offered; written = prefix_trans view.written text _ on (_, refl) }
 
 -- a text was written: how much of it, and how many writes failed
 pub record HasPut (was now : LineState) (part : List ℕ) (failures : ℕ) : Type 0 where
@@ -92,33 +74,25 @@ pub record HasPut (was now : LineState) (part : List ℕ) (failures : ℕ) : Typ
 
 pub moved_on : (scene : Scene) (was now : LineState) (half : HttpHalf) (read written part : List ℕ) (failures : ℕ) → Transferred scene.start was half.wire.input read (scene.before ++ written) 0
     → HasPut was now part failures → Transferred scene.start now half.wire.input read (scene.before ++ (written ++ part)) failures
-moved_on scene was now half read written part failures moved p =
-    subst (λ (l : List ℕ). Transferred scene.start now half.wire.input read l failures) (append_assoc scene.before written part)
+moved_on scene was now half read written part failures moved p = rw (← append_assoc scene.before written part)
     (moved_by_write scene.start was now half.wire.input read (scene.before ++ written) part failures moved p.beside.0 p.beside.1 p.session p.appends p.rose p.tries)
 
 abbrev pub failed_at : Outcome → ℕ
 failed_at (Outcome.WriteFailed n) = n
 failed_at _ = 0
 
-module _ (scene : Scene) (was now : LineState) (half : HttpHalf) (read : List ℕ) (view : ConnView ℕ ℕ) (p : Pending scene was half read view) (wire : Wire)
+module _ {scene : Scene} {was : LineState} {half : HttpHalf} {read : List ℕ} {view : ConnView ℕ ℕ} (p : Pending scene was half read view) (now : LineState) {wire : Wire}
     (same : wire ≡ record half.wire { out = wire.out }) where
   -- all of the text in hand went out
   pub put_done : wire.out.items ≡ [] → HasPut was now half.wire.out.items 0 → Invariant scene now (record half { wire = wire }) read (record view { written = view.written ++ half.wire.out.items })
   put_done all put =
       let later : ConnView ℕ ℕ = record view { written = view.written ++ half.wire.out.items } in
       let emptied : HttpHalf = record half { wire = record half.wire { out = wire.out } } in
-      let talks : Talks scene emptied read later =
-      record { uncut = p.uncut; input_broke = p.input_broke; settled = p.settled; events = p.events; given = p.given; ends_where = p.ends_where; text = p.text; written = sym p.grows; empty = all } in
-      subst (λ (w : Wire). Invariant scene now (record half { wire = w }) read later) (sym same)
-      (record {
-        moved = subst (λ (s : Stage). Transferred scene.start now half.wire.input read (scene.before ++ later.written) (failures_at s)) (sym p.running)
-            (moved_on scene was now half read view.written half.wire.out.items 0 p.moved put);
-        limits = p.limits;
-        within = p.within;
-        keeps = record { offered = p.offers; written = all_written half.wire.limits scene.facts later (sym p.grows) };
-        breaks = p.breaks;
-        stage = subst (λ (s : Stage). IsAt s scene emptied read later) (sym p.running) (record { talks = talks; unended = p.unended; offered = p.offered });
-      })
+      let talks : Talks scene emptied read later = search (sym p.grows, all, p) in
+      let moved = moved_on scene was now half read view.written half.wire.out.items 0 p.moved put in
+      let keeps : ConnKeeps (http half.wire.limits scene.facts) later = record { offered = p.offers; written = all_written half.wire.limits scene.facts later (sym p.grows) } in
+      let stage = subst (λ (s : Stage). IsAt s scene emptied read later) (sym p.running) (record { talks = talks; unended = p.unended; offered = p.offered }) in
+      rw same (record { moved = rw p.running moved; limits = p.limits; within = p.within; keeps = keeps; breaks = p.breaks; stage = stage })
 
   -- its first n bytes did
   pub put_cut : (n : ℕ) → n < length half.wire.out.items → HasPut was now (take n half.wire.out.items) 1
@@ -126,122 +100,76 @@ module _ (scene : Scene) (was now : LineState) (half : HttpHalf) (read : List �
   put_cut n less put =
       let text = half.wire.out.items in
       let later : ConnView ℕ ℕ = record view { written = view.written ++ take n text } in
-      let all : later.written ++ drop n text ≡ response_text scene.facts (taken_of later) =
-      append_assoc view.written (take n text) (drop n text) ∙ (ap (λ (l : List ℕ). view.written ++ l) (take-append-drop n text) ∙ sym p.grows) in
+      let all : later.written ++ drop n text ≡ response_text scene.facts (taken_of later) = rw (append_assoc, take-append-drop n text) (sym p.grows) in
       let stops : StopsWithin n (known scene view) (input_of (state_in scene half view)) later.written =
       record { out = view.written; more = text; is_next = p.hand (input_of (state_in scene half view)); within = less; written_is = refl } in
-      subst (λ (w : Wire). Invariant scene now (record half { wire = w; stage = Stage.Cut (Outcome.WriteFailed n) }) read later) (sym same)
-      (record {
-        moved = moved_on scene was now half read view.written (take n text) 1 p.moved put;
-        limits = p.limits;
-        within = p.within;
-        keeps = record { offered = p.offers; written = part_written half.wire.limits scene.facts later (drop n text) p.unended all };
-        breaks = p.breaks;
-        stage = (
-          record { cut = refl; stops = λ m is. subst (λ (k : ℕ). StopsWithin k (known scene view) (input_of (state_in scene half view)) later.written) (ap failed_at is) stops },
-          p.unended,
-        );
-      })
+      let moved = moved_on scene was now half read view.written (take n text) 1 p.moved put in
+      let written = all ∙ sym (output_open half.wire.limits scene.facts later p.unended) in
+      let keeps : ConnKeeps (http half.wire.limits scene.facts) later = record { offered = p.offers; written = (drop n text, written) } in
+      rw same (record { moved = moved; limits = p.limits; within = p.within; keeps = keeps; breaks = p.breaks; stage = (record { cut = refl; stops = λ m e. rw (← ap failed_at e) stops }, p.unended) })
 
 -- ---- an event is sent
 
-module _ (scene : Scene) (now : LineState) (half : HttpHalf) (read : List ℕ) (view : ConnView ℕ ℕ) (x : Invariant scene now half read view) (is : half.stage ≡ Stage.Running) (event : Outgoing)
+module _ {scene : Scene} {now : LineState} {half : HttpHalf} {read : List ℕ} {view : ConnView ℕ ℕ} (x : Invariant scene now half read view) (is : half.stage ≡ Stage.Running) (event : Outgoing)
     (text : ResponseText) (wire : Wire) where
   more_taken : taken_of (record view { got = view.got ++ OutItem.Event event ∷ [] }) ≡ taken_of view ++ event ∷ []
   more_taken = events_append view.got (OutItem.Event event ∷ [])
 
   still_open : end_of (view.got ++ OutItem.Event event ∷ []) ≡ None
-  still_open = end_event view.got event ∙ (running_of x is).unended
+  still_open = end_event view.got event ∙ (stage_of x is).unended
 
   -- its text is in hand
   pub said_pending : StandsForText text scene.facts (taken_of view ++ event ∷ [])
       → Grows (response_text scene.facts (taken_of view)) (response_text scene.facts (taken_of view ++ event ∷ [])) half.wire.out.items wire.out.items
       → Pending scene now (record half { wire = record half.wire { out = wire.out }; text = text }) read (record view { got = view.got ++ OutItem.Event event ∷ [] })
   said_pending stands grows =
-      let r = running_of x is in
+      let r = stage_of x is in
       let t = r.talks in
-      let in_hand : wire.out.items ≡ grows.added = grows.output ∙ ap (λ (l : List ℕ). l ++ grows.added) t.empty in
-      let adds : response_text scene.facts (taken_of view ++ event ∷ []) ≡ view.written ++ wire.out.items =
-      grows.text ∙ (ap (λ (l : List ℕ). l ++ grows.added) (sym t.written) ∙ ap (λ (l : List ℕ). view.written ++ l) (sym in_hand)) in
-      record {
-        moved = unfailed x (ap failures_at is);
-        limits = x.limits;
-        within = x.within;
-        offers = x.keeps.offered;
-        breaks = x.breaks;
-        running = is;
-        uncut = t.uncut;
-        input_broke = t.input_broke;
-        settled = t.settled;
-        events = t.events;
-        given = t.given;
-        ends_where = t.ends_where;
-        unended = still_open;
-        offered = r.offered;
-        text = subst (λ (l : List Outgoing). StandsForText text scene.facts l) (sym more_taken) stands;
-        grows = ap (response_text scene.facts) more_taken ∙ adds;
-        hand = λ input. Saying (taken_of view) [] event more_taken t.written adds;
-      }
+      let adds : response_text scene.facts (taken_of view ++ event ∷ []) ≡ view.written ++ wire.out.items = rw (t.written, grows.output, t.empty) grows.text in
+      let later : ConnView ℕ ℕ = record view { got = view.got ++ OutItem.Event event ∷ [] } in
+      let text_is : StandsForText text scene.facts (taken_of later) = rw more_taken stands in
+      let hand : (input : _) → InHand (known scene later) input view.written wire.out.items = λ input. Saying (taken_of view) [] event more_taken t.written adds in
+      search (unfailed x (ap failures_at is), text_is, hand, still_open, ap (response_text scene.facts) more_taken ∙ adds, t, r, x)
 
   -- there is no memory for its text
   pub said_short : Invariant scene now (record half { wire = record half.wire { out = wire.out }; text = text; stage = Stage.Cut Outcome.NoMemory }) read
       (record view { got = view.got ++ OutItem.Event event ∷ [] })
   said_short =
-      let written = still_written half.wire.limits scene.facts view (OutItem.Event event) (running_of x is).unended x.keeps.written in
-      let keeps : ConnKeeps (http half.wire.limits scene.facts) (record view { got = view.got ++ OutItem.Event event ∷ [] }) = record { offered = x.keeps.offered; written = written } in
+      let keeps = takes_on half.wire.limits scene.facts view (OutItem.Event event) (stage_of x is).unended x.keeps in
       record { moved = unfailed x (ap failures_at is); limits = x.limits; within = x.within; keeps = keeps; breaks = x.breaks; stage = (lacks, still_open) }
 
 -- ---- an exchange begins
 
-module _ (scene : Scene) (now : LineState) (facts : Facts) (read arrived : List ℕ) (old wire : Wire) (text : ResponseText) (o : Opens scene now old facts read arrived) where
+module _ {scene : Scene} {now : LineState} {facts : Facts} {read arrived : List ℕ} {old : Wire} (o : Opens scene now old facts read arrived) (wire : Wire) (text : ResponseText) where
   begun_moved : Transferred scene.start now old.input read (scene.before ++ []) 0
-  begun_moved = subst (λ (l : List ℕ). Transferred scene.start now old.input read l 0) (sym (append-nil scene.before)) o.moved
+  begun_moved = rw append-nil o.moved
 
   pub begun_pending : StandsForText text facts [] → wire.out.items ≡ old.out.items ++ response_text facts []
       → Pending scene now (record { wire = record old { out = wire.out }; body = BodyProgress.Open; text = text; input_broke = false; stage = Stage.Running }) read
       (record empty_conn { arrived = arrived })
   begun_pending stands adds =
-      let in_hand : wire.out.items ≡ response_text scene.facts [] = adds ∙ (ap (λ (l : List ℕ). l ++ response_text facts []) o.empty ∙ ap (λ (f : Facts). response_text f []) o.facts_are) in
-      record {
-        moved = begun_moved;
-        limits = o.limits;
-        within = o.within;
-        offers = (body_events old.limits scene.facts.framing arrived, refl);
-        breaks = λ e. cc;
-        running = refl;
-        uncut = refl;
-        input_broke = refl;
-        settled = λ e. cc;
-        events = [];
-        given = subst (λ (l : List Next). StandsFor old.requests read l) (sym (append-nil scene.opened)) o.given;
-        ends_where = tt;
-        unended = refl;
-        offered = λ e. refl;
-        text = subst (λ (f : Facts). StandsForText text f []) o.facts_are stands;
-        grows = sym in_hand;
-        hand = λ input. Beginning refl in_hand;
-      }
+      let in_hand : wire.out.items ≡ response_text scene.facts [] = rw (← o.facts_are) (rw o.empty at adds) in
+      let given : StandsFor old.requests read (scene.opened ++ []) = rw append-nil o.given in
+      let text_is : StandsForText text scene.facts [] = rw o.facts_are at stands in
+      let hand : (input : _) → InHand (known scene (record empty_conn { arrived = arrived })) input [] wire.out.items = λ input. Beginning refl in_hand in
+      search (begun_moved, o, given, text_is, sym in_hand, hand, arith)
 
   pub begun_short : Invariant scene now (record { wire = record old { out = wire.out }; body = BodyProgress.Open; text = text; input_broke = false; stage = Stage.Cut Outcome.NoMemory }) read
       (record empty_conn { arrived = arrived })
   begun_short =
-      let view : ConnView ℕ ℕ = record empty_conn { arrived = arrived } in
-      let keeps : ConnKeeps (http old.limits scene.facts) view =
-      record { offered = (body_events old.limits scene.facts.framing arrived, refl); written = (output (http old.limits scene.facts) view, refl) } in
-      record { moved = begun_moved; limits = o.limits; within = o.within; keeps = keeps; breaks = λ e. cc; stage = (lacks, refl) }
+      record { moved = begun_moved; limits = o.limits; within = o.within; keeps = record { offered = (_, refl); written = (_, refl) }; breaks = λ e. cc; stage = (lacks, refl) }
 
 -- ---- the end of the task is taken
 
-pub ended_taken : (scene : Scene) (now : LineState) (half : HttpHalf) (read : List ℕ) (view : ConnView ℕ ℕ) (kind : EndKind) → Invariant scene now half read view → half.stage ≡ Stage.Running
+pub ended_taken : {scene : Scene} {now : LineState} {half : HttpHalf} {read : List ℕ} {view : ConnView ℕ ℕ} (kind : EndKind) → Invariant scene now half read view → half.stage ≡ Stage.Running
     → Invariant scene now (record half { stage = Stage.Ending kind }) read (record view { got = view.got ++ OutItem.Ended kind ∷ [] })
-ended_taken scene now half read view kind x is =
-    let r = running_of x is in
+ended_taken {scene} {half = half} {read = read} {view = view} kind x is =
+    let r = stage_of x is in
     let t = r.talks in
     let later : ConnView ℕ ℕ = record view { got = view.got ++ OutItem.Ended kind ∷ [] } in
     let same : taken_of later ≡ taken_of view = events_append view.got (OutItem.Ended kind ∷ []) ∙ append-nil (taken_of view) in
     let out : view.written ≡ response_text scene.facts (taken_of later) = t.written ∙ ap (response_text scene.facts) (sym same) in
-    let text : StandsForText half.text scene.facts (taken_of later) = subst (λ (l : List Outgoing). StandsForText half.text scene.facts l) (sym same) t.text in
-    let talks : Talks scene (record half { stage = Stage.Ending kind }) read later =
-    record { uncut = t.uncut; input_broke = t.input_broke; settled = t.settled; events = t.events; given = t.given; ends_where = t.ends_where; text = text; written = out; empty = t.empty } in
+    let text : StandsForText half.text scene.facts (taken_of later) = rw same t.text in
+    let talks : Talks scene (record half { stage = Stage.Ending kind }) read later = search t in
     let keeps : ConnKeeps (http half.wire.limits scene.facts) later = record { offered = x.keeps.offered; written = all_written half.wire.limits scene.facts later out } in
     record { moved = unfailed x (ap failures_at is); limits = x.limits; within = x.within; keeps = keeps; breaks = x.breaks; stage = (talks, end_ended view.got kind r.unended) }

@@ -2,13 +2,12 @@
 pub use Rattle.asgi_conversation.specs.{Persistence.StopsWithin, TaskEnds.has_ended, TaskEnds.is_faulty, declared.following.NextStep.NextStep, declared.input.InputEnd.InputEnd}
 pub use Rattle.asgi_conversation.specs.{declared.report.Outcome.Outcome}
 pub use Rattle.asgi_exchange.proofs.{EventLemmas.end_event, EventLemmas.events_append, ListLemmas.prefix_trans}
-pub use Rattle.asgi_exchange.specs.{Calls.IsViewOf, ExchangeTexts.input_of, Halves.ConnKeeps, Halves.IsOffered, Http.http, Items.end_of, Items.events_of, Steps.is_by_cut, Steps.is_by_input}
+pub use Rattle.asgi_exchange.specs.{Calls.IsViewOf, ExchangeTexts.input_of, Halves.ConnKeeps, Http.http, Items.end_of, Items.events_of, Steps.is_by_cut, Steps.is_by_input}
 pub use Rattle.asgi_exchange.specs.{Views.Break, Views.ByCut, Views.ByInput, Views.ConnView, Views.added_by, Views.output, Views.taken_of}
-pub use Rattle.asgi_halves.specs.{Half.BreaksAt, Half.EndsWhere, Half.HasGiven, Half.Invariant, Half.IsAt, Half.IsCutShort, Half.IsRunning, Half.IsSettled, Half.Scene, Half.Talks, Half.failures_at}
-pub use Rattle.asgi_halves.specs.{Half.known, Half.requests_in, Half.state_in, Kinds.HasGrown, Kinds.IsCutOff, Kinds.IsOpen, Kinds.IsTurnOfRead, Kinds.OfBytes, Kinds.OfMessage, Kinds.ReadsNone}
-pub use Rattle.asgi_halves.specs.{Kinds.TakesNone, ReadAhead.ReadsAhead, declared.half.BodyProgress.BodyProgress, declared.half.HttpHalf.HttpHalf, declared.stage.Stage.Stage}
-pub use Rattle.asgi_halves.specs.{declared.wire.Wire.Wire, private.HalfSteps.GaveNext, private.HalfSteps.GivesAfter, private.HalfSteps.HasAsked, private.HalfSteps.HoldsFew}
-pub use Rattle.asgi_halves.specs.{private.HalfSteps.KeepsBesidesBody, private.HalfSteps.ReadsAt, private.HalfSteps.known_input}
+pub use Rattle.asgi_halves.specs.Half.{BreaksAt, EndsWhere, HasGiven, Invariant, IsAt, IsCutShort, IsRunning, IsSettled, Scene, Talks, failures_at, known, requests_in, state_in}
+pub use Rattle.asgi_halves.specs.Kinds.{HasGrown, IsCutOff, IsOpen, IsTurnOfRead, OfBytes, OfMessage, ReadsNone, TakesNone}
+pub use Rattle.asgi_halves.specs.private.HalfSteps.{GaveNext, GivesAfter, HasAsked, HoldsFew, KeepsBesidesBody, ReadsAt, known_input}
+pub use Rattle.asgi_halves.specs.{ReadAhead.ReadsAhead, declared.half.BodyProgress.BodyProgress, declared.half.HttpHalf.HttpHalf, declared.stage.Stage.Stage, declared.wire.Wire.Wire}
 pub use Rattle.asgi_io.specs.{Counting.RoseBy, Writing.TriesWrites, declared.turns.Turn.Turn}
 pub use Rattle.asgi_pipes.specs.declared.{ends.ConnEnd.Ghosts as ConnGhosts, items.OutItem.OutItem}
 pub use Rattle.asgi_request.proofs.BodyOfLemmas.{body_is_read}

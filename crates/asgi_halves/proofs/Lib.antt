@@ -16,6 +16,4 @@ pub mod HalfEndLemmas
 pub mod SessionOfferLemmas
 pub mod HttpHalfLemmas
 pub mod CallLemmas
-pub mod HttpKindLemmas
 pub mod TurnLemmas
-pub mod StageLemmas

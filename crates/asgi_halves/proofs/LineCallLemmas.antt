@@ -1,8 +1,8 @@
 -- The calls of a line, by what is known of it before and after.
-use Rattle.asgi_halves.proofs.HalfWords.{◌≡◌, ℕ, List, [], ◌∷◌, ◌++◌, ap, arith, sym, subst, ◌∙◌, Call, Got, Put, SentMessage, LineState, is_read, Turn, IsTurnOfRead, OfMessage, ReadsNone, count_by}
+use Rattle.asgi_halves.proofs.HalfWords.{◌≡◌, ℕ, List, [], ◌∷◌, ◌++◌, Call, Got, Put, SentMessage, LineState, Turn, IsTurnOfRead, OfMessage}
+use Rattle.asgi_halves.proofs.TalkLemmas.{LeavesText}
 use Rattle.asgi_halves.specs.Kinds.{turn_by}
 use Rattle.asgi_ws.specs.{Lines.state_of, Sessions.Loses, Sessions.count_after, Sessions.given_by, Sessions.has_failed, Sessions.is_failed, Sessions.kept_by}
-use Rattle.asgi_halves.proofs.{CallLemmas.counted, TalkLemmas.LeavesText}
 use Rattle.asgi_io.specs.declared.counts.Counts as counts
 use Rattle.asgi_io.specs.declared.reads.Reads as reads
 use Rattle.asgi_ws.specs.declared.line.Line as line
@@ -36,18 +36,10 @@ pub record HasUpgraded (was now : LineState) (bytes : List ℕ) : Type 0 where
 pub turn_of_message : (Rests : Type 0) (was now : LineState) (answer : Got) (turn : Turn) → HasRead was now answer → turn ≡ turn_by answer → IsTurnOfRead Rests was now turn
 turn_of_message Rests was now answer turn read is = OfMessage answer read.told read.text.reads is
 
--- what is sent, and the switch to messages, reads nothing
-pub sending_reads_none : (was now : LineState) (item : SentMessage) (answer : Put) → HasSent was now item answer → ReadsNone was now
-sending_reads_none was now item answer sent =
-    (sent.text.reads, ap (count_by is_read) sent.told ∙ omega (arith, counted is_read was.session.calls (Call.Send item answer)))
-
-pub upgrade_reads_none : (was now : LineState) (bytes : List ℕ) → HasUpgraded was now bytes → ReadsNone was now
-upgrade_reads_none was now bytes u = (u.text.reads, ap (count_by is_read) u.calls)
-
 module _ {L : Type 0} (G : line.Ghosts L) (R : reads.Ghosts L) (W : counts.Ghosts L) (M : messages.Ghosts L) (told_by : (x : L) → G.state x ≡ state_of R W M x) (old new : L) where
   -- what holds of the members holds of what is known of the line
   pub by_state : (P : LineState → LineState → Type 0) → P (state_of R W M old) (state_of R W M new) → P (G.state old) (G.state new)
-  by_state P p = subst (λ (s : LineState). P s (G.state new)) (sym (told_by old)) (subst (λ (s : LineState). P (state_of R W M old) s) (sym (told_by new)) p)
+  by_state P p = rw (told_by old, told_by new) p
 
   abbrev SameText : Type 0
   SameText = (R.remaining new ≡ R.remaining old) × (W.written new ≡ W.written old) × (R.answers new ≡ R.answers old) × (W.answers new ≡ W.answers old)
@@ -55,30 +47,12 @@ module _ {L : Type 0} (G : line.Ghosts L) (R : reads.Ghosts L) (W : counts.Ghost
   -- by the clauses of a line
   pub has_read : (answer : Got) → M.calls new ≡ M.calls old ++ Call.Read answer ∷ [] → Loses (M.coming old) (M.coming new) (given_by answer)
       → W.failed new ≡ count_after (W.failed old) (is_failed answer) → M.leftover new ≡ M.leftover old → SameText → HasRead (G.state old) (G.state new) answer
-  has_read answer told loses count kept text = by_state (λ was now. HasRead was now answer) (record {
-    text = record { left = text.0; written = text.1; reads = text.2; writes = text.3 };
-    told = told;
-    loses = loses;
-    count = count;
-    kept = kept;
-  })
+  has_read answer told loses count kept text = by_state (λ was now. HasRead was now answer) assumption
 
   pub has_sent : (item : SentMessage) (answer : Put) → M.calls new ≡ M.calls old ++ Call.Send item answer ∷ [] → W.failed new ≡ count_after (W.failed old) (has_failed answer)
       → (M.coming new ≡ M.coming old) × (M.leftover new ≡ M.leftover old) → SameText → HasSent (G.state old) (G.state new) item answer
-  has_sent item answer told count same text = by_state (λ was now. HasSent was now item answer) (record {
-    text = record { left = text.0; written = text.1; reads = text.2; writes = text.3 };
-    told = told;
-    count = count;
-    coming = same.0;
-    kept = same.1;
-  })
+  has_sent item answer told count same text = by_state (λ was now. HasSent was now item answer) assumption
 
   pub has_upgraded : (bytes : List ℕ) → M.leftover new ≡ kept_by (M.leftover old) bytes → W.failed new ≡ W.failed old
       → (M.calls new ≡ M.calls old) × (M.coming new ≡ M.coming old) → SameText → HasUpgraded (G.state old) (G.state new) bytes
-  has_upgraded bytes keeps count same text = by_state (λ was now. HasUpgraded was now bytes) (record {
-    text = record { left = text.0; written = text.1; reads = text.2; writes = text.3 };
-    keeps = keeps;
-    count = count;
-    calls = same.0;
-    coming = same.1;
-  })
+  has_upgraded bytes keeps count same text = by_state (λ was now. HasUpgraded was now bytes) assumption

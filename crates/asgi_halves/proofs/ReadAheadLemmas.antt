@@ -1,7 +1,7 @@
 -- What is read ahead of the requests in hand is bounded, wherever more is read.
-use Rattle.asgi_halves.proofs.HalfWords.{◌≡◌, ℕ, ◌<◌, ◌≤◌, true, List, [], ◌∷◌, ◌++◌, map, take, length, length-append, refl, sym, ap, ◌∙◌, subst, inr, append_assoc, append-nil, arith, Facts}
-use Rattle.asgi_halves.proofs.HalfWords.{Framing, Incoming, Limits, Scope, Next, body_events, BodyState, complete, HasOpened, Reading, StandsFor, body_is_read, prefix_trans, has_ended, InputEnd}
-use Rattle.asgi_halves.proofs.HalfWords.{BodyProgress, Scene, requests_in, HasGiven, ReadsAt, HoldsFew, piece_size, ReadsAhead, ReadsBody}
+use Rattle.asgi_halves.proofs.HalfWords.{◌≡◌, ℕ, ◌<◌, ◌≤◌, true, List, [], ◌∷◌, ◌++◌, map, take, length, length-append, refl, sym, ap, ◌∙◌, subst, inr, append_assoc, append-nil, arith, Facts, Framing}
+use Rattle.asgi_halves.proofs.HalfWords.{Incoming, Limits, Scope, Next, complete, HasOpened, Reading, body_is_read, prefix_trans, has_ended, InputEnd, BodyProgress, Scene, requests_in, HasGiven}
+use Rattle.asgi_halves.proofs.HalfWords.{ReadsAt, HoldsFew, piece_size, ReadsAhead, ReadsBody}
 use Rattle.asgi_conversation.proofs.{LoopLemmas.end_seen_within, LoopLemmas.within_reads_more, RequestLemmas.heads_join}
 use Rattle.asgi_conversation.specs.{Exchanges.heads_of, SoFar.Within}
 use Rattle.asgi_exchange.proofs.ListLemmas.{prefix_same}
@@ -33,8 +33,7 @@ short_piece buffer n size fits = let taken = length-take-le n buffer fits in ome
 pub reads_at_need : (limits : Limits) (read more : List ℕ) (given : List Next) (requests : List (Scope × Facts)) (rest : List ℕ) → GivesResults limits read given rest
     → heads_of given ≡ requests → length more ≤ piece_size → ReadsAhead limits (read ++ more) requests
 reads_at_need limits read more given requests rest gives heads short =
-    let same = prefix_same (heads_of given) requests heads in
-    record { front = read; ahead = more; split = refl; few = omega (arith, short); results = given; rest = rest; gives = gives; heads = same }
+    record { front = read; ahead = more; split = refl; few = omega (arith, short); results = given; rest = rest; gives = gives; heads = prefix_same (heads_of given) requests heads }
 
 -- few bytes come after whole requests
 pub reads_after : (limits : Limits) (read more : List ℕ) (given : List Next) (requests : List (Scope × Facts)) (held : List ℕ) → HasClosed limits read given held
@@ -57,9 +56,7 @@ heads_in_body opened events = heads_join opened (map Next.Event events) ∙ ap (
 
 pub heads_after : (opened : List Next) (events : List Incoming) → heads_of (opened ++ (map Next.Event events ++ Next.Whole ∷ [])) ≡ heads_of opened
 heads_after opened events =
-    ap heads_of (sym (append_assoc opened (map Next.Event events) (Next.Whole ∷ []))) ∙ heads_join (opened ++ map Next.Event events) (Next.Whole ∷ []) ∙ append-nil
-    (heads_of (opened ++ map Next.Event events))
-    ∙ heads_in_body opened events
+    rw (← append_assoc opened (map Next.Event events) (Next.Whole ∷ []), heads_join (opened ++ map Next.Event events) (Next.Whole ∷ []), append-nil) (heads_in_body opened events)
 
 -- one more
 pub heads_more : (given : List Next) (scope : Scope) (facts : Facts) → heads_of (given ++ Next.Head scope facts ∷ []) ≡ heads_of given ++ (scope, facts) ∷ []
@@ -81,26 +78,19 @@ within_reads scene limits old new read more arrived x on ahead =
 
 module _ (reader : Reading) (read more : List ℕ) (opened : List Next) (framing : Framing) (arrived : List ℕ) (x : HasOpened reader.limits read opened framing arrived)
     (events : List Incoming) (requests : List (Scope × Facts)) (heads : heads_of opened ≡ requests) (short : length more ≤ piece_size) where
-  -- after a whole request another may follow
-  closes : StandsFor reader read (opened ++ (map Next.Event events ++ Next.Whole ∷ [])) → (after : List ℕ) × HasClosed reader.limits read (opened ++ (map Next.Event events ++ Next.Whole ∷ [])) after
-  closes given =
-      let due = body_events reader.limits framing arrived in
-      let known = whole_is reader read opened framing arrived x events given in
-      let after = known.1.0 in
-      let E : List Incoming → Type 0 = λ l. ReadsBody reader.limits framing arrived l (complete after) in
-      let S : BodyState → Type 0 = λ s. ReadsBody reader.limits framing arrived due s in
-      let body = subst E (sym known.0) (subst S known.1.1 (body_is_read reader.limits framing arrived)) in
-      (after, whole_closes reader.limits read opened framing arrived events after x body)
-
   pub reads_in : (at : BodyProgress) → ReadsAt at → HasGiven reader read opened events at → (at ≡ BodyProgress.Open → IsWaiting reader) → (at ≡ BodyProgress.Whole → HoldsFew reader)
       → ReadsAhead reader.limits (read ++ more) requests
   reads_in BodyProgress.Open reads given asked few =
       let all = all_results reader.limits reader.limits.block_in_range.0 read (opened ++ map Next.Event events) reader.place reader.held given (asked refl) in
       reads_at_need reader.limits read more (opened ++ map Next.Event events) requests all.0 all.1 (heads_in_body opened events ∙ heads) short
+  -- after a whole request another may follow
   reads_in BodyProgress.Whole reads given asked few =
       let all : List Next = opened ++ (map Next.Event events ++ Next.Whole ∷ []) in
       let ends : EndsWhole all = inr (opened ++ map Next.Event events, sym (append_assoc opened (map Next.Event events) (Next.Whole ∷ []))) in
       let held = few refl read all given ends in
-      let closed = closes given in
-      reads_after reader.limits read more all requests held.0 (whole_is_closed reader read all closed.0 held.0 closed.1 held.1) (heads_after opened events ∙ heads) held.2 short
+      let known = whole_is reader read opened framing arrived x events given in
+      let state = rw known.1.1 at (body_is_read reader.limits framing arrived) in
+      let body = subst (λ (l : List Incoming). ReadsBody reader.limits framing arrived l (complete known.1.0)) (sym known.0) state in
+      let closed = whole_closes reader.limits read opened framing arrived events known.1.0 x body in
+      reads_after reader.limits read more all requests held.0 (whole_is_closed reader read all known.1.0 held.0 closed held.1) (heads_after opened events ∙ heads) held.2 short
   reads_in _ reads given asked few = absurd reads

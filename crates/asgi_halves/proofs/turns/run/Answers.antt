@@ -1,4 +1,4 @@
-use Rattle.asgi_halves.proofs.HalfWords.{inr, subst, leads_then, leads_out, LineState, IsTurnOfRead, rules}
+use Rattle.asgi_halves.proofs.HalfWords.{inr, leads_then, leads_out, rules}
 use Rattle.asgi_run.proofs.LeadsLemmas.{taken_and_offered}
 use Rattle.asgi_halves.proofs.turns.run.Goals as goal
 
@@ -18,6 +18,4 @@ returns-clause-leads g c =
     leads_then g.K.ExchangeKind.stands _ _ _ _ _ _ _ _ _ offered (leads_out g.K.ExchangeKind.stands _ g.C.ConnEnd c.offer_due-offered.new.end _ _ _ _ c.read_on.ensures.leads)
 
 pub returns-clause-runs : goal.returns-clause-runs
-returns-clause-runs g c is =
-    let still = c.take_all-took.ensures.still c.if-took.false in
-    inr (search rules, subst (λ (s : LineState). IsTurnOfRead (g.K.ExchangeKind.rests c.read_on.new.self) s (g.L.Line.state c.read_on.new.line) c.read_on.result) still (c.read_on.ensures.turn is))
+returns-clause-runs g c is = inr (search rules, rw (c.take_all-took.ensures.still c.if-took.false) at (c.read_on.ensures.turn is))

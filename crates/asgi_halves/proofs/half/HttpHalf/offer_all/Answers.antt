@@ -1,4 +1,4 @@
-use Rattle.asgi_halves.proofs.HalfWords.{arith, ◌∙◌, Invariant}
+use Rattle.asgi_halves.proofs.HalfWords.{arith, Invariant, rules}
 use Rattle.asgi_run.proofs.LeadsLemmas.{in_then}
 use Rattle.asgi_halves.proofs.TurnLemmas.{one_longer}
 use Rattle.asgi_halves.proofs.half.HttpHalf.offer_all.Goals as goal
@@ -8,15 +8,7 @@ loop-event-preserved g c =
     let i = c.loop-event.invariant in
     let e = c.offer_one.ensures in
     let more = one_longer c.offer_one.result (g.C.ConnEnd.offered c.loop-event.end) (g.C.ConnEnd.offered c.offer_one.new.end) c.if-not-offer_one.false e.one.0 in
-    record {
-      leads = in_then Invariant _ _ _ _ _ _ i.leads e.leads;
-      tag = e.tag.0 ∙ i.tag;
-      ring = e.tag.1 ∙ i.ring;
-      count = omega (arith, more, i.count);
-      grown = omega (arith, more, i.count);
-      taken = (e.one.1.0 ∙ i.taken.0, e.one.1.1 ∙ i.taken.1);
-      limits = e.limits ∙ i.limits;
-    }
+    let leads = in_then Invariant _ _ _ _ _ _ i.leads e.leads in search (rules, arith, more, leads, i, e)
 
 pub returns-then-not-offer_one-clause-leads : goal.returns-then-not-offer_one-clause-leads
 returns-then-not-offer_one-clause-leads g c = in_then Invariant _ _ _ _ _ _ c.loop-event.invariant.leads c.offer_one.ensures.leads

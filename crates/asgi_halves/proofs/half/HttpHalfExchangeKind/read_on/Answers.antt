@@ -1,7 +1,5 @@
-use Rattle.std.proofs.Common.{◌∙◌}
 use Rattle.asgi_halves.proofs.half.HttpHalfExchangeKind.read_on.Goals as goal
 
 pub returns-clause-leads : goal.returns-clause-leads
 returns-clause-leads g c scene read view s =
-    let x = c.read.ensures.leads scene.at read view s.stands in
-    (x.0, x.1, x.2, record { limits = c.read.ensures.limits ∙ s.limits; stands = x.3 })
+    let x = c.read.ensures.leads scene.at read view s.stands in (x.0, x.1, x.2, record { limits = rw c.read.ensures.limits s.limits; stands = x.3 })

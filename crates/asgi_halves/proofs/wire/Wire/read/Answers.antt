@@ -1,7 +1,6 @@
-use Rattle.asgi_halves.proofs.HalfWords.{◌≡◌, ℕ, List, [], ◌∷◌, ◌++◌, take, arith, refl, subst, sym, inl, ◌∙◌, Next, StandsFor, InputEnd, Transferred, session_is, Turn, piece_size, length, rules}
+use Rattle.asgi_halves.proofs.HalfWords.{◌≡◌, [], ◌∷◌, ◌++◌, take, arith, refl, sym, inl, ◌∙◌, session_is, Turn, piece_size, length, rules}
 use Rattle.asgi_io.specs.{Answers.bytes_of, Answers.turn_of, declared.answer.Answer.Answer}
 use Rattle.asgi_run.proofs.LineLemmas.{gave, moved_by_open_read, told_as}
-use Rattle.asgi_run.specs.Lines.{input_after}
 use Rattle.std.proofs.lemmas.List.{take_at}
 use Rattle.asgi_halves.proofs.{LineCallLemmas.by_state, ReadAheadLemmas.short_piece}
 use Rattle.asgi_halves.proofs.wire.Wire.read.Goals as goal
@@ -9,7 +8,6 @@ use Rattle.asgi_halves.proofs.wire.Wire.read.Goals as goal
 -- an idle turn is that of a read that paused
 paused : (a : Answer) → turn_of a ≡ Turn.Idle → a ≡ Answer.Paused
 paused Answer.Paused idle = refl
-paused Answer.Nothing idle = cc
 paused _ idle = cc
 
 pub returns-in-Ok : goal.returns-in-Ok
@@ -24,18 +22,12 @@ returns-in-Ok g c =
     let stay = g.met.L.Line.writes_stay _ _ e.beside in
     let session = session_is _ _ (g.met.L.Line.session_stays _ _ (inl e.beside)) in
     let same : c.deref.result.now ≡ buffer = c.deref.ensures.value ∙ take_at buffer _ _ (omega (arith, c.read_some-read.auto.buf, c.deref_mut.ensures.len)) in
-    let fed = subst (λ (l : List ℕ). (bytes : List ℕ) (given : List Next) → StandsFor c.args.self.now.requests bytes given → StandsFor c.take_in-taken.new.self.requests
-    (bytes ++ take (bytes_of a) l) given)
-    same c.in-Ok.ensures.fed in
     record {
       moved = (
         take (bytes_of a) buffer,
-        λ start read written failures moved.
-            subst (λ (end : InputEnd). Transferred start (g.L.Line.state c.read_some-read.new.self) end (read ++ take (bytes_of a) buffer) written failures) (sym c.take_in-taken.ensures.input)
-            (by (λ was now. Transferred start was c.args.self.now.input read written failures → Transferred start now (input_after c.args.self.now.input a)
-            (read ++ take (bytes_of a) buffer) written failures)
-            (λ moved. moved_by_open_read start _ _ c.args.self.now.input read written failures buffer a c.requires moved x told stay.0 stay.1.1 stay.1.0 session) moved),
-        fed,
+        λ start read written failures moved. rw (c.take_in-taken.ensures.input, g.met.L.Line.state_is c.read_some-read.new.self)
+            (moved_by_open_read start _ _ _ read written failures buffer a c.requires (rw (g.met.L.Line.state_is c.args.line.now) at moved) x told stay.0 stay.1.1 stay.1.0 session),
+        rw same at c.in-Ok.ensures.fed,
         short_piece buffer (bytes_of a) size x.fits,
       );
       turn = (a, by (λ was now. now.reads ≡ was.reads ++ a ∷ []) told, c.turn.ensures);
@@ -45,31 +37,23 @@ returns-in-Ok g c =
       limits = search rules;
     }
 
-pub returns-in-Err : goal.returns-in-Err
-returns-in-Err g c =
+pub returns-in-Err-clause-moved : goal.returns-in-Err-clause-moved
+returns-in-Err-clause-moved g c =
     let buffer = c.read_some-read.new.buf in
     let a = c.answer_of-answer.result in
     let size : length buffer ≡ piece_size = omega (arith, c.read_some-read.auto.buf) in
     let e = c.read_some-read.ensures in
-    let by = by_state g.L.Line g.L.Reads g.L.Counts g.L.Messages g.met.L.Line.state_is c.args.line.now c.read_some-read.new.self in
     let x = gave _ _ buffer c.read_some-read.result a e.bound e.bytes size c.answer_of-answer.ensures in
     let told = told_as _ _ buffer c.read_some-read.result a e.told size c.answer_of-answer.ensures in
     let stay = g.met.L.Line.writes_stay _ _ e.beside in
-    let session = session_is _ _ (g.met.L.Line.session_stays _ _ (inl e.beside)) in
-    record {
-      moved = (
-        take (bytes_of a) buffer,
-        λ start read written failures moved.
-            subst (λ (end : InputEnd). Transferred start (g.L.Line.state c.read_some-read.new.self) end (read ++ take (bytes_of a) buffer) written failures) (sym c.take_in-taken.ensures.input)
-            (by (λ was now. Transferred start was c.args.self.now.input read written failures → Transferred start now (input_after c.args.self.now.input a)
-            (read ++ take (bytes_of a) buffer) written failures)
-            (λ moved. moved_by_open_read start _ _ c.args.self.now.input read written failures buffer a c.requires moved x told stay.0 stay.1.1 stay.1.0 session) moved),
-        tt,
-        short_piece buffer (bytes_of a) size x.fits,
-      );
-      turn = search rules;
-      session = by (λ was now. now.session ≡ was.session) session;
-      idle = search rules;
-      same = search rules;
-      limits = search rules;
-    }
+    let session = session_is _ _ (g.met.L.Line.session_stays _ _ (inl e.beside)) in (
+      take (bytes_of a) buffer,
+      λ start read written failures moved. rw (c.take_in-taken.ensures.input, g.met.L.Line.state_is c.read_some-read.new.self)
+          (moved_by_open_read start _ _ _ read written failures buffer a c.requires (rw (g.met.L.Line.state_is c.args.line.now) at moved) x told stay.0 stay.1.1 stay.1.0 session),
+      tt,
+      short_piece buffer (bytes_of a) size x.fits,
+    )
+
+pub returns-in-Err-clause-session : goal.returns-in-Err-clause-session
+returns-in-Err-clause-session g c =
+    rw (g.met.L.Line.state_is c.read_some-read.new.self, g.met.L.Line.state_is c.args.line.now) (session_is _ _ (g.met.L.Line.session_stays _ _ (inl c.read_some-read.ensures.beside)))
