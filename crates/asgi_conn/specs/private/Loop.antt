@@ -15,7 +15,6 @@ use Rattle.asgi_conversation.specs.declared.report.Outcome.{Outcome}
 use Rattle.asgi_conversation.specs.TaskEnds.{has_ended}
 use Rattle.asgi_run.specs.declared.runner.AppSide.{AppSide}
 use Rattle.asgi_run.specs.Running.{OfEnd, IsOpened}
-use Rattle.asgi_halves.specs.declared.half.HttpHalf.{HttpHalf}
 use Rattle.asgi_halves.specs.declared.stage.Stage.TheVariants.{Over}
 use Rattle.asgi_conn.specs.Places.{Place}
 use Rattle.asgi_conn.specs.Places as place
@@ -29,12 +28,6 @@ use Rattle.asgi_run.specs.Limits.{IsAtLimit, IsSettled}
 use Rattle.asgi_halves.specs.declared.wire.Wire.{Wire}
 use Rattle.asgi_halves.specs.Kinds.{following_of}
 use Rattle.asgi_ws.specs.Lines.{LineState}
-
--- the state of the connection after the half of an exchange
-abbrev pub IsLeft : {X : Type 0} → HttpHalf → Place X → Type 0
-IsLeft half at =
-    ((half.stage ≡ Over NextRequest) × (at ≡ place.Between half.wire))
-    ⊎ ((outcome : Outcome) × (half.stage ≡ Over (ConnectionEnds outcome)) × (at ≡ place.Ended outcome))
 
 -- what follows an exchange with which the connection has ended so, or has not
 abbrev pub next_step_of : Option Outcome → NextStep
