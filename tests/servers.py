@@ -1,6 +1,7 @@
 """The built program as a server, by real clients: `serve PORT COUNT APP` on this machine's loopback address.
 
 Usage: servers.py PROGRAM. The last line is 'N passed, M failed', and the status is 0 only with none failed.
+The program of `crates/asgi_digest_example`, whose responses have trailers, is asked too, as a service of inetd(8) is.
 The clients are curl, ab, wrk and nginx of Debian's packages, Python's `http.client`, and the `websockets` of Debian's
 package python3-websockets; what is missing is installed by apt-get. A client that can't be had is told as skipped, and
 counts neither as passed nor as failed. Each server is started by its test, and has ended at its end: what it printed, and
@@ -8,7 +9,9 @@ its status, are a part of each test. Expected texts are those of the RFCs and of
 """
 
 import asyncio
+import base64
 import contextlib
+import hashlib
 import http.client
 import os
 import random
@@ -162,6 +165,82 @@ class Example(unittest.TestCase):
         self.assertIn(f"```rust\n{application}```\n", readme)
         self.assertIn(f"```rust\n{body}```\n", document)
         self.assertIn(f"```text\n{line}```\n", document)
+
+
+class Service:
+    """The program of an example, which serves the first connection of a port by its standard input and output, as inetd(8) has it."""
+
+    def __init__(self, name):
+        self.words = [f"{TOP}/crates/{name}/out/{name}"]
+        self.listener = socket.create_server(("127.0.0.1", 0))
+        self.listener.settimeout(SECONDS)
+        self.port = self.listener.getsockname()[1]
+        self.url = f"http://127.0.0.1:{self.port}"
+        self.ended = None
+        self.thread = threading.Thread(target=self.serve, daemon=True)
+
+    def serve(self):
+        with self.listener.accept()[0] as line:
+            done = subprocess.run(self.words, stdin=line, stdout=line, stderr=subprocess.PIPE, timeout=SECONDS, check=False)
+        self.ended = (done.returncode, done.stderr)
+
+    def __enter__(self):
+        self.thread.start()
+        return self
+
+    def __exit__(self, *_):
+        self.thread.join(SECONDS)
+        self.listener.close()
+
+
+class Digest(unittest.TestCase):
+    """The program of `crates/asgi_digest_example`, whose responses end with a digest in a trailer (RFC 9530, section 2)."""
+
+    HEAD = b"HTTP/1.1 200 OK\r\ntrailer: content-digest\r\ntransfer-encoding: chunked\r\n\r\n"
+    DIGEST = b"content-digest: sha-256=:" + base64.b64encode(hashlib.sha256(b"/a/b\n").digest()) + b":\r\n"
+
+    def curl(self, *words):
+        """What curl shows of the response for `/a/b`, once the program has ended well."""
+        with Service("asgi_digest_example") as service:
+            status, output, errors = run(["curl", "-sS", "--max-time", "30", *words, f"{service.url}/a/b"])
+        self.assertEqual((status, errors, service.ended), (0, "", (0, b"")))
+        return output
+
+    @needs("curl")
+    def test_a_client_that_takes_trailers_gets_the_digest(self):
+        # What comes is shown as it comes: the chunks, and the trailer section (RFC 9112, section 7.1.2).
+        raw = self.HEAD + b"5\r\n/a/b\n\r\n0\r\n" + self.DIGEST + b"\r\n"
+        self.assertEqual(self.curl("--raw", "-i", "-H", "TE: trailers"), raw)
+        self.assertEqual(self.curl("--raw", "-i", "-H", "TE: trailers", "-H", "Connection: TE"), raw)
+
+    @needs("curl")
+    def test_a_client_that_takes_none_gets_the_content_alone(self):
+        raw = self.HEAD + b"5\r\n/a/b\n\r\n0\r\n\r\n"
+        self.assertEqual(self.curl("--raw", "-i"), raw)
+        self.assertEqual(self.curl("--raw", "-i", "-H", "TE: deflate"), raw)
+
+    @needs("curl")
+    def test_trailers_are_no_part_of_the_content(self):
+        for words in ([], ["-H", "TE: trailers"]):
+            self.assertEqual(self.curl(*words), b"/a/b\n")
+
+    def test_a_connection_option_for_te_closes_nothing(self):
+        with Service("asgi_digest_example") as service:
+            line = http.client.HTTPConnection("127.0.0.1", service.port, timeout=SECONDS)
+            for fields in ({"TE": "trailers", "Connection": "TE"}, {"TE": "trailers"}, {}):
+                line.request("GET", "/a/b", headers=fields)
+                used = line.sock
+                answer = line.getresponse()
+                self.assertEqual((answer.status, answer.read()), (200, b"/a/b\n"))
+                # `http.client` drops trailers; it asks on by the same connection.
+                self.assertEqual((answer.headers["trailer"], answer.headers["content-digest"]), ("content-digest", None))
+                self.assertIs(line.sock, used)
+            line.close()
+        self.assertEqual(service.ended, (0, b""))
+
+    def test_the_documents_have_its_application(self):
+        application = re.search(r"^impl Application for .*?^}\n", text_of("crates/asgi_digest_example/src/digested.rt"), re.M | re.S)[0]
+        self.assertIn(f"```rust\n{application}```\n", text_of("docs/APPLICATIONS.md"))
 
 
 class Program(unittest.TestCase):

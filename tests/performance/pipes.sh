@@ -46,7 +46,7 @@ struct Pair {
     conn: PlainConn,
     app: PlainApp,
     ghost pair: { IsPlainPair conn app },
-    ghost open: { app.ended ≡ None },
+    ghost open: { app.state.ended ≡ None },
 }
 
 impl Pair {
@@ -94,6 +94,7 @@ impl Future for Rounds {
         let start = Outgoing::ResponseStart {
             status: 200,
             headers: Headers::new(self.alloc),
+            trailers: false,
         };
         pair.say(cx, start);
         let started = pair.take();
@@ -128,6 +129,7 @@ fn pair_of(alloc: Global) -> Result<Pair, AllocError> {
         head_only: false,
         close: false,
         expect: false,
+        trailers_ok: false,
         framing: Framing::Chunked,
         key: [0; 24],
         subprotocols: Names::new(alloc),

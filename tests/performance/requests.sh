@@ -173,19 +173,48 @@ fn answer(alloc: Global, facts: &Facts, out: &mut Vec<u8>) -> Result<bool, Heade
     let mut judge = Judge::new(Kind::Http);
     let mut text = ResponseText::new(alloc, facts);
     text.begin(out)?;
-    let start = start(alloc)?;
-    if judge.judge(facts, &start) != Verdict::Pass {
+    if !says_start(alloc, facts, &mut judge, &mut text, out)? {
         return Ok(false);
     }
-    text.take(&start, out)?;
-    let body = Outgoing::ResponseBody {
+    says_body(alloc, facts, &mut judge, &mut text, out)
+}
+
+fn says_start(
+    alloc: Global,
+    facts: &Facts,
+    judge: &mut Judge,
+    text: &mut ResponseText,
+    out: &mut Vec<u8>,
+) -> Result<bool, HeaderError> {
+    let event = start(alloc)?;
+    says(facts, judge, text, &event, out)
+}
+
+fn says_body(
+    alloc: Global,
+    facts: &Facts,
+    judge: &mut Judge,
+    text: &mut ResponseText,
+    out: &mut Vec<u8>,
+) -> Result<bool, HeaderError> {
+    let event = Outgoing::ResponseBody {
         body: Octets::new(Vec::from_slice(alloc, b"hello\n")?),
         more_body: false,
     };
-    if judge.judge(facts, &body) != Verdict::Pass {
+    says(facts, judge, text, &event, out)
+}
+
+fn says(
+    facts: &Facts,
+    judge: &mut Judge,
+    text: &mut ResponseText,
+    event: &Outgoing,
+    out: &mut Vec<u8>,
+) -> Result<bool, HeaderError> {
+    if judge.judge(facts, event) != Verdict::Pass {
         return Ok(false);
     }
-    text.take(&body, out)?;
+    text.take(event, out)?;
     Ok(true)
 }
 
@@ -195,6 +224,7 @@ fn start(alloc: Global) -> Result<Outgoing, HeaderError> {
     Ok(Outgoing::ResponseStart {
         status: 200,
         headers,
+        trailers: false,
     })
 }
 P

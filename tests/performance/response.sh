@@ -57,6 +57,7 @@ fn events(alloc: Global, size: usize, bodies: usize) -> Result<Vec<Outgoing>, He
     said.push(Outgoing::ResponseStart {
         status: 200,
         headers,
+        trailers: false,
     })?;
     for left in (0..bodies).rev() {
         let mut body = Vec::new(alloc);
@@ -75,6 +76,7 @@ fn texts(alloc: Global, said: &[Outgoing], times: usize) -> Result<usize, AllocE
         head_only: false,
         close: false,
         expect: false,
+        trailers_ok: false,
         framing: Framing::Length(0),
         key: [0; 24],
         subprotocols: Names::new(alloc),

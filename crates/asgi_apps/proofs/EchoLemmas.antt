@@ -1,5 +1,5 @@
 -- What `Echo` sends is lawful, and grows with what it receives.
-use Rattle.std.proofs.Common.{◌≡◌, Bool, true, false, ℕ, List, [], ◌∷◌, ◌++◌, refl, ap, sym, ◌∙◌, subst, append-nil}
+use Rattle.std.proofs.Common.{◌≡◌, Bool, true, false, ℕ, None, List, [], ◌∷◌, ◌++◌, refl, ap, sym, ◌∙◌, subst, append-nil}
 use Rattle.std.specs.Prelude.{map, ◌||◌, codes}
 use Rattle.std.specs.List.{list_any}
 use Rattle.asgi_types.specs.declared.scope.Kind.TheVariants.{Http}
@@ -92,6 +92,7 @@ begins heard body false h = (
     headers = _;
     parts = parts_of heard;
     last = body;
+    trailers = None;
     in_order = append-nil _ ∙ ap (λ l. echo_start ∷ l ++ ResponseBody body false ∷ []) (bodies_are_parts heard h);
   },
 )
@@ -102,6 +103,7 @@ begins heard body true h = (
     headers = _;
     parts = parts_of heard ++ body ∷ [];
     last = [];
+    trailers = None;
     in_order = ap (λ l. echo_start ∷ (l ++ more body ∷ []) ++ ResponseBody [] false ∷ []) (bodies_are_parts heard h)
         ∙ ap (λ l. echo_start ∷ l ++ ResponseBody [] false ∷ []) (sym (map-one (parts_of heard) body));
   },

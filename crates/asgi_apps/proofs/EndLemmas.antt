@@ -1,7 +1,5 @@
 -- What a task does to its end, poll after poll, and what it promises meanwhile.
-use Rattle.std.proofs.Common.{◌≡◌, List, [], ◌++◌, Option, Some, None, IsSomeAnd, refl, sym, ap, ◌∙◌, subst, append_assoc}
-use Rattle.std.proofs.lemmas.List.{append-nil}
-use mathlib.Core.List.{IsPrefix}
+use Rattle.std.proofs.Common.{◌≡◌, List, Option, Some, None, IsSomeAnd, refl, sym, ◌∙◌, subst}
 use Rattle.asgi_types.specs.declared.scope.Kind.{Kind}
 use Rattle.asgi_types.specs.declared.incoming.Incoming.{Incoming}
 use Rattle.asgi_types.specs.declared.outgoing.Outgoing.{Outgoing}
@@ -9,16 +7,7 @@ use Rattle.asgi_pipes.specs.declared.ends.AppEnd.{Ghosts}
 use Rattle.asgi_types.specs.declared.end_kind.EndKind.{EndKind}
 use Rattle.asgi_apps.specs.declared.running.Lent.{Lent}
 use Rattle.asgi_apps.specs.Ends.{GoesOn, IsWithin, MayGoOn}
-
--- each list begins with itself
-pub prefix_self : {A : Type 0} (xs : List A) → IsPrefix xs xs
-prefix_self xs = ([], append-nil xs)
-
-pub prefix_same : {A : Type 0} (xs ys : List A) → ys ≡ xs → IsPrefix xs ys
-prefix_same xs ys e = ([], append-nil xs ∙ sym e)
-
-pub prefix_then : {A : Type 0} (xs ys zs : List A) → IsPrefix xs ys → IsPrefix ys zs → IsPrefix xs zs
-prefix_then xs ys zs p q = (p.0 ++ q.0, sym (append_assoc xs p.0 q.0) ∙ (ap (λ w. w ++ q.0) p.1 ∙ q.1))
+use Rattle.asgi_pipes.proofs.PrefixLemmas.{prefix_self, prefix_trans}
 
 module _ {E : Type 0} (ends : Ghosts E) where
   -- an end that nothing was done to went on
@@ -39,9 +28,9 @@ module _ {E : Type 0} (ends : Ghosts E) where
 
   pub goes_further : (mid last : Option EndKind) (a b c : E) → GoesOn ends mid a b → GoesOn ends last b c → GoesOn ends last a c
   goes_further mid last a b c x y = record {
-    heard = prefix_then (ends.heard a) (ends.heard b) (ends.heard c) x.heard y.heard;
-    pulled = prefix_then (ends.pulled a) (ends.pulled b) (ends.pulled c) x.pulled y.pulled;
-    said = prefix_then (ends.said a) (ends.said b) (ends.said c) x.said y.said;
+    heard = prefix_trans (ends.heard a) (ends.heard b) (ends.heard c) x.heard y.heard;
+    pulled = prefix_trans (ends.pulled a) (ends.pulled b) (ends.pulled c) x.pulled y.pulled;
+    said = prefix_trans (ends.said a) (ends.said b) (ends.said c) x.said y.said;
     ended_is = y.ended_is;
     kind = y.kind ∙ x.kind;
     facts = y.facts ∙ x.facts;

@@ -17,7 +17,7 @@ line_feed = 10
 
 -- a "Response Start" with one field
 abbrev pub start_of : ℕ → List ℕ → List ℕ → Outgoing
-start_of status name value = ResponseStart status (field_of name value ∷ [])
+start_of status name value = ResponseStart status (field_of name value ∷ []) false
 
 -- a whole response with one field and one body
 abbrev pub response : ℕ → List ℕ → List ℕ → List ℕ → List Outgoing

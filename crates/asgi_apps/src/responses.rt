@@ -97,7 +97,11 @@ pub fn start(alloc: Global, status: u16, name: &[u8], value: &[u8]) -> Result<Ou
 {
     let mut headers = Headers::new(alloc);
     headers.push_valid(name, value)?;
-    Ok(Outgoing::ResponseStart { status, headers })
+    Ok(Outgoing::ResponseStart {
+        status,
+        headers,
+        trailers: false,
+    })
 }
 
 fn refusal(alloc: Global) -> Result<Says, AllocError>

@@ -30,6 +30,7 @@ fn start(alloc: Global) -> Outgoing {
     Outgoing::ResponseStart {
         status: 200,
         headers: Headers::new(alloc),
+        trailers: false,
     }
 }
 

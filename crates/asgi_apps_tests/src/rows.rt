@@ -109,15 +109,7 @@ fn of<T: Drop, S, F: FnOnce(&T) -> S>(value: T, says: F) -> S
 }
 
 fn facts(alloc: Global) -> Facts {
-    Facts {
-        version: HttpVersion::V11,
-        head_only: false,
-        close: false,
-        expect: false,
-        framing: Framing::Length(0),
-        key: [0; 24],
-        subprotocols: Names::new(alloc),
-    }
+    Facts::plain(alloc)
 }
 
 const NO_EXTENSIONS: Extensions = Extensions {
@@ -341,7 +333,11 @@ fn word_of(end: EndKind) -> &'static str {
 
 fn tell(alloc: Global, text: &mut Vec<u8>, event: &Outgoing) -> Result<(), AllocError> {
     match event {
-        Outgoing::ResponseStart { status, headers } => tell_start(alloc, text, *status, headers),
+        Outgoing::ResponseStart {
+            status,
+            headers,
+            ..
+        } => tell_start(alloc, text, *status, headers),
         Outgoing::ResponseBody { body, more_body } => tell_body(text, body.bytes(), *more_body),
         Outgoing::WsAccept {
             subprotocol,

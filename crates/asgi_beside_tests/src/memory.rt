@@ -3,8 +3,8 @@
 use crate::serving::{End, is_repeated, serve};
 use asgi_apps::{Echo, Hello};
 use asgi_conn::{Host, Outcome};
-use asgi_fakes::texts::{ECHO_HEAD, GET, HELLO, SERVER_ERROR};
-use asgi_fakes::{Memory, Pieces, line_of, text_of};
+use asgi_fakes::texts::{ECHO_HEAD, GET, GET_TAKING_TRAILERS, HELLO, PLAIN_HEAD, SERVER_ERROR};
+use asgi_fakes::{Memory, Pieces, Said, Sends, line_of, text_of};
 use asgi_types::Limits;
 use std::io;
 use std::test::Fail;
@@ -19,6 +19,20 @@ type Row = (&'static [u8], &'static [u8], &'static [u8]);
 const GREETED: Row = (GET, HELLO, b"");
 
 const ECHOED: Row = (POST, ECHO_HEAD, BODY);
+
+/// The content `x`, and two trailers.
+const TRAILS: Sends = Sends(&[
+    Said::Announce(200, &[]),
+    Said::Last("x"),
+    Said::Trailers(&[("x-sum", "7")]),
+    Said::LastTrailers(&[("x-end", "y")]),
+]);
+
+const TRAILED: Row = (
+    GET_TAKING_TRAILERS,
+    PLAIN_HEAD,
+    b"1\r\nx\r\n0\r\nx-sum: 7\r\nx-end: y\r\n\r\n",
+);
 
 /// What came of a connection.
 #[derive(Clone, Copy, Debug, PartialEq, Eq)]
@@ -85,6 +99,12 @@ fn echo<H: Host>(rt: &H, row: &Row) -> io::Result<Came> {
     Ok(how_it_came(end, text_of(&line), row))
 }
 
+fn trail<H: Host>(rt: &H, row: &Row) -> io::Result<Came> {
+    let mut line = line(rt, row)?;
+    let end = serve(rt, &Limits::usual(), &TRAILS, &mut line, true)?;
+    Ok(how_it_came(end, text_of(&line), row))
+}
+
 /// What came of a connection that may not even have begun.
 fn what_came(served: io::Result<Came>) -> Came {
     match served {
@@ -109,6 +129,16 @@ fn memory_for_an_echo_beside_a_thread(rt: HostRuntime) -> Result<(), Fail> {
     let mut last = what_came(echo(&rt, &ECHOED));
     if last == Came::CutOff {
         last = what_came(echo(&rt, &ECHOED));
+    }
+    assert_eq!(rt; last, Came::Whole);
+    Ok(())
+}
+
+#[test]
+fn memory_for_trailers_beside_a_thread(rt: HostRuntime) -> Result<(), Fail> {
+    let mut last = what_came(trail(&rt, &TRAILED));
+    if last == Came::CutOff {
+        last = what_came(trail(&rt, &TRAILED));
     }
     assert_eq!(rt; last, Came::Whole);
     Ok(())

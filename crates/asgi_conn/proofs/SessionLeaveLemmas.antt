@@ -10,7 +10,7 @@ use Rattle.asgi_types.specs.declared.outgoing.Outgoing.TheVariants.{WsAccept, De
 use Rattle.asgi_protocol.specs.Shapes.{is_closed}
 use Rattle.asgi_protocol.proofs.PassingLemmas.{fronts_are_lawful}
 use Rattle.asgi_exchange.specs.{Messages.has_close, Session.Output, Session.session_output, Session.session_ending, SessionExchange.HasSessionCause, ExchangeTexts.session_text, Views.ByCut}
-use Rattle.asgi_exchange.proofs.ListLemmas.{prefix_same, prefix_self, prefix_trans}
+use Rattle.asgi_pipes.proofs.PrefixLemmas.{prefix_same, prefix_self, prefix_trans}
 use Rattle.asgi_exchange.proofs.SessionLemmas.{lawful_is_accepted, web_socket_is_steady}
 use Rattle.asgi_ws.specs.declared.messages.Msg.{Msg}
 use Rattle.asgi_conversation.specs.Sessions.{SessionTraffic, IsLeft, ByApplication, ByClient, ByCut as left_by_cut, IsSessionDone, IsNextOutput, Opens, Accepted, Silent, ServesHandshake}

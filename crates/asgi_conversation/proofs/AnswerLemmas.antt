@@ -26,7 +26,8 @@ use Rattle.asgi_response.specs.declared.progress.Progress.{Progress}
 use Rattle.asgi_response.specs.declared.progress.Progress.TheVariants.{Nothing, Begun, Complete}
 use Rattle.asgi_response.specs.declared.refusal.Input.TheVariants as input
 use Rattle.asgi_exchange.specs.ExchangeTexts.{input_of}
-use Rattle.asgi_exchange.proofs.ListLemmas.{prefix_after, prefix_same, prefix_trans, prefix_front}
+use Rattle.asgi_exchange.proofs.ListLemmas.{prefix_after, prefix_front}
+use Rattle.asgi_pipes.proofs.PrefixLemmas.{prefix_same, prefix_trans}
 use Rattle.asgi_conversation.specs.declared.report.Outcome.{Outcome}
 use Rattle.asgi_conversation.specs.declared.report.Outcome.TheVariants.{Finished, Refused, InputBroke}
 use Rattle.asgi_conversation.proofs.OutcomeLemmas.{IsWhole, AsFinished, AsRefused, AsInputBroke, is_whole}

@@ -7,7 +7,8 @@ use Rattle.asgi_request.specs.ChunkedBody.{BodyState}
 use Rattle.asgi_response.specs.Response.{response_text}
 use Rattle.asgi_exchange.specs.ExchangeTexts.{input_of}
 use Rattle.asgi_exchange.specs.ExchangeTexts.{text_of}
-use Rattle.asgi_exchange.proofs.ListLemmas.{prefix_trans, prefix_same, prefix_after}
+use Rattle.asgi_exchange.proofs.ListLemmas.{prefix_after}
+use Rattle.asgi_pipes.proofs.PrefixLemmas.{prefix_trans, prefix_same}
 use Rattle.asgi_conversation.specs.declared.report.Outcome.{Outcome}
 use Rattle.asgi_conversation.specs.OutcomeClasses.{OutcomeClass, Uncut, ByWrite, GivenUp, Lacking, Unbegun, class_of}
 use Rattle.asgi_conversation.specs.declared.input.InputEnd.{InputEnd}

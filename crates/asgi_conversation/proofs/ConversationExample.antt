@@ -79,6 +79,7 @@ greeting_is_closed = record {
   headers = field_of (codes "content-type") (codes "text/plain") ∷ [];
   parts = [];
   last = codes "hello" ++ 10 ∷ [];
+  trailers = None;
   in_order = refl;
 }
 

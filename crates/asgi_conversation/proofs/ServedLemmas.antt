@@ -22,7 +22,8 @@ use Rattle.asgi_response.specs.Response.{response_text}
 use Rattle.asgi_response.proofs.EndLemmas.{added_text_only_grows}
 use Rattle.asgi_exchange.specs.ExchangeTexts.{input_of}
 use Rattle.asgi_exchange.specs.ExchangeTexts.{text_of}
-use Rattle.asgi_exchange.proofs.ListLemmas.{prefix_trans, prefix_same, prefix_front}
+use Rattle.asgi_exchange.proofs.ListLemmas.{prefix_front}
+use Rattle.asgi_pipes.proofs.PrefixLemmas.{prefix_trans, prefix_same}
 use Rattle.asgi_apps.specs.Promises.{Promise}
 use Rattle.asgi_conversation.specs.declared.input.InputEnd.{InputEnd}
 use Rattle.asgi_conversation.specs.Exchanges.{ServesFirst, out_text}

@@ -20,7 +20,7 @@ use Rattle.asgi_types.specs.declared.scope.Peer.{Peer}
 use Rattle.asgi_types.specs.declared.scope.Scope.{Scope}
 use Rattle.asgi_types.specs.declared.state.StateValue.{StateValue}
 use Rattle.asgi_protocol.specs.Lawful.{IsLawful}
-use Rattle.asgi_protocol.specs.Shapes.{is_closed, is_row, is_message, is_close}
+use Rattle.asgi_protocol.specs.Shapes.{is_closed, is_empty, is_row, is_message, is_close}
 use Rattle.asgi_protocol.specs.Verdicts.{is_disconnect}
 use Rattle.asgi_protocol.proofs.PassingLemmas.{fronts_are_lawful}
 use Rattle.asgi_protocol.proofs.WordLemmas.{test_of_word}
@@ -33,7 +33,8 @@ use Rattle.asgi_ws.specs.declared.messages.Msg.TheVariants as msg
 use Rattle.asgi_exchange.specs.Messages.{events_in, before_close, first_close, has_close, session_events, disconnect_of, session_disconnect}
 use Rattle.asgi_exchange.specs.Session.{Output, Byte, Message, message_of, output_of, session_output, ending_of, session_ending}
 use Rattle.asgi_exchange.specs.ExchangeTexts.{ending_after}
-use Rattle.asgi_exchange.proofs.ListLemmas.{prefix_self, prefix_after, prefix_same, prefix_trans}
+use Rattle.asgi_exchange.proofs.ListLemmas.{prefix_after}
+use Rattle.asgi_pipes.proofs.PrefixLemmas.{prefix_self, prefix_same, prefix_trans}
 use Rattle.asgi_exchange.proofs.SessionLemmas.{lawful_is_accepted}
 use Rattle.asgi_apps.specs.Answers.{Answers}
 use Rattle.asgi_apps.specs.WsEcho.{accept_events, messages_of, session_echo, HeardDisconnect, SessionAnswers}
@@ -218,13 +219,13 @@ not_due received (b ∷ before) rest last e h = no_disconnect received before re
 
 -- ---- it never closes
 
-no_row : (heard : List Incoming) (front rest : List Outgoing) → front ++ rest ≡ messages_of heard → is_row is_message is_close front ≡ false
+no_row : (heard : List Incoming) (front rest : List Outgoing) → front ++ rest ≡ messages_of heard → is_row is_message is_close is_empty front ≡ false
 no_row heard [] rest e = refl
 no_row [] (f ∷ front) rest e = absurd (cc (e))
 no_row (WsReceive p ∷ heard) (f ∷ front) rest e =
     let same : f ≡ WsSend p = cc (e) in
     let on = no_row heard front rest (cc (e)) in
-    ap (λ (o : Outgoing). is_row is_message is_close (o ∷ front)) same ∙ ap (λ (b : Bool). b || false) on
+    ap (λ (o : Outgoing). is_row is_message is_close is_empty (o ∷ front)) same ∙ ap (λ (b : Bool). b || false) on
 no_row (HttpRequest b m ∷ heard) (f ∷ front) rest e = no_row heard (f ∷ front) rest e
 no_row (HttpDisconnect ∷ heard) (f ∷ front) rest e = absurd (cc (e))
 no_row (WsConnect ∷ heard) (f ∷ front) rest e = no_row heard (f ∷ front) rest e

@@ -123,7 +123,7 @@ asked_is_a_head = record {
 }
 
 unfoldable pub facts : Facts
-facts = record { version = V11; head_only = false; close = false; expect = false; framing = Upgrade; key = key; subprotocols = [] }
+facts = record { version = V11; head_only = false; close = false; expect = false; trailers_ok = false; framing = Upgrade; key = key; subprotocols = [] }
 
 unfoldable pub scope : Scope
 scope = scope_of (record_of asked) Upgrade

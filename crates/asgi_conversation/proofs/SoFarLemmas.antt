@@ -23,7 +23,8 @@ use Rattle.asgi_exchange.specs.ExchangeTexts.{text_of}
 use Rattle.asgi_exchange.specs.Items.{end_of}
 use Rattle.asgi_exchange.specs.Steps.{is_by_input}
 use Rattle.asgi_exchange.specs.Views.{World, said_of, taken_of}
-use Rattle.asgi_exchange.proofs.ListLemmas.{prefix_trans, prefix_front}
+use Rattle.asgi_exchange.proofs.ListLemmas.{prefix_front}
+use Rattle.asgi_pipes.proofs.PrefixLemmas.{prefix_trans}
 use Rattle.asgi_conversation.specs.declared.report.Outcome.{Outcome}
 use Rattle.asgi_conversation.specs.declared.report.Outcome.TheVariants.{InputBroke, WriteFailed}
 use Rattle.asgi_conversation.proofs.OutcomeLemmas.{failed_write, cut_short}

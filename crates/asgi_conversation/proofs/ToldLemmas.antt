@@ -16,7 +16,7 @@ use Rattle.asgi_types.specs.declared.scope.Kind.TheVariants as scope_kind
 use Rattle.asgi_types.specs.declared.scope.Peer.{Peer}
 use Rattle.asgi_types.specs.declared.scope.Scope.{Scope}
 use Rattle.asgi_types.specs.declared.state.StateValue.{StateValue}
-use Rattle.asgi_protocol.specs.Lawful.{IsClosed}
+use Rattle.asgi_protocol.specs.Lawful.{IsClosed, trailer_events}
 use Rattle.asgi_request.specs.ChunkedBody.{BodyState, partial, complete, faulty}
 use Rattle.asgi_request.specs.RequestEvents.{more_event}
 use Rattle.asgi_request.proofs.OpenedLemmas.{http_scope}
@@ -24,7 +24,7 @@ use Rattle.asgi_response.specs.Progress.{closes_after, progress_in, progress_of}
 use Rattle.asgi_response.specs.declared.progress.Progress.{Progress}
 use Rattle.asgi_response.specs.declared.progress.Progress.TheVariants.{Nothing, Begun, Complete}
 use Rattle.asgi_response.proofs.LawfulLemmas.{lawful_is_accepted}
-use Rattle.asgi_exchange.proofs.ListLemmas.{prefix_self}
+use Rattle.asgi_pipes.proofs.PrefixLemmas.{prefix_self}
 use Rattle.asgi_apps.specs.Answers.{start_of, hello_events, not_found_events}
 use Rattle.asgi_apps.specs.Echo.{bodies_of, echo_events, ends_request, HeardAll}
 use Rattle.asgi_apps.proofs.AnswerLemmas.{text_is_lawful, not_found_is_lawful}
@@ -128,19 +128,19 @@ part_bodies [] = refl
 part_bodies (p ∷ parts) = ap (λ (l : List Outgoing). ResponseBody p true ∷ l) (part_bodies parts)
 
 -- parts are no closed response
-no_last : (parts others : List (List ℕ)) (last : List ℕ)
-    → map (λ (p : List ℕ). ResponseBody p true) parts ≡ map (λ (p : List ℕ). ResponseBody p true) others ++ ResponseBody last false ∷ [] → ⊥
-no_last [] [] last e = cc
-no_last [] (o ∷ others) last e = cc
-no_last (p ∷ parts) [] last e = cc
-no_last (p ∷ parts) (o ∷ others) last e = no_last parts others last cc
+no_last : (parts others : List (List ℕ)) (last : List ℕ) (after : List Outgoing)
+    → map (λ (p : List ℕ). ResponseBody p true) parts ≡ map (λ (p : List ℕ). ResponseBody p true) others ++ ResponseBody last false ∷ after → ⊥
+no_last [] [] last after e = cc
+no_last [] (o ∷ others) last after e = cc
+no_last (p ∷ parts) [] last after e = cc
+no_last (p ∷ parts) (o ∷ others) last after e = no_last parts others last after cc
 
 open_is_not_closed : (said : List Outgoing) (start : Outgoing) (events : List Incoming) → said ≡ start ∷ bodies_of events → AreParts events → IsClosed scope_kind.Http said → ⊥
 open_is_not_closed said start events e parts r =
     let bodies : bodies_of events ≡ map (λ (p : List ℕ). ResponseBody p true) parts.0 = ap bodies_of parts.1 ∙ part_bodies parts.0 in
     let all = sym e ∙ r.in_order in
-    let same : bodies_of events ≡ map (λ (p : List ℕ). ResponseBody p true) r.parts ++ ResponseBody r.last false ∷ [] = cc all in
-    no_last parts.0 r.parts r.last (sym bodies ∙ same)
+    let same : bodies_of events ≡ map (λ (p : List ℕ). ResponseBody p true) r.parts ++ ResponseBody r.last false ∷ trailer_events r.trailers = cc all in
+    no_last parts.0 r.parts r.last (trailer_events r.trailers) (sym bodies ∙ same)
 
 -- parts alone do not end a request
 no_end : (parts : List (List ℕ)) (before : List Incoming) (last : Incoming) → map more_event parts ≡ before ++ last ∷ [] → ends_request last ≡ true → ⊥

@@ -2,42 +2,43 @@
 -- (RFC 9112, sections 4 to 7 and 9.3.2).
 use Rattle.std.specs.Prelude.{◌≡◌, ℕ, Bool, true, false, List, [], ◌∷◌, ◌++◌, length, All, Option, Some, None, codes, ◌==◌, if◌then◌else◌}
 use Rattle.std.specs.List.{concat}
-use Rattle.httparse.specs.Ascii.{crlf_bytes}
 use Rattle.http1.specs.ChunkedBody.{Chunks, ReadsChunks, content}
 use Rattle.asgi_types.specs.Fields.{HeaderField, field_of}
 use Rattle.asgi_types.specs.Tokens.{has_token}
 use Rattle.asgi_types.specs.declared.outgoing.Outgoing.{Outgoing}
-use Rattle.asgi_types.specs.declared.outgoing.Outgoing.TheVariants.{ResponseStart, ResponseBody}
+use Rattle.asgi_types.specs.declared.outgoing.Outgoing.TheVariants.{ResponseStart, ResponseBody, ResponseTrailers}
 use Rattle.asgi_protocol.specs.ContentLengths.{content_length}
 use Rattle.asgi_protocol.specs.Lawful.{IsResponse}
 use Rattle.asgi_protocol.specs.Rules.{given_length}
 use Rattle.asgi_response.specs.Content.{has_content}
 use Rattle.asgi_response.specs.Fields.{is_chunked, closes}
 use Rattle.asgi_response.specs.ReadBack.{IsReadAs, IsSendable, fields_sent}
-use Rattle.asgi_response.specs.ReadBackBody.{IsSized}
+use Rattle.asgi_response.specs.ReadBackBody.{IsSized, IsSectionOf, trailers_sent}
 use Rattle.asgi_conversation.specs.ExchangeRecord.{ExchangeRecord}
 
 -- ---- the content of a response
 
--- The bytes begin with chunks that carry exactly this content, then an empty trailer section, then the rest. There is no
--- other reading: whatever chunks are read of the bytes carry this and end there.
-pub record ReadsChunked (bytes sent rest : List ℕ) : Type 0 where
+-- The bytes begin with chunks that carry exactly this content, then a trailer section of these fields, then the rest. There is no
+-- other reading: whatever chunks are read of the bytes carry this and end there, and whatever section is read after them is this one.
+pub record ReadsChunked (bytes sent : List ℕ) (trailers : List HeaderField) (rest : List ℕ) : Type 0 where
   pub chunks : Chunks
-  pub reads : ReadsChunks 0 bytes chunks (crlf_bytes ++ rest)
+  pub section : List ℕ
+  pub reads : ReadsChunks 0 bytes chunks section
   pub carried : content chunks ≡ sent
-  pub only : (limit : ℕ) (other : Chunks) (after : List ℕ) → ReadsChunks limit bytes other after → (content other ≡ sent) × (after ≡ crlf_bytes ++ rest)
+  pub only : (limit : ℕ) (other : Chunks) (after : List ℕ) → ReadsChunks limit bytes other after → (content other ≡ sent) × (after ≡ section)
+  pub ends : IsSectionOf section trailers rest
 
 -- Where the content ends (section 6.3), by whether there is any, whether it is chunked, whether the connection closes, and
--- the length that is given.
-abbrev pub IsDelimited : (has_any chunked closing : Bool) → Option ℕ → List ℕ → List ℕ → List ℕ → Type 0
+-- the length that is given. Chunked content alone has trailers after it (section 7.1.2).
+abbrev pub IsDelimited : (has_any chunked closing : Bool) → Option ℕ → List ℕ → (sent : List ℕ) → (trailers : List HeaderField) → (rest : List ℕ) → Type 0
 -- rule 1: an answer to HEAD, 204 and 304 end with the head, whatever its fields are
-IsDelimited false chunked closing given bytes sent rest = bytes ≡ rest
+IsDelimited false chunked closing given bytes sent trailers rest = (trailers ≡ []) × (bytes ≡ rest)
 -- rule 4
-IsDelimited true true closing given bytes sent rest = ReadsChunked bytes sent rest
+IsDelimited true true closing given bytes sent trailers rest = ReadsChunked bytes sent trailers rest
 -- rule 6
-IsDelimited true false closing (Some n) bytes sent rest = (length sent ≡ n) × (bytes ≡ sent ++ rest)
+IsDelimited true false closing (Some n) bytes sent trailers rest = (trailers ≡ []) × (length sent ≡ n) × (bytes ≡ sent ++ rest)
 -- rule 8: it goes on until the connection closes
-IsDelimited true false closing None bytes sent rest = (closing ≡ true) × (bytes ≡ sent) × (rest ≡ [])
+IsDelimited true false closing None bytes sent trailers rest = (trailers ≡ []) × (closing ≡ true) × (bytes ≡ sent) × (rest ≡ [])
 
 -- the fields say that the content is chunked (section 6.1), and that the connection closes (section 9.6)
 abbrev pub says_chunked : List HeaderField → Bool
@@ -46,10 +47,11 @@ says_chunked fields = has_token fields (codes "transfer-encoding") (codes "chunk
 abbrev pub says_close : List HeaderField → Bool
 says_close fields = has_token fields (codes "connection") (codes "close")
 
--- The bytes begin with this content, and then the rest: the end of the content depends on the fields that were read, and on
--- whether there is any.
-abbrev pub ReadsContent : (has_any : Bool) → List HeaderField → List ℕ → List ℕ → List ℕ → Type 0
-ReadsContent has_any fields bytes sent rest = IsDelimited has_any (says_chunked fields) (says_close fields) (given_length (content_length fields)) bytes sent rest
+-- The bytes begin with this content and these trailers, and then the rest: the end of the content depends on the fields that
+-- were read, and on whether there is any.
+abbrev pub ReadsContent : (has_any : Bool) → List HeaderField → List ℕ → (sent : List ℕ) → (trailers : List HeaderField) → (rest : List ℕ) → Type 0
+ReadsContent has_any fields bytes sent trailers rest =
+    IsDelimited has_any (says_chunked fields) (says_close fields) (given_length (content_length fields)) bytes sent trailers rest
 
 -- ---- one response
 
@@ -58,8 +60,8 @@ abbrev pub ReadsContinue : Bool → List ℕ → List ℕ → Type 0
 ReadsContinue true bytes rest = IsReadAs bytes 100 [] rest
 ReadsContinue false bytes rest = bytes ≡ rest
 
--- The bytes begin with the response of this exchange, and then the rest: what is read is its status, its fields and the bytes
--- of its bodies, and nothing else can be.
+-- The bytes begin with the response of this exchange, and then the rest: what is read is its status, its fields, the bytes of
+-- its bodies and the trailer fields that are sent, and nothing else can be.
 pub record ReadsAnswer (bytes : List ℕ) (x : ExchangeRecord) (rest : List ℕ) : Type 0 where
   pub response : IsResponse x.said
   -- the application's fields, and those that the server adds
@@ -70,7 +72,8 @@ pub record ReadsAnswer (bytes : List ℕ) (x : ExchangeRecord) (rest : List ℕ)
   pub after : List ℕ
   pub head : IsReadAs final response.status fields after
   -- the recipient knows whether the request was HEAD
-  pub body : ReadsContent (has_content x.facts.head_only response.status) fields after (concat (response.parts ++ response.last ∷ [])) rest
+  pub body : ReadsContent (has_content x.facts.head_only response.status) fields after (concat (response.parts ++ response.last ∷ []))
+      (trailers_sent x.facts response.status response.headers response.trailers) rest
 
 -- ---- one after another
 
@@ -91,8 +94,9 @@ refusal_fields status =
 
 -- an event as an application can send it: each field as those of a `Headers`, and a size that fits 64 bits
 abbrev pub CanBeSent : Outgoing → Type 0
-CanBeSent (ResponseStart status headers) = All IsSendable headers
+CanBeSent (ResponseStart status headers announced) = All IsSendable headers
 CanBeSent (ResponseBody body more_body) = IsSized body
+CanBeSent (ResponseTrailers fields more_trailers) = All IsSendable fields
 CanBeSent _ = Unit {0}
 
 -- all events that were sent can be

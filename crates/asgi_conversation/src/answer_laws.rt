@@ -79,9 +79,10 @@ pub fn answers_to_a_front_come_first()
 {}
 
 /// Whatever the application is, the responses of a connection are read back one after another, each with
-/// its own status, its own fields and the bytes of its own bodies: no body can be taken for a head (RFC
-/// 9112, section 6.3). This needs fields as each `Headers` has them, bodies whose size fits 64 bits, and
-/// a recipient that knows which request was HEAD.
+/// its own status, its own fields, the bytes of its own bodies and the trailer fields that it sends: no
+/// body and no trailer can be taken for a head, nor for the end of another (RFC 9112, sections 6.3 and
+/// 7.1.2). This needs fields as each `Headers` has them, bodies whose size fits 64 bits, and a recipient
+/// that knows which request was HEAD.
 pub fn responses_are_read_back()
     ensures answered { (limits : Limits) (end : InputEnd) (read : List ℕ) (exchanges : List ExchangeRecord) (after more : List ℕ)
         → AreAnswered limits end read exchanges after → AllCanBeSent exchanges → AreRead (answer_texts exchanges ++ more) exchanges more }

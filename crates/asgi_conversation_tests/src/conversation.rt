@@ -14,7 +14,7 @@ use std::test::Fail;
 
 /// The limits of a row.
 #[derive(Clone, Copy)]
-enum Under {
+pub enum Under {
     Usual,
     /// Blocks of this many bytes.
     Blocks(usize),
@@ -33,10 +33,10 @@ fn limits_of(under: Under) -> Result<Limits, BadLimit> {
     }
 }
 
-type Parts = &'static [&'static [u8]];
+pub type Parts = &'static [&'static [u8]];
 
 /// The limits, the application, the input, what is written, and the end.
-type Row = (Under, App, Parts, Parts, End);
+pub type Row = (Under, App, Parts, Parts, End);
 
 fn joined(alloc: Global, parts: &[&[u8]]) -> Result<Vec<u8>, AllocError> {
     let mut bytes = Vec::new(alloc);
@@ -54,7 +54,7 @@ fn is_row<H: Host>(rt: &H, row: &Row, pieces: Pieces, wanted: &[u8]) -> Result<b
 }
 
 /// Each row, whole and in pieces of three sizes, and byte by byte with a read that would block before each.
-fn check<H: Abort + Host>(rt: &H, rows: &[Row]) -> Result<(), Fail> {
+pub fn check<H: Abort + Host>(rt: &H, rows: &[Row]) -> Result<(), Fail> {
     for (place, row) in rows.iter().enumerate() {
         let input = joined(rt.alloc(), row.2)?;
         let wanted = joined(rt.alloc(), row.3)?;
@@ -73,7 +73,7 @@ fn check<H: Abort + Host>(rt: &H, rows: &[Row]) -> Result<(), Fail> {
 }
 
 /// Each row, cut in two at each place.
-fn check_halves<H: Abort + Host>(rt: &H, rows: &[Row]) -> Result<(), Fail> {
+pub fn check_halves<H: Abort + Host>(rt: &H, rows: &[Row]) -> Result<(), Fail> {
     for (place, row) in rows.iter().enumerate() {
         let input = joined(rt.alloc(), row.2)?;
         let wanted = joined(rt.alloc(), row.3)?;

@@ -10,4 +10,6 @@ mod idle;
 #[cfg(test)]
 mod sizes;
 #[cfg(test)]
+mod trailers;
+#[cfg(test)]
 mod turns;

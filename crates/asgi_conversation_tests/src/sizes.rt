@@ -1,9 +1,9 @@
 //! Many requests, long bodies and many places: with ample memory each is served whole.
-use asgi_apps::{AppFault, Application, Says};
+use asgi_apps::{AppFault, AppTask, Application, Says};
 use asgi_conn::{Host, Outcome};
-use asgi_fakes::texts::{ECHO_HEAD, GET, HELLO, LAST_CHUNK, PLAIN_HEAD};
+use asgi_fakes::texts::{ECHO_HEAD, GET, GET_TAKING_TRAILERS, HELLO, LAST_CHUNK, PLAIN_HEAD};
 use asgi_fakes::{App, Pieces, Way, is_served, is_served_so, line_of, serve, text_of};
-use asgi_types::{Headers, Kind, Limits, Octets, Outgoing, Scope};
+use asgi_types::{HeaderError, Headers, Kind, Limits, Octets, Outgoing, Scope};
 use std::alloc::{AllocError, Global};
 use std::io;
 use std::test::Fail;
@@ -147,6 +147,7 @@ impl Application for SaysMuch {
         says.add(Outgoing::ResponseStart {
             status: 200,
             headers: Headers::new(alloc),
+            trailers: false,
         })?;
         says.add(Outgoing::ResponseBody {
             body: Octets::new(long_body(alloc)?),
@@ -168,11 +169,17 @@ fn much_twice(alloc: Global) -> Result<Vec<u8>, AllocError> {
     Ok(text)
 }
 
-/// How the connection ends, its exchanges, and whether this is written.
-fn said<H: Host>(rt: &H, way: Way, wanted: &[u8]) -> io::Result<(Outcome, u64, bool)> {
-    let input = repeated(rt.alloc(), GET, 2)?;
+/// How a connection with this request twice ends, its exchanges, and whether this is written.
+fn said<H: Host, T: AppTask + Send + 'static, A: Application<Task = T>>(
+    rt: &H,
+    way: Way,
+    app: &A,
+    request: &[u8],
+    wanted: &[u8],
+) -> io::Result<(Outcome, u64, bool)> {
+    let input = repeated(rt.alloc(), request, 2)?;
     let mut line = line_of(rt, Pieces::new(&input, 4_096, 4_096))?;
-    let (report, _) = serve(rt, way, &Limits::usual(), &SaysMuch, &mut line)?;
+    let (report, _) = serve(rt, way, &Limits::usual(), app, &mut line)?;
     Ok((report.outcome, report.exchanges, text_of(&line) == wanted))
 }
 
@@ -180,7 +187,73 @@ fn said<H: Host>(rt: &H, way: Way, wanted: &[u8]) -> io::Result<(Outcome, u64, b
 fn an_event_of_100000_bytes_is_written(rt: HostRuntime) -> Result<(), Fail> {
     let wanted = much_twice(rt.alloc())?;
     for way in [Way::Inline, Way::Beside] {
-        assert_eq!(rt; said(&rt, way, &wanted)?, (Outcome::Finished, 2, true));
+        let ended = said(&rt, way, &SaysMuch, GET, &wanted)?;
+        assert_eq!(rt; ended, (Outcome::Finished, 2, true));
+    }
+    Ok(())
+}
+
+/// How many bytes the value of a long trailer has.
+const LONG_VALUE: usize = 8_192;
+
+/// Answers each request with the content `x`, and a trailer with a long value.
+#[derive(Clone, Copy)]
+struct TrailsMuch;
+
+impl Application for TrailsMuch {
+    type Task = Says;
+
+    fn call(&self, alloc: Global, scope: &Scope) -> Result<Says, AppFault> {
+        let Scope::Http(_) = scope else {
+            return Err(AppFault::Failed);
+        };
+        let Ok(headers) = long_field(alloc) else {
+            return Err(AppFault::Failed);
+        };
+        let mut says = Says::with_room(alloc, Kind::Http, 3)?;
+        says.add(Outgoing::ResponseStart {
+            status: 200,
+            headers: Headers::new(alloc),
+            trailers: true,
+        })?;
+        says.add(Outgoing::ResponseBody {
+            body: Octets::new(Vec::from_slice(alloc, b"x")?),
+            more_body: false,
+        })?;
+        says.add(Outgoing::ResponseTrailers {
+            headers,
+            more_trailers: false,
+        })?;
+        Ok(says)
+    }
+}
+
+fn long_field(alloc: Global) -> Result<Headers, HeaderError> {
+    let value = repeated(alloc, b"a", LONG_VALUE)?;
+    let mut headers = Headers::new(alloc);
+    headers.push(b"x-long", &value)?;
+    Ok(headers)
+}
+
+/// The text of that, twice.
+fn trailed_twice(alloc: Global) -> Result<Vec<u8>, AllocError> {
+    let value = repeated(alloc, b"a", LONG_VALUE)?;
+    let mut text = Vec::new(alloc);
+    for _time in 0..2 {
+        text.extend_from_slice(PLAIN_HEAD)?;
+        text.extend_from_slice(b"1\r\nx\r\n0\r\nx-long: ")?;
+        text.extend_from_slice(&value)?;
+        text.extend_from_slice(b"\r\n\r\n")?;
+    }
+    Ok(text)
+}
+
+#[test]
+fn a_trailer_of_8_kib_is_written(rt: HostRuntime) -> Result<(), Fail> {
+    let wanted = trailed_twice(rt.alloc())?;
+    for way in [Way::Inline, Way::Beside] {
+        let ended = said(&rt, way, &TrailsMuch, GET_TAKING_TRAILERS, &wanted)?;
+        assert_eq!(rt; ended, (Outcome::Finished, 2, true));
     }
     Ok(())
 }

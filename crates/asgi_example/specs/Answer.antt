@@ -4,4 +4,4 @@ use Rattle.asgi_types.specs.declared.outgoing.Outgoing.{Outgoing}
 use Rattle.asgi_types.specs.declared.outgoing.Outgoing.TheVariants.{ResponseStart, ResponseBody}
 
 abbrev pub no_content : List Outgoing
-no_content = ResponseStart 204 [] ∷ ResponseBody [] false ∷ []
+no_content = ResponseStart 204 [] false ∷ ResponseBody [] false ∷ []

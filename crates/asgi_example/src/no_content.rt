@@ -25,6 +25,7 @@ impl Application for NoContent {
         says.add(Outgoing::ResponseStart {
             status: 204,
             headers: Headers::new(alloc),
+            trailers: false,
         })?;
         says.add(Outgoing::ResponseBody {
             body: Octets::new(Vec::new(alloc)),

@@ -18,6 +18,7 @@ impl Application for Paths {
         says.add(Outgoing::ResponseStart {
             status: 200,
             headers: Headers::new(alloc),
+            trailers: false,
         })?;
         says.add(Outgoing::ResponseBody {
             body: Octets::new(Vec::from_slice(alloc, scope.path.as_str().as_bytes())?),

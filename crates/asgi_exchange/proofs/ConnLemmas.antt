@@ -14,7 +14,8 @@ use Rattle.asgi_exchange.specs.Items.{events_of, end_of}
 use Rattle.asgi_exchange.specs.Schedules.{ConnStep, Arrives, Offers, Breaks, Takes, Writes, conn_after, conn_run}
 use Rattle.asgi_exchange.specs.Steps.{next_of, is_by_input, is_by_cut, arrive, offer_this, offer, break_this, break_off, take_this, take_next, write}
 use Rattle.asgi_exchange.specs.Views.{Break, ByInput, ByCut, ConnView, empty_conn, added_by, output}
-use Rattle.asgi_exchange.proofs.ListLemmas.{if_holds, prefix_trans, prefix_front, prefix_after, prefix_whole, prefix_next, prefix_further}
+use Rattle.asgi_exchange.proofs.ListLemmas.{if_holds, prefix_front, prefix_after, prefix_whole, prefix_next, prefix_further}
+use Rattle.asgi_pipes.proofs.PrefixLemmas.{prefix_trans}
 use Rattle.asgi_exchange.proofs.EventLemmas.{none_is, events_append, end_event, end_ended}
 
 -- all that is to be written of these events and this end

@@ -13,7 +13,8 @@ use Rattle.asgi_exchange.specs.Exchange.{Exchange, IsSteady, cut_disconnect}
 use Rattle.asgi_exchange.specs.Halves.{IsOffered}
 use Rattle.asgi_exchange.specs.Heard.{Cause, Closed, Input, Cut, HearsDue}
 use Rattle.asgi_exchange.specs.Views.{Break, ByInput, ByCut, World, said_of}
-use Rattle.asgi_exchange.proofs.ListLemmas.{prefix_trans, prefix_self, prefix_one_more, last_same}
+use Rattle.asgi_exchange.proofs.ListLemmas.{prefix_one_more, last_same}
+use Rattle.asgi_pipes.proofs.PrefixLemmas.{prefix_trans, prefix_self}
 
 -- ---- lists with no disconnect
 

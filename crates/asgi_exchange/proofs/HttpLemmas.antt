@@ -22,7 +22,7 @@ use Rattle.asgi_pipes.specs.Disconnects.{disconnect_in, or_else, first_disconnec
 use Rattle.asgi_exchange.specs.Exchange.{IsSteady}
 use Rattle.asgi_exchange.specs.Http.{is_over, http}
 use Rattle.asgi_exchange.specs.ExchangeTexts.{input_of}
-use Rattle.asgi_exchange.proofs.ListLemmas.{prefix_same}
+use Rattle.asgi_pipes.proofs.PrefixLemmas.{prefix_same}
 
 -- ---- what is due
 

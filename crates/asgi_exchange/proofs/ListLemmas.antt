@@ -1,5 +1,5 @@
 -- What begins a list begins what goes on from it, and the next item takes it further.
-use Rattle.std.proofs.Common.{◌≡◌, ℕ, ◌≤◌, Bool, true, false, List, [], ◌∷◌, ◌++◌, ◌⊎◌, inl, inr, length, take, drop, Some, slice_get, refl, ap, sym, ◌∙◌, arith, append_assoc, append-nil, if◌then◌else◌, take-append-drop}
+use Rattle.std.proofs.Common.{◌≡◌, ℕ, ◌≤◌, Bool, true, false, List, [], ◌∷◌, ◌++◌, ◌⊎◌, inl, inr, length, take, drop, Some, slice_get, refl, ap, sym, ◌∙◌, arith, append_assoc, if◌then◌else◌, take-append-drop}
 use Rattle.std.proofs.Math.Seq.{drop-append_seam}
 use mathlib.Core.List.{IsPrefix}
 
@@ -7,18 +7,8 @@ pub if_holds : {T : Type 0} (P : T → Type 0) (b : Bool) (y n : T) → (b ≡ t
 if_holds P true y n yes_ no_ = yes_ refl
 if_holds P false y n yes_ no_ = no_ refl
 
--- each list begins with itself
-pub prefix_self : {A : Type 0} (xs : List A) → IsPrefix xs xs
-prefix_self xs = ([], append-nil xs)
-
-pub prefix_trans : {A : Type 0} (xs ys zs : List A) → IsPrefix xs ys → IsPrefix ys zs → IsPrefix xs zs
-prefix_trans xs ys zs p q = (p.0 ++ q.0, sym (append_assoc xs p.0 q.0) ∙ (ap (λ w. w ++ q.0) p.1 ∙ q.1))
-
 pub prefix_front : {A : Type 0} (xs ys : List A) → IsPrefix xs (xs ++ ys)
 prefix_front xs ys = (ys, refl)
-
-pub prefix_same : {A : Type 0} (xs ys : List A) → xs ≡ ys → IsPrefix xs ys
-prefix_same xs ys e = let r = prefix_self xs in (r.0, r.1 ∙ e)
 
 pub prefix_after : {A : Type 0} (t xs ys : List A) → IsPrefix xs ys → IsPrefix (t ++ xs) (t ++ ys)
 prefix_after t xs ys p = (p.0, append_assoc t xs p.0 ∙ ap (λ w. t ++ w) p.1)

@@ -15,7 +15,8 @@ use Rattle.asgi_exchange.specs.Halves.{AreJoined}
 use Rattle.asgi_exchange.specs.Items.{end_of}
 use Rattle.asgi_exchange.specs.Steps.{next_of, is_by_input, is_by_cut, arrive, offer_this, offer, break_this, break_off, take_this, take_next, write, hear_this, hear, say, finish}
 use Rattle.asgi_exchange.specs.Views.{Break, ByInput, ByCut, ConnView, AppView, said_of, output}
-use Rattle.asgi_exchange.proofs.ListLemmas.{if_holds, prefix_trans, prefix_front, prefix_next}
+use Rattle.asgi_exchange.proofs.ListLemmas.{if_holds, prefix_front, prefix_next}
+use Rattle.asgi_pipes.proofs.PrefixLemmas.{prefix_trans}
 
 module _ {A W : Type 0} (x : Exchange A W) (conn : ConnView A W) (app : AppView) where
   more_in : (d : Incoming) → AreJoined conn app → IsPrefix app.pulled (conn.offered ++ d ∷ [])

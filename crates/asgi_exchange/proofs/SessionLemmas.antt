@@ -9,7 +9,7 @@ use Rattle.asgi_types.specs.declared.facts.Facts.{Facts}
 use Rattle.asgi_types.specs.declared.incoming.Incoming.TheVariants.{WsConnect, WsReceive}
 use Rattle.asgi_types.specs.declared.incoming.Payload.TheVariants as payload
 use Rattle.asgi_types.specs.declared.outgoing.Outgoing.{Outgoing}
-use Rattle.asgi_types.specs.declared.outgoing.Outgoing.TheVariants.{ResponseStart, ResponseBody, WsAccept, WsSend, WsClose, DenialStart, DenialBody, StartupComplete, StartupFailed, ShutdownComplete, ShutdownFailed}
+use Rattle.asgi_types.specs.declared.outgoing.Outgoing.TheVariants.{ResponseStart, ResponseBody, ResponseTrailers, WsAccept, WsSend, WsClose, DenialStart, DenialBody, StartupComplete, StartupFailed, ShutdownComplete, ShutdownFailed}
 use Rattle.asgi_types.specs.declared.scope.Kind.TheVariants.{WebSocket}
 use Rattle.asgi_protocol.specs.Verdicts.{is_disconnect}
 use Rattle.asgi_protocol.specs.Passing.{passes, each_passes}
@@ -27,7 +27,8 @@ use Rattle.asgi_exchange.specs.Messages.{events_in, before_close, first_close, h
 use Rattle.asgi_exchange.specs.Session as session
 use Rattle.asgi_exchange.specs.Session.{Output, Byte, Handshake, with_session_event, accepted_session, message_of, output_of, event_output, session_output}
 use Rattle.asgi_exchange.specs.WebSocket.{web_socket}
-use Rattle.asgi_exchange.proofs.ListLemmas.{prefix_self, prefix_same, prefix_after}
+use Rattle.asgi_exchange.proofs.ListLemmas.{prefix_after}
+use Rattle.asgi_pipes.proofs.PrefixLemmas.{prefix_self, prefix_same}
 
 -- ---- what is due
 
@@ -89,8 +90,9 @@ output_after : (handshake : Handshake) (facts : Facts) (said : List Outgoing) (e
 output_after handshake facts [] (WsAccept a b) = append-nil (map Byte (handshake a b))
 output_after handshake facts [] (WsClose a b) = refl
 output_after handshake facts [] (DenialStart a b) = refl
-output_after handshake facts [] (ResponseStart a b) = refl
+output_after handshake facts [] (ResponseStart a b c) = refl
 output_after handshake facts [] (ResponseBody a b) = refl
+output_after handshake facts [] (ResponseTrailers a b) = refl
 output_after handshake facts [] (WsSend a) = refl
 output_after handshake facts [] (DenialBody a b) = refl
 output_after handshake facts [] (StartupComplete a) = refl
@@ -106,8 +108,9 @@ output_after handshake facts (DenialStart status headers ∷ said) event =
     let start : List Outgoing = DenialStart status headers ∷ said in
     ap (map Byte) (denial_after facts start event)
     ∙ map_append Byte (denial_text facts start) (event_text (closing_facts facts) (map as_response start) (as_response event))
-output_after handshake facts (ResponseStart a b ∷ said) event = refl
+output_after handshake facts (ResponseStart a b c ∷ said) event = refl
 output_after handshake facts (ResponseBody a b ∷ said) event = refl
+output_after handshake facts (ResponseTrailers a b ∷ said) event = refl
 output_after handshake facts (WsSend a ∷ said) event = refl
 output_after handshake facts (DenialBody a b ∷ said) event = refl
 output_after handshake facts (StartupComplete a ∷ said) event = refl

@@ -60,7 +60,7 @@ limits_of_blocks = record usual_limits { block = 4; block_in_range = (leb-true 1
 
 -- a request of HTTP/1.1 that asks for nothing else
 abbrev pub facts_with : Framing → Facts
-facts_with framing = record { version = V11; head_only = false; close = false; expect = false; framing = framing; key = replicate 24 0; subprotocols = [] }
+facts_with framing = record { version = V11; head_only = false; close = false; expect = false; trailers_ok = false; framing = framing; key = replicate 24 0; subprotocols = [] }
 
 -- the opening handshake of RFC 6455, section 1.3, and its response
 abbrev pub session_facts : Facts
@@ -79,17 +79,17 @@ content_type value = record { name = codes "content-type"; value = value } ∷ [
 
 -- a text with a single body
 abbrev pub hello_start : Outgoing
-hello_start = ResponseStart 200 (content_type (codes "text/plain"))
+hello_start = ResponseStart 200 (content_type (codes "text/plain")) false
 
 abbrev pub hello_body : Outgoing
 hello_body = ResponseBody (codes "hello\n") false
 
 -- the start of a response with the bytes of the request
 abbrev pub echo_start : Outgoing
-echo_start = ResponseStart 200 (content_type (codes "application/octet-stream"))
+echo_start = ResponseStart 200 (content_type (codes "application/octet-stream")) false
 
 abbrev pub bare_start : Outgoing
-bare_start = ResponseStart 200 []
+bare_start = ResponseStart 200 [] false
 
 abbrev pub accept : Outgoing
 accept = WsAccept None []

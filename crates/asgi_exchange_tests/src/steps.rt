@@ -144,7 +144,7 @@ fn shown_sent(sent: &Sent) -> Answer {
 
 fn shown(event: &Outgoing) -> Answer {
     match event {
-        Outgoing::ResponseStart { status, headers: _ } => Answer::Start(*status),
+        Outgoing::ResponseStart { status, .. } => Answer::Start(*status),
         Outgoing::ResponseBody { body, more_body: _ } => Answer::Body(first(body)),
         _ => Answer::Nothing,
     }
@@ -172,6 +172,7 @@ fn start(alloc: Global, status: u16) -> Outgoing {
     Outgoing::ResponseStart {
         status,
         headers: Headers::new(alloc),
+        trailers: false,
     }
 }
 
@@ -225,15 +226,7 @@ fn pair_of(alloc: Global) -> Result<Pair, AllocError> {
 }
 
 pub(crate) fn facts(alloc: Global) -> Facts {
-    Facts {
-        version: HttpVersion::V11,
-        head_only: false,
-        close: false,
-        expect: false,
-        framing: Framing::Length(0),
-        key: [0; 24],
-        subprotocols: Names::new(alloc),
-    }
+    Facts::plain(alloc)
 }
 
 #[test]

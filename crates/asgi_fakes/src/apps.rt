@@ -9,16 +9,25 @@ use asgi_pipes::{AppEnd, Sent};
 use asgi_types::{HeaderError, Headers, HttpScope, Incoming, Kind, Octets, Outgoing, Scope};
 use futures::task::{Context, Poll};
 use std::alloc::{AllocError, Global};
+use std::collections::VecDeque;
+
+type Fields = &'static [(&'static str, &'static str)];
 
 /// An event that is sent.
 #[derive(Clone, Copy)]
 pub enum Said {
     /// A start with this status and these fields.
-    Start(u16, &'static [(&'static str, &'static str)]),
+    Start(u16, Fields),
+    /// The same, which announces trailers.
+    Announce(u16, Fields),
     /// A part of a body, after which more follows.
     Part(&'static str),
     /// The last part of a body.
     Last(&'static str),
+    /// Trailers, after which more follow.
+    Trailers(Fields),
+    /// The last trailers.
+    LastTrailers(Fields),
 }
 
 /// An event that is received.
@@ -33,6 +42,10 @@ pub enum Heard {
 #[derive(Clone, Copy)]
 pub enum Step {
     Says(Said),
+    /// The task sends this, which is refused by this number. If it is not, the task faults.
+    IsRefused(Said, u8),
+    /// The task sends this, which is ignored. If it is not, the task faults.
+    IsIgnored(Said),
     /// The task receives this. If it is anything else, the task faults, which the report of a connection counts.
     Hears(Heard),
     Faults,
@@ -43,23 +56,53 @@ pub enum Step {
 impl Said {
     fn event(self, alloc: Global) -> Result<Outgoing, HeaderError> {
         match self {
-            Said::Start(status, fields) => start(alloc, status, fields),
+            Said::Start(status, fields) => start(alloc, status, fields, false),
+            Said::Announce(status, fields) => start(alloc, status, fields, true),
             Said::Part(text) => Ok(body(alloc, text, true)?),
             Said::Last(text) => Ok(body(alloc, text, false)?),
+            Said::Trailers(fields) => trailers_of(alloc, fields, true),
+            Said::LastTrailers(fields) => trailers_of(alloc, fields, false),
         }
     }
+}
+
+fn headers_of(alloc: Global, fields: Fields) -> Result<Headers, HeaderError> {
+    let mut headers = Headers::new(alloc);
+    add_fields(&mut headers, fields)?;
+    Ok(headers)
+}
+
+fn add_fields(headers: &mut Headers, fields: Fields) -> Result<(), HeaderError> {
+    for (name, value) in fields {
+        headers.push(name.as_bytes(), value.as_bytes())?;
+    }
+    Ok(())
 }
 
 fn start(
     alloc: Global,
     status: u16,
-    fields: &[(&'static str, &'static str)],
+    fields: Fields,
+    trailers: bool,
 ) -> Result<Outgoing, HeaderError> {
-    let mut headers = Headers::new(alloc);
-    for (name, value) in fields {
-        headers.push(name.as_bytes(), value.as_bytes())?;
-    }
-    Ok(Outgoing::ResponseStart { status, headers })
+    let headers = headers_of(alloc, fields)?;
+    Ok(Outgoing::ResponseStart {
+        status,
+        headers,
+        trailers,
+    })
+}
+
+fn trailers_of(
+    alloc: Global,
+    fields: Fields,
+    more_trailers: bool,
+) -> Result<Outgoing, HeaderError> {
+    let headers = headers_of(alloc, fields)?;
+    Ok(Outgoing::ResponseTrailers {
+        headers,
+        more_trailers,
+    })
 }
 
 fn body(alloc: Global, text: &str, more_body: bool) -> Result<Outgoing, AllocError> {
@@ -154,6 +197,8 @@ fn goes<E: AppEnd>(alloc: Global, cx: &mut Context<'_>, end: &mut E, step: Step)
     match step {
         Step::Hears(wanted) => hears(cx, end, wanted),
         Step::Says(said) => says(alloc, cx, end, said),
+        Step::IsRefused(said, number) => is_turned_away(alloc, cx, end, said, Some(number)),
+        Step::IsIgnored(said) => is_turned_away(alloc, cx, end, said, None),
         _ => Poll::Ready(false),
     }
 }
@@ -187,6 +232,121 @@ fn says<E: AppEnd>(alloc: Global, cx: &mut Context<'_>, end: &mut E, said: Said)
         Sent::Ignored => Poll::Ready(false),
         Sent::Refused(_, _) => Poll::Ready(false),
     }
+}
+
+/// Whether this is refused by this number, or ignored if there is none; never pending.
+fn is_turned_away<E: AppEnd>(
+    alloc: Global,
+    cx: &mut Context<'_>,
+    end: &mut E,
+    said: Said,
+    number: Option<u8>,
+) -> Poll<bool>
+    requires { E.ended end.old ≡ None }
+    ensures end { GoesOn E.AppEnd None end.old end.new }
+    ensures armed { OnPending result (IsArmed cx.new) }
+    ensures kept { Keeps cx.old cx.new }
+{
+    let Ok(event) = said.event(alloc) else {
+        return Poll::Ready(false);
+    };
+    match end.poll_send(cx, event) {
+        Sent::Refused(given, _) => Poll::Ready(number == Some(given)),
+        Sent::Ignored => Poll::Ready(number.is_none()),
+        Sent::Done => Poll::Ready(false),
+        Sent::Full(_) => Poll::Ready(false),
+    }
+}
+
+/// Sends these events in each exchange, and returns. All its memory is taken in the call, which faults if that is refused.
+#[derive(Clone, Copy)]
+pub struct Sends(pub &'static [Said]);
+
+#[derive(Drop)]
+pub struct SendsTask {
+    events: VecDeque<Outgoing>,
+    /// An event that found no free place when it was sent.
+    waiting: Option<Outgoing>,
+}
+
+impl Application for Sends {
+    type Task = SendsTask;
+
+    fn call(&self, alloc: Global, _scope: &Scope) -> Result<SendsTask, AppFault> {
+        match events_of(alloc, self.0) {
+            Ok(events) => Ok(SendsTask {
+                events,
+                waiting: None,
+            }),
+            Err(_) => Err(AppFault::Failed),
+        }
+    }
+}
+
+fn events_of(alloc: Global, said: &[Said]) -> Result<VecDeque<Outgoing>, HeaderError> {
+    let mut events = VecDeque::with_capacity(alloc, said.len())?;
+    add_all(&mut events, alloc, said)?;
+    Ok(events)
+}
+
+fn add_all(
+    events: &mut VecDeque<Outgoing>,
+    alloc: Global,
+    said: &[Said],
+) -> Result<(), HeaderError> {
+    for one in said {
+        let event = made(alloc, *one)?;
+        events.push_back(event)?;
+    }
+    Ok(())
+}
+
+fn made(alloc: Global, said: Said) -> Result<Outgoing, HeaderError> {
+    said.event(alloc)
+}
+
+impl SendsTask {
+    /// The event to send next.
+    fn next(&mut self) -> Option<Outgoing> {
+        match self.waiting.take() {
+            Some(event) => Some(event),
+            None => self.events.pop_front(),
+        }
+    }
+
+    /// Sends the event, which waits if no place is free.
+    fn say<E: AppEnd>(
+        &mut self,
+        cx: &mut Context<'_>,
+        end: &mut E,
+        event: Outgoing,
+    ) -> Poll<Result<(), AppFault>>
+        requires { E.ended end.old ≡ None }
+        ensures end { GoesOn E.AppEnd None end.old end.new }
+        ensures armed { OnPending result (IsArmed cx.new) }
+        ensures kept { Keeps cx.old cx.new }
+    {
+        match end.poll_send(cx, event) {
+            Sent::Done => cx.yield_now(),
+            Sent::Full(event) => {
+                self.waiting = Some(event);
+                Poll::Pending
+            }
+            Sent::Ignored => Poll::Ready(Err(AppFault::Failed)),
+            Sent::Refused(_, _) => Poll::Ready(Err(AppFault::Failed)),
+        }
+    }
+}
+
+impl AppTask for SendsTask {
+    fn poll<E: AppEnd>(&mut self, cx: &mut Context<'_>, end: &mut E) -> Poll<Result<(), AppFault>> {
+        match self.next() {
+            Some(event) => self.say(cx, end, event),
+            None => Poll::Ready(Ok(())),
+        }
+    }
+
+    ghost keeps = { λ _ _ _ _ _. tt };
 }
 
 /// An application whose call faults.
@@ -227,6 +387,7 @@ impl Application for Targets {
         says.add(Outgoing::ResponseStart {
             status: 200,
             headers: Headers::new(alloc),
+            trailers: false,
         })?;
         says.add(Outgoing::ResponseBody {
             body: Octets::new(target_of(alloc, scope)?),

@@ -7,6 +7,6 @@ mod lines;
 mod serving;
 pub mod texts;
 
-pub use apps::{Heard, Refuses, Said, Scripted, ScriptedTask, Step, Targets};
+pub use apps::{Heard, Refuses, Said, Scripted, ScriptedTask, Sends, SendsTask, Step, Targets};
 pub use lines::{Memory, Never, Pieces, Sink, line_of, text_of};
 pub use serving::{App, End, Way, is_served, is_served_so, serve, serve_by};

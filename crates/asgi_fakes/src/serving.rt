@@ -1,5 +1,5 @@
 //! A connection over a line, served by the application of a row.
-use crate::apps::{Refuses, Scripted, Step, Targets};
+use crate::apps::{Refuses, Said, Scripted, Sends, Step, Targets};
 use crate::lines::{Memory, line_of, text_of};
 use asgi_apps::{AppTask, Application, Echo, Hello, NotFound};
 use asgi_conn::{Beside, Host, Inline, Line, Outcome, Report, Runner, serve_connection};
@@ -70,6 +70,7 @@ pub enum App {
     Targets,
     Refuses,
     Scripted(&'static [Step]),
+    Sends(&'static [Said]),
 }
 
 /// Serves one connection by the application of a row.
@@ -87,6 +88,7 @@ pub fn serve_by<H: Host, L: Line>(
         App::Targets => serve(rt, way, limits, &Targets, line),
         App::Refuses => serve(rt, way, limits, &Refuses, line),
         App::Scripted(steps) => serve(rt, way, limits, &Scripted(steps), line),
+        App::Sends(said) => serve(rt, way, limits, &Sends(said), line),
     }
 }
 

@@ -1,6 +1,9 @@
 //! The requests and the responses that the tables name.
 pub const GET: &[u8] = b"GET / HTTP/1.1\r\nHost: a\r\n\r\n";
 
+/// A request of a client that takes trailers.
+pub const GET_TAKING_TRAILERS: &[u8] = b"GET / HTTP/1.1\r\nHost: a\r\nTE: trailers\r\n\r\n";
+
 pub const TWO_REQUESTS: &[u8] =
     b"GET / HTTP/1.1\r\nHost: a\r\n\r\nGET / HTTP/1.1\r\nHost: a\r\n\r\n";
 

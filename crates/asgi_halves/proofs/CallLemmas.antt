@@ -85,11 +85,11 @@ or_none b = grind arith
 not_whole : (b : Bool) → (if b then Answered.Closed else Answered.Open) ≡ Answered.Open → b ≡ false
 not_whole b h = grind arith
 
-row_closes : (events : List Outgoing) → shapes.begins_row shapes.is_message shapes.is_close events ≡ true → shapes.is_row shapes.is_message shapes.is_close events ≡ false
+row_closes : (events : List Outgoing) → shapes.begins_row shapes.is_message shapes.is_close shapes.is_empty events ≡ true → shapes.is_row shapes.is_message shapes.is_close shapes.is_empty events ≡ false
     → closes (flat_map message_of events) ≡ false
 row_closes [] begins part = refl
 row_closes (Outgoing.WsSend payload ∷ events) begins part =
-    row_closes events (sym (or_none (shapes.begins_row shapes.is_message shapes.is_close events)) ∙ begins) (sym (or_none (shapes.is_row shapes.is_message shapes.is_close events)) ∙ part)
+    row_closes events (sym (or_none (shapes.begins_row shapes.is_message shapes.is_close shapes.is_empty events)) ∙ begins) (sym (or_none (shapes.is_row shapes.is_message shapes.is_close shapes.is_empty events)) ∙ part)
 row_closes (Outgoing.WsClose code reason ∷ events) begins part = absurd (cc (begins, part))
 row_closes (_ ∷ events) begins part = absurd (cc begins)
 
@@ -97,7 +97,7 @@ row_closes (_ ∷ events) begins part = absurd (cc begins)
 pub open_closes : (handshake : Handshake) (facts : Facts) (said : List Outgoing) → shapes.begins_word Kind.WebSocket said ≡ true → answer_to said ≡ Answered.Open
     → closes (output_of handshake facts said) ≡ false
 open_closes handshake facts (Outgoing.WsAccept subprotocol headers ∷ events) begins is =
-    closes_after (handshake subprotocol headers) (flat_map message_of events) ∙ row_closes events begins (not_whole (shapes.is_row shapes.is_message shapes.is_close events) is)
+    closes_after (handshake subprotocol headers) (flat_map message_of events) ∙ row_closes events begins (not_whole (shapes.is_row shapes.is_message shapes.is_close shapes.is_empty events) is)
 open_closes handshake facts _ begins is = absurd (cc is)
 
 -- ---- what is out

@@ -1,7 +1,8 @@
 -- The names that the proofs of the HTTP half, of the turns and of the wire share.
 pub use Rattle.asgi_conversation.specs.{Persistence.StopsWithin, TaskEnds.has_ended, TaskEnds.is_faulty, declared.following.NextStep.NextStep, declared.input.InputEnd.InputEnd}
 pub use Rattle.asgi_conversation.specs.{declared.report.Outcome.Outcome}
-pub use Rattle.asgi_exchange.proofs.{EventLemmas.end_event, EventLemmas.events_append, ListLemmas.prefix_trans}
+pub use Rattle.asgi_exchange.proofs.EventLemmas.{end_event, events_append}
+pub use Rattle.asgi_pipes.proofs.PrefixLemmas.{prefix_trans}
 pub use Rattle.asgi_exchange.specs.{Calls.IsViewOf, ExchangeTexts.input_of, Halves.ConnKeeps, Http.http, Items.end_of, Items.events_of, Steps.is_by_cut, Steps.is_by_input}
 pub use Rattle.asgi_exchange.specs.{Views.Break, Views.ByCut, Views.ByInput, Views.ConnView, Views.added_by, Views.output, Views.taken_of}
 pub use Rattle.asgi_halves.specs.Half.{BreaksAt, EndsWhere, HasGiven, Invariant, IsAt, IsCutShort, IsRunning, IsSettled, Scene, Talks, failures_at, known, requests_in, state_in}

@@ -4,7 +4,7 @@ use Rattle.asgi_halves.proofs.HalfWords.{Incoming, Limits, Scope, Next, complete
 use Rattle.asgi_halves.proofs.HalfWords.{ReadsAt, HoldsFew, piece_size, ReadsAhead, ReadsBody}
 use Rattle.asgi_conversation.proofs.{LoopLemmas.end_seen_within, LoopLemmas.within_reads_more, RequestLemmas.heads_join}
 use Rattle.asgi_conversation.specs.{Exchanges.heads_of, SoFar.Within}
-use Rattle.asgi_exchange.proofs.ListLemmas.{prefix_same}
+use Rattle.asgi_pipes.proofs.PrefixLemmas.{prefix_same}
 use Rattle.asgi_halves.specs.{Half.WithinScene, ReadAhead.ahead_limit}
 use Rattle.asgi_request.proofs.{FirstLemmas.none_gives, FirstLemmas.whole_alone, OpenedLemmas.closed_at, OpenedLemmas.whole_closes, OpenedLemmas.whole_is_closed, StandardLemmas.all_results}
 use Rattle.asgi_request.specs.{Opened.HasClosed, Reading.EndsWhole, Reading.IsWaiting, Results.GivesResults}

@@ -22,25 +22,25 @@ and_false true = refl
 and_false false = refl
 
 -- no row ends with an event that is not of the last sort
-row_open : (each last : Outgoing → Bool) (events : List Outgoing) (event : Outgoing) → last event ≡ false → is_row each last (events ++ event ∷ []) ≡ false
+row_open : (each last : Outgoing → Bool) (events : List Outgoing) (event : Outgoing) → last event ≡ false → is_row each last is_empty (events ++ event ∷ []) ≡ false
 row_open each last [] event other = simp (other, and_false)
 row_open each last (x ∷ events) event other = simp (row_open each last events event other, not_empty events event, and_false)
 
 -- what begins a row is a whole one, if it ends with an event of the last sort
-row_whole : (each last : Outgoing → Bool) (events : List Outgoing) (event : Outgoing) → last event ≡ true → begins_row each last (events ++ event ∷ []) ≡ true
-    → is_row each last (events ++ event ∷ []) ≡ true
+row_whole : (each last : Outgoing → Bool) (events : List Outgoing) (event : Outgoing) → last event ≡ true → begins_row each last is_empty (events ++ event ∷ []) ≡ true
+    → is_row each last is_empty (events ++ event ∷ []) ≡ true
 row_whole each last [] event is h = simp (is, and_false)
 row_whole each last (x ∷ events) event is h =
-    let q = both (each x) (begins_row each last (events ++ event ∷ [])) (simp (not_empty events event, and_false, or_none) at h) in
+    let q = both (each x) (begins_row each last is_empty (events ++ event ∷ [])) (simp (not_empty events event, and_false, or_none) at h) in
     rw (q.0, row_whole each last events event is q.1) refl
 
 -- ---- by the order of events
 
 -- neither sort of a row has such an event
-no_row : {A : Type 0} (each last : Outgoing → Bool) (events : List Outgoing) (event : Outgoing) → each event ≡ false → last event ≡ false → begins_row each last (events ++ event ∷ []) ≡ true → A
+no_row : {A : Type 0} (each last : Outgoing → Bool) (events : List Outgoing) (event : Outgoing) → each event ≡ false → last event ≡ false → begins_row each last is_empty (events ++ event ∷ []) ≡ true → A
 no_row each last events event a b h = absurd (cc (sym (ends events) ∙ h))
   where
-    ends : (events : List Outgoing) → begins_row each last (events ++ event ∷ []) ≡ false
+    ends : (events : List Outgoing) → begins_row each last is_empty (events ++ event ∷ []) ≡ false
     ends [] = rw (a, b) refl
     ends (x ∷ events) = simp (ends events, not_empty events event, and_false)
 

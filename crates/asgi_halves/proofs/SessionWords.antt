@@ -5,7 +5,7 @@ pub use Rattle.asgi_conversation.specs.OutcomeClasses.{ByWrite, OutcomeClass, Un
 pub use Rattle.asgi_conversation.specs.Sessions.{IsNextOutput, StopsSession, after_session, handshake_of, open_outcome, session_outcome}
 pub use Rattle.asgi_conversation.specs.declared.report.Outcome.TheVariants.{Finished, NoMemory, WriteFailed}
 pub use Rattle.asgi_exchange.proofs.EventLemmas.{end_ended, end_event, events_append}
-pub use Rattle.asgi_exchange.proofs.ListLemmas.{prefix_same, prefix_self, prefix_trans}
+pub use Rattle.asgi_pipes.proofs.PrefixLemmas.{prefix_same, prefix_self, prefix_trans}
 pub use Rattle.asgi_exchange.proofs.MessageLemmas.{close_is_heard, events_grow, none_is_heard}
 pub use Rattle.asgi_exchange.proofs.SessionLemmas.{event_adds, web_socket_is_steady}
 pub use Rattle.asgi_exchange.specs.{Calls.IsViewOf, Exchange.IsSteady, Halves.ConnKeeps, Halves.IsOffered, Items.end_of, Items.events_of, Steps.is_by_cut, Steps.is_by_input}

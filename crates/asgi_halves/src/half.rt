@@ -72,7 +72,7 @@ impl HttpHalf {
         ensures wire { result.wire ≡ wire }
         ensures stage { result.stage ≡ Stage.Over NextStep.NextRequest }
     {
-        let text = ResponseText::new(wire.alloc, &no_request(wire.alloc));
+        let text = ResponseText::new(wire.alloc, &Facts::plain(wire.alloc));
         HttpHalf {
             wire,
             body: BodyProgress::Whole,
@@ -503,19 +503,6 @@ impl ExchangeKind for HttpHalf {
 
     fn finish<L: Line>(&mut self, kind: EndKind, line: &mut L) -> Turn {
         self.finish_task(kind, line)
-    }
-}
-
-/// What is kept of no request.
-fn no_request(alloc: Global) -> Facts {
-    Facts {
-        version: HttpVersion::V11,
-        head_only: false,
-        close: false,
-        expect: false,
-        framing: Framing::Length(0),
-        key: [0; 24],
-        subprotocols: Names::new(alloc),
     }
 }
 

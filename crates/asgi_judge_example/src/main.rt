@@ -26,21 +26,14 @@ fn may_follow(facts: &Facts, one: &Outgoing, other: &Outgoing) -> bool
 
 /// A plain request without a body.
 fn request(alloc: Global) -> Facts {
-    Facts {
-        version: HttpVersion::V11,
-        head_only: false,
-        close: false,
-        expect: false,
-        framing: Framing::Length(0),
-        key: [0; 24],
-        subprotocols: Names::new(alloc),
-    }
+    Facts::plain(alloc)
 }
 
 fn main(rt: HostRuntime) -> io::Result<()> {
     let start = Outgoing::ResponseStart {
         status: 200,
         headers: Headers::new(rt.alloc()),
+        trailers: false,
     };
     let body = Outgoing::ResponseBody {
         body: Octets::new(Vec::new(rt.alloc())),

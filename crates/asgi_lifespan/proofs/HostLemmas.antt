@@ -20,7 +20,7 @@ use Rattle.asgi_pipes.specs.contracts.plain_app.PlainAppAppEnd.TheImpl as app_en
 use Rattle.asgi_pipes.specs.contracts.plain_conn.PlainConnConnEnd.TheImpl as conn_end
 use Rattle.asgi_pipes.proofs.StateLemmas.{heard_in, lawful_in}
 use Rattle.asgi_apps.specs.Ends.{IsWithin}
-use Rattle.asgi_apps.proofs.EndLemmas.{prefix_self, prefix_same, prefix_then}
+use Rattle.asgi_pipes.proofs.PrefixLemmas.{prefix_self, prefix_same, prefix_trans}
 use Rattle.asgi_lifespan.specs.declared.hosted.Hosted.{Hosted}
 use Rattle.asgi_lifespan.specs.declared.hosted.Word.{Word}
 use Rattle.asgi_lifespan.specs.declared.hosted.Word.TheVariants.{Said, Idle}
@@ -111,8 +111,8 @@ module _ {T : Type 0} (stands : T → Kind → List Incoming → List Outgoing �
   pub follows_then : (a b c : Hosted T) → Follows stands answers a b → Follows stands answers b c → Follows stands answers a c
   follows_then a b c x y = record {
     hosted = y.hosted;
-    heard = prefix_then (heard_by a) (heard_by b) (heard_by c) x.heard y.heard;
-    said = prefix_then (said_by a) (said_by b) (said_by c) x.said y.said;
+    heard = prefix_trans (heard_by a) (heard_by b) (heard_by c) x.heard y.heard;
+    said = prefix_trans (said_by a) (said_by b) (said_by c) x.said y.said;
     offered = y.offered ∙ x.offered;
     within = λ heard said ended p. x.within heard said ended (y.within heard said ended p);
   }
@@ -121,8 +121,8 @@ module _ {T : Type 0} (stands : T → Kind → List Incoming → List Outgoing �
   pub follows_left : (old new : Hosted T) → IsLeft old new → IsHosted stands new → offered_to new ≡ offered_to old → Follows stands answers old new
   follows_left old new left is offered = record {
     hosted = is;
-    heard = prefix_same (heard_by old) (heard_by new) left.heard;
-    said = prefix_same (said_by old) (said_by new) left.said;
+    heard = prefix_same (heard_by old) (heard_by new) (sym left.heard);
+    said = prefix_same (said_by old) (said_by new) (sym left.said);
     offered = offered;
     within = left_within old new left;
   }
@@ -146,8 +146,8 @@ module _ {T : Type 0} (stands : T → Kind → List Incoming → List Outgoing �
       → Follows stands answers old new
   turn_follows old mid new is polled left carried offered = record {
     hosted = (left_open mid new left (polled_open old mid polled is.0), carried);
-    heard = prefix_then (heard_by old) (heard_by mid) (heard_by new) polled.goes_on.heard (prefix_same (heard_by mid) (heard_by new) left.heard);
-    said = prefix_then (said_by old) (said_by mid) (said_by new) polled.goes_on.said (prefix_same (said_by mid) (said_by new) left.said);
+    heard = prefix_trans (heard_by old) (heard_by mid) (heard_by new) polled.goes_on.heard (prefix_same (heard_by mid) (heard_by new) (sym left.heard));
+    said = prefix_trans (said_by old) (said_by mid) (said_by new) polled.goes_on.said (prefix_same (said_by mid) (said_by new) (sym left.said));
     offered = offered ∙ ap conn_end.ghosts.offered polled.conn;
     within = λ heard said ended p. polled.within heard said ended (left_within mid new left heard said ended p);
   }

@@ -13,7 +13,7 @@ use Rattle.asgi_pipes.specs.declared.items.OutItem.TheVariants.{Event}
 use Rattle.asgi_pipes.specs.Items.{items_of}
 use Rattle.asgi_pipes.specs.contracts.plain_conn.PlainConnConnEnd.TheImpl as conn_end
 use Rattle.asgi_apps.specs.declared.task.AppTask.{Ghosts}
-use Rattle.asgi_apps.proofs.EndLemmas.{prefix_same, prefix_then}
+use Rattle.asgi_pipes.proofs.PrefixLemmas.{prefix_same, prefix_trans}
 use Rattle.asgi_lifespan.specs.declared.hosted.Hosted.{Hosted}
 use Rattle.asgi_lifespan.specs.declared.lifespan.Lifespan.{Lifespan}
 use Rattle.asgi_lifespan.specs.declared.stop.Stop.{Stop}
@@ -72,8 +72,8 @@ module _ {T : Type 0} {g : Ghosts T} where
     heard = heard_by last;
     said = said_by last;
     ended = last.ended;
-    heard_on = prefix_then heard (heard_by offered) (heard_by last) (prefix_same heard (heard_by offered) (left.heard ∙ ap heard_by same ∙ sym stands.heard_is)) follows.heard;
-    said_on = prefix_then said (said_by offered) (said_by last) (prefix_same said (said_by offered) (left.said ∙ ap said_by same ∙ sym stands.said_is)) follows.said;
+    heard_on = prefix_trans heard (heard_by offered) (heard_by last) (prefix_same heard (heard_by offered) (sym (left.heard ∙ ap heard_by same ∙ sym stands.heard_is))) follows.heard;
+    said_on = prefix_trans said (said_by offered) (said_by last) (prefix_same said (said_by offered) (sym (left.said ∙ ap said_by same ∙ sym stands.said_is))) follows.said;
     hears = subst (λ (l : List Incoming). IsPrefix (heard_by last) l) (follows.offered ∙ puts ∙ ap (λ (l : List Incoming). l ++ LifespanShutdown ∷ []) is.offered)
         (hears g.stands g.answers last follows.hosted);
     lawful = lawful g.stands g.answers last follows.hosted.0;

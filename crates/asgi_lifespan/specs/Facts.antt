@@ -1,8 +1,7 @@
 -- The scope of a lifespan task, and what takes the place of the facts of a request there.
-use Rattle.std.specs.Prelude.{false, [], replicate}
+use Rattle.std.specs.Prelude.{[]}
+use Rattle.asgi_types.specs.Plain.{plain_request}
 use Rattle.asgi_types.specs.declared.facts.Facts.{Facts}
-use Rattle.asgi_types.specs.declared.facts.Framing.TheVariants.{Length}
-use Rattle.asgi_types.specs.declared.outgoing.HttpVersion.TheVariants.{V11}
 use Rattle.asgi_types.specs.declared.scope.Kind.TheVariants as kind
 use Rattle.asgi_types.specs.declared.scope.Scope.{Scope}
 use Rattle.asgi_types.specs.declared.scope.Scope.TheVariants.{Lifespan}
@@ -13,4 +12,4 @@ lifespan_scope = Lifespan (record { asgi = kind.Lifespan; state = [] })
 
 -- there is no request
 abbrev pub no_request : Facts
-no_request = record { version = V11; head_only = false; close = false; expect = false; framing = Length 0; key = replicate 24 0; subprotocols = [] }
+no_request = plain_request

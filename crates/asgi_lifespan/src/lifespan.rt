@@ -176,16 +176,7 @@ fn ends(alloc: Global, ring: usize) -> Result<(PlainConn, PlainApp), AllocError>
     requires { 2 ≤ ring }
     ensures { IfOk result (λ ends. AreNew ends.0 ends.1) }
 {
-    let facts = Facts {
-        version: HttpVersion::V11,
-        head_only: false,
-        close: false,
-        expect: false,
-        framing: Framing::Length(0),
-        key: [0; 24],
-        subprotocols: Names::new(alloc),
-    };
-    Plain.make(alloc, Kind::Lifespan, facts, ring)
+    Plain.make(alloc, Kind::Lifespan, Facts::plain(alloc), ring)
 }
 
 /// Calls the application with the scope that it is started in.

@@ -1,8 +1,8 @@
 //! Memory refused to a connection. `tests/memory.py` runs this with each allocation refused in turn; with ample memory
 //! none is refused.
 use asgi_conn::{Host, Outcome, Report};
-use asgi_fakes::texts::{BAD_REQUEST, GET, HELLO, HELLO_HEAD, SERVER_ERROR};
-use asgi_fakes::{App, Memory, Pieces, Way, line_of, serve_by, text_of};
+use asgi_fakes::texts::{BAD_REQUEST, GET, GET_TAKING_TRAILERS, HELLO, HELLO_HEAD, SERVER_ERROR};
+use asgi_fakes::{App, Memory, Pieces, Said, Way, line_of, serve_by, text_of};
 use asgi_types::Limits;
 use std::process::Abort;
 use std::test::Fail;
@@ -19,6 +19,17 @@ const PIPELINED: &[u8] =
 const ECHOED: &[u8] =
     b"HTTP/1.1 100 Continue\r\n\r\nHTTP/1.1 200 OK\r\ncontent-type: application/octet-stream\r\ntransfer-encoding: chunked\r\n\r\n2\r\nab\r\n0\r\n\r\nHTTP/1.1 200 OK\r\ncontent-type: application/octet-stream\r\ntransfer-encoding: chunked\r\n\r\n0\r\n\r\n";
 
+/// The content `x`, and two trailers.
+const TRAILS: App = App::Sends(&[
+    Said::Announce(200, &[("trailer", "x-sum, x-end")]),
+    Said::Last("x"),
+    Said::Trailers(&[("x-sum", "7")]),
+    Said::LastTrailers(&[("x-end", "y")]),
+]);
+
+const TRAILED: &[u8] =
+    b"HTTP/1.1 200 OK\r\ntrailer: x-sum, x-end\r\ntransfer-encoding: chunked\r\n\r\n1\r\nx\r\n0\r\nx-sum: 7\r\nx-end: y\r\n\r\n";
+
 /// A row: the application, the input, what is written, and the outcome and the exchanges.
 type Row = (App, &'static [u8], &'static [u8], Outcome, u64);
 
@@ -28,6 +39,7 @@ const ROWS: &[Row] = &[
     (App::Hello, LENGTH, HELLO, Outcome::Finished, 1),
     (App::Hello, NO_HOST, BAD_REQUEST, Outcome::Refused(400), 0),
     (App::Echo, PIPELINED, ECHOED, Outcome::Finished, 2),
+    (TRAILS, GET_TAKING_TRAILERS, TRAILED, Outcome::Finished, 1),
 ];
 
 /// After a beginning of what is due, either nothing more, or the refusal of a request whose application had no memory.

@@ -1,6 +1,6 @@
 //! Writers that take little, fail, or would block.
 use asgi_conn::{Host, Outcome};
-use asgi_fakes::texts::{GET, HELLO, TWO_REQUESTS};
+use asgi_fakes::texts::{GET, GET_TAKING_TRAILERS, HELLO, TWO_REQUESTS};
 use asgi_fakes::{App, End, Heard, Pieces, Said, Sink, Step, Way, serve_by};
 use asgi_io::{Counts, Reads};
 use asgi_types::Limits;
@@ -125,6 +125,47 @@ fn a_failed_write_says_how_far_it_came(rt: HostRuntime) -> Result<(), Fail> {
 fn a_fault_after_the_answer_is_not_met(rt: HostRuntime) -> Result<(), Fail> {
     for way in WAYS {
         assert!(rt; is_failed_at(&rt, way, 31, HELLO, Outcome::Finished, 0)?);
+    }
+    Ok(())
+}
+
+/// The content `x`, and two trailers.
+const TRAILS: App = App::Sends(&[
+    Said::Announce(200, &[]),
+    Said::Last("x"),
+    Said::Trailers(&[("x-sum", "7")]),
+    Said::LastTrailers(&[("x-end", "y")]),
+]);
+
+/// Its text.
+const TRAILED: &[u8] =
+    b"HTTP/1.1 200 OK\r\ntransfer-encoding: chunked\r\n\r\n1\r\nx\r\n0\r\nx-sum: 7\r\nx-end: y\r\n\r\n";
+
+/// Where the text of each of its events begins, and how many bytes it has: of the last body with the head, and of each
+/// of the trailers.
+const TEXTS: &[(usize, usize)] = &[(0, 56), (56, 10), (66, 12)];
+
+/// Whether so many bytes of it are taken, if the write of the next byte fails, which is the byte after `n` of the text
+/// in hand.
+fn is_trailed_to<H: Host>(rt: &H, way: Way, out: usize, n: usize) -> io::Result<bool> {
+    let call = (out as u64).saturating_add(1);
+    let wanted = TRAILED.get(..out).unwrap_or(b"");
+    let end = (Outcome::WriteFailed(n), 1, 0);
+    let mut line = line_to(rt, GET_TAKING_TRAILERS, failing_sink(rt, 1, call)?);
+    is_line_served(rt, way, TRAILS, &mut line, wanted, end)
+}
+
+#[test]
+fn trailers_go_out_as_far_as_they_are_taken(rt: HostRuntime) -> Result<(), Fail> {
+    assert_eq!(rt; TRAILED.len(), 78);
+    for way in WAYS {
+        for text in TEXTS {
+            let (at, length) = *text;
+            for n in 0..length {
+                let out = at.saturating_add(n);
+                assert!(rt; is_trailed_to(&rt, way, out, n)?, "{out} bytes");
+            }
+        }
     }
     Ok(())
 }

@@ -5,5 +5,6 @@ pub mod HadLemmas
 pub mod JudgedLemmas
 pub mod LawLemmas
 pub mod PairLemmas
+pub mod PrefixLemmas
 pub mod StartLemmas
 pub mod StateLemmas

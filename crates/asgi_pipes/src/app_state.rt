@@ -107,8 +107,15 @@ impl AppState {
         ensures scope { SameScope self.old self.new }
     {
         self.judge = judge;
-        Disconnect::keep_after(&mut self.disconnect, self.is_open, event);
         self.is_open = opens(self.is_open, event);
+        let is_closed = judge.is_closed();
+        Disconnect::keep_after(
+            &mut self.disconnect,
+            is_closed,
+            self.kind,
+            self.is_open,
+            event,
+        );
         self.said = History::with(&self.said, event);
         self.has_moved = true;
     }

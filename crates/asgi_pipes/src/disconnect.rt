@@ -1,10 +1,10 @@
 //! Disconnects, which an application receives again and again.
-ghost use Rattle.std.specs.Prelude.{◌≡◌, [], None};
+ghost use Rattle.std.specs.Prelude.{◌≡◌, [], None, Some};
 ghost use Rattle.std.specs.Option.{option_map};
-ghost use Rattle.asgi_pipes.specs.Disconnects.{event_of, disconnect_in, is_accept as is_accept_event};
-ghost use Rattle.asgi_pipes.specs.private.Closings.{closing_of, is_closing as is_closing_event};
+ghost use Rattle.asgi_pipes.specs.Disconnects.{event_of, disconnect_in, code_of, is_accept as is_accept_event};
+ghost use Rattle.asgi_pipes.specs.private.Closings.{at_once_after, own_after};
 
-use asgi_types::{Incoming, Outgoing, Reason};
+use asgi_types::{Incoming, Kind, Outgoing, Reason};
 
 /// A disconnect (ASGI HTTP and WebSocket message format 2.4, "Disconnect"). A disconnect takes no
 /// memory, so that it can be received at any time.
@@ -41,47 +41,33 @@ impl Disconnect {
         }
     }
 
-    /// Keeps what is received from then on after the event, which passed; before it nothing was
-    /// kept. Most events close nothing, and then nothing is moved.
-    #[tactic(auto, using(crate::proofs::ClosingLemmas::not_closing))]
-    pub fn keep_after(kept: &mut Option<Disconnect>, is_open: bool, event: &Outgoing)
+    /// Keeps what is received from then on after an event that passed, if it has closed its scope;
+    /// before it nothing was kept. Most events close nothing, and then nothing is moved.
+    pub fn keep_after(
+        kept: &mut Option<Disconnect>,
+        is_closed: bool,
+        kind: Kind,
+        is_open: bool,
+        event: &Outgoing,
+    )
         requires { kept.old ≡ None }
-        ensures { option_map event_of kept.new ≡ closing_of is_open event.now }
+        ensures { option_map event_of kept.new ≡ at_once_after is_closed kind is_open event.now }
     {
-        if is_closing(event) {
-            *kept = Disconnect::after(is_open, event);
+        if is_closed {
+            *kept = Disconnect::after_closing(kind, is_open, event);
         }
     }
 
-    /// What is received from then on if the event, which passed, closes the scope, or `None` if it
-    /// does not. A session that was refused or denied, and so never open, has the code 1006
-    /// (RFC 6455, section 7.4.1); no reason is received.
-    pub fn after(is_open: bool, event: &Outgoing) -> Option<Disconnect>
-        ensures { option_map event_of result ≡ closing_of is_open event.now }
+    /// What is received from then on after an event that has closed a scope of this kind; nothing
+    /// in a lifespan scope. A session that was refused or denied, and so never open, has the code
+    /// 1006 (RFC 6455, section 7.4.1); no reason is received.
+    pub fn after_closing(kind: Kind, is_open: bool, event: &Outgoing) -> Option<Disconnect>
+        ensures { option_map event_of result ≡ own_after kind is_open event.now }
     {
-        match event {
-            Outgoing::ResponseBody { body: _, more_body } => {
-                if *more_body {
-                    None
-                } else {
-                    Some(Disconnect::Http)
-                }
-            }
-            Outgoing::WsClose { code, reason: _ } => {
-                if is_open {
-                    Some(of_session(*code))
-                } else {
-                    Some(of_session(ABNORMAL))
-                }
-            }
-            Outgoing::DenialBody { body: _, more_body } => {
-                if *more_body {
-                    None
-                } else {
-                    Some(of_session(ABNORMAL))
-                }
-            }
-            _ => None,
+        match kind {
+            Kind::Http => Some(Disconnect::Http),
+            Kind::WebSocket => Some(of_session(close_code(is_open, event))),
+            Kind::Lifespan => None,
         }
     }
 }
@@ -98,15 +84,13 @@ fn of_session(code: u16) -> Disconnect
     }
 }
 
-/// Whether the event is the last of its scope.
-fn is_closing(event: &Outgoing) -> bool
-    ensures { result ≡ is_closing_event event.now }
+/// The code of a close of an open session, else 1006.
+fn close_code(is_open: bool, event: &Outgoing) -> u16
+    ensures { result ≡ code_of is_open (Some event.now) }
 {
     match event {
-        Outgoing::ResponseBody { more_body, .. } => !*more_body,
-        Outgoing::DenialBody { more_body, .. } => !*more_body,
-        Outgoing::WsClose { .. } => true,
-        _ => false,
+        Outgoing::WsClose { code, .. } if is_open => *code,
+        _ => ABNORMAL,
     }
 }
 

@@ -31,8 +31,13 @@ pub enum Step {
     Take,
     Receive,
     Start(u16),
+    /// A start that announces trailers.
+    Announce(u16),
     Body(u8),
     LastBody(u8),
+    /// Trailers without a field, after which more follow.
+    Trailers,
+    LastTrailers,
     Accept,
     Send(u8),
     Close(u16),
@@ -169,6 +174,20 @@ fn said(alloc: Global, step: Step) -> Result<Outgoing, AllocError> {
         Step::Start(status) => Outgoing::ResponseStart {
             status,
             headers: Headers::new(alloc),
+            trailers: false,
+        },
+        Step::Announce(status) => Outgoing::ResponseStart {
+            status,
+            headers: Headers::new(alloc),
+            trailers: true,
+        },
+        Step::Trailers => Outgoing::ResponseTrailers {
+            headers: Headers::new(alloc),
+            more_trailers: true,
+        },
+        Step::LastTrailers => Outgoing::ResponseTrailers {
+            headers: Headers::new(alloc),
+            more_trailers: false,
         },
         Step::Body(byte) => Outgoing::ResponseBody {
             body: octets(alloc, byte)?,
@@ -205,15 +224,7 @@ fn said(alloc: Global, step: Step) -> Result<Outgoing, AllocError> {
 }
 
 pub fn facts(alloc: Global) -> Facts {
-    Facts {
-        version: HttpVersion::V11,
-        head_only: false,
-        close: false,
-        expect: false,
-        framing: Framing::Length(0),
-        key: [0; 24],
-        subprotocols: Names::new(alloc),
-    }
+    Facts::plain(alloc)
 }
 
 /// A context comes from here, which the calls of the application's end ask for another poll.

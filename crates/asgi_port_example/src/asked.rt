@@ -18,6 +18,7 @@ impl Application for Asked {
         says.add(Outgoing::ResponseStart {
             status: 200,
             headers: plain_text(alloc)?,
+            trailers: false,
         })?;
         says.add(Outgoing::ResponseBody {
             body: Octets::new(line_of(alloc, scope)?),

@@ -1,19 +1,21 @@
 -- What a judge keeps gives the verdict on the whole list.
-use Rattle.std.proofs.Common.{◌≡◌, Bool, true, false, ◌⊎◌, inl, inr, List, [], ◌∷◌, ◌++◌, length, refl, ap, sym, ◌∙◌}
+use Rattle.std.proofs.Common.{◌≡◌, ℕ, Option, Bool, true, false, ◌⊎◌, inl, inr, List, [], ◌∷◌, ◌++◌, length, refl, ap, sym, ◌∙◌}
 use Rattle.std.specs.Prelude.{not, ◌&&◌}
 use Rattle.std.proofs.lemmas.List.{append-nil}
 use Rattle.asgi_types.specs.declared.scope.Kind.{Kind}
 use Rattle.asgi_types.specs.declared.scope.Kind.TheVariants.{Http, WebSocket, Lifespan}
 use Rattle.asgi_types.specs.declared.facts.Facts.{Facts}
 use Rattle.asgi_types.specs.declared.outgoing.Outgoing.{Outgoing}
-use Rattle.asgi_types.specs.declared.outgoing.Outgoing.TheVariants.{ResponseStart, ResponseBody, WsAccept, WsSend, WsClose, DenialStart, DenialBody, StartupComplete, StartupFailed, ShutdownComplete, ShutdownFailed}
+use Rattle.asgi_types.specs.declared.outgoing.Outgoing.TheVariants.{ResponseStart, ResponseBody, ResponseTrailers, WsAccept, WsSend, WsClose, DenialStart, DenialBody, StartupComplete, StartupFailed, ShutdownComplete, ShutdownFailed}
+use Rattle.asgi_protocol.specs.declared.judge.Due.{Due}
+use Rattle.asgi_protocol.specs.declared.judge.Due.TheVariants.{Content, ContentAndTrailers, TrailersAlone}
 use Rattle.asgi_protocol.specs.declared.judge.Stage.{Stage}
 use Rattle.asgi_protocol.specs.declared.judge.Stage.TheVariants.{Fresh, ResponseStarted, Accepted, LifespanStarted, Ended}
 use Rattle.asgi_protocol.specs.declared.judge.Judge.{Judge}
 use Rattle.asgi_protocol.specs.BytesLeft.{with_sent}
 use Rattle.asgi_protocol.specs.Rules.{promised_length, body_bytes, has_too_much_body, has_too_little_body}
 use Rattle.asgi_protocol.specs.Shapes.{is_of, is_word, is_closed}
-use Rattle.asgi_protocol.specs.Stages.{StandsFor, CountsBytes, is_rest, begins_rest}
+use Rattle.asgi_protocol.specs.Stages.{StandsFor, CountsBytes, is_rest, begins_rest, begins_rest_due}
 use Rattle.asgi_protocol.specs.private.Steps.{lines_at, bytes_left, has_place, is_ended, takes_too_much, leaves_too_much}
 use Rattle.asgi_protocol.specs.Verdicts.{Lines, lines_on, first_line, verdict_on}
 use Rattle.asgi_protocol.proofs.CountLemmas.{above_agrees, below_agrees}
@@ -46,13 +48,36 @@ scope_alike : (kind : Kind) (l m : Lines) → l.closed ≡ m.closed → l.discon
     → first_line kind l ≡ first_line kind m
 scope_alike kind l m p q s t = rw (p, q, s, t) refl
 
+-- if something is due after a start, a word goes on with it
+due_agrees : (kind : Kind) (left : Option ℕ) (due : Due) (e : Outgoing) → is_of kind e ≡ true → has_place (ResponseStarted left due) e ≡ begins_rest_due kind due (e ∷ [])
+due_agrees Http left TrailersAlone (ResponseTrailers headers true) of = refl
+due_agrees Http left TrailersAlone (ResponseTrailers headers false) of = refl
+due_agrees kind left TrailersAlone (ResponseTrailers headers more) of = absurd (cc)
+due_agrees kind left TrailersAlone _ of = refl
+due_agrees Http left Content (ResponseBody body true) of = refl
+due_agrees Http left Content (ResponseBody body false) of = refl
+due_agrees Http left ContentAndTrailers (ResponseBody body true) of = refl
+due_agrees Http left ContentAndTrailers (ResponseBody body false) of = refl
+due_agrees kind left _ (ResponseBody body more) of = absurd (cc)
+due_agrees WebSocket left Content (DenialBody body true) of = refl
+due_agrees WebSocket left Content (DenialBody body false) of = refl
+due_agrees WebSocket left ContentAndTrailers (DenialBody body true) of = refl
+due_agrees WebSocket left ContentAndTrailers (DenialBody body false) of = refl
+due_agrees kind left _ (DenialBody body more) of = absurd (cc)
+due_agrees Http left Content _ of = refl
+due_agrees WebSocket left Content _ of = refl
+due_agrees Lifespan left Content _ of = refl
+due_agrees Http left ContentAndTrailers _ of = refl
+due_agrees WebSocket left ContentAndTrailers _ of = refl
+due_agrees Lifespan left ContentAndTrailers _ of = refl
+
 -- if the stage has a place for an event, a word goes on with it
 place_agrees : (kind : Kind) (stage : Stage) (e : Outgoing) → is_of kind e ≡ true → has_place stage e ≡ begins_rest kind stage (e ∷ [])
-place_agrees Http Fresh (ResponseStart status headers) of = refl
-place_agrees Http _ (ResponseStart status headers) of = refl
-place_agrees Http (ResponseStarted left) (ResponseBody body true) of = refl
-place_agrees Http (ResponseStarted left) (ResponseBody body false) of = refl
+place_agrees kind (ResponseStarted left due) e of = due_agrees kind left due e of
+place_agrees Http Fresh (ResponseStart status headers trailers) of = refl
+place_agrees Http _ (ResponseStart status headers trailers) of = refl
 place_agrees Http _ (ResponseBody body more) of = refl
+place_agrees Http _ (ResponseTrailers headers more) of = refl
 place_agrees Http _ _ of = absurd (cc)
 place_agrees WebSocket Fresh (WsAccept subprotocol headers) of = refl
 place_agrees WebSocket _ (WsAccept subprotocol headers) of = refl
@@ -62,8 +87,6 @@ place_agrees WebSocket Fresh (WsClose code reason) of = refl
 place_agrees WebSocket _ (WsClose code reason) of = refl
 place_agrees WebSocket Fresh (DenialStart status headers) of = refl
 place_agrees WebSocket _ (DenialStart status headers) of = refl
-place_agrees WebSocket (ResponseStarted left) (DenialBody body true) of = refl
-place_agrees WebSocket (ResponseStarted left) (DenialBody body false) of = refl
 place_agrees WebSocket _ (DenialBody body more) of = refl
 place_agrees WebSocket _ _ of = absurd (cc)
 place_agrees Lifespan Fresh (StartupComplete state) of = refl
@@ -80,7 +103,7 @@ place_agrees Lifespan _ _ of = absurd (cc)
 left_agrees : (facts : Facts) (stage : Stage) (said : List Outgoing) → is_ended stage ≡ false → CountsBytes facts stage said
     → promised_length facts said ≡ with_sent (body_bytes said) (bytes_left stage)
 left_agrees facts Fresh said h none = ap (promised_length facts) none
-left_agrees facts (ResponseStarted left) said h counts = counts.3
+left_agrees facts (ResponseStarted left due) said h counts = counts.3
 left_agrees facts Accepted said h counts = counts.3
 left_agrees facts LifespanStarted said h counts = counts.3
 left_agrees facts Ended said h counts = absurd (cc)
@@ -98,12 +121,14 @@ too_little_agrees facts stage said (DenialBody body more) h = ap (λ b. not more
 too_little_agrees facts stage said _ h = refl
 
 -- whether the list is closed
-closed_agrees : (kind : Kind) (stage : Stage) (said : List Outgoing) → ((more : List Outgoing) → is_word kind (said ++ more) ≡ is_rest kind stage more) → is_ended stage ≡ is_closed kind said
+pub closed_agrees : (kind : Kind) (stage : Stage) (said : List Outgoing) → ((more : List Outgoing) → is_word kind (said ++ more) ≡ is_rest kind stage more) → is_ended stage ≡ is_closed kind said
 closed_agrees kind stage said rest = at_end stage ∙ sym (rest []) ∙ ap (is_word kind) (append-nil said)
   where
     at_end : (s : Stage) → is_ended s ≡ is_rest kind s []
     at_end Fresh = refl
-    at_end (ResponseStarted left) = refl
+    at_end (ResponseStarted left Content) = refl
+    at_end (ResponseStarted left ContentAndTrailers) = refl
+    at_end (ResponseStarted left TrailersAlone) = refl
     at_end Accepted = refl
     at_end LifespanStarted = refl
     at_end Ended = refl

@@ -5,9 +5,11 @@ use Rattle.asgi_types.specs.declared.scope.Kind.{Kind}
 use Rattle.asgi_types.specs.declared.scope.Kind.TheVariants.{Http, WebSocket, Lifespan}
 use Rattle.asgi_types.specs.declared.facts.Facts.{Facts}
 use Rattle.asgi_types.specs.declared.outgoing.Outgoing.{Outgoing}
-use Rattle.asgi_types.specs.declared.outgoing.Outgoing.TheVariants.{ResponseStart, ResponseBody, WsAccept, WsSend, WsClose, DenialStart, DenialBody, StartupComplete, StartupFailed, ShutdownComplete, ShutdownFailed}
+use Rattle.asgi_types.specs.declared.outgoing.Outgoing.TheVariants.{ResponseStart, ResponseBody, ResponseTrailers, WsAccept, WsSend, WsClose, DenialStart, DenialBody, StartupComplete, StartupFailed, ShutdownComplete, ShutdownFailed}
 use Rattle.asgi_protocol.specs.declared.verdict.Verdict.{Verdict}
 use Rattle.asgi_protocol.specs.declared.verdict.Verdict.TheVariants.{Pass, Refused}
+use Rattle.asgi_protocol.specs.declared.judge.Due.{Due}
+use Rattle.asgi_protocol.specs.declared.judge.Due.TheVariants.{Content, ContentAndTrailers, TrailersAlone}
 use Rattle.asgi_protocol.specs.declared.judge.Stage.{Stage}
 use Rattle.asgi_protocol.specs.declared.judge.Stage.TheVariants.{Fresh, ResponseStarted, Accepted, LifespanStarted}
 use Rattle.asgi_protocol.specs.declared.judge.Judge.{Judge}
@@ -16,7 +18,7 @@ use Rattle.asgi_protocol.specs.Lawful.{IsLawful}
 use Rattle.asgi_protocol.specs.Rules.{MeetsRules, promised_length, body_bytes}
 use Rattle.asgi_protocol.specs.Shapes.{is_of, is_word, begins_word, goes_on}
 use Rattle.asgi_protocol.specs.Stages.{StandsFor, CountsBytes, is_rest, begins_rest}
-use Rattle.asgi_protocol.specs.private.Steps.{lines_at, stage_after, has_place, takes_too_much}
+use Rattle.asgi_protocol.specs.private.Steps.{lines_at, stage_after, has_place, takes_too_much, are_trailers_due, due_after_start}
 use Rattle.asgi_protocol.specs.Verdicts.{Lines, lines_on, first_line, verdict_on, verdict_on_closed}
 use Rattle.asgi_protocol.proofs.CountLemmas.{with_sent-zero, counts_down}
 use Rattle.asgi_protocol.proofs.WordLemmas.{word_from_beginning}
@@ -137,11 +139,17 @@ or_false false = refl
 
 rest_after : (kind : Kind) (facts : Facts) (stage : Stage) (e : Outgoing) (more : List Outgoing) → is_of kind e ≡ true → has_place stage e ≡ true
     → is_rest kind stage (e ∷ more) ≡ is_rest kind (stage_after facts stage e) more
-rest_after Http facts Fresh (ResponseStart status headers) more of at = refl
-rest_after Http facts _ (ResponseStart status headers) more of at = absurd (cc)
-rest_after Http facts (ResponseStarted left) (ResponseBody body true) more of at = sym (or_false _)
-rest_after Http facts (ResponseStarted left) (ResponseBody body false) more of at = refl
+rest_after Http facts Fresh (ResponseStart status headers true) more of at = refl
+rest_after Http facts Fresh (ResponseStart status headers false) more of at = refl
+rest_after Http facts _ (ResponseStart status headers trailers) more of at = absurd (cc)
+rest_after Http facts (ResponseStarted left Content) (ResponseBody body true) more of at = sym (or_false _)
+rest_after Http facts (ResponseStarted left Content) (ResponseBody body false) more of at = refl
+rest_after Http facts (ResponseStarted left ContentAndTrailers) (ResponseBody body true) more of at = sym (or_false _)
+rest_after Http facts (ResponseStarted left ContentAndTrailers) (ResponseBody body false) more of at = refl
 rest_after Http facts _ (ResponseBody body more_body) more of at = absurd (cc)
+rest_after Http facts (ResponseStarted left TrailersAlone) (ResponseTrailers headers true) more of at = sym (or_false _)
+rest_after Http facts (ResponseStarted left TrailersAlone) (ResponseTrailers headers false) more of at = refl
+rest_after Http facts _ (ResponseTrailers headers more_trailers) more of at = absurd (cc)
 rest_after Http facts _ _ more of at = absurd (cc)
 rest_after WebSocket facts Fresh (WsAccept subprotocol headers) more of at = refl
 rest_after WebSocket facts _ (WsAccept subprotocol headers) more of at = absurd (cc)
@@ -152,8 +160,10 @@ rest_after WebSocket facts Accepted (WsClose code reason) more of at = refl
 rest_after WebSocket facts _ (WsClose code reason) more of at = absurd (cc)
 rest_after WebSocket facts Fresh (DenialStart status headers) more of at = refl
 rest_after WebSocket facts _ (DenialStart status headers) more of at = absurd (cc)
-rest_after WebSocket facts (ResponseStarted left) (DenialBody body true) more of at = sym (or_false _)
-rest_after WebSocket facts (ResponseStarted left) (DenialBody body false) more of at = refl
+rest_after WebSocket facts (ResponseStarted left Content) (DenialBody body true) more of at = sym (or_false _)
+rest_after WebSocket facts (ResponseStarted left Content) (DenialBody body false) more of at = refl
+rest_after WebSocket facts (ResponseStarted left ContentAndTrailers) (DenialBody body true) more of at = sym (or_false _)
+rest_after WebSocket facts (ResponseStarted left ContentAndTrailers) (DenialBody body false) more of at = refl
 rest_after WebSocket facts _ (DenialBody body more_body) more of at = absurd (cc)
 rest_after WebSocket facts _ _ more of at = absurd (cc)
 rest_after Lifespan facts Fresh (StartupComplete state) more of at = refl
@@ -168,11 +178,17 @@ rest_after Lifespan facts _ _ more of at = absurd (cc)
 
 begins_after : (kind : Kind) (facts : Facts) (stage : Stage) (e : Outgoing) (more : List Outgoing) → is_of kind e ≡ true → has_place stage e ≡ true
     → begins_rest kind stage (e ∷ more) ≡ begins_rest kind (stage_after facts stage e) more
-begins_after Http facts Fresh (ResponseStart status headers) more of at = refl
-begins_after Http facts _ (ResponseStart status headers) more of at = absurd (cc)
-begins_after Http facts (ResponseStarted left) (ResponseBody body true) more of at = sym (or_false _)
-begins_after Http facts (ResponseStarted left) (ResponseBody body false) more of at = refl
+begins_after Http facts Fresh (ResponseStart status headers true) more of at = refl
+begins_after Http facts Fresh (ResponseStart status headers false) more of at = refl
+begins_after Http facts _ (ResponseStart status headers trailers) more of at = absurd (cc)
+begins_after Http facts (ResponseStarted left Content) (ResponseBody body true) more of at = sym (or_false _)
+begins_after Http facts (ResponseStarted left Content) (ResponseBody body false) more of at = refl
+begins_after Http facts (ResponseStarted left ContentAndTrailers) (ResponseBody body true) more of at = sym (or_false _)
+begins_after Http facts (ResponseStarted left ContentAndTrailers) (ResponseBody body false) more of at = refl
 begins_after Http facts _ (ResponseBody body more_body) more of at = absurd (cc)
+begins_after Http facts (ResponseStarted left TrailersAlone) (ResponseTrailers headers true) more of at = sym (or_false _)
+begins_after Http facts (ResponseStarted left TrailersAlone) (ResponseTrailers headers false) more of at = refl
+begins_after Http facts _ (ResponseTrailers headers more_trailers) more of at = absurd (cc)
 begins_after Http facts _ _ more of at = absurd (cc)
 begins_after WebSocket facts Fresh (WsAccept subprotocol headers) more of at = refl
 begins_after WebSocket facts _ (WsAccept subprotocol headers) more of at = absurd (cc)
@@ -183,8 +199,10 @@ begins_after WebSocket facts Accepted (WsClose code reason) more of at = refl
 begins_after WebSocket facts _ (WsClose code reason) more of at = absurd (cc)
 begins_after WebSocket facts Fresh (DenialStart status headers) more of at = refl
 begins_after WebSocket facts _ (DenialStart status headers) more of at = absurd (cc)
-begins_after WebSocket facts (ResponseStarted left) (DenialBody body true) more of at = sym (or_false _)
-begins_after WebSocket facts (ResponseStarted left) (DenialBody body false) more of at = refl
+begins_after WebSocket facts (ResponseStarted left Content) (DenialBody body true) more of at = sym (or_false _)
+begins_after WebSocket facts (ResponseStarted left Content) (DenialBody body false) more of at = refl
+begins_after WebSocket facts (ResponseStarted left ContentAndTrailers) (DenialBody body true) more of at = sym (or_false _)
+begins_after WebSocket facts (ResponseStarted left ContentAndTrailers) (DenialBody body false) more of at = refl
 begins_after WebSocket facts _ (DenialBody body more_body) more of at = absurd (cc)
 begins_after WebSocket facts _ _ more of at = absurd (cc)
 begins_after Lifespan facts Fresh (StartupComplete state) more of at = refl
@@ -208,8 +226,9 @@ body_bytes-append (ResponseBody body more ∷ xs) ys = omega (arith, body_bytes-
 body_bytes-append (DenialBody body more ∷ xs) ys = omega (arith, body_bytes-append xs ys)
 body_bytes-append (_ ∷ xs) ys = body_bytes-append xs ys
 
-first_counts : (facts : Facts) (said : List Outgoing) (e : Outgoing) → said ≡ [] → body_bytes (e ∷ []) ≡ 0 → CountsBytes facts (ResponseStarted (promised_length facts (e ∷ []))) (said ++ e ∷ [])
-first_counts facts said e none no_bytes = (
+first_counts : (facts : Facts) (said : List Outgoing) (e : Outgoing) (due : Due) → said ≡ [] → body_bytes (e ∷ []) ≡ 0
+    → CountsBytes facts (ResponseStarted (promised_length facts (e ∷ [])) due) (said ++ e ∷ [])
+first_counts facts said e due none no_bytes = (
   e,
   [],
   ap (λ (s : List Outgoing). s ++ e ∷ []) none,
@@ -217,9 +236,9 @@ first_counts facts said e none no_bytes = (
       ∙ ap (λ (sum : ℕ). with_sent sum (promised_length facts (e ∷ []))) (sym no_bytes ∙ ap (λ (s : List Outgoing). body_bytes (s ++ e ∷ [])) (sym none)),
 )
 
-body_counts : (facts : Facts) (said : List Outgoing) (e : Outgoing) (left : Option ℕ) (size : ℕ) → CountsBytes facts (ResponseStarted left) said → body_bytes (e ∷ []) ≡ size → is_above size left ≡ false
-    → CountsBytes facts (ResponseStarted (left_after left size)) (said ++ e ∷ [])
-body_counts facts said e left size counts bytes fits = (
+body_counts : (facts : Facts) (said : List Outgoing) (e : Outgoing) (left : Option ℕ) (size : ℕ) (was due : Due) → CountsBytes facts (ResponseStarted left was) said → body_bytes (e ∷ []) ≡ size
+    → is_above size left ≡ false → CountsBytes facts (ResponseStarted (left_after left size) due) (said ++ e ∷ [])
+body_counts facts said e left size was due counts bytes fits = (
   counts.0,
   counts.1 ++ e ∷ [],
   ap (λ (s : List Outgoing). s ++ e ∷ []) counts.2,
@@ -228,13 +247,31 @@ body_counts facts said e left size counts bytes fits = (
       ∙ ap (λ (sum : ℕ). with_sent sum (left_after left size)) (ap (λ (b : ℕ). body_bytes said + b) (sym bytes) ∙ sym (body_bytes-append said (e ∷ []))),
 )
 
+-- trailers have no bytes of the content
+trailers_count : (facts : Facts) (said : List Outgoing) (e : Outgoing) (stage : Stage) → are_trailers_due stage ≡ true → CountsBytes facts stage said → body_bytes (e ∷ []) ≡ 0
+    → CountsBytes facts stage (said ++ e ∷ [])
+trailers_count facts said e (ResponseStarted left due) at counts no_bytes = (
+  counts.0,
+  counts.1 ++ e ∷ [],
+  ap (λ (s : List Outgoing). s ++ e ∷ []) counts.2,
+  ap (λ (s : List Outgoing). promised_length facts (s ++ e ∷ [])) counts.2 ∙ ap (promised_length facts) (sym counts.2) ∙ counts.3
+      ∙ ap (λ (sum : ℕ). with_sent sum left) (sym (body_bytes-append said (e ∷ []) ∙ (ap (λ (n : ℕ). body_bytes said + n) no_bytes ∙ add-zero (body_bytes said)))),
+)
+trailers_count facts said e _ at counts no_bytes = absurd (cc)
+
 counts_after : (kind : Kind) (facts : Facts) (stage : Stage) (said : List Outgoing) (e : Outgoing) → is_of kind e ≡ true → has_place stage e ≡ true
     → takes_too_much stage e ≡ false → CountsBytes facts stage said → CountsBytes facts (stage_after facts stage e) (said ++ e ∷ [])
-counts_after kind facts Fresh said (ResponseStart status headers) of at fits counts = first_counts facts said (ResponseStart status headers) counts refl
-counts_after kind facts _ said (ResponseStart status headers) of at fits counts = absurd (cc)
-counts_after kind facts (ResponseStarted left) said (ResponseBody body true) of at fits counts = body_counts facts said (ResponseBody body true) left (length body) counts (add-zero (length body)) fits
-counts_after kind facts (ResponseStarted left) said (ResponseBody body false) of at fits counts = tt
+counts_after kind facts Fresh said (ResponseStart status headers trailers) of at fits counts =
+    first_counts facts said (ResponseStart status headers trailers) (due_after_start trailers) counts refl
+counts_after kind facts _ said (ResponseStart status headers trailers) of at fits counts = absurd (cc)
+counts_after kind facts (ResponseStarted left due) said (ResponseBody body true) of at fits counts =
+    body_counts facts said (ResponseBody body true) left (length body) due due counts (add-zero (length body)) fits
+counts_after kind facts (ResponseStarted left ContentAndTrailers) said (ResponseBody body false) of at fits counts =
+    body_counts facts said (ResponseBody body false) left (length body) ContentAndTrailers TrailersAlone counts (add-zero (length body)) fits
+counts_after kind facts (ResponseStarted left Content) said (ResponseBody body false) of at fits counts = tt
 counts_after kind facts _ said (ResponseBody body more) of at fits counts = absurd (cc)
+counts_after kind facts stage said (ResponseTrailers headers true) of at fits counts = trailers_count facts said (ResponseTrailers headers true) stage at counts refl
+counts_after kind facts stage said (ResponseTrailers headers false) of at fits counts = tt
 counts_after kind facts Fresh said (WsAccept subprotocol headers) of at fits counts = (
   WsAccept subprotocol headers,
   [],
@@ -250,10 +287,13 @@ counts_after kind facts Accepted said (WsSend payload) of at fits counts = (
 )
 counts_after kind facts _ said (WsSend payload) of at fits counts = absurd (cc)
 counts_after kind facts stage said (WsClose code reason) of at fits counts = tt
-counts_after kind facts Fresh said (DenialStart status headers) of at fits counts = first_counts facts said (DenialStart status headers) counts refl
+counts_after kind facts Fresh said (DenialStart status headers) of at fits counts = first_counts facts said (DenialStart status headers) Content counts refl
 counts_after kind facts _ said (DenialStart status headers) of at fits counts = absurd (cc)
-counts_after kind facts (ResponseStarted left) said (DenialBody body true) of at fits counts = body_counts facts said (DenialBody body true) left (length body) counts (add-zero (length body)) fits
-counts_after kind facts (ResponseStarted left) said (DenialBody body false) of at fits counts = tt
+counts_after kind facts (ResponseStarted left due) said (DenialBody body true) of at fits counts =
+    body_counts facts said (DenialBody body true) left (length body) due due counts (add-zero (length body)) fits
+counts_after kind facts (ResponseStarted left ContentAndTrailers) said (DenialBody body false) of at fits counts =
+    body_counts facts said (DenialBody body false) left (length body) ContentAndTrailers TrailersAlone counts (add-zero (length body)) fits
+counts_after kind facts (ResponseStarted left Content) said (DenialBody body false) of at fits counts = tt
 counts_after kind facts _ said (DenialBody body more) of at fits counts = absurd (cc)
 counts_after kind facts Fresh said (StartupComplete state) of at fits counts = (
   StartupComplete state,

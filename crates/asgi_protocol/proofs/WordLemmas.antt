@@ -1,13 +1,15 @@
 -- The tests of words agree with their shapes.
-use Rattle.std.proofs.Common.{◌≡◌, ℕ, true, false, ◌⊎◌, inl, inr, List, [], ◌∷◌, ◌++◌, refl, ap, Option}
+use Rattle.std.proofs.Common.{◌≡◌, ℕ, true, false, ◌⊎◌, inl, inr, List, [], ◌∷◌, ◌++◌, refl, ap, sym, ◌∙◌, Option, Some, None}
+use Rattle.std.specs.Prelude.{Bool, map, is_some}
+use Rattle.asgi_types.specs.Fields.{HeaderField}
 use Rattle.asgi_types.specs.declared.scope.Kind.{Kind}
 use Rattle.asgi_types.specs.declared.scope.Kind.TheVariants.{Http, WebSocket, Lifespan}
 use Rattle.asgi_types.specs.declared.incoming.Payload.{Payload}
 use Rattle.asgi_types.specs.declared.outgoing.Outgoing.{Outgoing}
-use Rattle.asgi_types.specs.declared.outgoing.Outgoing.TheVariants.{ResponseStart, ResponseBody, WsAccept, WsSend, WsClose, DenialStart, DenialBody, StartupComplete, StartupFailed, ShutdownComplete, ShutdownFailed}
-use Rattle.asgi_protocol.specs.Lawful.{IsResponse, IsSession, IsRejection, IsDenial, IsService, IsFailedStart, IsWord, BeginsWord}
-use Rattle.asgi_protocol.specs.Shapes.{is_word, begins_word, is_empty, is_part, is_last_part, is_message, is_close, is_denial_part, is_last_denial_part, is_stop_answer, no_event}
-use Rattle.asgi_protocol.proofs.RowLemmas.{Sorts, Row, row_from_test, test_of_row, row_from_beginning, begins_row-from_row, both, both_true, empty_from_test, front_empty}
+use Rattle.asgi_types.specs.declared.outgoing.Outgoing.TheVariants.{ResponseStart, ResponseBody, ResponseTrailers, WsAccept, WsSend, WsClose, DenialStart, DenialBody, StartupComplete, StartupFailed, ShutdownComplete, ShutdownFailed}
+use Rattle.asgi_protocol.specs.Lawful.{IsResponse, Trailers, trailer_events, IsSession, IsRejection, IsDenial, IsService, IsFailedStart, IsWord, BeginsWord}
+use Rattle.asgi_protocol.specs.Shapes.{is_word, begins_word, is_empty, is_part, is_last_part, is_message, is_close, is_denial_part, is_last_denial_part, is_stop_answer, no_event, is_section, is_last_section, is_after_content, begins_after_content}
+use Rattle.asgi_protocol.proofs.RowLemmas.{Sorts, Row, Completes, row_from_test, test_of_row, row_from_beginning, row_completes, nothing_completes, begins_row-from_row, both, both_true, empty_from_test, front_empty}
 
 -- the sorts of events in the rows
 response_sorts : Sorts is_part is_last_part (λ (part : List ℕ). ResponseBody part true) (λ (last : List ℕ). ResponseBody last false)
@@ -42,6 +44,22 @@ denial_sorts = record {
     last_of (DenialBody body false) h = (body, refl)
     last_of _ h = absurd (cc)
 
+section_sorts : Sorts is_section is_last_section (λ (part : List HeaderField). ResponseTrailers part true) (λ (last : List HeaderField). ResponseTrailers last false)
+section_sorts = record {
+  each_of = part_of;
+  last_of = last_of;
+  each_more = λ part. refl;
+  last_fin = λ last. refl;
+}
+  where
+    part_of : (e : Outgoing) → is_section e ≡ true → (part : List HeaderField) × (e ≡ ResponseTrailers part true)
+    part_of (ResponseTrailers headers true) h = (headers, refl)
+    part_of _ h = absurd (cc)
+
+    last_of : (e : Outgoing) → is_last_section e ≡ true → (last : List HeaderField) × (e ≡ ResponseTrailers last false)
+    last_of (ResponseTrailers headers false) h = (headers, refl)
+    last_of _ h = absurd (cc)
+
 session_sorts : Sorts is_message is_close WsSend (λ (c : ℕ × List ℕ). WsClose c.0 c.1)
 session_sorts = record {
   each_of = message_of;
@@ -67,33 +85,56 @@ stop_answer_test : (e : Outgoing) → (e ≡ ShutdownComplete) ⊎ ((message : L
 stop_answer_test e (inl p) = rw p refl
 stop_answer_test e (inr (message, p)) = rw p refl
 
--- what a test checks of the first event's rest
-response_from : (status : ℕ) (es : List Outgoing) → (headers : _) → Row is_part is_last_part (λ (part : List ℕ). ResponseBody part true) (λ (last : List ℕ). ResponseBody last false) es → IsResponse (ResponseStart status headers ∷ es)
-response_from status es headers row = record {
-  status = status;
-  headers = headers;
-  parts = row.0;
-  last = row.1;
-  in_order = ap (λ (r : List Outgoing). ResponseStart status headers ∷ r) row.2;
-}
+-- ---- what a test checks of the first event's rest
 
-denial_from : (status : ℕ) (es : List Outgoing) → (headers : _) → Row is_denial_part is_last_denial_part (λ (part : List ℕ). DenialBody part true) (λ (last : List ℕ). DenialBody last false) es → IsDenial (DenialStart status headers ∷ es)
+-- the events after the content are those of the trailers, if these were announced
+trailers_from : (announced : Bool) (es : List Outgoing) → is_after_content announced es ≡ true → (trailers : Option Trailers) × (is_some trailers ≡ announced) × (es ≡ trailer_events trailers)
+trailers_from false es h = (None, refl, empty_from_test es h)
+trailers_from true es h =
+    let row = row_from_test _ _ _ _ section_sorts is_empty es h in (
+      Some (record { parts = row.0; last = row.1 }),
+      refl,
+      row.3 ∙ ap (λ (r : List Outgoing). map (λ (part : List HeaderField). ResponseTrailers part true) row.0 ++ ResponseTrailers row.1 false ∷ r) (empty_from_test row.2 row.4),
+    )
+
+test_of_trailers : (trailers : Option Trailers) → is_after_content (is_some trailers) (trailer_events trailers) ≡ true
+test_of_trailers None = refl
+test_of_trailers (Some trailers) = test_of_row _ _ _ _ section_sorts is_empty trailers.parts trailers.last [] refl
+
+response_from : (status : ℕ) (headers : List HeaderField) (announced : Bool) (es : List Outgoing)
+    → Row is_part is_last_part (λ (part : List ℕ). ResponseBody part true) (λ (last : List ℕ). ResponseBody last false) (is_after_content announced) es
+    → IsResponse (ResponseStart status headers announced ∷ es)
+response_from status headers announced es row =
+    let t = trailers_from announced row.2 row.4 in
+    let content : (rest : List Outgoing) → List Outgoing = λ rest. map (λ (part : List ℕ). ResponseBody part true) row.0 ++ ResponseBody row.1 false ∷ rest in
+    record {
+      status = status;
+      headers = headers;
+      parts = row.0;
+      last = row.1;
+      trailers = t.0;
+      in_order = ap (λ (r : List Outgoing). ResponseStart status headers announced ∷ r) (row.3 ∙ ap content t.2) ∙ ap (λ (b : Bool). ResponseStart status headers b ∷ content (trailer_events t.0)) (sym t.1);
+    }
+
+denial_from : (status : ℕ) (es : List Outgoing) → (headers : _) → Row is_denial_part is_last_denial_part (λ (part : List ℕ). DenialBody part true) (λ (last : List ℕ). DenialBody last false) is_empty es → IsDenial (DenialStart status headers ∷ es)
 denial_from status es headers row = record {
   status = status;
   headers = headers;
   parts = row.0;
   last = row.1;
-  in_order = ap (λ (r : List Outgoing). DenialStart status headers ∷ r) row.2;
+  in_order = ap (λ (r : List Outgoing). DenialStart status headers ∷ r)
+      (row.3 ∙ ap (λ (r : List Outgoing). map (λ (part : List ℕ). DenialBody part true) row.0 ++ DenialBody row.1 false ∷ r) (empty_from_test row.2 row.4));
 }
 
-session_from : (subprotocol : Option (List ℕ)) (es : List Outgoing) → (headers : _) → Row is_message is_close WsSend (λ (c : ℕ × List ℕ). WsClose c.0 c.1) es → IsSession (WsAccept subprotocol headers ∷ es)
+session_from : (subprotocol : Option (List ℕ)) (es : List Outgoing) → (headers : _) → Row is_message is_close WsSend (λ (c : ℕ × List ℕ). WsClose c.0 c.1) is_empty es → IsSession (WsAccept subprotocol headers ∷ es)
 session_from subprotocol es headers row = record {
   subprotocol = subprotocol;
   headers = headers;
   messages = row.0;
   code = row.1.0;
   reason = row.1.1;
-  in_order = ap (λ (r : List Outgoing). WsAccept subprotocol headers ∷ r) row.2;
+  in_order = ap (λ (r : List Outgoing). WsAccept subprotocol headers ∷ r)
+      (row.3 ∙ ap (λ (r : List Outgoing). map WsSend row.0 ++ WsClose row.1.0 row.1.1 ∷ r) (empty_from_test row.2 row.4));
 }
 
 rejection_from : (code : ℕ) (reason : List ℕ) (es : List Outgoing) → es ≡ [] → IsRejection (WsClose code reason ∷ es)
@@ -104,11 +145,11 @@ failed_from message es none = record { message = message; in_order = ap (λ (r :
 
 -- a test that holds gives the shape
 pub word_from_test : (kind : Kind) (es : List Outgoing) → is_word kind es ≡ true → IsWord kind es
-word_from_test Http (ResponseStart status headers ∷ es) h = response_from status es headers (row_from_test _ _ _ _ response_sorts es h)
+word_from_test Http (ResponseStart status headers announced ∷ es) h = response_from status headers announced es (row_from_test _ _ _ _ response_sorts (is_after_content announced) es h)
 word_from_test Http _ h = absurd (cc)
-word_from_test WebSocket (WsAccept subprotocol headers ∷ es) h = inl (session_from subprotocol es headers (row_from_test _ _ _ _ session_sorts es h))
+word_from_test WebSocket (WsAccept subprotocol headers ∷ es) h = inl (session_from subprotocol es headers (row_from_test _ _ _ _ session_sorts is_empty es h))
 word_from_test WebSocket (WsClose code reason ∷ es) h = inr (inl (rejection_from code reason es (empty_from_test es h)))
-word_from_test WebSocket (DenialStart status headers ∷ es) h = inr (inr (denial_from status es headers (row_from_test _ _ _ _ denial_sorts es h)))
+word_from_test WebSocket (DenialStart status headers ∷ es) h = inr (inr (denial_from status es headers (row_from_test _ _ _ _ denial_sorts is_empty es h)))
 word_from_test WebSocket _ h = absurd (cc)
 word_from_test Lifespan (StartupComplete state ∷ e ∷ es) h =
     let q = both (is_stop_answer e) (is_empty es) h in
@@ -118,16 +159,17 @@ word_from_test Lifespan _ h = absurd (cc)
 
 -- a shape gives the test
 response_test : (es : List Outgoing) → IsResponse es → is_word Http es ≡ true
-response_test es w = rw w.in_order (test_of_row _ _ _ _ response_sorts w.parts w.last)
+response_test es w =
+    rw w.in_order (test_of_row _ _ _ _ response_sorts (is_after_content (is_some w.trailers)) w.parts w.last (trailer_events w.trailers) (test_of_trailers w.trailers))
 
 rejection_test : (es : List Outgoing) → IsRejection es → is_word WebSocket es ≡ true
 rejection_test es w = rw w.in_order refl
 
 denial_test : (es : List Outgoing) → IsDenial es → is_word WebSocket es ≡ true
-denial_test es w = rw w.in_order (test_of_row _ _ _ _ denial_sorts w.parts w.last)
+denial_test es w = rw w.in_order (test_of_row _ _ _ _ denial_sorts is_empty w.parts w.last [] refl)
 
 session_test : (es : List Outgoing) → IsSession es → is_word WebSocket es ≡ true
-session_test es w = rw w.in_order (test_of_row _ _ _ _ session_sorts w.messages (w.code, w.reason))
+session_test es w = rw w.in_order (test_of_row _ _ _ _ session_sorts is_empty w.messages (w.code, w.reason) [] refl)
 
 service_test : (es : List Outgoing) → IsService es → is_word Lifespan es ≡ true
 service_test es w = rw w.in_order (both_true (is_stop_answer w.answer) true (stop_answer_test w.answer w.is_answer) refl)
@@ -144,31 +186,45 @@ test_of_word Lifespan es (inl w) = service_test es w
 test_of_word Lifespan es (inr w) = failed_test es w
 
 -- a beginning of a word passes the test of beginnings
+front_of_trailers : (announced : Bool) (es rest : List Outgoing) → is_after_content announced (es ++ rest) ≡ true → begins_after_content announced es ≡ true
+front_of_trailers false es rest h = front_empty es rest h
+front_of_trailers true es rest h = begins_row-from_row _ _ is_empty is_empty front_empty es rest h
+
 pub begins_from_word : (kind : Kind) (es rest : List Outgoing) → is_word kind (es ++ rest) ≡ true → begins_word kind es ≡ true
 begins_from_word kind [] rest h = refl
-begins_from_word Http (ResponseStart status headers ∷ es) rest h = begins_row-from_row _ _ es rest h
+begins_from_word Http (ResponseStart status headers announced ∷ es) rest h =
+    begins_row-from_row _ _ (is_after_content announced) (begins_after_content announced) (front_of_trailers announced) es rest h
 begins_from_word Http _ rest h = absurd (cc)
-begins_from_word WebSocket (WsAccept subprotocol headers ∷ es) rest h = begins_row-from_row _ _ es rest h
+begins_from_word WebSocket (WsAccept subprotocol headers ∷ es) rest h = begins_row-from_row _ _ is_empty is_empty front_empty es rest h
 begins_from_word WebSocket (WsClose code reason ∷ es) rest h = front_empty es rest h
-begins_from_word WebSocket (DenialStart status headers ∷ es) rest h = begins_row-from_row _ _ es rest h
+begins_from_word WebSocket (DenialStart status headers ∷ es) rest h = begins_row-from_row _ _ is_empty is_empty front_empty es rest h
 begins_from_word WebSocket _ rest h = absurd (cc)
-begins_from_word Lifespan (StartupComplete state ∷ es) rest h = begins_row-from_row no_event is_stop_answer es rest h
+begins_from_word Lifespan (StartupComplete state ∷ es) rest h = begins_row-from_row no_event is_stop_answer is_empty is_empty front_empty es rest h
 begins_from_word Lifespan (StartupFailed message ∷ es) rest h = front_empty es rest h
 begins_from_word Lifespan _ rest h = absurd (cc)
 
 -- and the test gives the rest of a word
+trailers_complete : (announced : Bool) → Completes (is_after_content announced) (begins_after_content announced)
+trailers_complete false = nothing_completes
+trailers_complete true = row_completes _ _ _ _ section_sorts [] is_empty is_empty nothing_completes refl
+
+may_end : (announced : Bool) → begins_after_content announced [] ≡ true
+may_end false = refl
+may_end true = refl
+
 pub word_from_beginning : (kind : Kind) (es : List Outgoing) → begins_word kind es ≡ true → BeginsWord kind es
-word_from_beginning Http [] h = (ResponseStart 200 [] ∷ ResponseBody [] false ∷ [], record { status = 200; headers = []; parts = []; last = []; in_order = refl })
-word_from_beginning Http (ResponseStart status headers ∷ es) h =
-    let row = row_from_beginning _ _ _ _ response_sorts [] es h in (row.0, response_from status (es ++ row.0) headers row.1)
+word_from_beginning Http [] h = (ResponseStart 200 [] false ∷ ResponseBody [] false ∷ [], record { status = 200; headers = []; parts = []; last = []; trailers = None; in_order = refl })
+word_from_beginning Http (ResponseStart status headers announced ∷ es) h =
+    let row = row_from_beginning _ _ _ _ response_sorts [] (is_after_content announced) (begins_after_content announced) (trailers_complete announced) (may_end announced) es h in
+    (row.0, response_from status headers announced (es ++ row.0) row.1)
 word_from_beginning Http _ h = absurd (cc)
 word_from_beginning WebSocket [] h = (WsClose 1000 [] ∷ [], inr (inl (record { code = 1000; reason = []; in_order = refl })))
 word_from_beginning WebSocket (WsAccept subprotocol headers ∷ es) h =
-    let row = row_from_beginning _ _ _ _ session_sorts (1000, []) es h in (row.0, inl (session_from subprotocol (es ++ row.0) headers row.1))
+    let row = row_from_beginning _ _ _ _ session_sorts (1000, []) is_empty is_empty nothing_completes refl es h in (row.0, inl (session_from subprotocol (es ++ row.0) headers row.1))
 word_from_beginning WebSocket (WsClose code reason ∷ es) h =
     ([], inr (inl (rejection_from code reason (es ++ []) (ap (λ (r : List Outgoing). r ++ []) (empty_from_test es h)))))
 word_from_beginning WebSocket (DenialStart status headers ∷ es) h =
-    let row = row_from_beginning _ _ _ _ denial_sorts [] es h in (row.0, inr (inr (denial_from status (es ++ row.0) headers row.1)))
+    let row = row_from_beginning _ _ _ _ denial_sorts [] is_empty is_empty nothing_completes refl es h in (row.0, inr (inr (denial_from status (es ++ row.0) headers row.1)))
 word_from_beginning WebSocket _ h = absurd (cc)
 word_from_beginning Lifespan [] h = (StartupFailed [] ∷ [], inr (record { message = []; in_order = refl }))
 word_from_beginning Lifespan (StartupComplete state ∷ []) h =

@@ -1,23 +1,33 @@
 -- The lists of events that an application may send in one scope (ASGI HTTP and WebSocket message
 -- format 2.4, lifespan protocol 2.0).
-use Rattle.std.specs.Prelude.{◌≡◌, ℕ, true, false, List, [], ◌∷◌, ◌++◌, map, Option, ◌⊎◌}
+use Rattle.std.specs.Prelude.{◌≡◌, ℕ, true, false, List, [], ◌∷◌, ◌++◌, map, Option, Some, None, is_some, ◌⊎◌}
 use Rattle.asgi_types.specs.Fields.{HeaderField}
 use Rattle.asgi_types.specs.declared.scope.Kind.{Kind}
 use Rattle.asgi_types.specs.declared.scope.Kind.TheVariants.{Http, WebSocket, Lifespan}
 use Rattle.asgi_types.specs.declared.facts.Facts.{Facts}
 use Rattle.asgi_types.specs.declared.incoming.Payload.{Payload}
 use Rattle.asgi_types.specs.declared.outgoing.Outgoing.{Outgoing}
-use Rattle.asgi_types.specs.declared.outgoing.Outgoing.TheVariants.{ResponseStart, ResponseBody, WsAccept, WsSend, WsClose, DenialStart, DenialBody, StartupComplete, StartupFailed, ShutdownComplete, ShutdownFailed}
+use Rattle.asgi_types.specs.declared.outgoing.Outgoing.TheVariants.{ResponseStart, ResponseBody, ResponseTrailers, WsAccept, WsSend, WsClose, DenialStart, DenialBody, StartupComplete, StartupFailed, ShutdownComplete, ShutdownFailed}
 use Rattle.asgi_types.specs.declared.state.StateValue.{StateValue}
 use Rattle.asgi_protocol.specs.Rules.{MeetsRules}
 
--- HTTP: one "Response Start", bodies with `more_body`, and the last body
+-- the fields of a trailer section (RFC 9110, section 6.5), as an application sends them: some with `more_trailers`, and the last ones
+pub record Trailers : Type 0 where
+  pub parts : List (List HeaderField)
+  pub last : List HeaderField
+
+abbrev pub trailer_events : Option Trailers → List Outgoing
+trailer_events None = []
+trailer_events (Some trailers) = map (λ part. ResponseTrailers part true) trailers.parts ++ ResponseTrailers trailers.last false ∷ []
+
+-- HTTP: one "Response Start", bodies with `more_body`, and the last body; and if the start has announced them, "Response Trailers"
 pub record IsResponse (events : List Outgoing) : Type 0 where
   pub status : ℕ
   pub headers : List HeaderField
   pub parts : List (List ℕ)
   pub last : List ℕ
-  pub in_order : events ≡ ResponseStart status headers ∷ map (λ part. ResponseBody part true) parts ++ ResponseBody last false ∷ []
+  pub trailers : Option Trailers
+  pub in_order : events ≡ ResponseStart status headers (is_some trailers) ∷ map (λ part. ResponseBody part true) parts ++ ResponseBody last false ∷ trailer_events trailers
 
 -- WebSocket: "Accept", messages, and "Close"
 pub record IsSession (events : List Outgoing) : Type 0 where

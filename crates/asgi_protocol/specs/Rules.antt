@@ -4,7 +4,7 @@ use Rattle.std.specs.List.{list_any}
 use Rattle.asgi_types.specs.Fields.{HeaderField}
 use Rattle.asgi_types.specs.declared.facts.Facts.{Facts}
 use Rattle.asgi_types.specs.declared.outgoing.Outgoing.{Outgoing}
-use Rattle.asgi_types.specs.declared.outgoing.Outgoing.TheVariants.{ResponseStart, ResponseBody, WsAccept, WsClose, DenialStart, DenialBody}
+use Rattle.asgi_types.specs.declared.outgoing.Outgoing.TheVariants.{ResponseStart, ResponseBody, ResponseTrailers, WsAccept, WsClose, DenialStart, DenialBody}
 use Rattle.asgi_protocol.specs.declared.content_length.ContentLength.{ContentLength}
 use Rattle.asgi_protocol.specs.declared.content_length.ContentLength.TheVariants.{Absent, Given, Faulty}
 use Rattle.asgi_protocol.specs.BytesLeft.{is_above, is_below}
@@ -27,6 +27,11 @@ is_handshake_name name =
     || bytes_eq name (codes "connection") || bytes_eq name (codes "content-length")
     || bytes_eq name (codes "transfer-encoding")
 
+-- the fields that delimit content and the connection's own: no trailer field may have their names (RFC 9110, section 6.5.1; that others
+-- pass is our choice)
+abbrev pub is_framing_name : List ℕ → Bool
+is_framing_name name = bytes_eq name (codes "content-length") || bytes_eq name (codes "transfer-encoding") || bytes_eq name (codes "connection")
+
 -- the subprotocol is one that the client offers, byte for byte (RFC 6455, section 4.2.2)
 abbrev pub is_offered : List (List ℕ) → Option (List ℕ) → Bool
 is_offered offers None = true
@@ -34,7 +39,7 @@ is_offered offers (Some name) = list_any (λ offer. bytes_eq offer name) offers
 
 -- a start with a status outside 200 to 599
 abbrev pub has_bad_status : Outgoing → Bool
-has_bad_status (ResponseStart status headers) = not (is_status status)
+has_bad_status (ResponseStart status headers trailers) = not (is_status status)
 has_bad_status (DenialStart status headers) = not (is_status status)
 has_bad_status _ = false
 
@@ -48,10 +53,11 @@ is_absent Faulty = false
 is_absent (Given n) = false
 is_absent Absent = true
 
--- a start whose content-length is faulty, or an accept with a field of the handshake
+-- a start whose content-length is faulty, trailers with a field that delimits content, or an accept with a field of the handshake
 abbrev pub has_bad_header : Outgoing → Bool
-has_bad_header (ResponseStart status headers) = is_faulty (content_length headers)
+has_bad_header (ResponseStart status headers trailers) = is_faulty (content_length headers)
 has_bad_header (DenialStart status headers) = is_faulty (content_length headers)
+has_bad_header (ResponseTrailers headers more_trailers) = list_any (λ field. is_framing_name field.name) headers
 has_bad_header (WsAccept subprotocol headers) = list_any (λ field. is_handshake_name field.name) headers
 has_bad_header _ = false
 
@@ -85,7 +91,7 @@ abbrev pub length_given_in : ℕ → List HeaderField → Option ℕ
 length_given_in status headers = promised_at status (content_length headers)
 
 abbrev pub length_given_by : Outgoing → Option ℕ
-length_given_by (ResponseStart status headers) = length_given_in status headers
+length_given_by (ResponseStart status headers trailers) = length_given_in status headers
 length_given_by (DenialStart status headers) = length_given_in status headers
 length_given_by _ = None
 

@@ -1,17 +1,19 @@
 -- Which lists of events a judge stands for: `StandsFor`, which the clauses of `Judge` name. The other words here are those of
 -- private functions, and describe what a judge keeps.
-use Rattle.std.specs.Prelude.{◌≡◌, Bool, false, List, [], ◌∷◌, ◌++◌, None}
+use Rattle.std.specs.Prelude.{◌≡◌, Bool, true, false, List, [], ◌∷◌, ◌++◌, None}
 use Rattle.asgi_types.specs.declared.scope.Kind.{Kind}
 use Rattle.asgi_types.specs.declared.scope.Kind.TheVariants.{Http, WebSocket, Lifespan}
 use Rattle.asgi_types.specs.declared.facts.Facts.{Facts}
 use Rattle.asgi_types.specs.declared.outgoing.Outgoing.{Outgoing}
+use Rattle.asgi_protocol.specs.declared.judge.Due.{Due}
+use Rattle.asgi_protocol.specs.declared.judge.Due.TheVariants.{Content, ContentAndTrailers, TrailersAlone}
 use Rattle.asgi_protocol.specs.declared.judge.Stage.{Stage}
 use Rattle.asgi_protocol.specs.declared.judge.Stage.TheVariants.{Fresh, ResponseStarted, Accepted, LifespanStarted, Ended}
 use Rattle.asgi_protocol.specs.declared.judge.Judge.{Judge}
 use Rattle.asgi_protocol.specs.BytesLeft.{with_sent}
 use Rattle.asgi_protocol.specs.Lawful.{IsLawful}
 use Rattle.asgi_protocol.specs.Rules.{promised_length, body_bytes}
-use Rattle.asgi_protocol.specs.Shapes.{is_word, begins_word, is_row, begins_row, is_empty, is_part, is_last_part, is_message, is_close, is_denial_part, is_last_denial_part, is_stop_answer, no_event}
+use Rattle.asgi_protocol.specs.Shapes.{is_word, begins_word, is_row, begins_row, is_empty, is_part, is_last_part, is_message, is_close, is_denial_part, is_last_denial_part, is_stop_answer, no_event, is_after_content, begins_after_content}
 
 -- the sorts of bodies in a scope of this kind
 abbrev pub is_part_in : Kind → Outgoing → Bool
@@ -24,26 +26,37 @@ is_last_part_in Http event = is_last_part event
 is_last_part_in WebSocket event = is_last_denial_part event
 is_last_part_in Lifespan event = false
 
+-- what is due of a response that has started
+abbrev pub is_rest_due : Kind → Due → List Outgoing → Bool
+is_rest_due kind Content events = is_row (is_part_in kind) (is_last_part_in kind) (is_after_content false) events
+is_rest_due kind ContentAndTrailers events = is_row (is_part_in kind) (is_last_part_in kind) (is_after_content true) events
+is_rest_due kind TrailersAlone events = is_after_content true events
+
+abbrev pub begins_rest_due : Kind → Due → List Outgoing → Bool
+begins_rest_due kind Content events = begins_row (is_part_in kind) (is_last_part_in kind) (begins_after_content false) events
+begins_rest_due kind ContentAndTrailers events = begins_row (is_part_in kind) (is_last_part_in kind) (begins_after_content true) events
+begins_rest_due kind TrailersAlone events = begins_after_content true events
+
 -- what completes a word from a stage on
 abbrev pub is_rest : Kind → Stage → List Outgoing → Bool
 is_rest kind Fresh events = is_word kind events
-is_rest kind (ResponseStarted left) events = is_row (is_part_in kind) (is_last_part_in kind) events
-is_rest kind Accepted events = is_row is_message is_close events
-is_rest kind LifespanStarted events = is_row no_event is_stop_answer events
+is_rest kind (ResponseStarted left due) events = is_rest_due kind due events
+is_rest kind Accepted events = is_row is_message is_close is_empty events
+is_rest kind LifespanStarted events = is_row no_event is_stop_answer is_empty events
 is_rest kind Ended events = is_empty events
 
 -- what may follow a stage
 abbrev pub begins_rest : Kind → Stage → List Outgoing → Bool
 begins_rest kind Fresh events = begins_word kind events
-begins_rest kind (ResponseStarted left) events = begins_row (is_part_in kind) (is_last_part_in kind) events
-begins_rest kind Accepted events = begins_row is_message is_close events
-begins_rest kind LifespanStarted events = begins_row no_event is_stop_answer events
+begins_rest kind (ResponseStarted left due) events = begins_rest_due kind due events
+begins_rest kind Accepted events = begins_row is_message is_close is_empty events
+begins_rest kind LifespanStarted events = begins_row no_event is_stop_answer is_empty events
 begins_rest kind Ended events = is_empty events
 
 -- the stage counts the bytes that are left of the promised ones
 abbrev pub CountsBytes : Facts → Stage → List Outgoing → Type 0
 CountsBytes facts Fresh said = said ≡ []
-CountsBytes facts (ResponseStarted left) said =
+CountsBytes facts (ResponseStarted left due) said =
     (start : Outgoing) × (bodies : List Outgoing) × (said ≡ start ∷ bodies)
     × (promised_length facts said ≡ with_sent (body_bytes said) left)
 CountsBytes facts Accepted said = (start : Outgoing) × (sent : List Outgoing) × (said ≡ start ∷ sent) × (promised_length facts said ≡ None)

@@ -12,5 +12,5 @@ mod verdict;
 pub use bytes_left::BytesLeft;
 pub use content_length::ContentLength;
 pub use judge::Judge;
-pub use rules::has_no_content;
+pub use rules::{has_framing_field, has_no_content};
 pub use verdict::{Verdict, Violation};

@@ -1,8 +1,8 @@
 //! The rules that an event must meet at its place, apart from its order.
 ghost use Rattle.std.specs.Prelude.{◌≡◌, ◌∷◌, [], IfSome, codes};
 ghost use Rattle.std.specs.List.{list_any};
-ghost use Rattle.asgi_protocol.specs.Rules.{is_status as is_status_code, is_close_code as is_code, is_offered as is_one_of, is_handshake_name as is_name, has_bad_status as bad_status, has_bad_header as bad_header, has_bad_code as bad_code, has_bad_reason as bad_reason, has_bad_subprotocol as bad_subprotocol, promised_length as promised_length_of, length_given_in, is_faulty, has_no_content as is_bare};
-ghost use Rattle.asgi_protocol.specs.ContentLengths.{content_length};
+ghost use Rattle.asgi_protocol.specs.Rules.{is_status as is_status_code, is_close_code as is_code, is_offered as is_one_of, is_handshake_name as is_name, is_framing_name as is_framing, has_bad_status as bad_status, has_bad_header as bad_header, has_bad_code as bad_code, has_bad_reason as bad_reason, has_bad_subprotocol as bad_subprotocol, promised_length as promised_length_of, has_no_content as is_bare};
+ghost use Rattle.asgi_protocol.specs.private.Steps.{length_in};
 
 use crate::content_length::{CONTENT_LENGTH, ContentLength};
 use asgi_types::{Chars, Facts, Headers, Names, Outgoing};
@@ -30,14 +30,26 @@ pub(crate) fn has_bad_status(event: &Outgoing) -> bool
     }
 }
 
-/// Whether the event is a start with a faulty content-length, or an accept with a field of the
-/// handshake.
-pub(crate) fn has_bad_header(event: &Outgoing) -> bool
+/// What the content-length fields of a start give. Any other event has none.
+pub(crate) fn length_of(event: &Outgoing) -> ContentLength
+    ensures { result ≡ length_in event.now }
+{
+    match event {
+        Outgoing::ResponseStart { headers, .. } => ContentLength::of(headers),
+        Outgoing::DenialStart { headers, .. } => ContentLength::of(headers),
+        _ => ContentLength::Absent,
+    }
+}
+
+/// Whether the event is a start with a faulty content-length, trailers with a field that delimits
+/// content, or an accept with a field of the handshake.
+pub(crate) fn has_bad_header(event: &Outgoing, length: ContentLength) -> bool
+    requires { length ≡ length_in event.now }
     ensures { result ≡ bad_header event.now }
 {
     match event {
-        Outgoing::ResponseStart { headers, .. } => has_faulty_length(headers),
-        Outgoing::DenialStart { headers, .. } => has_faulty_length(headers),
+        Outgoing::ResponseStart { .. } | Outgoing::DenialStart { .. } => length.is_faulty(),
+        Outgoing::ResponseTrailers { headers, .. } => has_framing_field(headers),
         Outgoing::WsAccept { headers, .. } => has_handshake_field(headers),
         _ => false,
     }
@@ -73,25 +85,20 @@ pub(crate) fn has_bad_subprotocol(facts: &Facts, event: &Outgoing) -> bool
     }
 }
 
-/// How many bytes the bodies after this start must have; any number in a response to HEAD, for 204,
-/// for 304 and if no length is given.
-pub(crate) fn promised_length(facts: &Facts, start: &Outgoing) -> Option<u64>
+/// How many bytes the bodies after this start must have, by what its content-length fields give; any
+/// number in a response to HEAD, for 204, for 304 and if no length is given.
+pub(crate) fn promised_length(facts: &Facts, start: &Outgoing, length: ContentLength) -> Option<u64>
+    requires { length ≡ length_in start.now }
     ensures { result ≡ promised_length_of facts.now (start.now ∷ []) }
 {
     if facts.head_only {
         return None;
     }
     match start {
-        Outgoing::ResponseStart { status, headers } => given_length(*status, headers),
-        Outgoing::DenialStart { status, headers } => given_length(*status, headers),
+        Outgoing::ResponseStart { status, .. } => length.promised_at(*status),
+        Outgoing::DenialStart { status, .. } => length.promised_at(*status),
         _ => None,
     }
-}
-
-fn given_length(status: u16, headers: &Headers) -> Option<u64>
-    ensures { result ≡ length_given_in status headers.now }
-{
-    ContentLength::of(headers).promised_at(status)
 }
 
 /// Whether the status is 204 or 304, whose responses have no content (RFC 9110, sections 15.3.5 and
@@ -116,10 +123,18 @@ fn is_close_code(code: u16) -> bool
         || (3000 <= code && code <= 4999)
 }
 
-fn has_faulty_length(headers: &Headers) -> bool
-    ensures { result ≡ is_faulty (content_length headers.now) }
+/// Whether one of the fields delimits content, or is the connection's own: no trailer section may
+/// have it (RFC 9110, section 6.5.1).
+pub fn has_framing_field(headers: &Headers) -> bool
+    ensures { result ≡ list_any (λ field. is_framing field.name) headers.now }
 {
-    ContentLength::of(headers).is_faulty()
+    headers.iter().any(|field| is_framing_name(field.0))
+}
+
+fn is_framing_name(name: &[u8]) -> bool
+    ensures { result ≡ is_framing name.now }
+{
+    name == CONTENT_LENGTH || name == CODING || name == CONNECTION
 }
 
 fn has_handshake_field(headers: &Headers) -> bool

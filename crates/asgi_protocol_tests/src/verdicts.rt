@@ -18,8 +18,12 @@ use std::test::Fail;
 #[derive(Clone, Copy, Debug)]
 enum Step {
     Start(u16, &'static str),
+    /// A start that announces trailers.
+    Announce(u16, &'static str),
     Body(usize),
     LastBody(usize),
+    Trailers(&'static str),
+    LastTrailers(&'static str),
     Accept(&'static str, &'static str),
     Send,
     Close(u16, usize),
@@ -79,12 +83,12 @@ fn subprotocol(alloc: Global, name: &str) -> Result<Option<Chars>, AllocError> {
 
 fn event(alloc: Global, step: Step) -> Result<Outgoing, Fail> {
     match step {
-        Step::Start(status, text) => {
-            let headers = fields(alloc, text)?;
-            Ok(Outgoing::ResponseStart { status, headers })
-        }
+        Step::Start(status, text) => start(alloc, status, text, false),
+        Step::Announce(status, text) => start(alloc, status, text, true),
         Step::Body(count) => part(alloc, count, true),
         Step::LastBody(count) => part(alloc, count, false),
+        Step::Trailers(text) => section(alloc, text, true),
+        Step::LastTrailers(text) => section(alloc, text, false),
         Step::DenialStart(status, text) => {
             let headers = fields(alloc, text)?;
             Ok(Outgoing::DenialStart { status, headers })
@@ -93,6 +97,23 @@ fn event(alloc: Global, step: Step) -> Result<Outgoing, Fail> {
         Step::LastDenial(count) => denial_part(alloc, count, false),
         other => small_event(alloc, other),
     }
+}
+
+fn start(alloc: Global, status: u16, text: &str, trailers: bool) -> Result<Outgoing, Fail> {
+    let headers = fields(alloc, text)?;
+    Ok(Outgoing::ResponseStart {
+        status,
+        headers,
+        trailers,
+    })
+}
+
+fn section(alloc: Global, text: &str, more_trailers: bool) -> Result<Outgoing, Fail> {
+    let headers = fields(alloc, text)?;
+    Ok(Outgoing::ResponseTrailers {
+        headers,
+        more_trailers,
+    })
 }
 
 fn part(alloc: Global, count: usize, more_body: bool) -> Result<Outgoing, Fail> {
@@ -173,6 +194,7 @@ fn facts(alloc: Global, head_only: bool) -> Result<Facts, AllocError> {
         head_only,
         close: false,
         expect: false,
+        trailers_ok: false,
         framing: Framing::Length(0),
         key: [0; 24],
         subprotocols,

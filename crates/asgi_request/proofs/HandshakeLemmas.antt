@@ -1,5 +1,5 @@
 -- After an opening handshake stand frames: which bytes they are, and that it stands after whole requests.
-use Rattle.std.proofs.Common.{◌≡◌, ◌≢◌, ℕ, ◌⊎◌, inl, inr, Bool, true, false, List, [], ◌∷◌, ◌++◌, length, refl, sym, ap, ◌∙◌, append_assoc, subst, Option, Some, None, Result, Ok, Err, flat_map}
+use Rattle.std.proofs.Common.{◌≡◌, ℕ, ◌⊎◌, inl, inr, Bool, true, false, List, [], ◌∷◌, ◌++◌, length, refl, sym, ap, ◌∙◌, subst, Option, Some, None, Result, Ok, Err, flat_map}
 use Rattle.std.specs.Prelude.{◌+◌, ◌-◌, ◌&&◌, ◌==◌, not, nat_lt, bytes_eq, codes, if◌then◌else◌}
 use Rattle.std.specs.Option.{unwrap_or}
 use Rattle.httparse.specs.Ascii.{crlf_bytes}
@@ -25,9 +25,9 @@ use Rattle.asgi_request.specs.FieldValues.{count_named}
 use Rattle.asgi_request.specs.Fronts.{Front, found, too_long, unfinished, front_text, head_len}
 use Rattle.asgi_request.specs.Head.{IsHeadOf, ParsesHead, record_of}
 use Rattle.asgi_request.specs.HeadText.{EndsAsHead}
-use Rattle.asgi_request.specs.Opened.{BeginsWithHandshake, HasClosed}
+use Rattle.asgi_request.specs.Opened.{BeginsWithHandshake}
 use Rattle.asgi_request.specs.Places.{Judged}
-use Rattle.asgi_request.specs.Places.{front, bad, silent, gives, body_place, after_framing, after_head, after_counted, after_size, after_chunk, after_chunk_end, after_trailers, after_too_long, JudgesText, Judges, Takes, Reads, shown, Reaches}
+use Rattle.asgi_request.specs.Places.{front, bad, silent, gives, after_framing, after_head, after_counted, after_size, after_chunk, after_chunk_end, after_trailers, after_too_long, JudgesText, Judges, Takes, Reads, shown, Reaches}
 use Rattle.asgi_request.specs.Key.{is_key}
 use Rattle.asgi_request.specs.RequestFraming.{frames_or, upgraded, request_framing}
 use Rattle.asgi_request.specs.Target.{is_target}

@@ -99,7 +99,7 @@ post_is_a_head = record {
 }
 
 unfoldable pub post_facts : Facts
-post_facts = record { version = V11; head_only = false; close = false; expect = true; framing = Length 3; key = replicate 24 0; subprotocols = [] }
+post_facts = record { version = V11; head_only = false; close = false; expect = true; trailers_ok = false; framing = Length 3; key = replicate 24 0; subprotocols = [] }
 
 pub post_scope : Scope
 post_scope = scope_of (record_of post) (Length 3)
@@ -146,7 +146,7 @@ get_is_a_head = record {
 }
 
 unfoldable pub get_facts : Facts
-get_facts = record { version = V11; head_only = false; close = false; expect = false; framing = Length 0; key = replicate 24 0; subprotocols = [] }
+get_facts = record { version = V11; head_only = false; close = false; expect = false; trailers_ok = false; framing = Length 0; key = replicate 24 0; subprotocols = [] }
 
 pub get_scope : Scope
 get_scope = scope_of (record_of get) (Length 0)

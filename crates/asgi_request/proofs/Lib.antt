@@ -39,4 +39,5 @@ pub mod StartLemmas
 pub mod HeadExamples
 pub mod KeyLemmas
 pub mod SubprotocolLemmas
+pub mod NamedLemmas
 pub mod TargetLemmas

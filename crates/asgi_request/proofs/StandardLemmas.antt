@@ -21,7 +21,7 @@ use Rattle.asgi_request.specs.RequestFraming.{request_framing}
 use Rattle.asgi_request.specs.Scopes.{scope_of, facts_of}
 use Rattle.asgi_request.specs.ChunkedBody.{BodyState, partial, complete, faulty}
 use Rattle.asgi_request.specs.RequestEvents.{length_events, length_state, chunked_events, ReadsBody}
-use Rattle.asgi_request.specs.Results.{ReadsHead, RefusesHead, closing, ReadsRequest, BeginsRequest, AreRequests, GivesLast, GivesResults}
+use Rattle.asgi_request.specs.Results.{ReadsHead, RefusesHead, closing, ReadsRequest, AreRequests, GivesLast, GivesResults}
 use Rattle.asgi_request.specs.Fronts.{Front, found, too_long, unfinished, front_text, head_len}
 use Rattle.asgi_request.specs.Places.{front, body_place, after_framing, after_head, Judges, Takes, Reads, shown, Reaches}
 use Rattle.asgi_request.proofs.TextLemmas.{tells, head_search_for}

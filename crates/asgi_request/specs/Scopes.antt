@@ -19,7 +19,7 @@ use Rattle.asgi_request.specs.Upgrade.{key_of, subprotocols_of}
 abbrev pub decoded : List ℕ → List ℕ
 decoded path = utf8_lossy (percent_decode path)
 
--- the scope of a request that is no opening handshake
+-- the scope of a request that is no opening handshake; the server can send trailer fields after the content
 abbrev pub http_scope_of : HeadRecord → Scope
 http_scope_of head = Http (record {
   asgi = kind.Http;
@@ -34,7 +34,7 @@ http_scope_of head = Http (record {
   client = None;
   server = None;
   state = [];
-  extensions = record { websocket_http_response = false; http_response_trailers = false };
+  extensions = record { websocket_http_response = false; http_response_trailers = true };
 })
 
 -- the scope of an opening handshake: without a method, which is GET, and with the subprotocols; the server can send a response in
@@ -72,6 +72,10 @@ has_body Upgrade = false
 abbrev pub expects : HeadRecord → Framing → Bool
 expects head framing = is_v11 head.version && has_body framing && has_token head.headers (codes "expect") (codes "100-continue")
 
+-- the client takes trailer fields (RFC 9110, sections 6.5.1 and 10.1.4)
+abbrev pub takes_trailers : HeadRecord → Bool
+takes_trailers head = is_v11 head.version && has_token head.headers (codes "te") (codes "trailers")
+
 -- the key of an opening handshake, which has one (RFC 6455, section 4.2.1, item 5); else zero bytes
 abbrev pub key_after : List HeaderField → Framing → List ℕ
 key_after fields (Length n) = replicate 24 0
@@ -93,6 +97,7 @@ facts_of head framing = record {
   -- RFC 9112, section 9.3; connections of HTTP/1.0 are not kept open
   close = not (is_v11 head.version) || has_token head.headers (codes "connection") (codes "close");
   expect = expects head framing;
+  trailers_ok = takes_trailers head;
   framing = framing;
   key = key_after head.headers framing;
   subprotocols = offers_after head.headers framing;

@@ -4,6 +4,8 @@ ghost use Rattle.asgi_types.specs.declared.facts.Framing.{Framing};
 ghost use Rattle.asgi_request.specs.BodyLength as spec;
 ghost use Rattle.asgi_request.specs.Framings as framings;
 ghost use Rattle.asgi_request.specs.FieldValues.{count_named};
+ghost use Rattle.asgi_request.specs.private.Steps.{is_delimiter as is_delimiter_name};
+ghost use Rattle.std.specs.List.{list_any};
 
 use crate::fields::{count_named, value_named};
 use crate::head::HeadRecord;
@@ -78,6 +80,10 @@ fn body_length(version: HttpVersion, headers: &Headers, max_body: u64) -> Result
     ensures first { result ≡ spec.body_length version headers.now max_body }
     ensures body { result ≢ Ok Framing.Upgrade }
 {
+    // Most requests have no body.
+    if !delimits_body(headers) {
+        return Ok(Framing::Length(0));
+    }
     let lengths = count_named(headers, CONTENT_LENGTH);
     let codings = count_named(headers, TRANSFER_ENCODING);
     if lengths > 0 && codings > 0 {
@@ -103,6 +109,19 @@ fn body_length(version: HttpVersion, headers: &Headers, max_body: u64) -> Result
         return Ok(Framing::Chunked);
     }
     Ok(Framing::Length(length.unwrap_or(0)))
+}
+
+/// Whether a field says how the body is delimited.
+fn delimits_body(headers: &Headers) -> bool
+    ensures { result ≡ list_any (λ field. is_delimiter_name field.name) headers.now }
+{
+    headers.iter().any(|field| is_delimiter(field.0))
+}
+
+fn is_delimiter(name: &[u8]) -> bool
+    ensures { result ≡ is_delimiter_name name.now }
+{
+    name == CONTENT_LENGTH || name == TRANSFER_ENCODING
 }
 
 fn is_missing(length: Option<u64>) -> bool

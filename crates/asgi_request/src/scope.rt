@@ -1,5 +1,6 @@
 //! The scope and the facts of a request.
-ghost use Rattle.std.specs.Prelude.{◌≡◌, ◌≢◌, ◌≤◌, length, take, IfOk};
+ghost use Rattle.std.specs.Prelude.{◌≡◌, ◌≢◌, ◌≤◌, ◌||◌, codes, length, take, IfOk};
+ghost use Rattle.asgi_types.specs.Tokens.{has_token, is_listed};
 ghost use Rattle.asgi_request.specs.Scopes as spec;
 ghost use Rattle.asgi_request.specs.Key.{IsKey};
 ghost use Rattle.asgi_request.specs.Target as target_parts;
@@ -11,8 +12,8 @@ use crate::subprotocols::subprotocols_of;
 use crate::target::{path_in_front, path_of, query_of};
 use crate::upgrade::key_of;
 use asgi_types::{
-    Asgi, Chars, Extensions, Facts, Framing, HttpScope, HttpVersion, Kind, Names, Octets, Scope,
-    State, WsScope,
+    Asgi, Chars, Extensions, Facts, Framing, Headers, HttpScope, HttpVersion, Kind, Names, Octets,
+    Scope, State, WsScope, lists_token,
 };
 use percent_encoding::percent_decode;
 use std::alloc::{AllocError, Global};
@@ -26,6 +27,10 @@ const CLOSE: &[u8] = b"close";
 const EXPECT: &[u8] = b"expect";
 
 const CONTINUE: &[u8] = b"100-continue";
+
+const TE: &[u8] = b"te";
+
+const TRAILERS: &[u8] = b"trailers";
 
 /// The scope of a request that is no opening handshake, without a client, a server and a state
 /// (ASGI HTTP and WebSocket message format 2.4, "HTTP Connection Scope"). `AllocError` if memory is
@@ -52,7 +57,7 @@ pub fn http_scope_of(alloc: Global, head: HeadRecord) -> Result<Scope, AllocErro
         state: State::new(alloc),
         extensions: Extensions {
             websocket_http_response: false,
-            http_response_trailers: false,
+            http_response_trailers: true,
         },
     }))
 }
@@ -145,14 +150,53 @@ pub fn handshake_facts_of(alloc: Global, head: &HeadRecord) -> Result<Facts, All
 fn facts_with(head: &HeadRecord, framing: Framing, key: [u8; 24], subprotocols: Names) -> Facts
     ensures { result ≡ record (spec.facts_of head.now framing) { key = key; subprotocols = subprotocols } }
 {
+    let asked = Asked::of(&head.headers);
     Facts {
         version: head.version,
         head_only: head.method.as_str().as_bytes() == HEAD,
-        close: head.version == HttpVersion::V10 || head.headers.has_token(CONNECTION, CLOSE),
+        close: head.version == HttpVersion::V10 || asked.close,
         expect: expects(head, framing),
+        trailers_ok: head.version == HttpVersion::V11 && asked.trailers,
         framing,
         key,
         subprotocols,
+    }
+}
+
+/// What the fields of a request ask of its connection and of its response.
+#[derive(Clone, Copy, Debug)]
+struct Asked {
+    /// `connection` lists `close`.
+    close: bool,
+    /// `te` lists `trailers`.
+    trailers: bool,
+}
+
+impl Asked {
+    /// What the fields ask, in one look at each.
+    fn of(headers: &Headers) -> Self
+        ensures close { result.close ≡ has_token headers.now (codes "connection") (codes "close") }
+        ensures trailers { result.trailers ≡ has_token headers.now (codes "te") (codes "trailers") }
+    {
+        let mut asked = Asked {
+            close: false,
+            trailers: false,
+        };
+        for (name, value) in headers.iter() {
+            asked = asked.with(name, value);
+        }
+        asked
+    }
+
+    /// What is asked once a further field was looked at.
+    fn with(self, name: &[u8], value: &[u8]) -> Self
+        ensures close { result.close ≡ self.close || is_listed (record { name = name.now; value = value.now }) (codes "connection") (codes "close") }
+        ensures trailers { result.trailers ≡ self.trailers || is_listed (record { name = name.now; value = value.now }) (codes "te") (codes "trailers") }
+    {
+        Asked {
+            close: self.close || (name == CONNECTION && lists_token(value, CLOSE)),
+            trailers: self.trailers || (name == TE && lists_token(value, TRAILERS)),
+        }
     }
 }
 

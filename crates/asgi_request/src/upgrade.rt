@@ -1,5 +1,6 @@
 //! The client's opening handshake of WebSocket (RFC 6455, section 4.2.1).
-ghost use Rattle.std.specs.Prelude.{◌≡◌, IfOk, OnErr, IsTrue, Ok, true};
+ghost use Rattle.std.specs.Prelude.{◌≡◌, IfOk, OnErr, IsTrue, Ok, true, codes};
+ghost use Rattle.asgi_types.specs.Tokens.{has_token, is_listed};
 ghost use Rattle.asgi_types.specs.declared.facts.Framing.{Framing};
 ghost use Rattle.asgi_request.specs.Key.{IsKey};
 ghost use Rattle.asgi_request.specs.RequestFraming as framings;
@@ -13,7 +14,7 @@ use crate::key::is_key;
 use crate::refusal::Refusal;
 use crate::scope::has_body;
 use crate::subprotocols::subprotocols_of;
-use asgi_types::{Framing, Headers, HttpVersion, Limits, Names};
+use asgi_types::{Framing, Headers, HttpVersion, Limits, Names, lists_token};
 use std::alloc::{AllocError, Global};
 
 const GET: &[u8] = b"GET";
@@ -146,8 +147,22 @@ fn asks_for_websocket(head: &HeadRecord) -> bool
     ensures { result ≡ spec.asks_for_websocket head.now }
 {
     head.version == HttpVersion::V11
-        && head.headers.has_token(UPGRADE, WEBSOCKET)
+        && names_websocket(&head.headers)
         && head.headers.has_token(CONNECTION, UPGRADE)
+}
+
+/// Whether an `upgrade` field lists `websocket`. Most requests have no such field, and it is sought
+/// in line.
+fn names_websocket(headers: &Headers) -> bool
+    ensures { result ≡ has_token headers.now (codes "upgrade") (codes "websocket") }
+{
+    headers.iter().any(|field| is_websocket(field.0, field.1))
+}
+
+fn is_websocket(name: &[u8], value: &[u8]) -> bool
+    ensures { result ≡ is_listed (record { name = name.now; value = value.now }) (codes "upgrade") (codes "websocket") }
+{
+    name == UPGRADE && lists_token(value, WEBSOCKET)
 }
 
 /// Whether one field, and no other, gives the version that is served.

@@ -162,6 +162,7 @@ fn add_head(scope: &Scope, facts: &Facts, words: &mut String) -> Result<(), Allo
     add_flag(facts.head_only, " head_only", words)?;
     add_flag(facts.close, " close", words)?;
     add_flag(facts.expect, " expect", words)?;
+    add_flag(facts.trailers_ok, " trailers", words)?;
     words.push_str(";")
 }
 

@@ -177,6 +177,34 @@ const FACTS: &[Row] = &[
     ),
 ];
 
+const TRAILERS: &[Row] = &[
+    (
+        &[
+            b"GET / HTTP/1.1\r\nHost: a\r\nTE: trailers\r\n\r\n",
+            b"GET / HTTP/1.1\r\nHost: a\r\nte: deflate;q=0.5 ,\tTrailers\r\n\r\n",
+            b"GET / HTTP/1.1\r\nHost: a\r\nTE: deflate\r\nX: y\r\nTE: trailers\r\n\r\n",
+        ],
+        "head GET 0 trailers; last() whole;",
+    ),
+    (
+        &[
+            b"GET / HTTP/1.1\r\nHost: a\r\nTE: trailers;q=1\r\n\r\n",
+            b"GET / HTTP/1.1\r\nHost: a\r\nTE: trailer, trailersx\r\n\r\n",
+            b"GET / HTTP/1.1\r\nHost: a\r\nTE:\r\nTrailer: trailers\r\n\r\n",
+        ],
+        "head GET 0; last() whole;",
+    ),
+    (
+        &[b"GET / HTTP/1.0\r\nTE: trailers\r\n\r\n"],
+        "head GET 0 close; last() whole;",
+    ),
+];
+
+#[test]
+fn a_client_takes_trailers_by_a_token_of_te(rt: HostRuntime) -> Result<(), Fail> {
+    gives(&rt, rt.alloc(), Setting::Usual, TRAILERS)
+}
+
 #[test]
 fn facts_are_those_of_the_head(rt: HostRuntime) -> Result<(), Fail> {
     gives(&rt, rt.alloc(), Setting::Usual, FACTS)

@@ -143,17 +143,19 @@ fn knows_nothing(scope: &HttpScope) -> bool {
     scope.client.is_none()
         && scope.server.is_none()
         && scope.state.get("").is_none()
-        && has_no_extensions(scope.extensions)
+        && sends_trailers_alone(scope.extensions)
 }
 
-fn has_no_extensions(extensions: Extensions) -> bool {
-    !extensions.websocket_http_response && !extensions.http_response_trailers
+/// The one extension of a request is that of trailers.
+fn sends_trailers_alone(extensions: Extensions) -> bool {
+    !extensions.websocket_http_response && extensions.http_response_trailers
 }
 
 fn are_facts_of_fields(facts: &Facts) -> bool {
     facts.version == HttpVersion::V10
         && facts.close
         && !facts.expect
+        && !facts.trailers_ok
         && !facts.head_only
         && facts.key == [0; 24]
         && facts.subprotocols.len() == 0

@@ -5,11 +5,12 @@ use Rattle.std.specs.Prelude.{◌&&◌, not, if◌then◌else◌}
 use Rattle.asgi_types.specs.Fields.{HeaderField}
 use Rattle.asgi_types.specs.declared.facts.Facts.{Facts}
 use Rattle.asgi_types.specs.declared.outgoing.Outgoing.{Outgoing}
-use Rattle.asgi_types.specs.declared.outgoing.Outgoing.TheVariants.{ResponseStart, ResponseBody, WsAccept, WsSend, WsClose, DenialStart, DenialBody, StartupComplete, StartupFailed, ShutdownComplete, ShutdownFailed}
+use Rattle.asgi_types.specs.declared.outgoing.Outgoing.TheVariants.{ResponseStart, ResponseBody, DenialStart, DenialBody}
 use Rattle.asgi_types.specs.declared.scope.Kind.TheVariants.{Http, WebSocket}
 use Rattle.asgi_protocol.specs.BytesLeft.{is_above, is_below}
 use Rattle.asgi_protocol.specs.Lawful.{IsResponse, IsWord, BeginsWord, IsLawful}
-use Rattle.asgi_protocol.specs.Rules.{has_bad_status, has_bad_header, has_bad_code, has_bad_reason, has_bad_subprotocol, length_given_by, promised_length, body_bytes, has_too_much_body, has_too_little_body, MeetsRules}
+use Rattle.asgi_protocol.specs.Rules.{has_bad_status, has_bad_header, has_bad_code, has_bad_reason, has_bad_subprotocol}
+use Rattle.asgi_protocol.specs.Rules.{length_given_by, promised_length, body_bytes, has_too_much_body, has_too_little_body, MeetsRules}
 use Rattle.asgi_response.specs.Denial.{closing_facts, as_response, denial_text}
 use Rattle.asgi_response.specs.Response.{message_text, continue_text, response_text}
 use Rattle.asgi_response.proofs.LawfulLemmas.{lawful_is_accepted}
@@ -25,31 +26,14 @@ record IsSame (facts : Facts) (event : Outgoing) : Type 0 where
   pub given : length_given_by (as_response event) ≡ length_given_by event
 
 is_same : (facts : Facts) (event : Outgoing) → IsSame facts event
-is_same facts (ResponseStart a b) = record { status = refl; header = refl; code = refl; reason = refl; subprotocol = refl; given = refl }
-is_same facts (ResponseBody a b) = record { status = refl; header = refl; code = refl; reason = refl; subprotocol = refl; given = refl }
-is_same facts (WsAccept a b) = record { status = refl; header = refl; code = refl; reason = refl; subprotocol = refl; given = refl }
-is_same facts (WsSend a) = record { status = refl; header = refl; code = refl; reason = refl; subprotocol = refl; given = refl }
-is_same facts (WsClose a b) = record { status = refl; header = refl; code = refl; reason = refl; subprotocol = refl; given = refl }
 is_same facts (DenialStart a b) = record { status = refl; header = refl; code = refl; reason = refl; subprotocol = refl; given = refl }
-is_same facts (DenialBody a b) = record { status = refl; header = refl; code = refl; reason = refl; subprotocol = refl; given = refl }
-is_same facts (StartupComplete a) = record { status = refl; header = refl; code = refl; reason = refl; subprotocol = refl; given = refl }
-is_same facts (StartupFailed a) = record { status = refl; header = refl; code = refl; reason = refl; subprotocol = refl; given = refl }
-is_same facts ShutdownComplete = record { status = refl; header = refl; code = refl; reason = refl; subprotocol = refl; given = refl }
-is_same facts (ShutdownFailed a) = record { status = refl; header = refl; code = refl; reason = refl; subprotocol = refl; given = refl }
+is_same facts _ = record { status = refl; header = refl; code = refl; reason = refl; subprotocol = refl; given = refl }
 
 same_bytes : (before : List Outgoing) → body_bytes (map as_response before) ≡ body_bytes before
 same_bytes [] = refl
-same_bytes (ResponseStart a b ∷ before) = same_bytes before
 same_bytes (ResponseBody a b ∷ before) = ap (λ n. length a + n) (same_bytes before)
-same_bytes (WsAccept a b ∷ before) = same_bytes before
-same_bytes (WsSend a ∷ before) = same_bytes before
-same_bytes (WsClose a b ∷ before) = same_bytes before
-same_bytes (DenialStart a b ∷ before) = same_bytes before
 same_bytes (DenialBody a b ∷ before) = ap (λ n. length a + n) (same_bytes before)
-same_bytes (StartupComplete a ∷ before) = same_bytes before
-same_bytes (StartupFailed a ∷ before) = same_bytes before
-same_bytes (ShutdownComplete ∷ before) = same_bytes before
-same_bytes (ShutdownFailed a ∷ before) = same_bytes before
+same_bytes (_ ∷ before) = same_bytes before
 
 module _ (facts : Facts) where
   same_promise : (before : List Outgoing) → promised_length (closing_facts facts) (map as_response before) ≡ promised_length facts before
@@ -64,30 +48,14 @@ module _ (facts : Facts) where
       ∙ ap (test (body_bytes before + n)) (same_promise before)
 
   same_much : (before : List Outgoing) (event : Outgoing) → has_too_much_body (closing_facts facts) (map as_response before) (as_response event) ≡ has_too_much_body facts before event
-  same_much before (ResponseStart a b) = refl
   same_much before (ResponseBody a b) = same_test is_above before (length a)
-  same_much before (WsAccept a b) = refl
-  same_much before (WsSend a) = refl
-  same_much before (WsClose a b) = refl
-  same_much before (DenialStart a b) = refl
   same_much before (DenialBody a b) = same_test is_above before (length a)
-  same_much before (StartupComplete a) = refl
-  same_much before (StartupFailed a) = refl
-  same_much before ShutdownComplete = refl
-  same_much before (ShutdownFailed a) = refl
+  same_much before _ = refl
 
   same_little : (before : List Outgoing) (event : Outgoing) → has_too_little_body (closing_facts facts) (map as_response before) (as_response event) ≡ has_too_little_body facts before event
-  same_little before (ResponseStart a b) = refl
   same_little before (ResponseBody a b) = ap (λ below. not b && below) (same_test is_below before (length a))
-  same_little before (WsAccept a b) = refl
-  same_little before (WsSend a) = refl
-  same_little before (WsClose a b) = refl
-  same_little before (DenialStart a b) = refl
   same_little before (DenialBody a b) = ap (λ below. not b && below) (same_test is_below before (length a))
-  same_little before (StartupComplete a) = refl
-  same_little before (StartupFailed a) = refl
-  same_little before ShutdownComplete = refl
-  same_little before (ShutdownFailed a) = refl
+  same_little before _ = refl
 
   meets : (before : List Outgoing) (event : Outgoing) → MeetsRules facts before event → MeetsRules (closing_facts facts) (map as_response before) (as_response event)
   meets before event m =
@@ -148,7 +116,8 @@ module _ (facts : Facts) (status : ℕ) (headers : List HeaderField) (bodies : L
         headers = d.headers;
         parts = d.parts;
         last = d.last;
-        in_order = sym (map-append as_response denial b.0) ∙ (ap (map as_response) d.in_order ∙ ap (λ w. ResponseStart d.status d.headers ∷ w) (same_parts d.parts d.last));
+        trailers = None;
+        in_order = sym (map-append as_response denial b.0) ∙ (ap (map as_response) d.in_order ∙ ap (λ w. ResponseStart d.status d.headers false ∷ w) (same_parts d.parts d.last));
       }
 
   each_meets : IsLawful WebSocket facts denial → (before after : List Outgoing) (event : Outgoing) → map as_response denial ≡ before ++ event ∷ after

@@ -1,5 +1,6 @@
 -- A whole denial is read back, as the response that it is.
-use Rattle.std.proofs.Common.{◌≡◌, ℕ, true, false, List, [], ◌∷◌, ◌++◌, map, refl, ap, sym, ◌∙◌, subst}
+use Rattle.std.proofs.Common.{◌≡◌, ℕ, true, false, None, List, [], ◌∷◌, ◌++◌, map, refl, ap, sym, ◌∙◌, subst}
+use Rattle.std.proofs.lemmas.List.Elements.{All-nil}
 use Rattle.std.specs.List.{concat, filter}
 use Rattle.std.specs.Prelude.{All, codes, if◌then◌else◌}
 use Rattle.asgi_types.specs.Fields.{HeaderField}
@@ -25,7 +26,7 @@ denial status headers parts last = DenialStart status headers ∷ map (λ part. 
 is_read : (facts : Facts) (status : ℕ) (headers : List HeaderField) (parts : List (List ℕ)) (last : List ℕ)
     → IsLawful WebSocket facts (denial status headers parts last) → All IsSendable headers → All IsSized (parts ++ last ∷ [])
     → has_content facts.head_only status ≡ true
-    → IsRead (closing_facts facts) (denial_text facts (denial status headers parts last)) status headers (concat (parts ++ last ∷ []))
+    → IsRead (closing_facts facts) (denial_text facts (denial status headers parts last)) status headers (concat (parts ++ last ∷ [])) []
 is_read facts status headers parts last lawful clean sized has =
     let closing : Facts = closing_facts facts in
     let said : List Outgoing = map as_response (denial status headers parts last) in
@@ -36,16 +37,17 @@ is_read facts status headers parts last lawful clean sized has =
       headers = headers;
       parts = parts;
       last = last;
-      in_order = whole ∙ ap (λ (w : List Outgoing). ResponseStart status headers ∷ w) (same_parts parts last);
+      trailers = None;
+      in_order = whole ∙ ap (λ (w : List Outgoing). ResponseStart status headers false ∷ w) (same_parts parts last);
     } in
-    subst (λ (l : List Outgoing). IsRead closing (message_text closing l) status headers (concat (parts ++ last ∷ []))) whole
-    (response_is_read_back closing said r clean sized has)
+    subst (λ (l : List Outgoing). IsRead closing (message_text closing l) status headers (concat (parts ++ last ∷ [])) []) whole
+    (response_is_read_back closing said r clean (All-nil IsSendable) sized has)
 
 read : (facts : Facts) (events : List Outgoing) (d : IsDenial events) → IsLawful WebSocket facts events
     → All IsSendable d.headers → All IsSized (d.parts ++ d.last ∷ []) → has_content facts.head_only d.status ≡ true
-    → IsRead (closing_facts facts) (denial_text facts events) d.status d.headers (concat (d.parts ++ d.last ∷ []))
+    → IsRead (closing_facts facts) (denial_text facts events) d.status d.headers (concat (d.parts ++ d.last ∷ [])) []
 read facts events d lawful clean sized has =
-    subst (λ (l : List Outgoing). IsRead (closing_facts facts) (denial_text facts l) d.status d.headers (concat (d.parts ++ d.last ∷ []))) (sym d.in_order)
+    subst (λ (l : List Outgoing). IsRead (closing_facts facts) (denial_text facts l) d.status d.headers (concat (d.parts ++ d.last ∷ [])) []) (sym d.in_order)
     (is_read facts d.status d.headers d.parts d.last (subst (IsLawful WebSocket facts) d.in_order lawful) clean sized has)
 
 pub denial_is_read_back : DenialIsReadBack

@@ -1,12 +1,12 @@
 -- What the text of a response to an opening handshake stands for after one more event, what the event adds, and what
 -- the end of the task does.
 use Rattle.std.proofs.Common.{◌≡◌, ℕ, ◌+◌, Bool, true, false, List, [], ◌∷◌, ◌++◌, ◌⊎◌, inl, inr, IsTrue, length, map, refl, ap, sym, ◌∙◌, subst, length-append, arith}
-use Rattle.std.proofs.lemmas.List.{map-append}
+use Rattle.std.proofs.lemmas.List.{append-nil, map-append}
 use Rattle.std.specs.Prelude.{◌&&◌, ◌||◌, if◌then◌else◌}
 use Rattle.asgi_types.specs.Fields.{HeaderField}
 use Rattle.asgi_types.specs.declared.facts.Facts.{Facts}
 use Rattle.asgi_types.specs.declared.outgoing.Outgoing.{Outgoing}
-use Rattle.asgi_types.specs.declared.outgoing.Outgoing.TheVariants.{ResponseStart, ResponseBody, WsAccept, WsSend, WsClose, DenialStart, DenialBody, StartupComplete, StartupFailed, ShutdownComplete, ShutdownFailed}
+use Rattle.asgi_types.specs.declared.outgoing.Outgoing.TheVariants.{WsAccept, WsClose, DenialStart, DenialBody}
 use Rattle.asgi_types.specs.declared.scope.Kind.TheVariants.{WebSocket}
 use Rattle.asgi_types.specs.Room.{LacksRoom}
 use Rattle.asgi_protocol.specs.ContentLengths.{content_length}
@@ -14,23 +14,25 @@ use Rattle.asgi_protocol.specs.Lawful.{IsLawful}
 use Rattle.asgi_protocol.specs.Rules.{is_faulty}
 use Rattle.asgi_protocol.specs.Shapes.{is_empty, is_denial_part, is_last_denial_part, begins_row, begins_word}
 use Rattle.asgi_response.specs.declared.progress.Progress.TheVariants.{Begun}
+use Rattle.asgi_response.specs.declared.refusal.Input.{Input}
 use Rattle.asgi_response.specs.declared.text.ResponseText.{ResponseText}
 use Rattle.asgi_response.specs.declared.text.Phase.{Phase}
-use Rattle.asgi_response.specs.declared.text.Phase.TheVariants.{Started, NotAResponse}
+use Rattle.asgi_response.specs.declared.text.Phase.TheVariants.{NotAResponse}
 use Rattle.asgi_response.specs.Accepted.{accepted}
-use Rattle.asgi_response.specs.Denial.{closing_facts, as_response, denial_text, is_decided, denial_progress}
-use Rattle.asgi_response.specs.Fields.{head_text, closes, is_chunked}
+use Rattle.asgi_response.specs.Denial.{closing_facts, as_response, denial_text, is_decided, denial_end_text, denial_progress}
+use Rattle.asgi_response.specs.Exchange.{end_text}
 use Rattle.asgi_response.specs.Progress.{progress_of}
 use Rattle.asgi_response.specs.Response.{message_text}
 use Rattle.asgi_response.specs.Room.{LacksDenialMemory, is_denial_start}
 use Rattle.asgi_response.specs.Standing.{opens_session, HasAccepted, IsElsewhere, IsDenying, StandsForSession, Grows}
-use Rattle.asgi_response.specs.private.Steps.{may_start, content_due, content_at_start, part_added, after_start, after_part, after_response_event, after_session_event, after_event, added_by_response, added_by_denial, added_by, denial_starts, response_starts, starts, progress_at}
+use Rattle.asgi_response.specs.private.Steps.{may_start, is_begun, content_due, part_added, after_start, after_part, after_response_event, after_session_event, after_event}
+use Rattle.asgi_response.specs.private.Steps.{added_by_response, added_by_denial, added_by, denial_starts, response_starts, starts, progress_at}
 use Rattle.asgi_protocol.proofs.PassingLemmas.{fronts_are_lawful}
 use Rattle.asgi_protocol.proofs.WordLemmas.{test_of_beginning}
 use Rattle.asgi_response.proofs.DenialLemmas.{is_lawful_response}
 use Rattle.asgi_response.proofs.LawfulLemmas.{lawful_is_accepted}
-use Rattle.asgi_response.proofs.ProgressLemmas.{progress_in_text}
-use Rattle.asgi_response.proofs.StandingLemmas.{accepted_after, next_text}
+use Rattle.asgi_response.proofs.ProgressLemmas.{progress_in_text, end_adds_nothing}
+use Rattle.asgi_response.proofs.StandingLemmas.{started_text, accepted_after, next_text}
 
 -- ---- which events are after which
 
@@ -44,15 +46,7 @@ undecided_stays : (events : List Outgoing) (event : Outgoing) → is_decided eve
 undecided_stays [] event h k = k
 undecided_stays (WsAccept a b ∷ events) event h k = absurd (cc (h))
 undecided_stays (WsClose a b ∷ events) event h k = absurd (cc (h))
-undecided_stays (ResponseStart a b ∷ events) event h k = refl
-undecided_stays (ResponseBody a b ∷ events) event h k = refl
-undecided_stays (WsSend a ∷ events) event h k = refl
-undecided_stays (DenialStart a b ∷ events) event h k = refl
-undecided_stays (DenialBody a b ∷ events) event h k = refl
-undecided_stays (StartupComplete a ∷ events) event h k = refl
-undecided_stays (StartupFailed a ∷ events) event h k = refl
-undecided_stays (ShutdownComplete ∷ events) event h k = refl
-undecided_stays (ShutdownFailed a ∷ events) event h k = refl
+undecided_stays (_ ∷ events) event h k = refl
 
 not_empty : (events : List Outgoing) (event : Outgoing) → is_empty (events ++ event ∷ []) ≡ false
 not_empty [] event = refl
@@ -71,10 +65,10 @@ neither false true h k = absurd (cc (k))
 
 -- after a denial's start only its bodies follow
 no_stranger : (events : List Outgoing) (event : Outgoing) → is_denial_part event ≡ false → is_last_denial_part event ≡ false
-    → begins_row is_denial_part is_last_denial_part (events ++ event ∷ []) ≡ false
+    → begins_row is_denial_part is_last_denial_part is_empty (events ++ event ∷ []) ≡ false
 no_stranger [] event h k = neither (is_denial_part event) (is_last_denial_part event) h k
 no_stranger (x ∷ events) event h k =
-    no_row (is_denial_part x) (is_last_denial_part x) (begins_row is_denial_part is_last_denial_part (events ++ event ∷ [])) (is_empty (events ++ event ∷ []))
+    no_row (is_denial_part x) (is_last_denial_part x) (begins_row is_denial_part is_last_denial_part is_empty (events ++ event ∷ [])) (is_empty (events ++ event ∷ []))
     (no_stranger events event h k) (not_empty events event)
 
 -- so one that is no body is the first, if nothing was decided
@@ -84,14 +78,7 @@ is_first [] event h k u b = refl
 is_first (WsAccept a c ∷ events) event h k u b = absurd (cc (u))
 is_first (WsClose a c ∷ events) event h k u b = absurd (cc (u))
 is_first (DenialStart a c ∷ events) event h k u b = absurd (cc (b, no_stranger events event h k))
-is_first (ResponseStart a c ∷ events) event h k u b = absurd (cc (b))
-is_first (ResponseBody a c ∷ events) event h k u b = absurd (cc (b))
-is_first (WsSend a ∷ events) event h k u b = absurd (cc (b))
-is_first (DenialBody a c ∷ events) event h k u b = absurd (cc (b))
-is_first (StartupComplete a ∷ events) event h k u b = absurd (cc (b))
-is_first (StartupFailed a ∷ events) event h k u b = absurd (cc (b))
-is_first (ShutdownComplete ∷ events) event h k u b = absurd (cc (b))
-is_first (ShutdownFailed a ∷ events) event h k u b = absurd (cc (b))
+is_first (_ ∷ events) event h k u b = absurd (cc (b))
 
 -- ---- a lawful list is accepted whole
 
@@ -104,14 +91,7 @@ module _ (facts : Facts) where
   taken_whole (DenialStart a b ∷ events) u lawful = lawful_is_accepted closing (map as_response (DenialStart a b ∷ events)) (is_lawful_response facts a b events lawful)
   taken_whole (WsAccept a b ∷ events) u lawful = absurd (cc (u))
   taken_whole (WsClose a b ∷ events) u lawful = absurd (cc (u))
-  taken_whole (ResponseStart a b ∷ events) u lawful = absurd (cc (test_of_beginning WebSocket (ResponseStart a b ∷ events) lawful.begins))
-  taken_whole (ResponseBody a b ∷ events) u lawful = absurd (cc (test_of_beginning WebSocket (ResponseBody a b ∷ events) lawful.begins))
-  taken_whole (WsSend a ∷ events) u lawful = absurd (cc (test_of_beginning WebSocket (WsSend a ∷ events) lawful.begins))
-  taken_whole (DenialBody a b ∷ events) u lawful = absurd (cc (test_of_beginning WebSocket (DenialBody a b ∷ events) lawful.begins))
-  taken_whole (StartupComplete a ∷ events) u lawful = absurd (cc (test_of_beginning WebSocket (StartupComplete a ∷ events) lawful.begins))
-  taken_whole (StartupFailed a ∷ events) u lawful = absurd (cc (test_of_beginning WebSocket (StartupFailed a ∷ events) lawful.begins))
-  taken_whole (ShutdownComplete ∷ events) u lawful = absurd (cc (test_of_beginning WebSocket (ShutdownComplete ∷ events) lawful.begins))
-  taken_whole (ShutdownFailed a ∷ events) u lawful = absurd (cc (test_of_beginning WebSocket (ShutdownFailed a ∷ events) lawful.begins))
+  taken_whole (x ∷ events) u lawful = absurd (cc (test_of_beginning WebSocket (x ∷ events) lawful.begins))
 
   undecided_text : (events : List Outgoing) → is_decided events ≡ false → IsLawful WebSocket facts events
       → denial_text facts events ≡ message_text closing (accepted closing (map as_response events))
@@ -125,10 +105,9 @@ module _ (facts : Facts) where
 
 -- ---- one event
 
-start_elsewhere : (t : ResponseText) (status : ℕ) (headers : List HeaderField) → t.phase ≡ NotAResponse → after_start t status headers ≡ t
+start_elsewhere : (t : ResponseText) (status : ℕ) (headers : List HeaderField) → t.phase ≡ NotAResponse → after_start t status headers false ≡ t
 start_elsewhere t status headers e =
-    ap (λ (p : Phase). if may_start p status (is_faulty (content_length headers))
-    then record t { phase = Started (content_at_start t.version t.head_only status headers); head = head_text (is_chunked t.version status headers) (closes t.close headers) status headers; close = closes t.close headers } else t) e
+    ap (λ (p : Phase). if may_start p status (is_faulty (content_length headers)) then started_text t status headers false else t) e
 
 part_elsewhere : (t : ResponseText) (body : List ℕ) (more_body : Bool) → t.phase ≡ NotAResponse → after_part t (content_due t.phase) body more_body ≡ t
 part_elsewhere t body more_body e = ap (λ (p : Phase). after_part t (content_due p) body more_body) e
@@ -141,13 +120,7 @@ still_elsewhere t (DenialStart status headers) at = subst AtElsewhere (sym (star
 still_elsewhere t (DenialBody body more_body) at = subst AtElsewhere (sym (part_elsewhere t body more_body at.1)) at
 still_elsewhere t (WsAccept a b) at = (at.0, refl)
 still_elsewhere t (WsClose a b) at = (at.0, refl)
-still_elsewhere t (WsSend a) at = at
-still_elsewhere t (ResponseStart a b) at = at
-still_elsewhere t (ResponseBody a b) at = at
-still_elsewhere t (StartupComplete a) at = at
-still_elsewhere t (StartupFailed a) at = at
-still_elsewhere t ShutdownComplete at = at
-still_elsewhere t (ShutdownFailed a) at = at
+still_elsewhere t _ at = at
 
 -- after an accept or a close nothing belongs to this text
 stays_elsewhere : (t : ResponseText) (events : List Outgoing) (event : Outgoing) → IsElsewhere t events → IsElsewhere (after_session_event t event) (events ++ event ∷ [])
@@ -157,16 +130,7 @@ stays_elsewhere t events event at =
 
 nothing_elsewhere : (t : ResponseText) (event : Outgoing) → t.phase ≡ NotAResponse → added_by_denial t event ≡ []
 nothing_elsewhere t (DenialBody body more_body) e = ap (λ (p : Phase). part_added t.head (content_due p) body more_body) e
-nothing_elsewhere t (DenialStart a b) e = refl
-nothing_elsewhere t (WsAccept a b) e = refl
-nothing_elsewhere t (WsClose a b) e = refl
-nothing_elsewhere t (WsSend a) e = refl
-nothing_elsewhere t (ResponseStart a b) e = refl
-nothing_elsewhere t (ResponseBody a b) e = refl
-nothing_elsewhere t (StartupComplete a) e = refl
-nothing_elsewhere t (StartupFailed a) e = refl
-nothing_elsewhere t ShutdownComplete e = refl
-nothing_elsewhere t (ShutdownFailed a) e = refl
+nothing_elsewhere t _ e = refl
 
 module _ (t : ResponseText) (facts : Facts) (events : List Outgoing) where
   abbrev Denies : Outgoing → Type 0
@@ -182,7 +146,8 @@ module _ (t : ResponseText) (facts : Facts) (events : List Outgoing) where
     undecided = undecided_stays events event d.undecided k;
     has_accepted =
         subst (λ (u : ResponseText). HasAccepted u (closing_facts facts) (accepted (closing_facts facts) (map as_response (events ++ event ∷ [])))) (sym same)
-        (subst (λ (l : List Outgoing). HasAccepted (after_response_event t (as_response event)) (closing_facts facts) (accepted (closing_facts facts) l)) (sym (map-append as_response events (event ∷ [])))
+        (subst (λ (l : List Outgoing). HasAccepted (after_response_event t (as_response event)) (closing_facts facts) (accepted (closing_facts facts) l))
+        (sym (map-append as_response events (event ∷ [])))
         (accepted_after t (closing_facts facts) (map as_response events) (as_response event) d.has_accepted));
   }
 
@@ -199,13 +164,7 @@ module _ (t : ResponseText) (facts : Facts) (events : List Outgoing) where
   goes_on (DenialBody a c) b s d = inr (denies (DenialBody a c) refl refl d)
   goes_on (WsAccept a c) b s d = decides (WsAccept a c) refl (is_first events (WsAccept a c) refl refl d.undecided b) (s, refl)
   goes_on (WsClose a c) b s d = decides (WsClose a c) refl (is_first events (WsClose a c) refl refl d.undecided b) (s, refl)
-  goes_on (ResponseStart a c) b s d = absurd (cc (no_response (ResponseStart a c) refl refl d.undecided b))
-  goes_on (ResponseBody a c) b s d = absurd (cc (no_response (ResponseBody a c) refl refl d.undecided b))
-  goes_on (WsSend a) b s d = inr (denies (WsSend a) refl refl d)
-  goes_on (StartupComplete a) b s d = inr (denies (StartupComplete a) refl refl d)
-  goes_on (StartupFailed a) b s d = inr (denies (StartupFailed a) refl refl d)
-  goes_on ShutdownComplete b s d = inr (denies ShutdownComplete refl refl d)
-  goes_on (ShutdownFailed a) b s d = inr (denies (ShutdownFailed a) refl refl d)
+  goes_on event b s d = absurd (cc (no_response event refl refl d.undecided b))
 
 -- ---- the text after an event
 
@@ -267,15 +226,7 @@ adds t facts events (WsAccept a c) lawful d =
     adds_nothing t facts events (WsAccept a c) lawful refl (is_first events (WsAccept a c) refl refl d.undecided (test_of_beginning WebSocket (events ++ WsAccept a c ∷ []) lawful.begins)) refl
 adds t facts events (WsClose a c) lawful d =
     adds_nothing t facts events (WsClose a c) lawful refl (is_first events (WsClose a c) refl refl d.undecided (test_of_beginning WebSocket (events ++ WsClose a c ∷ []) lawful.begins)) refl
-adds t facts events (ResponseStart a c) lawful d =
-    absurd (cc (no_response t facts events (ResponseStart a c) refl refl d.undecided (test_of_beginning WebSocket (events ++ ResponseStart a c ∷ []) lawful.begins)))
-adds t facts events (ResponseBody a c) lawful d =
-    absurd (cc (no_response t facts events (ResponseBody a c) refl refl d.undecided (test_of_beginning WebSocket (events ++ ResponseBody a c ∷ []) lawful.begins)))
-adds t facts events (WsSend a) lawful d = adds_as_response t facts events (WsSend a) lawful refl refl d
-adds t facts events (StartupComplete a) lawful d = adds_as_response t facts events (StartupComplete a) lawful refl refl d
-adds t facts events (StartupFailed a) lawful d = adds_as_response t facts events (StartupFailed a) lawful refl refl d
-adds t facts events ShutdownComplete lawful d = adds_as_response t facts events ShutdownComplete lawful refl refl d
-adds t facts events (ShutdownFailed a) lawful d = adds_as_response t facts events (ShutdownFailed a) lawful refl refl d
+adds t facts events event lawful d = absurd (cc (no_response t facts events event refl refl d.undecided (test_of_beginning WebSocket (events ++ event ∷ []) lawful.begins)))
 
 text_after : (t : ResponseText) (facts : Facts) (events : List Outgoing) (event : Outgoing) → IsLawful WebSocket facts (events ++ event ∷ []) → StandsForSession t facts events
     → denial_text facts (events ++ event ∷ []) ≡ denial_text facts events ++ added_by t event
@@ -295,16 +246,7 @@ denial_grows t facts events event old new e lawful at = record { added = added_b
 
 a_start : (t : ResponseText) (event : Outgoing) → IsTrue (denial_starts t event) → IsTrue (is_denial_start event)
 a_start t (DenialStart a b) h = refl
-a_start t (DenialBody a b) h = cc
-a_start t (WsAccept a b) h = cc
-a_start t (WsClose a b) h = cc
-a_start t (WsSend a) h = cc
-a_start t (ResponseStart a b) h = cc
-a_start t (ResponseBody a b) h = cc
-a_start t (StartupComplete a) h = cc
-a_start t (StartupFailed a) h = cc
-a_start t ShutdownComplete h = cc
-a_start t (ShutdownFailed a) h = cc
+a_start t _ h = cc
 
 pub denial_lacks : (t : ResponseText) (facts : Facts) (events : List Outgoing) (event : Outgoing) (capacity len : ℕ)
     → IsTrue (starts t event) ⊎ LacksRoom capacity len (added_by t event)
@@ -329,3 +271,13 @@ denial_progress_is t facts events at = by at.taken
     by (inr d) =
         progress_in_text t (closing_facts facts) (accepted (closing_facts facts) (map as_response events)) d.has_accepted
         ∙ sym (ap (λ (b : Bool). if b then Begun else progress_of (closing_facts facts) (map as_response events)) d.undecided)
+
+pub denial_end_adds_nothing : (t : ResponseText) (facts : Facts) (events : List Outgoing) (input : Input) (out : List ℕ) → StandsForSession t facts events → is_begun t.phase ≡ true
+    → out ≡ out ++ denial_end_text facts events input
+denial_end_adds_nothing t facts events input out at h = by at.taken
+  where
+    by : IsElsewhere t events ⊎ IsDenying t facts events → out ≡ out ++ denial_end_text facts events input
+    by (inl x) = sym (ap (λ (b : Bool). out ++ (if b then [] else end_text (closing_facts facts) (map as_response events) input)) x.decided ∙ append-nil out)
+    by (inr d) =
+        end_adds_nothing t (closing_facts facts) (map as_response events) input out d.has_accepted h
+        ∙ sym (ap (λ (b : Bool). out ++ (if b then [] else end_text (closing_facts facts) (map as_response events) input)) d.undecided)

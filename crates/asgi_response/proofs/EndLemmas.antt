@@ -1,5 +1,5 @@
 -- After a closed list nothing more is accepted, and what the end of a task adds depends on how far the response is.
-use Rattle.std.proofs.Common.{◌≡◌, ◌≢◌, ℕ, Bool, true, false, ◌⊎◌, inl, inr, List, [], ◌∷◌, ◌++◌, map, refl, sym, ap, ◌∙◌, subst}
+use Rattle.std.proofs.Common.{◌≡◌, ◌≢◌, ℕ, Bool, true, false, ◌⊎◌, inl, inr, List, [], ◌∷◌, ◌++◌, refl, sym, ap, ◌∙◌, subst}
 use Rattle.std.proofs.lemmas.List.Sums.{fold-append}
 use Rattle.std.specs.List.{fold}
 use Rattle.std.specs.Prelude.{if◌then◌else◌}
@@ -8,14 +8,14 @@ use Rattle.asgi_types.specs.declared.end_kind.EndKind.TheVariants.{Returned, Fau
 use Rattle.asgi_types.specs.declared.facts.Facts.{Facts}
 use Rattle.asgi_types.specs.declared.scope.Kind.TheVariants.{Http}
 use Rattle.asgi_types.specs.declared.outgoing.Outgoing.{Outgoing}
-use Rattle.asgi_types.specs.declared.outgoing.Outgoing.TheVariants.{ResponseStart, ResponseBody}
-use Rattle.asgi_protocol.specs.Lawful.{IsClosed, IsResponse}
+use Rattle.asgi_protocol.specs.Lawful.{IsClosed}
 use Rattle.asgi_protocol.specs.Shapes.{is_closed}
 use Rattle.asgi_protocol.proofs.PassingLemmas.{nothing_passes}
 use Rattle.asgi_protocol.proofs.WordLemmas.{word_from_test}
 use Rattle.asgi_response.specs.declared.progress.Progress.TheVariants.{Nothing, Begun, Complete}
 use Rattle.asgi_response.specs.declared.refusal.Input.{Input}
 use Rattle.asgi_response.specs.declared.refusal.Input.TheVariants.{Broken}
+use Rattle.asgi_response.specs.declared.text.Phase.TheVariants as phase
 use Rattle.asgi_response.specs.Accepted.{with_event, accepted}
 use Rattle.asgi_response.specs.Exchange.{has_begun, replacement_text, end_text, added_by_end}
 use Rattle.asgi_response.specs.Laws.{BeginsWith, ClosedTextStays, BegunResponsesGetNothingMore, UnbegunResponsesAreReplaced, AddedTextOnlyGrows}
@@ -23,6 +23,7 @@ use Rattle.asgi_response.specs.Progress.{closes_after}
 use Rattle.asgi_response.specs.Response.{message_text, continue_text, response_text}
 use Rattle.asgi_response.proofs.LawLemmas.{same_front}
 use Rattle.asgi_response.proofs.LawfulLemmas.{lawful_is_accepted}
+use Rattle.asgi_response.proofs.ProgressLemmas.{begun_at}
 use Rattle.asgi_response.proofs.StandingLemmas.{not_taken}
 
 -- ---- after a closed list
@@ -48,15 +49,6 @@ closed_text_stays = record {
 
 -- ---- how far the response is
 
-begun_after : (start : Outgoing) (parts : List (List ℕ)) (last : Outgoing) → has_begun (start ∷ (map (λ (part : List ℕ). ResponseBody part true) parts ++ last ∷ [])) ≡ true
-begun_after start [] last = refl
-begun_after start (p ∷ parts) last = refl
-
-closed_has_begun : (said : List Outgoing) → is_closed Http said ≡ true → has_begun said ≡ true
-closed_has_begun said h =
-    let r : IsResponse said = word_from_test Http said h in
-    ap has_begun r.in_order ∙ begun_after (ResponseStart r.status r.headers) r.parts (ResponseBody r.last false)
-
 begun_in : (closed begun close : Bool) → (closed ≡ true → begun ≡ true) → (if closed then Complete close else (if begun then Begun else Nothing)) ≢ Nothing → begun ≡ true
 begun_in true begun close h some_progress = h refl
 begun_in false true close h some_progress = refl
@@ -76,7 +68,8 @@ nothing_added facts events kind input some_progress = by kind
     none =
         let said : List Outgoing = accepted facts events in
         ap (λ (b : Bool). if b then [] else replacement_text input)
-        (begun_in (is_closed Http said) (has_begun said) (closes_after facts said) (closed_has_begun said) some_progress)
+        (begun_in (is_closed Http said) (has_begun said) (closes_after facts said)
+        (λ closed. begun_at facts said [] phase.Complete (word_from_test Http said closed) refl) some_progress)
 
     by : (kind : EndKind) → added_by_end facts events kind input ≡ []
     by Returned = none

@@ -8,11 +8,11 @@ use Rattle.std.specs.Prelude.{if◌then◌else◌}
 use Rattle.asgi_types.specs.declared.facts.Facts.{Facts}
 use Rattle.asgi_types.specs.declared.scope.Kind.TheVariants.{Http}
 use Rattle.asgi_types.specs.declared.outgoing.Outgoing.{Outgoing}
-use Rattle.asgi_types.specs.declared.outgoing.Outgoing.TheVariants.{ResponseStart, ResponseBody, WsAccept, WsSend, WsClose, DenialStart, DenialBody, StartupComplete, StartupFailed, ShutdownComplete, ShutdownFailed}
+use Rattle.asgi_types.specs.declared.outgoing.Outgoing.TheVariants.{ResponseStart}
 use Rattle.asgi_protocol.specs.Passing.{passes}
 use Rattle.asgi_response.specs.Accepted.{with_event, accepted}
 use Rattle.asgi_response.specs.Fields.{is_chunked, closes, head_text}
-use Rattle.asgi_response.specs.Response.{body_text, message_text, event_text, continue_text, response_text}
+use Rattle.asgi_response.specs.Response.{rest_text, message_text, event_text, continue_text, response_text}
 use Rattle.asgi_response.specs.Laws.{BeginsWith, TextOnlyGrows, EventsAddTheirText}
 
 pub same_front : (xs : List ℕ) → BeginsWith xs xs
@@ -26,34 +26,16 @@ longer a b c h k = (k.0 ++ h.0, h.1 ∙ ap (λ (x : List ℕ). x ++ h.0) k.1 ∙
 
 -- one more event adds its text
 pub message_after : (facts : Facts) (said : List Outgoing) (event : Outgoing) → message_text facts (said ++ event ∷ []) ≡ message_text facts said ++ event_text facts said event
-message_after facts [] (ResponseStart a b) = refl
-message_after facts [] (ResponseBody a b) = refl
-message_after facts [] (WsAccept a b) = refl
-message_after facts [] (WsSend a) = refl
-message_after facts [] (WsClose a b) = refl
-message_after facts [] (DenialStart a b) = refl
-message_after facts [] (DenialBody a b) = refl
-message_after facts [] (StartupComplete a) = refl
-message_after facts [] (StartupFailed a) = refl
-message_after facts [] ShutdownComplete = refl
-message_after facts [] (ShutdownFailed a) = refl
-message_after facts (ResponseStart status headers ∷ []) event =
-    ap (λ (x : List ℕ). head_text (is_chunked facts.version status headers) (closes facts.close headers) status headers ++ x) (append-nil (body_text facts status headers event))
-message_after facts (ResponseStart status headers ∷ body ∷ bodies) event =
+message_after facts [] (ResponseStart status headers announced) = refl
+message_after facts [] _ = refl
+message_after facts (ResponseStart status headers announced ∷ []) event =
+    ap (λ (x : List ℕ). head_text (is_chunked facts.version status headers) (closes facts.close headers) status headers ++ x) (append-nil (rest_text facts status headers announced event))
+message_after facts (ResponseStart status headers announced ∷ first ∷ events) event =
     let head : List ℕ = head_text (is_chunked facts.version status headers) (closes facts.close headers) status headers in
-    let text : Outgoing → List ℕ = body_text facts status headers in
-    ap (λ (x : List ℕ). head ++ x) (flat_map-append text (body ∷ bodies) (event ∷ []) ∙ ap (λ (x : List ℕ). flat_map text (body ∷ bodies) ++ x) (append-nil (text event)))
-    ∙ sym (append_assoc head (flat_map text (body ∷ bodies)) (text event))
-message_after facts (ResponseBody a b ∷ said) event = refl
-message_after facts (WsAccept a b ∷ said) event = refl
-message_after facts (WsSend a ∷ said) event = refl
-message_after facts (WsClose a b ∷ said) event = refl
-message_after facts (DenialStart a b ∷ said) event = refl
-message_after facts (DenialBody a b ∷ said) event = refl
-message_after facts (StartupComplete a ∷ said) event = refl
-message_after facts (StartupFailed a ∷ said) event = refl
-message_after facts (ShutdownComplete ∷ said) event = refl
-message_after facts (ShutdownFailed a ∷ said) event = refl
+    let text : Outgoing → List ℕ = rest_text facts status headers announced in
+    ap (λ (x : List ℕ). head ++ x) (flat_map-append text (first ∷ events) (event ∷ []) ∙ ap (λ (x : List ℕ). flat_map text (first ∷ events) ++ x) (append-nil (text event)))
+    ∙ sym (append_assoc head (flat_map text (first ∷ events)) (text event))
+message_after facts (_ ∷ said) event = refl
 
 message_grows : (facts : Facts) (said : List Outgoing) (event : Outgoing) → BeginsWith (message_text facts (said ++ event ∷ [])) (message_text facts said)
 message_grows facts said event = (event_text facts said event, message_after facts said event)

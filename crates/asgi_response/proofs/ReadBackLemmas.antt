@@ -1,4 +1,4 @@
--- The head of a response is read back by the grammar of heads.
+-- The head of a response, and a trailer section, are read back by the grammar of heads.
 use Rattle.std.proofs.Common.{◌≡◌, ℕ, ◌+◌, ◌/◌, ◌%◌, ◌≤◌, ◌<◌, Bool, true, false, List, [], ◌∷◌, ◌++◌, length, map, flat_map, refl, sym, ap, ◌∙◌, subst, append_assoc, arith, All, IsTrue, Some}
 use Rattle.std.proofs.lemmas.List.{append-nil}
 use Rattle.std.proofs.lemmas.List.Concat.{flat_map-append}
@@ -11,14 +11,16 @@ use Rattle.std.specs.List.{filter, list_all}
 use Rattle.std.specs.Fmt.{decimal}
 use Rattle.std.specs.Char.{is_ascii_digit}
 use Rattle.httparse.specs.Ascii.{space, crlf_bytes}
-use Rattle.httparse.specs.Grammar.{AllPass, Field, IsField, ResponseHead, ReadsResponse, crlf, print_field, print_response, is_token_byte, is_value_byte, trim_ows}
+use Rattle.httparse.specs.Grammar.{AllPass, Field, IsField, ReadsSection, ResponseHead, ReadsResponse, crlf, print_field, print_response, is_token_byte, is_value_byte, trim_ows}
 use Rattle.httparse.specs.Spans.{name_and_value}
-use Rattle.httparse.proofs.GrammarLemmas.{response_unique}
+use Rattle.httparse.proofs.GrammarLemmas.{section_unique, response_unique}
 use Rattle.asgi_types.specs.Fields.{HeaderField, IsValidField}
 use Rattle.asgi_types.proofs.FieldLemmas.{valid-read}
 use Rattle.asgi_response.specs.StatusLine.{reason_phrase, status_line, status_line_with}
+use Rattle.asgi_response.specs.Content.{section_text}
 use Rattle.asgi_response.specs.Fields.{is_shown, field_line, field_lines, head_text}
 use Rattle.asgi_response.specs.ReadBack.{IsSendable, IsReadAs, fields_sent, as_read, HeadIsReadBack}
+use Rattle.asgi_response.specs.ReadBackBody.{IsSectionOf}
 
 -- ---- bytes that pass a test
 
@@ -119,6 +121,24 @@ valid_is_sendable f h = let read = valid-read f h in record { name = read.0; val
 pub valid_are_sendable : (headers : List HeaderField) → All IsValidField headers → All IsSendable headers
 valid_are_sendable headers h = All-weaker IsValidField IsSendable valid_is_sendable headers h
 
+-- ---- a trailer section
+
+are_sendable : (fields : List HeaderField) → All IsSendable fields → All IsField (map field_sent fields)
+are_sendable fields clean = All-map IsField field_sent fields (All-weaker IsSendable (λ f. IsField (field_sent f)) sendable fields clean)
+
+-- the lines of fields that can be sent and the empty line are read as exactly these fields
+pub section_is_read_back : (fields : List HeaderField) (rest : List ℕ) → All IsSendable fields → IsSectionOf (section_text fields false ++ rest) fields rest
+section_is_read_back fields rest clean =
+    let text : List ℕ = section_text fields false ++ rest in
+    let sent : List Field = map field_sent fields in
+    let reads : ReadsSection text sent crlf rest = (are_sendable fields clean, ap (λ (x : List ℕ). (x ++ crlf_bytes) ++ rest) (sym (sent-lines fields))) in
+    record {
+      fields = sent;
+      reads = reads;
+      named = sent-named fields;
+      only = λ other last after found. let one = section_unique text other sent last crlf after rest found reads in (one.0, one.2);
+    }
+
 -- ---- the whole head
 
 server_line : (b : Bool) (f : HeaderField) → flat_map field_line (if b then f ∷ [] else []) ≡ (if b then field_line f else [])
@@ -182,7 +202,7 @@ fields_are_read_back status reason fields rest low high phrase clean =
         minor = omega arith;
         digits = status_digits status low high;
         reason = phrase;
-        fields = All-map IsField field_sent fields (All-weaker IsSendable (λ f. IsField (field_sent f)) sendable fields clean);
+        fields = are_sendable fields clean;
       },
       ap (λ (x : List ℕ). (status_line_with status reason ++ (x ++ crlf_bytes)) ++ rest) (sym (sent-lines fields)),
     ) in

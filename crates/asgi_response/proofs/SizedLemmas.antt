@@ -2,13 +2,13 @@
 use Rattle.std.proofs.Common.{◌≡◌, ℕ, ◌+◌, Bool, true, false, List, [], ◌∷◌, ◌++◌, length, map, sym, ◌∙◌, subst, length-append, arith}
 use Rattle.std.proofs.lemmas.Bool.Decides.{nat_tests}
 use Rattle.std.specs.List.{concat}
-use Rattle.std.specs.Prelude.{not, ◌&&◌, nat_lt, if◌then◌else◌, Option, Some, None}
+use Rattle.std.specs.Prelude.{not, ◌&&◌, nat_lt, if◌then◌else◌, Option, Some, None, is_some}
 use Rattle.asgi_types.specs.declared.facts.Facts.{Facts}
 use Rattle.asgi_types.specs.declared.outgoing.Outgoing.{Outgoing}
 use Rattle.asgi_types.specs.declared.outgoing.Outgoing.TheVariants.{ResponseStart, ResponseBody}
 use Rattle.asgi_protocol.specs.BytesLeft.{is_above, is_below}
 use Rattle.asgi_protocol.specs.ContentLengths.{content_length}
-use Rattle.asgi_protocol.specs.Lawful.{IsResponse}
+use Rattle.asgi_protocol.specs.Lawful.{IsResponse, trailer_events}
 use Rattle.asgi_protocol.specs.Rules.{given_length, has_no_content, promised_length, body_bytes}
 use Rattle.asgi_response.specs.Accepted.{accepted}
 use Rattle.asgi_response.specs.Content.{has_content}
@@ -35,8 +35,8 @@ as_promised total n promised e much little =
 pub content_is_sized : (facts : Facts) (events : List Outgoing) (r : IsResponse (accepted facts events)) → has_content facts.head_only r.status ≡ true
     → (n : ℕ) → given_length (content_length r.headers) ≡ Some n → length (concat (r.parts ++ r.last ∷ [])) ≡ n
 content_is_sized facts events r has n given =
-    let before : List Outgoing = ResponseStart r.status r.headers ∷ map part r.parts in
-    let meets = (accepted_is_lawful facts events).each before [] (ResponseBody r.last false) r.in_order in
+    let before : List Outgoing = ResponseStart r.status r.headers (is_some r.trailers) ∷ map part r.parts in
+    let meets = (accepted_is_lawful facts events).each before (trailer_events r.trailers) (ResponseBody r.last false) r.in_order in
     let promised : promised_length facts before ≡ Some n = promised_is facts.head_only (has_no_content r.status) (given_length (content_length r.headers)) n has given in
     sym (bytes_sent r.parts r.last)
     ∙ as_promised (body_bytes before + length r.last) n (promised_length facts before) promised meets.not_too_much meets.not_too_little

@@ -11,13 +11,13 @@ use Rattle.asgi_response.specs.Exchange.{end_text}
 use Rattle.asgi_response.specs.Progress.{progress_of}
 use Rattle.asgi_response.specs.Response.{message_text}
 
--- a denial is a response after which the connection closes
+-- a denial is a response without trailers, after which the connection closes
 abbrev pub closing_facts : Facts → Facts
 closing_facts facts = record facts { close = true }
 
 -- the event of a response that corresponds to an event of a denial
 abbrev pub as_response : Outgoing → Outgoing
-as_response (DenialStart status headers) = ResponseStart status headers
+as_response (DenialStart status headers) = ResponseStart status headers false
 as_response (DenialBody body more_body) = ResponseBody body more_body
 as_response event = event
 

@@ -13,10 +13,10 @@ use Rattle.asgi_response.specs.Fields.{closes}
 
 -- the connection closes after these events: because of the request, or because of the start's fields
 abbrev pub closes_after : Facts → List Outgoing → Bool
-closes_after facts (ResponseStart status headers ∷ bodies) = closes facts.close headers
+closes_after facts (ResponseStart status headers announced ∷ events) = closes facts.close headers
 closes_after facts _ = facts.close
 
--- the last body has been sent; or a start and a body; or less
+-- all has been sent, up to the last body or the last trailers; or a start and a body; or less
 abbrev pub progress_in : Facts → List Outgoing → Progress
 progress_in facts said =
     if is_closed Http said then Complete (closes_after facts said) else (if has_begun said then Begun else Nothing)

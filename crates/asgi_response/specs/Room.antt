@@ -11,7 +11,7 @@ use Rattle.asgi_response.specs.Response.{response_text}
 
 -- the head of a start is kept in memory of its own
 abbrev pub is_start : Outgoing → Bool
-is_start (ResponseStart status headers) = true
+is_start (ResponseStart status headers announced) = true
 is_start _ = false
 
 -- there was no memory for the head of a start that is lawful in its place, or the vector has no room for what the event

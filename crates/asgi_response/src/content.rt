@@ -15,11 +15,50 @@ pub enum Coding {
     Chunked,
 }
 
+/// What follows the content of a response.
+#[derive(Clone, Copy, Debug, PartialEq, Eq)]
+pub enum Trailing {
+    /// Nothing: the start has announced no trailers.
+    Nothing,
+    /// Trailers that have no text: the client does not take them, or the content is not chunked
+    /// (RFC 9110, section 6.5.1).
+    Unsent,
+    /// A trailer section (RFC 9112, section 7.1.2).
+    Sent,
+}
+
+impl Trailing {
+    ghost use Rattle.asgi_response.specs.Standing.{trailing_of};
+    ghost use Rattle.asgi_response.specs.private.Steps.{is_sent};
+
+    /// What follows, by whether the start has announced trailers, and whether they are sent.
+    pub fn of(announced: bool, sent: bool) -> Self
+        ensures { result ≡ trailing_of announced sent }
+    {
+        if !announced {
+            return Trailing::Nothing;
+        }
+        if sent {
+            return Trailing::Sent;
+        }
+        Trailing::Unsent
+    }
+
+    /// Whether a trailer section is sent.
+    pub fn is_sent(self) -> bool
+        ensures { result ≡ is_sent self }
+    {
+        matches!(self, Trailing::Sent)
+    }
+}
+
 /// What the bodies after a start may be.
 #[derive(Clone, Copy, Debug, PartialEq, Eq)]
 pub struct Content {
     /// How the bodies are written.
     pub coding: Coding,
+    /// What follows the last body.
+    pub trailing: Trailing,
     /// The bytes that are left of those that `content-length` promised, if it promised any.
     pub left: BytesLeft,
 }
@@ -42,10 +81,12 @@ impl Content {
     /// What the bodies may be after one of `len` bytes.
     pub fn after(self, len: usize) -> Self
         ensures coding { result.coding ≡ self.coding }
+        ensures trailing { result.trailing ≡ self.trailing }
         ensures left { result.left ≡ left_after self.left len }
     {
         Content {
             coding: self.coding,
+            trailing: self.trailing,
             left: self.left.after(len),
         }
     }

@@ -1,8 +1,9 @@
 //! What the fields of a response determine about its framing.
-ghost use Rattle.std.specs.Prelude.{◌≡◌, ◌||◌};
+ghost use Rattle.std.specs.Prelude.{◌≡◌, ◌||◌, codes};
+ghost use Rattle.asgi_types.specs.Tokens.{has_token, is_listed};
 ghost use Rattle.asgi_response.specs.Fields as fields;
 
-use asgi_types::Headers;
+use asgi_types::{Headers, lists_token};
 
 pub const CONTENT_LENGTH: &[u8] = b"content-length";
 
@@ -26,5 +27,19 @@ pub fn is_shown(status: u16, name: &[u8]) -> bool
 pub fn closes(close: bool, headers: &Headers) -> bool
     ensures { result ≡ fields.closes close headers.now }
 {
-    close || headers.has_token(CONNECTION, CLOSE)
+    close || has_close(headers)
+}
+
+/// Whether a `connection` field lists `close`. Most responses have no such field, and it is sought
+/// in line.
+fn has_close(headers: &Headers) -> bool
+    ensures { result ≡ has_token headers.now (codes "connection") (codes "close") }
+{
+    headers.iter().any(|field| is_close(field.0, field.1))
+}
+
+fn is_close(name: &[u8], value: &[u8]) -> bool
+    ensures { result ≡ is_listed (record { name = name.now; value = value.now }) (codes "connection") (codes "close") }
+{
+    name == CONNECTION && lists_token(value, CLOSE)
 }

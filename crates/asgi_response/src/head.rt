@@ -1,8 +1,9 @@
 //! The head of a response.
-ghost use Rattle.std.specs.Prelude.{◌≡◌, ◌++◌, ◌≤◌, [], length, min, OnOk, OnErr, IfOk, if◌then◌else◌, decimal};
+ghost use Rattle.std.specs.Prelude.{◌≡◌, ◌++◌, ◌≤◌, [], length, min, OnOk, OnErr, IfOk, if◌then◌else◌, decimal, flat_map};
 ghost use Rattle.std.specs.Vec.{vec_len, vec_capacity};
 ghost use Rattle.asgi_types.specs.Room.{LacksRoom};
 ghost use Rattle.asgi_response.specs.StatusLine as line;
+ghost use Rattle.asgi_response.specs.Content as content;
 ghost use Rattle.asgi_response.specs.Fields as spec;
 
 use crate::fields::is_shown;
@@ -17,6 +18,8 @@ pub const SPACE: &[u8] = b" ";
 pub const CRLF: &[u8] = b"\r\n";
 
 const COLON: &[u8] = b": ";
+
+const OK_CODE: &[u8] = b"200";
 
 const OK_LINE: &[u8] = b"HTTP/1.1 200 OK\r\n";
 
@@ -53,10 +56,62 @@ fn append_head(
     ensures full { OnErr result (LacksRoom (vec_capacity out.old) (vec_len out.old) (spec.head_text chunked closing status headers.now)) }
 {
     let mut buffer = Buffer::new();
-    let code = buffer.format(status).as_bytes();
+    let code = code_of(status, &mut buffer);
     let reason = reason_phrase(status).as_bytes();
     out.reserve(head_len(chunked, closing, code, reason, status, headers))?;
     write_head(out, chunked, closing, code, reason, status, headers)
+}
+
+/// The digits of a status.
+fn code_of(status: u16, buffer: &mut Buffer) -> &[u8]
+    ensures { result.now ≡ decimal status }
+{
+    // Most responses have this status.
+    if status == 200 {
+        return ok_code();
+    }
+    buffer.format(status).as_bytes()
+}
+
+/// Appends a trailer section, as far as it is known, in one reservation: the lines of its fields, and
+/// the empty line after the last of them (RFC 9112, section 7.1.2). `AllocError` if memory is refused;
+/// then the vector is as before.
+pub fn append_section(
+    out: &mut Vec<u8>,
+    headers: &Headers,
+    more_trailers: bool,
+) -> Result<(), AllocError>
+    ensures ok { OnOk result (out.new.items ≡ out.old.items ++ content.section_text headers.now more_trailers) }
+    ensures err { OnErr result (out.new.items ≡ out.old.items) }
+    ensures full { OnErr result (LacksRoom (vec_capacity out.old) (vec_len out.old) (content.section_text headers.now more_trailers)) }
+{
+    out.reserve(lines_len(headers).saturating_add(len_if(!more_trailers, CRLF)))?;
+    // The room is reserved, so these never fail: only their type allows an error.
+    write_lines(out, headers)?;
+    write_if(out, !more_trailers, CRLF)
+}
+
+/// How many bytes the lines of the fields have, or the greatest `usize` if they have more.
+fn lines_len(headers: &Headers) -> usize
+    ensures { result ≡ min (length (flat_map spec.field_line headers.now)) usize.MAX }
+{
+    let mut size = 0usize;
+    for (name, value) in headers.iter() {
+        size = size.saturating_add(field_len(name, value));
+    }
+    size
+}
+
+/// Appends the lines of the fields.
+fn write_lines(out: &mut Vec<u8>, headers: &Headers) -> Result<(), AllocError>
+    ensures ok { OnOk result (out.new.items ≡ out.old.items ++ flat_map spec.field_line headers.now) }
+    ensures capacity { vec_capacity out.old ≤ vec_capacity out.new }
+    ensures full { OnErr result (LacksRoom (vec_capacity out.old) (vec_len out.old) (flat_map spec.field_line headers.now)) }
+{
+    for (name, value) in headers.iter() {
+        write_field(out, name, value)?;
+    }
+    Ok(())
 }
 
 /// How many bytes the head of a response has, or the greatest `usize` if it has more.
@@ -176,6 +231,13 @@ fn ok_line() -> &'static [u8]
     ensures { result.now ≡ line.status_line 200 }
 {
     OK_LINE
+}
+
+/// The code of 200.
+fn ok_code() -> &'static [u8]
+    ensures { result.now ≡ decimal 200 }
+{
+    OK_CODE
 }
 
 /// The reason phrase of a status, without a line end (RFC 9110, section 15; RFC 6585); empty if

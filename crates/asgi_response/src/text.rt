@@ -1,5 +1,5 @@
 //! The text of the events that an application sends.
-ghost use Rattle.std.specs.Prelude.{◌≡◌, ◌≢◌, ◌++◌, ◌∷◌, [], ◌&&◌, ◌⊎◌, not, true, IsTrue, List, OnOk, OnErr, if◌then◌else◌};
+ghost use Rattle.std.specs.Prelude.{◌≡◌, ◌≢◌, ◌++◌, ◌∷◌, [], ◌&&◌, ◌⊎◌, not, true, IsTrue, List, length, ◌==◌, OnOk, OnErr, if◌then◌else◌};
 ghost use Rattle.std.specs.Vec.{vec_len, vec_capacity};
 ghost use Rattle.httparse.specs.Ascii.{crlf_bytes};
 ghost use Rattle.asgi_types.specs.declared.facts.Facts.{Facts};
@@ -16,18 +16,24 @@ ghost use Rattle.asgi_response.specs.Standing as standing;
 ghost use Rattle.asgi_response.specs.private.Steps as steps;
 
 use crate::append::{append_all, hexadecimal, total_len};
-use crate::content::{Coding, Content};
+use crate::content::{Coding, Content, Trailing};
 use crate::fields::closes;
-use crate::head::{CRLF, head_text};
+use crate::head::{CRLF, append_section, head_text};
 use crate::progress::Progress;
 use crate::refusal::{Input, append_refusal};
-use asgi_protocol::{BytesLeft, ContentLength, has_no_content};
+use asgi_protocol::{BytesLeft, ContentLength, has_framing_field, has_no_content};
 use asgi_types::{Facts, Framing, Headers, HttpVersion, Octets, Outgoing};
 use std::alloc::{AllocError, Global};
 
 const CONTINUE: &[u8] = b"HTTP/1.1 100 Continue\r\n\r\n";
 
-const LAST_CHUNK: &[u8] = b"0\r\n\r\n";
+const LAST_CHUNK: &[u8] = b"0\r\n";
+
+const CONTENT_END: &[u8] = b"0\r\n\r\n";
+
+const DATA_END_AND_LAST_CHUNK: &[u8] = b"\r\n0\r\n";
+
+const DATA_END_AND_CONTENT_END: &[u8] = b"\r\n0\r\n\r\n";
 
 /// How far a response is.
 #[derive(Clone, Copy, Debug, PartialEq, Eq)]
@@ -39,7 +45,9 @@ pub enum Phase {
     Started(Content),
     /// The head and a body are written, and another body may follow.
     Begun(Content),
-    /// The last body is written.
+    /// The last body is written, and trailers are due; whether they are sent.
+    Trailers { sent: bool },
+    /// All is written, up to the last body or the last trailers.
     Complete,
     /// An accept or a close was sent: what is written of a session is no response.
     NotAResponse,
@@ -54,6 +62,8 @@ pub struct ResponseText {
     // Whether the connection closes after the response: because of the request, or of the start.
     close: bool,
     expect: bool,
+    // Whether the client takes trailers.
+    trailers_ok: bool,
     // Whether this text is for an opening handshake: only a denial is a response to one.
     session: bool,
     phase: Phase,
@@ -84,6 +94,7 @@ impl ResponseText {
             head_only: facts.head_only,
             close: facts.close || session,
             expect: facts.expect,
+            trailers_ok: facts.trailers_ok,
             session,
             phase: Phase::Waiting,
             head: Octets::new(Vec::new(alloc)),
@@ -136,6 +147,7 @@ impl ResponseText {
     /// Appends what the end of the task adds: a refusal if no body was taken, and no accept or
     /// close. The refusal is 500 for a whole input, has the status of a faulty one, and is nothing
     /// for a broken one. `AllocError` if memory is refused; then `out` is as before.
+    #[tactic(auto, using(crate::proofs::ProgressLemmas::end_adds_nothing, crate::proofs::DenialTextLemmas::denial_end_adds_nothing))]
     pub fn end(&self, input: Input, out: &mut Vec<u8>) -> Result<(), AllocError>
         ensures ok { OnOk result ((facts : Facts) (events : List Outgoing) → StandsFor self.now facts events
             → out.new.items ≡ out.old.items ++ end_text facts events input) }
@@ -154,6 +166,7 @@ impl ResponseText {
     }
 
     /// How far the response is; after an accept or a close `Begun`.
+    #[tactic(auto, using(crate::proofs::ProgressLemmas::progress_is, crate::proofs::DenialTextLemmas::denial_progress_is))]
     pub fn progress(&self) -> Progress
         ensures response { (facts : Facts) (events : List Outgoing) → StandsFor self.now facts events → result ≡ progress_of facts events }
         ensures denial { (facts : Facts) (events : List Outgoing) → StandsForSession self.now facts events → result ≡ denial_progress facts events }
@@ -173,11 +186,23 @@ impl ResponseText {
         if self.session {
             return self.session_step(event, out);
         }
-        if let Outgoing::ResponseStart { status, headers } = event {
-            return self.take_start(*status, headers);
+        if let Outgoing::ResponseStart {
+            status,
+            headers,
+            trailers,
+        } = event
+        {
+            return self.take_start(*status, headers, *trailers);
         }
         if let Outgoing::ResponseBody { body, more_body } = event {
             return self.take_body(body.bytes(), *more_body, out);
+        }
+        if let Outgoing::ResponseTrailers {
+            headers,
+            more_trailers,
+        } = event
+        {
+            return self.take_section(headers, *more_trailers, out);
         }
         Ok(())
     }
@@ -190,7 +215,7 @@ impl ResponseText {
         ensures full { OnErr result (IsTrue (steps.denial_starts self.old event.now) ⊎ LacksRoom (vec_capacity out.old) (vec_len out.old) (steps.added_by_denial self.old event.now)) }
     {
         if let Outgoing::DenialStart { status, headers } = event {
-            return self.take_start(*status, headers);
+            return self.take_start(*status, headers, false);
         }
         if let Outgoing::DenialBody { body, more_body } = event {
             return self.take_body(body.bytes(), *more_body, out);
@@ -201,9 +226,14 @@ impl ResponseText {
         Ok(())
     }
 
-    /// Keeps the head of a start that is lawful here.
-    fn take_start(&mut self, status: u16, headers: &Headers) -> Result<(), AllocError>
-        ensures ok { OnOk result (self.new ≡ steps.after_start self.old status headers.now) }
+    /// Keeps the head of a start that is lawful here, and whether it has announced trailers.
+    fn take_start(
+        &mut self,
+        status: u16,
+        headers: &Headers,
+        announced: bool,
+    ) -> Result<(), AllocError>
+        ensures ok { OnOk result (self.new ≡ steps.after_start self.old status headers.now announced) }
         ensures err { OnErr result (self.new ≡ self.old) }
         ensures full { OnErr result (IsTrue (steps.may_start self.old.phase status (is_faulty (content_length headers.now)))) }
     {
@@ -216,8 +246,20 @@ impl ResponseText {
         let head = head_text(self.alloc, chunked, closing, status, headers)?;
         self.head = head;
         self.close = closing;
-        self.phase = Phase::Started(content_at_start(self.head_only, status, chunked, length));
+        let sent = announced && self.trailers_ok && self.has_content(status) && chunked;
+        self.phase = Phase::Started(Content {
+            coding: coding_of(self.has_content(status), chunked),
+            trailing: Trailing::of(announced, sent),
+            left: BytesLeft::of(left_at_start(self.head_only, status, length)),
+        });
         Ok(())
+    }
+
+    /// Whether a response with the status has content.
+    fn has_content(&self, status: u16) -> bool
+        ensures { result ≡ contents.has_content self.now.head_only status }
+    {
+        !self.head_only && !has_no_content(status)
     }
 
     /// Appends the text of a body that is lawful here, after the head if it is the first.
@@ -238,9 +280,36 @@ impl ResponseText {
         if !content.allows(body.len(), more_body) {
             return Ok(());
         }
-        append_part(self.head.bytes(), content.coding, body, more_body, out)?;
+        append_part(self.head.bytes(), content, body, more_body, out)?;
         self.phase = next_phase(content, body.len(), more_body);
         self.head = Octets::new(Vec::new(self.alloc));
+        Ok(())
+    }
+
+    /// Appends the text of trailers that are lawful here.
+    fn take_section(
+        &mut self,
+        headers: &Headers,
+        more_trailers: bool,
+        out: &mut Vec<u8>,
+    ) -> Result<(), AllocError>
+        ensures ok { OnOk result (self.new ≡ steps.after_section self.old (steps.trailers_due self.old.phase) headers.now more_trailers) }
+        ensures text { OnOk result (out.new.items ≡ out.old.items ++ steps.section_added (steps.trailers_due self.old.phase) headers.now more_trailers) }
+        ensures err { OnErr result ((self.new ≡ self.old) × (out.new.items ≡ out.old.items)) }
+        ensures full { OnErr result (LacksRoom (vec_capacity out.old) (vec_len out.old) (steps.section_added (steps.trailers_due self.old.phase) headers.now more_trailers)) }
+    {
+        let Phase::Trailers { sent } = self.phase else {
+            return Ok(());
+        };
+        if has_framing_field(headers) {
+            return Ok(());
+        }
+        if sent {
+            append_section(out, headers, more_trailers)?;
+        }
+        if !more_trailers {
+            self.phase = Phase::Complete;
+        }
         Ok(())
     }
 }
@@ -262,7 +331,8 @@ impl Phase {
     {
         match self {
             Phase::Waiting | Phase::Started(_) => false,
-            Phase::Begun(_) | Phase::Complete | Phase::NotAResponse => true,
+            Phase::Begun(_) | Phase::Trailers { .. } | Phase::Complete | Phase::NotAResponse =>
+                true,
         }
     }
 
@@ -271,7 +341,7 @@ impl Phase {
         ensures { result ≡ steps.content_due self }
     {
         match self {
-            Phase::Waiting | Phase::Complete | Phase::NotAResponse => None,
+            Phase::Waiting | Phase::Trailers { .. } | Phase::Complete | Phase::NotAResponse => None,
             Phase::Started(content) | Phase::Begun(content) => Some(content),
         }
     }
@@ -282,7 +352,7 @@ impl Phase {
     {
         match self {
             Phase::Waiting | Phase::Started(_) => Progress::Nothing,
-            Phase::Begun(_) | Phase::NotAResponse => Progress::Begun,
+            Phase::Begun(_) | Phase::Trailers { .. } | Phase::NotAResponse => Progress::Begun,
             Phase::Complete => Progress::Complete { closes },
         }
     }
@@ -302,31 +372,27 @@ fn is_chunked(version: HttpVersion, status: u16, length: ContentLength) -> bool
     version == HttpVersion::V11 && length.is_absent() && !has_no_content(status)
 }
 
-/// What the bodies after a start may be.
-fn content_at_start(head_only: bool, status: u16, chunked: bool, length: ContentLength) -> Content
-    ensures coding { result.coding ≡ standing.coding_of (contents.has_content head_only status) chunked }
-    ensures left { result.left ≡ steps.left_at_start head_only status length }
+/// How the bodies of a response are written, by whether it has content, and whether in chunks.
+fn coding_of(content: bool, chunked: bool) -> Coding
+    ensures { result ≡ standing.coding_of content chunked }
 {
-    if head_only || has_no_content(status) {
-        return Content {
-            coding: Coding::Nothing,
-            left: BytesLeft::of(None),
-        };
+    if !content {
+        return Coding::Nothing;
     }
-    Content {
-        coding: coding_of(chunked),
-        left: BytesLeft::of(length.promised_at(status)),
-    }
-}
-
-/// How the bodies of a response that has content are written.
-fn coding_of(chunked: bool) -> Coding
-    ensures { result ≡ standing.coding_of true chunked }
-{
     if chunked {
         return Coding::Chunked;
     }
     Coding::Plain
+}
+
+/// The bytes that the bodies after a start must have; any number in a response to HEAD.
+fn left_at_start(head_only: bool, status: u16, length: ContentLength) -> Option<u64>
+    ensures { result ≡ steps.left_at_start head_only status length }
+{
+    if head_only {
+        return None;
+    }
+    length.promised_at(status)
 }
 
 fn next_phase(content: Content, len: usize, more_body: bool) -> Phase
@@ -335,46 +401,57 @@ fn next_phase(content: Content, len: usize, more_body: bool) -> Phase
     if more_body {
         return Phase::Begun(content.after(len));
     }
-    Phase::Complete
+    match content.trailing {
+        Trailing::Nothing => Phase::Complete,
+        Trailing::Unsent => Phase::Trailers { sent: false },
+        Trailing::Sent => Phase::Trailers { sent: true },
+    }
 }
 
 /// Appends the front and then the text of a body. On an error the vector is as before.
 fn append_part(
     front: &[u8],
-    coding: Coding,
+    content: Content,
     body: &[u8],
     more_body: bool,
     out: &mut Vec<u8>,
 ) -> Result<(), AllocError>
-    ensures ok { OnOk result (out.new.items ≡ out.old.items ++ (front.now ++ steps.coded_text coding body.now more_body)) }
+    ensures ok { OnOk result (out.new.items ≡ out.old.items ++ (front.now ++ steps.coded_text content.coding (steps.is_sent content.trailing) body.now more_body)) }
     ensures err { OnErr result (out.new.items ≡ out.old.items) }
-    ensures full { OnErr result (LacksRoom (vec_capacity out.old) (vec_len out.old) (front.now ++ steps.coded_text coding body.now more_body)) }
+    ensures full { OnErr result (LacksRoom (vec_capacity out.old) (vec_len out.old) (front.now ++ steps.coded_text content.coding (steps.is_sent content.trailing) body.now more_body)) }
 {
-    match coding {
+    match content.coding {
         Coding::Nothing => out.extend_from_slice(front),
         Coding::Plain => append_two(out, front, body),
-        Coding::Chunked => append_chunk(front, body, more_body, out),
+        Coding::Chunked => append_chunk(front, body, content.trailing, more_body, out),
     }
 }
 
-/// Appends the front, the body as a chunk if it has bytes, and the last chunk if no more follow.
+/// Appends the front, the body as a chunk if it has bytes, and the end of the content if no more
+/// bodies follow.
 fn append_chunk(
     front: &[u8],
     body: &[u8],
+    trailing: Trailing,
     more_body: bool,
     out: &mut Vec<u8>,
 ) -> Result<(), AllocError>
-    ensures ok { OnOk result (out.new.items ≡ out.old.items ++ (front.now ++ contents.part_text true body.now more_body)) }
+    ensures ok { OnOk result (out.new.items ≡ out.old.items ++ (front.now ++ contents.part_text true (steps.is_sent trailing) body.now more_body)) }
     ensures err { OnErr result (out.new.items ≡ out.old.items) }
-    ensures full { OnErr result (LacksRoom (vec_capacity out.old) (vec_len out.old) (front.now ++ contents.part_text true body.now more_body)) }
+    ensures full { OnErr result (LacksRoom (vec_capacity out.old) (vec_len out.old) (front.now ++ contents.part_text true (steps.is_sent trailing) body.now more_body)) }
 {
-    let last = last_chunk(more_body);
     if body.is_empty() {
-        return append_two(out, front, last);
+        return append_two(out, front, content_end(trailing, more_body));
     }
     let mut buffer = [0; 16];
     let at = hexadecimal(body.len(), &mut buffer);
-    append_sized(out, front, &buffer[at..], body, last)
+    append_sized(
+        out,
+        front,
+        &buffer[at..],
+        body,
+        data_end(trailing, more_body),
+    )
 }
 
 /// Appends two texts.
@@ -386,37 +463,54 @@ fn append_two<'a>(out: &mut Vec<u8>, front: &'a [u8], text: &'a [u8]) -> Result<
     append_all(out, &[front, text])
 }
 
-/// Appends the front, a chunk of this size, and what follows it.
+/// Appends the front, the data of a chunk after its size, and what follows the data.
 fn append_sized<'a>(
     out: &mut Vec<u8>,
     front: &'a [u8],
     size: &'a [u8],
     body: &'a [u8],
-    last: &'a [u8],
+    end: &'a [u8],
 ) -> Result<(), AllocError>
-    ensures ok { OnOk result (out.new.items ≡ out.old.items ++ (front.now ++ (size.now ++ crlf_bytes ++ body.now ++ crlf_bytes ++ last.now))) }
+    ensures ok { OnOk result (out.new.items ≡ out.old.items ++ (front.now ++ (size.now ++ crlf_bytes ++ body.now ++ end.now))) }
     ensures err { OnErr result (out.new.items ≡ out.old.items) }
-    ensures full { OnErr result (LacksRoom (vec_capacity out.old) (vec_len out.old) (front.now ++ (size.now ++ crlf_bytes ++ body.now ++ crlf_bytes ++ last.now))) }
+    ensures full { OnErr result (LacksRoom (vec_capacity out.old) (vec_len out.old) (front.now ++ (size.now ++ crlf_bytes ++ body.now ++ end.now))) }
 {
-    out.reserve(total_len(&[front, size, CRLF, body, CRLF, last])?)?;
+    out.reserve(total_len(&[front, size, CRLF, body, end])?)?;
     // The room is reserved, so these never fail: only their type allows an error.
     out.extend_from_slice(front)?;
     out.extend_from_slice(size)?;
     out.extend_from_slice(CRLF)?;
     out.extend_from_slice(body)?;
-    out.extend_from_slice(CRLF)?;
-    out.extend_from_slice(last)?;
+    out.extend_from_slice(end)?;
     Ok(())
 }
 
-/// The last chunk, if no more bodies follow.
-fn last_chunk(more_body: bool) -> &'static [u8]
-    ensures { result.now ≡ (if not more_body then contents.last_chunk else []) }
+/// What follows the data of a chunk: the end of its line, and the end of the content if no more
+/// bodies follow.
+fn data_end(trailing: Trailing, more_body: bool) -> &'static [u8]
+    ensures { result.now ≡ crlf_bytes ++ (if not more_body then contents.content_end (steps.is_sent trailing) else []) }
+{
+    if more_body {
+        return CRLF;
+    }
+    if trailing.is_sent() {
+        return DATA_END_AND_LAST_CHUNK;
+    }
+    DATA_END_AND_CONTENT_END
+}
+
+/// What ends chunked content, if no more bodies follow: the last chunk, and if no trailers are sent
+/// an empty trailer section.
+fn content_end(trailing: Trailing, more_body: bool) -> &'static [u8]
+    ensures { result.now ≡ (if not more_body then contents.content_end (steps.is_sent trailing) else []) }
 {
     if more_body {
         return &[];
     }
-    LAST_CHUNK
+    if trailing.is_sent() {
+        return LAST_CHUNK;
+    }
+    CONTENT_END
 }
 
 /// Appends what replaces a response that never began.

@@ -6,6 +6,7 @@ mod memory;
 mod progress;
 mod responses;
 mod statuses;
+mod trailers;
 
 use asgi_response::{Input, ResponseText};
 use asgi_types::{
@@ -22,6 +23,7 @@ struct Ask {
     head_only: bool,
     close: bool,
     expect: bool,
+    trailers_ok: bool,
     framing: Framing,
 }
 
@@ -31,6 +33,17 @@ const GET: Ask = Ask {
     head_only: false,
     close: false,
     expect: false,
+    trailers_ok: false,
+    framing: Framing::Length(0),
+};
+
+/// The same of a client that takes trailers.
+const TAKING: Ask = Ask {
+    version: HttpVersion::V11,
+    head_only: false,
+    close: false,
+    expect: false,
+    trailers_ok: true,
     framing: Framing::Length(0),
 };
 
@@ -40,6 +53,7 @@ const OLD: Ask = Ask {
     head_only: false,
     close: true,
     expect: false,
+    trailers_ok: false,
     framing: Framing::Length(0),
 };
 
@@ -48,6 +62,7 @@ const HEAD: Ask = Ask {
     head_only: true,
     close: false,
     expect: false,
+    trailers_ok: false,
     framing: Framing::Length(0),
 };
 
@@ -56,6 +71,7 @@ const EXPECTING: Ask = Ask {
     head_only: false,
     close: false,
     expect: true,
+    trailers_ok: false,
     framing: Framing::Length(0),
 };
 
@@ -64,6 +80,7 @@ const CLOSING: Ask = Ask {
     head_only: false,
     close: true,
     expect: false,
+    trailers_ok: false,
     framing: Framing::Length(0),
 };
 
@@ -73,6 +90,7 @@ const HANDSHAKE: Ask = Ask {
     head_only: false,
     close: false,
     expect: true,
+    trailers_ok: false,
     framing: Framing::Upgrade,
 };
 
@@ -94,6 +112,10 @@ type Fields = &'static [(&'static str, &'static str)];
 #[derive(Clone, Copy)]
 enum Say {
     Start(u16, Fields),
+    /// A start that announces trailers.
+    Announce(u16, Fields),
+    Trailers(Fields),
+    LastTrailers(Fields),
     Part(&'static str),
     Last(&'static str),
     /// A last body of this many letters `z`.
@@ -114,6 +136,7 @@ impl Ask {
             head_only: self.head_only,
             close: self.close,
             expect: self.expect,
+            trailers_ok: self.trailers_ok,
             framing: self.framing,
             key: [0; 24],
             subprotocols: Names::new(alloc),
@@ -124,10 +147,10 @@ impl Ask {
 impl Say {
     fn event(self, alloc: Global) -> Result<Outgoing, HeaderError> {
         match self {
-            Say::Start(status, fields) => {
-                let headers = headers_of(alloc, fields)?;
-                Ok(Outgoing::ResponseStart { status, headers })
-            }
+            Say::Start(status, fields) => start(alloc, status, fields, false),
+            Say::Announce(status, fields) => start(alloc, status, fields, true),
+            Say::Trailers(fields) => section(alloc, fields, true),
+            Say::LastTrailers(fields) => section(alloc, fields, false),
             Say::Part(text) => Ok(Outgoing::ResponseBody {
                 body: body_of(alloc, text)?,
                 more_body: true,
@@ -166,6 +189,28 @@ impl Say {
             Say::StopComplete => Ok(Outgoing::ShutdownComplete),
         }
     }
+}
+
+fn start(
+    alloc: Global,
+    status: u16,
+    fields: Fields,
+    trailers: bool,
+) -> Result<Outgoing, HeaderError> {
+    let headers = headers_of(alloc, fields)?;
+    Ok(Outgoing::ResponseStart {
+        status,
+        headers,
+        trailers,
+    })
+}
+
+fn section(alloc: Global, fields: Fields, more_trailers: bool) -> Result<Outgoing, HeaderError> {
+    let headers = headers_of(alloc, fields)?;
+    Ok(Outgoing::ResponseTrailers {
+        headers,
+        more_trailers,
+    })
 }
 
 fn headers_of(alloc: Global, fields: Fields) -> Result<Headers, HeaderError> {

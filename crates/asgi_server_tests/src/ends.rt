@@ -29,6 +29,7 @@ impl Application for Ends {
         says.add(Outgoing::ResponseStart {
             status: 200,
             headers: Headers::new(alloc),
+            trailers: false,
         })?;
         says.add(Outgoing::ResponseBody {
             body: Octets::new(ends_of(alloc, scope)?),

@@ -183,6 +183,50 @@ fn a_task_that_does_not_answer_is_500(rt: HostRuntime) -> Result<(), Fail> {
     check(&rt, UNANSWERED)
 }
 
+/// Trailers are of a response to a request: neither a session nor a denial has any. After the end of either they are
+/// refused as all else.
+const TRAILERS: &[Row] = &[
+    (
+        App::Scripted(&[
+            CONNECTS,
+            Step::IsRefused(Said::Trailers, 3),
+            Step::Says(Said::Denial(401, &[])),
+            Step::IsRefused(Said::Trailers, 3),
+            Step::Says(Said::Last("no")),
+            Step::IsRefused(Said::Trailers, 1),
+        ]),
+        &[HANDSHAKE],
+        Written::Just(&[DENIED, LAST_CHUNK]),
+        FINISHED,
+    ),
+    (
+        App::Scripted(&[
+            CONNECTS,
+            Step::Says(Said::Accept("", &[])),
+            Step::IsRefused(Said::Trailers, 3),
+            LOSES,
+            Step::IsRefused(Said::Trailers, 2),
+        ]),
+        &[HANDSHAKE],
+        Written::Just(&[ACCEPTED]),
+        (Outcome::InputBroke, 1, 0),
+    ),
+    (
+        App::Scripted(&[
+            Step::Says(Said::Close(1000, "")),
+            Step::IsRefused(Said::Trailers, 1),
+        ]),
+        &[HANDSHAKE],
+        Written::Just(&[FORBIDDEN]),
+        FINISHED,
+    ),
+];
+
+#[test]
+fn a_session_has_no_trailers(rt: HostRuntime) -> Result<(), Fail> {
+    check(&rt, TRAILERS)
+}
+
 /// The application accepts, and the server closes once its task has ended.
 const ACCEPTS: &[Row] = &[
     (

@@ -29,6 +29,8 @@ pub enum Said {
     Start(u16, Fields),
     /// The whole body of it.
     Body(&'static str),
+    /// Its last trailers, without a field.
+    Trailers,
 }
 
 /// An event that is received.
@@ -81,10 +83,15 @@ impl Said {
             Said::Start(status, fields) => Ok(Outgoing::ResponseStart {
                 status,
                 headers: headers(alloc, fields)?,
+                trailers: false,
             }),
             Said::Body(text) => Ok(Outgoing::ResponseBody {
                 body: octets(alloc, text)?,
                 more_body: false,
+            }),
+            Said::Trailers => Ok(Outgoing::ResponseTrailers {
+                headers: Headers::new(alloc),
+                more_trailers: false,
             }),
         }
     }

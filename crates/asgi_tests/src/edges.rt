@@ -231,6 +231,7 @@ fn facts(alloc: Global, version: HttpVersion) -> Facts {
         head_only: false,
         close: version == HttpVersion::V10,
         expect: false,
+        trailers_ok: false,
         framing: Framing::Length(0),
         key: [0; 24],
         subprotocols: Names::new(alloc),
@@ -252,6 +253,7 @@ fn start(alloc: Global, count: usize) -> Result<Outgoing, HeaderError> {
     Ok(Outgoing::ResponseStart {
         status: 200,
         headers,
+        trailers: false,
     })
 }
 

@@ -6,9 +6,10 @@ use asgi_conn::{
     Step,
 };
 use asgi_fakes::texts::{
-    BAD_REQUEST, CONTINUE, ECHO_HEAD, GET, HELLO, HELLO_AND_CLOSE, LAST_CHUNK, TWO_REQUESTS,
+    BAD_REQUEST, CONTINUE, ECHO_HEAD, GET, GET_TAKING_TRAILERS, HELLO, HELLO_AND_CLOSE, LAST_CHUNK,
+    PLAIN_HEAD, TWO_REQUESTS,
 };
-use asgi_fakes::{Memory, Pieces, Way, line_of, serve, text_of};
+use asgi_fakes::{Memory, Pieces, Said, Sends, Way, line_of, serve, text_of};
 use asgi_types::{Limits, State};
 use futures::task::{Doorbell, Solo};
 use std::alloc::Global;
@@ -176,6 +177,76 @@ const ECHOES: &[Row] = &[
     ),
 ];
 
+const START: Said = Said::Announce(200, &[]);
+
+/// The content `x`, and two trailers.
+const TRAILS: Sends = Sends(&[
+    START,
+    Said::Last("x"),
+    Said::Trailers(&[("x-sum", "7")]),
+    Said::LastTrailers(&[("x-end", "y")]),
+]);
+
+/// Announces trailers that do not come.
+const UNTRAILED: Sends = Sends(&[START, Said::Last("x")]);
+
+/// The chunk `x`.
+const X: &[u8] = b"1\r\nx\r\n";
+
+/// The last chunk, and a trailer section with two fields.
+const SECTION: &[u8] = b"0\r\nx-sum: 7\r\nx-end: y\r\n\r\n";
+
+const TAKING_AND_NOT: &[u8] =
+    b"GET / HTTP/1.1\r\nHost: a\r\nTE: trailers\r\n\r\nGET / HTTP/1.1\r\nHost: a\r\n\r\n";
+
+/// By `TRAILS`.
+const TRAILERS: &[Row] = &[
+    (
+        GET_TAKING_TRAILERS,
+        4_096,
+        false,
+        &[PLAIN_HEAD, X, SECTION],
+        Outcome::Finished,
+        1,
+    ),
+    (
+        TAKING_AND_NOT,
+        4_096,
+        false,
+        &[PLAIN_HEAD, X, SECTION, PLAIN_HEAD, X, LAST_CHUNK],
+        Outcome::Finished,
+        2,
+    ),
+    (
+        TAKING_AND_NOT,
+        1,
+        true,
+        &[PLAIN_HEAD, X, SECTION, PLAIN_HEAD, X, LAST_CHUNK],
+        Outcome::Finished,
+        2,
+    ),
+];
+
+/// By `UNTRAILED`.
+const NO_TRAILERS: &[Row] = &[
+    (
+        TAKING_AND_NOT,
+        4_096,
+        false,
+        &[PLAIN_HEAD, X, b"0\r\n"],
+        Outcome::Finished,
+        1,
+    ),
+    (
+        TAKING_AND_NOT,
+        7,
+        true,
+        &[PLAIN_HEAD, X, b"0\r\n"],
+        Outcome::Finished,
+        1,
+    ),
+];
+
 fn pieces_of(row: &Row) -> Pieces<'static> {
     let mut pieces = Pieces::new(row.0, row.1, row.1);
     if row.2 {
@@ -265,6 +336,20 @@ fn turns_by_hand_greet_as_the_loop_does(rt: HostRuntime) -> Result<(), Fail> {
 fn turns_by_hand_echo_as_the_loop_does(rt: HostRuntime) -> Result<(), Fail> {
     for (place, row) in ECHOES.iter().enumerate() {
         assert!(rt; is_row(&rt, &Echo, row)?, "row {place}");
+    }
+    Ok(())
+}
+
+#[test]
+fn turns_by_hand_send_trailers_as_the_loop_does(rt: HostRuntime) -> Result<(), Fail> {
+    for (place, row) in TRAILERS.iter().enumerate() {
+        assert!(rt; is_row(&rt, &TRAILS, row)?, "row {place}");
+    }
+    for (place, row) in NO_TRAILERS.iter().enumerate() {
+        assert!(rt;
+            is_row(&rt, &UNTRAILED, row)?,
+            "row {place} without trailers"
+        );
     }
     Ok(())
 }

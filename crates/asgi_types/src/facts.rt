@@ -1,5 +1,6 @@
 //! What a server keeps of a request for its response.
 ghost use Rattle.std.specs.Prelude.{◌≡◌, [], IfOk, IsOk};
+ghost use Rattle.asgi_types.specs.Plain.{plain_request};
 
 use crate::{HttpVersion, Names};
 use std::alloc::{AllocError, Global};
@@ -26,6 +27,9 @@ pub struct Facts {
     pub close: bool,
     /// The client waits for `100 Continue` before it sends its body (RFC 9110, section 10.1.1).
     pub expect: bool,
+    /// The client takes trailer fields: a request of HTTP/1.1 with the token `trailers` in `te` (RFC
+    /// 9110, sections 6.5.1 and 10.1.4).
+    pub trailers_ok: bool,
     /// How the body of the request is delimited.
     pub framing: Framing,
     /// The value of `sec-websocket-key`, 16 bytes in base64 (RFC 6455, section 4.1); zero bytes if
@@ -37,6 +41,23 @@ pub struct Facts {
 }
 
 impl Facts {
+    /// What is kept of a plain request: HTTP/1.1, by another method than HEAD, without a body or a
+    /// wish of its own, and no opening handshake. It takes no memory.
+    pub fn plain(alloc: Global) -> Self
+        ensures { result ≡ plain_request }
+    {
+        Facts {
+            version: HttpVersion::V11,
+            head_only: false,
+            close: false,
+            expect: false,
+            trailers_ok: false,
+            framing: Framing::Length(0),
+            key: [0; 24],
+            subprotocols: Names::new(alloc),
+        }
+    }
+
     /// A copy of the facts, in memory of its own; `AllocError` if that is refused. To copy no
     /// subprotocols takes no memory.
     pub fn copy(&self, alloc: Global) -> Result<Self, AllocError>
@@ -49,6 +70,7 @@ impl Facts {
             head_only: self.head_only,
             close: self.close,
             expect: self.expect,
+            trailers_ok: self.trailers_ok,
             framing: self.framing,
             key: self.key,
             subprotocols,

@@ -30,4 +30,4 @@ pub use outgoing::{HttpVersion, Outgoing};
 pub use reason::Reason;
 pub use scope::{Asgi, Extensions, HttpScope, Kind, LifespanScope, Peer, Scope, WsScope};
 pub use state::{State, StateError, StateValue};
-pub use tokens::trimmed;
+pub use tokens::{lists_token, trimmed};

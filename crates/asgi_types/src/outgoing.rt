@@ -14,17 +14,25 @@ pub enum HttpVersion {
 /// protocol 2.0).
 #[derive(Debug, Drop)]
 pub enum Outgoing {
-    /// "Response Start": the status code of a final response (RFC 9110, section 15), and its
-    /// fields.
+    /// "Response Start": the status code of a final response (RFC 9110, section 15), its fields, and
+    /// whether trailer fields follow the content (extension `http.response.trailers`).
     ResponseStart {
         status: u16,
         headers: Headers,
+        trailers: bool,
     },
     /// "Response Body": a part of the content, without its framing; the last if `more_body` is
     /// false.
     ResponseBody {
         body: Octets,
         more_body: bool,
+    },
+    /// "Response Trailers" (extension `http.response.trailers`), after the last body of a response
+    /// whose start has announced them: trailer fields (RFC 9110, section 6.5); the last if
+    /// `more_trailers` is false.
+    ResponseTrailers {
+        headers: Headers,
+        more_trailers: bool,
     },
     /// "Accept": the session begins, with one of the offered subprotocols or with none.
     WsAccept {

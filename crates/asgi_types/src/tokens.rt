@@ -24,8 +24,10 @@ fn is_listed(field_name: &[u8], value: &[u8], name: &[u8], token: &[u8]) -> bool
     field_name == name && lists_token(value, token)
 }
 
-/// Whether the token is among the parts between commas, in any case.
-fn lists_token(value: &[u8], token: &[u8]) -> bool
+/// Whether the token is among the parts between commas, in any case. For the crates of this
+/// repository only.
+#[doc(hidden)]
+pub fn lists_token(value: &[u8], token: &[u8]) -> bool
     ensures { result ≡ spec.lists_token value.now token.now }
 {
     value

@@ -223,6 +223,7 @@ fn bare_facts(alloc: Global) -> Facts {
         head_only: false,
         close: false,
         expect: true,
+        trailers_ok: false,
         framing: Framing::Length(0),
         key: [0; 24],
         subprotocols: Names::new(alloc),
@@ -230,7 +231,11 @@ fn bare_facts(alloc: Global) -> Facts {
 }
 
 fn are_bare_flags(held: &Facts) -> bool {
-    held.version == HttpVersion::V11 && !held.head_only && !held.close && held.expect
+    held.version == HttpVersion::V11
+        && !held.head_only
+        && !held.close
+        && held.expect
+        && !held.trailers_ok
 }
 
 fn are_bare(held: &Facts) -> bool {
@@ -238,6 +243,21 @@ fn are_bare(held: &Facts) -> bool {
         && held.framing == Framing::Length(0)
         && held.key.as_slice() == [0; 24].as_slice()
         && has_no_names(&held.subprotocols)
+}
+
+/// What is kept of a request that asks for nothing: the same, but that it waits for nothing either.
+fn are_plain(held: &Facts) -> bool {
+    held.version == HttpVersion::V11
+        && !(held.head_only || held.close || held.expect || held.trailers_ok)
+        && held.framing == Framing::Length(0)
+        && held.key.as_slice() == [0; 24].as_slice()
+        && has_no_names(&held.subprotocols)
+}
+
+#[test]
+fn a_plain_request_asks_for_nothing(rt: HostRuntime) -> Result<(), Fail> {
+    assert!(rt; of(Facts::plain(rt.alloc()), are_plain));
+    Ok(())
 }
 
 fn are_bare_copied(alloc: Global, held: &Facts) -> Result<bool, AllocError> {

@@ -434,6 +434,7 @@ pub fn facts(alloc: Global, framing: Framing) -> Result<Facts, AllocError> {
         head_only: true,
         close: true,
         expect: false,
+        trailers_ok: true,
         framing,
         key: *b"dGhlIHNhbXBsZSBub25jZQ==",
         subprotocols,
@@ -441,7 +442,11 @@ pub fn facts(alloc: Global, framing: Framing) -> Result<Facts, AllocError> {
 }
 
 fn are_flags(held: &Facts) -> bool {
-    held.version == HttpVersion::V10 && held.head_only && held.close && !held.expect
+    held.version == HttpVersion::V10
+        && held.head_only
+        && held.close
+        && !held.expect
+        && held.trailers_ok
 }
 
 pub fn are_facts(held: &Facts, framing: Framing) -> bool {

@@ -21,6 +21,7 @@ fn facts(alloc: Global) -> Facts {
         head_only: false,
         close: false,
         expect: false,
+        trailers_ok: false,
         framing: Framing::Upgrade,
         key: *KEY,
         subprotocols: Names::new(alloc),

@@ -315,12 +315,19 @@ fn content(payload: &Payload) -> u16 {
 
 fn shown_said(event: &Outgoing) -> Answer {
     match event {
-        Outgoing::ResponseStart { status, headers: _ } => Answer::Event("start", *status),
+        Outgoing::ResponseStart { status, .. } => Answer::Event("start", *status),
         Outgoing::ResponseBody { body, more_body } => {
             if *more_body {
                 Answer::Event("body", first(body.bytes()))
             } else {
                 Answer::Event("last", first(body.bytes()))
+            }
+        }
+        Outgoing::ResponseTrailers { more_trailers, .. } => {
+            if *more_trailers {
+                Answer::Event("trailers", 0)
+            } else {
+                Answer::Event("last trailers", 0)
             }
         }
         Outgoing::WsAccept { .. } => Answer::Event("accept", 0),

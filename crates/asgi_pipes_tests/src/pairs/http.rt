@@ -83,6 +83,46 @@ fn nothing_is_heard_after_a_complete_response(rt: HostRuntime) -> Result<(), Fai
     check(&rt, Kind::Http, 3, true, COMPLETE_RESPONSE, (2, 1))
 }
 
+/// After the last body of a response that has announced trailers, what is offered is still received; after the last
+/// trailers only disconnects are.
+const TRAILERS_ARE_DUE: &[Row] = &[
+    (Step::Announce(200), Answer::Done),
+    (Step::Trailers, Answer::Refused(4)),
+    (Step::LastBody(1), Answer::Done),
+    (Step::Receive, Answer::Pending),
+    (Step::Offer(1), Answer::Taken),
+    (Step::Receive, Answer::Event("body", 1)),
+    (Step::LastBody(2), Answer::Refused(4)),
+    (Step::Trailers, Answer::Done),
+    (Step::Receive, Answer::Pending),
+    (Step::Offer(2), Answer::Taken),
+    (Step::LastTrailers, Answer::Done),
+    (Step::Receive, DISCONNECT),
+    (Step::Receive, DISCONNECT),
+    (Step::LastTrailers, Answer::Ignored),
+    (Step::Take, Answer::Event("start", 200)),
+    (Step::Take, Answer::Event("last", 1)),
+    (Step::Take, Answer::Event("trailers", 0)),
+    (Step::Take, Answer::Event("last trailers", 0)),
+    (Step::Take, Answer::Nothing),
+];
+
+/// A disconnect that is offered while trailers are due is received, and they are refused from then on.
+const TRAILERS_ARE_LEFT: &[Row] = &[
+    (Step::Announce(200), Answer::Done),
+    (Step::LastBody(1), Answer::Done),
+    (Step::Break, Answer::Yes),
+    (Step::Receive, DISCONNECT),
+    (Step::LastTrailers, Answer::Refused(2)),
+    (Step::Receive, DISCONNECT),
+];
+
+#[test]
+fn last_trailers_close_and_not_the_body_before_them(rt: HostRuntime) -> Result<(), Fail> {
+    check(&rt, Kind::Http, 4, true, TRAILERS_ARE_DUE, (1, 0))?;
+    check(&rt, Kind::Http, 4, true, TRAILERS_ARE_LEFT, (0, 2))
+}
+
 /// After a received disconnect nothing passes.
 const AFTER_A_DISCONNECT: &[Row] = &[
     (Step::Start(204), Answer::Done),

@@ -24,6 +24,75 @@ fn a_response_is_a_start_bodies_and_a_last_body(rt: HostRuntime) -> Result<(), F
     judges(&rt, Kind::Http, "in order", IN_ORDER)
 }
 
+const TRAILERS: &[(Step, Verdict)] = &[
+    (Step::Trailers(""), Verdict::Refused(4)),
+    (Step::Announce(200, ""), PASS),
+    (Step::LastTrailers(""), Verdict::Refused(4)),
+    (Step::Body(1), PASS),
+    (Step::Trailers("x-sum: 7"), Verdict::Refused(4)),
+    (Step::LastBody(1), PASS),
+    (Step::LastBody(1), Verdict::Refused(4)),
+    (Step::Body(0), Verdict::Refused(4)),
+    (Step::Start(200, ""), Verdict::Refused(4)),
+    (Step::LastTrailers("content-length: 1"), Verdict::Refused(6)),
+    (
+        Step::Trailers("x-sum: 7, Transfer-Encoding: chunked"),
+        Verdict::Refused(6),
+    ),
+    (Step::Trailers("connection: close"), Verdict::Refused(6)),
+    (Step::Trailers("x-sum: 7"), PASS),
+    (Step::Trailers(""), PASS),
+    (Step::Send, Verdict::Refused(3)),
+    (
+        Step::LastTrailers("host: a, authorization: b, content-type: c"),
+        PASS,
+    ),
+    (Step::LastTrailers(""), IGNORED),
+    (Step::LastTrailers("content-length: 1"), IGNORED),
+];
+
+const NO_TRAILERS: &[(Step, Verdict)] = &[
+    (Step::Start(200, ""), PASS),
+    (Step::Trailers(""), Verdict::Refused(4)),
+    (Step::LastBody(1), PASS),
+    (Step::LastTrailers(""), IGNORED),
+];
+
+const TRAILERS_AFTER_A_LENGTH: &[(Step, Verdict)] = &[
+    (Step::Announce(200, "content-length: 3"), PASS),
+    (Step::LastBody(2), Verdict::Refused(11)),
+    (Step::LastBody(4), Verdict::Refused(10)),
+    (Step::LastBody(3), PASS),
+    (Step::Body(0), Verdict::Refused(4)),
+    (Step::LastTrailers(""), PASS),
+    (Step::Body(0), IGNORED),
+];
+
+#[test]
+fn trailers_follow_the_content_that_announced_them(rt: HostRuntime) -> Result<(), Fail> {
+    judges(&rt, Kind::Http, "trailers", TRAILERS)?;
+    judges(&rt, Kind::Http, "no trailers", NO_TRAILERS)?;
+    judges(&rt, Kind::Http, "a length", TRAILERS_AFTER_A_LENGTH)
+}
+
+const TRAILERS_LEFT: [Part; 2] = [
+    (
+        "before",
+        &[],
+        &[(Step::Announce(200, ""), PASS), (Step::LastBody(1), PASS)],
+    ),
+    (
+        "after",
+        &[Heard::HttpDisconnect],
+        &[(Step::LastTrailers(""), Verdict::Refused(2))],
+    ),
+];
+
+#[test]
+fn trailers_are_refused_after_a_disconnect(rt: HostRuntime) -> Result<(), Fail> {
+    judges_hearing(&rt, Kind::Http, &TRAILERS_LEFT)
+}
+
 const LENGTH_5: &[(Step, Verdict)] = &[
     (Step::Start(200, "content-length: 5"), PASS),
     (Step::LastBody(6), Verdict::Refused(10)),

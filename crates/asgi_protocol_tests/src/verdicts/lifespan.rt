@@ -9,6 +9,7 @@ const COMPLETE: &[(Step, Verdict)] = &[
     (Step::Stopped, Verdict::Refused(4)),
     (Step::NotStopped, Verdict::Refused(4)),
     (Step::Start(200, ""), Verdict::Refused(3)),
+    (Step::LastTrailers(""), Verdict::Refused(3)),
     (Step::Started, PASS),
     (Step::Started, Verdict::Refused(4)),
     (Step::NotStarted, Verdict::Refused(4)),

@@ -8,6 +8,7 @@ use std::test::Fail;
 const A_SESSION: &[(Step, Verdict)] = &[
     (Step::Send, Verdict::Refused(4)),
     (Step::Start(200, ""), Verdict::Refused(3)),
+    (Step::Trailers(""), Verdict::Refused(3)),
     (Step::Accept("soap", ""), Verdict::Refused(9)),
     (Step::Accept("Chat", ""), Verdict::Refused(9)),
     (Step::Accept("chat", "upgrade: x"), Verdict::Refused(6)),

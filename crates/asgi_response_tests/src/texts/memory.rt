@@ -2,7 +2,7 @@
 //! call can be made again. `tests/memory.py` runs these with each allocation refused in turn.
 
 use super::{
-    EXPECTING, GET, HANDSHAKE, OLD, REFUSED_413, REFUSED_426, REFUSED_500, Row, Say, fresh,
+    EXPECTING, GET, HANDSHAKE, OLD, REFUSED_413, REFUSED_426, REFUSED_500, Row, Say, TAKING, fresh,
 };
 use asgi_response::{Input, ResponseText};
 use asgi_types::{HeaderError, Outgoing};
@@ -31,6 +31,17 @@ const ROWS: &[Row] = &[
         GET,
         &[Say::Start(204, &[]), Say::Last("")],
         "HTTP/1.1 204 No Content\r\n\r\n",
+    ),
+    (
+        "trailers",
+        TAKING,
+        &[
+            Say::Announce(200, &[]),
+            Say::Last("x"),
+            Say::Trailers(&[("x-sum", "7")]),
+            Say::LastTrailers(&[("x-end", "y")]),
+        ],
+        "HTTP/1.1 200 OK\r\ntransfer-encoding: chunked\r\n\r\n1\r\nx\r\n0\r\nx-sum: 7\r\nx-end: y\r\n\r\n",
     ),
     (
         "a denial",

@@ -1,8 +1,10 @@
-use Rattle.std.proofs.Common.{[], ◌∷◌, ◌++◌, sym, ap, ◌∙◌}
+use Rattle.std.proofs.Common.{◌≡◌, [], ◌∷◌, ◌++◌, sym, ap, ◌∙◌}
 use Rattle.std.specs.Prelude.{◌||◌}
-use Rattle.std.proofs.Math.Logic.{∥∥₁_map}
-use Rattle.asgi_pipes.specs.private.Closings.{closing_of}
-use Rattle.asgi_pipes.specs.Disconnects.{is_accept}
+use Rattle.std.proofs.Math.Logic.{∥∥₁_elim, ∥∥₁_map}
+use denote.Struct.Props.{props}
+use Rattle.asgi_protocol.specs.Shapes.{is_closed}
+use Rattle.asgi_pipes.specs.Disconnects.{is_accept, has_disconnect}
+use Rattle.asgi_pipes.specs.private.Closings.{at_once_after}
 use Rattle.asgi_pipes.proofs.ClosingLemmas.{accepted-append, passed, answer_after, nothing_at_once, nothing_kept}
 use Rattle.asgi_pipes.proofs.DisconnectLemmas.{hears_said}
 use Rattle.asgi_pipes.proofs.app_state.AppState.say.Goals as goal
@@ -18,9 +20,14 @@ invariant_of-self-clause-opened c =
 pub invariant_of-self-clause-at_once : goal.invariant_of-self-clause-at_once
 invariant_of-self-clause-at_once c =
     let s = c.args.self.now in
+    let e = c.args.event.now in
+    let said = s.said.items ++ e ∷ [] in
+    let closed : c.is_closed-is_closed.result ≡ is_closed s.kind said =
+    ∥∥₁_elim c.requires.judge (Prim.hlevel props) (λ stands. c.is_closed-is_closed.ensures s.kind s.facts said (has_disconnect s.heard.items) stands) in
     rw c.with.ensures
-    (c.keep_after.ensures ∙ ap (λ b. closing_of b c.args.event.now) s.opened
-    ∙ sym (answer_after s.kind s.said.items s.heard.items c.args.event.now (passed s.kind s.facts s.said.items s.heard.items c.args.event.now c.requires.passes)))
+    (c.keep_after.ensures ∙ ap (λ b. at_once_after b s.kind c.opens-self.result e) closed
+    ∙ ap (λ b. at_once_after (is_closed s.kind said) s.kind b e) (c.opens-self.ensures ∙ ap (λ b. b || is_accept e) s.opened)
+    ∙ sym (answer_after s.kind s.said.items s.heard.items e (passed s.kind s.facts s.said.items s.heard.items e c.requires.passes)))
 
 pub invariant_of-self-clause-hears_is : goal.invariant_of-self-clause-hears_is
 invariant_of-self-clause-hears_is c =

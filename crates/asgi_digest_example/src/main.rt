@@ -1,0 +1,40 @@
+//! An application that sends trailers, and a program that serves one connection by it, from standard
+//! input to standard output.
+#![tactic(auto)]
+
+mod digested;
+
+use asgi_conn::{CountingPause, Inline, serve_connection};
+use asgi_types::{Limits, State};
+use asgi_ws::{Pair, Wired};
+use digested::Digested;
+use futures::task::{Doorbell, Solo};
+use std::process::ExitCode;
+
+fn main(rt: HostRuntime) -> ExitCode {
+    let Ok(solo) = Solo::new(&rt, Doorbell::spinning()) else {
+        return ExitCode::from(5);
+    };
+    let pair = Pair {
+        reader: rt.stdin(),
+        writer: rt.stdout(),
+    };
+    let mut line = Wired::new(rt.alloc(), pair);
+    let mut runner = Inline::new(solo.begin());
+    let mut pause = CountingPause::new();
+    let limits = Limits::usual();
+    let state = State::new(rt.alloc());
+    let _report = serve_connection(
+        &rt,
+        &limits,
+        &None,
+        &None,
+        &state,
+        &Digested,
+        &mut line,
+        &mut runner,
+        &mut pause,
+    );
+    runner.end();
+    ExitCode::from(0)
+}
