@@ -58,7 +58,8 @@ impl Wire {
     }
 
     /// Reads once, at most `PIECE` bytes, and feeds what came to the reader of requests. `AllocError` if
-    /// memory is refused; then what was read may be lost.
+    /// memory is refused; then what was read may be lost. Inlined, since a byte that comes alone costs a turn.
+    #[inline(always)]
     pub fn read<L: Line>(&mut self, line: &mut L) -> Result<Turn, AllocError>
         requires { has_ended self.old.input ≡ false }
         ensures moved { (more : List ℕ)
