@@ -4,7 +4,7 @@ ghost use Rattle.std.specs.Option.{option_map};
 ghost use Rattle.asgi_types.specs.declared.outgoing.Outgoing.{Outgoing};
 ghost use Rattle.asgi_protocol.specs.Stages.{StandsFor};
 ghost use Rattle.asgi_protocol.specs.Verdicts.{verdict_on};
-ghost use Rattle.asgi_pipes.specs.Disconnects.{has_disconnect, is_accepted, is_accept as is_accept_event, event_of, repeated_in, answer_at_once, Hears};
+ghost use Rattle.asgi_pipes.specs.Disconnects.{has_disconnect, is_accepted, is_accept as is_accept_event, event_of, answer_at_once, Hears};
 
 use crate::disconnect::{Disconnect, is_accept};
 use asgi_io::History;
@@ -83,7 +83,7 @@ impl AppState {
         self.judge.heard(event);
         self.heard = History::with(&self.heard, event);
         self.pulled = History::with(&self.pulled, event);
-        self.disconnect = repeated(self.kind, event);
+        Disconnect::keep_heard(&mut self.disconnect, self.kind, event);
         self.has_moved = true;
     }
 
@@ -147,16 +147,6 @@ impl AppState {
         self.has_moved = false;
         moved
     }
-}
-
-/// The disconnect that is received again after the event.
-fn repeated(kind: Kind, event: &Incoming) -> Option<Disconnect>
-    ensures { option_map event_of result ≡ repeated_in kind event.now }
-{
-    if let Kind::Lifespan = kind {
-        return None;
-    }
-    Disconnect::of(event)
 }
 
 /// Whether a session is accepted by the event, or was before.

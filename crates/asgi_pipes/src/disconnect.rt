@@ -1,7 +1,7 @@
 //! Disconnects, which an application receives again and again.
 ghost use Rattle.std.specs.Prelude.{◌≡◌, [], None, Some};
 ghost use Rattle.std.specs.Option.{option_map};
-ghost use Rattle.asgi_pipes.specs.Disconnects.{event_of, disconnect_in, code_of, is_accept as is_accept_event};
+ghost use Rattle.asgi_pipes.specs.Disconnects.{event_of, disconnect_in, repeated_in, code_of, is_accept as is_accept_event};
 ghost use Rattle.asgi_pipes.specs.private.Closings.{at_once_after, own_after};
 
 use asgi_types::{Incoming, Kind, Outgoing, Reason};
@@ -38,6 +38,20 @@ impl Disconnect {
                 reason: *reason,
             }),
             _ => None,
+        }
+    }
+
+    /// Keeps a disconnect that was received, which in all scopes but a lifespan is received again;
+    /// before it nothing was kept. Most events are none, and then nothing is moved.
+    pub fn keep_heard(kept: &mut Option<Disconnect>, kind: Kind, event: &Incoming)
+        requires { kept.old ≡ None }
+        ensures { option_map event_of kept.new ≡ repeated_in kind event.now }
+    {
+        if let Kind::Lifespan = kind {
+            return;
+        }
+        if let Some(disconnect) = Disconnect::of(event) {
+            *kept = Some(disconnect);
         }
     }
 
