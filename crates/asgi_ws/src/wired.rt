@@ -9,6 +9,7 @@ ghost use Rattle.asgi_io.specs.Counting.{CountsFailures};
 ghost use Rattle.asgi_ws.specs.Streams.{Asks, FailsWith};
 ghost use Rattle.asgi_ws.specs.Streams as asked;
 ghost use Rattle.asgi_ws.specs.declared.messages.Got.TheVariants.{Failed};
+ghost use Rattle.asgi_ws.specs.Sessions.{count_after, is_failed};
 ghost use Rattle.asgi_ws.specs.Wires.{AnswersRead, told_by, leftover_by, held_by};
 
 use crate::calls::{Sending, note_read, note_send};
@@ -118,6 +119,16 @@ fn read_session<S: Stream + Drop>(
     read(alloc, session)
 }
 
+/// Counts a read that failed.
+fn count_read(tally: &mut Tally, answer: &Got)
+    ensures after { tally.new.failures ≡ count_after tally.old.failures (is_failed answer.now) }
+    ensures stays { (tally.new.reads ≡ tally.old.reads) × (tally.new.writes ≡ tally.old.writes) }
+{
+    if let Got::Failed = answer {
+        tally.note_failure();
+    }
+}
+
 impl<S: Stream> Reads for Wired<S> {
     ghost use Rattle.asgi_ws.specs.Sides.{WriteSide};
 
@@ -197,7 +208,7 @@ impl<S: Stream + Drop> Messages for Wired<S> {
     ghost use Rattle.asgi_ws.specs.declared.messages.Put.TheVariants as put;
     ghost use Rattle.asgi_ws.specs.declared.messages.SentMessage.TheVariants as item;
     ghost use Rattle.asgi_ws.specs.declared.messages.Call.TheVariants as call;
-    ghost use Rattle.asgi_ws.specs.Sessions.{is_failed, has_failed, count_after};
+    ghost use Rattle.asgi_ws.specs.Sessions.{has_failed};
     ghost use Rattle.asgi_ws.specs.Wires.{IsSent, IfDone, IfFailed, IfNoMemory, IsRefused, payload_step, closing_step};
 
     ghost calls = { λ w. w.calls.items };
@@ -215,9 +226,7 @@ impl<S: Stream + Drop> Messages for Wired<S> {
             × (self.new.tally.reads ≡ self.old.tally.reads) × (self.new.tally.writes ≡ self.old.tally.writes) }
     {
         let answer = read_session(self.alloc, &self.stream, &mut self.session);
-        if let Got::Failed = &answer {
-            self.tally.note_failure();
-        }
+        count_read(&mut self.tally, &answer);
         note_read(&mut self.calls, answer)
     }
 
@@ -262,7 +271,7 @@ impl<S: Stream + Drop> Messages for Wired<S> {
 
 impl<S: Stream + Drop> Wired<S> {
     ghost use Rattle.asgi_ws.specs.declared.messages.Call.TheVariants as call;
-    ghost use Rattle.asgi_ws.specs.Sessions.{has_failed, count_after};
+    ghost use Rattle.asgi_ws.specs.Sessions.{has_failed};
 
     // Counts a send that failed.
     fn count(&mut self, answer: Put) -> Put
