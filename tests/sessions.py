@@ -383,7 +383,7 @@ class Frames(Case):
                 self.ends_well(served)
 
 
-# What ends a session: why, the bytes, and the close code that section 7.4.1 has for it. A close may be sent or not.
+# What ends a session: why, the bytes, and the code of the close that tells the client (sections 7.1.7 and 7.4.1).
 FAULTS = [
     ("no mask", frame(TEXT, b"Hello", mask=False), PROTOCOL_ERROR),
     ("no mask on a close", frame(CLOSE, mask=False), PROTOCOL_ERROR),
@@ -427,10 +427,7 @@ class Faults(Case):
                 self.assertEqual(client.read(len(HELLO_BACK)), HELLO_BACK)
                 client.write(given)
                 # The client leaves its side open, and the connection ends all the same.
-                back = client.rest()
-                if back:
-                    self.assertEqual((back[0], back[1]), (0x88, len(back) - 2))
-                    self.assertEqual(back[2:4], struct.pack(">H", code))
+                self.assertEqual(client.rest(), answered(CLOSE, struct.pack(">H", code)))
                 self.ends_well(served)
 
     def test_what_comes_before_a_faulty_frame_is_answered(self):
@@ -438,8 +435,7 @@ class Faults(Case):
         client.open()
         client.write(HELLO + HELLO + frame(TEXT, b"Hello", mask=False) + HELLO)
         back = client.rest()
-        self.assertEqual(back[: 2 * len(HELLO_BACK)], 2 * HELLO_BACK)
-        self.assertNotIn(HELLO_BACK, back[2 * len(HELLO_BACK) :])
+        self.assertEqual(back, 2 * HELLO_BACK + answered(CLOSE, struct.pack(">H", PROTOCOL_ERROR)))
         self.ends_well(served)
 
     def test_a_client_that_leaves_ends_the_program(self):

@@ -4,6 +4,7 @@ pub mod Driving
 pub mod Echo
 pub mod Echoing
 pub mod Ends
+pub mod Faults
 pub mod Life
 pub mod Living
 pub mod Mounting

@@ -14,7 +14,7 @@ ghost use Rattle.asgi_apps.specs.Scopes.{kind_of};
 ghost use Rattle.asgi_apps.specs.Promises.{Promise};
 
 use asgi_pipes::AppEnd;
-use asgi_types::Scope;
+use asgi_types::{HeaderError, Scope};
 use futures::task::{Context, Poll};
 use std::alloc::{AllocError, Global};
 use thiserror::Error;
@@ -30,6 +30,21 @@ pub enum AppFault {
     NoMemory(#[from(alloc)] AllocError),
 }
 
+/// A field that was refused is a fault of the application's own, and want of memory stays that.
+impl From<HeaderError> for AppFault {
+    ghost use Rattle.asgi_apps.specs.Faults.{fault_of};
+
+    ghost from_gives = { λ error fault. fault ≡ fault_of error };
+
+    fn from(error: HeaderError) -> AppFault {
+        match error {
+            HeaderError::BadName => AppFault::Failed,
+            HeaderError::BadValue => AppFault::Failed,
+            HeaderError::NoMemory(e) => AppFault::NoMemory(e),
+        }
+    }
+}
+
 /// What an application does in one scope.
 ///
 /// A poll does what it can at once. If it must wait, it is pending and has registered with the
@@ -43,6 +58,11 @@ pub trait AppTask: Drop {
 
     /// Goes on with the work, with the borrowed end. When ready, the task has returned, or has
     /// faulted.
+    ///
+    /// Return `Poll::Pending` only after a call that has registered what wakes the task: a
+    /// `poll_receive` that was pending, or a `poll_send` that was `Full`. If there is more to do at
+    /// once, return `cx.yield_now()`, which asks for another poll. A task that is pending with
+    /// neither would not be polled again; the check refuses it, with `armed` as the open goal.
     fn poll<E: AppEnd>(&mut self, cx: &mut Context<'_>, end: &mut E) -> Poll<Result<(), AppFault>>
         requires open { E.ended end.old ≡ None }
         requires stands { stands self.old (E.kind end.old) (E.heard end.old) (E.said end.old) }

@@ -46,10 +46,8 @@ fn line_of(alloc: Global, scope: &HttpScope) -> Result<Vec<u8>, AllocError> {
 /// The fields of the head, which name the field of the trailers (RFC 9110, section 6.6.2).
 fn fields(alloc: Global) -> Result<Headers, AppFault> {
     let mut headers = Headers::new(alloc);
-    match headers.push(b"trailer", b"content-digest") {
-        Ok(()) => Ok(headers),
-        Err(_) => Err(AppFault::Failed),
-    }
+    headers.push(b"trailer", b"content-digest")?;
+    Ok(headers)
 }
 
 /// The digest of the bytes by SHA-256, in base64 between colons (RFC 8941, section 3.3.5).
@@ -58,8 +56,6 @@ fn trailers_of(alloc: Global, bytes: &[u8]) -> Result<Headers, AppFault> {
     STANDARD.encode_string(&Sha256::digest(bytes), &mut value)?;
     value.push(':')?;
     let mut headers = Headers::new(alloc);
-    match headers.push(b"content-digest", value.as_bytes()) {
-        Ok(()) => Ok(headers),
-        Err(_) => Err(AppFault::Failed),
-    }
+    headers.push(b"content-digest", value.as_bytes())?;
+    Ok(headers)
 }

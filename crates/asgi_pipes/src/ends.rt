@@ -134,6 +134,7 @@ pub trait AppEnd: Drop {
         ensures front { answer_at_once (kind self.old) (said self.old) (heard self.old) ≡ None
             → IfReady result (λ event. (pulled self.new ≡ pulled self.old ++ event ∷ []) × IsPrefix (seen self.old) (event ∷ seen self.new) × (has_moved self.new ≡ true)) }
         ensures pending { OnPending result ((heard self.new ≡ heard self.old) × (pulled self.new ≡ pulled self.old) × (seen self.old ≡ []) × (seen self.new ≡ []) × (has_moved self.new ≡ has_moved self.old) × IsArmed cx.new × task.Hears cx.new (arrivals self.old)) }
+        ensures grows { IsPrefix (heard self.old) (heard self.new) × IsPrefix (pulled self.old) (pulled self.new) }
         ensures same { (said self.new ≡ said self.old) × (ended self.new ≡ ended self.old) × (room self.new ≡ room self.old) }
         ensures scope { (kind self.new ≡ kind self.old) × (facts self.new ≡ facts self.old) }
         ensures tag { (tag self.new ≡ tag self.old) × (ring self.new ≡ ring self.old) }
@@ -151,6 +152,7 @@ pub trait AppEnd: Drop {
         ensures done { IfDone result ((has_moved self.new ≡ true) × (room self.old ≤ room self.new + 1)) }
         ensures full { IfFull result ((room self.old ≡ 0) × (room self.new ≡ 0) × (has_moved self.new ≡ has_moved self.old) × IsArmed cx.new × task.Hears cx.new (vacancies self.old)) }
         ensures turned_away { IfTurnedAway result (self.new ≡ self.old) }
+        ensures grows { IsPrefix (said self.old) (said self.new) }
         ensures same { (heard self.new ≡ heard self.old) × (pulled self.new ≡ pulled self.old) × (seen self.new ≡ seen self.old) × (ended self.new ≡ ended self.old) }
         ensures scope { (kind self.new ≡ kind self.old) × (facts self.new ≡ facts self.old) }
         ensures tag { (tag self.new ≡ tag self.old) × (ring self.new ≡ ring self.old) }

@@ -30,10 +30,8 @@ impl Application for Asked {
 
 fn plain_text(alloc: Global) -> Result<Headers, AppFault> {
     let mut headers = Headers::new(alloc);
-    match headers.push(b"content-type", b"text/plain; charset=utf-8") {
-        Ok(()) => Ok(headers),
-        Err(_) => Err(AppFault::Failed),
-    }
+    headers.push(b"content-type", b"text/plain; charset=utf-8")?;
+    Ok(headers)
 }
 
 fn line_of(alloc: Global, scope: &HttpScope) -> Result<Vec<u8>, AllocError> {

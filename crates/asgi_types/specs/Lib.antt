@@ -1,5 +1,6 @@
 pub mod Fields
 pub mod Lengths
+pub mod Named
 pub mod Plain
 pub mod Spans
 pub mod Ranges

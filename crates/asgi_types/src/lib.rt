@@ -9,6 +9,7 @@ mod headers;
 mod incoming;
 mod lengths;
 mod limits;
+mod named;
 mod names;
 mod octets;
 mod outgoing;

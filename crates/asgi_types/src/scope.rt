@@ -216,7 +216,8 @@ impl Peer {
 }
 
 impl HttpScope {
-    fn copy(&self, alloc: Global) -> Result<Self, AllocError>
+    /// A copy of the scope, in memory of its own; `AllocError` if that is refused.
+    pub fn copy(&self, alloc: Global) -> Result<Self, AllocError>
         ensures { IfOk result (λ copied. copied ≡ self.now) }
     {
         Ok(HttpScope {
@@ -238,7 +239,8 @@ impl HttpScope {
 }
 
 impl WsScope {
-    fn copy(&self, alloc: Global) -> Result<Self, AllocError>
+    /// A copy of the scope, in memory of its own; `AllocError` if that is refused.
+    pub fn copy(&self, alloc: Global) -> Result<Self, AllocError>
         ensures { IfOk result (λ copied. copied ≡ self.now) }
     {
         Ok(WsScope {

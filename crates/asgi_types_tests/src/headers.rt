@@ -158,6 +158,46 @@ fn fields_keep_their_order(rt: HostRuntime) {
     keeps_order(&rt, &mut Headers::new(rt.alloc()));
 }
 
+/// A name, whether a field has it, and the value of the first that does.
+const GOT: &[(&[u8], bool, &[u8])] = &[
+    (b"x-a", true, b"q"),
+    (b"X-A", true, b"q"),
+    (b"host", true, b""),
+    (b"HOST", true, b""),
+    (b"hos", false, b""),
+    (b"hosts", false, b""),
+    (b"", false, b""),
+    (b"q", false, b""),
+];
+
+fn is_got(held: &Headers, row: &(&[u8], bool, &[u8])) -> bool {
+    match held.get(row.0) {
+        Some(value) => row.1 && value == row.2,
+        None => !row.1,
+    }
+}
+
+/// The first row that is not so of these fields.
+fn wrong_got(held: &Headers) -> Option<usize> {
+    for (row, got) in GOT.iter().enumerate() {
+        if !is_got(held, got) {
+            return Some(row);
+        }
+    }
+    None
+}
+
+fn gets_first_values(rt: &(impl Abort + AllocGlobal), headers: &mut Headers) {
+    assert!(rt; headers.get(b"x-a").is_none());
+    assert_eq!(rt; wrong_push(headers), None);
+    assert_eq!(rt; wrong_got(headers), None);
+}
+
+#[test]
+fn the_first_field_of_a_name_gives_its_value(rt: HostRuntime) {
+    gets_first_values(&rt, &mut Headers::new(rt.alloc()));
+}
+
 fn are_bytes(alloc: Global, bytes: &[u8]) -> Result<bool, AllocError> {
     let held = octets(alloc, bytes)?;
     let copied = held.copy(alloc)?;

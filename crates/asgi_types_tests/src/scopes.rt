@@ -276,6 +276,42 @@ fn a_scope_is_copied_with_all_its_fields(rt: HostRuntime) -> Result<(), Fail> {
     Ok(())
 }
 
+/// A copy of what the scope has, which is made once more if it was refused memory.
+fn copy_of_http(alloc: Global, held: &HttpScope) -> Result<HttpScope, AllocError> {
+    match held.copy(alloc) {
+        Ok(copied) => Ok(copied),
+        Err(_) => held.copy(alloc),
+    }
+}
+
+fn copy_of_session(alloc: Global, held: &WsScope) -> Result<WsScope, AllocError> {
+    match held.copy(alloc) {
+        Ok(copied) => Ok(copied),
+        Err(_) => held.copy(alloc),
+    }
+}
+
+/// The copy of what the scope has is the one of its kind; a lifespan scope has none of its own.
+fn has_own_copy(alloc: Global, scope: &Scope) -> Result<bool, AllocError> {
+    match scope {
+        Scope::Http(held) => of_given(copy_of_http(alloc, held), is_http),
+        Scope::WebSocket(held) => of_given(copy_of_session(alloc, held), is_websocket),
+        Scope::Lifespan(_) => Ok(true),
+    }
+}
+
+fn is_copied_alone(alloc: Global, kind: Kind) -> Result<bool, AllocError> {
+    of(whole_scope(alloc, kind), |scope| has_own_copy(alloc, scope))
+}
+
+#[test]
+fn the_scope_of_a_request_is_copied_by_itself(rt: HostRuntime) -> Result<(), Fail> {
+    for kind in KINDS {
+        assert!(rt; is_copied_alone(rt.alloc(), *kind)?, "{kind:?}");
+    }
+    Ok(())
+}
+
 /// An HTTP scope with no client, another server and no names.
 fn is_replaced(scope: &Scope) -> bool {
     match scope {

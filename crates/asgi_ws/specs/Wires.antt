@@ -10,7 +10,7 @@ use Rattle.tungstenite.specs.declared.error.Error.{Error}
 use Rattle.tungstenite.specs.Failure.{WriteFails, IsIo}
 use Rattle.std.specs.IoError.{error_kind}
 use Rattle.asgi_io.specs.Answers.{passes}
-use Rattle.tungstenite.specs.declared.error.Error.TheVariants.{Io, ConnectionClosed, OutOfMemory}
+use Rattle.tungstenite.specs.declared.error.Error.TheVariants.{Io, ConnectionClosed, OutOfMemory, Protocol, Utf8, Capacity}
 use Rattle.websocket.specs.declared.error.Error.{Error as FrameError}
 use Rattle.asgi_ws.specs.declared.tap.Tap.{Tap}
 use Rattle.asgi_ws.specs.declared.tap.Stop.{Stop}
@@ -19,6 +19,8 @@ use Rattle.tungstenite.specs.Socket.{Socket, Reads, Writes, IsFresh, content_of}
 use Rattle.websocket.specs.declared.protocol.config.Role.TheVariants.{Server}
 use Rattle.websocket.specs.declared.protocol.config.WebSocketConfig.{WebSocketConfig}
 use Rattle.websocket.specs.CloseCode.{close_code_number, close_code_of}
+use Rattle.websocket.specs.declared.protocol.frame.coding.CloseCode.{CloseCode}
+use Rattle.websocket.specs.declared.protocol.frame.coding.CloseCode.TheVariants as why
 use Rattle.asgi_ws.specs.declared.messages.Msg.{Msg}
 use Rattle.asgi_ws.specs.declared.messages.Msg.TheVariants as msg
 use Rattle.asgi_ws.specs.declared.messages.Got.{Got}
@@ -117,16 +119,31 @@ payload_step payload conn = write_step conn (content_of_payload payload)
 abbrev pub closing_step : ℕ → List ℕ → Connection → Result Effect FrameError
 closing_step code reason conn = close_step conn (Some (close_code_of code, reason))
 
+-- the code that tells a client why its session fails (RFC 6455, sections 7.1.7 and 7.4.1): 1002 for a fault of the protocol, 1007 for text that is
+-- not UTF-8, 1009 for what is too big; none where the stream or memory is at fault
+abbrev pub failing_code : Result Message Error → Option CloseCode
+failing_code (Err (Protocol cause)) = Some why.Protocol
+failing_code (Err Utf8) = Some why.Invalid
+failing_code (Err (Capacity cause)) = Some why.Size
+failing_code _ = None
+
 module _ {S : Type 0} where
-  -- each result comes from one `read` of the layer
-  abbrev pub AnswersBy : (Tap S → Option (List ℕ)) → Socket (Tap S) → Socket (Tap S) → Got → Type 0
-  AnswersBy remaining s t answer = (given : Result Message Error) × Reads remaining s t given × IsAnswerTo given t.stream.stop answer
+  -- a close with this code and no reason went out, after what was waiting, or the layer or its stream refused it
+  abbrev pub TellsWhy : (Tap S → Option (List ℕ)) → Socket (Tap S) → Socket (Tap S) → Option CloseCode → Type 0
+  TellsWhy contents s t None = t ≡ s
+  TellsWhy contents s t (Some reason) = (Writes contents s t (close_step s.conn (Some (reason, []))) × (t.output ≡ []))
+      ⊎ ((e : Error) × WriteFails (close_step s.conn (Some (reason, []))) e × (IsIo e → Writes contents s t (close_step s.conn (Some (reason, [])))))
+
+  -- Each result comes from one `read` of the layer. Where that failed by the client's fault, a close tells why.
+  abbrev pub AnswersBy : (remaining contents : Tap S → Option (List ℕ)) → Socket (Tap S) → Socket (Tap S) → Got → Type 0
+  AnswersBy remaining contents s t answer = (given : Result Message Error) × (after : Socket (Tap S))
+      × Reads remaining s after given × IsAnswerTo given after.stream.stop answer × TellsWhy contents after t (failing_code given)
 
   -- and with no layer each read fails
-  abbrev pub AnswersRead : (Tap S → Option (List ℕ)) → Option (Socket (Tap S)) → Option (Socket (Tap S)) → Got → Type 0
-  AnswersRead remaining None new answer = answer ≡ got.Failed
-  AnswersRead remaining (Some s) None answer = ⊥
-  AnswersRead remaining (Some s) (Some t) answer = AnswersBy remaining s t answer
+  abbrev pub AnswersRead : (remaining contents : Tap S → Option (List ℕ)) → Option (Socket (Tap S)) → Option (Socket (Tap S)) → Got → Type 0
+  AnswersRead remaining contents None new answer = answer ≡ got.Failed
+  AnswersRead remaining contents (Some s) None answer = ⊥
+  AnswersRead remaining contents (Some s) (Some t) answer = AnswersBy remaining contents s t answer
 
   -- a send that the layer refused, or whose bytes the stream did not take: then the rest of them waits. The session stays
   abbrev pub IsRefused : (Tap S → Option (List ℕ)) → Option (Socket (Tap S)) → Option (Socket (Tap S)) → (Connection → Result Effect FrameError) → Type 0

@@ -1,6 +1,6 @@
 //! The calls of the message layer, on a session that may not have begun.
 ghost use Rattle.std.specs.Prelude.{◌≡◌};
-ghost use Rattle.asgi_ws.specs.Wires.{AnswersRead, AnswersBy, IsSessionOn, IsSent, IfDone, IfFailed, IfNoMemory, IsRefused, IsPutOf, payload_step, closing_step};
+ghost use Rattle.asgi_ws.specs.Wires.{AnswersRead, AnswersBy, IsSessionOn, IsSent, IfDone, IfFailed, IfNoMemory, IsRefused, IsPutOf, TellsWhy, failing_code, payload_step, closing_step};
 
 use crate::convert::{answer_to, message_with};
 use crate::messages::{Got, Put};
@@ -9,7 +9,7 @@ use crate::tap::Tap;
 use asgi_types::{Payload, Reason};
 use std::alloc::Global;
 use tungstenite::{
-    CloseCode, CloseFrame, Error, NoMask, Role, Utf8Bytes, WebSocket, WebSocketConfig,
+    CloseCode, CloseFrame, Error, Message, NoMask, Role, Utf8Bytes, WebSocket, WebSocketConfig,
 };
 
 pub type Session<S> = WebSocket<Tap<S>, NoMask>;
@@ -32,9 +32,10 @@ pub fn session_on<S: Drop>(alloc: Global, stream: S, leftover: Vec<u8>) -> Sessi
     )
 }
 
-/// Returns the next message. `Failed` if no session has begun.
+/// Returns the next message. `Failed` if no session has begun. A client whose session fails by its
+/// own fault is told why by a close (RFC 6455, section 7.1.7).
 pub fn read<S: Stream + Drop>(alloc: Global, session: &mut Option<Session<S>>) -> Got
-    ensures { AnswersRead (λ t. S.remaining t.stream) session.old session.new result }
+    ensures { AnswersRead (λ t. S.remaining t.stream) (λ t. S.contents t.stream) session.old session.new result }
 {
     match session {
         Some(socket) => read_next(alloc, socket),
@@ -43,11 +44,39 @@ pub fn read<S: Stream + Drop>(alloc: Global, session: &mut Option<Session<S>>) -
 }
 
 fn read_next<S: Stream + Drop>(alloc: Global, socket: &mut Session<S>) -> Got
-    ensures { AnswersBy (λ t. S.remaining t.stream) socket.old socket.new result }
+    ensures { AnswersBy (λ t. S.remaining t.stream) (λ t. S.contents t.stream) socket.old socket.new result }
 {
     let given = socket.read();
     let stop = socket.get_ref().stop;
+    tell_why(socket, code_of(&given));
     answer_to(alloc, given, stop)
+}
+
+/// The code of the close that tells a client why its session fails; `None` where it is not the
+/// client's fault.
+fn code_of(given: &Result<Message, Error>) -> Option<CloseCode>
+    ensures { result ≡ failing_code given.now }
+{
+    match given {
+        Err(Error::Protocol(_)) => Some(CloseCode::Protocol),
+        Err(Error::Utf8) => Some(CloseCode::Invalid),
+        Err(Error::Capacity(_)) => Some(CloseCode::Size),
+        _ => None,
+    }
+}
+
+/// Sends a close with the code, if there is one, and no reason. A close that is refused is not tried
+/// again: the session has failed.
+fn tell_why<S: Stream + Drop>(socket: &mut Session<S>, code: Option<CloseCode>)
+    ensures { TellsWhy (λ t. S.contents t.stream) socket.old socket.new code }
+{
+    let Some(code) = code else {
+        return;
+    };
+    let _told = socket.close(Some(CloseFrame {
+        code,
+        reason: Utf8Bytes::new(),
+    }));
 }
 
 /// Sends a payload. `Failed` if no session has begun or the layer refuses it, `NoMemory` if memory

@@ -8,7 +8,9 @@ ghost use Rattle.asgi_io.specs.Answers.{answer_of};
 ghost use Rattle.asgi_io.specs.Counting.{CountsFailures};
 ghost use Rattle.asgi_ws.specs.Streams.{Asks, FailsWith};
 ghost use Rattle.asgi_ws.specs.Streams as asked;
-ghost use Rattle.asgi_ws.specs.Wires.{told_by, leftover_by, held_by};
+ghost use Rattle.asgi_ws.specs.declared.messages.Got.TheVariants.{Failed};
+ghost use Rattle.asgi_ws.specs.Sessions.{count_after, is_failed};
+ghost use Rattle.asgi_ws.specs.Wires.{AnswersRead, told_by, leftover_by, held_by};
 
 use crate::calls::{Sending, note_read, note_send};
 use crate::line::Line;
@@ -102,6 +104,31 @@ fn write_text<S: Stream>(stream: &mut Option<S>, bytes: &[u8]) -> io::Result<usi
     }
 }
 
+/// The next message, from `upgrade` on.
+fn read_session<S: Stream + Drop>(
+    alloc: Global,
+    stream: &Option<S>,
+    session: &mut Option<Session<S>>,
+) -> Got
+    ensures answers { IsNone stream.now → AnswersRead (λ t. S.remaining t.stream) (λ t. S.contents t.stream) session.old session.new result }
+    ensures shut { IsSome stream.now → (result ≡ Failed) × (session.new ≡ session.old) }
+{
+    if stream.is_some() {
+        return Got::Failed;
+    }
+    read(alloc, session)
+}
+
+/// Counts a read that failed.
+fn count_read(tally: &mut Tally, answer: &Got)
+    ensures after { tally.new.failures ≡ count_after tally.old.failures (is_failed answer.now) }
+    ensures stays { (tally.new.reads ≡ tally.old.reads) × (tally.new.writes ≡ tally.old.writes) }
+{
+    if let Got::Failed = answer {
+        tally.note_failure();
+    }
+}
+
 impl<S: Stream> Reads for Wired<S> {
     ghost use Rattle.asgi_ws.specs.Sides.{WriteSide};
 
@@ -181,8 +208,8 @@ impl<S: Stream + Drop> Messages for Wired<S> {
     ghost use Rattle.asgi_ws.specs.declared.messages.Put.TheVariants as put;
     ghost use Rattle.asgi_ws.specs.declared.messages.SentMessage.TheVariants as item;
     ghost use Rattle.asgi_ws.specs.declared.messages.Call.TheVariants as call;
-    ghost use Rattle.asgi_ws.specs.Sessions.{is_failed, has_failed, count_after};
-    ghost use Rattle.asgi_ws.specs.Wires.{AnswersRead, IsSent, IfDone, IfFailed, IfNoMemory, IsRefused, payload_step, closing_step};
+    ghost use Rattle.asgi_ws.specs.Sessions.{has_failed};
+    ghost use Rattle.asgi_ws.specs.Wires.{IsSent, IfDone, IfFailed, IfNoMemory, IsRefused, payload_step, closing_step};
 
     ghost calls = { λ w. w.calls.items };
 
@@ -191,21 +218,15 @@ impl<S: Stream + Drop> Messages for Wired<S> {
     ghost leftover = { λ w. leftover_by w.stream w.kept.items };
 
     fn read_message(&mut self) -> Got
-        ensures answers { IsNone self.old.stream → AnswersRead (λ t. S.remaining t.stream) self.old.session self.new.session result }
+        ensures answers { IsNone self.old.stream → AnswersRead (λ t. S.remaining t.stream) (λ t. S.contents t.stream) self.old.session self.new.session result }
         ensures shut { IsSome self.old.stream → (result ≡ got.Failed) × (self.new.session ≡ self.old.session) }
         ensures kept { self.new.calls.items ≡ self.old.calls.items ++ call.Read result ∷ [] }
         ensures after { self.new.tally.failures ≡ count_after self.old.tally.failures (is_failed result) }
         ensures stays { (self.new.stream ≡ self.old.stream) × (self.new.before ≡ self.old.before) × (self.new.kept ≡ self.old.kept)
             × (self.new.tally.reads ≡ self.old.tally.reads) × (self.new.tally.writes ≡ self.old.tally.writes) }
     {
-        let answer = if self.stream.is_some() {
-            Got::Failed
-        } else {
-            read(self.alloc, &mut self.session)
-        };
-        if let Got::Failed = &answer {
-            self.tally.note_failure();
-        }
+        let answer = read_session(self.alloc, &self.stream, &mut self.session);
+        count_read(&mut self.tally, &answer);
         note_read(&mut self.calls, answer)
     }
 
@@ -250,7 +271,7 @@ impl<S: Stream + Drop> Messages for Wired<S> {
 
 impl<S: Stream + Drop> Wired<S> {
     ghost use Rattle.asgi_ws.specs.declared.messages.Call.TheVariants as call;
-    ghost use Rattle.asgi_ws.specs.Sessions.{has_failed, count_after};
+    ghost use Rattle.asgi_ws.specs.Sessions.{has_failed};
 
     // Counts a send that failed.
     fn count(&mut self, answer: Put) -> Put

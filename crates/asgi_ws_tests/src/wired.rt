@@ -252,18 +252,30 @@ fn pings_and_pongs_are_messages(rt: HostRuntime) -> Result<(), Fail> {
     Ok(())
 }
 
-// A frame that isn't masked is a fault of the session (RFC 6455, section 5.1), and so is text that isn't UTF-8.
-const FAULTS: &[&[u8]] = &[b"\x81\x01a", b"\x81\x81\0\0\0\0\xff"];
+/// What a client sends by its own fault, and what tells it why (RFC 6455, section 7.4.1): a frame without a mask (section
+/// 5.1), a ping that is not its last fragment (5.5), text that isn't UTF-8 (5.6), and the header of a frame over 16 MiB.
+const FAULTS: &[(&[u8], &[u8])] = &[
+    (b"\x81\x01a", b"\x88\x02\x03\xea"),
+    (b"\x09\x80\0\0\0\0", b"\x88\x02\x03\xea"),
+    (b"\x81\x81\0\0\0\0\xff", b"\x88\x02\x03\xef"),
+    (b"\x82\xff\0\0\0\0\x01\0\0\x01\0\0\0\0", b"\x88\x02\x03\xf1"),
+];
 
 /// Whether the line fails, and counts it.
 fn fails<L: Line>(line: &mut L) -> bool {
     next(line) == Kind::Failed && failures(line) == 1
 }
 
+/// Whether it fails, and the client is told this.
+fn fails_with(mut line: Wired<Wire>, told: &[u8]) -> bool {
+    let failed = fails(&mut line);
+    failed && output_of(&line) == told
+}
+
 /// The same over a stream that reads these bytes.
-fn is_failure(alloc: Global, input: &[u8]) -> Result<bool, AllocError> {
-    let mut line = upgraded(alloc, input, false)?;
-    Ok(fails(&mut line))
+fn is_failure(alloc: Global, input: &[u8], told: &[u8]) -> Result<bool, AllocError> {
+    let line = upgraded(alloc, input, false)?;
+    Ok(fails_with(line, told))
 }
 
 /// A stream that fails.
@@ -286,9 +298,9 @@ fn sent_over_fault(alloc: Global) -> Result<(Kind, Put), AllocError> {
 }
 
 #[test]
-fn faults_are_failures(rt: HostRuntime) -> Result<(), Fail> {
-    for input in FAULTS {
-        let failed = is_failure(rt.alloc(), input)?;
+fn a_client_is_told_why_its_session_fails(rt: HostRuntime) -> Result<(), Fail> {
+    for (input, told) in FAULTS {
+        let failed = is_failure(rt.alloc(), input, told)?;
         assert!(rt; failed, "{input:?}");
     }
     // A stream that fails is one too, and still takes what is sent.
