@@ -2,7 +2,7 @@
 ghost use Rattle.std.specs.Prelude.{◌≡◌, ◌<◌, ◌≤◌, ◌++◌, ◌∷◌, [], ℕ, List, false, take, length, IfNone, IfOk, IfSome, OnOk};
 ghost use Rattle.std.specs.Io.KnownBytes.{Appends};
 ghost use Rattle.asgi_io.specs.declared.answer.Answer.{Answer};
-ghost use Rattle.asgi_io.specs.Answers.{bytes_of, turn_of};
+ghost use Rattle.asgi_io.specs.Answers.{turn_of};
 ghost use Rattle.asgi_io.specs.Counting.{RoseBy};
 ghost use Rattle.asgi_io.specs.Writing.{TriesWrites, out_of};
 ghost use Rattle.asgi_request.specs.declared.next.Next.{Next};
@@ -11,12 +11,12 @@ ghost use Rattle.asgi_types.specs.declared.scope.Scope.{Scope};
 ghost use Rattle.asgi_request.specs.Opened.{BeginsWithHandshake, HasClosed};
 ghost use Rattle.asgi_request.specs.Reading.{StandsFor};
 ghost use Rattle.asgi_ws.specs.Lines.{LineState};
-ghost use Rattle.asgi_run.specs.Lines.{Transferred, how_put, input_after, piece_size};
+ghost use Rattle.asgi_run.specs.Lines.{Transferred, how_put, piece_size};
 ghost use Rattle.asgi_conversation.specs.TaskEnds.{has_ended};
 
-use crate::piece::{PIECE, Piece};
+use crate::piece::Piece;
 use asgi_conversation::InputEnd;
-use asgi_io::{Answer, Turn, Wrote, answer_of, write_out};
+use asgi_io::{Turn, Wrote, write_out};
 use asgi_request::RequestReader;
 use asgi_types::Limits;
 use asgi_ws::Line;
@@ -58,8 +58,7 @@ impl Wire {
     }
 
     /// Reads once, at most `PIECE` bytes, and feeds what came to the reader of requests. `AllocError` if
-    /// memory is refused; then what was read may be lost. Inlined, since a byte that comes alone costs a turn.
-    #[inline(always)]
+    /// memory is refused; then what was read may be lost.
     pub fn read<L: Line>(&mut self, line: &mut L) -> Result<Turn, AllocError>
         requires { has_ended self.old.input ≡ false }
         ensures moved { (more : List ℕ)
@@ -74,39 +73,8 @@ impl Wire {
         ensures same { self.new ≡ record self.old { requests = self.new.requests; input = self.new.input } }
         ensures limits { self.new.requests.limits ≡ self.old.requests.limits }
     {
-        let mut piece = self.piece.lend(self.alloc)?;
-        let read = line.read_some(&mut piece);
-        let answer = answer_of(&read, PIECE);
-        let taken = self.take_in(answer, &piece);
-        self.piece.take_back(piece);
-        match taken {
-            Ok(()) => Ok(answer.turn()),
-            Err(e) => Err(e),
-        }
-    }
-
-    /// Takes in what a read gave: `answer` counts the bytes of the piece that are filled.
-    fn take_in(&mut self, answer: Answer, piece: &[u8]) -> Result<(), AllocError>
-        requires { bytes_of answer ≤ length piece.now }
-        ensures fed { OnOk result ((bytes : List ℕ) (given : List Next) → StandsFor self.old.requests bytes given
-            → StandsFor self.new.requests (bytes ++ take (bytes_of answer) piece.now) given) }
-        ensures input { self.new.input ≡ input_after self.old.input answer }
-        ensures paused { answer ≡ Answer.Paused → self.new ≡ self.old }
-        ensures same { self.new ≡ record self.old { requests = self.new.requests; input = self.new.input } }
-        ensures limits { self.new.requests.limits ≡ self.old.requests.limits }
-    {
-        match answer {
-            Answer::Moved(n) => self.requests.feed(&piece[..n]),
-            Answer::Nothing => {
-                self.input = InputEnd::AtEnd;
-                Ok(())
-            }
-            Answer::Failed => {
-                self.input = InputEnd::Failed;
-                Ok(())
-            }
-            Answer::Paused => Ok(()),
-        }
+        self.piece
+            .fill(self.alloc, line, &mut self.requests, &mut self.input)
     }
 
     /// The bytes after an opening handshake, whose head was given last: the first of its frames (RFC

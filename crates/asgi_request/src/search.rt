@@ -123,8 +123,8 @@ fn find_line_feed(bytes: &[u8], from: usize) -> Option<usize>
     requires { from ≤ length bytes.now }
     ensures { IsFirst (Passes (is_byte line_feed) bytes.now) from (length bytes.now) result }
 {
-    // Too few bytes are not worth a vector.
-    if bytes.len() - from >= 16 {
+    // Too few bytes are not worth a vector, and a search that goes on begins at the line feed that it found last.
+    if bytes.len() - from >= 16 && bytes[from] != LF {
         return find_far_line_feed(bytes, from);
     }
     for i in from..bytes.len() {

@@ -3,7 +3,7 @@ use Rattle.asgi_io.specs.{Answers.bytes_of, Answers.turn_of, declared.answer.Ans
 use Rattle.asgi_run.proofs.LineLemmas.{gave, moved_by_open_read, told_as}
 use Rattle.std.proofs.lemmas.List.{take_at}
 use Rattle.asgi_halves.proofs.{LineCallLemmas.by_state, ReadAheadLemmas.short_piece}
-use Rattle.asgi_halves.proofs.wire.Wire.read.Goals as goal
+use Rattle.asgi_halves.proofs.piece.Piece.fill.Goals as goal
 
 -- an idle turn is that of a read that paused
 paused : (a : Answer) → turn_of a ≡ Turn.Idle → a ≡ Answer.Paused
@@ -25,14 +25,14 @@ returns-in-Ok g c =
     record {
       moved = (
         take (bytes_of a) buffer,
-        λ start read written failures moved. rw (c.take_in-taken.ensures.input, g.met.L.Line.state_is c.read_some-read.new.self)
+        λ start read written failures moved. rw (c.take_in.ensures.input, g.met.L.Line.state_is c.read_some-read.new.self)
             (moved_by_open_read start _ _ _ read written failures buffer a c.requires (rw (g.met.L.Line.state_is c.args.line.now) at moved) x told stay.0 stay.1.1 stay.1.0 session),
         rw same at c.in-Ok.ensures.fed,
         short_piece buffer (bytes_of a) size x.fits,
       );
       turn = (a, by (λ was now. now.reads ≡ was.reads ++ a ∷ []) told, c.turn.ensures);
       session = by (λ was now. now.session ≡ was.session) session;
-      idle = λ idle. c.take_in-taken.ensures.paused (paused a (sym c.turn.ensures ∙ idle));
+      idle = λ idle. c.take_in.ensures.paused (paused a (sym c.turn.ensures ∙ idle));
       same = search rules;
       limits = search rules;
     }
@@ -48,7 +48,7 @@ returns-in-Err-clause-moved g c =
     let stay = g.met.L.Line.writes_stay _ _ e.beside in
     let session = session_is _ _ (g.met.L.Line.session_stays _ _ (inl e.beside)) in (
       take (bytes_of a) buffer,
-      λ start read written failures moved. rw (c.take_in-taken.ensures.input, g.met.L.Line.state_is c.read_some-read.new.self)
+      λ start read written failures moved. rw (c.take_in.ensures.input, g.met.L.Line.state_is c.read_some-read.new.self)
           (moved_by_open_read start _ _ _ read written failures buffer a c.requires (rw (g.met.L.Line.state_is c.args.line.now) at moved) x told stay.0 stay.1.1 stay.1.0 session),
       tt,
       short_piece buffer (bytes_of a) size x.fits,
