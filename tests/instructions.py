@@ -29,7 +29,8 @@ from typing import NamedTuple
 FIGURES = f"{os.path.dirname(os.path.realpath(__file__))}/instructions.txt"
 MARGIN = 5
 SECONDS = 300
-# Without what only some processors have: a byte copied by wider registers, or by one repeated instruction, counts less or more.
+# A byte that is copied by wider registers, or by one repeated instruction, counts less or more: the C library is to do without
+# what only some processors have. SSSE3 stays, since the program asks for it as it starts; the last word passes its copy over.
 LIBRARY = "glibc.cpu.hwcaps=-AVX2,-AVX_Fast_Unaligned_Load,-AVX512F,-AVX512VL,-ERMS,-FSRM,Fast_Unaligned_Copy"
 
 HEAD = b"GET / HTTP/1.1\r\nHost: a\r\n"
