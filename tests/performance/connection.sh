@@ -8,13 +8,15 @@
 # Instructions are counted in the program and its libraries, and not in the system. The C library is asked to copy and
 # to fill by the same instructions whatever the size, so that a byte copied counts the same.
 # Usage: tests/performance/connection.sh [PROGRAM PEER]
+#        tests/performance/connection.sh hello [PROGRAM [PEER]]
 #        tests/performance/connection.sh profile [PROGRAM]
 # It needs valgrind. With no PROGRAM it proves and builds both; the peer stands below, and gets a folder of its own.
+# `hello` prints the instructions of the first row alone.
 # `profile` prints for two of the rows where the program's instructions go, and who asks for memory and for copies.
 # A function that is inlined counts for the one around it.
 set -eu
 way=tables
-[ "${1:-}" != profile ] || { way=profile; shift; }
+case ${1:-} in hello | profile) way=$1; shift ;; esac
 program=${1:+$(realpath "$1")}
 peer=${2:+$(realpath "$2")}
 cd "$(dirname "$0")/../.."
@@ -217,11 +219,11 @@ print(round((least[0] - least[1]) * 1e9 / int(between)))
 P
 }
 
-# A table of so many shapes, for both counts.
+# A table of so many shapes, for each count.
 tables() {
   local app=$1 titles=$2 what shape first second ours theirs ratio
   shift 2
-  for what in instructions nanoseconds; do
+  for what in $counted; do
     echo "| $what of \`once $app\` | $titles |"
     echo "|---|$(for shape in "$@"; do printf -- '---|'; done)"
     ours="| asgi_demo |" theirs="| http_server |" ratio="| asgi_demo, of http_server |"
@@ -329,6 +331,9 @@ if [ "$way" = profile ]; then
   exit
 fi
 [ -n "$peer" ] || build_peer
+counted='instructions nanoseconds'
+[ "$way" != hello ] || counted=instructions
 tables hello '27 bytes | 82 bytes | 605 bytes (browser)' 27 82 605
+[ "$way" != hello ] || exit 0
 tables echo '1 KiB | 1 KiB, chunks | 64 KiB | 64 KiB, chunks | 1 MiB | 1 MiB, chunks' \
   1024:length 1024:chunks 65536:length 65536:chunks 1048576:length 1048576:chunks

@@ -5,15 +5,21 @@
 # round trip. Then the server's system calls a round trip, in a run under strace, and the share of a processor that an idle
 # connection takes.
 # Usage: tests/performance/threads.sh PROGRAM [PEER]
+#        tests/performance/threads.sh build FOLDER
 # PROGRAM is `asgi_demo`, built, whose tasks have a thread of their own. PEER has each task in the connection's thread; with none
 # it is proved and built: it stands below, and gets a folder of its own over copies of the crates. It needs gcc and strace, and a
-# machine that does nothing else.
+# machine that does nothing else. `build` only proves and builds PEER, as crates/one_thread/out/one_thread of FOLDER.
 set -eu
-program=$(realpath "$1") peer=${2:+$(realpath "$2")}
+if [ "$1" = build ]; then
+  mkdir -p "$2"
+  folder=$(realpath "$2") program='' peer=''
+else
+  program=$(realpath "$1") peer=${2:+$(realpath "$2")}
+  folder=$(mktemp -d)
+  trap 'rm -rf "$folder"' EXIT
+fi
 cd "$(dirname "$0")/../.."
-folder=$(mktemp -d)
-trap 'rm -rf "$folder"' EXIT
-gcc -O2 -o "$folder/trips" tests/performance/trips.c
+[ -z "$program" ] || gcc -O2 -o "$folder/trips" tests/performance/trips.c
 
 peer_text() {
   cat <<'P'
@@ -116,6 +122,7 @@ build() {
   (cd "$folder" && rt ci >"$folder/log" 2>&1) || { cat "$folder/log"; exit 1; }
 }
 [ -n "$peer" ] || { build; peer=$folder/crates/one_thread/out/one_thread; }
+[ -n "$program" ] || exit 0
 
 # Starts a server for so many connections, and waits until it listens: sets `port` and `pid`.
 start() {
