@@ -193,15 +193,16 @@ class Held(unittest.TestCase):
             reports, errors, status = server.ended()
             self.assertEqual((reports[0][:4], len(reports), errors, status), ("1 1 ", 2, "", 0))
 
-    def unread(self, connect):
-        """How long another client waits for one that asks on and reads nothing, where there is one worker."""
+    def unread(self, asked, connect):
+        """How long another client waits for one that asks this on and on and reads nothing, where there is one worker."""
         first, stop = connect(4_096), threading.Event()
 
         def send():
             first.settimeout(0.1)
+            rest = asked
             while not stop.is_set():
                 try:
-                    first.send(GET * 1_000)
+                    rest = rest[first.send(rest) :] or asked
                 except TimeoutError:
                     continue
                 except OSError:
@@ -231,8 +232,9 @@ class Held(unittest.TestCase):
         return line
 
     def test_a_client_that_reads_no_answer_does_not_hold_the_server(self):
-        with Server("hello", 2, workers=1) as server:
-            self.assertLess(self.unread(lambda room=None: self.connection(server.port, room)), HELD)
+        post = b"POST / HTTP/1.1\r\nHost: a\r\nContent-Length: 16000\r\n\r\n" + bytes(16_000)
+        with Server("echo", 2, workers=1) as server:
+            self.assertLess(self.unread(post, lambda room=None: self.connection(server.port, room)), HELD)
             reports, errors, status = server.ended()
             self.assertRegex(reports[0], r"^1 \d+ write-failed \d+$")
             self.assertEqual((reports[1:], errors, status), (["2 1 finished"], "", 0))
@@ -243,7 +245,9 @@ class Held(unittest.TestCase):
         with subprocess.Popen(words, stdout=subprocess.PIPE) as ran:
             wait_for(lambda: listens(port) or ran.poll() is not None, "the example does not listen")
             try:
-                self.assertLess(self.unread(lambda room=None: self.connection(port, room)), HELD)
+                # The answer has the path.
+                get = b"GET /%s HTTP/1.1\r\nHost: a\r\n\r\n" % (b"a" * 16_000)
+                self.assertLess(self.unread(get, lambda room=None: self.connection(port, room)), HELD)
                 reports = ran.communicate(timeout=SECONDS)[0].decode().splitlines()
             finally:
                 ran.kill()

@@ -1,0 +1,107 @@
+//! Applications that send very much at once: many events, and one of 64 MiB. Each is served with both runners.
+use asgi_apps::{AppFault, Application, Says};
+use asgi_conn::{Host, Outcome};
+use asgi_fakes::texts::{GET, LAST_CHUNK, PLAIN_HEAD};
+use asgi_fakes::{Pieces, Way, line_of, serve, text_of};
+use asgi_types::{Headers, Kind, Limits, Octets, Outgoing, Scope};
+use std::alloc::{AllocError, Global};
+use std::io;
+use std::test::Fail;
+
+/// Sixteen bytes of content, so often in each event, and what stands before them: their size in hexadecimal.
+const BLOCK: &[u8] = b"0123456789abcdef";
+
+/// Answers with so many events of so many blocks each.
+#[derive(Clone, Copy)]
+struct Floods {
+    events: usize,
+    blocks: usize,
+    /// The size of one event in hexadecimal, as a line.
+    line: &'static [u8],
+}
+
+const FLOODS: &[Floods] = &[
+    Floods {
+        events: 10_000,
+        blocks: 1,
+        line: b"10\r\n",
+    },
+    Floods {
+        events: 1,
+        blocks: 4_194_304,
+        line: b"4000000\r\n",
+    },
+];
+
+fn add_blocks(text: &mut Vec<u8>, blocks: usize) -> Result<(), AllocError> {
+    for _block in 0..blocks {
+        text.extend_from_slice(BLOCK)?;
+    }
+    Ok(())
+}
+
+fn body(alloc: Global, blocks: usize, more_body: bool) -> Result<Outgoing, AllocError> {
+    let mut text = Vec::new(alloc);
+    add_blocks(&mut text, blocks)?;
+    Ok(Outgoing::ResponseBody {
+        body: Octets::new(text),
+        more_body,
+    })
+}
+
+fn add_bodies(says: &mut Says, alloc: Global, floods: Floods) -> Result<(), AllocError> {
+    for _event in 0..floods.events {
+        says.add(body(alloc, floods.blocks, true)?)?;
+    }
+    says.add(body(alloc, 0, false)?)
+}
+
+impl Application for Floods {
+    type Task = Says;
+
+    fn call(&self, alloc: Global, _scope: &Scope) -> Result<Says, AppFault> {
+        let mut says = Says::with_room(alloc, Kind::Http, self.events)?;
+        says.add(Outgoing::ResponseStart {
+            status: 200,
+            headers: Headers::new(alloc),
+            trailers: false,
+        })?;
+        add_bodies(&mut says, alloc, *self)?;
+        Ok(says)
+    }
+}
+
+/// The text of that (RFC 9112, 7.1).
+fn text_due(alloc: Global, floods: Floods) -> Result<Vec<u8>, AllocError> {
+    let mut text = Vec::from_slice(alloc, PLAIN_HEAD)?;
+    for _event in 0..floods.events {
+        text.extend_from_slice(floods.line)?;
+        add_blocks(&mut text, floods.blocks)?;
+        text.extend_from_slice(b"\r\n")?;
+    }
+    text.extend_from_slice(LAST_CHUNK)?;
+    Ok(text)
+}
+
+fn ended<H: Host>(rt: &H, way: Way, floods: Floods, wanted: &[u8]) -> io::Result<(Outcome, bool)> {
+    let mut line = line_of(rt, Pieces::new(GET, 4_096, 4_096))?;
+    let (report, _) = serve(rt, way, &Limits::usual(), &floods, &mut line)?;
+    Ok((report.outcome, text_of(&line) == wanted))
+}
+
+#[test]
+fn very_much_is_written_whole(rt: HostRuntime) -> Result<(), Fail> {
+    for floods in FLOODS {
+        let wanted = text_due(rt.alloc(), *floods)?;
+        for way in [Way::Inline, Way::Beside] {
+            let ended = ended(&rt, way, *floods, &wanted)?;
+            assert_eq!(rt;
+                ended,
+                (Outcome::Finished, true),
+                "{} events",
+                floods.events
+            );
+        }
+    }
+    Ok(())
+}
