@@ -66,13 +66,13 @@ def rows_of(file):
     with open(f"{folder}/rows.rt", encoding="utf-8") as it:
         shared = it.read()
     texts = {**KNOWN, **texts_in(shared), **texts_in(source)}
-    row = rf'\(\s*"((?:[^"\\]|\\.)*)",\s*&\[((?:\s*(?:{LITERAL}|\w+),?)*)\s*\],\s*(\w+(?:\(&\[)?)'
+    row = rf'\(\s*"((?:[^"\\]|\\.)*)",\s*&\[((?:\s*(?:{LITERAL}|\w+),?)*)\s*\],\s*(\w+|\()'
     for name, parts, answer in re.findall(row, re.sub(r"^\s*//.*$", "", source, flags=re.M)):
         given = [ast.literal_eval(it) if it[0] == "b" and '"' in it else texts[it] for it in re.findall(rf"{LITERAL}|\w+", parts)]
-        yield name, b"".join(given), ANSWERS[answer.rstrip("(&[")]
+        yield name, b"".join(given), ANSWERS[answer]
 
 
-ANSWERS = {"BAD": "400", "UNKNOWN": "501", "ONE": "200", "ONE_AND_BAD": "200 400", "TWO": "200 200", "OPEN": "-", "BROKEN": "200", "heard": "200 200"}
+ANSWERS = {"BAD": "400", "UNKNOWN": "501", "ONE": "200", "ONE_AND_BAD": "200 400", "TWO": "200 200", "OPEN": "-", "BROKEN": "200", "(": "200 200"}
 ANSWERS |= {"AB": "200 200", "EMPTY": "200 200", "FAULTY": "400", "TOO_MUCH": "413", "AB_FAULTY": "200 cut", "CRLF_FAULTY": "200 cut", "TWO_ENDS": "200 400"}
 
 

@@ -1,27 +1,30 @@
 //! Targets that two readers may take differently. `Targets` answers, with the path, the raw path and the query of each
 //! request that it hears.
-use crate::rows::{Answer, BAD, EVIL, EVIL_ANSWER, Parts, Row, UNKNOWN, check};
+use crate::rows::{BAD, EVIL, EVIL_ANSWER, Row, UNKNOWN, check};
 use asgi_conn::Outcome;
 use asgi_fakes::App;
 use asgi_fakes::texts::PLAIN_HEAD;
 use std::test::Fail;
-
-/// This is written: the answer to one request, and that to the request after it, which is one of its own.
-const fn heard(answer: Parts) -> Answer {
-    (answer, Outcome::Finished, 2)
-}
 
 const FORMS: &[Row] = &[
     // RFC 9112, 3.2.2: an absolute target is taken, whatever the host field says; ASGI's path is that of the target.
     (
         "an absolute target with another host",
         &[b"GET http://b/x HTTP/1.1\r\nHost: a\r\n\r\n", EVIL],
-        heard(&[PLAIN_HEAD, b"a\r\n[/x][/x][]\r\n0\r\n\r\n", EVIL_ANSWER]),
+        (
+            &[PLAIN_HEAD, b"a\r\n[/x][/x][]\r\n0\r\n\r\n", EVIL_ANSWER],
+            Outcome::Finished,
+            2,
+        ),
     ),
     (
         "an absolute target with a port and no path",
         &[b"GET http://b:8080 HTTP/1.1\r\nHost: a\r\n\r\n", EVIL],
-        heard(&[PLAIN_HEAD, b"8\r\n[/][/][]\r\n0\r\n\r\n", EVIL_ANSWER]),
+        (
+            &[PLAIN_HEAD, b"8\r\n[/][/][]\r\n0\r\n\r\n", EVIL_ANSWER],
+            Outcome::Finished,
+            2,
+        ),
     ),
     // RFC 9112, 3.2: one host field is asked for, with an absolute target too.
     (
@@ -63,7 +66,11 @@ const FORMS: &[Row] = &[
     (
         "an asterisk of OPTIONS",
         &[b"OPTIONS * HTTP/1.1\r\nHost: a\r\n\r\n", EVIL],
-        heard(&[PLAIN_HEAD, b"8\r\n[*][*][]\r\n0\r\n\r\n", EVIL_ANSWER]),
+        (
+            &[PLAIN_HEAD, b"8\r\n[*][*][]\r\n0\r\n\r\n", EVIL_ANSWER],
+            Outcome::Finished,
+            2,
+        ),
     ),
     (
         "an asterisk and a path",
@@ -94,84 +101,120 @@ const PATHS: &[Row] = &[
     (
         "a percent-encoded NUL",
         &[b"GET /%00 HTTP/1.1\r\nHost: a\r\n\r\n", EVIL],
-        heard(&[
-            PLAIN_HEAD,
-            b"c\r\n[/\x00][/%00][]\r\n0\r\n\r\n",
-            EVIL_ANSWER,
-        ]),
+        (
+            &[
+                PLAIN_HEAD,
+                b"c\r\n[/\x00][/%00][]\r\n0\r\n\r\n",
+                EVIL_ANSWER,
+            ],
+            Outcome::Finished,
+            2,
+        ),
     ),
     (
         "a percent-encoded line end",
         &[b"GET /%0d%0a HTTP/1.1\r\nHost: a\r\n\r\n", EVIL],
-        heard(&[
-            PLAIN_HEAD,
-            b"10\r\n[/\r\n][/%0d%0a][]\r\n0\r\n\r\n",
-            EVIL_ANSWER,
-        ]),
+        (
+            &[
+                PLAIN_HEAD,
+                b"10\r\n[/\r\n][/%0d%0a][]\r\n0\r\n\r\n",
+                EVIL_ANSWER,
+            ],
+            Outcome::Finished,
+            2,
+        ),
     ),
     (
         "a percent-encoded slash",
         &[b"GET /a%2fb HTTP/1.1\r\nHost: a\r\n\r\n", EVIL],
-        heard(&[
-            PLAIN_HEAD,
-            b"10\r\n[/a/b][/a%2fb][]\r\n0\r\n\r\n",
-            EVIL_ANSWER,
-        ]),
+        (
+            &[
+                PLAIN_HEAD,
+                b"10\r\n[/a/b][/a%2fb][]\r\n0\r\n\r\n",
+                EVIL_ANSWER,
+            ],
+            Outcome::Finished,
+            2,
+        ),
     ),
     (
         "a percent-encoded question mark",
         &[b"GET /a%3fb?c HTTP/1.1\r\nHost: a\r\n\r\n", EVIL],
-        heard(&[
-            PLAIN_HEAD,
-            b"11\r\n[/a?b][/a%3fb][c]\r\n0\r\n\r\n",
-            EVIL_ANSWER,
-        ]),
+        (
+            &[
+                PLAIN_HEAD,
+                b"11\r\n[/a?b][/a%3fb][c]\r\n0\r\n\r\n",
+                EVIL_ANSWER,
+            ],
+            Outcome::Finished,
+            2,
+        ),
     ),
     (
         "what is percent-encoded twice",
         &[b"GET /%2541 HTTP/1.1\r\nHost: a\r\n\r\n", EVIL],
-        heard(&[
-            PLAIN_HEAD,
-            b"10\r\n[/%41][/%2541][]\r\n0\r\n\r\n",
-            EVIL_ANSWER,
-        ]),
+        (
+            &[
+                PLAIN_HEAD,
+                b"10\r\n[/%41][/%2541][]\r\n0\r\n\r\n",
+                EVIL_ANSWER,
+            ],
+            Outcome::Finished,
+            2,
+        ),
     ),
     (
         "two question marks",
         &[b"GET /a?b?c%3f HTTP/1.1\r\nHost: a\r\n\r\n", EVIL],
-        heard(&[
-            PLAIN_HEAD,
-            b"10\r\n[/a][/a][b?c%3f]\r\n0\r\n\r\n",
-            EVIL_ANSWER,
-        ]),
+        (
+            &[
+                PLAIN_HEAD,
+                b"10\r\n[/a][/a][b?c%3f]\r\n0\r\n\r\n",
+                EVIL_ANSWER,
+            ],
+            Outcome::Finished,
+            2,
+        ),
     ),
     // RFC 3986, 6.2.2.3, lets dots be removed by who normalizes; ASGI's path keeps them.
     (
         "dots",
         &[b"GET /a/../b HTTP/1.1\r\nHost: a\r\n\r\n", EVIL],
-        heard(&[
-            PLAIN_HEAD,
-            b"14\r\n[/a/../b][/a/../b][]\r\n0\r\n\r\n",
-            EVIL_ANSWER,
-        ]),
+        (
+            &[
+                PLAIN_HEAD,
+                b"14\r\n[/a/../b][/a/../b][]\r\n0\r\n\r\n",
+                EVIL_ANSWER,
+            ],
+            Outcome::Finished,
+            2,
+        ),
     ),
     (
         "percent-encoded dots",
         &[b"GET /%2e%2e/x HTTP/1.1\r\nHost: a\r\n\r\n", EVIL],
-        heard(&[
-            PLAIN_HEAD,
-            b"14\r\n[/../x][/%2e%2e/x][]\r\n0\r\n\r\n",
-            EVIL_ANSWER,
-        ]),
+        (
+            &[
+                PLAIN_HEAD,
+                b"14\r\n[/../x][/%2e%2e/x][]\r\n0\r\n\r\n",
+                EVIL_ANSWER,
+            ],
+            Outcome::Finished,
+            2,
+        ),
     ),
     (
         "two slashes",
         &[b"GET //a//b HTTP/1.1\r\nHost: a\r\n\r\n", EVIL],
-        heard(&[
-            PLAIN_HEAD,
-            b"12\r\n[//a//b][//a//b][]\r\n0\r\n\r\n",
-            EVIL_ANSWER,
-        ]),
+        (
+            &[
+                PLAIN_HEAD,
+                b"12\r\n[//a//b][//a//b][]\r\n0\r\n\r\n",
+                EVIL_ANSWER,
+            ],
+            Outcome::Finished,
+            2,
+        ),
     ),
 ];
 
